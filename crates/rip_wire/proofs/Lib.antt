@@ -1,0 +1,9 @@
+pub mod Masks
+pub mod Binds
+pub mod Numbers
+pub mod Entries
+pub mod Messages
+pub mod Walks
+pub mod Views
+pub mod FaultLemmas
+pub mod Answering

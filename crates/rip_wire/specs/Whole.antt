@@ -1,0 +1,8 @@
+-- What is true of the bytes of each datagram that was read.
+use Rattle.std.specs.Prelude.{◌≡◌, ◌≤◌, true, List, ℕ, length, is_ok}
+use Rattle.rip_wire.specs.Message.{message_in}
+
+pub record IsWhole (b : List ℕ) : Type 0 where
+  pub readable : is_ok (message_in b) ≡ true
+  pub header : 4 ≤ length b
+  pub few : length b ≤ 504

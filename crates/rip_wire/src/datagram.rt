@@ -1,0 +1,74 @@
+//! Datagrams.
+
+ghost use Rattle.std.specs.Prelude.{◌≡◌, ◌/◌, ◌<◌, ◌≤◌, length, slice_get};
+ghost use Rattle.rip_wire.specs.Whole.{IsWhole};
+
+use crate::Entry;
+use crate::reading::read_entry;
+
+/// What a datagram is for (RFC 2453, section 3.6).
+#[derive(Clone, Copy, Debug, PartialEq, Eq)]
+pub enum Kind {
+    /// It asks for a table.
+    Request,
+    /// It shows a table, or a part of one.
+    Response,
+}
+
+/// A datagram of RIP version 2 without a fault. It borrows its bytes.
+#[derive(Debug, Drop)]
+pub struct Datagram<'a> {
+    bytes: &'a [u8],
+    pub ghost whole: { IsWhole bytes.now },
+}
+
+impl<'a> Datagram<'a> {
+    ghost use Rattle.rip_wire.specs.Datagram.{body_of, datagram_bytes, entries_of, kind_of, message_of};
+
+    /// The datagram of bytes in which there is no fault.
+    pub(crate) fn of_bytes(bytes: &'a [u8]) -> Datagram<'a>
+        requires { IsWhole bytes.now }
+        ensures { datagram_bytes result ≡ bytes.now }
+    {
+        Datagram { bytes }
+    }
+
+    /// Whether it is a request or a response.
+    pub fn kind(&self) -> Kind
+        ensures { result ≡ kind_of (message_of self.now) }
+    {
+        if self.bytes[0] == 1 {
+            Kind::Request
+        } else {
+            Kind::Response
+        }
+    }
+
+    /// How many entries it has, at most 25. A request may have none.
+    pub fn len(&self) -> usize
+        ensures groups { result ≡ length (body_of self.now) / 20 }
+        ensures entries { kind_of (message_of self.now) ≡ Kind.Response → result ≡ length (entries_of (message_of self.now)) }
+        ensures few { result ≤ 25 }
+    {
+        (self.bytes.len() - 4) / 20
+    }
+
+    /// The bytes after the header.
+    pub fn body(&self) -> &'a [u8]
+        ensures { result.now ≡ body_of self.now }
+    {
+        &self.bytes[4..]
+    }
+
+    /// An entry of a response, by its number from 0 on.
+    pub fn entry(&self, i: usize) -> Entry
+        requires response { kind_of (message_of self.now) ≡ Kind.Response }
+        requires within { i < length (entries_of (message_of self.now)) }
+        ensures { slice_get (entries_of (message_of self.now)) i ≡ Some result }
+    {
+        match read_entry(self.bytes, 4 + 20 * i) {
+            Ok(entry) => entry,
+            Err(_) => unreachable!(),
+        }
+    }
+}

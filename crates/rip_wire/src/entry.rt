@@ -1,0 +1,16 @@
+//! Entries.
+
+use crate::{Address, Metric, Prefix};
+
+/// An entry of a response: a prefix and the metric of its route (RFC 2453, section 4).
+#[derive(Clone, Copy, Debug, PartialEq, Eq)]
+pub struct Entry {
+    /// The route tag, which takes no part in the metric.
+    pub tag: u16,
+    /// The destination, by its address and subnet mask.
+    pub prefix: Prefix,
+    /// The next hop; 0.0.0.0 stands for the sender.
+    pub next_hop: Address,
+    /// The metric.
+    pub metric: Metric,
+}

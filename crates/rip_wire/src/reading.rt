@@ -1,0 +1,179 @@
+//! Reading datagrams.
+
+ghost use Rattle.std.specs.Prelude.{◌≡◌, ◌+◌, ◌≤◌, ◌↔◌, ℕ, List, length, is_ok, true, IfErr, IfOk, IfSome, IsErrOf, IsOkAnd, MatchResult, OnOk};
+ghost use Rattle.rip_wire.specs.declared.entry.Entry.{Entry};
+ghost use Rattle.rip_wire.specs.declared.error.WireCode.{WireCode};
+ghost use Rattle.rip_wire.specs.Faults.{WireFault};
+ghost use Rattle.rip_wire.specs.Grammar.{RequestBytes, ResponseBytes};
+ghost use Rattle.rip_wire.specs.Whole.{IsWhole};
+ghost use Rattle.rip_wire.specs.Datagram.{datagram_bytes, message_of};
+ghost use Rattle.rip_wire.specs.Fields.{number_at};
+ghost use Rattle.rip_wire.specs.Message.{Message, bits_of_mask, entries_at, entry_at, groups_in, kind_in, message_in, metric_of, prefix_of, request, response};
+
+use crate::prefix::mask_of_length;
+use crate::{Address, Datagram, Entry, Kind, Metric, Prefix, WireCode, WireError};
+use byteorder::{BigEndian, ByteOrder};
+
+/// The most bytes of a datagram: a header of 4, and 25 entries of 20.
+const MOST_BYTES: usize = 504;
+
+/// The length whose mask this is, where it is a mask.
+fn length_of_mask(mask: u32) -> Option<u8>
+    ensures value { result ≡ bits_of_mask mask }
+    ensures few { IfSome result (λ prefix_len. prefix_len ≤ 32) }
+{
+    let length = mask.leading_ones() as u8;
+    if mask == mask_of_length(length) {
+        Some(length)
+    } else {
+        None
+    }
+}
+
+/// The number in the two bytes at a place.
+#[tactic(auto, unfolding(crate::specs::Fields::number_at))]
+fn u16_at(bytes: &[u8], at: usize) -> u16
+    requires { at + 2 ≤ length bytes.now }
+    ensures { result ≡ number_at 2 at bytes.now }
+{
+    BigEndian::read_u16(&bytes[at..])
+}
+
+/// The number in the four bytes at a place.
+#[tactic(auto, unfolding(crate::specs::Fields::number_at))]
+fn u32_at(bytes: &[u8], at: usize) -> u32
+    requires { at + 4 ≤ length bytes.now }
+    ensures { result ≡ number_at 4 at bytes.now }
+{
+    BigEndian::read_u32(&bytes[at..])
+}
+
+/// The fault of a code at a place.
+fn fault<T>(code: WireCode, at: usize) -> Result<T, WireError>
+    ensures { result ≡ Err (record { code = code; at = at }) }
+{
+    Err(WireError { code, at })
+}
+
+/// The prefix of the entry at a place, by its address and mask.
+fn read_prefix(at: usize, address: u32, mask: u32) -> Result<Prefix, WireError>
+    requires { at + 20 ≤ 504 }
+    ensures { result ≡ prefix_of at address (bits_of_mask mask) }
+{
+    let Some(length) = length_of_mask(mask) else {
+        return fault(WireCode::Mask, at + 8);
+    };
+    if length == 0 && address != 0 {
+        return fault(WireCode::NoMask, at + 8);
+    }
+    match Prefix::new(Address::new(address), length) {
+        Some(prefix) => Ok(prefix),
+        None => fault(WireCode::HostBits, at + 4),
+    }
+}
+
+/// The metric of the entry at a place.
+fn read_metric(at: usize, metric: u32) -> Result<Metric, WireError>
+    requires { at + 20 ≤ 504 }
+    ensures { result ≡ metric_of at metric }
+{
+    match Metric::new(metric) {
+        Some(metric) => Ok(metric),
+        None => fault(WireCode::Metric, at + 16),
+    }
+}
+
+/// The entry at a place, or its first fault.
+#[tactic(auto, unfolding(crate::specs::Message::entry_at))]
+pub(crate) fn read_entry(bytes: &[u8], at: usize) -> Result<Entry, WireError>
+    requires room { at + 20 ≤ length bytes.now }
+    requires few { length bytes.now ≤ 504 }
+    ensures { result ≡ entry_at at bytes.now }
+{
+    match u16_at(bytes, at) {
+        0xFFFF => return fault(WireCode::Authentication, at),
+        2 => {}
+        _ => return fault(WireCode::Family, at),
+    }
+    let prefix = read_prefix(at, u32_at(bytes, at + 4), u32_at(bytes, at + 8))?;
+    let metric = read_metric(at, u32_at(bytes, at + 16))?;
+    Ok(Entry {
+        tag: u16_at(bytes, at + 2),
+        prefix,
+        next_hop: Address::new(u32_at(bytes, at + 12)),
+        metric,
+    })
+}
+
+/// The kind of a datagram, by its header and its length.
+#[tactic(auto, unfolding(crate::specs::Message::kind_in))]
+fn read_kind(bytes: &[u8]) -> Result<Kind, WireError>
+    ensures { result ≡ kind_in bytes.now }
+{
+    let len = bytes.len();
+    if len < 4 {
+        return fault(WireCode::Short, len);
+    }
+    if bytes[0] != 1 && bytes[0] != 2 {
+        return fault(WireCode::Command, 0);
+    }
+    if bytes[1] != 2 {
+        return fault(WireCode::Version, 1);
+    }
+    if bytes[2] != 0 || bytes[3] != 0 {
+        return fault(WireCode::Zero, 2);
+    }
+    if len > MOST_BYTES {
+        return fault(WireCode::TooMany, MOST_BYTES);
+    }
+    if (len - 4) % 20 != 0 {
+        return fault(WireCode::Ragged, len);
+    }
+    if bytes[0] == 1 {
+        return Ok(Kind::Request);
+    }
+    if len == 4 {
+        return fault(WireCode::Empty, 4);
+    }
+    Ok(Kind::Response)
+}
+
+/// Reads each entry, up to the first fault.
+fn check_entries(bytes: &[u8]) -> Result<(), WireError>
+    requires header { 4 ≤ length bytes.now }
+    requires few { length bytes.now ≤ 504 }
+    ensures { MatchResult result (λ _. is_ok (entries_at (groups_in bytes.now) 4 bytes.now) ≡ true) (λ e. entries_at (groups_in bytes.now) 4 bytes.now ≡ Err e) }
+{
+    let count = (bytes.len() - 4) / 20;
+    for i in 0..count {
+        let _entry = read_entry(bytes, 4 + 20 * i)?;
+    }
+    Ok(())
+}
+
+/// Whether the bytes are a datagram; if not, the error is their first fault.
+fn check_datagram(bytes: &[u8]) -> Result<(), WireError>
+    ensures whole { OnOk result (IsWhole bytes.now) }
+    ensures fault { IfErr result (λ e. message_in bytes.now ≡ Err e) }
+{
+    match read_kind(bytes)? {
+        Kind::Request => Ok(()),
+        Kind::Response => check_entries(bytes),
+    }
+}
+
+/// Reads a datagram: a request, whose body is not judged, or a response of 1 to 25 entries
+/// (RFC 2453, sections 3.6 and 4). It borrows the bytes. Where they are no datagram, the error is
+/// their first fault: of the header, then of the length, and then entry by entry.
+pub fn read(bytes: &[u8]) -> Result<Datagram<'_>, WireError>
+    ensures response { (entries : List Entry) → IsOkAnd result (λ d. message_of d ≡ response entries) ↔ ResponseBytes entries bytes.now }
+    ensures request { IsOkAnd result (λ d. message_of d ≡ request) ↔ RequestBytes bytes.now }
+    ensures refused { (code : WireCode) (at : ℕ) → IsErrOf result (record { code = code; at = at }) ↔ WireFault bytes.now code at }
+    ensures bytes { IfOk result (λ d. datagram_bytes d ≡ bytes.now) }
+    ensures exact { MatchResult result (λ d. message_in bytes.now ≡ Ok (message_of d)) (λ e. message_in bytes.now ≡ Err e) }
+{
+    match check_datagram(bytes) {
+        Ok(()) => Ok(Datagram::of_bytes(bytes)),
+        Err(error) => Err(error),
+    }
+}
