@@ -7,3 +7,4 @@ pub mod Walks
 pub mod Views
 pub mod FaultLemmas
 pub mod Answering
+pub mod TextLemmas

@@ -1,8 +1,9 @@
 //! IPv4 addresses.
 
-ghost use Rattle.std.specs.Prelude.{Some, ◌≡◌, ◌+◌, ◌≤◌, ◌++◌, length, take, decimal};
+ghost use Rattle.std.specs.Prelude.{◌≡◌, Some};
 ghost use Rattle.rip_wire.specs.Address.{address_text};
 
+use crate::text::put_address;
 use std::fmt;
 use std::marker::Model;
 
@@ -36,13 +37,20 @@ impl Address {
     {
         self.number
     }
+
+    /// Writes the text of the address, as `10.3.0.1`, at the front of the room, and answers it.
+    pub fn encode(self, room: &mut [u8; 15]) -> &str
+        ensures { result.now ≡ address_text self }
+    {
+        let end = put_address(room, self.number);
+        str::from_utf8(&room[..end]).unwrap()
+    }
 }
 
 impl fmt::Display for Address {
     ghost output = { λ a. Some (address_text a) };
 
     fn fmt<W: fmt::Write>(&self, f: &mut fmt::Formatter<W>) -> fmt::Result {
-        let [a, b, c, d] = self.number.to_be_bytes();
-        write!(f, "{a}.{b}.{c}.{d}")
+        f.write_str(self.encode(&mut [0; 15]))
     }
 }

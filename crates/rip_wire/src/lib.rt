@@ -9,6 +9,7 @@ mod error;
 mod metric;
 mod prefix;
 mod reading;
+mod text;
 
 pub use address::Address;
 pub use datagram::{Datagram, Kind};

@@ -1,9 +1,10 @@
 //! Prefixes.
 
-ghost use Rattle.std.specs.Prelude.{Some, ◌≡◌, ◌≤◌, SomeIff};
+ghost use Rattle.std.specs.Prelude.{◌≡◌, ◌≤◌, Some, SomeIff};
 ghost use Rattle.rip_wire.specs.Prefix.{IsBlock, block, mask_of, prefix_text};
 
 use crate::Address;
+use crate::text::{put_address, put_length};
 use std::fmt;
 use std::marker::Model;
 
@@ -66,14 +67,21 @@ impl Prefix {
     {
         self.prefix_len
     }
+
+    /// Writes the text of the prefix, as `10.3.0.0/16`, at the front of the room, and answers it.
+    pub fn encode(self, room: &mut [u8; 18]) -> &str
+        ensures { result.now ≡ prefix_text self }
+    {
+        let end = put_address(room, self.network.get());
+        let end = put_length(room, end, self.prefix_len);
+        str::from_utf8(&room[..end]).unwrap()
+    }
 }
 
 impl fmt::Display for Prefix {
     ghost output = { λ p. Some (prefix_text p) };
 
     fn fmt<W: fmt::Write>(&self, f: &mut fmt::Formatter<W>) -> fmt::Result {
-        let network = self.network;
-        let length = self.prefix_len;
-        write!(f, "{network}/{length}")
+        f.write_str(self.encode(&mut [0; 18]))
     }
 }
