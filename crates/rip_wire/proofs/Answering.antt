@@ -8,7 +8,12 @@ use Rattle.rip_wire.specs.Faults.{WireFault}
 use Rattle.rip_wire.specs.Message.{Message, request, response, message_in}
 use Rattle.rip_wire.specs.Datagram.{message_or_request}
 use Rattle.rip_wire.proofs.Numbers.{IsBytes}
-use Rattle.rip_wire.proofs.Messages.{request_bytes, response_bytes, request_again, response_again}
+use Rattle.std.proofs.Common.{◌<◌, ◌++◌, false, ltb, arith}
+use Rattle.std.proofs.lemmas.List.{length-append, get_or_append_left}
+use Rattle.std.proofs.lemmas.Bool.Decides.{nat_tests}
+use Rattle.rip_wire.specs.declared.datagram.Kind.{Kind}
+use Rattle.rip_wire.specs.Message.{kind_in}
+use Rattle.rip_wire.proofs.Messages.{headed, kind_fault, request_bytes, response_bytes, request_again, response_again}
 use Rattle.rip_wire.proofs.FaultLemmas.{wire_fault, wire_fault_told}
 
 -- what is readable has the message that it stands for
@@ -47,3 +52,32 @@ refused_fault {X = X} b e code at h = (
   where
   same_error : (d f : WireError) → ◌≡◌ {A = Result Message WireError} (Err d) (Err f) → d ≡ f
   same_error d f g = cc
+
+-- ---- Past the longest datagram
+
+same_head : (b more : List ℕ) → 504 < length b → kind_in (b ++ more) ≡ kind_in b
+unfolding kind_in
+same_head b more long =
+    let size = length-append b more in
+    let one = get_or_append_left b more 0 0 (omega arith) in
+    let two = get_or_append_left b more 0 1 (omega arith) in
+    let three = get_or_append_left b more 0 2 (omega arith) in
+    let four = get_or_append_left b more 0 3 (omega arith) in
+    let short : ltb (length b) 4 ≡ false = grind (arith, nat_tests) in
+    let short_too : ltb (length (b ++ more)) 4 ≡ false = grind (arith, nat_tests) in
+    let many : ltb 504 (length b) ≡ true = grind (arith, nat_tests) in
+    let many_too : ltb 504 (length (b ++ more)) ≡ true = grind (arith, nat_tests) in
+    rw (short, short_too, many, many_too, one, two, three, four) refl
+
+-- more bytes than a datagram can have are refused alike, whatever follows them
+pub longer_fault : (b more : List ℕ) (e : WireError) → message_in b ≡ Err e → 504 < length b → WireFault (b ++ more) e.code e.at
+longer_fault b more e h long = wire_fault (b ++ more) e (refused (kind_in b) refl)
+  where
+  refused : (r : Result Kind WireError) → kind_in b ≡ r → message_in (b ++ more) ≡ Err e
+  refused (Ok kind) is = let few = (headed b kind is).few in absurd (omega arith)
+  refused (Err d) is =
+      let told = kind_fault b d is in
+      kind_fault (b ++ more) e (same_head b more long ∙ is ∙ ap Err (same d (sym told ∙ h)))
+    where
+    same : (d : WireError) → ◌≡◌ {A = Result Message WireError} (Err d) (Err e) → d ≡ e
+    same d g = cc

@@ -1,6 +1,6 @@
 //! Reading datagrams.
 
-ghost use Rattle.std.specs.Prelude.{◌≡◌, ◌+◌, ◌≤◌, ◌↔◌, ℕ, List, length, is_ok, true, IfErr, IfOk, IfSome, IsErrOf, IsOkAnd, MatchResult, OnOk};
+ghost use Rattle.std.specs.Prelude.{◌≡◌, ◌+◌, ◌<◌, ◌≤◌, ◌↔◌, ◌++◌, ℕ, List, length, is_ok, true, IfErr, IfOk, IfSome, IsErrOf, IsOkAnd, MatchResult, OnOk};
 ghost use Rattle.rip_wire.specs.declared.entry.Entry.{Entry};
 ghost use Rattle.rip_wire.specs.declared.error.WireCode.{WireCode};
 ghost use Rattle.rip_wire.specs.Faults.{WireFault};
@@ -170,6 +170,9 @@ pub fn read(bytes: &[u8]) -> Result<Datagram<'_>, WireError>
     ensures request { IsOkAnd result (λ d. message_of d ≡ request) ↔ RequestBytes bytes.now }
     ensures refused { (code : WireCode) (at : ℕ) → IsErrOf result (record { code = code; at = at }) ↔ WireFault bytes.now code at }
     ensures bytes { IfOk result (λ d. datagram_bytes d ≡ bytes.now) }
+
+    // More bytes than a datagram can have are refused alike, whatever follows them.
+    ensures longer { IfErr result (λ e. 504 < length bytes.now → (more : List ℕ) → WireFault (bytes.now ++ more) e.code e.at) }
     ensures exact { MatchResult result (λ d. message_in bytes.now ≡ Ok (message_of d)) (λ e. message_in bytes.now ≡ Err e) }
 {
     match check_datagram(bytes) {

@@ -1,5 +1,5 @@
 use Rattle.std.proofs.Common.{arith}
-use Rattle.rip_wire.proofs.Answering.{read_exact, read_response, read_request, read_no_fault, refused_response, refused_request, refused_fault}
+use Rattle.rip_wire.proofs.Answering.{read_exact, read_response, read_request, read_no_fault, refused_response, refused_request, refused_fault, longer_fault}
 use Rattle.rip_wire.proofs.reading.read.Goals as goal
 
 pub returns-in-Ok-clause-response : goal.returns-in-Ok-clause-response
@@ -22,3 +22,6 @@ returns-in-Err-clause-request c = (λ h. absurd h, λ h. refused_request c.args.
 
 pub returns-in-Err-clause-refused : goal.returns-in-Err-clause-refused
 returns-in-Err-clause-refused c code at = refused_fault c.args.bytes.now c.in-Err.error code at c.in-Err.ensures.fault
+
+pub returns-in-Err-clause-longer : goal.returns-in-Err-clause-longer
+returns-in-Err-clause-longer c long more = longer_fault c.args.bytes.now more c.in-Err.error c.in-Err.ensures.fault long
