@@ -1,6 +1,6 @@
 //! IPv4 addresses.
 
-ghost use Rattle.std.specs.Prelude.{◌≡◌, Some};
+ghost use Rattle.std.specs.Prelude.{◌≡◌, ◌≤◌, Some, length};
 ghost use Rattle.rip_wire.specs.Address.{address_text};
 
 use crate::text::put_address;
@@ -40,7 +40,8 @@ impl Address {
 
     /// Writes the text of the address, as `10.3.0.1`, at the front of the room, and answers it.
     pub fn encode(self, room: &mut [u8; 15]) -> &str
-        ensures { result.now ≡ address_text self }
+        ensures text { result.now ≡ address_text self }
+        ensures short { length result.now ≤ 15 }
     {
         let end = put_address(room, self.number);
         str::from_utf8(&room[..end]).unwrap()

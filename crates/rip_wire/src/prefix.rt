@@ -1,6 +1,6 @@
 //! Prefixes.
 
-ghost use Rattle.std.specs.Prelude.{◌≡◌, ◌≤◌, Some, SomeIff};
+ghost use Rattle.std.specs.Prelude.{◌≡◌, ◌≤◌, Some, SomeIff, length};
 ghost use Rattle.rip_wire.specs.Prefix.{IsBlock, block, mask_of, prefix_text};
 
 use crate::Address;
@@ -70,7 +70,8 @@ impl Prefix {
 
     /// Writes the text of the prefix, as `10.3.0.0/16`, at the front of the room, and answers it.
     pub fn encode(self, room: &mut [u8; 18]) -> &str
-        ensures { result.now ≡ prefix_text self }
+        ensures text { result.now ≡ prefix_text self }
+        ensures short { length result.now ≤ 18 }
     {
         let end = put_address(room, self.network.get());
         let end = put_length(room, end, self.prefix_len);

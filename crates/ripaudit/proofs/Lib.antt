@@ -1,0 +1,4 @@
+pub mod SentLemmas
+pub mod HexLemmas
+pub mod EntryLemmas
+pub mod DecodeLemmas

@@ -1,0 +1,6 @@
+pub mod Sent
+pub mod Statuses
+pub mod Written
+pub mod DecodeText
+pub mod Held
+pub mod Finished

@@ -1,0 +1,94 @@
+//! A line of text, before it goes out.
+
+ghost use Rattle.std.specs.Prelude.{◌≡◌, ◌+◌, ◌^◌, ◌<◌, ◌≤◌, ◌∷◌, ◌++◌, [], decimal, length};
+ghost use Rattle.rip_wire.specs.Address.{address_text};
+ghost use Rattle.rip_wire.specs.Prefix.{prefix_text};
+
+use itoa::Buffer;
+use rip_wire::{Address, Prefix};
+use std::marker::Model;
+
+/// The most bytes of a line.
+const ROOM: usize = 256;
+
+/// The text of a line, of at most 256 bytes.
+#[derive(Drop)]
+pub(crate) struct Line {
+    bytes: [u8; ROOM],
+    used: usize,
+}
+
+impl Model for Line {
+    ghost use Rattle.std.specs.Prelude.{List, ℕ, ◌≤◌, take};
+
+    ghost Value = { List ℕ };
+
+    ghost view = { λ l. take l.used l.bytes };
+
+    ghost invariant = { λ l. l.used ≤ 256 };
+}
+
+impl Line {
+    /// An empty line.
+    pub(crate) fn new() -> Line
+        ensures { result ≡ [] }
+    {
+        Line {
+            bytes: [0; ROOM],
+            used: 0,
+        }
+    }
+
+    /// The text so far.
+    pub(crate) fn as_bytes(&self) -> &[u8]
+        ensures { result.now ≡ self.now }
+    {
+        &self.bytes[..self.used]
+    }
+
+    /// Adds text.
+    pub(crate) fn push(&mut self, text: &str)
+        requires { length self.old + length text.now ≤ 256 }
+        ensures text { self.new ≡ self.old ++ text.now }
+        ensures size { length self.new ≡ length self.old + length text.now }
+    {
+        let end = self.used + text.len();
+        self.bytes[self.used..end].copy_from_slice(text.as_bytes());
+        self.used = end;
+    }
+
+    /// Adds a number in decimal digits, at most 20 of them.
+    pub(crate) fn push_number(&mut self, number: u64)
+        requires { length self.old + 20 ≤ 256 }
+        ensures text { self.new ≡ self.old ++ decimal number }
+        ensures size { length self.new ≤ length self.old + 20 }
+    {
+        self.push(Buffer::new().format(number));
+    }
+
+    /// Adds an address.
+    pub(crate) fn push_address(&mut self, address: Address)
+        requires { length self.old + 15 ≤ 256 }
+        ensures text { self.new ≡ self.old ++ address_text address }
+        ensures size { length self.new ≤ length self.old + 15 }
+    {
+        self.push(address.encode(&mut [0; 15]));
+    }
+
+    /// Adds a prefix.
+    pub(crate) fn push_prefix(&mut self, prefix: Prefix)
+        requires { length self.old + 18 ≤ 256 }
+        ensures text { self.new ≡ self.old ++ prefix_text prefix }
+        ensures size { length self.new ≤ length self.old + 18 }
+    {
+        self.push(prefix.encode(&mut [0; 18]));
+    }
+
+    /// Ends the line.
+    pub(crate) fn end(&mut self)
+        requires { length self.old + 1 ≤ 256 }
+        ensures { self.new ≡ self.old ++ 10 ∷ [] }
+    {
+        self.push("\n");
+    }
+}

@@ -1,0 +1,86 @@
+//! Writing text to a sink.
+
+ghost use Rattle.std.specs.Prelude.{◌≡◌, ◌+◌, ◌≤◌, ◌++◌, [], false, true, OnErr, OnOk, is_err, length};
+ghost use Rattle.ripaudit.specs.Sent.{Began, Sent};
+
+use rip_log::{Failed, Sink};
+
+/// Writes all bytes. Where the sink fails, a beginning of them is out.
+pub(crate) fn write_all<K: Sink>(out: &mut K, bytes: &[u8]) -> Result<(), Failed>
+    ensures ok { OnOk result (Sent (K.taken out.old) (K.taken out.new) bytes.now []) }
+    ensures err { OnErr result (Began (K.taken out.old) (K.taken out.new) bytes.now) }
+    ensures failed { is_err result ≡ true → K.broken out.new ≡ true }
+    ensures marks { is_err result ≡ false → K.broken out.new ≡ K.broken out.old }
+{
+    let mut at = 0;
+    'pieces: while at < bytes.len() {
+        at += out.push(&bytes[at..])?;
+    }
+    Ok(())
+}
+
+/// How many bytes a page holds.
+const ROOM: usize = 4096;
+
+/// Text that has not gone out yet.
+#[derive(Drop)]
+pub(crate) struct Page {
+    bytes: [u8; ROOM],
+    used: usize,
+    ghost within: { used ≤ 4096 },
+}
+
+impl Page {
+    ghost use Rattle.ripaudit.specs.Held.{held};
+
+    /// An empty page.
+    pub(crate) fn new() -> Page
+        ensures { held result ≡ [] }
+    {
+        Page {
+            bytes: [0; ROOM],
+            used: 0,
+        }
+    }
+
+    /// Adds bytes that there is room for.
+    fn add(&mut self, bytes: &[u8])
+        requires { self.old.used + length bytes.now ≤ 4096 }
+        ensures { held self.new ≡ held self.old ++ bytes.now }
+    {
+        let end = self.used + bytes.len();
+        self.bytes[self.used..end].copy_from_slice(bytes);
+        self.used = end;
+    }
+
+    /// Sends what the page holds.
+    pub(crate) fn flush<K: Sink>(&mut self, out: &mut K) -> Result<(), Failed>
+        ensures ok { OnOk result (Sent (K.taken out.old) (K.taken out.new) (held self.old) []) }
+        ensures empty { held self.new ≡ [] }
+        ensures room { self.new.used ≡ 0 }
+        ensures err { OnErr result (Began (K.taken out.old) (K.taken out.new) (held self.old)) }
+        ensures failed { is_err result ≡ true → K.broken out.new ≡ true }
+        ensures marks { is_err result ≡ false → K.broken out.new ≡ K.broken out.old }
+    {
+        let used = self.used;
+        self.used = 0;
+        write_all(out, &self.bytes[..used])
+    }
+
+    /// Adds bytes, and sends what the page has no room for.
+    pub(crate) fn write<K: Sink>(&mut self, out: &mut K, bytes: &[u8]) -> Result<(), Failed>
+        ensures ok { OnOk result (Sent (K.taken out.old) (K.taken out.new) (held self.old ++ bytes.now) (held self.new)) }
+        ensures err { OnErr result (Began (K.taken out.old) (K.taken out.new) (held self.old ++ bytes.now)) }
+        ensures failed { is_err result ≡ true → K.broken out.new ≡ true }
+        ensures marks { is_err result ≡ false → K.broken out.new ≡ K.broken out.old }
+    {
+        if bytes.len() > ROOM - self.used {
+            self.flush(out)?;
+            if bytes.len() > ROOM {
+                return write_all(out, bytes);
+            }
+        }
+        self.add(bytes);
+        Ok(())
+    }
+}
