@@ -20,9 +20,9 @@ use Rattle.rip_wire.proofs.FaultLemmas.{wire_fault, wire_fault_told}
 pub read_exact : (b : List ℕ) → is_ok (message_in b) ≡ true → message_in b ≡ Ok (message_or_request (message_in b))
 read_exact b h = cases (message_in b) h
   where
-  cases : (r : Result Message WireError) → is_ok r ≡ true → r ≡ Ok (message_or_request r)
-  cases (Ok m) e = refl
-  cases (Err f) e = absurd (cc)
+    cases : (r : Result Message WireError) → is_ok r ≡ true → r ≡ Ok (message_or_request r)
+    cases (Ok m) e = refl
+    cases (Err f) e = absurd (cc)
 
 clash : {P : Type 0} (b : List ℕ) (m : Message) (e : WireError) → message_in b ≡ Ok m → message_in b ≡ Err e → P
 clash b m e h g = let both : ◌≡◌ {A = Result Message WireError} (Ok m) (Err e) = sym h ∙ g in absurd (cc)
@@ -46,12 +46,12 @@ refused_request b e h spelled = clash b request e (request_again b spelled) h
 -- the error that is answered is the fault
 pub refused_fault : {X : Type 0} (b : List ℕ) (e : WireError) (code : WireCode) (at : ℕ) → message_in b ≡ Err e → (◌≡◌ {A = Result X WireError} (Err e) (Err (record { code = code; at = at })) → WireFault b code at) × (WireFault b code at → ◌≡◌ {A = Result X WireError} (Err e) (Err (record { code = code; at = at })))
 refused_fault {X = X} b e code at h = (
-      λ is. let same : e ≡ record { code = code; at = at } = cc is in wire_fault b (record { code = code; at = at }) (h ∙ ap Err same),
-      λ fault. ap Err (same_error e (record { code = code; at = at }) (sym h ∙ wire_fault_told b code at fault))
-    )
+  λ is. let same : e ≡ record { code = code; at = at } = cc is in wire_fault b (record { code = code; at = at }) (h ∙ ap Err same),
+  λ fault. ap Err (same_error e (record { code = code; at = at }) (sym h ∙ wire_fault_told b code at fault)),
+)
   where
-  same_error : (d f : WireError) → ◌≡◌ {A = Result Message WireError} (Err d) (Err f) → d ≡ f
-  same_error d f g = cc
+    same_error : (d f : WireError) → ◌≡◌ {A = Result Message WireError} (Err d) (Err f) → d ≡ f
+    same_error d f g = cc
 
 -- ---- Past the longest datagram
 
@@ -73,11 +73,11 @@ same_head b more long =
 pub longer_fault : (b more : List ℕ) (e : WireError) → message_in b ≡ Err e → 504 < length b → WireFault (b ++ more) e.code e.at
 longer_fault b more e h long = wire_fault (b ++ more) e (refused (kind_in b) refl)
   where
-  refused : (r : Result Kind WireError) → kind_in b ≡ r → message_in (b ++ more) ≡ Err e
-  refused (Ok kind) is = let few = (headed b kind is).few in absurd (omega arith)
-  refused (Err d) is =
-      let told = kind_fault b d is in
-      kind_fault (b ++ more) e (same_head b more long ∙ is ∙ ap Err (same d (sym told ∙ h)))
-    where
-    same : (d : WireError) → ◌≡◌ {A = Result Message WireError} (Err d) (Err e) → d ≡ e
-    same d g = cc
+    refused : (r : Result Kind WireError) → kind_in b ≡ r → message_in (b ++ more) ≡ Err e
+    refused (Ok kind) is = let few = (headed b kind is).few in absurd (omega arith)
+    refused (Err d) is =
+        let told = kind_fault b d is in
+        kind_fault (b ++ more) e (same_head b more long ∙ is ∙ ap Err (same d (sym told ∙ h)))
+      where
+        same : (d : WireError) → ◌≡◌ {A = Result Message WireError} (Err d) (Err e) → d ≡ e
+        same d g = cc

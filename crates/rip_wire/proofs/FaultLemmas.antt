@@ -52,13 +52,14 @@ kind_fails b =
     fails_test P (not (eqb ((length b - 4) % 20) 0)) _ _ (λ t. record { fault = (grind (arith, nat_tests), refl); low = omega arith }) (λ t6.
     by_command (eqb (get_or b 0 0) 1) refl t2))))))
   where
-  not_both : (x y : ℕ) → not (eqb x 0 && eqb y 0) ≡ true → (x ≢ 0) ⊎ (y ≢ 0)
-  not_both zero y t = inr (grind (arith, nat_tests))
-  not_both (suc x) y t = inl (λ h. omega arith)
-  by_command : (t : Bool) → eqb (get_or b 0 0) 1 ≡ t → not (eqb (get_or b 0 0) 1 || eqb (get_or b 0 0) 2) ≡ false → Fails (IsHeadFault b) (cond t (Ok Request) (cond (eqb (length b) 4) (Err (record { code = Empty; at = 4 })) (Ok Response)))
-  by_command true e two = fails_not (IsHeadFault b) Request
-  by_command false e two =
-      fails_test (IsHeadFault b) (eqb (length b) 4) _ _ (λ t. record { fault = (grind (arith, nat_tests), grind (arith, nat_tests), refl); low = omega arith }) (λ t. fails_not (IsHeadFault b) Response)
+    not_both : (x y : ℕ) → not (eqb x 0 && eqb y 0) ≡ true → (x ≢ 0) ⊎ (y ≢ 0)
+    not_both zero y t = inr (grind (arith, nat_tests))
+    not_both (suc x) y t = inl (λ h. omega arith)
+
+    by_command : (t : Bool) → eqb (get_or b 0 0) 1 ≡ t → not (eqb (get_or b 0 0) 1 || eqb (get_or b 0 0) 2) ≡ false → Fails (IsHeadFault b) (cond t (Ok Request) (cond (eqb (length b) 4) (Err (record { code = Empty; at = 4 })) (Ok Response)))
+    by_command true e two = fails_not (IsHeadFault b) Request
+    by_command false e two =
+        fails_test (IsHeadFault b) (eqb (length b) 4) _ _ (λ t. record { fault = (grind (arith, nat_tests), grind (arith, nat_tests), refl); low = omega arith }) (λ t. fails_not (IsHeadFault b) Response)
 
 -- the fault of entry i
 record IsEntryFault (b : List ℕ) (i : ℕ) (e : WireError) : Type 0 where
@@ -72,18 +73,18 @@ place b i offset two within = record { response = two; entry = i; within = withi
 prefix_fails : (b : List ℕ) (i : ℕ) → get_or b 0 0 ≡ 2 → i < groups_in b → Fails (IsEntryFault b i) (prefix_of (entry_place i) (number_at 4 (entry_place i + 4) b) (bits_of_mask (number_at 4 (entry_place i + 8) b)))
 prefix_fails b i two within = by_bits (bits_of_mask (number_at 4 (entry_place i + 8) b)) refl
   where
-  by_bits : (o : Option ℕ) → bits_of_mask (number_at 4 (entry_place i + 8) b) ≡ o → Fails (IsEntryFault b i) (prefix_of (entry_place i) (number_at 4 (entry_place i + 4) b) o)
-  by_bits None h = fails_at (IsEntryFault b i) _ (record { fault = (place b i 8 two within, no_mask (number_at 4 (entry_place i + 8) b) h); low = omega arith; high = omega arith })
-  by_bits (Some bits) h =
-      let mask = bits_of_mask-Some (number_at 4 (entry_place i + 8) b) bits h in
-      let address : number_at 4 (entry_place i + 4) b ≡ number_at 4 (entry_place i + 8 - 4) b = ap (λ (k : ℕ). number_at 4 k b) (omega arith) in
-      let cover : number_at 4 (entry_place i + 8) b ≡ number_at 4 (entry_place i + 4 + 4) b = ap (λ (k : ℕ). number_at 4 k b) (omega arith) in
-      fails_test (IsEntryFault b i) (eqb bits 0 && not (eqb (number_at 4 (entry_place i + 4) b) 0)) _ _
+    by_bits : (o : Option ℕ) → bits_of_mask (number_at 4 (entry_place i + 8) b) ≡ o → Fails (IsEntryFault b i) (prefix_of (entry_place i) (number_at 4 (entry_place i + 4) b) o)
+    by_bits None h = fails_at (IsEntryFault b i) _ (record { fault = (place b i 8 two within, no_mask (number_at 4 (entry_place i + 8) b) h); low = omega arith; high = omega arith })
+    by_bits (Some bits) h =
+        let mask = bits_of_mask-Some (number_at 4 (entry_place i + 8) b) bits h in
+        let address : number_at 4 (entry_place i + 4) b ≡ number_at 4 (entry_place i + 8 - 4) b = ap (λ (k : ℕ). number_at 4 k b) (omega arith) in
+        let cover : number_at 4 (entry_place i + 8) b ≡ number_at 4 (entry_place i + 4 + 4) b = ap (λ (k : ℕ). number_at 4 k b) (omega arith) in
+        fails_test (IsEntryFault b i) (eqb bits 0 && not (eqb (number_at 4 (entry_place i + 4) b) 0)) _ _
         (λ t. let none : bits ≡ 0 = grind (arith, nat_tests) in let set : number_at 4 (entry_place i + 4) b ≢ 0 = grind (arith, nat_tests) in
-          record { fault = (place b i 8 two within, mask.1 ∙ ap mask_of none, λ z. set (address ∙ z)); low = omega arith; high = omega arith }) (λ t1.
-      fails_test (IsEntryFault b i) (not (eqb (number_at 4 (entry_place i + 4) b % size_of bits) 0)) _ _
+        record { fault = (place b i 8 two within, mask.1 ∙ ap mask_of none, λ z. set (address ∙ z)); low = omega arith; high = omega arith }) (λ t1.
+        fails_test (IsEntryFault b i) (not (eqb (number_at 4 (entry_place i + 4) b % size_of bits) 0)) _ _
         (λ t. record { fault = (place b i 4 two within, record { prefix_len = bits; few = mask.0; covers = sym cover ∙ mask.1; bits = grind (arith, nat_tests) }); low = omega arith; high = omega arith }) (λ t2.
-      fails_not (IsEntryFault b i) _))
+        fails_not (IsEntryFault b i) _))
 
 entry_fails : (b : List ℕ) (i : ℕ) → get_or b 0 0 ≡ 2 → i < groups_in b → Fails (IsEntryFault b i) (entry_at (entry_place i) b)
 unfolding entry_at
@@ -95,12 +96,12 @@ entry_fails b i two within =
     fails_test P (not (eqb (number_at 2 k b) 2)) _ _ (λ t. record { fault = (here, grind (arith, nat_tests)); low = omega arith; high = omega arith }) (λ t2.
     fails_bind P (prefix_of k (number_at 4 (k + 4) b) (bits_of_mask (number_at 4 (k + 8) b))) _ (prefix_fails b i two within) (λ p is_p.
     fails_bind P (metric_of k (number_at 4 (k + 16) b)) _
-      (fails_test P (eqb (number_at 4 (k + 16) b) 0 || ltb 16 (number_at 4 (k + 16) b)) _ _ (λ t. record { fault = (place b i 16 two within, beyond (number_at 4 (k + 16) b) t); low = omega arith; high = omega arith }) (λ t3. fails_not P _))
-      (λ m is_m. fails_not P _))))
+    (fails_test P (eqb (number_at 4 (k + 16) b) 0 || ltb 16 (number_at 4 (k + 16) b)) _ _ (λ t. record { fault = (place b i 16 two within, beyond (number_at 4 (k + 16) b) t); low = omega arith; high = omega arith }) (λ t3. fails_not P _))
+    (λ m is_m. fails_not P _))))
   where
-  beyond : (m : ℕ) → (eqb m 0 || ltb 16 m) ≡ true → (m < 1) ⊎ (16 < m)
-  beyond zero t = inl (omega arith)
-  beyond (suc m) t = inr (grind (arith, nat_tests))
+    beyond : (m : ℕ) → (eqb m 0 || ltb 16 m) ≡ true → (m < 1) ⊎ (16 < m)
+    beyond zero t = inl (omega arith)
+    beyond (suc m) t = inr (grind (arith, nat_tests))
 
 -- ---- A fault of the bytes is told, or one before it
 
@@ -146,9 +147,9 @@ tells_kind b Zero at h low =
     tells_later (not (eqb (get_or b 1 0) 2)) _ _ Zero at (omega arith) (λ t3.
     tells_here (not (eqb (get_or b 2 0) 0 && eqb (get_or b 3 0) 0)) Zero at _ _ (either (get_or b 2 0) (get_or b 3 0) h.0) h.1)))
   where
-  either : (x y : ℕ) → (x ≢ 0) ⊎ (y ≢ 0) → not (eqb x 0 && eqb y 0) ≡ true
-  either x y (inl h) = grind (arith, nat_tests)
-  either x y (inr h) = grind (arith, nat_tests)
+    either : (x y : ℕ) → (x ≢ 0) ⊎ (y ≢ 0) → not (eqb x 0 && eqb y 0) ≡ true
+    either x y (inl h) = grind (arith, nat_tests)
+    either x y (inr h) = grind (arith, nat_tests)
 tells_kind b TooMany at h low =
     tells_later (ltb (length b) 4) _ _ TooMany at (omega arith) (λ t1.
     tells_later (not (eqb (get_or b 0 0) 1 || eqb (get_or b 0 0) 2)) _ _ TooMany at (omega arith) (λ t2.
@@ -190,19 +191,20 @@ tells_metric b at h f =
     tells_later (eqb (number_at 2 k b) 0xFFFF) _ _ Metric at (omega arith) (λ t1.
     tells_later (not (eqb (number_at 2 k b) 2)) _ _ Metric at (omega arith) (λ t2.
     tells_or (prefix_of k (number_at 4 (k + 4) b) (bits_of_mask (number_at 4 (k + 8) b))) _ Metric at
-      (λ e is. let p = prefix_low k i (number_at 4 (k + 4) b) (bits_of_mask (number_at 4 (k + 8) b)) refl e is in omega arith) (λ p is_p.
+    (λ e is. let p = prefix_low k i (number_at 4 (k + 4) b) (bits_of_mask (number_at 4 (k + 8) b)) refl e is in omega arith) (λ p is_p.
     tells_bind (metric_of k (number_at 4 (k + 16) b)) _ Metric at
-      (tells_here (eqb (number_at 4 (k + 16) b) 0 || ltb 16 (number_at 4 (k + 16) b)) Metric at _ _ (beyond (number_at 4 (k + 16) b) (subst (λ (m : ℕ). (m < 1) ⊎ (16 < m)) value h.1)) here))))
+    (tells_here (eqb (number_at 4 (k + 16) b) 0 || ltb 16 (number_at 4 (k + 16) b)) Metric at _ _ (beyond (number_at 4 (k + 16) b) (subst (λ (m : ℕ). (m < 1) ⊎ (16 < m)) value h.1)) here))))
   where
-  beyond : (m : ℕ) → (m < 1) ⊎ (16 < m) → (eqb m 0 || ltb 16 m) ≡ true
-  beyond m (inl x) = grind (arith, nat_tests)
-  beyond m (inr x) = grind (arith, nat_tests)
-  prefix_low : (k i address : ℕ) (o : Option ℕ) → k ≡ entry_place i → Fails (λ e. rank e.code e.at < 12 + 6 * i) (prefix_of k address o)
-  prefix_low k i address None h = fails_at (λ e. rank e.code e.at < 12 + 6 * i) _ (omega arith)
-  prefix_low k i address (Some bits) h =
-      fails_test (λ e. rank e.code e.at < 12 + 6 * i) (eqb bits 0 && not (eqb address 0)) _ _ (λ t. omega arith) (λ t1.
-      fails_test (λ e. rank e.code e.at < 12 + 6 * i) (not (eqb (address % size_of bits) 0)) _ _ (λ t. omega arith) (λ t2.
-      fails_not (λ e. rank e.code e.at < 12 + 6 * i) _))
+    beyond : (m : ℕ) → (m < 1) ⊎ (16 < m) → (eqb m 0 || ltb 16 m) ≡ true
+    beyond m (inl x) = grind (arith, nat_tests)
+    beyond m (inr x) = grind (arith, nat_tests)
+
+    prefix_low : (k i address : ℕ) (o : Option ℕ) → k ≡ entry_place i → Fails (λ e. rank e.code e.at < 12 + 6 * i) (prefix_of k address o)
+    prefix_low k i address None h = fails_at (λ e. rank e.code e.at < 12 + 6 * i) _ (omega arith)
+    prefix_low k i address (Some bits) h =
+        fails_test (λ e. rank e.code e.at < 12 + 6 * i) (eqb bits 0 && not (eqb address 0)) _ _ (λ t. omega arith) (λ t1.
+        fails_test (λ e. rank e.code e.at < 12 + 6 * i) (not (eqb (address % size_of bits) 0)) _ _ (λ t. omega arith) (λ t2.
+        fails_not (λ e. rank e.code e.at < 12 + 6 * i) _))
 
 tells_authentication : (b : List ℕ) (at : ℕ) → IsFault b Authentication at → (f : IsFieldPlace b 0 at) → Tells (entry_at (entry_place f.entry) b) Authentication at
 unfolding entry_at
@@ -237,11 +239,11 @@ tells_mask b at h f =
     let here = f.place in
     tells_in_prefix b i Mask at (omega arith) (by_bits (bits_of_mask (number_at 4 (entry_place i + 8) b)) refl)
   where
-  by_bits : (o : Option ℕ) → bits_of_mask (number_at 4 (entry_place f.entry + 8) b) ≡ o → Tells (prefix_of (entry_place f.entry) (number_at 4 (entry_place f.entry + 4) b) o) Mask at
-  by_bits None e = tells_this Mask at (entry_place f.entry + 8) f.place
-  by_bits (Some bits) e =
-      let mask = bits_of_mask-Some (number_at 4 (entry_place f.entry + 8) b) bits e in
-      absurd (h.1 (bits, mask.0, ap (λ (n : ℕ). number_at 4 n b) f.place ∙ mask.1))
+    by_bits : (o : Option ℕ) → bits_of_mask (number_at 4 (entry_place f.entry + 8) b) ≡ o → Tells (prefix_of (entry_place f.entry) (number_at 4 (entry_place f.entry + 4) b) o) Mask at
+    by_bits None e = tells_this Mask at (entry_place f.entry + 8) f.place
+    by_bits (Some bits) e =
+        let mask = bits_of_mask-Some (number_at 4 (entry_place f.entry + 8) b) bits e in
+        absurd (h.1 (bits, mask.0, ap (λ (n : ℕ). number_at 4 n b) f.place ∙ mask.1))
 
 tells_no_mask : (b : List ℕ) (at : ℕ) → IsFault b NoMask at → (f : IsFieldPlace b 8 at) → Tells (entry_at (entry_place f.entry) b) NoMask at
 tells_no_mask b at h f =
@@ -252,7 +254,7 @@ tells_no_mask b at h f =
     let address : number_at 4 (k + 4) b ≢ 0 = λ e. h.2 (ap (λ (n : ℕ). number_at 4 n b) (omega arith) ∙ e) in
     let bits : bits_of_mask (number_at 4 (k + 8) b) ≡ Some 0 = ap bits_of_mask mask ∙ bits_of_mask-mask_of 0 (omega arith) in
     tells_in_prefix b i NoMask at (omega arith)
-      (rw bits (tells_here (eqb 0 0 && not (eqb (number_at 4 (k + 4) b) 0)) NoMask at (k + 8) _ (grind (arith, nat_tests)) here))
+    (rw bits (tells_here (eqb 0 0 && not (eqb (number_at 4 (k + 4) b) 0)) NoMask at (k + 8) _ (grind (arith, nat_tests)) here))
 
 tells_host_bits : (b : List ℕ) (at : ℕ) → IsFault b HostBits at → (f : IsFieldPlace b 4 at) → Tells (entry_at (entry_place f.entry) b) HostBits at
 tells_host_bits b at h f =
@@ -265,8 +267,8 @@ tells_host_bits b at h f =
     let address : number_at 4 at b ≡ number_at 4 (k + 4) b = ap (λ (n : ℕ). number_at 4 n b) here in
     let set : number_at 4 (k + 4) b % size_of hosts.prefix_len ≢ 0 = rw (← address) hosts.bits in
     tells_in_prefix b i HostBits at (omega arith) (rw bits (
-      tells_later (eqb hosts.prefix_len 0 && not (eqb (number_at 4 (k + 4) b) 0)) _ _ HostBits at (omega arith) (λ t1.
-      tells_here (not (eqb (number_at 4 (k + 4) b % size_of hosts.prefix_len) 0)) HostBits at (k + 4) _ (grind (arith, nat_tests)) here)))
+    tells_later (eqb hosts.prefix_len 0 && not (eqb (number_at 4 (k + 4) b) 0)) _ _ HostBits at (omega arith) (λ t1.
+    tells_here (not (eqb (number_at 4 (k + 4) b % size_of hosts.prefix_len) 0)) HostBits at (k + 4) _ (grind (arith, nat_tests)) here)))
 
 -- a fault that entry i tells is told by those up to it
 tells_entries : (n j i : ℕ) (b : List ℕ) (code : WireCode) (at : ℕ) → get_or b 0 0 ≡ 2 → j ≤ i → i < j + n → i < groups_in b → 7 + 6 * i ≤ rank code at → Tells (entry_at (entry_place i) b) code at → Tells (entries_at n (entry_place j) b) code at
@@ -275,15 +277,17 @@ tells_entries zero j i b code at two from to within low h = absurd (omega arith)
 tells_entries (suc n) j i b code at two from to within low h =
     by_place (place_cases j i from) (λ less. tells_entries n (j + 1) i b code at two (omega arith) (omega arith) within low h)
   where
-  place_cases : (j i : ℕ) → j ≤ i → (j ≡ i) ⊎ (j < i)
-  place_cases j i le = grind arith
-  next : entry_place j + 20 ≡ entry_place (j + 1)
-  next = omega arith
-  by_place : (j ≡ i) ⊎ (j < i) → (j < i → Tells (entries_at n (entry_place (j + 1)) b) code at) → Tells (entry_at (entry_place j) b >>= λ e. entries_at n (entry_place j + 20) b >>= λ es. Ok (e ∷ es)) code at
-  by_place (inl same) later = tells_bind (entry_at (entry_place j) b) _ code at (rw same h)
-  by_place (inr less) later =
-      tells_or (entry_at (entry_place j) b) _ code at (λ e is. let f = entry_fails b j two (omega arith) e is in let high = f.high in omega arith) (λ e is.
-      tells_bind (entries_at n (entry_place j + 20) b) _ code at (rw next (later less)))
+    place_cases : (j i : ℕ) → j ≤ i → (j ≡ i) ⊎ (j < i)
+    place_cases j i le = grind arith
+
+    next : entry_place j + 20 ≡ entry_place (j + 1)
+    next = omega arith
+
+    by_place : (j ≡ i) ⊎ (j < i) → (j < i → Tells (entries_at n (entry_place (j + 1)) b) code at) → Tells (entry_at (entry_place j) b >>= λ e. entries_at n (entry_place j + 20) b >>= λ es. Ok (e ∷ es)) code at
+    by_place (inl same) later = tells_bind (entry_at (entry_place j) b) _ code at (rw same h)
+    by_place (inr less) later =
+        tells_or (entry_at (entry_place j) b) _ code at (λ e is. let f = entry_fails b j two (omega arith) e is in let high = f.high in omega arith) (λ e is.
+        tells_bind (entries_at n (entry_place j + 20) b) _ code at (rw next (later less)))
 
 -- a fault of an entry
 tells_entry : (b : List ℕ) (code : WireCode) (at offset : ℕ) (f : IsFieldPlace b offset at) → 7 + 6 * f.entry ≤ rank code at → Tells (entry_at (entry_place f.entry) b) code at → Tells (message_in b) code at
@@ -291,9 +295,9 @@ unfolding message_in
 tells_entry b code at offset f low h =
     tells_or (kind_in b) (message_of_kind b) code at (λ e is. let head = (kind_fails b e is).low in omega arith) by_kind
   where
-  by_kind : (kind : Kind) → kind_in b ≡ Ok kind → Tells (message_of_kind b kind) code at
-  by_kind Request is = let one = (headed b Request is).command in let two = f.response in absurd (omega arith)
-  by_kind Response is = tells_bind (entries_at (groups_in b) 4 b) _ code at (tells_entries (groups_in b) 0 f.entry b code at f.response (omega arith) (let within = f.within in omega arith) f.within low h)
+    by_kind : (kind : Kind) → kind_in b ≡ Ok kind → Tells (message_of_kind b kind) code at
+    by_kind Request is = let one = (headed b Request is).command in let two = f.response in absurd (omega arith)
+    by_kind Response is = tells_bind (entries_at (groups_in b) 4 b) _ code at (tells_entries (groups_in b) 0 f.entry b code at f.response (omega arith) (let within = f.within in omega arith) f.within low h)
 
 -- a fault of the bytes is told, or one before it
 tells : (b : List ℕ) (code : WireCode) (at : ℕ) → IsFault b code at → Tells (message_in b) code at
@@ -327,11 +331,11 @@ message_fails : (b : List ℕ) → Fails (λ e. IsFault b e.code e.at) (message_
 unfolding message_in
 message_fails b = fails_bind (λ e. IsFault b e.code e.at) (kind_in b) (message_of_kind b) (λ e is. (kind_fails b e is).fault) by_kind
   where
-  by_kind : (kind : Kind) → kind_in b ≡ Ok kind → Fails (λ e. IsFault b e.code e.at) (message_of_kind b kind)
-  by_kind Request is = fails_not (λ e. IsFault b e.code e.at) request
-  by_kind Response is =
-      fails_bind (λ e. IsFault b e.code e.at) (entries_at (groups_in b) 4 b) _ (entries_fail (groups_in b) 0 b (headed b Response is).command (omega arith)) (λ es is_es.
-      fails_not (λ e. IsFault b e.code e.at) (response es))
+    by_kind : (kind : Kind) → kind_in b ≡ Ok kind → Fails (λ e. IsFault b e.code e.at) (message_of_kind b kind)
+    by_kind Request is = fails_not (λ e. IsFault b e.code e.at) request
+    by_kind Response is =
+        fails_bind (λ e. IsFault b e.code e.at) (entries_at (groups_in b) 4 b) _ (entries_fail (groups_in b) 0 b (headed b Response is).command (omega arith)) (λ es is_es.
+        fails_not (λ e. IsFault b e.code e.at) (response es))
 
 same_error : (d e : WireError) → ◌≡◌ {A = Result Message WireError} (Err d) (Err e) → d ≡ e
 same_error d e h = cc
@@ -341,16 +345,16 @@ pub wire_fault : (b : List ℕ) (e : WireError) → message_in b ≡ Err e → W
 wire_fault b e h = record {
   fault = message_fails b e h;
   first = λ other place is.
-    let t = tells b other place is in
-    let same = same_error t.told e (sym t.is ∙ h) in
-    subst (λ (d : WireError). ((other ≡ d.code) × (place ≡ d.at)) ⊎ (rank d.code d.at < rank other place)) same t.before;
+      let t = tells b other place is in
+      let same = same_error t.told e (sym t.is ∙ h) in
+      subst (λ (d : WireError). ((other ≡ d.code) × (place ≡ d.at)) ⊎ (rank d.code d.at < rank other place)) same t.before;
 }
 
 -- the first fault is told
 pub wire_fault_told : (b : List ℕ) (code : WireCode) (at : ℕ) → WireFault b code at → message_in b ≡ Err (record { code = code; at = at })
 wire_fault_told b code at w = let t = tells b code at w.fault in by_order t t.before (w.first t.told.code t.told.at (message_fails b t.told t.is))
   where
-  by_order : (t : Tells (message_in b) code at) → ((code ≡ t.told.code) × (at ≡ t.told.at)) ⊎ (rank t.told.code t.told.at < rank code at) → ((t.told.code ≡ code) × (t.told.at ≡ at)) ⊎ (rank code at < rank t.told.code t.told.at) → message_in b ≡ Err (record { code = code; at = at })
-  by_order t (inl same) other = rw (same.0, same.1) t.is
-  by_order t (inr less) (inl same) = rw (← same.0, ← same.1) t.is
-  by_order t (inr less) (inr more) = absurd (omega arith)
+    by_order : (t : Tells (message_in b) code at) → ((code ≡ t.told.code) × (at ≡ t.told.at)) ⊎ (rank t.told.code t.told.at < rank code at) → ((t.told.code ≡ code) × (t.told.at ≡ at)) ⊎ (rank code at < rank t.told.code t.told.at) → message_in b ≡ Err (record { code = code; at = at })
+    by_order t (inl same) other = rw (same.0, same.1) t.is
+    by_order t (inr less) (inl same) = rw (← same.0, ← same.1) t.is
+    by_order t (inr less) (inr more) = absurd (omega arith)

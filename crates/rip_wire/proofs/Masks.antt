@@ -51,9 +51,9 @@ found : (mask bits : ℕ) (lens : List ℕ) → all_at_most 32 lens → find (λ
 found mask bits [] all h = absurd (cc)
 found mask bits (x ∷ xs) all h = at_test (eqb mask (mask_of x)) refl (found mask bits xs all.1) h
   where
-  at_test : (t : Bool) → eqb mask (mask_of x) ≡ t → (find (λ l. eqb mask (mask_of l)) xs ≡ Some bits → (bits ≤ 32) × (mask ≡ mask_of bits)) → cond t (Some x) (find (λ l. eqb mask (mask_of l)) xs) ≡ Some bits → (bits ≤ 32) × (mask ≡ mask_of bits)
-  at_test true e later g = let same : x ≡ bits = cc in rw (← same) (all.0, eqb-true mask (mask_of x) e)
-  at_test false e later g = later g
+    at_test : (t : Bool) → eqb mask (mask_of x) ≡ t → (find (λ l. eqb mask (mask_of l)) xs ≡ Some bits → (bits ≤ 32) × (mask ≡ mask_of bits)) → cond t (Some x) (find (λ l. eqb mask (mask_of l)) xs) ≡ Some bits → (bits ≤ 32) × (mask ≡ mask_of bits)
+    at_test true e later g = let same : x ≡ bits = cc in rw (← same) (all.0, eqb-true mask (mask_of x) e)
+    at_test false e later g = later g
 
 lens_are_small : all_at_most 32 prefix_lens
 unfolding prefix_lens
@@ -68,12 +68,12 @@ bits_of_mask-Some mask bits h = found mask bits prefix_lens lens_are_small h
 pub bits_of_mask-None : (mask : ℕ) → (mask ≡ mask_of (leading_ones w32 mask) → ⊥) → None ≡ bits_of_mask mask
 bits_of_mask-None mask h = cases (bits_of_mask mask) refl
   where
-  cases : (o : Option ℕ) → bits_of_mask mask ≡ o → None ≡ o
-  cases None e = refl
-  cases (Some bits) e =
-      let mask-is = bits_of_mask-Some mask bits e in
-      let same : leading_ones w32 mask ≡ bits = ap (leading_ones w32) mask-is.1 ∙ leading_ones-mask_of bits mask-is.0 in
-      absurd (h (mask-is.1 ∙ ap mask_of (sym same)))
+    cases : (o : Option ℕ) → bits_of_mask mask ≡ o → None ≡ o
+    cases None e = refl
+    cases (Some bits) e =
+        let mask-is = bits_of_mask-Some mask bits e in
+        let same : leading_ones w32 mask ≡ bits = ap (leading_ones w32) mask-is.1 ∙ leading_ones-mask_of bits mask-is.0 in
+        absurd (h (mask-is.1 ∙ ap mask_of (sym same)))
 
 -- what has no length is no mask
 pub no_mask : (mask : ℕ) → bits_of_mask mask ≡ None → IsMask mask → ⊥

@@ -53,17 +53,17 @@ headed b kind h =
       some = by_kind.1;
     }
   where
-  last : (t : Bool) → eqb (get_or b 0 0) 1 ≡ t → (k : Kind) → cond t (Ok Request) (cond (eqb (length b) 4) (fault Empty 4) (Ok Response)) ≡ Ok k → ((get_or b 0 0 ≢ 1 → get_or b 0 0 ≡ 2) → get_or b 0 0 ≡ command_of k) × (k ≡ Response → length b ≢ 4)
-  last true e k g =
-      let same = same_Ok Request k g in
-      let one = eqb-true _ _ e in
-      (λ _. subst (λ (x : Kind). get_or b 0 0 ≡ command_of x) same one, λ is. let clash : Request ≡ Response = same ∙ is in absurd (cc clash))
-  last false e k g =
-      let p = passed (eqb (length b) 4) _ _ k g in
-      let same = same_Ok Response k p.1 in
-      let other : get_or b 0 0 ≢ 1 = grind (arith, nat_tests) in
-      let longer : length b ≢ 4 = grind (arith, nat_tests) in
-      (λ two. subst (λ (x : Kind). get_or b 0 0 ≡ command_of x) same (two other), λ _. longer)
+    last : (t : Bool) → eqb (get_or b 0 0) 1 ≡ t → (k : Kind) → cond t (Ok Request) (cond (eqb (length b) 4) (fault Empty 4) (Ok Response)) ≡ Ok k → ((get_or b 0 0 ≢ 1 → get_or b 0 0 ≡ 2) → get_or b 0 0 ≡ command_of k) × (k ≡ Response → length b ≢ 4)
+    last true e k g =
+        let same = same_Ok Request k g in
+        let one = eqb-true _ _ e in
+        (λ _. subst (λ (x : Kind). get_or b 0 0 ≡ command_of x) same one, λ is. let clash : Request ≡ Response = same ∙ is in absurd (cc clash))
+    last false e k g =
+        let p = passed (eqb (length b) 4) _ _ k g in
+        let same = same_Ok Response k p.1 in
+        let other : get_or b 0 0 ≢ 1 = grind (arith, nat_tests) in
+        let longer : length b ≢ 4 = grind (arith, nat_tests) in
+        (λ two. subst (λ (x : Kind). get_or b 0 0 ≡ command_of x) same (two other), λ _. longer)
 
 pub kind_in-headed : (b : List ℕ) (kind : Kind) → IsHeaded b kind → kind_in b ≡ Ok kind
 unfolding kind_in
@@ -108,47 +108,47 @@ read_message b m h = let k = bind_ok (kind_in b) (message_of_kind b) m h in reco
 pub request_bytes : (b : List ℕ) → message_in b ≡ Ok request → RequestBytes b
 request_bytes b h = let r = read_message b request h in by_kind r.kind r.kind_is r.message
   where
-  by_kind : (k : Kind) → kind_in b ≡ Ok k → message_of_kind b k ≡ Ok request → RequestBytes b
-  by_kind Request is m =
-      let head = headed b Request is in
-      let header = head.header in
-      let few = head.few in
-      let even = head.even in
-      record {
-        count = groups_in b;
-        few = omega arith;
-        body = drop 4 b;
-        groups = omega (arith, length-drop 4 b);
-        bytes = head_four b (drop 4 b) 1 header head.command head.version head.zeros.0 head.zeros.1 refl;
-      }
-  by_kind Response is m =
-      let e = bind_ok (entries_at (groups_in b) 4 b) _ request m in
-      let clash = same_Ok (response e.0) request e.2 in
-      absurd (cc clash)
+    by_kind : (k : Kind) → kind_in b ≡ Ok k → message_of_kind b k ≡ Ok request → RequestBytes b
+    by_kind Request is m =
+        let head = headed b Request is in
+        let header = head.header in
+        let few = head.few in
+        let even = head.even in
+        record {
+          count = groups_in b;
+          few = omega arith;
+          body = drop 4 b;
+          groups = omega (arith, length-drop 4 b);
+          bytes = head_four b (drop 4 b) 1 header head.command head.version head.zeros.0 head.zeros.1 refl;
+        }
+    by_kind Response is m =
+        let e = bind_ok (entries_at (groups_in b) 4 b) _ request m in
+        let clash = same_Ok (response e.0) request e.2 in
+        absurd (cc clash)
 
 -- a response that is read has the bytes of one
 pub response_bytes : (b : List ℕ) (es : List Entry) → IsBytes b → message_in b ≡ Ok (response es) → ResponseBytes es b
 response_bytes b es bytes h = let r = read_message b (response es) h in by_kind r.kind r.kind_is r.message
   where
-  by_kind : (k : Kind) → kind_in b ≡ Ok k → message_of_kind b k ≡ Ok (response es) → ResponseBytes es b
-  by_kind Request is m = let clash = same_Ok request (response es) m in absurd (cc clash)
-  by_kind Response is m =
-      let head = headed b Response is in
-      let header = head.header in
-      let few = head.few in
-      let even = head.even in
-      let longer = head.some refl in
-      let e = bind_ok (entries_at (groups_in b) 4 b) _ (response es) m in
-      let same : e.0 ≡ es = let g = same_Ok (response e.0) (response es) e.2 in cc g in
-      let all = spelled_all (groups_in b) 4 b es bytes (omega arith) (e.1 ∙ ap Ok same) in
-      let count = all.count in
-      let whole : take (20 * groups_in b) (drop 4 b) ≡ drop 4 b = take_all (20 * groups_in b) (drop 4 b) (omega (arith, length-drop 4 b)) in
-      record {
-        some = omega arith;
-        few = omega arith;
-        entries = all.each;
-        bytes = head_four b (entries_bytes es) 2 header head.command head.version head.zeros.0 head.zeros.1 (all.bytes ∙ whole);
-      }
+    by_kind : (k : Kind) → kind_in b ≡ Ok k → message_of_kind b k ≡ Ok (response es) → ResponseBytes es b
+    by_kind Request is m = let clash = same_Ok request (response es) m in absurd (cc clash)
+    by_kind Response is m =
+        let head = headed b Response is in
+        let header = head.header in
+        let few = head.few in
+        let even = head.even in
+        let longer = head.some refl in
+        let e = bind_ok (entries_at (groups_in b) 4 b) _ (response es) m in
+        let same : e.0 ≡ es = let g = same_Ok (response e.0) (response es) e.2 in cc g in
+        let all = spelled_all (groups_in b) 4 b es bytes (omega arith) (e.1 ∙ ap Ok same) in
+        let count = all.count in
+        let whole : take (20 * groups_in b) (drop 4 b) ≡ drop 4 b = take_all (20 * groups_in b) (drop 4 b) (omega (arith, length-drop 4 b)) in
+        record {
+          some = omega arith;
+          few = omega arith;
+          entries = all.each;
+          bytes = head_four b (entries_bytes es) 2 header head.command head.version head.zeros.0 head.zeros.1 (all.bytes ∙ whole);
+        }
 
 -- the bytes of a request are read as one
 pub request_again : (b : List ℕ) → RequestBytes b → message_in b ≡ Ok request
@@ -211,9 +211,9 @@ whole_request b h = let head = headed b Request h in record { readable = rw (req
 response_ok : (b : List ℕ) → kind_in b ≡ Ok Response → is_ok (entries_at (groups_in b) 4 b) ≡ true → is_ok (message_in b) ≡ true
 response_ok b h all = rw (response_is b h) (goes_on (entries_at (groups_in b) 4 b) all)
   where
-  goes_on : (r : Result (List Entry) WireError) → is_ok r ≡ true → is_ok (r >>= λ es. Ok (response es)) ≡ true
-  goes_on (Ok es) g = refl
-  goes_on (Err e) g = g
+    goes_on : (r : Result (List Entry) WireError) → is_ok r ≡ true → is_ok (r >>= λ es. Ok (response es)) ≡ true
+    goes_on (Ok es) g = refl
+    goes_on (Err e) g = g
 
 pub whole_response : (b : List ℕ) → kind_in b ≡ Ok Response → is_ok (entries_at (groups_in b) 4 b) ≡ true → IsWhole b
 whole_response b h all = let head = headed b Response h in record { readable = response_ok b h all; header = head.header; few = head.few }

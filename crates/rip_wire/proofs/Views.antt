@@ -19,19 +19,19 @@ pub record HasMessage (b : List ℕ) : Type 0 where
 pub has_message : (b : List ℕ) → is_ok (message_in b) ≡ true → HasMessage b
 has_message b h = cases (message_in b) refl h
   where
-  cases : (r : Result Message WireError) → message_in b ≡ r → is_ok r ≡ true → HasMessage b
-  cases (Ok m) e h = record { message = m; read = e }
-  cases (Err f) e h = absurd (cc)
+    cases : (r : Result Message WireError) → message_in b ≡ r → is_ok r ≡ true → HasMessage b
+    cases (Ok m) e h = record { message = m; read = e }
+    cases (Err f) e h = absurd (cc)
 
 -- the kind of a message, by the first byte
 kind_read : (b : List ℕ) (m : Message) → message_in b ≡ Ok m → get_or b 0 0 ≡ command_of (kind_of m)
 kind_read b m h = let r = read_message b m h in (headed b r.kind r.kind_is).command ∙ ap command_of (by_kind r.kind r.message)
   where
-  by_kind : (k : Kind) → message_of_kind b k ≡ Ok m → k ≡ kind_of m
-  by_kind Request g = ap kind_of (same_Ok request m g)
-  by_kind Response g =
-      let e = bind_ok (entries_at (groups_in b) 4 b) _ m g in
-      ap kind_of (same_Ok (response e.0) m e.2)
+    by_kind : (k : Kind) → message_of_kind b k ≡ Ok m → k ≡ kind_of m
+    by_kind Request g = ap kind_of (same_Ok request m g)
+    by_kind Response g =
+        let e = bind_ok (entries_at (groups_in b) 4 b) _ m g in
+        ap kind_of (same_Ok (response e.0) m e.2)
 
 by_command : (k : Kind) (n : ℕ) → n ≡ command_of k → (n ≡ 1 → Request ≡ k) × (n ≢ 1 → Response ≡ k)
 by_command Request n h = (λ _. refl, λ other. absurd (other h))
@@ -50,11 +50,11 @@ record HasEntries (b : List ℕ) (m : Message) : Type 0 where
 has_entries : (b : List ℕ) (m : Message) → message_in b ≡ Ok m → kind_of m ≡ Response → HasEntries b m
 has_entries b m h is = let r = read_message b m h in by_kind r.kind r.kind_is r.message
   where
-  by_kind : (k : Kind) → kind_in b ≡ Ok k → message_of_kind b k ≡ Ok m → HasEntries b m
-  by_kind Request k g = let clash : Request ≡ Response = ap kind_of (same_Ok request m g) ∙ is in absurd (cc clash)
-  by_kind Response k g =
-      let e = bind_ok (entries_at (groups_in b) 4 b) _ m g in
-      record { entries = e.1 ∙ ap (λ (x : Message). Ok (entries_of x)) (same_Ok (response e.0) m e.2); header = (headed b Response k).header }
+    by_kind : (k : Kind) → kind_in b ≡ Ok k → message_of_kind b k ≡ Ok m → HasEntries b m
+    by_kind Request k g = let clash : Request ≡ Response = ap kind_of (same_Ok request m g) ∙ is in absurd (cc clash)
+    by_kind Response k g =
+        let e = bind_ok (entries_at (groups_in b) 4 b) _ m g in
+        record { entries = e.1 ∙ ap (λ (x : Message). Ok (entries_of x)) (same_Ok (response e.0) m e.2); header = (headed b Response k).header }
 
 pub groups_are_entries : (b : List ℕ) → is_ok (message_in b) ≡ true → kind_of (message_or_request (message_in b)) ≡ Response → groups_in b ≡ length (entries_of (message_or_request (message_in b)))
 groups_are_entries b h is =

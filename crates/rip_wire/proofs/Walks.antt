@@ -35,11 +35,12 @@ EndsAs-more count i b e all lt here so_far = record {
   err = λ f h. so_far.err f (joined ∙ rw h refl);
 }
   where
-  joined : rest_of count i b ≡ (rest_of count (i + 1) b >>= λ es. Ok (e ∷ es))
-  joined = unfolded count i b lt ∙ rw here refl
-  goes_on : (r : Result (List Entry) WireError) → is_ok r ≡ true → is_ok (r >>= λ es. Ok (e ∷ es)) ≡ true
-  goes_on (Ok es) h = refl
-  goes_on (Err f) h = h
+    joined : rest_of count i b ≡ (rest_of count (i + 1) b >>= λ es. Ok (e ∷ es))
+    joined = unfolded count i b lt ∙ rw here refl
+
+    goes_on : (r : Result (List Entry) WireError) → is_ok r ≡ true → is_ok (r >>= λ es. Ok (e ∷ es)) ≡ true
+    goes_on (Ok es) h = refl
+    goes_on (Err f) h = h
 
 -- a fault of an entry is that of all
 pub EndsAs-fault : (count i : ℕ) (b : List ℕ) (f : WireError) (all : Result (List Entry) WireError) → i < count → entry_at (entry_place i) b ≡ Err f → EndsAs (rest_of count i b) all → all ≡ Err f

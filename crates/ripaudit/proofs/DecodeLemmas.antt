@@ -41,13 +41,14 @@ pub told_fault : (word front b : List ℕ) (code : WireCode) (at : ℕ) → deco
     → (504 < length front → (more : List ℕ) → WireFault (front ++ more) code at) → DecodeText word (refused_wire code at)
 told_fault word front b code at h is fault longer = by_length (split (length front))
   where
-  split : (n : ℕ) → (n ≤ 504) ⊎ (504 < n)
-  split n = grind arith
-  by_length : (length front ≤ 504) ⊎ (504 < length front) → DecodeText word (refused_wire code at)
-  by_length (inl short) = no_datagram front code at (h ∙ ap Ok (sym (whole front b is short))) fault
-  by_length (inr long) =
-      let all : front ++ drop 505 b ≡ b = ap (λ (l : List ℕ). l ++ drop 505 b) is ∙ take-append-drop 505 b in
-      no_datagram b code at h (subst (λ (l : List ℕ). WireFault l code at) all (longer long (drop 505 b)))
+    split : (n : ℕ) → (n ≤ 504) ⊎ (504 < n)
+    split n = grind arith
+
+    by_length : (length front ≤ 504) ⊎ (504 < length front) → DecodeText word (refused_wire code at)
+    by_length (inl short) = no_datagram front code at (h ∙ ap Ok (sym (whole front b is short))) fault
+    by_length (inr long) =
+        let all : front ++ drop 505 b ≡ b = ap (λ (l : List ℕ). l ++ drop 505 b) is ∙ take-append-drop 505 b in
+        no_datagram b code at h (subst (λ (l : List ℕ). WireFault l code at) all (longer long (drop 505 b)))
 
 -- the end of a run that wrote
 pub finished_text : (word : List ℕ) (w : Written) (a b : Option (List ℕ)) (r : Result (Unit {0}) Failed) (outcome : Result Status RunError) → DecodeText word w → outcome ≡ finished r w.status → OnOk r (Sent a b w.text [])

@@ -59,14 +59,15 @@ front s b h =
       count = omega (arith, length-take 505 b);
     }
   where
-  take-min : (b : List ℕ) (n : ℕ) → n ≡ min (length b) 505 → take n b ≡ take 505 b
-  take-min b n h = by_size (split (length b))
-    where
-    split : (m : ℕ) → (m ≤ 505) ⊎ (505 < m)
-    split m = grind arith
-    by_size : (length b ≤ 505) ⊎ (505 < length b) → take n b ≡ take 505 b
-    by_size (inl le) = take_all n b (omega arith) ∙ sym (take_all 505 b le)
-    by_size (inr lt) = let all : n ≡ 505 = omega arith in ap (λ (k : ℕ). take k b) all
+    take-min : (b : List ℕ) (n : ℕ) → n ≡ min (length b) 505 → take n b ≡ take 505 b
+    take-min b n h = by_size (split (length b))
+      where
+        split : (m : ℕ) → (m ≤ 505) ⊎ (505 < m)
+        split m = grind arith
+
+        by_size : (length b ≤ 505) ⊎ (505 < length b) → take n b ≡ take 505 b
+        by_size (inl le) = take_all n b (omega arith) ∙ sym (take_all 505 b le)
+        by_size (inr lt) = let all : n ≡ 505 = omega arith in ap (λ (k : ℕ). take k b) all
 
 -- what decoding the first digits answers
 pub decoded : (r : Result (Unit {0}) FromHexError) (out s b : List ℕ) (n m : ℕ) → IsFront s b n → m ≡ n

@@ -47,11 +47,14 @@ Sent-all a b c text part s t = record {
 }
 
 pub Began-all : (a b c : Option (List ℕ)) (text part : List ℕ) → Sent a b text part → Began b c part → Began a c text
-Began-all a b c text part s t = record { left = t.left; sent = record {
-  front = s.front ++ t.sent.front;
-  sent = Appends-both a b c s.front t.sent.front s.sent t.sent.sent;
-  whole = s.whole ∙ ap (λ (l : List ℕ). s.front ++ l) t.sent.whole ∙ sym (append_assoc s.front t.sent.front t.left);
-} }
+Began-all a b c text part s t = record {
+  left = t.left;
+  sent = record {
+    front = s.front ++ t.sent.front;
+    sent = Appends-both a b c s.front t.sent.front s.sent t.sent.sent;
+    whole = s.whole ∙ ap (λ (l : List ℕ). s.front ++ l) t.sent.whole ∙ sym (append_assoc s.front t.sent.front t.left);
+  };
+}
 
 -- one push
 pub Sent-push : (a b : Option (List ℕ)) (bytes : List ℕ) (n : ℕ) → Appends a b (take n bytes) → Sent a b bytes (drop n bytes)

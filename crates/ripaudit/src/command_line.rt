@@ -6,17 +6,16 @@ use clap::error::ErrorKind;
 use clap::{Arg, ArgMatches, Command, Error};
 use rip_log::IntoWrite;
 use std::alloc::Global;
-use std::env;
-use std::io;
+use std::{env, io};
 
 /// The status of words that are refused.
 const REFUSED: u8 = 3;
 
 /// The commands, with their words and their help.
 fn commands<'a>(alloc: Global) -> Result<Command<'a>, Error> {
-    let hex = Arg::new(alloc, "HEX")
-        .required(true)
-        .help("The datagram's bytes in hexadecimal digits of either case");
+    let hex = Arg::new(alloc, "HEX").required(true).help(
+        "The datagram's bytes in hexadecimal digits of either case",
+    );
     let decode = Command::new(alloc, "decode")
         .about("Prints one datagram of RIP version 2")
         .arg(hex)?;
@@ -68,7 +67,10 @@ fn run_command<R: Print + Eprint>(rt: &R, matches: &ArgMatches<'_>) -> u8 {
 /// Runs the command that the words ask for, and answers the exit status.
 pub(crate) fn run(rt: &HostRuntime) -> u8 {
     let alloc = rt.alloc();
-    let words: Vec<String> = match env::args(rt).and_then(|words| words.collect(alloc).map_err(io::Error::from)) {
+    let words: Vec<String> = match env::args(rt).and_then(|words| words
+        .collect(alloc)
+        .map_err(io::Error::from))
+    {
         Ok(words) => words,
         Err(error) => return finish_arguments(rt, &error),
     };

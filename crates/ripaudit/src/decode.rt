@@ -107,7 +107,11 @@ fn kind_text(kind: &str, count: usize) -> Line
 }
 
 /// Writes the lines of the entries of a response.
-fn write_entries<K: Sink>(page: &mut Page, datagram: &Datagram<'_>, out: &mut K) -> Result<(), Failed>
+fn write_entries<K: Sink>(
+    page: &mut Page,
+    datagram: &Datagram<'_>,
+    out: &mut K,
+) -> Result<(), Failed>
     requires { kind_of (message_of datagram.now) ≡ Kind.Response }
     ensures ok { OnOk result (Sent (K.taken out.old) (K.taken out.new) (held page.old ++ entry_lines (entries_of (message_of datagram.now))) (held page.new)) }
     ensures err { OnErr result (Began (K.taken out.old) (K.taken out.new) (held page.old ++ entry_lines (entries_of (message_of datagram.now)))) }
@@ -171,7 +175,13 @@ pub fn run_decode<K: Sink>(hex: &str, out: &mut K) -> Result<Status, RunError>
         None => finish(write_all(out, b"refused: hex\n"), Status::Refused),
         Some(bytes) => match read(bytes) {
             Ok(datagram) => finish(write_datagram(&datagram, out), Status::Done),
-            Err(error) => finish(write_all(out, fault_text(error).as_bytes()), Status::Refused),
+            Err(error) => finish(
+                write_all(out, fault_text(error).as_bytes()),
+                Status::Refused,
+            ),
         },
     }
 }
+
+#[cfg(test)]
+mod tests;

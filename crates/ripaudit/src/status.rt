@@ -57,3 +57,6 @@ pub fn fault_line(error: &RunError) -> &'static str
         RunError::Memory => "failed: memory",
     }
 }
+
+#[cfg(test)]
+mod tests;

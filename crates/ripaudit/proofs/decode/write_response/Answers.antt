@@ -26,9 +26,9 @@ returns-in_err-write_entries-clause-err g c =
     let head = first c.len.result (length es) (held c.new-page.result) c.as_bytes.result.now c.new-page.ensures (c.as_bytes.ensures ∙ c.kind_text.ensures) (c.len.ensures.entries c.requires) in
     let sent = subst (λ (l : List ℕ). Sent (taken c.args.out.now) (taken c.write.new.out) l (held c.write.new.self)) head c.in_ok-write.ensures.ok in
     onerr c.from_residual-in_err-write_entries.result
-      (Began-all (taken c.args.out.now) (taken c.write.new.out) (taken c.write_entries.new.out) (shown_response es).text (held c.write.new.self ++ entry_lines es)
-        (Sent-front (taken c.args.out.now) (taken c.write.new.out) (line (codes "response " ++ decimal (length es))) (held c.write.new.self) (entry_lines es) sent)
-        c.in_err-write_entries.ensures.err)
+    (Began-all (taken c.args.out.now) (taken c.write.new.out) (taken c.write_entries.new.out) (shown_response es).text (held c.write.new.self ++ entry_lines es)
+    (Sent-front (taken c.args.out.now) (taken c.write.new.out) (line (codes "response " ++ decimal (length es))) (held c.write.new.self) (entry_lines es) sent)
+    c.in_err-write_entries.ensures.err)
 
 pub returns-clause-ok : goal.returns-clause-ok
 returns-clause-ok g c =
@@ -37,8 +37,8 @@ returns-clause-ok g c =
     let head = first c.len.result (length es) (held c.new-page.result) c.as_bytes.result.now c.new-page.ensures (c.as_bytes.ensures ∙ c.kind_text.ensures) (c.len.ensures.entries c.requires) in
     let sent = subst (λ (l : List ℕ). Sent (taken c.args.out.now) (taken c.write.new.out) l (held c.write.new.self)) head c.in_ok-write.ensures.ok in
     let before = Sent-then (taken c.args.out.now) (taken c.write.new.out) (taken c.write_entries.new.out) (shown_response es).text (held c.write.new.self ++ entry_lines es) (held c.write_entries.new.page)
-        (Sent-front (taken c.args.out.now) (taken c.write.new.out) (line (codes "response " ++ decimal (length es))) (held c.write.new.self) (entry_lines es) sent)
-        c.in_ok-write_entries.ensures.ok in
+    (Sent-front (taken c.args.out.now) (taken c.write.new.out) (line (codes "response " ++ decimal (length es))) (held c.write.new.self) (entry_lines es) sent)
+    c.in_ok-write_entries.ensures.ok in
     onok-map c.flush.result (Sent-all (taken c.args.out.now) (taken c.write_entries.new.out) (taken c.flush.new.out) (shown_response es).text (held c.write_entries.new.page) before) c.flush.ensures.ok
 
 pub returns-clause-err : goal.returns-clause-err
@@ -48,6 +48,6 @@ returns-clause-err g c =
     let head = first c.len.result (length es) (held c.new-page.result) c.as_bytes.result.now c.new-page.ensures (c.as_bytes.ensures ∙ c.kind_text.ensures) (c.len.ensures.entries c.requires) in
     let sent = subst (λ (l : List ℕ). Sent (taken c.args.out.now) (taken c.write.new.out) l (held c.write.new.self)) head c.in_ok-write.ensures.ok in
     let before = Sent-then (taken c.args.out.now) (taken c.write.new.out) (taken c.write_entries.new.out) (shown_response es).text (held c.write.new.self ++ entry_lines es) (held c.write_entries.new.page)
-        (Sent-front (taken c.args.out.now) (taken c.write.new.out) (line (codes "response " ++ decimal (length es))) (held c.write.new.self) (entry_lines es) sent)
-        c.in_ok-write_entries.ensures.ok in
+    (Sent-front (taken c.args.out.now) (taken c.write.new.out) (line (codes "response " ++ decimal (length es))) (held c.write.new.self) (entry_lines es) sent)
+    c.in_ok-write_entries.ensures.ok in
     onerr-map c.flush.result (Began-all (taken c.args.out.now) (taken c.write_entries.new.out) (taken c.flush.new.out) (shown_response es).text (held c.write_entries.new.page) before) c.flush.ensures.err

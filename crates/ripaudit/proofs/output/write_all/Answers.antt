@@ -19,7 +19,7 @@ pieces-preserved g c =
     let bound = subst (λ (l : List ℕ). n ≤ length l) full c.in_ok-at.ensures.bound in
     record {
       sent = Sent-then (taken c.args.out.now) now new bytes rest (drop (c.pieces.at + n) bytes) inv.sent
-        (subst (λ (l : List ℕ). Sent now new rest l) (drop-drop n c.pieces.at bytes) (Sent-push now new rest n went));
+          (subst (λ (l : List ℕ). Sent now new rest l) (drop-drop n c.pieces.at bytes) (Sent-push now new rest n went));
       within = omega (arith, bound, length-drop c.pieces.at bytes);
       marks = unbroken (g.K.Sink.broken c.pieces.out) _ c.in_ok-at.ensures.failed c.in_ok-at.ensures.fails_on ∙ inv.marks;
     }

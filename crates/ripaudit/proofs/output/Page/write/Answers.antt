@@ -13,6 +13,6 @@ returns-then-bytes-gt-ROOM-clause-err g c =
     let taken = g.K.Sink.taken in
     let all = held c.args.self.now ++ c.args.bytes.now in
     onerr-map c.write_all.result
-      (Began-all (taken c.args.out.now) (taken c.flush.new.out) (taken c.write_all.new.out) all c.args.bytes.now
-        (Sent-on (taken c.args.out.now) (taken c.args.out.now) (taken c.flush.new.out) all (held c.args.self.now) c.args.bytes.now [] (Sent-none _ _) c.in_ok-flush.ensures.ok))
-      c.write_all.ensures.err
+    (Began-all (taken c.args.out.now) (taken c.flush.new.out) (taken c.write_all.new.out) all c.args.bytes.now
+    (Sent-on (taken c.args.out.now) (taken c.args.out.now) (taken c.flush.new.out) all (held c.args.self.now) c.args.bytes.now [] (Sent-none _ _) c.in_ok-flush.ensures.ok))
+    c.write_all.ensures.err
