@@ -1,0 +1,26 @@
+# `make demo` prints a first datagram, `make test` proves and tests everything, `make install PREFIX=..` installs.
+PREFIX ?= /usr/local
+PROGRAM = crates/ripaudit/out/ripaudit
+
+.PHONY: demo test install clean
+
+demo: $(PROGRAM)
+	sh examples/demo
+
+# The first build proves the program and the libraries below it: some minutes. The prover's lines go to out/build.log.
+$(PROGRAM): $(shell find crates -name out -prune -o -type f -print)
+	@mkdir -p out
+	@echo "building $(PROGRAM); a first build proves everything and takes about three minutes (lines in out/build.log)"
+	@cd crates/ripaudit && rt run -- --version > ../../out/build.log 2>&1 || { tail -n 20 ../../out/build.log; exit 1; }
+	@touch $(PROGRAM)
+
+test:
+	rt ci
+	sh tests/run $(PROGRAM)
+
+install: $(PROGRAM)
+	install -d $(DESTDIR)$(PREFIX)/bin
+	install $(PROGRAM) $(DESTDIR)$(PREFIX)/bin/ripaudit
+
+clean:
+	rm -rf out crates/*/out
