@@ -1,5 +1,5 @@
 -- The answer of the reader, by the grammar and by the faults.
-use Rattle.std.proofs.Common.{◌≡◌, ℕ, true, List, Result, Ok, Err, length, get_or, refl, sym, ap, ◌∙◌, is_ok}
+use Rattle.std.proofs.Common.{◌≡◌, ℕ, true, List, Result, Ok, Err, refl, sym, ap, ◌∙◌, is_ok}
 use Rattle.rip_wire.specs.declared.entry.Entry.{Entry}
 use Rattle.rip_wire.specs.declared.error.WireError.{WireError}
 use Rattle.rip_wire.specs.declared.error.WireCode.{WireCode}
@@ -8,7 +8,7 @@ use Rattle.rip_wire.specs.Faults.{WireFault}
 use Rattle.rip_wire.specs.Message.{Message, request, response, message_in}
 use Rattle.rip_wire.specs.Datagram.{message_or_request}
 use Rattle.rip_wire.proofs.Numbers.{IsBytes}
-use Rattle.std.proofs.Common.{◌<◌, ◌++◌, false, ltb, arith}
+use Rattle.std.proofs.Common.{◌<◌, ◌++◌, false, length, ltb, arith}
 use Rattle.std.proofs.lemmas.List.{length-append, get_or_append_left}
 use Rattle.std.proofs.lemmas.Bool.Decides.{nat_tests}
 use Rattle.rip_wire.specs.declared.datagram.Kind.{Kind}

@@ -1,15 +1,14 @@
 -- What is read as an entry is spelled so, and what is spelled so is read.
-use Rattle.std.proofs.Common.{◌≡◌, ℕ, zero, suc, ◌+◌, ◌-◌, ◌*◌, ◌%◌, ◌^◌, ◌<◌, ◌≤◌, Bool, true, false, not, ◌&&◌, ◌||◌, cond, eqb, ltb, List, [], ◌∷◌, ◌++◌, Option, Some, None, Result, Ok, Err, length, get_or, take, drop, refl, sym, ap, subst, ◌∙◌, arith, append_assoc}
+use Rattle.std.proofs.Common.{◌≡◌, ℕ, zero, suc, ◌+◌, ◌-◌, ◌*◌, ◌%◌, ◌^◌, ◌<◌, ◌≤◌, false, not, ◌&&◌, ◌||◌, eqb, ltb, List, [], ◌∷◌, ◌++◌, Option, Some, None, Ok, length, take, drop, refl, sym, ap, subst, ◌∙◌, arith, append_assoc}
 use Rattle.std.specs.List.{AllByRecursion}
 use Rattle.std.proofs.lemmas.Bool.Decides.{nat_tests}
 use Rattle.std.proofs.Math.Nat.{one-le-pow}
 use Rattle.std.proofs.lemmas.List.{drop-drop, drop_at, length-append}
 use Rattle.rip_wire.specs.declared.entry.Entry.{Entry}
-use Rattle.rip_wire.specs.declared.error.WireError.{WireError}
 use Rattle.rip_wire.specs.Prefix.{Block, block, size_of, mask_of, IsBlock}
 use Rattle.rip_wire.specs.Fields.{number_at, bytes_of_number}
 use Rattle.rip_wire.specs.Grammar.{IsEntry, EntryBytes, entry_bytes, entries_bytes}
-use Rattle.rip_wire.specs.Message.{◌>>=◌, fault, prefix_of, metric_of, entry_at, entries_at, bits_of_mask}
+use Rattle.rip_wire.specs.Message.{prefix_of, metric_of, entry_at, entries_at, bits_of_mask}
 use Rattle.rip_wire.proofs.Binds.{bind_ok, passed, same_Ok}
 use Rattle.rip_wire.proofs.Masks.{bits_of_mask-Some, bits_of_mask-mask_of}
 use Rattle.rip_wire.proofs.Numbers.{IsBytes, bytes_of_number-2, bytes_of_number-4, number_at-lt, number_at-bytes, drop-number, length-bytes_of_number, take-two}

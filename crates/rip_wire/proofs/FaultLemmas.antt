@@ -1,19 +1,18 @@
 -- The fault that is met first from left to right is the one that is told.
-use Rattle.std.proofs.Common.{◌≡◌, ◌≢◌, ◌⊎◌, inl, inr, ℕ, zero, suc, ◌+◌, ◌-◌, ◌*◌, ◌/◌, ◌%◌, ◌^◌, ◌<◌, ◌≤◌, Bool, true, false, not, ◌&&◌, ◌||◌, cond, eqb, ltb, List, [], ◌∷◌, Option, Some, None, Result, Ok, Err, length, get_or, refl, sym, ap, subst, ◌∙◌, arith}
+use Rattle.std.proofs.Common.{◌≡◌, ◌≢◌, ◌⊎◌, inl, inr, ℕ, zero, suc, ◌+◌, ◌-◌, ◌*◌, ◌%◌, ◌<◌, ◌≤◌, Bool, true, false, not, ◌&&◌, ◌||◌, cond, eqb, ltb, List, [], ◌∷◌, Option, Some, None, Result, Ok, Err, length, get_or, refl, sym, ap, subst, ◌∙◌, arith}
 use Rattle.std.proofs.lemmas.Bool.{eqb-true, eq-eqb}
 use Rattle.std.proofs.lemmas.Bool.Decides.{nat_tests}
-use Rattle.rip_wire.specs.declared.entry.Entry.{Entry}
 use Rattle.rip_wire.specs.declared.error.WireError.{WireError}
 use Rattle.rip_wire.specs.declared.error.WireCode.{WireCode}
 use Rattle.rip_wire.specs.declared.error.WireCode.TheVariants.{Short, Command, Version, Zero, Ragged, Empty, TooMany, Authentication, Family, Mask, NoMask, HostBits, Metric}
 use Rattle.rip_wire.specs.declared.datagram.Kind.{Kind}
 use Rattle.rip_wire.specs.declared.datagram.Kind.TheVariants.{Request, Response}
-use Rattle.rip_wire.specs.Prefix.{Block, block, size_of, mask_of, IsMask}
+use Rattle.rip_wire.specs.Prefix.{size_of, mask_of}
 use Rattle.rip_wire.specs.Fields.{number_at, entry_place}
-use Rattle.rip_wire.specs.Faults.{IsFieldPlace, HasHostBits, IsFault, entry_rank, rank, WireFault}
-use Rattle.rip_wire.specs.Message.{Message, request, response, ◌>>=◌, fault, prefix_of, metric_of, entry_at, entries_at, bits_of_mask, kind_in, groups_in, message_of_kind, message_in}
+use Rattle.rip_wire.specs.Faults.{IsFieldPlace, IsFault, rank, WireFault}
+use Rattle.rip_wire.specs.Message.{Message, request, response, ◌>>=◌, prefix_of, metric_of, entry_at, entries_at, bits_of_mask, kind_in, groups_in, message_of_kind, message_in}
 use Rattle.rip_wire.proofs.Masks.{bits_of_mask-mask_of, bits_of_mask-Some, no_mask}
-use Rattle.rip_wire.proofs.Messages.{IsHeaded, headed}
+use Rattle.rip_wire.proofs.Messages.{headed}
 
 -- ---- What is told is a fault
 

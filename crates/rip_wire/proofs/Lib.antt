@@ -8,3 +8,6 @@ pub mod Views
 pub mod FaultLemmas
 pub mod Answering
 pub mod TextLemmas
+pub mod Writes
+pub mod Parsing
+pub mod Names

@@ -1,10 +1,13 @@
 -- The 33 masks.
-use Rattle.std.proofs.Common.{◌≡◌, ℕ, zero, suc, ◌<◌, ◌≤◌, Bool, true, false, ◌&&◌, eqb, Option, Some, None, List, [], ◌∷◌, refl, sym, ap, ◌∙◌, arith, ◌⊎◌, inl, inr, cond}
+use Rattle.std.proofs.Common.{◌≡◌, ℕ, zero, suc, ◌-◌, ◌*◌, ◌/◌, ◌^◌, ◌<◌, ◌≤◌, Bool, true, false, ◌&&◌, eqb, Option, Some, None, List, [], ◌∷◌, refl, sym, ap, ◌∙◌, arith, ◌⊎◌, inl, inr, cond}
 use Rattle.std.proofs.lemmas.Bool.{eqb-true}
 use lib.Count.{count_leading_zeros}
 use Rattle.std.specs.Int.{w32, leading_ones}
 use Rattle.std.specs.List.{find}
-use Rattle.rip_wire.specs.Prefix.{mask_of, IsMask}
+use Rattle.std.proofs.lemmas.Nat.{shl-shr, shr_split}
+use Rattle.std.proofs.lemmas.Nat.Bits.{and_high_mask}
+use Rattle.std.specs.Prelude.{bit_and}
+use Rattle.rip_wire.specs.Prefix.{Block, mask_of, IsBlock, IsMask, ContainsAddress}
 use Rattle.rip_wire.specs.Message.{prefix_lens, bits_of_mask}
 
 -- p is true of each number below n
@@ -80,3 +83,14 @@ pub no_mask : (mask : ℕ) → bits_of_mask mask ≡ None → IsMask mask → �
 no_mask mask h is =
     let found = ap bits_of_mask is.2 ∙ bits_of_mask-mask_of is.0 is.1 in
     let clash : None ≡ Some is.0 = sym h ∙ found in cc
+
+-- an address is in a prefix where the mask leaves the network of it
+pub contains_by_mask : (p : Block) (a : ℕ) → IsBlock p → a < 2 ^ 32 → (bit_and a (mask_of p.prefix_len) ≡ p.network → ContainsAddress p a) × (ContainsAddress p a → bit_and a (mask_of p.prefix_len) ≡ p.network)
+contains_by_mask p a is small =
+    let k = 32 - p.prefix_len in
+    let masked : bit_and a (mask_of p.prefix_len) ≡ a / 2 ^ k * 2 ^ k = and_high_mask 32 k (omega arith) a small in
+    let hosts = is.2 in
+    let whole : p.network / 2 ^ k * 2 ^ k ≡ p.network = omega (arith, shr_split p.network k) in (
+      λ h. sym (shl-shr (a / 2 ^ k) k) ∙ ap (λ (x : ℕ). x / 2 ^ k) (sym masked ∙ h),
+      λ h. masked ∙ ap (λ (x : ℕ). x * 2 ^ k) h ∙ whole,
+    )

@@ -1,22 +1,20 @@
 -- What is read as a message is spelled so, and what is spelled so is read.
-use Rattle.std.proofs.Common.{◌≡◌, ◌≢◌, ℕ, zero, suc, ◌+◌, ◌-◌, ◌*◌, ◌/◌, ◌%◌, ◌^◌, ◌<◌, ◌≤◌, ◌⊎◌, inl, inr, Bool, true, false, not, ◌&&◌, ◌||◌, cond, eqb, ltb, List, [], ◌∷◌, ◌++◌, Option, Some, None, Result, Ok, Err, length, get_or, take, drop, refl, sym, ap, subst, ◌∙◌, arith, append_assoc, append-nil}
-use Rattle.std.specs.List.{AllByRecursion}
+use Rattle.std.proofs.Common.{◌≡◌, ◌≢◌, ℕ, ◌+◌, ◌-◌, ◌*◌, ◌%◌, ◌≤◌, Bool, true, false, not, ◌&&◌, ◌||◌, cond, eqb, ltb, List, [], ◌∷◌, ◌++◌, Result, Ok, Err, length, get_or, take, drop, refl, sym, ap, subst, ◌∙◌, arith, append-nil}
 use Rattle.std.proofs.Common.{is_ok}
 use Rattle.std.proofs.lemmas.Bool.{eqb-true}
 use Rattle.std.proofs.lemmas.Bool.Decides.{nat_tests}
-use Rattle.std.proofs.lemmas.List.{drop-drop, drop_at, length-append, length-drop, take_all}
+use Rattle.std.proofs.lemmas.List.{length-drop, take_all}
 use Rattle.rip_wire.specs.declared.entry.Entry.{Entry}
 use Rattle.rip_wire.specs.declared.error.WireError.{WireError}
 use Rattle.rip_wire.specs.declared.error.WireCode.TheVariants.{Empty}
 use Rattle.rip_wire.specs.declared.datagram.Kind.{Kind}
 use Rattle.rip_wire.specs.declared.datagram.Kind.TheVariants.{Request, Response}
-use Rattle.rip_wire.specs.Fields.{number_at, bytes_of_number}
-use Rattle.rip_wire.specs.Grammar.{IsEntry, EntryBytes, entry_bytes, entries_bytes, ResponseBytes, RequestBytes}
-use Rattle.rip_wire.specs.Message.{Message, request, response, ◌>>=◌, fault, entry_at, entries_at, kind_in, groups_in, message_of_kind, message_in}
+use Rattle.rip_wire.specs.Grammar.{entries_bytes, ResponseBytes, RequestBytes}
+use Rattle.rip_wire.specs.Message.{Message, request, response, ◌>>=◌, fault, entries_at, kind_in, groups_in, message_of_kind, message_in}
 use Rattle.rip_wire.specs.Whole.{IsWhole}
 use Rattle.rip_wire.proofs.Binds.{bind_ok, passed, same_Ok}
 use Rattle.rip_wire.proofs.Numbers.{IsBytes}
-use Rattle.rip_wire.proofs.Entries.{AreSpelled, spelled_all, read_all_again, length-entries_bytes}
+use Rattle.rip_wire.proofs.Entries.{spelled_all, read_all_again, length-entries_bytes}
 
 -- the command of a kind
 abbrev pub command_of : Kind → ℕ

@@ -1,14 +1,12 @@
 -- What the bytes of a datagram say of its message.
-use Rattle.std.proofs.Common.{◌≡◌, ◌≢◌, ℕ, ◌+◌, ◌-◌, ◌*◌, ◌/◌, ◌<◌, ◌≤◌, true, false, List, Some, Result, Ok, Err, length, get_or, refl, sym, ap, subst, ◌∙◌, arith, is_ok}
-use Rattle.std.specs.List.{slice_get}
-use Rattle.rip_wire.specs.declared.entry.Entry.{Entry}
+use Rattle.std.proofs.Common.{◌≡◌, ◌≢◌, ℕ, ◌+◌, ◌*◌, ◌<◌, ◌≤◌, true, List, Result, Ok, Err, length, get_or, refl, sym, ap, ◌∙◌, arith, is_ok}
 use Rattle.rip_wire.specs.declared.error.WireError.{WireError}
 use Rattle.rip_wire.specs.declared.datagram.Kind.{Kind}
 use Rattle.rip_wire.specs.declared.datagram.Kind.TheVariants.{Request, Response}
-use Rattle.rip_wire.specs.Message.{Message, request, response, ◌>>=◌, entry_at, entries_at, kind_in, groups_in, message_of_kind, message_in}
+use Rattle.rip_wire.specs.Message.{Message, request, response, entries_at, kind_in, groups_in, message_of_kind, message_in}
 use Rattle.rip_wire.specs.Datagram.{kind_of, entries_of, message_or_request}
 use Rattle.rip_wire.proofs.Binds.{bind_ok, same_Ok}
-use Rattle.rip_wire.proofs.Messages.{command_of, IsHeaded, headed, IsReadMessage, read_message}
+use Rattle.rip_wire.proofs.Messages.{command_of, headed, read_message}
 use Rattle.rip_wire.proofs.Walks.{HasEntry, entries_at-get, length-entries_at}
 
 -- what is readable has a message

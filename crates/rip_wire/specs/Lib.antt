@@ -6,3 +6,4 @@ pub mod Faults
 pub mod Message
 pub mod Whole
 pub mod Datagram
+pub mod Name

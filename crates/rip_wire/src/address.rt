@@ -1,9 +1,9 @@
 //! IPv4 addresses.
 
-ghost use Rattle.std.specs.Prelude.{◌≡◌, ◌≤◌, Some, length};
-ghost use Rattle.rip_wire.specs.Address.{address_text};
+ghost use Rattle.std.specs.Prelude.{◌≡◌, ◌<◌, ◌≤◌, ◌^◌, ◌↔◌, ℕ, Some, IsSome, IsAscii, length};
+ghost use Rattle.rip_wire.specs.Address.{address_in, address_text};
 
-use crate::text::put_address;
+use crate::text::{put_address, read_address};
 use std::fmt;
 use std::marker::Model;
 
@@ -36,6 +36,21 @@ impl Address {
         ensures { result ≡ self }
     {
         self.number
+    }
+
+    /// The address that has this text, as `10.3.0.1`: just as it is printed, so there are no zeros in
+    /// front of a number, no blanks and no signs.
+    pub fn parse(text: &str) -> Option<Address>
+        ensures exact { (a : ℕ) → a < 2 ^ 32 → (result ≡ Some a) ↔ (text.now ≡ address_text a) }
+        ensures value { result ≡ address_in text.now }
+        ensures ascii { IsSome result → IsAscii text.now }
+    {
+        let address = Address::new(read_address(text)?);
+        if address.encode(&mut [0; 15]) == text {
+            Some(address)
+        } else {
+            None
+        }
     }
 
     /// Writes the text of the address, as `10.3.0.1`, at the front of the room, and answers it.

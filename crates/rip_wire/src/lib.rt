@@ -6,15 +6,22 @@ mod address;
 mod datagram;
 mod entry;
 mod error;
+pub mod laws;
 mod metric;
+mod name;
 mod prefix;
 mod reading;
+#[cfg(test)]
+mod tests;
 mod text;
+mod writing;
 
 pub use address::Address;
 pub use datagram::{Datagram, Kind};
 pub use entry::Entry;
 pub use error::{WireCode, WireError};
 pub use metric::Metric;
+pub use name::is_name;
 pub use prefix::Prefix;
 pub use reading::read;
+pub use writing::write_response;

@@ -1,6 +1,6 @@
 //! Metrics.
 
-ghost use Rattle.std.specs.Prelude.{◌≡◌, ◌≤◌, SomeIff};
+ghost use Rattle.std.specs.Prelude.{◌≡◌, ◌+◌, ◌≤◌, SomeIff, min};
 
 use std::marker::Model;
 
@@ -42,5 +42,14 @@ impl Metric {
         ensures high { result ≤ 16 }
     {
         self.number
+    }
+
+    /// The metric after a link of this cost, at most 16 (RFC 2453, section 3.9.2).
+    pub fn plus(self, cost: u8) -> Metric
+        ensures { result ≡ min 16 (self + cost) }
+    {
+        Metric {
+            number: (self.number + u32::from(cost)).min(16),
+        }
     }
 }

@@ -1,16 +1,17 @@
 //! Prefixes.
 
-ghost use Rattle.std.specs.Prelude.{◌≡◌, ◌≤◌, Some, SomeIff, length};
-ghost use Rattle.rip_wire.specs.Prefix.{IsBlock, block, mask_of, prefix_text};
+ghost use Rattle.std.specs.Prelude.{◌≡◌, ◌≤◌, ◌↔◌, IsTrue, Some, SomeIff, IfSome, IsSome, IsAscii, length};
+ghost use Rattle.rip_wire.specs.Prefix.{Block, ContainsAddress, IsBlock, block, mask_of, prefix_in, prefix_text};
 
 use crate::Address;
-use crate::text::{put_address, put_length};
+use crate::text::{put_address, put_length, read_address};
+use std::cmp::Ordering;
 use std::fmt;
 use std::marker::Model;
 
 /// A network and the number of its fixed bits, as `10.3.0.0/16`. Prefixes are compared by the
 /// network, and then by the length.
-#[derive(Clone, Copy, Debug, PartialEq, Eq, PartialOrd, Ord, Hash)]
+#[derive(Clone, Copy, Debug, PartialEq, Eq, Hash)]
 pub struct Prefix {
     network: Address,
     prefix_len: u8,
@@ -36,6 +37,16 @@ pub(crate) fn mask_of_length(prefix_len: u8) -> u32
     ((1u64 << 32) - (1u64 << (32 - prefix_len))) as u32
 }
 
+/// The prefix of an address and a length with a slash between them. Some texts that no prefix has
+/// are read too.
+fn read_prefix(text: &str) -> Option<Prefix>
+    ensures prefix { (p : Block) → IsBlock p → text.now ≡ prefix_text p → result ≡ Some p }
+    ensures fits { IfSome result IsBlock }
+{
+    let (network, length) = text.split_once('/')?;
+    Prefix::new(Address::new(read_address(network)?), length.parse().ok()?)
+}
+
 impl Prefix {
     /// The prefix of a network and a length, unless the length is above 32 or a bit past it is set.
     pub fn new(network: Address, length: u8) -> Option<Prefix>
@@ -53,6 +64,21 @@ impl Prefix {
         })
     }
 
+    /// The prefix that has this text, as `10.3.0.0/16`: just as it is printed, so there are no zeros
+    /// in front of a number, no blanks and no signs, and no bit past the length is set.
+    pub fn parse(text: &str) -> Option<Prefix>
+        ensures exact { (p : Block) → IsBlock p → (result ≡ Some p) ↔ (text.now ≡ prefix_text p) }
+        ensures value { result ≡ prefix_in text.now }
+        ensures ascii { IsSome result → IsAscii text.now }
+    {
+        let prefix = read_prefix(text)?;
+        if prefix.encode(&mut [0; 18]) == text {
+            Some(prefix)
+        } else {
+            None
+        }
+    }
+
     /// The first address of the prefix.
     pub fn network(self) -> Address
         ensures { result ≡ self.network }
@@ -68,6 +94,20 @@ impl Prefix {
         self.prefix_len
     }
 
+    /// The subnet mask: as many ones from the top as bits are fixed, and zeros after them.
+    pub fn mask(self) -> u32
+        ensures { result ≡ mask_of self.prefix_len }
+    {
+        mask_of_length(self.prefix_len)
+    }
+
+    /// Whether the address begins with the bits that are fixed.
+    pub fn contains(self, address: Address) -> bool
+        ensures { IsTrue result ↔ (ContainsAddress self address) }
+    {
+        address.get() & self.mask() == self.network.get()
+    }
+
     /// Writes the text of the prefix, as `10.3.0.0/16`, at the front of the room, and answers it.
     pub fn encode(self, room: &mut [u8; 18]) -> &str
         ensures text { result.now ≡ prefix_text self }
@@ -76,6 +116,40 @@ impl Prefix {
         let end = put_address(room, self.network.get());
         let end = put_length(room, end, self.prefix_len);
         str::from_utf8(&room[..end]).unwrap()
+    }
+}
+
+impl Ord for Prefix {
+    ghost use Rattle.std.proofs.Common.{rules};
+    ghost use Rattle.std.specs.Cmp.Rules.{comparing};
+    ghost use Rattle.std.specs.Ordering.{nat_cmp, on, then_cmp};
+
+    ghost cmp = { then_cmp (on (λ p. p.network) nat_cmp) (on (λ p. p.prefix_len) nat_cmp) };
+
+    ghost total = { Prim.search (comparing, rules) };
+
+    ghost matches_partial_cmp = { Prim.search (comparing, rules) };
+
+    ghost matches_eq = { Prim.search (comparing, rules) };
+
+    fn cmp(&self, other: &Prefix) -> Ordering {
+        let networks = self.network.cmp(&other.network);
+        networks.then(self.prefix_len.cmp(&other.prefix_len))
+    }
+}
+
+impl PartialOrd for Prefix {
+    ghost use Rattle.std.proofs.Common.{rules};
+    ghost use Rattle.std.specs.Cmp.{partial_order_from_own_ties};
+    ghost use Rattle.std.specs.Cmp.Rules.{comparing};
+    ghost use Rattle.std.specs.Ordering.{as_partial_cmp, nat_cmp, on, then_cmp};
+
+    ghost partial_cmp = { as_partial_cmp (then_cmp (on (λ p. p.network) nat_cmp) (on (λ p. p.prefix_len) nat_cmp)) };
+
+    ghost laws = { partial_order_from_own_ties (Prim.search (comparing, rules)) (Prim.search (comparing, rules)) };
+
+    fn partial_cmp(&self, other: &Prefix) -> Option<Ordering> {
+        Some(self.cmp(other))
     }
 }
 

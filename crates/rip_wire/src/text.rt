@@ -1,6 +1,6 @@
 //! Texts of a fixed size.
 
-ghost use Rattle.std.specs.Prelude.{◌≡◌, ◌+◌, ◌/◌, ◌%◌, ◌^◌, ◌≤◌, ◌++◌, codes, decimal, length, take};
+ghost use Rattle.std.specs.Prelude.{◌≡◌, ℕ, List, IfSome, IsSomeAnd, ◌<◌, ◌+◌, ◌/◌, ◌%◌, ◌^◌, ◌≤◌, ◌++◌, codes, decimal, length, take};
 ghost use Rattle.rip_wire.specs.Address.{address_text};
 
 use itoa::Buffer;
@@ -58,4 +58,25 @@ pub(crate) fn put_length(room: &mut [u8], at: usize, prefix_len: u8) -> usize
     let end = put(room, at, "/");
     let mut buffer = Buffer::new();
     put(room, end, buffer.format(prefix_len))
+}
+
+/// The number before the first dot, and the text after that dot.
+fn split_number(text: &str) -> Option<(u8, &str)>
+    ensures { (n : ℕ) (rest : List ℕ) → n < 256 → text.now ≡ decimal n ++ (codes "." ++ rest) → IsSomeAnd result (λ x. (x.0 ≡ n) × (x.1.now ≡ rest)) }
+{
+    let (number, rest) = text.split_once('.')?;
+    Some((number.parse().ok()?, rest))
+}
+
+/// The four numbers of a text that has dots between them, as the number of an address. Some texts
+/// that no address has are read too.
+pub(crate) fn read_address(text: &str) -> Option<u32>
+    ensures number { (a : ℕ) → a < 2 ^ 32 → text.now ≡ address_text a → result ≡ Some a }
+    ensures fits { IfSome result (λ a. a < 2 ^ 32) }
+{
+    let (a, rest) = split_number(text)?;
+    let (b, rest) = split_number(rest)?;
+    let (c, rest) = split_number(rest)?;
+    let d = rest.parse().ok()?;
+    Some(u32::from_be_bytes([a, b, c, d]))
 }

@@ -1,4 +1,4 @@
-use Rattle.std.proofs.Common.{rules, ◌≡◌, arith, sym, ◌∙◌}
+use Rattle.std.proofs.Common.{sym}
 use Rattle.std.proofs.lemmas.Result.{err_from_is_err_and}
 use Rattle.rip_wire.proofs.Walks.{EndsAs-first, EndsAs-more, EndsAs-fault, EndsAs-last}
 use Rattle.rip_wire.proofs.reading.check_entries.Goals as goal

@@ -1,4 +1,4 @@
-use Rattle.std.proofs.Common.{◌≡◌, ◌≤◌, refl, sym, ap, ◌∙◌, arith, rules}
+use Rattle.std.proofs.Common.{◌≤◌, sym, ap, ◌∙◌, rules}
 use Rattle.rip_wire.specs.Prefix.{mask_of}
 use Rattle.rip_wire.specs.Message.{bits_of_mask}
 use Rattle.rip_wire.proofs.Masks.{bits_of_mask-mask_of, bits_of_mask-None}

@@ -1,4 +1,4 @@
-use Rattle.std.proofs.Common.{arith, ap, ◌≤◌, length}
+use Rattle.std.proofs.Common.{arith, ap, length}
 use Rattle.std.proofs.lemmas.Fmt.{length-decimal-le}
 use Rattle.rip_wire.proofs.text.put_length.Goals as goal
 

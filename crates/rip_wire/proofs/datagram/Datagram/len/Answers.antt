@@ -1,4 +1,3 @@
-use Rattle.std.proofs.Common.{sym}
 use Rattle.rip_wire.proofs.Views.{groups_are_entries}
 use Rattle.rip_wire.proofs.datagram.Datagram.len.Goals as goal
 

@@ -1,4 +1,4 @@
-use Rattle.std.proofs.Common.{arith, ap, ◌∙◌, ◌++◌}
+use Rattle.std.proofs.Common.{arith}
 use Rattle.std.proofs.lemmas.Str.{IsUtf8-from_ascii}
 use Rattle.rip_wire.proofs.TextLemmas.{ok_unless, IsAscii-prefix_text}
 use Rattle.rip_wire.proofs.prefix.Prefix.encode.Goals as goal

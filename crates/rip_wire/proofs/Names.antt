@@ -1,0 +1,33 @@
+-- The test of a name and what a name is.
+use Rattle.std.proofs.Common.{◌≡◌, ℕ, Bool, true, false, ◌&&◌, leb, List, length, refl, arith, rules, tests}
+use Rattle.std.specs.List.{list_all}
+use Rattle.std.proofs.lemmas.Bool.Decides.{nat_tests}
+use Rattle.std.proofs.lemmas.List.Sums.{AllPass-from_list_all, list_all-from_AllPass}
+use Rattle.rip_wire.specs.Name.{IsNameByte, IsName, is_name_byte, is_name}
+
+both : (a b : Bool) → (a && b) ≡ true → (a ≡ true) × (b ≡ true)
+both true b h = (refl, h)
+both false b h = absurd (cc)
+
+byte-gives : (c : ℕ) → is_name_byte c ≡ true → IsNameByte c
+byte-gives c h = search (rules, tests)
+
+byte-holds : (c : ℕ) → IsNameByte c → is_name_byte c ≡ true
+byte-holds c h = search (rules, tests)
+
+pub is_name-gives : (text : List ℕ) → is_name text ≡ true → IsName text
+is_name-gives text h =
+    let low : (leb 1 (length text) ≡ true) × ((leb (length text) 32 && list_all is_name_byte text) ≡ true) = both _ _ h in
+    let high : (leb (length text) 32 ≡ true) × (list_all is_name_byte text ≡ true) = both _ _ low.1 in
+    record {
+      some = grind (arith, nat_tests, low.0);
+      few = grind (arith, nat_tests, high.0);
+      bytes = λ i d lt. byte-gives _ (AllPass-from_list_all is_name_byte text high.1 i d lt);
+    }
+
+pub is_name-holds : (text : List ℕ) → IsName text → is_name text ≡ true
+is_name-holds text h =
+    let low : leb 1 (length text) ≡ true = grind (arith, nat_tests, h.some) in
+    let high : leb (length text) 32 ≡ true = grind (arith, nat_tests, h.few) in
+    let each = list_all-from_AllPass is_name_byte text (λ i d lt. byte-holds _ (h.bytes i d lt)) in
+    rw (low, high) each

@@ -1,0 +1,5 @@
+use Rattle.rip_wire.proofs.Messages.{response_again}
+use Rattle.rip_wire.proofs.laws.reads_back.Goals as goal
+
+pub returns : goal.returns
+returns c entries b spelled = response_again b entries spelled

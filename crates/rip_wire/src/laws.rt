@@ -1,0 +1,46 @@
+//! Laws of the definitions alone: functions without a body, whose contracts hold of every list of
+//! entries, every text and every order.
+
+ghost use Rattle.std.specs.Prelude.{◌≡◌, ◌≤◌, ◌<◌, ◌^◌, ◌↔◌, ℕ, List, Some, Ok, true, length, IsAscii};
+ghost use Rattle.std.specs.List.{AllByRecursion};
+ghost use Rattle.rip_wire.specs.declared.entry.Entry.{Entry};
+ghost use Rattle.rip_wire.specs.Address.{address_in, address_text};
+ghost use Rattle.rip_wire.specs.Grammar.{IsEntry, ResponseBytes};
+ghost use Rattle.rip_wire.specs.Message.{message_in, response};
+ghost use Rattle.rip_wire.specs.Name.{IsName};
+ghost use Rattle.rip_wire.specs.Name as name;
+ghost use Rattle.rip_wire.specs.Prefix.{Block, IsBlock, prefix_in, prefix_text};
+
+/// Each list of 1 to 25 entries has one spelling.
+pub fn one_spelling()
+    ensures exists { (entries : List Entry) → 1 ≤ length entries → length entries ≤ 25 → AllByRecursion IsEntry entries → (b : List ℕ) × ResponseBytes entries b }
+    ensures one { (entries : List Entry) (b c : List ℕ) → ResponseBytes entries b → ResponseBytes entries c → b ≡ c }
+{}
+
+/// Two lists of entries with one spelling are equal.
+pub fn one_reading()
+    ensures { (entries others : List Entry) (b : List ℕ) → ResponseBytes entries b → ResponseBytes others b → entries ≡ others }
+{}
+
+/// Reading what was written gives the entries again.
+pub fn reads_back()
+    ensures { (entries : List Entry) (b : List ℕ) → ResponseBytes entries b → message_in b ≡ Ok (response entries) }
+{}
+
+/// The address of a text is the one that is printed so, and its text is ASCII.
+pub fn address_texts()
+    ensures exact { (text : List ℕ) (a : ℕ) → (address_in text ≡ Some a) ↔ ((a < 2 ^ 32) × (text ≡ address_text a)) }
+    ensures ascii { (text : List ℕ) (a : ℕ) → address_in text ≡ Some a → IsAscii text }
+{}
+
+/// The prefix of a text is the one that is printed so, and its text is ASCII.
+pub fn prefix_texts()
+    ensures exact { (text : List ℕ) (p : Block) → (prefix_in text ≡ Some p) ↔ (IsBlock p × (text ≡ prefix_text p)) }
+    ensures ascii { (text : List ℕ) (p : Block) → prefix_in text ≡ Some p → IsAscii text }
+{}
+
+/// The test of a name is true exactly of a name, and a name is ASCII.
+pub fn names()
+    ensures exact { (text : List ℕ) → (name.is_name text ≡ true) ↔ IsName text }
+    ensures ascii { (text : List ℕ) → IsName text → IsAscii text }
+{}

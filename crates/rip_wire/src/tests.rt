@@ -1,0 +1,212 @@
+//! Values from outside.
+
+use crate::*;
+use std::process::Abort;
+use std::test::Fail;
+
+/// A response of one entry: tag 0x1234, 10.3.0.0/16 by 10.0.0.7, metric 5.
+const ONE_ENTRY: [u8; 24] = [
+    2, 2, 0, 0, 0, 2, 0x12, 0x34, 10, 3, 0, 0, 255, 255, 0, 0, 10, 0, 0, 7, 0, 0, 0, 5,
+];
+
+fn make_prefix(rt: &impl Abort, text: &str) -> Prefix {
+    Prefix::parse(text).expect(rt, "a prefix")
+}
+
+#[test]
+fn reads_each_octet(rt: HostRuntime) -> Result<(), Fail> {
+    for n in 0..256u32 {
+        let address = Address::new(n * 0x0100_0001 + (255 - n) * 0x0001_0100);
+        let m = 255 - n;
+        let text = format!(in rt.alloc(); "{n}.{m}.{m}.{n}")?;
+        assert_eq!(rt; Address::parse(text.as_str()), Some(address), "at {n}");
+        assert!(rt; address.encode(&mut [0; 15]) == text.as_str(), "at {n}");
+    }
+    Ok(())
+}
+
+#[test]
+fn reads_prefixes(rt: HostRuntime) {
+    for (text, network, length, mask) in [
+        ("0.0.0.0/0", 0, 0, 0),
+        ("128.0.0.0/1", 0x8000_0000, 1, 0x8000_0000),
+        ("10.3.0.0/16", 0x0A03_0000, 16, 0xFFFF_0000),
+        ("192.168.1.254/31", 0xC0A8_01FE, 31, 0xFFFF_FFFE),
+        ("255.255.255.255/32", 0xFFFF_FFFF, 32, 0xFFFF_FFFF),
+    ] {
+        let prefix = make_prefix(&rt, text);
+        assert_eq!(rt;
+            Prefix::new(Address::new(network), length),
+            Some(prefix),
+            "{text}"
+        );
+        assert_eq!(rt; prefix.mask(), mask, "{text}");
+        assert!(rt; prefix.encode(&mut [0; 18]) == text, "{text}");
+    }
+}
+
+#[test]
+fn refuses_other_texts(rt: HostRuntime) {
+    for text in [
+        "",
+        ".",
+        "...",
+        "1.2.3",
+        "1.2.3.",
+        ".1.2.3",
+        "1..2.3",
+        "1.2.3.4.",
+        "1.2.3.4.5",
+        "1.2.3.256",
+        "1.2.3.1000",
+        "01.2.3.4",
+        "1.2.3.00",
+        "1.2.3.04",
+        "+1.2.3.4",
+        "-1.2.3.4",
+        " 1.2.3.4",
+        "1.2.3.4 ",
+        "1.2. 3.4",
+        "1.2.3.4\n",
+        "1,2,3,4",
+        "0x1.2.3.4",
+        "1.2.3.a",
+        "١.٢.٣.٤",
+        "1.2.3.\u{664}",
+        "1.2.3.4/8",
+        "16909060",
+    ] {
+        assert_eq!(rt; Address::parse(text), None, "{text}");
+    }
+    for text in [
+        "",
+        "/",
+        "10.0.0.0",
+        "10.0.0.0/",
+        "/8",
+        "10.0.0.0/33",
+        "10.0.0.0/256",
+        "10.0.0.1/8",
+        "10.0.0.0/08",
+        "10.0.0.0/+8",
+        "10.0.0.0/-8",
+        "10.0.0.0/ 8",
+        "10.0.0.0 /8",
+        "10.0.0.0/8 ",
+        "10.0.0.0/8/8",
+        "10.0.0.0//8",
+        "010.0.0.0/8",
+        "10.0.0/8",
+        "10.0.0.0/255.0.0.0",
+        "10.0.0.0/٨",
+        "128.0.0.0/0",
+        "10.0.0.1/31",
+    ] {
+        assert_eq!(rt; Prefix::parse(text), None, "{text}");
+    }
+}
+
+#[test]
+fn orders_prefixes(rt: HostRuntime) {
+    let texts = [
+        "0.0.0.0/0",
+        "0.0.0.0/32",
+        "10.0.0.0/8",
+        "10.0.0.0/9",
+        "10.1.0.0/16",
+        "192.0.0.0/2",
+    ];
+    for i in 0..texts.len() {
+        for j in 0..texts.len() {
+            let (left, right) = (make_prefix(&rt, texts[i]), make_prefix(&rt, texts[j]));
+            assert_eq!(rt; left < right, i < j, "{i} and {j}");
+            assert_eq!(rt; left == right, i == j, "{i} and {j}");
+        }
+    }
+    assert!(rt; Address::new(9) < Address::new(10));
+}
+
+#[test]
+fn contains_addresses(rt: HostRuntime) {
+    for (prefix, address, inside) in [
+        ("0.0.0.0/0", "255.255.255.255", true),
+        ("10.3.0.0/16", "10.3.255.255", true),
+        ("10.3.0.0/16", "10.3.0.0", true),
+        ("10.3.0.0/16", "10.4.0.0", false),
+        ("10.3.0.0/16", "10.2.255.255", false),
+        ("10.3.0.7/32", "10.3.0.7", true),
+        ("10.3.0.7/32", "10.3.0.6", false),
+    ] {
+        let address = Address::parse(address).expect(&rt, "an address");
+        assert_eq!(rt;
+            make_prefix(&rt, prefix).contains(address),
+            inside,
+            "{prefix}"
+        );
+    }
+}
+
+#[test]
+fn adds_costs(rt: HostRuntime) {
+    for (metric, cost, sum) in [
+        (1, 0, 1),
+        (1, 1, 2),
+        (14, 1, 15),
+        (15, 1, 16),
+        (16, 1, 16),
+        (1, 255, 16),
+    ] {
+        let metric = Metric::new(metric).expect(&rt, "a metric");
+        assert_eq!(rt; metric.plus(cost).get(), sum, "by {cost}");
+    }
+}
+
+#[test]
+fn tells_names(rt: HostRuntime) {
+    let long = [b'x'; 33];
+    assert!(rt; is_name(&long[..1]) && is_name(&long[..32]));
+    assert!(rt; !is_name(&long) && !is_name(&long[..0]));
+    assert!(rt; is_name(b"Core-1_a.Z09"));
+    for byte in [
+        0, b' ', b'/', b':', b'@', b'[', b'`', b'{', b'"', 0x7F, 0x80, 0xFF,
+    ] {
+        assert!(rt; !is_name(&[b'a', byte, b'b']), "{byte}");
+    }
+}
+
+#[test]
+fn writes_one_entry(rt: HostRuntime) {
+    let entry = Entry {
+        tag: 0x1234,
+        prefix: make_prefix(&rt, "10.3.0.0/16"),
+        next_hop: Address::new(0x0A00_0007),
+        metric: Metric::new(5).expect(&rt, "a metric"),
+    };
+    let mut room = [0xA5; 504];
+    let length = write_response(&[entry], &mut room);
+    assert!(rt; room[..length] == ONE_ENTRY[..]);
+    assert!(rt; room[length..].iter().all(|byte| *byte == 0xA5));
+}
+
+#[test]
+fn reads_what_was_written(rt: HostRuntime) {
+    let mut entries = [Entry {
+        tag: 0,
+        prefix: make_prefix(&rt, "10.3.0.0/16"),
+        next_hop: Address::new(0),
+        metric: Metric::new(16).expect(&rt, "a metric"),
+    }; 25];
+    for i in 0..25u8 {
+        entries[usize::from(i)].tag = u16::from(i) * 2621;
+        entries[usize::from(i)].next_hop = Address::new(u32::from(i) * 171_798_691);
+    }
+    let mut room = [0xA5; 504];
+    let length = write_response(&entries, &mut room);
+    assert_eq!(rt; length, 504);
+    let datagram = read(&room).expect(&rt, "a datagram");
+    assert!(rt; datagram.kind() == Kind::Response);
+    assert_eq!(rt; datagram.len(), 25);
+    for i in 0..25 {
+        assert_eq!(rt; datagram.entry(i), entries[i], "entry {i}");
+    }
+}
