@@ -1,0 +1,8 @@
+use Rattle.std.proofs.Common.{◌≡◌, ◌+◌, map, drop}
+use Rattle.toml.specs.View.{view}
+use Rattle.rip_plan.specs.Fault.{steps}
+use Rattle.rip_plan.specs.Draft.{interface_step, sketch}
+use Rattle.rip_plan.proofs.draft.steps.add_interfaces.Given as goal
+
+abbrev pub invariant-loop-j : goal.invariant-loop-j
+invariant-loop-j l = steps (interface_step l.r) (l.j + 1) (map view (drop l.j l.items)) (sketch l.draft) ≡ steps (interface_step l.r) 1 (map view l.items) (sketch l.initial.draft)

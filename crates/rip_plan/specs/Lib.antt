@@ -1,0 +1,9 @@
+pub mod Fault
+pub mod Fields
+pub mod Draft
+pub mod Passes
+pub mod PlanText
+pub mod Touches
+pub mod Network
+pub mod Indexed
+pub mod Answers

@@ -1,0 +1,90 @@
+-- What a plan is: its links and routers by their names, its interfaces, and its prefixes with their places.
+use Rattle.std.specs.Prelude.{ℕ, zero, suc, ◌+◌, Bool, if◌then◌else◌, option_and_then, ◌&&◌, ◌==◌, List, [], ◌∷◌, ◌++◌, length, map, Option, Some, None, Result, Ok, Err}
+use Rattle.std.specs.List.{position_from}
+use Rattle.std.specs.Str.{bytes_eq}
+use Rattle.std.specs.Ordering.{nat_cmp, ordering_then}
+use Rattle.std.specs.declared.cmp.Ordering.{Ordering}
+use Rattle.rip_wire.specs.Prefix.{Block}
+use Rattle.rip_plan.specs.declared.error.PlanError.{PlanError}
+use Rattle.rip_plan.specs.declared.parts.Interface.{Interface}
+use Rattle.rip_plan.specs.declared.parts.Place.{Place}
+use Rattle.rip_plan.specs.declared.draft.DraftPlace.{DraftPlace}
+use Rattle.rip_plan.specs.Fault.{◌>>=◌}
+use Rattle.rip_plan.specs.Draft.{Sketch}
+use Rattle.rip_plan.specs.Passes.{same_prefix}
+use Rattle.rip_plan.specs.PlanText.{sketch_of}
+
+pub record Network : Type 0 where
+  pub links : List (List ℕ)
+  pub routers : List (List ℕ)
+  pub interfaces : List Interface
+  pub prefixes : List Block
+  pub places : List Place
+
+-- the number of the prefix among the prefixes
+abbrev pub number_of_prefix : Block → List Block → Option ℕ
+number_of_prefix p ps = position_from (same_prefix p) 0 ps
+
+-- the number that a prefix has, or gets as the next one
+abbrev pub number_or_next : List Block → Option ℕ → ℕ
+number_or_next ps None = length ps
+number_or_next ps (Some k) = k
+
+-- the prefixes with this one, which is new or not
+abbrev pub with_prefix : List Block → Block → Option ℕ → List Block
+with_prefix ps p None = ps ++ p ∷ []
+with_prefix ps p (Some k) = ps
+
+-- the prefixes, each once in the order of its first place, and the places with the prefixes' numbers
+abbrev pub numbered : List Block → List Place → List DraftPlace → List Block × List Place
+numbered ps qs [] = (ps, qs)
+numbered ps qs (d ∷ ds) =
+    let k = number_of_prefix d.prefix ps in
+    numbered (with_prefix ps d.prefix k) (qs ++ record { prefix = number_or_next ps k; seat = d.seat } ∷ []) ds
+
+-- the plan of what was read
+abbrev pub network_of_sketch : Sketch → Network
+network_of_sketch s =
+    let both = numbered [] [] s.places in
+    record { links = s.links; routers = s.routers; interfaces = map (λ i. i.interface) s.interfaces; prefixes = both.0; places = both.1 }
+
+-- the plan that the bytes are, or their first fault
+abbrev pub network_in : List ℕ → Result Network PlanError
+network_in bytes = sketch_of bytes >>= (λ s. Ok (network_of_sketch s))
+
+-- ---- Looking things up in a plan
+
+-- the order of pairs, by the first and then by the second
+abbrev pub pair_cmp : ℕ × ℕ → ℕ × ℕ → Ordering
+pair_cmp p q = ordering_then (nat_cmp p.0 q.0) (nat_cmp p.1 q.1)
+
+-- the number of the first name that is these bytes, counted from n
+abbrev pub first_named : List ℕ → ℕ → List (List ℕ) → Option ℕ
+first_named bytes n names = position_from (λ name. bytes_eq name bytes) n names
+
+abbrev pub is_at : ℕ → ℕ → Interface → Bool
+is_at l a i = i.link == l && i.address == a
+
+-- the number of the first interface on the link with the address, counted from n
+abbrev pub first_at : ℕ → ℕ → ℕ → List Interface → Option ℕ
+first_at l a n interfaces = position_from (is_at l a) n interfaces
+
+-- the number of the interface on the link of this name with the address
+abbrev pub found_at : Network → List ℕ → ℕ → Option ℕ
+found_at n name a = option_and_then (λ l. first_at l a 0 n.interfaces) (first_named name 0 n.links)
+
+abbrev pub is_on : ℕ → Interface → Bool
+is_on l i = i.link == l
+
+abbrev pub is_of : ℕ → Interface → Bool
+is_of r i = i.router == r
+
+-- the numbers of the items that pass, counted from n, ascending
+abbrev pub numbers_where : {A : Type 0} → (A → Bool) → ℕ → List A → List ℕ
+numbers_where test n [] = []
+numbers_where test n (x ∷ xs) = if test x then n ∷ numbers_where test (n + 1) xs else numbers_where test (n + 1) xs
+
+-- f of each number below n
+abbrev pub each_below : {A : Type 0} → ℕ → (ℕ → A) → List A
+each_below zero f = []
+each_below (suc n) f = each_below n f ++ f n ∷ []

@@ -1,0 +1,78 @@
+-- The passes over what was read: what clashes with something earlier.
+use Rattle.std.specs.Prelude.{◌≡◌, ℕ, zero, suc, ◌+◌, List, [], ◌∷◌, ◌++◌, length, map, filter, Bool, true, false, ◌&&◌, ◌||◌, not, ◌==◌, Option, Some, None, option_map, Result, Ok, Err, if◌then◌else◌}
+use Rattle.std.specs.List.{list_any}
+use Rattle.rip_wire.specs.Prefix.{Block}
+use Rattle.rip_plan.specs.declared.error.PlanCode.{PlanCode}
+use Rattle.rip_plan.specs.declared.error.PlanCode.TheVariants as codes
+use Rattle.rip_plan.specs.declared.error.PlanError.{PlanError}
+use Rattle.rip_plan.specs.declared.error.At.{At}
+use Rattle.rip_plan.specs.declared.error.At.TheVariants.{Router}
+use Rattle.rip_plan.specs.declared.draft.DraftInterface.{DraftInterface}
+use Rattle.rip_plan.specs.declared.draft.DraftPlace.{DraftPlace}
+use Rattle.rip_plan.specs.declared.parts.Seat.{Seat}
+use Rattle.rip_plan.specs.declared.parts.Seat.TheVariants as seats
+use Rattle.rip_plan.specs.Fault.{fault, ◌>>=◌}
+use Rattle.rip_plan.specs.Draft.{Sketch}
+
+-- the first item that clashes with an earlier one
+abbrev pub first_clash : {A : Type 0} → (A → A → Bool) → List A → List A → Option A
+first_clash clash earlier [] = None
+first_clash clash earlier (x ∷ xs) = if list_any (λ y. clash y x) earlier then Some x else first_clash clash (earlier ++ x ∷ []) xs
+
+abbrev pub same_prefix : Block → Block → Bool
+same_prefix p q = p.network == q.network && p.prefix_len == q.prefix_len
+
+-- the routers that a seat touches: those with an interface on the link, or the owner
+abbrev pub touched : List DraftInterface → Seat → List ℕ
+touched interfaces (seats.Link l) = map (λ i. i.interface.router) (filter (λ i. i.interface.link == l) interfaces)
+touched interfaces (seats.Own r c) = r ∷ []
+
+abbrev pub is_same_link : Seat → Seat → Bool
+is_same_link (seats.Link l) (seats.Link m) = l == m
+is_same_link (seats.Link l) (seats.Own r c) = false
+is_same_link (seats.Own r c) seat = false
+
+-- a place with the routers that it touches
+pub record Touching : Type 0 where
+  pub place : DraftPlace
+  pub routers : List ℕ
+
+abbrev pub touching : List DraftInterface → DraftPlace → Touching
+touching interfaces p = record { place = p; routers = touched interfaces p.seat }
+
+abbrev pub have_common : List ℕ → List ℕ → Bool
+have_common rs ss = list_any (λ s. list_any (λ r. r == s) rs) ss
+
+-- two places of one prefix on one link, or that touch one router
+abbrev pub do_meet : Touching → Touching → Bool
+do_meet p q = same_prefix p.place.prefix q.place.prefix && (is_same_link p.place.seat q.place.seat || have_common p.routers q.routers)
+
+-- two interfaces of one router on one link
+abbrev pub are_twice : DraftInterface → DraftInterface → Bool
+are_twice a b = a.interface.router == b.interface.router && a.interface.link == b.interface.link
+
+-- two interfaces on one link with one address
+abbrev pub have_one_address : DraftInterface → DraftInterface → Bool
+have_one_address a b = a.interface.link == b.interface.link && a.interface.address == b.interface.address
+
+-- the router has no interface
+abbrev pub is_bare : List DraftInterface → ℕ → Bool
+is_bare interfaces r = not (list_any (λ i. i.interface.router == r) interfaces)
+
+-- the first of n routers from k on that has no interface
+abbrev pub first_bare : List DraftInterface → ℕ → ℕ → Option ℕ
+first_bare interfaces k zero = None
+first_bare interfaces k (suc n) = if is_bare interfaces k then Some k else first_bare interfaces (k + 1) n
+
+-- nothing, or the fault at the place where something was found
+abbrev pub none_found : PlanCode → Option At → Result (Unit {0}) PlanError
+none_found code None = Ok tt
+none_found code (Some place) = Err (fault code place)
+
+-- the passes, one for each of these codes
+unfoldable pub second_passes : Sketch → Result (Unit {0}) PlanError
+second_passes s =
+    none_found codes.DuplicatePrefix (option_map (λ t. t.place.place) (first_clash do_meet [] (map (touching s.interfaces) s.places))) >>= (λ _.
+    none_found codes.TwiceOnLink (option_map (λ i. i.place) (first_clash are_twice [] s.interfaces)) >>= (λ _.
+    none_found codes.DuplicateAddress (option_map (λ i. i.place) (first_clash have_one_address [] s.interfaces)) >>= (λ _.
+    none_found codes.NoInterface (option_map (λ r. Router (r + 1)) (first_bare s.interfaces 0 (length s.routers))))))

@@ -1,0 +1,253 @@
+//! The steps of the first pass over the places of a plan.
+
+ghost use Rattle.std.specs.Prelude.{◌≡◌, ◌&&◌, ◌≤◌, map, string_bytes};
+ghost use Rattle.std.specs.List.{list_any};
+ghost use Rattle.toml.specs.View.{view};
+ghost use Rattle.rip_plan.specs.Draft as spec;
+ghost use Rattle.rip_plan.specs.Draft.{Steps, has_address, interface_step, is_on, is_outside, is_taken, link_step, own_step, prefix_step, router_step, sketch, with_place};
+ghost use Rattle.rip_plan.specs.Fault.{steps};
+
+use crate::draft::{Draft, DraftInterface, DraftPlace, MOST};
+use crate::error::{At, PlanCode, PlanError, ReadError};
+use crate::fields;
+use crate::parts::{Interface, Seat};
+use rip_wire::{Address, Prefix, is_name};
+use std::alloc::Global;
+use toml::Value;
+
+pub(crate) fn wrong(code: PlanCode, place: At) -> ReadError
+    ensures { result ≡ ReadError.Fault (record { code = code; place = place }) }
+{
+    ReadError::Fault(PlanError { code, place })
+}
+
+fn is_name_taken(name: &str, names: &[String]) -> bool
+    ensures { result ≡ is_taken name.now (map string_bytes names.now) }
+{
+    names.iter().any(|other| other.as_str() == name)
+}
+
+fn number_of(name: &str, names: &[String]) -> Option<usize>
+    ensures { result ≡ spec.number_of name.now (map string_bytes names.now) }
+{
+    names.iter().position(|other| other.as_str() == name)
+}
+
+fn is_seat_on(seat: Seat, link: usize) -> bool
+    ensures { result ≡ is_on link seat }
+{
+    match seat {
+        Seat::Link(other) => other == link,
+        Seat::Own { .. } => false,
+    }
+}
+
+fn has_prefix_on(link: usize, places: &[DraftPlace]) -> bool
+    ensures { result ≡ list_any (λ p. is_on link p.seat) places.now }
+{
+    places.iter().any(|p| is_seat_on(p.seat, link))
+}
+
+fn contains(prefix: Prefix, address: Address) -> bool
+    ensures { result ≡ has_address prefix address }
+{
+    prefix.contains(address)
+}
+
+fn has_address_on(link: usize, address: Address, places: &[DraftPlace]) -> bool
+    ensures { result ≡ list_any (λ p. is_on link p.seat && has_address p.prefix address) places.now }
+{
+    places.iter().any(|p| is_seat_on(p.seat, link) && contains(p.prefix, address))
+}
+
+fn is_out_of_link(link: usize, address: Address, places: &[DraftPlace]) -> bool
+    ensures { result ≡ is_outside link address places.now }
+{
+    has_prefix_on(link, places) && !has_address_on(link, address, places)
+}
+
+/// Adds a place of a prefix, unless there are as many as a plan may have.
+fn add_place(draft: &mut Draft, place: At, prefix: Prefix, seat: Seat) -> Result<(), ReadError>
+    ensures { Steps (sketch draft.old) (sketch draft.new) result (with_place place prefix seat) }
+{
+    if MOST <= draft.places.len() {
+        return Err(wrong(PlanCode::Limit, place));
+    }
+    draft.places.push(DraftPlace {
+        prefix,
+        seat,
+        place,
+    })?;
+    Ok(())
+}
+
+#[tactic(auto, unfolding(crate::specs::Draft::prefix_step))]
+fn add_prefix(draft: &mut Draft, i: usize, j: usize, item: &Value) -> Result<(), ReadError>
+    requires { 1 ≤ i }
+    ensures { Steps (sketch draft.old) (sketch draft.new) result (prefix_step i j (view item.now)) }
+{
+    let place = At::LinkPrefix(i, j);
+    let Some(text) = item.as_str() else {
+        return Err(wrong(PlanCode::Key, place));
+    };
+    let Some(prefix) = Prefix::parse(text) else {
+        return Err(wrong(PlanCode::Prefix, place));
+    };
+    add_place(draft, place, prefix, Seat::Link(i - 1))
+}
+
+fn add_prefixes(draft: &mut Draft, i: usize, items: &[Value]) -> Result<(), ReadError>
+    requires { 1 ≤ i }
+    ensures { Steps (sketch draft.old) (sketch draft.new) result (steps (prefix_step i) 1 (map view items.now)) }
+{
+    for (j, item) in items.iter().enumerate() {
+        add_prefix(draft, i, j + 1, item)?;
+    }
+    Ok(())
+}
+
+#[tactic(auto, unfolding(crate::specs::Draft::link_step))]
+fn add_link(draft: &mut Draft, alloc: Global, i: usize, item: &Value) -> Result<(), ReadError>
+    requires { 1 ≤ i }
+    ensures { Steps (sketch draft.old) (sketch draft.new) result (link_step i (view item.now)) }
+{
+    let place = At::Link(i);
+    let Some(table) = item.as_table() else {
+        return Err(wrong(PlanCode::Key, place));
+    };
+    let Some((name, prefixes)) = fields::fields_of_link(table) else {
+        return Err(wrong(PlanCode::Key, place));
+    };
+    if !is_name(name.as_bytes()) {
+        return Err(wrong(PlanCode::Name, place));
+    }
+    if is_name_taken(name, draft.links.as_slice()) {
+        return Err(wrong(PlanCode::DuplicateName, place));
+    }
+    draft.links.push(String::from_str(alloc, name)?)?;
+    add_prefixes(draft, i, prefixes)
+}
+
+#[tactic(auto, unfolding(crate::specs::Draft::interface_step))]
+fn add_interface(draft: &mut Draft, r: usize, j: usize, item: &Value) -> Result<(), ReadError>
+    requires { 1 ≤ r }
+    ensures { Steps (sketch draft.old) (sketch draft.new) result (interface_step r j (view item.now)) }
+{
+    let place = At::RouterInterface(r, j);
+    let Some(table) = item.as_table() else {
+        return Err(wrong(PlanCode::Key, place));
+    };
+    let Some((name, text, given)) = fields::fields_of_interface(table) else {
+        return Err(wrong(PlanCode::Key, place));
+    };
+    let Some(address) = Address::parse(text) else {
+        return Err(wrong(PlanCode::Address, place));
+    };
+    let Some(cost) = fields::cost_of(given) else {
+        return Err(wrong(PlanCode::Cost, place));
+    };
+    let Some(link) = number_of(name, draft.links.as_slice()) else {
+        return Err(wrong(PlanCode::UnknownLink, place));
+    };
+    if is_out_of_link(link, address, draft.places.as_slice()) {
+        return Err(wrong(PlanCode::OutsidePrefix, place));
+    }
+    if MOST <= draft.interfaces.len() {
+        return Err(wrong(PlanCode::Limit, place));
+    }
+    let interface = Interface {
+        router: r - 1,
+        link,
+        address,
+        cost,
+    };
+    draft.interfaces.push(DraftInterface { interface, place })?;
+    Ok(())
+}
+
+fn add_interfaces(draft: &mut Draft, r: usize, items: &[Value]) -> Result<(), ReadError>
+    requires { 1 ≤ r }
+    ensures { Steps (sketch draft.old) (sketch draft.new) result (steps (interface_step r) 1 (map view items.now)) }
+{
+    for (j, item) in items.iter().enumerate() {
+        add_interface(draft, r, j + 1, item)?;
+    }
+    Ok(())
+}
+
+#[tactic(auto, unfolding(crate::specs::Draft::own_step))]
+fn add_own(draft: &mut Draft, r: usize, j: usize, item: &Value) -> Result<(), ReadError>
+    requires { 1 ≤ r }
+    ensures { Steps (sketch draft.old) (sketch draft.new) result (own_step r j (view item.now)) }
+{
+    let place = At::RouterOwn(r, j);
+    let Some(table) = item.as_table() else {
+        return Err(wrong(PlanCode::Key, place));
+    };
+    let Some((text, given)) = fields::fields_of_own(table) else {
+        return Err(wrong(PlanCode::Key, place));
+    };
+    let Some(prefix) = Prefix::parse(text) else {
+        return Err(wrong(PlanCode::Prefix, place));
+    };
+    let Some(cost) = fields::cost_of(given) else {
+        return Err(wrong(PlanCode::Cost, place));
+    };
+    let router = r - 1;
+    add_place(draft, place, prefix, Seat::Own { router, cost })
+}
+
+fn add_owns(draft: &mut Draft, r: usize, items: &[Value]) -> Result<(), ReadError>
+    requires { 1 ≤ r }
+    ensures { Steps (sketch draft.old) (sketch draft.new) result (steps (own_step r) 1 (map view items.now)) }
+{
+    for (j, item) in items.iter().enumerate() {
+        add_own(draft, r, j + 1, item)?;
+    }
+    Ok(())
+}
+
+#[tactic(auto, unfolding(crate::specs::Draft::router_step))]
+fn add_router(draft: &mut Draft, alloc: Global, r: usize, item: &Value) -> Result<(), ReadError>
+    requires { 1 ≤ r }
+    ensures { Steps (sketch draft.old) (sketch draft.new) result (router_step r (view item.now)) }
+{
+    let place = At::Router(r);
+    let Some(table) = item.as_table() else {
+        return Err(wrong(PlanCode::Key, place));
+    };
+    let Some((name, interfaces, owns)) = fields::fields_of_router(table) else {
+        return Err(wrong(PlanCode::Key, place));
+    };
+    if !is_name(name.as_bytes()) {
+        return Err(wrong(PlanCode::Name, place));
+    }
+    if is_name_taken(name, draft.routers.as_slice()) {
+        return Err(wrong(PlanCode::DuplicateName, place));
+    }
+    draft.routers.push(String::from_str(alloc, name)?)?;
+    add_interfaces(draft, r, interfaces)?;
+    add_owns(draft, r, owns)
+}
+
+pub(crate) fn add_links(draft: &mut Draft, alloc: Global, items: &[Value]) -> Result<(), ReadError>
+    ensures { Steps (sketch draft.old) (sketch draft.new) result (steps link_step 1 (map view items.now)) }
+{
+    for (i, item) in items.iter().enumerate() {
+        add_link(draft, alloc, i + 1, item)?;
+    }
+    Ok(())
+}
+
+pub(crate) fn add_routers(
+    draft: &mut Draft,
+    alloc: Global,
+    items: &[Value],
+) -> Result<(), ReadError>
+    ensures { Steps (sketch draft.old) (sketch draft.new) result (steps router_step 1 (map view items.now)) }
+{
+    for (i, item) in items.iter().enumerate() {
+        add_router(draft, alloc, i + 1, item)?;
+    }
+    Ok(())
+}

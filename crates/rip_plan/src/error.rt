@@ -1,0 +1,99 @@
+//! Why a plan could not be read.
+
+ghost use Rattle.std.specs.Prelude.{◌≡◌};
+ghost use Rattle.rip_plan.specs.declared.error.ReadError.TheVariants.{OutOfMemory};
+
+use std::alloc::{AllocError, AllocFailed};
+use thiserror::Error;
+
+/// What is wrong with a plan, in the numbering that is printed.
+#[derive(Clone, Copy, Debug, PartialEq, Eq)]
+pub enum PlanCode {
+    /// The bytes are not UTF-8, or no TOML document; told at the text.
+    Syntax = 1,
+    /// The version is missing, no integer, or not 1; told at the version.
+    Version,
+    /// A key is missing, unknown or of the wrong kind, or `link` or `router` is empty; told at the
+    /// table, or at the item of a list.
+    Key,
+    /// The name of a link or a router has another form than a name.
+    Name,
+    /// An earlier link, or an earlier router, has the name.
+    DuplicateName,
+    /// The text is no address.
+    Address,
+    /// The text is no prefix, or a host bit is set.
+    Prefix,
+    /// The cost is below 1 or above 15.
+    Cost,
+    /// An earlier place of the prefix is on the same link, or touches a router that this one touches.
+    DuplicatePrefix,
+    /// No link has the name.
+    UnknownLink,
+    /// An earlier interface of the router is on the link.
+    TwiceOnLink,
+    /// An earlier interface on the link has the address.
+    DuplicateAddress,
+    /// The link has prefixes, and none contains the address.
+    OutsidePrefix,
+    /// The router has no interface.
+    NoInterface,
+    /// A limit is passed: of bytes, links, routers, interfaces or places.
+    Limit,
+    /// A growth was refused; told at the text.
+    Memory,
+}
+
+/// A place in the text of a plan. Its numbers start at 1.
+#[derive(Clone, Copy, Debug, PartialEq, Eq)]
+pub enum At {
+    /// The text as a whole, and the root of the document.
+    Text,
+    /// The version.
+    Version,
+    /// A link.
+    Link(usize),
+    /// A prefix of a link.
+    LinkPrefix(usize, usize),
+    /// A router.
+    Router(usize),
+    /// An interface of a router.
+    RouterInterface(usize, usize),
+    /// A router's own prefix.
+    RouterOwn(usize, usize),
+}
+
+/// The first fault of a plan's text, and where it stands.
+#[derive(Clone, Copy, Debug, PartialEq, Eq, Error)]
+#[error("{code:?} at {place:?}")]
+pub struct PlanError {
+    /// What is wrong.
+    pub code: PlanCode,
+    /// Where it stands.
+    pub place: At,
+}
+
+/// A fault of the text, or a growth that was refused.
+#[derive(Debug, Drop)]
+pub(crate) enum ReadError {
+    /// A growth was refused.
+    OutOfMemory,
+    /// The first fault.
+    Fault(PlanError),
+}
+
+impl From<AllocError> for ReadError {
+    ghost from_gives = { λ _ e. e ≡ OutOfMemory };
+
+    fn from(_error: AllocError) -> ReadError {
+        ReadError::OutOfMemory
+    }
+}
+
+impl<T: Drop> From<AllocFailed<T>> for ReadError {
+    ghost from_gives = { λ _ e. e ≡ OutOfMemory };
+
+    fn from(_error: AllocFailed<T>) -> ReadError {
+        ReadError::OutOfMemory
+    }
+}

@@ -1,0 +1,228 @@
+//! The tables of a plan's document, by their keys.
+
+ghost use Rattle.std.specs.Prelude.{map, codes, ◌≡◌, Some, None, option_map, option_and_then, option_copied, IsTrue, is_some};
+ghost use Rattle.toml.specs.Data.{as_str, as_integer, get_member};
+ghost use Rattle.toml.specs.View.{view, table_view, array_view};
+ghost use Rattle.rip_plan.specs.Fields as spec;
+ghost use Rattle.rip_plan.specs.Fields.{integer_if, interface_fields, is_interface_key, is_link_key, is_own_key, is_root_key, is_router_key, is_version, items_at, items_if, keys_pass, link_fields, own_fields, root_fields, router_fields};
+
+use toml::{Table, Value};
+
+/// What a table holds at a key.
+fn member<'a>(table: &'a Table, key: &str) -> Option<&'a Value>
+    ensures { option_map (λ v. view v.now) result ≡ get_member key.now (table_view table.now) }
+{
+    table.get(key)
+}
+
+/// The text at a key.
+fn text_at<'a>(table: &'a Table, key: &str) -> Option<&'a str>
+    ensures { option_copied result ≡ option_and_then as_str (get_member key.now (table_view table.now)) }
+{
+    match member(table, key) {
+        Some(value) => value.as_str(),
+        None => None,
+    }
+}
+
+/// The items of the list at a key.
+#[tactic(auto, using(crate::proofs::Keys::list_of_items))]
+fn list_at<'a>(table: &'a Table, key: &str) -> Option<&'a [Value]>
+    ensures { option_map (λ v. map view v.now) result ≡ items_at key.now (table_view table.now) }
+{
+    match member(table, key) {
+        Some(value) => match value.as_array() {
+            Some(array) => Some(array.as_slice()),
+            None => None,
+        },
+        None => None,
+    }
+}
+
+/// The items of the list at a key, and none where nothing is there; `None` where it is no list.
+#[tactic(auto, using(crate::proofs::Keys::list_of_items))]
+fn list_if<'a>(table: &'a Table, key: &str) -> Option<&'a [Value]>
+    ensures { option_map (λ v. map view v.now) result ≡ items_if (get_member key.now (table_view table.now)) }
+{
+    match member(table, key) {
+        None => Some(&[]),
+        Some(value) => match value.as_array() {
+            Some(array) => Some(array.as_slice()),
+            None => None,
+        },
+    }
+}
+
+/// The integer at a key, if anything is there; `None` where it is of another kind.
+fn integer_at(table: &Table, key: &str) -> Option<Option<i64>>
+    ensures { result ≡ integer_if (get_member key.now (table_view table.now)) }
+{
+    match member(table, key) {
+        None => Some(None),
+        Some(value) => match value.as_integer() {
+            Some(number) => Some(Some(number)),
+            None => None,
+        },
+    }
+}
+
+fn is_a_link_key(key: &str) -> bool
+    ensures { result ≡ is_link_key key.now }
+{
+    matches!(key, "name" | "prefixes")
+}
+
+#[tactic(auto, using(crate::proofs::Keys::all_keys))]
+fn has_link_keys(table: &Table) -> bool
+    ensures { result ≡ keys_pass is_link_key (table_view table.now) }
+{
+    table.keys().all(|key| is_a_link_key(key.as_str()))
+}
+
+fn is_an_interface_key(key: &str) -> bool
+    ensures { result ≡ is_interface_key key.now }
+{
+    matches!(key, "link" | "address" | "cost")
+}
+
+#[tactic(auto, using(crate::proofs::Keys::all_keys))]
+fn has_interface_keys(table: &Table) -> bool
+    ensures { result ≡ keys_pass is_interface_key (table_view table.now) }
+{
+    table.keys().all(|key| is_an_interface_key(key.as_str()))
+}
+
+/// The name and the prefixes of a link's table.
+#[tactic(auto, unfolding(crate::specs::Fields::link_fields))]
+pub(crate) fn fields_of_link<'a>(table: &'a Table) -> Option<(&'a str, &'a [Value])>
+    ensures { option_map (λ f. (f.0.now, map view f.1.now)) result ≡ link_fields (table_view table.now) }
+{
+    if !has_link_keys(table) {
+        return None;
+    }
+    let name = text_at(table, "name")?;
+    let prefixes = list_at(table, "prefixes")?;
+    Some((name, prefixes))
+}
+
+/// The link, the address and the cost of an interface's table.
+#[tactic(auto, unfolding(crate::specs::Fields::interface_fields))]
+pub(crate) fn fields_of_interface<'a>(table: &'a Table) -> Option<(&'a str, &'a str, Option<i64>)>
+    ensures { option_map (λ f. (f.0.now, f.1.now, f.2)) result ≡ interface_fields (table_view table.now) }
+{
+    if !has_interface_keys(table) {
+        return None;
+    }
+    let link = text_at(table, "link")?;
+    let address = text_at(table, "address")?;
+    let cost = integer_at(table, "cost")?;
+    Some((link, address, cost))
+}
+
+/// The cost of an interface or an own prefix, 1 where none is given.
+pub(crate) fn cost_of(given: Option<i64>) -> Option<u8>
+    ensures { result ≡ spec.cost_of given }
+{
+    match given {
+        None => Some(1),
+        Some(number) => {
+            if 1 <= number && number <= 15 {
+                Some(number as u8)
+            } else {
+                None
+            }
+        }
+    }
+}
+
+fn is_an_own_key(key: &str) -> bool
+    ensures { result ≡ is_own_key key.now }
+{
+    matches!(key, "prefix" | "cost")
+}
+
+fn has_own_keys(table: &Table) -> bool
+    ensures { result ≡ keys_pass is_own_key (table_view table.now) }
+{
+    table.keys().all(|key| is_an_own_key(key.as_str()))
+}
+
+/// The prefix and the cost of an own prefix's table.
+#[tactic(auto, unfolding(crate::specs::Fields::own_fields))]
+pub(crate) fn fields_of_own<'a>(table: &'a Table) -> Option<(&'a str, Option<i64>)>
+    ensures { option_map (λ f. (f.0.now, f.1)) result ≡ own_fields (table_view table.now) }
+{
+    if !has_own_keys(table) {
+        return None;
+    }
+    let prefix = text_at(table, "prefix")?;
+    let cost = integer_at(table, "cost")?;
+    Some((prefix, cost))
+}
+
+fn is_a_router_key(key: &str) -> bool
+    ensures { result ≡ is_router_key key.now }
+{
+    matches!(key, "name" | "interface" | "own")
+}
+
+fn has_router_keys(table: &Table) -> bool
+    ensures { result ≡ keys_pass is_router_key (table_view table.now) }
+{
+    table.keys().all(|key| is_a_router_key(key.as_str()))
+}
+
+fn is_a_root_key(key: &str) -> bool
+    ensures { result ≡ is_root_key key.now }
+{
+    matches!(key, "version" | "link" | "router")
+}
+
+fn has_root_keys(table: &Table) -> bool
+    ensures { result ≡ keys_pass is_root_key (table_view table.now) }
+{
+    table.keys().all(|key| is_a_root_key(key.as_str()))
+}
+
+/// The name, the interfaces and the own prefixes of a router's table.
+#[tactic(auto, unfolding(crate::specs::Fields::router_fields))]
+pub(crate) fn fields_of_router<'a>(table: &'a Table) -> Option<(&'a str, &'a [Value], &'a [Value])>
+    ensures { option_map (λ f. (f.0.now, map view f.1.now, map view f.2.now)) result ≡ router_fields (table_view table.now) }
+{
+    if !has_router_keys(table) {
+        return None;
+    }
+    let name = text_at(table, "name")?;
+    let interfaces = list_at(table, "interface")?;
+    let owns = list_if(table, "own")?;
+    Some((name, interfaces, owns))
+}
+
+/// The links and the routers of the document, at least one of each.
+#[tactic(auto, unfolding(crate::specs::Fields::root_fields))]
+pub(crate) fn fields_of_root<'a>(table: &'a Table) -> Option<(&'a [Value], &'a [Value])>
+    ensures { option_map (λ f. (map view f.0.now, map view f.1.now)) result ≡ root_fields (table_view table.now) }
+{
+    if !has_root_keys(table) {
+        return None;
+    }
+    let links = list_at(table, "link")?;
+    if links.is_empty() {
+        return None;
+    }
+    let routers = list_at(table, "router")?;
+    if routers.is_empty() {
+        return None;
+    }
+    Some((links, routers))
+}
+
+/// Whether the document's version is 1.
+pub(crate) fn is_version_one(table: &Table) -> bool
+    ensures { result ≡ is_version (get_member (codes "version") (table_view table.now)) }
+{
+    match member(table, "version") {
+        Some(Value::Integer(1)) => true,
+        _ => false,
+    }
+}

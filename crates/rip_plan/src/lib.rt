@@ -1,0 +1,16 @@
+//! The plan of a RIP-2 network: routers, links, interfaces with their costs, and where prefixes stand.
+#![tactic(auto)]
+
+mod draft;
+mod error;
+mod fields;
+mod index;
+mod numbers;
+mod parts;
+mod passes;
+mod plan;
+mod reading;
+
+pub use error::{At, PlanCode, PlanError};
+pub use parts::{Interface, Place, Seat};
+pub use plan::Plan;

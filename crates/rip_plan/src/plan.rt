@@ -1,0 +1,197 @@
+//! A plan, and what it answers.
+
+ghost use Rattle.std.specs.Prelude.{◌≡◌, ◌<◌, IfOk, Some, length, slice_get};
+ghost use Rattle.rip_plan.specs.Answers.{IsAnswer};
+ghost use Rattle.rip_plan.specs.Fault.{Gives};
+ghost use Rattle.rip_plan.specs.Network.{found_at, is_of, is_on, network_in, network_of_sketch, numbers_where};
+ghost use Rattle.rip_plan.specs.Draft.{sketch};
+
+use crate::draft::Draft;
+use crate::error::{At, PlanCode, PlanError, ReadError};
+use crate::index;
+use crate::numbers::{interfaces_of, with_numbers};
+use crate::parts::{Interface, Place};
+use crate::reading::read_draft;
+use rip_wire::{Address, Prefix};
+use std::alloc::{AllocError, Global};
+use std::collections::BTreeMap;
+use std::marker::Model;
+
+/// The plan of a RIP-2 network. Its numbers of links, routers, interfaces, prefixes and places start
+/// at 0, in the order of the plan's text.
+#[derive(Drop)]
+pub struct Plan {
+    links: Vec<String>,
+    routers: Vec<String>,
+    interfaces: Vec<Interface>,
+    prefixes: Vec<Prefix>,
+    places: Vec<Place>,
+    on_link: Vec<Vec<usize>>,
+    of_router: Vec<Vec<usize>>,
+    names: BTreeMap<String, usize>,
+    addresses: BTreeMap<(usize, u32), usize>,
+}
+
+impl Model for Plan {
+    ghost use Rattle.rip_plan.specs.Network.{Network};
+
+    ghost Value = { Network };
+
+    ghost use Rattle.rip_plan.specs.Indexed.{IsIndexed, network_of};
+
+    ghost view = { network_of };
+
+    ghost invariant = { IsIndexed };
+}
+
+/// The plan of what was read.
+fn plan_of(alloc: Global, draft: Draft) -> Result<Plan, AllocError>
+    ensures { IfOk result (λ plan. plan ≡ network_of_sketch (sketch draft)) }
+{
+    let interfaces = interfaces_of(alloc, draft.interfaces.as_slice())?;
+    let (prefixes, places) = with_numbers(alloc, draft.places.as_slice())?;
+    let on_link = index::all_on(alloc, interfaces.as_slice(), draft.links.len())?;
+    let of_router = index::all_of(alloc, interfaces.as_slice(), draft.routers.len())?;
+    let names = index::numbers_of_names(alloc, draft.links.as_slice())?;
+    let addresses = index::numbers_of_addresses(alloc, interfaces.as_slice())?;
+    Ok(Plan {
+        links: draft.links,
+        routers: draft.routers,
+        interfaces,
+        prefixes,
+        places,
+        on_link,
+        of_router,
+        names,
+        addresses,
+    })
+}
+
+/// The plan that the bytes are, a fault, or want of memory.
+fn read_plan(alloc: Global, bytes: &[u8]) -> Result<Plan, ReadError>
+    ensures { Gives (λ plan. plan) result (network_in bytes.now) }
+{
+    let draft = read_draft(alloc, bytes)?;
+    Ok(plan_of(alloc, draft)?)
+}
+
+impl Plan {
+    /// Reads the text of a plan: a TOML document of at most 1,048,576 bytes. The error is the first
+    /// fault of the text, or Memory where a growth was refused.
+    pub fn read(alloc: Global, bytes: &[u8]) -> Result<Plan, PlanError>
+        ensures exact { IsAnswer result (network_in bytes.now) }
+    {
+        match read_plan(alloc, bytes) {
+            Ok(plan) => Ok(plan),
+            Err(ReadError::Fault(fault)) => Err(fault),
+            Err(ReadError::OutOfMemory) => Err(PlanError {
+                code: PlanCode::Memory,
+                place: At::Text,
+            }),
+        }
+    }
+
+    /// How many routers the plan has.
+    pub fn routers(&self) -> usize
+        ensures { result ≡ length self.now.routers }
+    {
+        self.routers.len()
+    }
+
+    /// How many links the plan has.
+    pub fn links(&self) -> usize
+        ensures { result ≡ length self.now.links }
+    {
+        self.links.len()
+    }
+
+    /// How many interfaces the plan has.
+    pub fn interfaces(&self) -> usize
+        ensures { result ≡ length self.now.interfaces }
+    {
+        self.interfaces.len()
+    }
+
+    /// How many prefixes the plan has.
+    pub fn prefixes(&self) -> usize
+        ensures { result ≡ length self.now.prefixes }
+    {
+        self.prefixes.len()
+    }
+
+    /// How many places of prefixes the plan has.
+    pub fn places(&self) -> usize
+        ensures { result ≡ length self.now.places }
+    {
+        self.places.len()
+    }
+
+    /// The name of a router.
+    pub fn router_name(&self, router: usize) -> &str
+        requires { router < length self.now.routers }
+        ensures { slice_get self.now.routers router ≡ Some result.now }
+    {
+        self.routers[router].as_str()
+    }
+
+    /// The name of a link.
+    pub fn link_name(&self, link: usize) -> &str
+        requires { link < length self.now.links }
+        ensures { slice_get self.now.links link ≡ Some result.now }
+    {
+        self.links[link].as_str()
+    }
+
+    /// A prefix.
+    pub fn prefix(&self, k: usize) -> Prefix
+        requires { k < length self.now.prefixes }
+        ensures { slice_get self.now.prefixes k ≡ Some result }
+    {
+        self.prefixes[k]
+    }
+
+    /// An interface.
+    pub fn interface(&self, i: usize) -> Interface
+        requires { i < length self.now.interfaces }
+        ensures { slice_get self.now.interfaces i ≡ Some result }
+    {
+        self.interfaces[i]
+    }
+
+    /// A place of a prefix.
+    pub fn place(&self, k: usize) -> Place
+        requires { k < length self.now.places }
+        ensures { slice_get self.now.places k ≡ Some result }
+    {
+        self.places[k]
+    }
+
+    /// The numbers of the interfaces on a link, ascending.
+    pub fn on_link(&self, link: usize) -> &[usize]
+        requires { link < length self.now.links }
+        ensures { result.now ≡ numbers_where (is_on link) 0 self.now.interfaces }
+    {
+        self.on_link[link].as_slice()
+    }
+
+    /// The numbers of the interfaces of a router, ascending.
+    pub fn of_router(&self, router: usize) -> &[usize]
+        requires { router < length self.now.routers }
+        ensures { result.now ≡ numbers_where (is_of router) 0 self.now.interfaces }
+    {
+        self.of_router[router].as_slice()
+    }
+
+    /// The number of the interface on the link of this name with this address.
+    pub fn find(&self, link_name: &str, address: Address) -> Option<usize>
+        ensures { result ≡ found_at self.now link_name.now address }
+    {
+        match self.names.get(link_name) {
+            None => None,
+            Some(link) => match self.addresses.get(&(*link, address.get())) {
+                None => None,
+                Some(number) => Some(*number),
+            },
+        }
+    }
+}

@@ -1,0 +1,83 @@
+//! Reading the text of a plan.
+
+ghost use Rattle.std.specs.Prelude.{◌≡◌, IfErr, IfOk, option_map};
+ghost use Rattle.toml.specs.View.{table_view};
+ghost use Rattle.rip_plan.specs.Draft.{sketch};
+ghost use Rattle.rip_plan.specs.Fault.{Gives};
+ghost use Rattle.rip_plan.specs.PlanText.{document_of, sketch_of, sketch_of_document};
+
+use crate::draft::{Draft, add_links, add_routers, wrong};
+use crate::error::{At, PlanCode, ReadError};
+use crate::fields;
+use crate::passes::check_passes;
+use std::alloc::Global;
+use toml::Table;
+
+/// The most bytes of a plan.
+const MOST_BYTES: usize = 1_048_576;
+
+/// The most links and the most routers of a plan.
+const MOST_LINKS: usize = 512;
+
+const MOST_ROUTERS: usize = 128;
+
+/// What a document says of a plan, or its first fault.
+#[tactic(auto, unfolding(crate::specs::PlanText::sketch_of_document))]
+fn draft_of(alloc: Global, table: &Table) -> Result<Draft, ReadError>
+    ensures { Gives sketch result (sketch_of_document (table_view table.now)) }
+{
+    if !fields::is_version_one(table) {
+        return Err(wrong(PlanCode::Version, At::Version));
+    }
+    let Some((links, routers)) = fields::fields_of_root(table) else {
+        return Err(wrong(PlanCode::Key, At::Text));
+    };
+    if MOST_LINKS < links.len() || MOST_ROUTERS < routers.len() {
+        return Err(wrong(PlanCode::Limit, At::Text));
+    }
+    let mut draft = Draft {
+        links: Vec::new(alloc),
+        routers: Vec::new(alloc),
+        interfaces: Vec::new(alloc),
+        places: Vec::new(alloc),
+    };
+    add_links(&mut draft, alloc, links)?;
+    add_routers(&mut draft, alloc, routers)?;
+    check_passes(alloc, &draft)?;
+    Ok(draft)
+}
+
+/// The table that the bytes are, where they are a TOML document in UTF-8.
+fn table_of(alloc: Global, bytes: &[u8]) -> Result<Option<Table>, ReadError>
+    ensures ok { IfOk result (λ t. option_map table_view t ≡ document_of bytes.now) }
+    ensures err { IfErr result (λ e. e ≡ ReadError.OutOfMemory) }
+{
+    match std::str::from_utf8(bytes) {
+        Ok(text) => match toml::table_from_str(alloc, text) {
+            Ok(table) => Ok(Some(table)),
+            Err(error) => {
+                if error.is_memory() {
+                    Err(ReadError::OutOfMemory)
+                } else {
+                    Ok(None)
+                }
+            }
+        },
+        Err(_) => Ok(None),
+    }
+}
+
+/// What the bytes of a plan say, or their first fault.
+#[tactic(auto, unfolding(crate::specs::PlanText::sketch_of))]
+pub(crate) fn read_draft(alloc: Global, bytes: &[u8]) -> Result<Draft, ReadError>
+    ensures { Gives sketch result (sketch_of bytes.now) }
+{
+    if MOST_BYTES < bytes.len() {
+        return Err(wrong(PlanCode::Limit, At::Text));
+    }
+    let table = table_of(alloc, bytes)?;
+    let Some(table) = table else {
+        return Err(wrong(PlanCode::Syntax, At::Text));
+    };
+    draft_of(alloc, &table)
+}
