@@ -14,3 +14,6 @@ mod reading;
 pub use error::{At, PlanCode, PlanError};
 pub use parts::{Interface, Place, Seat};
 pub use plan::Plan;
+
+#[cfg(test)]
+mod tests;
