@@ -1,4 +1,5 @@
--- What is wrong with a datagram, and which fault is told.
+-- What is wrong with a datagram, and which fault is told. RFC 2453: the header, the zero bytes and the 25 entries are in
+-- section 3.6, the fields of an entry and its metrics in section 4, the family 0xFFFF of authentication in section 4.1.
 use Rattle.std.specs.Prelude.{◌≡◌, ◌≢◌, ◌⊎◌, ℕ, ◌+◌, ◌-◌, ◌*◌, ◌/◌, ◌%◌, ◌<◌, ◌≤◌, List, length, slice_index}
 use Rattle.rip_wire.specs.Prefix.{size_of, mask_of, IsMask}
 use Rattle.rip_wire.specs.Fields.{number_at, entry_place}

@@ -1,4 +1,4 @@
--- What a datagram says, read from left to right: its message, or its first fault.
+-- What a datagram says, read from left to right: its message, or its first fault (RFC 2453, sections 3.6 and 4).
 use Rattle.std.specs.Prelude.{ℕ, zero, suc, ◌+◌, ◌-◌, ◌/◌, ◌%◌, ◌==◌, nat_lt, if◌then◌else◌, ◌||◌, ◌&&◌, not, List, [], ◌∷◌, length, slice_index, Option, Some, None, Result, Ok, Err}
 use Rattle.std.specs.List.{find}
 use Rattle.rip_wire.specs.declared.entry.Entry.{Entry}

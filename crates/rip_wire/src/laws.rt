@@ -1,15 +1,20 @@
 //! Laws of the definitions alone: functions without a body, whose contracts hold of every list of
 //! entries, every text and every order.
 
-ghost use Rattle.std.specs.Prelude.{◌≡◌, ◌≤◌, ◌<◌, ◌^◌, ◌↔◌, ℕ, List, Some, Ok, true, length, IsAscii};
+ghost use Rattle.std.specs.Prelude.{◌≡◌, ◌≤◌, ◌<◌, ◌^◌, ◌↔◌, ℕ, List, [], ◌∷◌, Some, Ok, true, length, IsAscii};
 ghost use Rattle.std.specs.List.{AllByRecursion};
 ghost use Rattle.rip_wire.specs.declared.entry.Entry.{Entry};
 ghost use Rattle.rip_wire.specs.Address.{address_in, address_text};
-ghost use Rattle.rip_wire.specs.Grammar.{IsEntry, ResponseBytes};
+ghost use Rattle.rip_wire.specs.Grammar.{EntryBytes, IsEntry, ResponseBytes};
 ghost use Rattle.rip_wire.specs.Message.{message_in, response};
 ghost use Rattle.rip_wire.specs.Name.{IsName};
 ghost use Rattle.rip_wire.specs.Name as name;
 ghost use Rattle.rip_wire.specs.Prefix.{Block, IsBlock, prefix_in, prefix_text};
+
+/// The bytes of an entry are those of a response of this entry alone, after its header.
+pub fn entry_spellings()
+    ensures { (entry : Entry) (b : List ℕ) → EntryBytes entry b ↔ ResponseBytes (entry ∷ []) (2 ∷ 2 ∷ 0 ∷ 0 ∷ b) }
+{}
 
 /// Each list of 1 to 25 entries has one spelling.
 pub fn one_spelling()

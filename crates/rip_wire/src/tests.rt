@@ -210,3 +210,72 @@ fn reads_what_was_written(rt: HostRuntime) {
         assert_eq!(rt; datagram.entry(i), entries[i], "entry {i}");
     }
 }
+
+#[test]
+fn reads_requests(rt: HostRuntime) {
+    let mut bytes = [0xA5; 24];
+    bytes[..4].copy_from_slice(&[1, 2, 0, 0]);
+    let datagram = read(&bytes).expect(&rt, "a request");
+    assert!(rt; datagram.kind() == Kind::Request);
+    assert_eq!(rt; datagram.len(), 1);
+    assert!(rt; datagram.body() == &[0xA5; 20][..]);
+    let empty = read(&bytes[..4]).expect(&rt, "a request");
+    assert_eq!(rt; empty.len(), 0);
+    assert!(rt; empty.body().is_empty());
+}
+
+#[test]
+fn reads_a_response(rt: HostRuntime) {
+    let datagram = read(&ONE_ENTRY).expect(&rt, "a response");
+    assert!(rt; datagram.kind() == Kind::Response);
+    assert_eq!(rt; datagram.len(), 1);
+    assert!(rt; datagram.body() == &ONE_ENTRY[4..]);
+    let entry = datagram.entry(0);
+    assert_eq!(rt; entry.tag, 0x1234);
+    assert_eq!(rt; entry.prefix.network(), Address::new(0x0A03_0000));
+    assert_eq!(rt; entry.prefix.length(), 16);
+    assert_eq!(rt; entry.next_hop.get(), 0x0A00_0007);
+    assert_eq!(rt; entry.metric.get(), 5);
+}
+
+#[test]
+fn refuses_datagrams(rt: HostRuntime) {
+    let rows = [
+        (0, 3, WireCode::Command, 0),
+        (1, 1, WireCode::Version, 1),
+        (2, 1, WireCode::Zero, 2),
+        (3, 1, WireCode::Zero, 2),
+        (5, 3, WireCode::Family, 4),
+        (13, 0, WireCode::HostBits, 8),
+        (13, 1, WireCode::Mask, 12),
+        (23, 0, WireCode::Metric, 20),
+    ];
+    for (at, byte, code, place) in rows {
+        let mut bytes = ONE_ENTRY;
+        bytes[at] = byte;
+        let outcome = read(&bytes).map(|_| ());
+        assert_eq!(rt; outcome, Err(WireError { code, at: place }), "{at}");
+    }
+    for length in 0..24 {
+        let (code, place) = match length {
+            0..=3 => (WireCode::Short, length),
+            4 => (WireCode::Empty, 4),
+            _ => (WireCode::Ragged, length),
+        };
+        let outcome = read(&ONE_ENTRY[..length]).map(|_| ());
+        assert_eq!(rt; outcome, Err(WireError { code, at: place }), "{length}");
+    }
+}
+
+#[test]
+fn shows_itself(rt: HostRuntime) -> Result<(), Fail> {
+    for text in ["0.0.0.0/0", "10.3.0.0/16", "255.255.255.255/32"] {
+        let prefix = make_prefix(&rt, text);
+        let shown = format!(in rt.alloc(); "{prefix}")?;
+        assert_eq!(rt; shown.as_str(), text);
+    }
+    let address = Address::new(0x0A00_01FF);
+    let shown = format!(in rt.alloc(); "{address}")?;
+    assert_eq!(rt; shown.as_str(), "10.0.1.255");
+    Ok(())
+}

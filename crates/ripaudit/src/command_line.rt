@@ -8,9 +8,6 @@ use rip_log::IntoWrite;
 use std::alloc::Global;
 use std::{env, io};
 
-/// The status of words that are refused.
-const REFUSED: u8 = 3;
-
 /// The commands, with their words and their help.
 fn commands<'a>(alloc: Global) -> Result<Command<'a>, Error> {
     let hex = Arg::new(alloc, "HEX").required(true).help(
@@ -28,7 +25,7 @@ fn commands<'a>(alloc: Global) -> Result<Command<'a>, Error> {
 }
 
 /// The outcome of a run, as an exit status. A fault is told on standard error.
-fn finish(rt: &impl Eprint, outcome: Result<Status, RunError>) -> u8 {
+fn end_run(rt: &impl Eprint, outcome: Result<Status, RunError>) -> u8 {
     if let Err(error) = &outcome {
         // A standard error that fails changes no status.
         let _ = rt.eprintln(fault_line(error));
@@ -38,29 +35,30 @@ fn finish(rt: &impl Eprint, outcome: Result<Status, RunError>) -> u8 {
 
 /// The end of a run whose words were not taken: help or the version on standard output, else a
 /// text on standard error.
-fn finish_words(rt: &(impl Print + Eprint), error: &Error) -> u8 {
+fn end_words(rt: &(impl Print + Eprint), error: &Error) -> u8 {
     if error.kind() == ErrorKind::OutOfMemory {
-        return finish(rt, Err(RunError::Memory));
+        return end_run(rt, Err(RunError::Memory));
     }
     let printed = error.print(rt);
     if error.use_stderr() {
-        return REFUSED;
+        return exit_code(&Ok(Status::Refused));
     }
     match printed {
-        Ok(()) => 0,
-        Err(_) => finish(rt, Err(RunError::Write)),
+        Ok(()) => exit_code(&Ok(Status::Done)),
+        Err(_) => end_run(rt, Err(RunError::Write)),
     }
 }
 
 /// Runs the command that was found.
 fn run_command<R: Print + Eprint>(rt: &R, matches: &ArgMatches<'_>) -> u8 {
     let mut out = IntoWrite::new(io::writer(rt));
-    match matches.subcommand() {
-        Some(("decode", words)) => {
-            let hex = words.get_str("HEX").unwrap_or("");
-            finish(rt, run_decode(hex, &mut out))
-        }
-        _ => REFUSED,
+    let decoded = match matches.subcommand() {
+        Some(("decode", words)) => words.get_str("HEX"),
+        _ => None,
+    };
+    match decoded {
+        Some(hex) => end_run(rt, run_decode(hex, &mut out)),
+        None => exit_code(&Ok(Status::Refused)),
     }
 }
 
@@ -72,26 +70,26 @@ pub(crate) fn run(rt: &HostRuntime) -> u8 {
         .map_err(io::Error::from))
     {
         Ok(words) => words,
-        Err(error) => return finish_arguments(rt, &error),
+        Err(error) => return end_arguments(rt, &error),
     };
     let command = match commands(alloc) {
         Ok(command) => command,
-        Err(error) => return finish_words(rt, &error),
+        Err(error) => return end_words(rt, &error),
     };
     match command.try_get_matches_from(words.as_slice()) {
         Ok(matches) => run_command(rt, &matches),
-        Err(error) => finish_words(rt, &error),
+        Err(error) => end_words(rt, &error),
     }
 }
 
 /// The end of a run whose arguments could not be had.
-fn finish_arguments(rt: &impl Eprint, error: &io::Error) -> u8 {
+fn end_arguments(rt: &impl Eprint, error: &io::Error) -> u8 {
     match error.kind() {
-        io::ErrorKind::OutOfMemory => finish(rt, Err(RunError::Memory)),
+        io::ErrorKind::OutOfMemory => end_run(rt, Err(RunError::Memory)),
         io::ErrorKind::InvalidData => {
             let _ = rt.eprintln("error: an argument is no text");
-            REFUSED
+            exit_code(&Ok(Status::Refused))
         }
-        _ => finish(rt, Err(RunError::Read)),
+        _ => end_run(rt, Err(RunError::Read)),
     }
 }

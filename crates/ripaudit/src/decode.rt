@@ -125,7 +125,7 @@ fn write_entries<K: Sink>(
 }
 
 /// Writes a response: its line, and the lines of its entries.
-fn write_response<K: Sink>(datagram: &Datagram<'_>, out: &mut K) -> Result<(), Failed>
+fn write_response_text<K: Sink>(datagram: &Datagram<'_>, out: &mut K) -> Result<(), Failed>
     requires { kind_of (message_of datagram.now) ≡ Kind.Response }
     ensures ok { OnOk result (Sent (K.taken out.old) (K.taken out.new) (shown_response (entries_of (message_of datagram.now))).text []) }
     ensures err { OnErr result (Began (K.taken out.old) (K.taken out.new) (shown_response (entries_of (message_of datagram.now))).text) }
@@ -147,7 +147,7 @@ fn write_datagram<K: Sink>(datagram: &Datagram<'_>, out: &mut K) -> Result<(), F
 {
     match datagram.kind() {
         Kind::Request => write_all(out, kind_text("request ", datagram.len()).as_bytes()),
-        Kind::Response => write_response(datagram, out),
+        Kind::Response => write_response_text(datagram, out),
     }
 }
 

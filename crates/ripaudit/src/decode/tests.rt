@@ -1,6 +1,7 @@
 use crate::decode::run_decode;
 use crate::status::{RunError, Status};
 use rip_log::IntoWrite;
+use rip_wire::{Address, Entry, Metric, Prefix, write_response};
 use std::alloc::{AllocError, Global};
 use std::fmt::Write as _;
 use std::io;
@@ -138,28 +139,51 @@ fn datagrams(rt: HostRuntime) {
     }
 }
 
-/// The response of 10.100.0.0/16 to 10.124.0.0/16, all with metric 1, in which an entry has one
-/// group of four bytes changed, and then further entries.
-fn response(
+/// The digits of the bytes.
+fn hex_text(alloc: Global, bytes: &[u8]) -> Result<String, AllocError> {
+    let mut word = String::new(alloc);
+    for byte in bytes {
+        write!(word, "{byte:02x}")?;
+    }
+    Ok(word)
+}
+
+/// The response of 10.100.0.0/16 to 10.124.0.0/16, all with metric 1.
+fn response(rt: &impl Abort) -> [u8; 504] {
+    let metric = Metric::new(1).expect(rt, "a metric");
+    let nowhere = Address::new(0);
+    let prefix = Prefix::new(nowhere, 0).expect(rt, "a prefix");
+    let mut entries = [Entry {
+        tag: 0,
+        prefix,
+        next_hop: nowhere,
+        metric,
+    }; 25];
+    for i in 0..25u32 {
+        let network = Address::new(0x0A64_0000 + 0x1_0000 * i);
+        let place = usize::try_from(i).expect(rt, "a small number");
+        entries[place].prefix = Prefix::new(network, 16).expect(rt, "a prefix");
+    }
+    let mut room = [0; 504];
+    let length = write_response(&entries, &mut room);
+    assert_eq!(rt; length, 504);
+    room
+}
+
+/// The digits of a response in which some groups of four bytes are changed, each named by its
+/// entry and its place there, and of further entries after it.
+fn changed(
+    rt: &impl Abort,
     alloc: Global,
-    entry: usize,
-    group: usize,
-    changed: &str,
+    changes: &[(usize, usize, [u8; 4])],
     more: usize,
 ) -> Result<String, AllocError> {
-    let mut word = String::from_str(alloc, "02020000")?;
-    for i in 0..25usize {
-        for k in 0..5usize {
-            if i == entry && k == group {
-                word.push_str(changed)?;
-            } else if k == 1 {
-                let second = 100 + i;
-                write!(word, "0a{second:02x}0000")?;
-            } else {
-                word.push_str(["00020000", "", "ffff0000", "00000000", "00000001"][k])?;
-            }
-        }
+    let mut bytes = response(rt);
+    for (entry, group, new) in changes {
+        let at = 4 + 20 * *entry + 4 * *group;
+        bytes[at..at + 4].copy_from_slice(new);
     }
+    let mut word = hex_text(alloc, &bytes)?;
     for _ in 0..more {
         word.push_str("000200000a030000ffff00000000000000000001")?;
     }
@@ -170,22 +194,52 @@ fn response(
 fn each_code_at_each_entry(rt: HostRuntime) -> Result<(), Fail> {
     let alloc = rt.alloc();
     let rows = [
-        (0, "ffff0000", "8 Authentication", 4),
-        (0, "00030000", "9 Family", 4),
-        (2, "ff00ff00", "10 Mask", 12),
-        (2, "00000000", "11 NoMask", 12),
-        (1, "0a640001", "12 HostBits", 8),
-        (4, "00000000", "13 Metric", 20),
-        (4, "00000011", "13 Metric", 20),
-        (4, "ffffffff", "13 Metric", 20),
+        (0, [255, 255, 0, 0], "8 Authentication", 4),
+        (0, [0, 3, 0, 0], "9 Family", 4),
+        (2, [255, 0, 255, 0], "10 Mask", 12),
+        (2, [0, 0, 0, 0], "11 NoMask", 12),
+        (1, [10, 100, 0, 1], "12 HostBits", 8),
+        (4, [0, 0, 0, 0], "13 Metric", 20),
+        (4, [0, 0, 0, 17], "13 Metric", 20),
+        (4, [255, 255, 255, 255], "13 Metric", 20),
     ];
     for i in 0..25usize {
-        for (group, changed, code, offset) in rows {
-            let word = response(alloc, i, group, changed, 0)?;
+        for (group, new, code, offset) in rows {
+            let word = changed(&rt, rt.alloc(), &[(i, group, new)], 0)?;
             let at: usize = offset + 20 * i;
             let text = format!(in alloc; "refused: wire {code} at {at}\n")?;
             expect_text(&rt, alloc, word.as_str(), text.as_str(), Status::Refused);
         }
+    }
+    Ok(())
+}
+
+#[test]
+fn the_first_of_two_faults(rt: HostRuntime) -> Result<(), Fail> {
+    let host_bits = (3, 1, [10, 103, 0, 1]);
+    let metric = (7, 4, [0, 0, 0, 0]);
+    let rows: [(&[(usize, usize, [u8; 4])], usize, &str); 6] = [
+        (&[metric, host_bits], 0, "12 HostBits at 68"),
+        (&[host_bits, (3, 4, [0, 0, 0, 17])], 0, "12 HostBits at 68"),
+        (&[host_bits, (3, 2, [255, 0, 255, 0])], 0, "10 Mask at 72"),
+        (&[host_bits, (3, 0, [0, 3, 0, 0])], 0, "9 Family at 64"),
+        (
+            &[(1, 0, [255, 255, 0, 2]), (0, 4, [0; 4])],
+            0,
+            "13 Metric at 20",
+        ),
+        (&[metric], 1, "7 TooMany at 504"),
+    ];
+    for (changes, more, what) in rows {
+        let word = changed(&rt, rt.alloc(), changes, more)?;
+        let text = format!(in rt.alloc(); "refused: wire {what}\n")?;
+        expect_text(
+            &rt,
+            rt.alloc(),
+            word.as_str(),
+            text.as_str(),
+            Status::Refused,
+        );
     }
     Ok(())
 }
@@ -197,14 +251,14 @@ fn many_entries(rt: HostRuntime) -> Result<(), Fail> {
     for second in 100..125u8 {
         write!(text, "10.{second}.0.0/16 tag 0 next 0.0.0.0 metric 1\n")?;
     }
-    let whole = response(alloc, 25, 0, "", 0)?;
+    let whole = changed(&rt, rt.alloc(), &[], 0)?;
     expect_text(&rt, alloc, whole.as_str(), text.as_str(), Status::Done);
     let too_many = "refused: wire 7 TooMany at 504\n";
-    let longer = response(alloc, 25, 0, "", 1)?;
+    let longer = changed(&rt, rt.alloc(), &[], 1)?;
     expect_text(&rt, alloc, longer.as_str(), too_many, Status::Refused);
-    let longest = response(alloc, 25, 0, "", 100)?;
+    let longest = changed(&rt, rt.alloc(), &[], 100)?;
     expect_text(&rt, alloc, longest.as_str(), too_many, Status::Refused);
-    let mut bad_digit = response(alloc, 25, 0, "", 100)?;
+    let mut bad_digit = changed(&rt, rt.alloc(), &[], 100)?;
     bad_digit.push_str("0x")?;
     expect_text(
         &rt,

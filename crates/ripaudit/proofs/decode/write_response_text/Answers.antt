@@ -5,7 +5,7 @@ use Rattle.ripaudit.specs.Written.{line}
 use Rattle.ripaudit.specs.Held.{held}
 use Rattle.ripaudit.specs.Sent.{Sent, Began}
 use Rattle.ripaudit.proofs.SentLemmas.{onerr, onerr-map, onok-map, Sent-front, Began-front, Sent-then, Sent-all, Began-all}
-use Rattle.ripaudit.proofs.decode.write_response.Goals as goal
+use Rattle.ripaudit.proofs.decode.write_response_text.Goals as goal
 
 -- the first line, by what the page was given
 first : (n m : ℕ) (page text : List ℕ) → page ≡ [] → text ≡ line (codes "response " ++ decimal n) → n ≡ m → page ++ text ≡ line (codes "response " ++ decimal m)
