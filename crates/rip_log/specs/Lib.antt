@@ -1,1 +1,4 @@
+pub mod Marks
+pub mod MarkLemmas
+pub mod Readers
 pub mod Writers

@@ -1,6 +1,6 @@
 -- What an `IntoWrite` stands for.
 use Rattle.std.specs.Prelude.{Bool}
-use Rattle.rip_log.specs.declared.device.IntoWrite.{IntoWrite}
+use Rattle.rip_log.specs.declared.sink.IntoWrite.{IntoWrite}
 
 -- the writer beneath
 abbrev pub writer_of : {W : Type 0} → IntoWrite W → W

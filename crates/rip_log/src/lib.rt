@@ -1,6 +1,10 @@
-//! Logs of captured datagrams. So far this crate has the devices that text goes to.
+//! Logs of captured datagrams: devices, and the reading of a log's lines.
 #![tactic(auto)]
 
 mod device;
+mod sink;
+mod source;
 
-pub use device::{Failed, IntoWrite, Sink};
+pub use device::Failed;
+pub use sink::{IntoWrite, Sink};
+pub use source::{FromRead, Source};
