@@ -1,4 +1,15 @@
-pub mod Marks
+pub mod Codes
+pub mod Cuts
+pub mod Ends
+pub mod Fields
+pub mod Held
+pub mod Leaves
+pub mod Lines
+pub mod Logs
 pub mod MarkLemmas
+pub mod Marks
+pub mod Parts
+pub mod Places
+pub mod Reader
 pub mod Readers
 pub mod Writers

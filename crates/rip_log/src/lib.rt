@@ -2,9 +2,17 @@
 #![tactic(auto)]
 
 mod device;
+mod digits;
+mod error;
+mod fields;
+mod line;
+mod reader;
 mod sink;
 mod source;
+mod window;
 
 pub use device::Failed;
+pub use error::{LogCode, LogError};
+pub use reader::{LogReader, Record};
 pub use sink::{IntoWrite, Sink};
 pub use source::{FromRead, Source};

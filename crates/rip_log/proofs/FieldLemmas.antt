@@ -1,0 +1,60 @@
+-- A run of bytes that are no blanks is a field.
+use Rattle.std.proofs.Common.{◌≡◌, ◌+◌, ◌-◌, ◌≤◌, ◌<◌, ℕ, zero, suc, Bool, true, false, List, [], ◌∷◌, length, take, drop, get_or, refl, sym, ap, ◌∙◌, arith, slice_range, ◌==◌, eq-eqb}
+use Rattle.std.proofs.lemmas.List.{get_or-drop, drop-drop, length-drop, drop_more}
+use Rattle.rip_log.specs.Fields.{fields_of, is_blank, ends_field, onto, is_comment}
+
+fields_of-blank : (b : ℕ) (bytes : List ℕ) → is_blank b ≡ true → fields_of (b ∷ bytes) ≡ fields_of bytes
+fields_of-blank b bytes h = rw h
+
+fields_of-last : (b : ℕ) (bytes : List ℕ) → is_blank b ≡ false → ends_field bytes ≡ true → fields_of (b ∷ bytes) ≡ (b ∷ []) ∷ fields_of bytes
+fields_of-last b bytes h e = rw (h, e)
+
+fields_of-more : (b : ℕ) (bytes : List ℕ) → is_blank b ≡ false → ends_field bytes ≡ false → fields_of (b ∷ bytes) ≡ onto b (fields_of bytes)
+fields_of-more b bytes h e = rw (h, e)
+
+-- the first n bytes are a field, where no blank is among them and one, or the end, follows
+pub fields_of-run : (xs : List ℕ) (n : ℕ) → n < length xs → ((k : ℕ) → k < suc n → is_blank (get_or xs k 0) ≡ false) → ends_field (drop (suc n) xs) ≡ true
+    → fields_of xs ≡ take (suc n) xs ∷ fields_of (drop (suc n) xs)
+fields_of-run [] n inside run end = absurd (omega arith)
+fields_of-run (b ∷ xs) zero inside run end = fields_of-last b xs (run 0 (omega arith)) end
+fields_of-run (b ∷ []) (suc n) inside run end = absurd (omega arith)
+fields_of-run (b ∷ x ∷ xs) (suc n) inside run end =
+    fields_of-more b (x ∷ xs) (run 0 (omega arith)) (run 1 (omega arith))
+    ∙ ap (onto b) (fields_of-run (x ∷ xs) n (omega arith) (λ k h. run (suc k) (omega arith)) end)
+
+-- the end, or a blank, ends a field
+pub ends_field-at : (xs : List ℕ) (n : ℕ) → (n < length xs → is_blank (get_or xs n 0) ≡ true) → ends_field (drop n xs) ≡ true
+ends_field-at [] zero h = refl
+ends_field-at [] (suc n) h = refl
+ends_field-at (x ∷ xs) zero h = h (omega arith)
+ends_field-at (x ∷ xs) (suc n) h = ends_field-at xs n (λ i. h (omega arith))
+
+-- a run in the middle of a line
+pub fields_of-at : (line : List ℕ) (from at : ℕ) → from < at → at ≤ length line → ((k : ℕ) → from ≤ k → k < at → is_blank (get_or line k 0) ≡ false)
+    → (at < length line → is_blank (get_or line at 0) ≡ true) → fields_of (drop from line) ≡ slice_range line from at ∷ fields_of (drop at line)
+fields_of-at line from at some within run stops =
+    let n = at - from - 1 in
+    let count : suc n ≡ at - from = omega arith in
+    let rest : drop (suc n) (drop from line) ≡ drop at line = drop-drop (suc n) from line ∙ ap (λ k. drop k line) (omega arith) in
+    let here : (k : ℕ) → k < suc n → is_blank (get_or (drop from line) k 0) ≡ false = λ k h. rw (get_or-drop from line k 0) (run (from + k) (omega arith) (omega arith)) in
+    fields_of-run (drop from line) n (omega (arith, length-drop from line)) here (rw rest (ends_field-at line at stops))
+    ∙ ap (λ k. take k (drop from line) ∷ fields_of (drop (suc n) (drop from line))) count
+    ∙ ap (λ l. slice_range line from at ∷ fields_of l) rest
+
+-- a part of a line begins with its first byte
+pub is_comment-range : (line : List ℕ) (fields rest : List (List ℕ)) (start end : ℕ) → fields ≡ slice_range line start end ∷ rest → start < end → end ≤ length line → is_comment fields ≡ (get_or line start 0 == 35)
+is_comment-range line fields rest start end split some within =
+    let n = end - start - 1 in
+    let count : end - start ≡ suc n = omega arith in
+    let front : slice_range line start end ≡ get_or line start 0 ∷ take n (drop (start + 1) line) =
+        ap (λ k. take k (drop start line)) count ∙ ap (take (suc n)) (drop_more line start 0 (omega arith)) in
+    ap is_comment (split ∙ ap (λ l. l ∷ rest) front)
+
+no-eqb : (a b : ℕ) → (a ≡ b → ⊥) → (a == b) ≡ false
+no-eqb a b h = grind arith
+
+pub is_comment-no : (line : List ℕ) (rest : List (List ℕ)) (start end : ℕ) → fields_of line ≡ slice_range line start end ∷ rest → start < end → end ≤ length line → (get_or line start 0 ≡ 35 → ⊥) → is_comment (fields_of line) ≡ false
+is_comment-no line rest start end split some within here = is_comment-range line _ rest start end split some within ∙ no-eqb _ _ here
+
+pub is_comment-yes : (line : List ℕ) (rest : List (List ℕ)) (start end : ℕ) → fields_of line ≡ slice_range line start end ∷ rest → start < end → end ≤ length line → get_or line start 0 ≡ 35 → is_comment (fields_of line) ≡ true
+is_comment-yes line rest start end split some within here = is_comment-range line _ rest start end split some within ∙ eq-eqb _ _ here

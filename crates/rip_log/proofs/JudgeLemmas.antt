@@ -1,0 +1,47 @@
+-- A line and the line without its carriage return.
+use Rattle.std.proofs.Common.{◌≡◌, ◌+◌, ◌-◌, ◌≤◌, ℕ, List, length, take, drop, slice_range, Option, Some, None, Result, Ok, Err, refl, sym, ap, ◌∙◌, arith, Bool, true, false, cond}
+use Rattle.std.proofs.lemmas.List.{take-take, drop-take, length-take, take_all}
+use Rattle.std.specs.Io.BufRead.{strip_last, ends_with_byte}
+use Rattle.rip_wire.specs.Name.{is_name}
+use Rattle.rip_log.specs.Fields.{fields_of}
+use Rattle.rip_log.specs.Lines.{Capture, judge, judge_short, unless_skipped}
+use Rattle.rip_log.specs.Parts.{Tells, AreParts, capture_of_parts}
+use Rattle.rip_log.specs.declared.line.LineCode.{LineCode}
+use Rattle.rip_log.specs.declared.line.Parts.{Parts}
+
+judge-short : (line : List ℕ) → length line ≤ 2048 → judge line ≡ judge_short line
+judge-short line h = grind arith
+
+Front : List ℕ → List ℕ → Type 0
+Front line front = (m : ℕ) × (m ≤ length line) × (front ≡ take m line)
+
+choose : (b : Bool) (line : List ℕ) → Front line (cond b (take (length line - 1) line) line)
+unfolding Front
+choose true line = (length line - 1, omega arith, refl)
+choose false line = (length line, omega arith, sym (take_all (length line) line (omega arith)))
+
+first-part : (line : List ℕ) (m from to : ℕ) → to ≤ m → from ≤ to → slice_range (take m line) from to ≡ slice_range line from to
+first-part line m from to h o =
+    let split : m ≡ from + (m - from) = omega arith in
+    ap (λ k. take (to - from) (drop from (take k line))) split
+    ∙ ap (take (to - from)) (drop-take from (m - from) line)
+    ∙ take-take (to - from) (m - from) (drop from line) (omega arith)
+
+-- what the front of a line says of its parts, the line does
+parts-front : (line front room : List ℕ) (m : ℕ) (p : Parts) → m ≤ length line → front ≡ take m line → AreParts front room p → (capture_of_parts front room p ≡ capture_of_parts line room p) × AreParts line room p
+parts-front line front room m p fits is parts =
+    let short : p.to ≤ m = omega (arith, parts.within, ap length is, length-take m line) in
+    let same : slice_range front p.from p.to ≡ slice_range line p.from p.to = ap (λ l. slice_range l p.from p.to) is ∙ first-part line m p.from p.to short parts.ordered in (
+      ap (λ l. record { link = l; sender = p.sender; datagram = take p.count room }) same,
+      record { ordered = parts.ordered; within = omega arith; name = ap is_name (sym same) ∙ parts.name; count = parts.count; valid = parts.valid },
+    )
+
+pub Tells-line : (line room : List ℕ) (r : Result (Option Parts) LineCode) → length line ≤ 2048 → Tells (unless_skipped (fields_of (strip_last 13 line))) (strip_last 13 line) room r → Tells (judge line) line room r
+unfolding Front
+Tells-line line room (Ok None) h said = judge-short line h ∙ said
+Tells-line line room (Ok (Some p)) h said =
+    let front = choose (ends_with_byte 13 line) line in
+    let moved = parts-front line (strip_last 13 line) room front.0 p front.1 front.2 said.1 in
+    let said_of : Capture → Result (Option Capture) LineCode = λ e. Ok (Some e) in
+    (judge-short line h ∙ said.0 ∙ ap said_of moved.0, moved.1)
+Tells-line line room (Err code) h said = judge-short line h ∙ said

@@ -1,0 +1,122 @@
+-- What taking a line does to the log to come.
+use Rattle.std.proofs.Common.{◌≡◌, ◌+◌, ◌≤◌, ◌<◌, ℕ, List, ◌∷◌, length, Option, Some, None, Result, Ok, Err, refl, sym, ap, ◌∙◌, arith, subst, Bool, true, false}
+use Rattle.std.proofs.Math.Dec.{leb}
+use Rattle.std.proofs.lemmas.Bool.{le-leb}
+use Rattle.std.specs.Io.KnownBytes.{Keeps}
+use Rattle.rip_log.specs.Codes.{log_code, is_read}
+use Rattle.rip_log.specs.Cuts.{FirstLine, LongFirst, HasLine}
+use Rattle.rip_log.specs.Lines.{Capture, lines_of, judge}
+use Rattle.rip_log.specs.Logs.{Log, log_of, log_at, with_line, ended_log, faulty_log, onto_log, Gives, SameLog, Whether}
+use Rattle.rip_log.specs.declared.line.LineCode.{LineCode}
+use Rattle.rip_log.specs.declared.line.LineCode.TheVariants as codes
+use Rattle.rip_log.specs.declared.error.LogCode.{LogCode}
+use Rattle.rip_log.specs.declared.error.LogCode.TheVariants.{TooManyLines, LongLine, Read}
+use Rattle.rip_log.specs.declared.error.LogError.{LogError}
+
+pub SameLog-here : (a : Option Log) → SameLog a a
+SameLog-here None = tt
+SameLog-here (Some log) = refl
+
+pub SameLog-trans : (a b c : Option Log) → SameLog a b → SameLog b c → SameLog a c
+SameLog-trans None b c first second = tt
+SameLog-trans (Some log) None c first second = cc first
+SameLog-trans (Some log) (Some other) c first second = second ∙ first
+
+pub SameLog-kept : (t mid : Option (List ℕ)) (n : ℕ) → Keeps t mid → SameLog (log_at n t) (log_at n mid)
+SameLog-kept None mid n keeps = tt
+SameLog-kept (Some t) None n keeps = absurd keeps
+SameLog-kept (Some t) (Some m) n keeps = ap (λ (l : List ℕ). Some (log_of n (lines_of l))) keeps
+
+lt-leb_false : (a b : ℕ) → b < a → leb a b ≡ false
+lt-leb_false a b h = grind arith
+
+-- the first of several lines
+first-line : (n : ℕ) (line : List ℕ) (rest : List (List ℕ)) (said : Result (Option Capture) LineCode) → n < 1000000 → judge line ≡ said
+    → log_of n (line ∷ rest) ≡ with_line (n + 1) said (log_of (n + 1) rest)
+first-line n line rest said few e = rw (lt-leb_false 1000000 n few) (ap (λ s. with_line (n + 1) s (log_of (n + 1) rest)) e)
+
+too-many : (n : ℕ) (line : List ℕ) (rest : List (List ℕ)) → 1000000 ≤ n → log_of n (line ∷ rest) ≡ faulty_log (record { line = n + 1; code = TooManyLines })
+too-many n line rest many = rw (le-leb 1000000 n many)
+
+judge-long : (line : List ℕ) → 2048 < length line → judge line ≡ Err codes.LongLine
+judge-long line long = grind arith
+
+is_read-log_code : (c : LineCode) → is_read (log_code c) ≡ false
+is_read-log_code codes.LongLine = refl
+is_read-log_code codes.Fields = refl
+is_read-log_code codes.LinkName = refl
+is_read-log_code codes.Sender = refl
+is_read-log_code codes.Hex = refl
+is_read-log_code codes.LongDatagram = refl
+is_read-log_code (codes.Wire e) = refl
+
+whether-no : (P Q : Type 0) (b : Bool) → b ≡ false → Q → Whether b P Q
+whether-no P Q true e q = cc e
+whether-no P Q false e q = q
+
+whether-yes : (P Q : Type 0) (b : Bool) → b ≡ true → P → Whether b P Q
+whether-yes P Q true e p = p
+whether-yes P Q false e p = cc e
+
+faulty-at : (e : LogError) (n : ℕ) (c : LogCode) → e.line ≡ n → e.code ≡ c → faulty_log (record { line = n; code = c }) ≡ faulty_log e
+faulty-at e n c at what = ap (λ (k : ℕ). faulty_log (record { line = k; code = c })) (sym at) ∙ ap (λ (d : LogCode). faulty_log (record { line = e.line; code = d })) (sym what)
+
+-- a line that says nothing
+pub SameLog-skip : (t new : Option (List ℕ)) (n after : ℕ) (line : List ℕ) → n < 1000000 → judge line ≡ Ok None → FirstLine t new line → after ≡ n + 1 → SameLog (log_at n t) (log_at after new)
+SameLog-skip None new n after line few e cut count = tt
+SameLog-skip (Some t) None n after line few e cut count = absurd cut
+SameLog-skip (Some t) (Some r) n after line few e cut count =
+    ap Some (ap (λ (k : ℕ). log_of k (lines_of r)) count ∙ sym (ap (log_of n) cut ∙ first-line n line (lines_of r) (Ok None) few e))
+
+module _ {X : Type 0} (view : X → Capture) (number : X → ℕ) where
+  -- the same log gives the same
+  pub Gives-on : (a b c : Option Log) (r : Result (Option X) LogError) → SameLog a b → Gives view number b c r → Gives view number a c r
+  Gives-on None b c r same gives = tt
+  Gives-on (Some log) b c r same gives = subst (λ (x : Option Log). Gives view number x c r) same gives
+
+  -- the source failed
+  pub Gives-unread : (a b : Option Log) (e : LogError) → e.code ≡ Read → SameLog a b → Gives view number a b (Err e)
+  Gives-unread None b e what same = tt
+  Gives-unread (Some log) b e what same = whether-yes _ _ (is_read e.code) (ap is_read what) same
+
+  -- no line is left
+  pub Gives-end : (t mid : Option (List ℕ)) (n : ℕ) → Keeps t mid → HasLine mid false → Gives view number (log_at n t) (log_at n mid) (Ok None)
+  Gives-end None mid n keeps none = tt
+  Gives-end (Some t) None n keeps none = absurd keeps
+  Gives-end (Some t) (Some m) n keeps none = (ap (λ (l : List ℕ). log_of n (lines_of l)) (sym keeps ∙ none), ap (λ (l : List ℕ). Some (log_of n (lines_of l))) none)
+
+  -- a line is a record
+  pub Gives-found : (t new : Option (List ℕ)) (n after : ℕ) (line : List ℕ) (x : X) → n < 1000000 → judge line ≡ Ok (Some (view x)) → FirstLine t new line
+      → after ≡ n + 1 → number x ≡ after → Gives view number (log_at n t) (log_at after new) (Ok (Some x))
+  Gives-found None new n after line x few e cut count num = tt
+  Gives-found (Some t) None n after line x few e cut count num = absurd cut
+  Gives-found (Some t) (Some r) n after line x few e cut count num =
+      let said = ap (log_of n) cut ∙ first-line n line (lines_of r) (Ok (Some (view x))) few e in
+      let moved : onto_log (record { line = n + 1; capture = view x }) (log_of (n + 1) (lines_of r)) ≡ onto_log (record { line = number x; capture = view x }) (log_of after (lines_of r)) =
+          ap (λ (k : ℕ). onto_log (record { line = k; capture = view x }) (log_of k (lines_of r))) (sym count)
+          ∙ ap (λ (k : ℕ). onto_log (record { line = k; capture = view x }) (log_of after (lines_of r))) (sym num) in
+      (log_of after (lines_of r), refl, said ∙ moved)
+
+  bad : (log : Log) (left : Option Log) (n : ℕ) (c : LogCode) (e : LogError) → log ≡ faulty_log (record { line = n; code = c }) → is_read c ≡ false → e.line ≡ n → e.code ≡ c → Gives view number (Some log) left (Err e)
+  bad log left n c e said fine at what = whether-no _ _ (is_read e.code) (ap is_read what ∙ fine) (said ∙ faulty-at e n c at what)
+
+  -- a line is bad
+  pub Gives-bad : (t new : Option (List ℕ)) (left : Option Log) (n : ℕ) (line : List ℕ) (code : LineCode) (e : LogError) → n < 1000000 → judge line ≡ Err code → FirstLine t new line
+      → e.line ≡ n + 1 → e.code ≡ log_code code → Gives view number (log_at n t) left (Err e)
+  Gives-bad None new left n line code e few j cut at what = tt
+  Gives-bad (Some t) None left n line code e few j cut at what = absurd cut
+  Gives-bad (Some t) (Some r) left n line code e few j cut at what =
+      bad (log_of n (lines_of t)) left (n + 1) (log_code code) e (ap (log_of n) cut ∙ first-line n line (lines_of r) (Err code) few j) (is_read-log_code code) at what
+
+  -- a line is too long
+  pub Gives-long : (t : Option (List ℕ)) (left : Option Log) (n : ℕ) (e : LogError) → n < 1000000 → LongFirst t → e.line ≡ n + 1 → e.code ≡ LongLine → Gives view number (log_at n t) left (Err e)
+  Gives-long None left n e few long at what = tt
+  Gives-long (Some t) left n e few long at what =
+      bad (log_of n (lines_of t)) left (n + 1) LongLine e (ap (log_of n) long.3 ∙ first-line n long.0 long.1 (Err codes.LongLine) few (judge-long long.0 long.2)) refl at what
+
+  -- there is a line too many
+  pub Gives-many : (t mid : Option (List ℕ)) (left : Option Log) (n : ℕ) (e : LogError) → 1000000 ≤ n → Keeps t mid → HasLine mid true → e.line ≡ n + 1 → e.code ≡ TooManyLines → Gives view number (log_at n t) left (Err e)
+  Gives-many None mid left n e many keeps some at what = tt
+  Gives-many (Some t) None left n e many keeps some at what = absurd keeps
+  Gives-many (Some t) (Some m) left n e many keeps some at what =
+      bad (log_of n (lines_of t)) left (n + 1) TooManyLines e (ap (λ (l : List ℕ). log_of n (lines_of l)) (sym keeps) ∙ ap (log_of n) some.2 ∙ too-many n some.0 some.1 many) refl at what

@@ -1,0 +1,16 @@
+use Rattle.std.proofs.Common.{◌≡◌, ◌-◌, ◌≤◌, false}
+use Rattle.rip_log.specs.Leaves.{log_to_come, lines_behind, has_stopped, source_of}
+use Rattle.rip_log.specs.Logs.{SameLog}
+use Rattle.rip_log.proofs.reader.Reading.advance.Given as goal
+
+abbrev pub invariant-lines : goal.invariant-lines
+invariant-lines g l = record {
+  same : SameLog (log_to_come g.R.Source.coming l.fn.self) (log_to_come g.R.Source.coming l.self);
+  running : has_stopped l.self ≡ false;
+  onward : lines_behind l.fn.self ≤ lines_behind l.self;
+  marks : g.R.Source.broken (source_of l.self) ≡ g.R.Source.broken (source_of l.fn.self);
+  was_running : has_stopped l.fn.self ≡ false;
+}
+
+abbrev pub decreases-lines : goal.decreases-lines
+decreases-lines g l = 1000001 - lines_behind l.self

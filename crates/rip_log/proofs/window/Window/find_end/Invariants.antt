@@ -1,0 +1,17 @@
+use Rattle.std.proofs.Common.{◌≡◌, ◌≤◌, ◌-◌, length}
+use Rattle.std.specs.Io.KnownBytes.{Keeps}
+use Rattle.rip_log.specs.Held.{held, text}
+use Rattle.rip_log.specs.Ends.{NoFeedBelow}
+use Rattle.rip_log.proofs.window.Window.find_end.Given as goal
+
+abbrev pub invariant-loop-at : goal.invariant-loop-at
+invariant-loop-at g l = record {
+  kept : Keeps (text g.R.Source.coming l.fn.self) (text g.R.Source.coming l.self);
+  more : length (held l.fn.self) ≤ length (held l.self);
+  within : l.seen ≤ length (held l.self);
+  before : NoFeedBelow (held l.self) l.seen;
+  marks : g.R.Source.broken l.self.source ≡ g.R.Source.broken l.fn.self.source;
+}
+
+abbrev pub decreases-loop-at : goal.decreases-loop-at
+decreases-loop-at g l = 2050 - length (held l.self)

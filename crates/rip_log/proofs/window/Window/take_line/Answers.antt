@@ -1,0 +1,28 @@
+use Rattle.std.proofs.Common.{arith}
+use Rattle.rip_log.proofs.CutLemmas.{length-range, feed-cut, last-cut, long-cut, range-nothing}
+use Rattle.rip_log.proofs.window.Window.take_line.Goals as goal
+
+pub invariant_of-self : goal.invariant_of-self
+invariant_of-self g c =
+    let w = c.find_end.new.self in
+    let end = rw c.in-Feed.is at c.in_ok-at.ensures.end in
+    let len = length-range w.buffer.items w.start w.end w.ordered (omega (arith, w.within, w.room, w.buffer.ok.0)) in
+    record { ordered = omega (arith, end.0.inside, len); within = w.within; room = w.room }
+
+pub returns-in-Feed-clause-cut : goal.returns-in-Feed-clause-cut
+returns-in-Feed-clause-cut g c =
+    let w = c.find_end.new.self in
+    feed-cut _ _ w.buffer.items w.start w.end c.in-Feed.at w.ordered (omega (arith, w.within, w.room, w.buffer.ok.0)) c.find_end.ensures.text (rw c.in-Feed.is at c.in_ok-at.ensures.end).0
+
+pub returns-in-Last-clause-cut : goal.returns-in-Last-clause-cut
+returns-in-Last-clause-cut g c =
+    let w = c.find_end.new.self in
+    let end = rw c.in-Last.is at c.in_ok-at.ensures.end in
+    let len = length-range w.buffer.items w.start w.end w.ordered (omega (arith, w.within, w.room, w.buffer.ok.0)) in
+    last-cut _ _ _ _ (range-nothing w.buffer.items w.end) (omega (arith, len, c.requires, c.in_ok-at.ensures.more)) (g.met.R.Source.nothing_left w.source end.1) c.find_end.ensures.text end.0
+
+pub returns-in-Long-clause-cut : goal.returns-in-Long-clause-cut
+returns-in-Long-clause-cut g c =
+    let w = c.find_end.new.self in
+    let end = rw c.in-Long.is at c.in_ok-at.ensures.end in
+    long-cut _ _ _ c.find_end.ensures.text end.0 end.1

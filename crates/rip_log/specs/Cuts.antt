@@ -1,0 +1,32 @@
+-- What taking the first line off a text leaves.
+use Rattle.std.specs.Prelude.{◌≡◌, ◌<◌, ◌≤◌, ◌+◌, ℕ, Bool, true, false, List, [], ◌∷◌, Option, Some, None, length, slice_range}
+use Rattle.rip_log.specs.Lines.{lines_of}
+use Rattle.rip_log.specs.declared.window.RawLine.{RawLine}
+use Rattle.rip_log.specs.declared.window.RawLine.TheVariants.{Line, Long}
+
+-- known text has a line, or it has none
+abbrev pub HasLine : Option (List ℕ) → Bool → Type 0
+HasLine None some = Unit {0}
+HasLine (Some t) true = (line : List ℕ) × (rest : List (List ℕ)) × (lines_of t ≡ line ∷ rest)
+HasLine (Some t) false = t ≡ []
+
+-- known text begins with this line, and goes on with what is left
+abbrev pub FirstLine : Option (List ℕ) → Option (List ℕ) → List ℕ → Type 0
+FirstLine None left line = Unit {0}
+FirstLine (Some t) None line = ⊥
+FirstLine (Some t) (Some rest) line = lines_of t ≡ line ∷ lines_of rest
+
+-- known text begins with a line of more than 2,048 bytes
+abbrev pub LongFirst : Option (List ℕ) → Type 0
+LongFirst None = Unit {0}
+LongFirst (Some t) = (line : List ℕ) × (rest : List (List ℕ)) × (2048 < length line) × (lines_of t ≡ line ∷ rest)
+
+-- the line was taken off the text; items is the buffer then
+abbrev pub Cuts : Option (List ℕ) → Option (List ℕ) → List ℕ → RawLine → Type 0
+Cuts old new items (Line from to) = FirstLine old new (slice_range items from to)
+Cuts old new items Long = LongFirst old
+
+-- where the line lies
+abbrev pub LiesWithin : ℕ → RawLine → Type 0
+LiesWithin n (Line from to) = (from ≤ to) × (to ≤ n) × (to ≤ from + 2048)
+LiesWithin n Long = Unit {0}

@@ -1,0 +1,59 @@
+-- What a reader stands for, and what a call of `next` answers and leaves.
+use Rattle.std.specs.Prelude.{◌≡◌, ◌+◌, ◌≤◌, ℕ, Bool, true, false, List, Option, None, Result, Ok, Err, IfOk, IfErr, IfSome, is_err}
+use Rattle.rip_wire.specs.Datagram.{datagram_bytes}
+use Rattle.rip_log.specs.Codes.{is_read}
+use Rattle.rip_log.specs.Held.{text as window_text}
+use Rattle.rip_log.specs.Lines.{Capture}
+use Rattle.rip_log.specs.Logs.{Log, log_at, Gives}
+use Rattle.rip_log.specs.declared.error.LogCode.TheVariants.{Ended}
+use Rattle.rip_log.specs.declared.error.LogError.{LogError}
+use Rattle.rip_log.specs.declared.reader.Reading.{Reading}
+use Rattle.rip_log.specs.declared.reader.Record.{Record}
+
+-- the source beneath
+abbrev pub source_of : {R : Type 0} → Reading R → R
+source_of reader = reader.window.source
+
+-- the text to come: what is held, and then what the source still gives
+abbrev pub text : {R : Type 0} → (R → Option (List ℕ)) → Reading R → Option (List ℕ)
+text coming reader = window_text coming reader.window
+
+-- the lines behind the reader
+abbrev pub lines_behind : {R : Type 0} → Reading R → ℕ
+lines_behind reader = reader.progress.lines
+
+-- an error was answered
+abbrev pub has_stopped : {R : Type 0} → Reading R → Bool
+has_stopped reader = reader.progress.is_stopped
+
+-- what is still to come from a reader, where bytes are told
+abbrev pub log_to_come : {R : Type 0} → (R → Option (List ℕ)) → Reading R → Option Log
+log_to_come coming reader = log_at (lines_behind reader) (text coming reader)
+
+-- the capture of a record
+abbrev pub capture_of : Record → Capture
+capture_of r = record { link = r.link.now; sender = r.sender; datagram = datagram_bytes r.datagram }
+
+-- the number of a record's line
+abbrev pub line_of : Record → ℕ
+line_of r = r.line
+
+-- the call ended since the source failed
+abbrev pub unread : {A : Type 0} → Result A LogError → Bool
+unread (Ok x) = false
+unread (Err e) = is_read e.code
+
+-- what a call of `next` answers, seen by view and number, and leaves
+pub record Leaves {R X : Type 0} (coming : R → Option (List ℕ)) (broken at_end : R → Bool) (view : X → Capture) (number : X → ℕ) (old new : Reading R) (result : Result (Option X) LogError) : Type 0 where
+  -- the next record of the log to come, or its end or fault
+  pub gives : has_stopped old ≡ false → Gives view number (log_to_come coming old) (log_to_come coming new) result
+  -- the code Read only where the source failed; every other outcome leaves its mark
+  pub failed : unread result ≡ true → broken (source_of new) ≡ true
+  pub marks : unread result ≡ false → broken (source_of new) ≡ broken (source_of old)
+  pub here : IfErr result (λ e. e.line ≡ lines_behind new + 1)
+  -- after an error there is none but Ended, at the same line
+  pub ended : has_stopped old ≡ true → (result ≡ Err (record { code = Ended; line = lines_behind old + 1 })) × (lines_behind new ≡ lines_behind old)
+  pub none_left : result ≡ Ok None → at_end (source_of new) ≡ true
+  pub onward : IfOk result (λ found. IfSome found (λ _. (lines_behind old + 1 ≤ lines_behind new) × (lines_behind new ≤ 1000000)))
+  pub numbered : IfOk result (λ found. IfSome found (λ x. number x ≡ lines_behind new))
+  pub stopped : has_stopped new ≡ is_err result

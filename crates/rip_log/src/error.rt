@@ -1,0 +1,62 @@
+//! What is wrong with a log.
+
+ghost use Rattle.std.specs.Prelude.{◌≡◌};
+
+use crate::line::LineCode;
+use rip_wire::WireError;
+use thiserror::Error;
+
+/// Why there is no next record, in the numbering that is printed, from 1 on.
+#[derive(Clone, Copy, Debug, PartialEq, Eq)]
+pub enum LogCode {
+    /// The line has more than 2,048 bytes.
+    LongLine,
+    /// The line has not three fields.
+    Fields,
+    /// The first field has not the form of a name.
+    LinkName,
+    /// The second field is no address.
+    Sender,
+    /// The third field has an odd number of digits, or a byte that is no digit.
+    Hex,
+    /// The third field has more than 1,008 digits.
+    LongDatagram,
+    /// The bytes are no datagram.
+    Wire(WireError),
+    /// The line comes after 1,000,000 others.
+    TooManyLines,
+    /// The source failed while the line was read.
+    Read,
+    /// An error was answered before.
+    Ended,
+    /// There is no memory for the reader.
+    Memory,
+}
+
+impl From<LineCode> for LogCode {
+    ghost use Rattle.rip_log.specs.Codes.{log_code};
+
+    ghost from_gives = { λ line code. code ≡ log_code line };
+
+    fn from(code: LineCode) -> LogCode {
+        match code {
+            LineCode::LongLine => LogCode::LongLine,
+            LineCode::Fields => LogCode::Fields,
+            LineCode::LinkName => LogCode::LinkName,
+            LineCode::Sender => LogCode::Sender,
+            LineCode::Hex => LogCode::Hex,
+            LineCode::LongDatagram => LogCode::LongDatagram,
+            LineCode::Wire(error) => LogCode::Wire(error),
+        }
+    }
+}
+
+/// Why there is no next record, and the number of the line concerned, or 0 where none is.
+#[derive(Clone, Copy, Debug, PartialEq, Eq, Error)]
+#[error("{code:?} at line {line}")]
+pub struct LogError {
+    /// What is wrong.
+    pub code: LogCode,
+    /// The number of the line, from 1 on.
+    pub line: u32,
+}

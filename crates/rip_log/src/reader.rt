@@ -1,0 +1,249 @@
+//! The records of a log, one after the other.
+
+ghost use Rattle.std.specs.Prelude.{◌≡◌, ◌+◌, ◌≤◌, ◌<◌, true, false, length, IfErr, IfOk, IfSome, is_err};
+ghost use Rattle.std.specs.Borrow.{sem};
+ghost use Rattle.std.specs.Io.BufRead.{Rests};
+ghost use Rattle.rip_wire.specs.Name.{is_name};
+
+use crate::device::Failed;
+use crate::error::{LogCode, LogError};
+use crate::line::{Parts, judge_line};
+use crate::source::Source;
+use crate::window::{RawLine, Window};
+use rip_wire::{Address, Datagram, read};
+use std::alloc::Global;
+
+/// The most lines of a log.
+const MOST_LINES: u32 = 1_000_000;
+
+/// A captured datagram: a line of the log that is neither blank nor a comment.
+#[derive(Debug, Drop)]
+pub struct Record<'a> {
+    /// The number of the line, from 1 on.
+    pub line: u32,
+    /// The name of the link that it was captured on.
+    pub link: &'a str,
+    /// The datagram.
+    pub datagram: Datagram<'a>,
+    // The number of the sender's address.
+    sender: u32,
+}
+
+impl Record<'_> {
+    ghost use Rattle.rip_log.specs.Leaves.{capture_of};
+
+    /// The address that sent it.
+    pub fn sender(&self) -> Address
+        ensures { result ≡ (capture_of self.now).sender }
+    {
+        Address::new(self.sender)
+    }
+}
+
+/// Where the parts of a record lie: its line in the window's buffer, and the parts in that.
+#[derive(Clone, Copy)]
+struct Place {
+    from: usize,
+    to: usize,
+    parts: Parts,
+}
+
+/// What a line says: nothing, or a record, or there is no line.
+#[derive(Clone, Copy)]
+enum Step {
+    Skipped,
+    Found(Place),
+    End,
+}
+
+/// How many lines are behind, and whether an error was answered.
+#[derive(Clone, Copy)]
+struct Progress {
+    lines: u32,
+    is_stopped: bool,
+    ghost few: { lines ≤ 1000000 },
+}
+
+/// The lines of a source, with room for one datagram.
+#[derive(Drop)]
+struct Reading<R> {
+    window: Window<R>,
+    room: [u8; 504],
+    progress: Progress,
+}
+
+impl<R: Source> Reading<R> {
+    ghost use Rattle.rip_log.specs.Leaves.{Leaves, capture_of, has_stopped, lines_behind, source_of, unread};
+    ghost use Rattle.rip_log.specs.Places.{IsGood, LineSays, capture_at};
+    ghost use Rattle.rip_log.specs.Held.{held};
+
+    /// The error at the line that is being read. From now on there are no more records.
+    fn stop(&mut self, code: LogCode) -> LogError
+        ensures window { self.new.window ≡ self.old.window }
+        ensures lines { lines_behind self.new ≡ lines_behind self.old }
+        ensures stopped { has_stopped self.new ≡ true }
+        ensures code { result.code ≡ code }
+        ensures line { result.line ≡ lines_behind self.old + 1 }
+    {
+        self.progress.is_stopped = true;
+        LogError {
+            code,
+            line: self.progress.lines + 1,
+        }
+    }
+
+    /// Takes a line that there is.
+    fn read_line(&mut self) -> Result<Step, LogError>
+        requires running { has_stopped self.old ≡ false }
+        requires few { lines_behind self.old < 1000000 }
+        requires held { 0 < length (held self.old.window) }
+        ensures says { LineSays R.coming R.at_end self.old self.new result }
+        ensures failed { unread result ≡ true → R.broken (source_of self.new) ≡ true }
+        ensures marks { unread result ≡ false → R.broken (source_of self.new) ≡ R.broken (source_of self.old) }
+        ensures here { IfErr result (λ e. e.line ≡ lines_behind self.new + 1) }
+        ensures stopped { has_stopped self.new ≡ is_err result }
+    {
+        let (from, to) = match self.window.take_line() {
+            Err(Failed) => return Err(self.stop(LogCode::Read)),
+            Ok(RawLine::Long) => return Err(self.stop(LogCode::LongLine)),
+            Ok(RawLine::Line { from, to }) => (from, to),
+        };
+        match judge_line(self.window.range(from, to), &mut self.room) {
+            Err(code) => Err(self.stop(LogCode::from(code))),
+            Ok(None) => {
+                self.progress.lines += 1;
+                Ok(Step::Skipped)
+            }
+            Ok(Some(parts)) => {
+                self.progress.lines += 1;
+                Ok(Step::Found(Place { from, to, parts }))
+            }
+        }
+    }
+
+    /// Takes the next line, if there is one.
+    fn step(&mut self) -> Result<Step, LogError>
+        requires { has_stopped self.old ≡ false }
+        ensures says { LineSays R.coming R.at_end self.old self.new result }
+        ensures failed { unread result ≡ true → R.broken (source_of self.new) ≡ true }
+        ensures marks { unread result ≡ false → R.broken (source_of self.new) ≡ R.broken (source_of self.old) }
+        ensures here { IfErr result (λ e. e.line ≡ lines_behind self.new + 1) }
+        ensures stopped { has_stopped self.new ≡ is_err result }
+    {
+        match self.window.has_line() {
+            Err(Failed) => return Err(self.stop(LogCode::Read)),
+            Ok(false) => return Ok(Step::End),
+            Ok(true) => {}
+        }
+        if self.progress.lines >= MOST_LINES {
+            return Err(self.stop(LogCode::TooManyLines));
+        }
+        self.read_line()
+    }
+
+    /// Reads up to the next record, and says where it lies.
+    fn advance(&mut self) -> Result<Option<Place>, LogError>
+        ensures leaves { Leaves R.coming R.broken R.at_end (capture_at self.new) (λ _. lines_behind self.new) self.old self.new result }
+        ensures good { IfOk result (λ found. IfSome found (IsGood self.new)) }
+    {
+        if self.progress.is_stopped {
+            return Err(self.stop(LogCode::Ended));
+        }
+        'lines: loop {
+            match self.step()? {
+                Step::Skipped => {}
+                Step::Found(place) => return Ok(Some(place)),
+                Step::End => return Ok(None),
+            }
+        }
+    }
+
+    /// The record at a place that was found.
+    fn record(&self, place: Place) -> Record<'_>
+        requires { IsGood self.now place }
+        ensures capture { capture_of result ≡ capture_at self.now place }
+        ensures line { result.line ≡ lines_behind self.now }
+    {
+        let line = self.window.range(place.from, place.to);
+        match read(&self.room[..place.parts.count]) {
+            Ok(datagram) => Record {
+                line: self.progress.lines,
+                link: name_text(&line[place.parts.from..place.parts.to]),
+                datagram,
+                sender: place.parts.sender.get(),
+            },
+            Err(_) => unreachable!(),
+        }
+    }
+}
+
+/// A name, as text.
+fn name_text(name: &[u8]) -> &str
+    requires { is_name name.now ≡ true }
+    ensures { result.now ≡ name.now }
+{
+    match str::from_utf8(name) {
+        Ok(text) => text,
+        Err(_) => unreachable!(),
+    }
+}
+
+/// A reader of a log's records. After an error there are no more.
+#[derive(Drop)]
+pub struct LogReader<R> {
+    reading: Reading<R>,
+}
+
+impl<R: Source> LogReader<R> {
+    ghost use Rattle.rip_log.specs.contracts.reader.LogReader.{the_row};
+    ghost use Rattle.rip_log.specs.Leaves.{Leaves, capture_of, has_stopped, line_of, lines_behind, log_to_come, source_of};
+    ghost use Rattle.rip_log.specs.Logs.{log_in};
+    ghost use Rattle.rip_log.specs.Reader.{reading_of};
+
+    /// A reader at the front of the source's text. It takes the memory that it needs, and pulls
+    /// nothing yet. A refusal hands the source back.
+    pub fn new(alloc: Global, source: R) -> Result<LogReader<R>, (LogError, R)>
+        ensures source { IfOk result (λ r. source_of (reading_of r) ≡ source) }
+        ensures to_come { IfOk result (λ r. log_to_come R.coming (reading_of r) ≡ log_in (R.coming source)) }
+        ensures front { IfOk result (λ r. (lines_behind (reading_of r) ≡ 0) × (has_stopped (reading_of r) ≡ false)) }
+        ensures refused { IfErr result (λ e. (e.1 ≡ source) × (e.0 ≡ record { code = LogCode.Memory; line = 0 })) }
+    {
+        match Window::new(alloc, source) {
+            Ok(window) => Ok(LogReader {
+                reading: Reading {
+                    window,
+                    room: [0; 504],
+                    progress: Progress {
+                        lines: 0,
+                        is_stopped: false,
+                    },
+                },
+            }),
+            Err((_, source)) => Err((
+                LogError {
+                    code: LogCode::Memory,
+                    line: 0,
+                },
+                source,
+            )),
+        }
+    }
+
+    /// The next record, which borrows the reader's buffers. It takes no memory.
+    pub fn next(&mut self) -> Result<Option<Record<'_>>, LogError>
+        ensures* leaves { sem 𝓛 (Rests (the_row R.row) self.entry (λ new. Leaves R.coming R.broken R.at_end capture_of line_of (reading_of self.old) (reading_of new) result)) }
+    {
+        match self.reading.advance() {
+            Err(error) => Err(error),
+            Ok(None) => Ok(None),
+            Ok(Some(place)) => Ok(Some(self.reading.record(place))),
+        }
+    }
+
+    /// The source, as it stands.
+    pub fn into_source(self) -> R
+        ensures { result ≡ source_of (reading_of self) }
+    {
+        self.reading.window.into_source()
+    }
+}

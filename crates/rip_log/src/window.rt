@@ -1,0 +1,218 @@
+//! The bytes between a source and its lines.
+
+ghost use Rattle.std.specs.Prelude.{◌≡◌, ◌+◌, ◌<◌, ◌≤◌, ◌↔◌, [], true, false, Ok, length, take, drop, is_err, vec_len, IfOk, IfErr, OnOk, OnErr, MatchOption, slice_range};
+ghost use Rattle.std.specs.Io.KnownBytes.{Keeps, Consumes};
+
+use crate::device::Failed;
+use crate::source::Source;
+use memchr::memchr;
+use std::alloc::{AllocError, Global};
+
+/// The most bytes of a line.
+const MOST_BYTES: usize = 2048;
+
+/// The bytes of the buffer.
+const ROOM: usize = 65_536;
+
+/// Where the first line of what is held ends: at a line feed, with the text, or too late.
+#[derive(Clone, Copy)]
+pub enum LineEnd {
+    Feed(usize),
+    Last,
+    Long,
+}
+
+/// The first line, where it lies in the buffer, or that it is too long.
+#[derive(Clone, Copy)]
+pub enum RawLine {
+    Line { from: usize, to: usize },
+    Long,
+}
+
+/// A source, and the bytes that it gave and no line has taken yet.
+#[derive(Drop)]
+pub struct Window<R> {
+    source: R,
+    buffer: Vec<u8>,
+    start: usize,
+    end: usize,
+    ghost ordered: { start ≤ end },
+    ghost within: { end ≤ 65536 },
+    ghost room: { vec_len buffer ≡ 65536 },
+}
+
+/// Pulls once into what lies behind the first `held` bytes.
+fn pull_behind<R: Source>(
+    source: &mut R,
+    buffer: &mut Vec<u8>,
+    held: usize,
+) -> Result<usize, Failed>
+    requires { held < vec_len buffer.old }
+    ensures len { vec_len buffer.new ≡ vec_len buffer.old }
+    ensures front { take held buffer.new.items ≡ take held buffer.old.items }
+    ensures bound { IfOk result (λ n. held + n ≤ vec_len buffer.new) }
+    ensures ok { IfOk result (λ n. Consumes (R.coming source.old) (R.coming source.new) (take n (drop held buffer.new.items))) }
+    ensures err { OnErr result (Keeps (R.coming source.old) (R.coming source.new)) }
+    ensures failed { is_err result ≡ R.broken source.new }
+    ensures fails_on { R.broken source.old ≡ true → R.broken source.new ≡ true }
+    ensures ended { R.at_end source.new ≡ true ↔ result ≡ Ok 0 }
+{
+    source.pull(&mut buffer.as_mut_slice()[held..])
+}
+
+impl<R: Source> Window<R> {
+    ghost use Rattle.rip_log.specs.Held.{held, text};
+    ghost use Rattle.rip_log.specs.Ends.{NoFeedBelow, FirstFeed, Ends};
+    ghost use Rattle.rip_log.specs.Cuts.{Cuts, HasLine, LiesWithin};
+
+    /// A window that holds nothing yet.
+    pub fn new(alloc: Global, source: R) -> Result<Window<R>, (AllocError, R)>
+        ensures ok { IfOk result (λ w. (w.source ≡ source) × (held w ≡ [])) }
+        ensures err { IfErr result (λ e. e.1 ≡ source) }
+    {
+        match vec![in alloc; 0u8; ROOM] {
+            Ok(buffer) => Ok(Window {
+                source,
+                buffer,
+                start: 0,
+                end: 0,
+            }),
+            Err(error) => Err((error, source)),
+        }
+    }
+
+    /// The source, as it stands.
+    pub fn into_source(self) -> R
+        ensures { result ≡ self.source }
+    {
+        self.source
+    }
+
+    /// Moves what is held to the front of the buffer.
+    fn compact(&mut self)
+        ensures held { held self.new ≡ held self.old }
+        ensures start { self.new.start ≡ 0 }
+        ensures source { self.new.source ≡ self.old.source }
+    {
+        if self.start > 0 {
+            let held = self.end - self.start;
+            self.buffer.copy_within(self.start..self.end, 0);
+            self.start = 0;
+            self.end = held;
+        }
+    }
+
+    /// Pulls once behind what is held, and answers how many bytes came.
+    fn refill(&mut self) -> Result<usize, Failed>
+        requires { length (held self.old) ≤ 2048 }
+        ensures text { Keeps (text R.coming self.old) (text R.coming self.new) }
+        ensures held { take (length (held self.old)) (held self.new) ≡ held self.old }
+        ensures more { IfOk result (λ n. length (held self.new) ≡ length (held self.old) + n) }
+        ensures err { OnErr result (held self.new ≡ held self.old) }
+        ensures failed { is_err result ≡ R.broken self.new.source }
+        ensures fails_on { R.broken self.old.source ≡ true → R.broken self.new.source ≡ true }
+        ensures ended { R.at_end self.new.source ≡ true ↔ result ≡ Ok 0 }
+    {
+        self.compact();
+        let held = self.end;
+        let count = pull_behind(&mut self.source, &mut self.buffer, held)?;
+        self.end = held + count;
+        Ok(count)
+    }
+
+    /// What is held.
+    fn held(&self) -> &[u8]
+        ensures { result.now ≡ held self.now }
+    {
+        &self.buffer.as_slice()[self.start..self.end]
+    }
+
+    /// Whether there is another line. Pulls at most once, and only where nothing is held.
+    pub fn has_line(&mut self) -> Result<bool, Failed>
+        ensures text { Keeps (text R.coming self.old) (text R.coming self.new) }
+        ensures some { IfOk result (HasLine (text R.coming self.new)) }
+        ensures at_end { result ≡ Ok false → R.at_end self.new.source ≡ true }
+        ensures held { result ≡ Ok true → 0 < length (held self.new) }
+        ensures ok { OnOk result (R.broken self.new.source ≡ R.broken self.old.source) }
+        ensures err { OnErr result (R.broken self.new.source ≡ true) }
+    {
+        if self.start < self.end {
+            return Ok(true);
+        }
+        if self.source.ended() {
+            return Ok(false);
+        }
+        let count = self.refill()?;
+        Ok(count > 0)
+    }
+
+    /// The first line feed, where none is below `seen`.
+    fn feed_from(&self, seen: usize) -> Option<usize>
+        requires within { seen ≤ length (held self.now) }
+        requires before { NoFeedBelow (held self.now) seen }
+        ensures { MatchOption result (NoFeedBelow (held self.now) (length (held self.now))) (FirstFeed (held self.now)) }
+    {
+        let held = self.held();
+        match memchr(b'\n', &held[seen..]) {
+            None => None,
+            Some(found) => Some(seen + found),
+        }
+    }
+
+    /// Pulls until the end of the first line is known, or that it is too long.
+    fn find_end(&mut self) -> Result<LineEnd, Failed>
+        ensures text { Keeps (text R.coming self.old) (text R.coming self.new) }
+        ensures end { IfOk result (Ends (held self.new) (R.at_end self.new.source)) }
+        ensures more { OnOk result (length (held self.old) ≤ length (held self.new)) }
+        ensures ok { OnOk result (R.broken self.new.source ≡ R.broken self.old.source) }
+        ensures err { OnErr result (R.broken self.new.source ≡ true) }
+    {
+        let mut seen = 0;
+        loop {
+            if let Some(at) = self.feed_from(seen) {
+                return Ok(if at <= MOST_BYTES { LineEnd::Feed(at) } else { LineEnd::Long });
+            }
+            seen = self.held().len();
+            if seen > MOST_BYTES {
+                return Ok(LineEnd::Long);
+            }
+            if self.source.ended() || self.refill()? == 0 {
+                return Ok(LineEnd::Last);
+            }
+        }
+    }
+
+    /// Takes the first line off the text, where bytes of it are held.
+    pub fn take_line(&mut self) -> Result<RawLine, Failed>
+        requires { 0 < length (held self.old) }
+        ensures cut { IfOk result (Cuts (text R.coming self.old) (text R.coming self.new) self.new.buffer.items) }
+        ensures kept { OnErr result (Keeps (text R.coming self.old) (text R.coming self.new)) }
+        ensures within { IfOk result (LiesWithin (vec_len self.new.buffer)) }
+        ensures ok { OnOk result (R.broken self.new.source ≡ R.broken self.old.source) }
+        ensures err { OnErr result (R.broken self.new.source ≡ true) }
+    {
+        match self.find_end()? {
+            LineEnd::Feed(at) => {
+                let from = self.start;
+                let to = from + at;
+                self.start = to + 1;
+                Ok(RawLine::Line { from, to })
+            }
+            LineEnd::Last => {
+                let (from, to) = (self.start, self.end);
+                self.start = to;
+                Ok(RawLine::Line { from, to })
+            }
+            LineEnd::Long => Ok(RawLine::Long),
+        }
+    }
+
+    /// A part of the buffer.
+    pub fn range(&self, from: usize, to: usize) -> &[u8]
+        requires ordered { from ≤ to }
+        requires within { to ≤ vec_len self.now.buffer }
+        ensures { result.now ≡ slice_range self.now.buffer.items from to }
+    {
+        &self.buffer.as_slice()[from..to]
+    }
+}
