@@ -6,3 +6,5 @@ pub mod DigitLemmas
 pub mod JudgeLemmas
 pub mod TextLemmas
 pub mod StepLemmas
+pub mod LineRelations
+pub mod FieldRelations

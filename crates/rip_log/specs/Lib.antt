@@ -5,6 +5,7 @@ pub mod Fields
 pub mod Held
 pub mod Leaves
 pub mod Lines
+pub mod LogText
 pub mod Logs
 pub mod MarkLemmas
 pub mod Marks

@@ -247,3 +247,6 @@ impl<R: Source> LogReader<R> {
         self.reading.window.into_source()
     }
 }
+
+#[cfg(test)]
+mod tests;

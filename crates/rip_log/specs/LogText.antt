@@ -1,0 +1,159 @@
+-- What the text of a log is, in the words of its format.
+use Rattle.std.specs.Prelude.{◌≡◌, ◌≢◌, ◌⊎◌, ℕ, ◌+◌, ◌<◌, ◌≤◌, ◌^◌, List, [], ◌∷◌, ◌++◌, length, Option, Some, None, Result, Ok, Err, ⊤}
+use Rattle.std.specs.List.{AllByRecursion}
+use Rattle.hex.specs.Hex.{decode_of}
+use Rattle.rip_wire.specs.Address.{address_text}
+use Rattle.rip_wire.specs.Faults.{WireFault}
+use Rattle.rip_wire.specs.Name.{IsName}
+use Rattle.rip_wire.specs.declared.error.WireCode.{WireCode}
+use Rattle.rip_log.specs.Codes.{log_code}
+use Rattle.rip_log.specs.Lines.{Capture}
+use Rattle.rip_log.specs.Logs.{Numbered}
+use Rattle.rip_log.specs.declared.line.LineCode.{LineCode}
+use Rattle.rip_log.specs.declared.line.LineCode.TheVariants.{LongLine, Fields, LinkName, Sender, Hex, LongDatagram, Wire}
+use Rattle.rip_log.specs.declared.error.LogCode.{LogCode}
+use Rattle.rip_log.specs.declared.error.LogCode.TheVariants.{TooManyLines}
+
+-- no byte is a line feed
+abbrev pub HasNoFeed : List ℕ → Type 0
+HasNoFeed bytes = AllByRecursion (λ b. b ≢ 10) bytes
+
+-- these lines, each with a line feed after it
+abbrev pub ended_text : List (List ℕ) → List ℕ
+ended_text [] = []
+ended_text (line ∷ lines) = line ++ (10 ∷ ended_text lines)
+
+-- what follows the last line feed is a line where there is anything
+abbrev pub last_line : List ℕ → List (List ℕ)
+last_line [] = []
+last_line (b ∷ bytes) = (b ∷ bytes) ∷ []
+
+-- the lines of a text: the parts that line feeds end, and what follows the last one
+pub record AreLines (text : List ℕ) (lines : List (List ℕ)) : Type 0 where
+  pub ended : List (List ℕ)
+  pub last : List ℕ
+  pub no_feed : AllByRecursion HasNoFeed ended
+  pub no_feed_after : HasNoFeed last
+  pub whole : text ≡ ended_text ended ++ last
+  pub lines : lines ≡ ended ++ last_line last
+
+-- one carriage return at the end of the line is dropped
+pub data IsBare (line bare : List ℕ) : Type 0 where
+  returned : line ≡ bare ++ 13 ∷ [] → IsBare line bare
+  whole : line ≡ bare → ((front : List ℕ) → line ≢ front ++ 13 ∷ []) → IsBare line bare
+
+-- a space or a tab
+abbrev pub IsBlank : ℕ → Type 0
+IsBlank b = (b ≡ 32) ⊎ (b ≡ 9)
+
+-- bytes end, or go on with a blank
+abbrev pub EndsRun : List ℕ → Type 0
+EndsRun [] = ⊤
+EndsRun (b ∷ bytes) = IsBlank b
+
+-- some bytes, none of them a blank
+pub record IsField (field : List ℕ) : Type 0 where
+  pub some : field ≢ []
+  pub bytes : AllByRecursion (λ b. ¬ IsBlank b) field
+
+-- the first field of a line, after blanks, as long as it can be, and what follows it
+pub record FirstField (bare field rest : List ℕ) : Type 0 where
+  pub before : List ℕ
+  pub blanks : AllByRecursion IsBlank before
+  pub field : IsField field
+  pub longest : EndsRun rest
+  pub whole : bare ≡ before ++ (field ++ rest)
+
+-- the fields of a line without its carriage return: all of its longest runs of bytes that are no blanks
+abbrev pub AreFields : List ℕ → List (List ℕ) → Type 0
+AreFields bare [] = AllByRecursion IsBlank bare
+AreFields bare (field ∷ fields) = (rest : List ℕ) × FirstField bare field rest × AreFields rest fields
+
+-- a line that is not too long, and its fields
+pub record HasFields (line : List ℕ) (fields : List (List ℕ)) : Type 0 where
+  pub short : length line ≤ 2048
+  pub bare : List ℕ
+  pub is_bare : IsBare line bare
+  pub are_fields : AreFields bare fields
+
+-- blanks alone, or a first byte that is #
+abbrev pub SaysNothing : List (List ℕ) → Type 0
+SaysNothing [] = ⊤
+SaysNothing (first ∷ rest) = (more : List ℕ) × (first ≡ 35 ∷ more)
+
+-- a line that is skipped
+pub record IsSkipped (line : List ℕ) : Type 0 where
+  pub fields : List (List ℕ)
+  pub has_fields : HasFields line fields
+  pub says_nothing : SaysNothing fields
+
+-- a line of three fields that is no comment
+pub record HasThree (line link sender digits : List ℕ) : Type 0 where
+  pub has_fields : HasFields line (link ∷ sender ∷ digits ∷ [])
+  pub says : ¬ SaysNothing (link ∷ sender ∷ digits ∷ [])
+
+-- the text of the sender's address
+pub record IsSender (text : List ℕ) (address : ℕ) : Type 0 where
+  pub fits : address < 2 ^ 32
+  pub text : text ≡ address_text address
+
+-- a line whose first two fields are a link's name and a sender
+pub record HasSender (line link digits : List ℕ) (address : ℕ) : Type 0 where
+  pub sender : List ℕ
+  pub three : HasThree line link sender digits
+  pub name : IsName link
+  pub address : IsSender sender address
+
+-- a line that is a record: its digits spell a datagram without a fault
+pub record IsRecord (line : List ℕ) (capture : Capture) : Type 0 where
+  pub digits : List ℕ
+  pub front : HasSender line capture.link digits capture.sender
+  pub bytes : decode_of digits ≡ Ok capture.datagram
+  pub few : length capture.datagram ≤ 504
+  pub no_fault : (code : WireCode) (at : ℕ) → ¬ WireFault capture.datagram code at
+
+-- fields of another number than three, where they say anything
+pub record HasOthers (line : List ℕ) : Type 0 where
+  pub fields : List (List ℕ)
+  pub has_fields : HasFields line fields
+  pub says : ¬ SaysNothing fields
+  pub count : length fields ≢ 3
+
+-- a line that is bad, by the first of its faults
+abbrev pub IsBad : List ℕ → LineCode → Type 0
+IsBad line LongLine = 2048 < length line
+IsBad line Fields = HasOthers line
+IsBad line LinkName = (link sender digits : List ℕ) × HasThree line link sender digits × ¬ IsName link
+IsBad line Sender = (link sender digits : List ℕ) × HasThree line link sender digits × IsName link × ((address : ℕ) → ¬ IsSender sender address)
+IsBad line Hex = (link digits : List ℕ) × (address : ℕ) × HasSender line link digits address × ((bytes : List ℕ) → decode_of digits ≢ Ok bytes)
+IsBad line LongDatagram = (link digits bytes : List ℕ) × (address : ℕ) × HasSender line link digits address × (decode_of digits ≡ Ok bytes) × (504 < length bytes)
+IsBad line (Wire e) = (link digits bytes : List ℕ) × (address : ℕ) × HasSender line link digits address × (decode_of digits ≡ Ok bytes) × (length bytes ≤ 504) × WireFault bytes e.code e.at
+
+-- the records of lines, of which n others come before: of each that is not skipped, in order
+abbrev pub AreRecords : ℕ → List (List ℕ) → List Numbered → Type 0
+AreRecords n [] records = records ≡ []
+AreRecords n (line ∷ lines) [] = IsSkipped line × AreRecords (n + 1) lines []
+AreRecords n (line ∷ lines) (r ∷ records) =
+    (IsSkipped line × AreRecords (n + 1) lines (r ∷ records)) ⊎ ((r.line ≡ n + 1) × IsRecord line r.capture × AreRecords (n + 1) lines records)
+
+-- a log without a fault, and its records
+pub record LogText (text : List ℕ) (records : List Numbered) : Type 0 where
+  pub lines : List (List ℕ)
+  pub are_lines : AreLines text lines
+  pub few : length lines ≤ 1000000
+  pub are_records : AreRecords 0 lines records
+
+-- why a line is bad that comes after n others: there are too many, or it is bad by itself
+pub data IsFault (n : ℕ) (line : List ℕ) (code : LogCode) : Type 0 where
+  too_many : n ≡ 1000000 → code ≡ TooManyLines → IsFault n line code
+  bad : n < 1000000 → (line_code : LineCode) → IsBad line line_code → code ≡ log_code line_code → IsFault n line code
+
+-- the first bad line of a log, and its first code; the records are those of the lines before it
+pub record LogFault (text : List ℕ) (records : List Numbered) (line : ℕ) (code : LogCode) : Type 0 where
+  pub before : List (List ℕ)
+  pub bad : List ℕ
+  pub after : List (List ℕ)
+  pub are_lines : AreLines text (before ++ bad ∷ after)
+  pub are_records : AreRecords 0 before records
+  pub number : line ≡ length before + 1
+  pub fault : IsFault (length before) bad code
