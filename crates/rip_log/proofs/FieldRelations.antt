@@ -1,5 +1,5 @@
 -- The fields of a line are those that are computed.
-use Rattle.std.proofs.Common.{◌≡◌, ◌≢◌, ◌+◌, ◌-◌, ◌<◌, ℕ, Bool, true, false, cond, List, [], ◌∷◌, ◌++◌, length, take, get_or, refl, sym, ap, ◌∙◌, arith, subst, append_assoc}
+use Rattle.std.proofs.Common.{◌≡◌, ◌≢◌, ◌+◌, ◌-◌, ◌<◌, ℕ, Bool, true, false, cond, List, [], ◌∷◌, ◌++◌, length, take, get_or, refl, sym, ap, ◌∙◌, arith, subst, ◌&&◌, ◌==◌, eqb-true}
 use Rattle.std.specs.List.{AllByRecursion}
 use Rattle.std.specs.Io.BufRead.{strip_last, ends_with_byte}
 use Rattle.std.proofs.lemmas.Grind.{common_steps}
@@ -32,7 +32,7 @@ after-blank b bytes [] is are = (is, are)
 after-blank b bytes (field ∷ fields) is are =
     let first = are.1 in (
       are.0,
-      record { before = b ∷ first.before; blanks = (is, first.blanks); field = first.field; longest = first.longest; whole = ap (λ l. b ∷ l) first.whole },
+      record { before = b ∷ first.before; blanks = (is, first.blanks); is_field = first.is_field; longest = first.longest; whole = ap (λ l. b ∷ l) first.whole },
       are.2,
     )
 
@@ -40,7 +40,7 @@ after-blank b bytes (field ∷ fields) is are =
 alone : (b : ℕ) (bytes : List ℕ) (fields : List (List ℕ)) → ¬ IsBlank b → EndsRun bytes → AreFields bytes fields → AreFields (b ∷ bytes) ((b ∷ []) ∷ fields)
 alone b bytes fields is end are = (
     bytes,
-    record { before = []; blanks = tt; field = record { some = λ e. cc e; bytes = (is, tt) }; longest = end; whole = refl },
+    record { before = []; blanks = tt; is_field = record { some = λ e. cc e; bytes = (is, tt) }; longest = end; whole = refl },
     are,
   )
 
@@ -52,7 +52,7 @@ begins c bytes h are = no-blank c h are.0
 joined : (b c : ℕ) (bytes field rest before : List ℕ) → ¬ IsBlank b → is_blank c ≡ false → AllByRecursion IsBlank before → IsField field → EndsRun rest → c ∷ bytes ≡ before ++ (field ++ rest)
     → FirstField (b ∷ c ∷ bytes) (b ∷ field) rest
 joined b c bytes field rest [] is h blanks f end parts =
-    record { before = []; blanks = tt; field = record { some = λ e. cc e; bytes = (is, f.bytes) }; longest = end; whole = ap (λ l. b ∷ l) parts }
+    record { before = []; blanks = tt; is_field = record { some = λ e. cc e; bytes = (is, f.bytes) }; longest = end; whole = ap (λ l. b ∷ l) parts }
 joined b c bytes field rest (x ∷ before) is h blanks f end parts =
     let same : c ≡ x = cc parts in
     absurd (no-blank c h (subst IsBlank (sym same) blanks.0))
@@ -61,7 +61,7 @@ further : (b c : ℕ) (bytes : List ℕ) (fields : List (List ℕ)) → ¬ IsBla
 further b c bytes [] is h are = absurd (begins c bytes h are)
 further b c bytes (field ∷ fields) is h are =
     let first = are.1 in
-    (are.0, joined b c bytes field are.0 first.before is h first.blanks first.field first.longest first.whole, are.2)
+    (are.0, joined b c bytes field are.0 first.before is h first.blanks first.is_field first.longest first.whole, are.2)
 
 more : (b : ℕ) (bytes : List ℕ) (fields : List (List ℕ)) → ¬ IsBlank b → ends_field bytes ≡ false → AreFields bytes fields → AreFields (b ∷ bytes) (onto b fields)
 more b [] fields is h are = absurd (cc h)
@@ -111,7 +111,7 @@ fields_of-AreFields bare (field ∷ fields) are =
     let first = are.1 in
     ap fields_of first.whole
     ∙ fields_of-after first.before (field ++ are.0) first.blanks
-    ∙ fields_of-field field are.0 first.field first.longest
+    ∙ fields_of-field field are.0 first.is_field first.longest
     ∙ ap (λ l. field ∷ l) (fields_of-AreFields are.0 fields are.2)
 
 -- the last byte, by itself
@@ -128,9 +128,19 @@ take-return front = grind (arith, common_steps)
 strip-returned : (front : List ℕ) → strip_last 13 (front ++ 13 ∷ []) ≡ front
 strip-returned front = rw (ends_with-return front) (take-return front)
 
+both : (p q : Bool) → (p && q) ≡ true → q ≡ true
+both true q h = h
+both false q h = cc h
+
 ends-apart : (line : List ℕ) → ends_with_byte 13 line ≡ true → line ≡ take (length line - 1) line ++ 13 ∷ []
 ends-apart [] h = absurd (cc h)
-ends-apart (b ∷ bytes) h = ?
+ends-apart (b ∷ bytes) h =
+    let count : length (b ∷ bytes) - 1 ≡ length bytes = omega arith in
+    let test : (get_or (b ∷ bytes) (length (b ∷ bytes) - 1) 0 == 13) ≡ true = both _ _ h in
+    let last : get_or (b ∷ bytes) (length bytes) 0 ≡ 13 = ap (λ k. get_or (b ∷ bytes) k 0) (sym count) ∙ eqb-true _ _ test in
+    last-apart b bytes
+    ∙ ap (λ k. take k (b ∷ bytes) ++ (get_or (b ∷ bytes) (length bytes) 0 ∷ [])) (sym count)
+    ∙ ap (λ (v : ℕ). take (length (b ∷ bytes) - 1) (b ∷ bytes) ++ (v ∷ [])) last
 
 bare-of : (line : List ℕ) (x : Bool) → ends_with_byte 13 line ≡ x → IsBare line (cond x (take (length line - 1) line) line)
 bare-of line true e = returned (ends-apart line e)

@@ -8,3 +8,4 @@ pub mod TextLemmas
 pub mod StepLemmas
 pub mod LineRelations
 pub mod FieldRelations
+pub mod JudgeRelations

@@ -24,7 +24,7 @@ put b bytes lines [] last other no_feed after whole parts = record {
     no_feed = tt;
     no_feed_after = (other, after);
     whole = ap (λ l. b ∷ l) whole;
-    lines = ap (onto b) parts ∙ onto-last b last;
+    parts = ap (onto b) parts ∙ onto-last b last;
   }
 put b bytes lines (line ∷ ended) last other no_feed after whole parts = record {
     ended = (b ∷ line) ∷ ended;
@@ -32,7 +32,7 @@ put b bytes lines (line ∷ ended) last other no_feed after whole parts = record
     no_feed = ((other, no_feed.0), no_feed.1);
     no_feed_after = after;
     whole = ap (λ l. b ∷ l) whole;
-    lines = ap (onto b) parts;
+    parts = ap (onto b) parts;
   }
 
 choose : (b : ℕ) (bytes : List ℕ) (x : Bool) → (b == 10) ≡ x → AreLines bytes (lines_of bytes) → AreLines (b ∷ bytes) (cond x ([] ∷ lines_of bytes) (onto b (lines_of bytes)))
@@ -42,12 +42,12 @@ choose b bytes true e rest = record {
     no_feed = (tt, rest.no_feed);
     no_feed_after = rest.no_feed_after;
     whole = ap (λ (k : ℕ). k ∷ bytes) (eqb-true b 10 e) ∙ ap (λ l. 10 ∷ l) rest.whole;
-    lines = ap (λ l. [] ∷ l) rest.lines;
+    parts = ap (λ l. [] ∷ l) rest.parts;
   }
-choose b bytes false e rest = put b bytes (lines_of bytes) rest.ended rest.last (not-eq b 10 e) rest.no_feed rest.no_feed_after rest.whole rest.lines
+choose b bytes false e rest = put b bytes (lines_of bytes) rest.ended rest.last (not-eq b 10 e) rest.no_feed rest.no_feed_after rest.whole rest.parts
 
 pub AreLines-lines_of : (text : List ℕ) → AreLines text (lines_of text)
-AreLines-lines_of [] = record { ended = []; last = []; no_feed = tt; no_feed_after = tt; whole = refl; lines = refl }
+AreLines-lines_of [] = record { ended = []; last = []; no_feed = tt; no_feed_after = tt; whole = refl; parts = refl }
 AreLines-lines_of (b ∷ bytes) = choose b bytes (b == 10) refl (AreLines-lines_of bytes)
 
 lines_of-ended : (line rest : List ℕ) → HasNoFeed line → lines_of (line ++ (10 ∷ rest)) ≡ line ∷ lines_of rest
@@ -66,4 +66,4 @@ lines_of-parts (line ∷ ended) last no_feed after =
     ∙ ap (λ l. line ∷ l) (lines_of-parts ended last no_feed.1 after)
 
 pub lines_of-AreLines : (text : List ℕ) (lines : List (List ℕ)) → AreLines text lines → lines_of text ≡ lines
-lines_of-AreLines text lines are = ap lines_of are.whole ∙ lines_of-parts are.ended are.last are.no_feed are.no_feed_after ∙ sym are.lines
+lines_of-AreLines text lines are = ap lines_of are.whole ∙ lines_of-parts are.ended are.last are.no_feed are.no_feed_after ∙ sym are.parts

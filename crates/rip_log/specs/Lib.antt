@@ -13,4 +13,5 @@ pub mod Parts
 pub mod Places
 pub mod Reader
 pub mod Readers
+pub mod Says
 pub mod Writers

@@ -35,7 +35,7 @@ pub record AreLines (text : List ℕ) (lines : List (List ℕ)) : Type 0 where
   pub no_feed : AllByRecursion HasNoFeed ended
   pub no_feed_after : HasNoFeed last
   pub whole : text ≡ ended_text ended ++ last
-  pub lines : lines ≡ ended ++ last_line last
+  pub parts : lines ≡ ended ++ last_line last
 
 -- one carriage return at the end of the line is dropped
 pub data IsBare (line bare : List ℕ) : Type 0 where
@@ -60,7 +60,7 @@ pub record IsField (field : List ℕ) : Type 0 where
 pub record FirstField (bare field rest : List ℕ) : Type 0 where
   pub before : List ℕ
   pub blanks : AllByRecursion IsBlank before
-  pub field : IsField field
+  pub is_field : IsField field
   pub longest : EndsRun rest
   pub whole : bare ≡ before ++ (field ++ rest)
 
@@ -95,14 +95,14 @@ pub record HasThree (line link sender digits : List ℕ) : Type 0 where
 -- the text of the sender's address
 pub record IsSender (text : List ℕ) (address : ℕ) : Type 0 where
   pub fits : address < 2 ^ 32
-  pub text : text ≡ address_text address
+  pub spelled : text ≡ address_text address
 
 -- a line whose first two fields are a link's name and a sender
 pub record HasSender (line link digits : List ℕ) (address : ℕ) : Type 0 where
   pub sender : List ℕ
   pub three : HasThree line link sender digits
   pub name : IsName link
-  pub address : IsSender sender address
+  pub is_sender : IsSender sender address
 
 -- a line that is a record: its digits spell a datagram without a fault
 pub record IsRecord (line : List ℕ) (capture : Capture) : Type 0 where
