@@ -9,3 +9,4 @@ pub mod StepLemmas
 pub mod LineRelations
 pub mod FieldRelations
 pub mod JudgeRelations
+pub mod LogRelations

@@ -13,5 +13,6 @@ pub mod Parts
 pub mod Places
 pub mod Reader
 pub mod Readers
+pub mod Runs
 pub mod Says
 pub mod Writers

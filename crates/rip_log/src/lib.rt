@@ -5,6 +5,7 @@ mod device;
 mod digits;
 mod error;
 mod fields;
+pub mod laws;
 mod line;
 mod reader;
 mod sink;

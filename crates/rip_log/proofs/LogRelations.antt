@@ -1,0 +1,193 @@
+-- The log of a text is what the words of the format say.
+use Rattle.std.proofs.Common.{◌≡◌, ◌+◌, ◌≤◌, ◌<◌, ℕ, Bool, true, false, cond, List, [], ◌∷◌, ◌++◌, length, Option, Some, None, Result, Ok, Err, refl, sym, ap, ◌∙◌, arith, subst, inl, inr, ◌⊎◌, append-nil, append_assoc, add-zero}
+use Rattle.std.proofs.Math.Dec.{leb}
+use Rattle.std.proofs.lemmas.Bool.{le-leb}
+use Rattle.rip_log.specs.Codes.{log_code, is_read}
+use Rattle.rip_log.specs.Leaves.{capture_of, line_of}
+use Rattle.rip_log.specs.Lines.{Capture, lines_of, judge}
+use Rattle.rip_log.specs.Logs.{Numbered, Log, log_of, log_in, with_line, ended_log, faulty_log, onto_log, Gives, Whether}
+use Rattle.rip_log.specs.LogText.{AreLines, AreRecords, IsSkipped, IsRecord, IsBad, IsFault, too_many, bad, LogText, LogFault}
+use Rattle.rip_log.specs.Runs.{IsTaken, numbered}
+use Rattle.rip_log.specs.Says.{Says}
+use Rattle.rip_log.specs.declared.line.LineCode.{LineCode}
+use Rattle.rip_log.specs.declared.error.LogCode.{LogCode}
+use Rattle.rip_log.specs.declared.error.LogCode.TheVariants.{TooManyLines}
+use Rattle.rip_log.specs.declared.error.LogError.{LogError}
+use Rattle.rip_log.specs.declared.reader.Record.{Record}
+use Rattle.rip_log.proofs.JudgeRelations.{Says-judge, judge-Says}
+use Rattle.rip_log.proofs.LineRelations.{AreLines-lines_of, lines_of-AreLines}
+
+-- these records in front of a log
+abbrev onto_all : List Numbered → Log → Log
+onto_all records log = record { records = records ++ log.records; fault = log.fault }
+
+lt-leb_false : (a b : ℕ) → b < a → leb a b ≡ false
+lt-leb_false a b h = grind arith
+
+first-line : (n : ℕ) (line : List ℕ) (rest : List (List ℕ)) (said : Result (Option Capture) LineCode) → n < 1000000 → judge line ≡ said
+    → log_of n (line ∷ rest) ≡ with_line (n + 1) said (log_of (n + 1) rest)
+first-line n line rest said few e = rw (lt-leb_false 1000000 n few) (ap (λ s. with_line (n + 1) s (log_of (n + 1) rest)) e)
+
+too-many : (n : ℕ) (line : List ℕ) (rest : List (List ℕ)) → 1000000 ≤ n → log_of n (line ∷ rest) ≡ faulty_log (record { line = n + 1; code = TooManyLines })
+too-many n line rest many = rw (le-leb 1000000 n many)
+
+-- lines whose records these are, in front of others
+log-before : (n : ℕ) (before rest : List (List ℕ)) (records : List Numbered) → n + length before ≤ 1000000 → AreRecords n before records
+    → log_of n (before ++ rest) ≡ onto_all records (log_of (n + length before) rest)
+log-before n [] rest records few are =
+    ap (λ (k : ℕ). log_of k rest) (sym (add-zero n)) ∙ ap (λ (l : List Numbered). onto_all l (log_of (n + 0) rest)) (sym are)
+log-before n (line ∷ before) rest [] few are =
+    first-line n line (before ++ rest) (Ok None) (omega arith) (judge-Says line (Ok None) are.0)
+    ∙ log-before (n + 1) before rest [] (omega arith) are.1
+    ∙ ap (λ (k : ℕ). onto_all [] (log_of k rest)) (omega arith)
+log-before n (line ∷ before) rest (r ∷ records) few (inl are) =
+    first-line n line (before ++ rest) (Ok None) (omega arith) (judge-Says line (Ok None) are.0)
+    ∙ log-before (n + 1) before rest (r ∷ records) (omega arith) are.1
+    ∙ ap (λ (k : ℕ). onto_all (r ∷ records) (log_of k rest)) (omega arith)
+log-before n (line ∷ before) rest (r ∷ records) few (inr are) =
+    first-line n line (before ++ rest) (Ok (Some r.capture)) (omega arith) (judge-Says line (Ok (Some r.capture)) are.1)
+    ∙ ap (onto_log (record { line = n + 1; capture = r.capture })) (log-before (n + 1) before rest records (omega arith) are.2)
+    ∙ ap (λ (k : ℕ). onto_log (record { line = n + 1; capture = r.capture }) (onto_all records (log_of k rest))) (omega arith)
+    ∙ ap (λ (k : ℕ). onto_log (record { line = k; capture = r.capture }) (onto_all records (log_of (n + length (line ∷ before)) rest))) (sym are.0)
+
+-- a fault after lines that are good
+record Broken (n : ℕ) (lines : List (List ℕ)) (records : List Numbered) (e : LogError) : Type 0 where
+  before : List (List ℕ)
+  bad : List ℕ
+  after : List (List ℕ)
+  split : lines ≡ before ++ bad ∷ after
+  are_records : AreRecords n before records
+  number : e.line ≡ n + length before + 1
+  fault : IsFault (n + length before) bad e.code
+
+abbrev Tells : ℕ → List (List ℕ) → List Numbered → Option LogError → Type 0
+Tells n lines records None = AreRecords n lines records × (n + length lines ≤ 1000000)
+Tells n lines records (Some e) = Broken n lines records e
+
+skip : (n : ℕ) (line : List ℕ) (lines : List (List ℕ)) (records : List Numbered) → IsSkipped line → AreRecords (n + 1) lines records → AreRecords n (line ∷ lines) records
+skip n line lines [] skipped are = (skipped, are)
+skip n line lines (r ∷ records) skipped are = inl (skipped, are)
+
+fault-moved : (n m : ℕ) (line : List ℕ) (code : LogCode) → n ≡ m → IsFault n line code → IsFault m line code
+fault-moved n m line code e h = subst (λ (k : ℕ). IsFault k line code) e h
+
+later-broken : (n : ℕ) (line : List ℕ) (lines : List (List ℕ)) (records all : List Numbered) (e : LogError)
+    → ((before : List (List ℕ)) → AreRecords (n + 1) before records → AreRecords n (line ∷ before) all) → Broken (n + 1) lines records e → Broken n (line ∷ lines) all e
+later-broken n line lines records all e onto b = record {
+    before = line ∷ b.before;
+    bad = b.bad;
+    after = b.after;
+    split = ap (λ (l : List (List ℕ)). line ∷ l) b.split;
+    are_records = onto b.before b.are_records;
+    number = b.number ∙ omega arith;
+    fault = fault-moved _ _ b.bad e.code (omega arith) b.fault;
+  }
+
+tells-later : (n : ℕ) (line : List ℕ) (lines : List (List ℕ)) (records all : List Numbered) (f : Option LogError)
+    → ((before : List (List ℕ)) → AreRecords (n + 1) before records → AreRecords n (line ∷ before) all) → Tells (n + 1) lines records f → Tells n (line ∷ lines) all f
+tells-later n line lines records all None onto t = (onto lines t.0, omega (arith, t.1))
+tells-later n line lines records all (Some e) onto t = later-broken n line lines records all e onto t
+
+tells-line : (n : ℕ) (line : List ℕ) (lines : List (List ℕ)) (later : Log) (x : Result (Option Capture) LineCode) → n < 1000000 → Says line x → Tells (n + 1) lines later.records later.fault
+    → Tells n (line ∷ lines) (with_line (n + 1) x later).records (with_line (n + 1) x later).fault
+tells-line n line lines later (Ok None) few says t = tells-later n line lines later.records later.records later.fault (λ before are. skip n line before later.records says are) t
+tells-line n line lines later (Ok (Some capture)) few says t =
+    tells-later n line lines later.records (record { line = n + 1; capture = capture } ∷ later.records) later.fault (λ before are. inr (refl, says, are)) t
+tells-line n line lines later (Err code) few says t =
+    record { before = []; bad = line; after = lines; split = refl; are_records = refl; number = omega arith; fault = bad (omega arith) code says refl }
+
+lt-of : (n : ℕ) → leb 1000000 n ≡ false → n < 1000000
+lt-of n h = grind arith
+
+le-of : (n : ℕ) → leb 1000000 n ≡ true → 1000000 ≤ n
+le-of n h = grind arith
+
+tells-first : (n : ℕ) (line : List ℕ) (lines : List (List ℕ)) (x : Bool) → n ≤ 1000000 → leb 1000000 n ≡ x → (n < 1000000 → Tells (n + 1) lines (log_of (n + 1) lines).records (log_of (n + 1) lines).fault)
+    → let log = cond x (faulty_log (record { line = n + 1; code = TooManyLines })) (with_line (n + 1) (judge line) (log_of (n + 1) lines)) in Tells n (line ∷ lines) log.records log.fault
+tells-first n line lines true few e t =
+    let here : n + length {A = List ℕ} [] ≡ 1000000 = omega (arith, le-of n e) in
+    record { before = []; bad = line; after = lines; split = refl; are_records = refl; number = omega arith; fault = too_many here refl }
+tells-first n line lines false few e t = tells-line n line lines (log_of (n + 1) lines) (judge line) (lt-of n e) (Says-judge line) (t (lt-of n e))
+
+tells : (n : ℕ) (lines : List (List ℕ)) → n ≤ 1000000 → Tells n lines (log_of n lines).records (log_of n lines).fault
+tells n [] few = (refl, omega arith)
+tells n (line ∷ lines) few = tells-first n line lines (leb 1000000 n) few refl (λ h. tells (n + 1) lines (omega arith))
+
+some-log : (a b : Log) → ◌≡◌ {A = Option Log} (Some a) (Some b) → a ≡ b
+some-log a b e = cc e
+
+pub log_in-LogText : (text : List ℕ) (records : List Numbered) → LogText text records → log_in (Some text) ≡ Some (record { records = records; fault = None })
+log_in-LogText text records is =
+    let lines = lines_of-AreLines text is.lines is.are_lines ∙ sym (append-nil is.lines) in
+    ap Some
+    (ap (log_of 0) lines
+    ∙ log-before 0 is.lines [] records (omega (arith, is.few)) is.are_records
+    ∙ ap (λ (l : List Numbered). record { records = l; fault = None }) (append-nil records))
+
+pub LogText-log_in : (text : List ℕ) (records : List Numbered) → log_in (Some text) ≡ Some (record { records = records; fault = None }) → LogText text records
+LogText-log_in text records e =
+    let told = subst (λ (log : Log). Tells 0 (lines_of text) log.records log.fault) (some-log _ _ e) (tells 0 (lines_of text) (omega arith)) in
+    record { lines = lines_of text; are_lines = AreLines-lines_of text; few = omega (arith, told.1); are_records = told.0 }
+
+fault-log : (n : ℕ) (line : List ℕ) (rest : List (List ℕ)) (code : LogCode) → IsFault n line code → log_of n (line ∷ rest) ≡ faulty_log (record { line = n + 1; code = code })
+fault-log n line rest code (too_many here what) = too-many n line rest (omega (arith, here)) ∙ ap (λ (c : LogCode). faulty_log (record { line = n + 1; code = c })) (sym what)
+fault-log n line rest code (bad few c is what) =
+    first-line n line rest (Err c) few (judge-Says line (Err c) is) ∙ ap (λ (d : LogCode). faulty_log (record { line = n + 1; code = d })) (sym what)
+
+fault-few : (n : ℕ) (line : List ℕ) (code : LogCode) → IsFault n line code → n ≤ 1000000
+fault-few n line code (too_many here what) = omega (arith, here)
+fault-few n line code (bad few c is what) = omega (arith, few)
+
+pub log_in-LogFault : (text : List ℕ) (records : List Numbered) (e : LogError) → LogFault text records e.line e.code → log_in (Some text) ≡ Some (record { records = records; fault = Some e })
+log_in-LogFault text records e is =
+    let lines = lines_of-AreLines text (is.before ++ is.bad ∷ is.after) is.are_lines in
+    let few : 0 + length is.before ≤ 1000000 = omega (arith, fault-few (length is.before) is.bad e.code is.fault) in
+    let number : 0 + length is.before + 1 ≡ e.line = omega (arith, is.number) in
+    let here : IsFault (0 + length is.before) is.bad e.code = fault-moved (length is.before) (0 + length is.before) is.bad e.code (omega arith) is.fault in
+    ap Some
+    (ap (log_of 0) lines
+    ∙ log-before 0 is.before (is.bad ∷ is.after) records few is.are_records
+    ∙ ap (onto_all records) (fault-log (0 + length is.before) is.bad is.after e.code here)
+    ∙ ap (λ (l : List Numbered). record { records = l; fault = Some (record { line = 0 + length is.before + 1; code = e.code }) }) (append-nil records)
+    ∙ ap (λ (k : ℕ). record { records = records; fault = Some (record { line = k; code = e.code }) }) number)
+
+pub LogFault-log_in : (text : List ℕ) (records : List Numbered) (e : LogError) → log_in (Some text) ≡ Some (record { records = records; fault = Some e }) → LogFault text records e.line e.code
+LogFault-log_in text records e is =
+    let told = subst (λ (log : Log). Tells 0 (lines_of text) log.records log.fault) (some-log _ _ is) (tells 0 (lines_of text) (omega arith)) in
+    record {
+      before = told.before;
+      bad = told.bad;
+      after = told.after;
+      are_lines = subst (AreLines text) told.split (AreLines-lines_of text);
+      are_records = told.are_records;
+      number = told.number ∙ omega arith;
+      fault = fault-moved _ _ told.bad e.code (omega arith) told.fault;
+    }
+
+-- the records of a run
+pub IsTaken-more : (taken : List Numbered) (log rest : Log) (new : Option Log) (r : Record) → IsTaken taken log rest → Gives capture_of line_of (Some rest) new (Ok (Some r))
+    → (later : Log) × (new ≡ Some later) × IsTaken (taken ++ numbered r ∷ []) log later
+IsTaken-more taken log rest new r is gives = (
+    gives.0,
+    gives.1,
+    is
+    ∙ ap (λ (l : Log). record { records = taken ++ l.records; fault = l.fault }) gives.2
+    ∙ ap (λ (l : List Numbered). record { records = l; fault = gives.0.fault }) (sym (append_assoc taken (numbered r ∷ []) gives.0.records)),
+  )
+
+pub IsTaken-end : (taken : List Numbered) (log rest : Log) (new : Option Log) → IsTaken taken log rest → Gives capture_of line_of (Some rest) new (Ok None) → log ≡ record { records = taken; fault = None }
+IsTaken-end taken log rest new is gives =
+    is
+    ∙ ap (λ (l : Log). record { records = taken ++ l.records; fault = l.fault }) gives.0
+    ∙ ap (λ (l : List Numbered). record { records = l; fault = None }) (append-nil taken)
+
+no-read : (P Q : Type 0) (x : Bool) → x ≡ false → Whether x P Q → Q
+no-read P Q true e w = cc e
+no-read P Q false e w = w
+
+pub IsTaken-fault : (taken : List Numbered) (log rest : Log) (new : Option Log) (e : LogError) → IsTaken taken log rest → is_read e.code ≡ false → Gives capture_of line_of (Some rest) new (Err e)
+    → log ≡ record { records = taken; fault = Some e }
+IsTaken-fault taken log rest new e is fine gives =
+    is
+    ∙ ap (λ (l : Log). record { records = taken ++ l.records; fault = l.fault }) (no-read _ _ (is_read e.code) fine gives)
+    ∙ ap (λ (l : List Numbered). record { records = l; fault = Some e }) (append-nil taken)
