@@ -1,8 +1,8 @@
 -- What a reader stands for, and what a call of `next` answers and leaves.
-use Rattle.std.specs.Prelude.{◌≡◌, ◌+◌, ◌≤◌, ℕ, Bool, true, false, List, Option, None, Result, Ok, Err, IfOk, IfErr, IfSome, is_err}
+use Rattle.std.specs.Prelude.{◌≡◌, ◌+◌, ◌≤◌, ℕ, Bool, true, false, List, [], Option, None, Result, Ok, Err, IfOk, IfErr, IfSome, is_err}
 use Rattle.rip_wire.specs.Datagram.{datagram_bytes}
 use Rattle.rip_log.specs.Codes.{is_read}
-use Rattle.rip_log.specs.Held.{text as window_text}
+use Rattle.rip_log.specs.Held.{held, text as window_text}
 use Rattle.rip_log.specs.Lines.{Capture}
 use Rattle.rip_log.specs.Logs.{Log, log_at, Gives}
 use Rattle.rip_log.specs.declared.error.LogCode.TheVariants.{Ended}
@@ -30,6 +30,10 @@ has_stopped reader = reader.progress.is_stopped
 abbrev pub log_to_come : {R : Type 0} → (R → Option (List ℕ)) → Reading R → Option Log
 log_to_come coming reader = log_at (lines_behind reader) (text coming reader)
 
+-- nothing is held, and the source has come to its end
+abbrev pub IsOver : {R : Type 0} → (R → Bool) → Reading R → Type 0
+IsOver at_end reader = (held reader.window ≡ []) × (at_end (source_of reader) ≡ true)
+
 -- the capture of a record
 abbrev pub capture_of : Record → Capture
 capture_of r = record { link = r.link.now; sender = r.sender; datagram = datagram_bytes r.datagram }
@@ -53,7 +57,10 @@ pub record Leaves {R X : Type 0} (coming : R → Option (List ℕ)) (broken at_e
   pub here : IfErr result (λ e. e.line ≡ lines_behind new + 1)
   -- after an error there is none but Ended, at the same line
   pub ended : has_stopped old ≡ true → (result ≡ Err (record { code = Ended; line = lines_behind old + 1 })) × (lines_behind new ≡ lines_behind old)
+  -- None only where the source has come to its end, and for good
   pub none_left : result ≡ Ok None → at_end (source_of new) ≡ true
+  pub over : result ≡ Ok None → IsOver at_end new
+  pub stays_over : has_stopped old ≡ false → IsOver at_end old → (result ≡ Ok None) × IsOver at_end new
   pub onward : IfOk result (λ found. IfSome found (λ _. (lines_behind old + 1 ≤ lines_behind new) × (lines_behind new ≤ 1000000)))
   pub numbered : IfOk result (λ found. IfSome found (λ x. number x ≡ lines_behind new))
   pub stopped : has_stopped new ≡ is_err result

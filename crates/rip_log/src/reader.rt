@@ -1,6 +1,6 @@
 //! The records of a log, one after the other.
 
-ghost use Rattle.std.specs.Prelude.{◌≡◌, ◌+◌, ◌≤◌, ◌<◌, true, false, length, IfErr, IfOk, IfSome, is_err};
+ghost use Rattle.std.specs.Prelude.{◌≡◌, ◌≢◌, ◌+◌, ◌≤◌, ◌<◌, true, false, length, IfErr, IfOk, IfSome, is_err};
 ghost use Rattle.std.specs.Borrow.{sem};
 ghost use Rattle.std.specs.Io.BufRead.{Rests};
 ghost use Rattle.rip_wire.specs.Name.{is_name};
@@ -73,7 +73,7 @@ struct Reading<R> {
 }
 
 impl<R: Source> Reading<R> {
-    ghost use Rattle.rip_log.specs.Leaves.{Leaves, capture_of, has_stopped, lines_behind, source_of, unread};
+    ghost use Rattle.rip_log.specs.Leaves.{IsOver, Leaves, capture_of, has_stopped, lines_behind, source_of, unread};
     ghost use Rattle.rip_log.specs.Places.{IsGood, LineSays, capture_at};
     ghost use Rattle.rip_log.specs.Held.{held};
 
@@ -102,6 +102,7 @@ impl<R: Source> Reading<R> {
         ensures marks { unread result ≡ false → R.broken (source_of self.new) ≡ R.broken (source_of self.old) }
         ensures here { IfErr result (λ e. e.line ≡ lines_behind self.new + 1) }
         ensures stopped { has_stopped self.new ≡ is_err result }
+        ensures some { result ≢ Ok Step.End }
     {
         let (from, to) = match self.window.take_line() {
             Err(Failed) => return Err(self.stop(LogCode::Read)),
@@ -129,6 +130,8 @@ impl<R: Source> Reading<R> {
         ensures marks { unread result ≡ false → R.broken (source_of self.new) ≡ R.broken (source_of self.old) }
         ensures here { IfErr result (λ e. e.line ≡ lines_behind self.new + 1) }
         ensures stopped { has_stopped self.new ≡ is_err result }
+        ensures over { result ≡ Ok Step.End → IsOver R.at_end self.new }
+        ensures stays_over { IsOver R.at_end self.old → result ≡ Ok Step.End }
     {
         match self.window.has_line() {
             Err(Failed) => return Err(self.stop(LogCode::Read)),

@@ -131,7 +131,8 @@ impl<R: Source> Window<R> {
     pub fn has_line(&mut self) -> Result<bool, Failed>
         ensures text { Keeps (text R.coming self.old) (text R.coming self.new) }
         ensures some { IfOk result (HasLine (text R.coming self.new)) }
-        ensures at_end { result ≡ Ok false → R.at_end self.new.source ≡ true }
+        ensures at_end { result ≡ Ok false → (held self.new ≡ []) × (R.at_end self.new.source ≡ true) }
+        ensures stays { held self.old ≡ [] → R.at_end self.old.source ≡ true → (result ≡ Ok false) × (held self.new ≡ []) × (R.at_end self.new.source ≡ true) }
         ensures held { result ≡ Ok true → 0 < length (held self.new) }
         ensures ok { OnOk result (R.broken self.new.source ≡ R.broken self.old.source) }
         ensures err { OnErr result (R.broken self.new.source ≡ true) }

@@ -1,5 +1,5 @@
 use Rattle.std.proofs.Common.{◌≡◌, ◌-◌, ◌≤◌, false}
-use Rattle.rip_log.specs.Leaves.{log_to_come, lines_behind, has_stopped, source_of}
+use Rattle.rip_log.specs.Leaves.{IsOver, log_to_come, lines_behind, has_stopped, source_of}
 use Rattle.rip_log.specs.Logs.{SameLog}
 use Rattle.rip_log.proofs.reader.Reading.advance.Given as goal
 
@@ -9,6 +9,7 @@ invariant-lines g l = record {
   running : has_stopped l.self ≡ false;
   onward : lines_behind l.fn.self ≤ lines_behind l.self;
   marks : g.R.Source.broken (source_of l.self) ≡ g.R.Source.broken (source_of l.fn.self);
+  over : IsOver g.R.Source.at_end l.fn.self → IsOver g.R.Source.at_end l.self;
   was_running : has_stopped l.fn.self ≡ false;
 }
 
