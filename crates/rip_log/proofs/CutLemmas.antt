@@ -1,5 +1,5 @@
 -- What taking the first line off a window leaves.
-use Rattle.std.proofs.Common.{◌≡◌, ◌+◌, ◌-◌, ◌≤◌, ◌<◌, ℕ, zero, suc, List, [], ◌∷◌, ◌++◌, Option, Some, None, length, take, drop, slice_range, refl, sym, ap, ◌∙◌, arith, append-nil, append_assoc, Bool, true, false, cond, ◌==◌, get_or}
+use Rattle.std.proofs.Common.{◌≡◌, ◌+◌, ◌-◌, ◌≤◌, ◌<◌, ℕ, zero, suc, List, [], ◌∷◌, ◌++◌, Option, Some, None, length, take, drop, slice_range, refl, sym, ap, ◌∙◌, arith, append-nil, append_assoc, Bool, true, false, cond, ◌==◌}
 use Rattle.std.proofs.lemmas.List.{take-take, drop-take, drop-drop, length-take, length-drop, length-append, take-append-drop, get_or-take}
 use Rattle.std.specs.Prelude.{nat_lt}
 use Rattle.std.proofs.lemmas.List.{nil_from_length}

@@ -1,5 +1,5 @@
 -- A run of bytes that are no blanks is a field.
-use Rattle.std.proofs.Common.{◌≡◌, ◌+◌, ◌-◌, ◌≤◌, ◌<◌, ℕ, zero, suc, Bool, true, false, List, [], ◌∷◌, length, take, drop, get_or, refl, sym, ap, ◌∙◌, arith, slice_range, ◌==◌, eq-eqb}
+use Rattle.std.proofs.Common.{◌≡◌, ◌+◌, ◌-◌, ◌≤◌, ◌<◌, ℕ, zero, suc, true, false, List, [], ◌∷◌, length, take, drop, get_or, refl, ap, ◌∙◌, arith, slice_range, ◌==◌, eq-eqb}
 use Rattle.std.proofs.lemmas.List.{get_or-drop, drop-drop, length-drop, drop_more}
 use Rattle.rip_log.specs.Fields.{fields_of, is_blank, ends_field, onto, is_comment}
 
@@ -47,7 +47,7 @@ is_comment-range line fields rest start end split some within =
     let n = end - start - 1 in
     let count : end - start ≡ suc n = omega arith in
     let front : slice_range line start end ≡ get_or line start 0 ∷ take n (drop (start + 1) line) =
-        ap (λ k. take k (drop start line)) count ∙ ap (take (suc n)) (drop_more line start 0 (omega arith)) in
+    ap (λ k. take k (drop start line)) count ∙ ap (take (suc n)) (drop_more line start 0 (omega arith)) in
     ap is_comment (split ∙ ap (λ l. l ∷ rest) front)
 
 no-eqb : (a b : ℕ) → (a ≡ b → ⊥) → (a == b) ≡ false

@@ -1,5 +1,5 @@
 -- The fields of a line are those that are computed.
-use Rattle.std.proofs.Common.{◌≡◌, ◌≢◌, ◌+◌, ◌-◌, ◌<◌, ℕ, Bool, true, false, cond, List, [], ◌∷◌, ◌++◌, length, take, get_or, refl, sym, ap, ◌∙◌, arith, subst, ◌&&◌, ◌==◌, eqb-true}
+use Rattle.std.proofs.Common.{◌≡◌, ◌≢◌, ◌-◌, ℕ, Bool, true, false, cond, List, [], ◌∷◌, ◌++◌, length, take, get_or, refl, sym, ap, ◌∙◌, arith, subst, ◌&&◌, ◌==◌, eqb-true}
 use Rattle.std.specs.List.{AllByRecursion}
 use Rattle.std.specs.Io.BufRead.{strip_last, ends_with_byte}
 use Rattle.std.proofs.lemmas.Grind.{common_steps}
@@ -39,10 +39,10 @@ after-blank b bytes (field ∷ fields) is are =
 -- a field of one byte in front
 alone : (b : ℕ) (bytes : List ℕ) (fields : List (List ℕ)) → ¬ IsBlank b → EndsRun bytes → AreFields bytes fields → AreFields (b ∷ bytes) ((b ∷ []) ∷ fields)
 alone b bytes fields is end are = (
-    bytes,
-    record { before = []; blanks = tt; is_field = record { some = λ e. cc e; bytes = (is, tt) }; longest = end; whole = refl },
-    are,
-  )
+  bytes,
+  record { before = []; blanks = tt; is_field = record { some = λ e. cc e; bytes = (is, tt) }; longest = end; whole = refl },
+  are,
+)
 
 -- no field stands in blanks
 begins : (c : ℕ) (bytes : List ℕ) → is_blank c ≡ false → AreFields (c ∷ bytes) [] → ⊥

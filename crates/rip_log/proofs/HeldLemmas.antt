@@ -1,5 +1,5 @@
 -- What a pull does to the text to come.
-use Rattle.std.proofs.Common.{◌≡◌, ◌+◌, ◌≤◌, ℕ, List, [], ◌++◌, Option, None, Some, length, take, drop, get_or, refl, sym, ap, ◌∙◌, append_assoc, arith, slice_range, ◌<◌, ◌-◌, inl, inr, eq-eqb, eqb-true}
+use Rattle.std.proofs.Common.{◌≡◌, ◌+◌, ◌≤◌, ℕ, List, ◌++◌, Option, None, Some, length, take, drop, get_or, sym, ap, ◌∙◌, append_assoc, arith, slice_range, ◌<◌, ◌-◌, inl, inr, eq-eqb, eqb-true}
 use Rattle.std.proofs.lemmas.List.{take-append-drop, take-take, drop-take, get_or-drop, length-drop}
 use Rattle.std.proofs.lemmas.Slice.{between_from_start}
 use Rattle.std.proofs.lemmas.Bool.{cases_lt}

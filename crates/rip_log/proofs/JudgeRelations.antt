@@ -1,13 +1,13 @@
 -- What a line says is what is computed.
-use Rattle.std.proofs.Common.{◌≡◌, ◌≢◌, ◌≤◌, ◌<◌, ◌^◌, ℕ, Bool, true, false, cond, List, [], ◌∷◌, length, Option, Some, None, Result, Ok, Err, refl, sym, ap, ◌∙◌, arith, subst, ◌==◌, eqb-true}
+use Rattle.std.proofs.Common.{◌≡◌, ◌≢◌, ◌≤◌, ◌<◌, ℕ, Bool, true, false, cond, List, [], ◌∷◌, length, Option, Some, None, Result, Ok, Err, refl, ap, ◌∙◌, arith, eqb-true}
 use Rattle.std.specs.Prelude.{nat_lt}
 use Rattle.std.specs.Io.BufRead.{strip_last}
 use Rattle.hex.specs.Hex.{decode_of}
 use Rattle.hex.specs.declared.error.FromHexError.{FromHexError}
-use Rattle.rip_wire.specs.Address.{address_in, address_text}
+use Rattle.rip_wire.specs.Address.{address_in}
 use Rattle.rip_wire.specs.Faults.{WireFault}
 use Rattle.rip_wire.specs.Message.{Message, message_in}
-use Rattle.rip_wire.specs.Name.{IsName, is_name, is_name_byte}
+use Rattle.rip_wire.specs.Name.{IsName, is_name}
 use Rattle.rip_wire.specs.declared.error.WireError.{WireError}
 use Rattle.rip_wire.specs.declared.error.WireCode.{WireCode}
 use Rattle.rip_wire.proofs.FaultLemmas.{wire_fault, wire_fault_told}
@@ -16,7 +16,7 @@ use Rattle.rip_wire.proofs.Parsing.{address_in-gives, address_in-finds}
 use Rattle.rip_log.proofs.FieldRelations.{AreFields-fields_of, fields_of-AreFields, IsBare-strip_last, strip_last-IsBare}
 use Rattle.rip_log.specs.Fields.{fields_of, is_comment}
 use Rattle.rip_log.specs.Lines.{Capture, sized, bytes_of, checked, capture_in, with_sender, three_fields, said_by, unless_skipped, judge_short, judge}
-use Rattle.rip_log.specs.LogText.{HasFields, SaysNothing, IsSkipped, HasThree, IsSender, HasSender, IsRecord, HasOthers, IsBad}
+use Rattle.rip_log.specs.LogText.{HasFields, SaysNothing, HasThree, IsSender, HasSender, HasOthers, IsBad}
 use Rattle.rip_log.specs.Says.{Says}
 use Rattle.rip_log.specs.declared.line.LineCode.{LineCode}
 use Rattle.rip_log.specs.declared.line.LineCode.TheVariants as codes
@@ -24,11 +24,11 @@ use Rattle.rip_log.specs.declared.line.LineCode.TheVariants as codes
 -- the fields that are computed are those of the line
 HasFields-line : (line : List ℕ) → length line ≤ 2048 → HasFields line (fields_of (strip_last 13 line))
 HasFields-line line short = record {
-    short = short;
-    bare = strip_last 13 line;
-    is_bare = IsBare-strip_last line;
-    are_fields = AreFields-fields_of (strip_last 13 line);
-  }
+  short = short;
+  bare = strip_last 13 line;
+  is_bare = IsBare-strip_last line;
+  are_fields = AreFields-fields_of (strip_last 13 line);
+}
 
 fields-same : (line : List ℕ) (fields : List (List ℕ)) → HasFields line fields → fields_of (strip_last 13 line) ≡ fields
 fields-same line fields has = ap fields_of (strip_last-IsBare line has.bare has.is_bare) ∙ fields_of-AreFields has.bare fields has.are_fields

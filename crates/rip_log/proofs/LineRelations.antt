@@ -19,31 +19,31 @@ onto-last b (c ∷ last) = refl
 put : (b : ℕ) (bytes : List ℕ) (lines ended : List (List ℕ)) (last : List ℕ) → b ≢ 10 → AllByRecursion HasNoFeed ended → HasNoFeed last
     → bytes ≡ ended_text ended ++ last → lines ≡ ended ++ last_line last → AreLines (b ∷ bytes) (onto b lines)
 put b bytes lines [] last other no_feed after whole parts = record {
-    ended = [];
-    last = b ∷ last;
-    no_feed = tt;
-    no_feed_after = (other, after);
-    whole = ap (λ l. b ∷ l) whole;
-    parts = ap (onto b) parts ∙ onto-last b last;
-  }
+  ended = [];
+  last = b ∷ last;
+  no_feed = tt;
+  no_feed_after = (other, after);
+  whole = ap (λ l. b ∷ l) whole;
+  parts = ap (onto b) parts ∙ onto-last b last;
+}
 put b bytes lines (line ∷ ended) last other no_feed after whole parts = record {
-    ended = (b ∷ line) ∷ ended;
-    last = last;
-    no_feed = ((other, no_feed.0), no_feed.1);
-    no_feed_after = after;
-    whole = ap (λ l. b ∷ l) whole;
-    parts = ap (onto b) parts;
-  }
+  ended = (b ∷ line) ∷ ended;
+  last = last;
+  no_feed = ((other, no_feed.0), no_feed.1);
+  no_feed_after = after;
+  whole = ap (λ l. b ∷ l) whole;
+  parts = ap (onto b) parts;
+}
 
 choose : (b : ℕ) (bytes : List ℕ) (x : Bool) → (b == 10) ≡ x → AreLines bytes (lines_of bytes) → AreLines (b ∷ bytes) (cond x ([] ∷ lines_of bytes) (onto b (lines_of bytes)))
 choose b bytes true e rest = record {
-    ended = [] ∷ rest.ended;
-    last = rest.last;
-    no_feed = (tt, rest.no_feed);
-    no_feed_after = rest.no_feed_after;
-    whole = ap (λ (k : ℕ). k ∷ bytes) (eqb-true b 10 e) ∙ ap (λ l. 10 ∷ l) rest.whole;
-    parts = ap (λ l. [] ∷ l) rest.parts;
-  }
+  ended = [] ∷ rest.ended;
+  last = rest.last;
+  no_feed = (tt, rest.no_feed);
+  no_feed_after = rest.no_feed_after;
+  whole = ap (λ (k : ℕ). k ∷ bytes) (eqb-true b 10 e) ∙ ap (λ l. 10 ∷ l) rest.whole;
+  parts = ap (λ l. [] ∷ l) rest.parts;
+}
 choose b bytes false e rest = put b bytes (lines_of bytes) rest.ended rest.last (not-eq b 10 e) rest.no_feed rest.no_feed_after rest.whole rest.parts
 
 pub AreLines-lines_of : (text : List ℕ) → AreLines text (lines_of text)

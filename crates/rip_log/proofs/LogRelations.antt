@@ -1,12 +1,12 @@
 -- The log of a text is what the words of the format say.
-use Rattle.std.proofs.Common.{◌≡◌, ◌+◌, ◌≤◌, ◌<◌, ℕ, Bool, true, false, cond, List, [], ◌∷◌, ◌++◌, length, Option, Some, None, Result, Ok, Err, refl, sym, ap, ◌∙◌, arith, subst, inl, inr, ◌⊎◌, append-nil, append_assoc, add-zero}
+use Rattle.std.proofs.Common.{◌≡◌, ◌+◌, ◌≤◌, ◌<◌, ℕ, Bool, true, false, cond, List, [], ◌∷◌, ◌++◌, length, Option, Some, None, Result, Ok, Err, refl, sym, ap, ◌∙◌, arith, subst, inl, inr, append-nil, append_assoc, add-zero}
 use Rattle.std.proofs.Math.Dec.{leb}
 use Rattle.std.proofs.lemmas.Bool.{le-leb}
-use Rattle.rip_log.specs.Codes.{log_code, is_read}
+use Rattle.rip_log.specs.Codes.{is_read}
 use Rattle.rip_log.specs.Leaves.{capture_of, line_of}
 use Rattle.rip_log.specs.Lines.{Capture, lines_of, judge}
-use Rattle.rip_log.specs.Logs.{Numbered, Log, log_of, log_in, with_line, ended_log, faulty_log, onto_log, Gives, Whether}
-use Rattle.rip_log.specs.LogText.{AreLines, AreRecords, IsSkipped, IsRecord, IsBad, IsFault, too_many, bad, LogText, LogFault}
+use Rattle.rip_log.specs.Logs.{Numbered, Log, log_of, log_in, with_line, faulty_log, onto_log, Gives, Whether}
+use Rattle.rip_log.specs.LogText.{AreLines, AreRecords, IsSkipped, IsFault, too_many, bad, LogText, LogFault}
 use Rattle.rip_log.specs.Runs.{IsTaken, numbered}
 use Rattle.rip_log.specs.Says.{Says}
 use Rattle.rip_log.specs.declared.line.LineCode.{LineCode}
@@ -74,14 +74,14 @@ fault-moved n m line code e h = subst (λ (k : ℕ). IsFault k line code) e h
 later-broken : (n : ℕ) (line : List ℕ) (lines : List (List ℕ)) (records all : List Numbered) (e : LogError)
     → ((before : List (List ℕ)) → AreRecords (n + 1) before records → AreRecords n (line ∷ before) all) → Broken (n + 1) lines records e → Broken n (line ∷ lines) all e
 later-broken n line lines records all e onto b = record {
-    before = line ∷ b.before;
-    bad = b.bad;
-    after = b.after;
-    split = ap (λ (l : List (List ℕ)). line ∷ l) b.split;
-    are_records = onto b.before b.are_records;
-    number = b.number ∙ omega arith;
-    fault = fault-moved _ _ b.bad e.code (omega arith) b.fault;
-  }
+  before = line ∷ b.before;
+  bad = b.bad;
+  after = b.after;
+  split = ap (λ (l : List (List ℕ)). line ∷ l) b.split;
+  are_records = onto b.before b.are_records;
+  number = b.number ∙ omega arith;
+  fault = fault-moved _ _ b.bad e.code (omega arith) b.fault;
+}
 
 tells-later : (n : ℕ) (line : List ℕ) (lines : List (List ℕ)) (records all : List Numbered) (f : Option LogError)
     → ((before : List (List ℕ)) → AreRecords (n + 1) before records → AreRecords n (line ∷ before) all) → Tells (n + 1) lines records f → Tells n (line ∷ lines) all f
@@ -168,12 +168,12 @@ LogFault-log_in text records e is =
 pub IsTaken-more : (taken : List Numbered) (log rest : Log) (new : Option Log) (r : Record) → IsTaken taken log rest → Gives capture_of line_of (Some rest) new (Ok (Some r))
     → (later : Log) × (new ≡ Some later) × IsTaken (taken ++ numbered r ∷ []) log later
 IsTaken-more taken log rest new r is gives = (
-    gives.0,
-    gives.1,
-    is
-    ∙ ap (λ (l : Log). record { records = taken ++ l.records; fault = l.fault }) gives.2
-    ∙ ap (λ (l : List Numbered). record { records = l; fault = gives.0.fault }) (sym (append_assoc taken (numbered r ∷ []) gives.0.records)),
-  )
+  gives.0,
+  gives.1,
+  is
+      ∙ ap (λ (l : Log). record { records = taken ++ l.records; fault = l.fault }) gives.2
+      ∙ ap (λ (l : List Numbered). record { records = l; fault = gives.0.fault }) (sym (append_assoc taken (numbered r ∷ []) gives.0.records)),
+)
 
 pub IsTaken-end : (taken : List Numbered) (log rest : Log) (new : Option Log) → IsTaken taken log rest → Gives capture_of line_of (Some rest) new (Ok None) → log ≡ record { records = taken; fault = None }
 IsTaken-end taken log rest new is gives =

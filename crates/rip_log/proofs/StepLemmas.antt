@@ -6,7 +6,7 @@ use Rattle.std.specs.Io.KnownBytes.{Keeps}
 use Rattle.rip_log.specs.Codes.{log_code, is_read}
 use Rattle.rip_log.specs.Cuts.{FirstLine, LongFirst, HasLine}
 use Rattle.rip_log.specs.Lines.{Capture, lines_of, judge}
-use Rattle.rip_log.specs.Logs.{Log, log_of, log_at, with_line, ended_log, faulty_log, onto_log, Gives, SameLog, Whether}
+use Rattle.rip_log.specs.Logs.{Log, log_of, log_at, with_line, faulty_log, onto_log, Gives, SameLog, Whether}
 use Rattle.rip_log.specs.declared.line.LineCode.{LineCode}
 use Rattle.rip_log.specs.declared.line.LineCode.TheVariants as codes
 use Rattle.rip_log.specs.declared.error.LogCode.{LogCode}
@@ -93,8 +93,8 @@ module _ {X : Type 0} (view : X → Capture) (number : X → ℕ) where
   Gives-found (Some t) (Some r) n after line x few e cut count num =
       let said = ap (log_of n) cut ∙ first-line n line (lines_of r) (Ok (Some (view x))) few e in
       let moved : onto_log (record { line = n + 1; capture = view x }) (log_of (n + 1) (lines_of r)) ≡ onto_log (record { line = number x; capture = view x }) (log_of after (lines_of r)) =
-          ap (λ (k : ℕ). onto_log (record { line = k; capture = view x }) (log_of k (lines_of r))) (sym count)
-          ∙ ap (λ (k : ℕ). onto_log (record { line = k; capture = view x }) (log_of after (lines_of r))) (sym num) in
+      ap (λ (k : ℕ). onto_log (record { line = k; capture = view x }) (log_of k (lines_of r))) (sym count)
+      ∙ ap (λ (k : ℕ). onto_log (record { line = k; capture = view x }) (log_of after (lines_of r))) (sym num) in
       (log_of after (lines_of r), refl, said ∙ moved)
 
   bad : (log : Log) (left : Option Log) (n : ℕ) (c : LogCode) (e : LogError) → log ≡ faulty_log (record { line = n; code = c }) → is_read c ≡ false → e.line ≡ n → e.code ≡ c → Gives view number (Some log) left (Err e)

@@ -2,7 +2,7 @@
 use Rattle.std.specs.Prelude.{◌≡◌, ◌≤◌, ℕ, true, List, Option, Some, None, Result, Ok, Err, length, take, slice_range, is_ok}
 use Rattle.rip_wire.specs.Message.{message_in}
 use Rattle.rip_wire.specs.Name.{is_name}
-use Rattle.rip_log.specs.Lines.{Capture, judge}
+use Rattle.rip_log.specs.Lines.{Capture}
 use Rattle.rip_log.specs.declared.line.LineCode.{LineCode}
 use Rattle.rip_log.specs.declared.line.Parts.{Parts}
 

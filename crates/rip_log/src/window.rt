@@ -171,7 +171,11 @@ impl<R: Source> Window<R> {
         let mut seen = 0;
         loop {
             if let Some(at) = self.feed_from(seen) {
-                return Ok(if at <= MOST_BYTES { LineEnd::Feed(at) } else { LineEnd::Long });
+                return Ok(if at <= MOST_BYTES {
+                    LineEnd::Feed(at)
+                } else {
+                    LineEnd::Long
+                });
             }
             seen = self.held().len();
             if seen > MOST_BYTES {

@@ -145,7 +145,13 @@ fn expect_outcome(
     for _ in 0..2 {
         match (reader.next(), fault) {
             (Ok(None), None) => {}
-            (Err(error), Some(fault)) => assert_eq!(rt; error, LogError { code: LogCode::Ended, line: fault.line }),
+            (Err(error), Some(fault)) => assert_eq!(rt;
+                error,
+                LogError {
+                    code: LogCode::Ended,
+                    line: fault.line
+                }
+            ),
             _ => panic!(rt; "another outcome later"),
         }
     }
@@ -202,7 +208,12 @@ fn first_faults(rt: HostRuntime) -> Result<(), Fail> {
         (comment.as_str(), b"\r\n", 0, Some((LogCode::LongLine, 1))),
         ("", digit_lost, 5, Some((LogCode::Hex, 6))),
         ("", byte_lost, 5, Some((ragged, 6))),
-        (" \t# a b\n\r\n", b"a 10.1.0.1", 0, Some((LogCode::Fields, 3))),
+        (
+            " \t# a b\n\r\n",
+            b"a 10.1.0.1",
+            0,
+            Some((LogCode::Fields, 3)),
+        ),
         ("", b"a 10.1.0.1 02 02", 0, Some((LogCode::Fields, 1))),
         ("", b"\r\r", 0, Some((LogCode::Fields, 1))),
         ("", b"a! 10.1.0.01 02", 0, Some((LogCode::LinkName, 1))),

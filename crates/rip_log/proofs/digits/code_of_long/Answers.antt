@@ -1,4 +1,4 @@
-use Rattle.std.proofs.Common.{arith, sym, ◌∙◌, rules}
+use Rattle.std.proofs.Common.{arith, sym, ◌∙◌}
 use Rattle.std.proofs.lemmas.Bool.{false≢true}
 use Rattle.rip_log.proofs.DigitLemmas.{bytes_of-odd, bytes_of-long, bytes_of-bad}
 use Rattle.rip_log.proofs.digits.code_of_long.Goals as goal

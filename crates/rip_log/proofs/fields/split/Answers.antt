@@ -1,5 +1,4 @@
-use Rattle.std.proofs.Common.{arith, ap, ◌∙◌, ◌∷◌, slice_range, suc, List, ℕ, ◌≡◌, length}
-use Rattle.rip_log.specs.Fields.{fields_of}
+use Rattle.std.proofs.Common.{arith, ap, ◌∙◌, ◌∷◌, slice_range, suc, List, ℕ, length}
 use Rattle.rip_log.proofs.FieldLemmas.{is_comment-no, is_comment-yes}
 use Rattle.rip_log.proofs.fields.split.Goals as goal
 
@@ -26,8 +25,7 @@ returns-in-None c =
     let one = c.in-Some.ensures in
     let two = c.in-Some-next_field.ensures in
     let three = c.in-Some-next_field-2.ensures in
-    let line = c.args.line.now in
-    (
+    let line = c.args.line.now in (
       is_comment-no line _ _ _ one.split one.some one.within c.if-line-first-eq35.false,
       cc (one.split, two.split, three.split, c.in-None.ensures),
       record { ordered = omega (arith, one.some); within = one.within },

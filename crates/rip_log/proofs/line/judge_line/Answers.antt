@@ -1,4 +1,3 @@
-use Rattle.std.proofs.Common.{length}
 use Rattle.rip_log.proofs.JudgeLemmas.{Tells-line}
 use Rattle.rip_log.proofs.line.judge_line.Goals as goal
 

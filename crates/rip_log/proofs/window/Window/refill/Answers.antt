@@ -1,4 +1,4 @@
-use Rattle.std.proofs.Common.{rules, ◌∙◌, ap, sym, take, drop, ◌++◌}
+use Rattle.std.proofs.Common.{◌∙◌, ap, take, drop, ◌++◌}
 use Rattle.rip_log.proofs.HeldLemmas.{Keeps-held, held-more}
 use Rattle.rip_log.proofs.window.Window.refill.Goals as goal
 
