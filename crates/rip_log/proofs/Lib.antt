@@ -10,3 +10,4 @@ pub mod LineRelations
 pub mod FieldRelations
 pub mod JudgeRelations
 pub mod LogRelations
+pub mod PassLemmas

@@ -1,5 +1,5 @@
 -- What taking the first line off a text leaves.
-use Rattle.std.specs.Prelude.{◌≡◌, ◌<◌, ◌≤◌, ◌+◌, ℕ, Bool, true, false, List, [], ◌∷◌, Option, Some, None, length, slice_range}
+use Rattle.std.specs.Prelude.{◌≡◌, ◌<◌, ◌≤◌, ◌+◌, ℕ, Bool, true, false, List, [], ◌∷◌, ◌++◌, Option, Some, None, length, slice_range}
 use Rattle.rip_log.specs.Lines.{lines_of}
 use Rattle.rip_log.specs.declared.window.RawLine.{RawLine}
 use Rattle.rip_log.specs.declared.window.RawLine.TheVariants.{Line, Long}
@@ -30,3 +30,9 @@ Cuts old new items Long = LongFirst old
 abbrev pub LiesWithin : ℕ → RawLine → Type 0
 LiesWithin n (Line from to) = (from ≤ to) × (to ≤ n) × (to ≤ from + 2048)
 LiesWithin n Long = Unit {0}
+
+-- these many lines of known text, of which n others come before, were passed
+abbrev pub PassesLines : Option (List ℕ) → ℕ → Option (List ℕ) → ℕ → Type 0
+PassesLines None n left after = Unit {0}
+PassesLines (Some t) n None after = ⊥
+PassesLines (Some t) n (Some rest) after = (passed : List (List ℕ)) × (lines_of t ≡ passed ++ lines_of rest) × (after ≡ n + length passed)

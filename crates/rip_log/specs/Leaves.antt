@@ -2,6 +2,7 @@
 use Rattle.std.specs.Prelude.{◌≡◌, ◌+◌, ◌≤◌, ℕ, Bool, true, false, List, [], Option, None, Result, Ok, Err, IfOk, IfErr, IfSome, is_err}
 use Rattle.rip_wire.specs.Datagram.{datagram_bytes}
 use Rattle.rip_log.specs.Codes.{is_read}
+use Rattle.rip_log.specs.Cuts.{PassesLines}
 use Rattle.rip_log.specs.Held.{held, text as window_text}
 use Rattle.rip_log.specs.Lines.{Capture}
 use Rattle.rip_log.specs.Logs.{Log, log_at, Gives}
@@ -53,6 +54,8 @@ pub record Leaves {R X : Type 0} (coming : R → Option (List ℕ)) (broken at_e
   pub gives : has_stopped old ≡ false → Gives view number (log_to_come coming old) (log_to_come coming new) result
   -- the code Read only where the source failed; every other outcome leaves its mark
   pub failed : unread result ≡ true → broken (source_of new) ≡ true
+  -- at the line after those that were passed
+  pub passed : unread result ≡ true → has_stopped old ≡ false → PassesLines (text coming old) (lines_behind old) (text coming new) (lines_behind new)
   pub marks : unread result ≡ false → broken (source_of new) ≡ broken (source_of old)
   pub here : IfErr result (λ e. e.line ≡ lines_behind new + 1)
   -- after an error there is none but Ended, at the same line

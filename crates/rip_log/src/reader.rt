@@ -73,7 +73,8 @@ struct Reading<R> {
 }
 
 impl<R: Source> Reading<R> {
-    ghost use Rattle.rip_log.specs.Leaves.{IsOver, Leaves, capture_of, has_stopped, lines_behind, source_of, unread};
+    ghost use Rattle.rip_log.specs.Leaves.{IsOver, Leaves, capture_of, has_stopped, lines_behind, source_of, text, unread};
+    ghost use Rattle.rip_log.specs.Cuts.{PassesLines};
     ghost use Rattle.rip_log.specs.Places.{IsGood, LineSays, capture_at};
     ghost use Rattle.rip_log.specs.Held.{held};
 
@@ -93,6 +94,7 @@ impl<R: Source> Reading<R> {
     }
 
     /// Takes a line that there is.
+    #[tactic(auto, using(crate::proofs::PassLemmas::passes_line))]
     fn read_line(&mut self) -> Result<Step, LogError>
         requires running { has_stopped self.old ≡ false }
         requires few { lines_behind self.old < 1000000 }
@@ -100,6 +102,8 @@ impl<R: Source> Reading<R> {
         ensures says { LineSays R.coming R.at_end self.old self.new result }
         ensures failed { unread result ≡ true → R.broken (source_of self.new) ≡ true }
         ensures marks { unread result ≡ false → R.broken (source_of self.new) ≡ R.broken (source_of self.old) }
+        ensures passed { unread result ≡ true → PassesLines (text R.coming self.old) (lines_behind self.old) (text R.coming self.new) (lines_behind self.new) }
+        ensures skipped { result ≡ Ok Step.Skipped → PassesLines (text R.coming self.old) (lines_behind self.old) (text R.coming self.new) (lines_behind self.new) }
         ensures here { IfErr result (λ e. e.line ≡ lines_behind self.new + 1) }
         ensures stopped { has_stopped self.new ≡ is_err result }
         ensures some { result ≢ Ok Step.End }
@@ -128,6 +132,8 @@ impl<R: Source> Reading<R> {
         ensures says { LineSays R.coming R.at_end self.old self.new result }
         ensures failed { unread result ≡ true → R.broken (source_of self.new) ≡ true }
         ensures marks { unread result ≡ false → R.broken (source_of self.new) ≡ R.broken (source_of self.old) }
+        ensures passed { unread result ≡ true → PassesLines (text R.coming self.old) (lines_behind self.old) (text R.coming self.new) (lines_behind self.new) }
+        ensures skipped { result ≡ Ok Step.Skipped → PassesLines (text R.coming self.old) (lines_behind self.old) (text R.coming self.new) (lines_behind self.new) }
         ensures here { IfErr result (λ e. e.line ≡ lines_behind self.new + 1) }
         ensures stopped { has_stopped self.new ≡ is_err result }
         ensures over { result ≡ Ok Step.End → IsOver R.at_end self.new }
@@ -145,6 +151,7 @@ impl<R: Source> Reading<R> {
     }
 
     /// Reads up to the next record, and says where it lies.
+    #[tactic(auto, using(crate::proofs::PassLemmas::passes_trans))]
     fn advance(&mut self) -> Result<Option<Place>, LogError>
         ensures leaves { Leaves R.coming R.broken R.at_end (capture_at self.new) (λ _. lines_behind self.new) self.old self.new result }
         ensures good { IfOk result (λ found. IfSome found (IsGood self.new)) }

@@ -29,8 +29,8 @@ pub trait Source {
         ensures fails_on { broken self.old ≡ true → broken self.new ≡ true }
 
         // Nothing comes into room for some exactly where the end is reached.
-        ensures ended { 0 < length buffer.new → at_end self.new ≡ true ↔ result ≡ Ok 0 }
-        ensures ends_on { at_end self.old ≡ true → at_end self.new ≡ true × (result ≡ Ok 0) };
+        ensures ended { 0 < length buffer.new → (at_end self.new ≡ true) ↔ (result ≡ Ok 0) }
+        ensures ends_on { at_end self.old ≡ true → (at_end self.new ≡ true) × (result ≡ Ok 0) };
 
     /// Whether the device has failed.
     fn failed(&self) -> bool

@@ -1,11 +1,13 @@
 use Rattle.std.proofs.Common.{◌≡◌, ◌-◌, ◌≤◌, false}
-use Rattle.rip_log.specs.Leaves.{IsOver, log_to_come, lines_behind, has_stopped, source_of}
+use Rattle.rip_log.specs.Leaves.{IsOver, text, log_to_come, lines_behind, has_stopped, source_of}
+use Rattle.rip_log.specs.Cuts.{PassesLines}
 use Rattle.rip_log.specs.Logs.{SameLog}
 use Rattle.rip_log.proofs.reader.Reading.advance.Given as goal
 
 abbrev pub invariant-lines : goal.invariant-lines
 invariant-lines g l = record {
   same : SameLog (log_to_come g.R.Source.coming l.fn.self) (log_to_come g.R.Source.coming l.self);
+  passed : PassesLines (text g.R.Source.coming l.fn.self) (lines_behind l.fn.self) (text g.R.Source.coming l.self) (lines_behind l.self);
   running : has_stopped l.self ≡ false;
   onward : lines_behind l.fn.self ≤ lines_behind l.self;
   marks : g.R.Source.broken (source_of l.self) ≡ g.R.Source.broken (source_of l.fn.self);
