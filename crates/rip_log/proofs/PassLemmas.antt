@@ -1,5 +1,5 @@
 -- How many lines were passed.
-use Rattle.std.proofs.Common.{◌≡◌, ◌+◌, ℕ, List, [], ◌∷◌, ◌++◌, length, Option, Some, None, refl, sym, ap, ◌∙◌, arith, append_assoc, length-append}
+use Rattle.std.proofs.Common.{◌≡◌, ◌+◌, ℕ, List, [], ◌∷◌, ◌++◌, Option, Some, None, sym, ap, ◌∙◌, arith, append_assoc, length-append}
 use Rattle.std.specs.Io.KnownBytes.{Keeps}
 use Rattle.rip_log.specs.Cuts.{FirstLine, PassesLines}
 use Rattle.rip_log.specs.Lines.{lines_of}
@@ -19,7 +19,7 @@ passes_trans None mid new n between after first second = tt
 passes_trans (Some t) None new n between after first second = absurd first
 passes_trans (Some t) (Some m) None n between after first second = absurd second
 passes_trans (Some t) (Some m) (Some r) n between after first second = (
-    first.0 ++ second.0,
-    first.1 ∙ ap (λ (l : List (List ℕ)). first.0 ++ l) second.1 ∙ sym (append_assoc first.0 second.0 (lines_of r)),
-    omega (arith, first.2, second.2, length-append first.0 second.0),
-  )
+  first.0 ++ second.0,
+  first.1 ∙ ap (λ (l : List (List ℕ)). first.0 ++ l) second.1 ∙ sym (append_assoc first.0 second.0 (lines_of r)),
+  omega (arith, first.2, second.2, length-append first.0 second.0),
+)

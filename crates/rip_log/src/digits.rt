@@ -8,7 +8,7 @@ ghost use Rattle.rip_log.specs.Lines.{bytes_of};
 use crate::line::LineCode;
 
 /// The most bytes of a datagram.
-pub const MOST_BYTES: usize = 504;
+const MOST_BYTES: usize = 504;
 
 /// Whether the byte is a hex digit, of either case.
 fn is_digit(byte: u8) -> bool
