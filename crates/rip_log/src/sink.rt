@@ -86,3 +86,6 @@ impl<W: Write> Sink for IntoWrite<W> {
         self.failed
     }
 }
+
+#[cfg(test)]
+mod tests;

@@ -126,3 +126,6 @@ impl<R: Read> Source for FromRead<R> {
         matches!(self.mark, Mark::Ended)
     }
 }
+
+#[cfg(test)]
+mod tests;

@@ -273,6 +273,25 @@ fn failing_reads(rt: HostRuntime) -> Result<(), Fail> {
 }
 
 #[test]
+fn the_last_lines(rt: HostRuntime) -> Result<(), Fail> {
+    let alloc = rt.alloc();
+    let whole = settled(alloc, "\n")?;
+    let fault = LogError {
+        code: LogCode::TooManyLines,
+        line: 1_000_001,
+    };
+    for (more, outcome) in [("", None), ("\n", Some(fault)), ("x", Some(fault))] {
+        let mut log = Vec::new(alloc);
+        log.extend_from_slice(whole.as_bytes())?;
+        log.resize(whole.len() + 999_994, b'\n')?;
+        log.extend_from_slice(more.as_bytes())?;
+        let mut reader = reader_in(&rt, alloc, log.as_slice(), 4096, 0);
+        expect_outcome(&rt, &mut reader, 6, outcome);
+    }
+    Ok(())
+}
+
+#[test]
 fn endless_sources(rt: HostRuntime) {
     for (byte, piece, code, line, calls) in [
         (b'x', 1, LogCode::LongLine, 1, 2049),
