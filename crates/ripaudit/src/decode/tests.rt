@@ -175,12 +175,13 @@ fn response(rt: &impl Abort) -> [u8; 504] {
 fn changed(
     rt: &impl Abort,
     alloc: Global,
-    changes: &[(usize, usize, [u8; 4])],
+    changes: &[(u8, u8, [u8; 4])],
     more: usize,
 ) -> Result<String, AllocError> {
     let mut bytes = response(rt);
     for (entry, group, new) in changes {
-        let at = 4 + 20 * *entry + 4 * *group;
+        let at = 4 + 20 * usize::from(*entry) + 4 * usize::from(*group);
+        assert!(rt; at <= 500);
         bytes[at..at + 4].copy_from_slice(new);
     }
     let mut word = hex_text(alloc, &bytes)?;
@@ -203,10 +204,10 @@ fn each_code_at_each_entry(rt: HostRuntime) -> Result<(), Fail> {
         (4, [0, 0, 0, 17], "13 Metric", 20),
         (4, [255, 255, 255, 255], "13 Metric", 20),
     ];
-    for i in 0..25usize {
+    for i in 0..25u8 {
         for (group, new, code, offset) in rows {
             let word = changed(&rt, rt.alloc(), &[(i, group, new)], 0)?;
-            let at: usize = offset + 20 * i;
+            let at = offset + 20 * usize::from(i);
             let text = format!(in alloc; "refused: wire {code} at {at}\n")?;
             expect_text(&rt, alloc, word.as_str(), text.as_str(), Status::Refused);
         }
@@ -218,7 +219,7 @@ fn each_code_at_each_entry(rt: HostRuntime) -> Result<(), Fail> {
 fn the_first_of_two_faults(rt: HostRuntime) -> Result<(), Fail> {
     let host_bits = (3, 1, [10, 103, 0, 1]);
     let metric = (7, 4, [0, 0, 0, 0]);
-    let rows: [(&[(usize, usize, [u8; 4])], usize, &str); 6] = [
+    let rows: [(&[(u8, u8, [u8; 4])], usize, &str); 6] = [
         (&[metric, host_bits], 0, "12 HostBits at 68"),
         (&[host_bits, (3, 4, [0, 0, 0, 17])], 0, "12 HostBits at 68"),
         (&[host_bits, (3, 2, [255, 0, 255, 0])], 0, "10 Mask at 72"),
