@@ -1,6 +1,7 @@
 //! Values from outside.
 
 use crate::*;
+use std::hash::{DefaultHasher, Hash, Hasher};
 use std::process::Abort;
 use std::test::Fail;
 
@@ -124,6 +125,27 @@ fn orders_prefixes(rt: HostRuntime) {
         }
     }
     assert!(rt; Address::new(9) < Address::new(10));
+}
+
+/// The value's hash, as the standard library computes it.
+fn hash_of<T: Hash>(value: &T) -> u64 {
+    let mut hasher = DefaultHasher::new();
+    value.hash(&mut hasher);
+    hasher.finish()
+}
+
+#[test]
+fn hashes_by_value(rt: HostRuntime) {
+    let parsed = make_prefix(&rt, "10.3.0.0/16");
+    let made = Prefix::new(Address::new(0x0A03_0000), 16);
+    assert_eq!(rt; Some(hash_of(&parsed)), made.map(|prefix| hash_of(&prefix)));
+    assert!(rt; hash_of(&parsed) != hash_of(&make_prefix(&rt, "10.3.0.0/17")));
+    assert!(rt; hash_of(&parsed) != hash_of(&make_prefix(&rt, "10.2.0.0/16")));
+    assert_eq!(rt;
+        Address::parse("10.3.0.1").map(|address| hash_of(&address)),
+        Some(hash_of(&Address::new(0x0A03_0001)))
+    );
+    assert!(rt; hash_of(&Address::new(1)) != hash_of(&Address::new(2)));
 }
 
 #[test]
