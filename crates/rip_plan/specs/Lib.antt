@@ -7,3 +7,4 @@ pub mod Touches
 pub mod Network
 pub mod Indexed
 pub mod Answers
+pub mod Relations

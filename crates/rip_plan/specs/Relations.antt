@@ -1,0 +1,114 @@
+-- What stands in a network: who is on which link at what cost, where each prefix is, and the laws that a plan keeps.
+use Rattle.std.specs.Prelude.{◌≡◌, ◌≢◌, ℕ, ◌<◌, ◌≤◌, ◌^◌, ◌⊎◌, List, length, Some, slice_get}
+use Rattle.rip_wire.specs.Name.{IsName}
+use Rattle.rip_wire.specs.Prefix.{Block, ContainsAddress, IsBlock}
+use Rattle.rip_plan.specs.declared.parts.Place.{Place}
+use Rattle.rip_plan.specs.declared.parts.Seat.{Seat}
+use Rattle.rip_plan.specs.declared.parts.Seat.TheVariants.{Link, Own}
+use Rattle.rip_plan.specs.Network.{Network}
+
+-- link l has this name
+abbrev pub IsLinkName : Network → ℕ → List ℕ → Type 0
+IsLinkName n l name = slice_get n.links l ≡ Some name
+
+-- router r has this name
+abbrev pub IsRouterName : Network → ℕ → List ℕ → Type 0
+IsRouterName n r name = slice_get n.routers r ≡ Some name
+
+-- prefix k of the plan
+abbrev pub IsPrefix : Network → ℕ → Block → Type 0
+IsPrefix n k p = slice_get n.prefixes k ≡ Some p
+
+-- interface i is router r's on link l, and has cost c (RFC 2453, 3.5: the cost of the network for the router)
+pub record IsInterface (n : Network) (i r l c : ℕ) : Type 0 where
+  pub address : ℕ
+  pub listed : slice_get n.interfaces i ≡ Some (record { router = r; link = l; address = address; cost = c })
+
+-- interface i is on link l and has address a there
+pub record HasAddress (n : Network) (i l a : ℕ) : Type 0 where
+  pub router : ℕ
+  pub cost : ℕ
+  pub listed : slice_get n.interfaces i ≡ Some (record { router = router; link = l; address = a; cost = cost })
+
+-- interface i is on the link of this name and has address a there
+abbrev pub IsAt : Network → List ℕ → ℕ → ℕ → Type 0
+IsAt n name a i = (l : ℕ) × IsLinkName n l name × HasAddress n i l a
+
+-- router r has an interface on link l, of cost c
+abbrev pub HasCost : Network → ℕ → ℕ → ℕ → Type 0
+HasCost n r l c = (i : ℕ) × IsInterface n i r l c
+
+abbrev pub IsOn : Network → ℕ → ℕ → Type 0
+IsOn n r l = (c : ℕ) × HasCost n r l c
+
+-- s is another router than r on link l, where r is too
+pub record IsNeighbour (n : Network) (r l s : ℕ) : Type 0 where
+  pub other : s ≢ r
+  pub here : IsOn n r l
+  pub there : IsOn n s l
+
+-- router r has more than one interface
+abbrev pub HasTwoInterfaces : Network → ℕ → Type 0
+HasTwoInterfaces n r = (i j l k c d : ℕ) × IsInterface n i r l c × IsInterface n j r k d × (i ≢ j)
+
+-- interface i, on link l at cost c, is the only one of router r
+pub record IsLeaf (n : Network) (r i l c : ℕ) : Type 0 where
+  pub has : IsInterface n i r l c
+  pub only : (j k d : ℕ) → IsInterface n j r k d → j ≡ i
+
+-- place k of the plan is prefix p's, and has this seat
+pub record IsPlace (n : Network) (k p : ℕ) (seat : Seat) : Type 0 where
+  pub listed : slice_get n.places k ≡ Some (record { prefix = p; seat = seat })
+
+-- link l is a place of prefix p
+abbrev pub Carries : Network → ℕ → ℕ → Type 0
+Carries n l p = (k : ℕ) × IsPlace n k p (Link l)
+
+-- place k of prefix p touches router r, which has the prefix there at cost c: the router is on the link, or owns the prefix
+abbrev pub Touches : Network → ℕ → ℕ → ℕ → ℕ → Type 0
+Touches n k p r c = ((l : ℕ) × IsPlace n k p (Link l) × HasCost n r l c) ⊎ IsPlace n k p (Own r c)
+
+-- router r has prefix p on its own link, or as its own, at cost c (RFC 2453, 3.9.2: the directly connected networks)
+abbrev pub IsDirect : Network → ℕ → ℕ → ℕ → Type 0
+IsDirect n r p c = (k : ℕ) × Touches n k p r c
+
+-- a prefix of link l contains address a
+abbrev pub IsInside : Network → ℕ → ℕ → Type 0
+IsInside n l a = (p : ℕ) × (block : Block) × Carries n l p × IsPrefix n p block × ContainsAddress block a
+
+-- ---- The laws of a plan: its refusals turned round
+
+pub record IsLawful (n : Network) : Type 0 where
+  -- limits
+  pub some_link : 1 ≤ length n.links
+  pub few_links : length n.links ≤ 512
+  pub some_router : 1 ≤ length n.routers
+  pub few_routers : length n.routers ≤ 128
+  pub few_interfaces : length n.interfaces ≤ 1024
+  pub few_places : length n.places ≤ 1024
+  -- names
+  pub link_named : (l : ℕ) (name : List ℕ) → IsLinkName n l name → IsName name
+  pub router_named : (r : ℕ) (name : List ℕ) → IsRouterName n r name → IsName name
+  pub link_names_differ : (l m : ℕ) (name : List ℕ) → IsLinkName n l name → IsLinkName n m name → l ≡ m
+  pub router_names_differ : (r s : ℕ) (name : List ℕ) → IsRouterName n r name → IsRouterName n s name → r ≡ s
+  -- interfaces
+  pub router_known : (i r l c : ℕ) → IsInterface n i r l c → r < length n.routers
+  pub link_known : (i r l c : ℕ) → IsInterface n i r l c → l < length n.links
+  pub cost_least : (i r l c : ℕ) → IsInterface n i r l c → 1 ≤ c
+  pub cost_most : (i r l c : ℕ) → IsInterface n i r l c → c ≤ 15
+  pub one_interface : (r : ℕ) → r < length n.routers → (i l c : ℕ) × IsInterface n i r l c
+  pub one_on_link : (i j r l c d : ℕ) → IsInterface n i r l c → IsInterface n j r l d → i ≡ j
+  pub address_known : (i l a : ℕ) → HasAddress n i l a → a < 2 ^ 32
+  pub addresses_differ : (i j l a : ℕ) → HasAddress n i l a → HasAddress n j l a → i ≡ j
+  pub inside : (i l a p : ℕ) → HasAddress n i l a → Carries n l p → IsInside n l a
+  -- prefixes and their places
+  pub prefix_is : (p : ℕ) (block : Block) → IsPrefix n p block → IsBlock block
+  pub prefixes_differ : (p q : ℕ) (block : Block) → IsPrefix n p block → IsPrefix n q block → p ≡ q
+  pub one_place : (p : ℕ) → p < length n.prefixes → (k : ℕ) × (seat : Seat) × IsPlace n k p seat
+  pub prefix_known : (k p : ℕ) (seat : Seat) → IsPlace n k p seat → p < length n.prefixes
+  pub seat_known : (k p l : ℕ) → IsPlace n k p (Link l) → l < length n.links
+  pub owner_known : (k p r c : ℕ) → IsPlace n k p (Own r c) → r < length n.routers
+  pub own_cost_least : (k p r c : ℕ) → IsPlace n k p (Own r c) → 1 ≤ c
+  pub own_cost_most : (k p r c : ℕ) → IsPlace n k p (Own r c) → c ≤ 15
+  pub carried_once : (k j p l : ℕ) → IsPlace n k p (Link l) → IsPlace n j p (Link l) → k ≡ j
+  pub touched_once : (k j p r c d : ℕ) → Touches n k p r c → Touches n j p r d → k ≡ j
