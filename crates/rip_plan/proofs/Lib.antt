@@ -4,3 +4,7 @@ pub mod Loop
 pub mod Clashes
 pub mod Back
 pub mod Below
+pub mod Binds
+pub mod StepsTaken
+pub mod Items
+pub mod FirstPass
