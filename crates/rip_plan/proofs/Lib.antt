@@ -8,3 +8,6 @@ pub mod Binds
 pub mod StepsTaken
 pub mod Items
 pub mod FirstPass
+pub mod Numbering
+pub mod SecondPasses
+pub mod LawfulPlan
