@@ -5,6 +5,6 @@ pub mod Passes
 pub mod PlanText
 pub mod Touches
 pub mod Network
-pub mod Indexed
 pub mod Answers
 pub mod Relations
+pub mod Indexed

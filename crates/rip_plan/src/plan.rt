@@ -5,6 +5,7 @@ ghost use Rattle.rip_plan.specs.Answers.{IsAnswer};
 ghost use Rattle.rip_plan.specs.Fault.{Gives};
 ghost use Rattle.rip_plan.specs.Network.{found_at, is_of, is_on, network_in, network_of_sketch, numbers_where};
 ghost use Rattle.rip_plan.specs.Draft.{sketch};
+ghost use Rattle.rip_plan.specs.Relations.{IsLawful};
 
 use crate::draft::Draft;
 use crate::error::{At, PlanCode, PlanError, ReadError};
@@ -37,15 +38,16 @@ impl Model for Plan {
 
     ghost Value = { Network };
 
-    ghost use Rattle.rip_plan.specs.Indexed.{IsIndexed, network_of};
+    ghost use Rattle.rip_plan.specs.Indexed.{IsKept, network_of};
 
     ghost view = { network_of };
 
-    ghost invariant = { IsIndexed };
+    ghost invariant = { IsKept };
 }
 
 /// The plan of what was read.
 fn plan_of(alloc: Global, draft: Draft) -> Result<Plan, AllocError>
+    requires { IsLawful (network_of_sketch (sketch draft)) }
     ensures { IfOk result (λ plan. plan ≡ network_of_sketch (sketch draft)) }
 {
     let interfaces = interfaces_of(alloc, draft.interfaces.as_slice())?;
@@ -89,6 +91,13 @@ impl Plan {
                 place: At::Text,
             }),
         }
+    }
+
+    /// A plan keeps the laws: what its refusals say, turned round. This does nothing when it runs.
+    pub fn lawful(&self)
+        ensures { IsLawful self.now }
+    {
+        let _ = &self.links;
     }
 
     /// How many routers the plan has.
