@@ -34,3 +34,9 @@ is_eq-nat_cmp x y = grind arith
 
 pub is_eq-pair_cmp : (x y l a : ℕ) → is_eq (pair_cmp (x, y) (l, a)) ≡ (eqb x l && eqb y a)
 is_eq-pair_cmp x y l a = then_is_eq (nat_cmp x l) (nat_cmp y a) ∙ rw (is_eq-nat_cmp x l, is_eq-nat_cmp y a)
+
+pub back_one : {A : Type 0} (xs : List A) (i : ℕ) (x : A) → 0 < i → i ≤ length xs → x ≡ get_or xs (i - 1) x → drop (i - 1) xs ≡ x ∷ drop i xs
+back_one {A} xs i x some within is =
+    let lt : i - 1 < length xs = omega arith in
+    let back : i - 1 + 1 ≡ i = omega arith in
+    drop_more xs (i - 1) x lt ∙ ap (λ (y : A). y ∷ drop (i - 1 + 1) xs) (sym is) ∙ rw back refl

@@ -11,3 +11,4 @@ pub mod FirstPass
 pub mod Numbering
 pub mod SecondPasses
 pub mod LawfulPlan
+pub mod Costs

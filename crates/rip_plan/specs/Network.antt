@@ -1,6 +1,7 @@
 -- What a plan is: its links and routers by their names, its interfaces, and its prefixes with their places.
 use Rattle.std.specs.Prelude.{ℕ, zero, suc, ◌+◌, Bool, if◌then◌else◌, option_and_then, ◌&&◌, ◌==◌, List, [], ◌∷◌, ◌++◌, length, map, Option, Some, None, Result, Ok, Err}
 use Rattle.std.specs.List.{position_from}
+use Rattle.std.specs.Option.{option_or}
 use Rattle.std.specs.Str.{bytes_eq}
 use Rattle.std.specs.Ordering.{nat_cmp, ordering_then}
 use Rattle.std.specs.declared.cmp.Ordering.{Ordering}
@@ -8,8 +9,11 @@ use Rattle.rip_wire.specs.Prefix.{Block}
 use Rattle.rip_plan.specs.declared.error.PlanError.{PlanError}
 use Rattle.rip_plan.specs.declared.parts.Interface.{Interface}
 use Rattle.rip_plan.specs.declared.parts.Place.{Place}
+use Rattle.rip_plan.specs.declared.parts.Seat.{Seat}
+use Rattle.rip_plan.specs.declared.parts.Seat.TheVariants as seats
 use Rattle.rip_plan.specs.declared.draft.DraftPlace.{DraftPlace}
 use Rattle.rip_plan.specs.Fault.{◌>>=◌}
+use Rattle.rip_plan.specs.Draft as draft
 use Rattle.rip_plan.specs.Draft.{Sketch}
 use Rattle.rip_plan.specs.Passes.{same_prefix}
 use Rattle.rip_plan.specs.PlanText.{sketch_of}
@@ -83,6 +87,34 @@ is_of r i = i.router == r
 abbrev pub numbers_where : {A : Type 0} → (A → Bool) → ℕ → List A → List ℕ
 numbers_where test n [] = []
 numbers_where test n (x ∷ xs) = if test x then n ∷ numbers_where test (n + 1) xs else numbers_where test (n + 1) xs
+
+-- the order of prefixes, by the network and then by the length
+abbrev pub prefix_cmp : Block → Block → Ordering
+prefix_cmp p q = ordering_then (nat_cmp p.network q.network) (nat_cmp p.prefix_len q.prefix_len)
+
+-- the place is the link, with prefix k
+abbrev pub is_carrying : ℕ → ℕ → Place → Bool
+is_carrying l k q = draft.is_on l q.seat && q.prefix == k
+
+-- the number of the first place of prefix k on the link, counted from n
+abbrev pub first_carrying : ℕ → ℕ → ℕ → List Place → Option ℕ
+first_carrying l k n places = position_from (is_carrying l k) n places
+
+-- the cost of the router's first interface on the link
+abbrev pub cost_on : ℕ → ℕ → List Interface → Option ℕ
+cost_on r l [] = None
+cost_on r l (i ∷ is) = if i.router == r && i.link == l then Some i.cost else cost_on r l is
+
+-- the cost at which the router has what is at the seat
+abbrev pub cost_at : ℕ → List Interface → Seat → Option ℕ
+cost_at r interfaces (seats.Link l) = cost_on r l interfaces
+cost_at r interfaces (seats.Own owner c) = if owner == r then Some c else None
+
+-- the cost at which the router has prefix k, at the first place that touches it
+abbrev pub direct_at : ℕ → ℕ → List Interface → List Place → Option ℕ
+direct_at r k interfaces [] = None
+direct_at r k interfaces (q ∷ qs) =
+    if q.prefix == k then option_or (cost_at r interfaces q.seat) (direct_at r k interfaces qs) else direct_at r k interfaces qs
 
 -- f of each number below n
 abbrev pub each_below : {A : Type 0} → ℕ → (ℕ → A) → List A

@@ -1,10 +1,13 @@
 //! What a plan keeps beside its parts, to find them.
 
-ghost use Rattle.std.specs.Prelude.{◌≡◌, ℕ, List, map, IfOk, string_bytes};
+ghost use Rattle.std.specs.Prelude.{◌≡◌, ◌==◌, ℕ, List, map, IfOk, string_bytes, if◌then◌else◌};
+ghost use Rattle.std.specs.Option.{option_or};
+ghost use Rattle.rip_wire.specs.Prefix.{Block};
 ghost use Rattle.std.specs.BTreeMap.{get, get_by_text};
-ghost use Rattle.rip_plan.specs.Network.{each_below, first_at, first_named, is_of, is_on, numbers_where, pair_cmp};
+ghost use Rattle.rip_plan.specs.Network.{cost_at, cost_on, direct_at, each_below, first_at, first_carrying, first_named, is_of, is_on, number_of_prefix, numbers_where, pair_cmp, prefix_cmp};
 
-use crate::parts::Interface;
+use crate::parts::{Interface, Place, Seat};
+use rip_wire::Prefix;
 use std::alloc::{AllocError, Global};
 use std::collections::BTreeMap;
 
@@ -99,4 +102,85 @@ pub(crate) fn all_of(
         all.push(numbers_of(alloc, interfaces, r)?)?;
     }
     Ok(all)
+}
+
+/// The number of each prefix.
+pub(crate) fn numbers_of_prefixes(
+    alloc: Global,
+    prefixes: &[Prefix],
+) -> Result<BTreeMap<Prefix, usize>, AllocError>
+    ensures { IfOk result (λ m. (p : Block) → get prefix_cmp m p ≡ number_of_prefix p prefixes.now) }
+{
+    let mut numbers = BTreeMap::new(alloc);
+    for k in (0..prefixes.len()).rev() {
+        numbers.insert(prefixes[k], k)?;
+    }
+    Ok(numbers)
+}
+
+/// The number of the place of each prefix on a link, by link and prefix.
+pub(crate) fn numbers_of_carriers(
+    alloc: Global,
+    places: &[Place],
+) -> Result<BTreeMap<(usize, usize), usize>, AllocError>
+    ensures { IfOk result (λ m. (l k : ℕ) → get pair_cmp m (l, k) ≡ first_carrying l k 0 places.now) }
+{
+    let mut numbers = BTreeMap::new(alloc);
+    for i in (0..places.len()).rev() {
+        let place = places[i];
+        if let Seat::Link(link) = place.seat {
+            numbers.insert((link, place.prefix), i)?;
+        }
+    }
+    Ok(numbers)
+}
+
+/// Adds the cost at which each router on the link has the prefix.
+fn add_costs_on(
+    costs: &mut BTreeMap<(usize, usize), u8>,
+    interfaces: &[Interface],
+    link: usize,
+    prefix: usize,
+) -> Result<(), AllocError>
+    ensures { IfOk result (λ done. (r k : ℕ) → get pair_cmp costs.new (r, k) ≡ if prefix == k then option_or (cost_on r link interfaces.now) (get pair_cmp costs.old (r, k)) else get pair_cmp costs.old (r, k)) }
+{
+    for i in (0..interfaces.len()).rev() {
+        let interface = interfaces[i];
+        if interface.link == link {
+            costs.insert((interface.router, prefix), interface.cost)?;
+        }
+    }
+    Ok(())
+}
+
+/// Adds the cost at which each router has the prefix at the place.
+fn add_costs_at(
+    costs: &mut BTreeMap<(usize, usize), u8>,
+    interfaces: &[Interface],
+    place: Place,
+) -> Result<(), AllocError>
+    ensures { IfOk result (λ done. (r k : ℕ) → get pair_cmp costs.new (r, k) ≡ if place.prefix == k then option_or (cost_at r interfaces.now place.seat) (get pair_cmp costs.old (r, k)) else get pair_cmp costs.old (r, k)) }
+{
+    match place.seat {
+        Seat::Link(link) => add_costs_on(costs, interfaces, link, place.prefix),
+        Seat::Own { router, cost } => {
+            costs.insert((router, place.prefix), cost)?;
+            Ok(())
+        }
+    }
+}
+
+/// The cost at which each router has each prefix on its own link or as its own, by router and prefix.
+pub(crate) fn costs_of_places(
+    alloc: Global,
+    interfaces: &[Interface],
+    places: &[Place],
+) -> Result<BTreeMap<(usize, usize), u8>, AllocError>
+    ensures { IfOk result (λ m. (r k : ℕ) → get pair_cmp m (r, k) ≡ direct_at r k interfaces.now places.now) }
+{
+    let mut costs = BTreeMap::new(alloc);
+    for i in (0..places.len()).rev() {
+        add_costs_at(&mut costs, interfaces, places[i])?;
+    }
+    Ok(costs)
 }
