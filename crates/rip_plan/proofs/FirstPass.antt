@@ -87,6 +87,7 @@ outside_same l a ps prefix r c place h =
     or_none : (b : Bool) → (b || false) ≡ b
     or_none true = refl
     or_none false = refl
+
     any_same : (test : DraftPlace → Bool) (qs : List DraftPlace) (q : DraftPlace) → test q ≡ false → list_any test (qs ++ q ∷ []) ≡ list_any test qs
     any_same test qs q e = list_any-append test qs (q ∷ []) ∙ rw e (or_none (list_any test qs))
 
@@ -130,11 +131,11 @@ prefix_keeps i j d s t some while h =
         places = all_push (IsFitPlace (length s.links) (length s.routers)) s.places added kept.places
             (record { prefix = (prefix_in-gives taken.text taken.prefix taken.parsed).0; seat = omega arith });
         few_interfaces = kept.few_interfaces;
-        few_places = omega (arith, length-append s.places (added ∷ []))
+        few_places = omega (arith, length-append s.places (added ∷ []));
       };
       interfaces = while.interfaces;
       routers = while.routers;
-      number = while.number
+      number = while.number;
     })
 
 pub link_keeps : (n : ℕ) (d : Data) (s t : Sketch) → BetweenLinks n s → link_step n d s ≡ Ok t → BetweenLinks (n + 1) t
@@ -155,11 +156,11 @@ link_keeps n d s t now h =
         places = all_weaker (IsFitPlace (length s.links) (length s.routers)) (IsFitPlace (length u.links) (length s.routers))
             (fit_place_more (length s.links) (length s.routers) (length u.links) (length s.routers) (omega arith) (omega arith)) s.places kept.places;
         few_interfaces = kept.few_interfaces;
-        few_places = kept.few_places
+        few_places = kept.few_places;
       };
       interfaces = now.interfaces;
       routers = now.routers;
-      number = more ∙ next
+      number = more ∙ next;
     } in
     let end = steps_keep (prefix_step n) (λ _ v. WhileLink n v) (λ j x v w k e. prefix_keeps n j x v w (omega arith) k e) 1 taken.prefixes u t start taken.others (1 + length taken.prefixes) refl in
     record { kept = end.kept; interfaces = end.interfaces; routers = end.routers; next = ap (λ k. k + 1) end.number }
@@ -197,15 +198,15 @@ interface_keeps links r j d s t some while h =
               most = costs.1;
               link = number_below taken.name s.links taken.link taken.known;
               router = omega arith;
-              address = (address_in-gives taken.text taken.address taken.parsed).0
+              address = (address_in-gives taken.text taken.address taken.parsed).0;
             });
         inside = all_push (IsInsideOf s.places) s.interfaces added kept.inside taken.inside;
         places = kept.places;
         few_interfaces = omega (arith, length-append s.interfaces (added ∷ []));
-        few_places = kept.few_places
+        few_places = kept.few_places;
       };
       links = while.links;
-      number = while.number
+      number = while.number;
     })
 
 own_keeps : (links r j : ℕ) (d : Data) (s t : Sketch) → 1 ≤ r → WhileRouter links r s → own_step r j d s ≡ Ok t → WhileRouter links r t
@@ -228,10 +229,10 @@ own_keeps links r j d s t some while h =
         places = all_push (IsFitPlace (length s.links) (length s.routers)) s.places added kept.places
             (record { prefix = (prefix_in-gives taken.text taken.prefix taken.parsed).0; seat = (omega arith, costs.0, costs.1) });
         few_interfaces = kept.few_interfaces;
-        few_places = omega (arith, length-append s.places (added ∷ []))
+        few_places = omega (arith, length-append s.places (added ∷ []));
       };
       links = while.links;
-      number = while.number
+      number = while.number;
     })
 
 pub router_keeps : (links n : ℕ) (d : Data) (s t : Sketch) → BetweenRouters links n s → router_step n d s ≡ Ok t → BetweenRouters links (n + 1) t
@@ -253,10 +254,10 @@ router_keeps links n d s t now h =
         places = all_weaker (IsFitPlace (length s.links) (length s.routers)) (IsFitPlace (length s.links) (length u.routers))
             (fit_place_more (length s.links) (length s.routers) (length s.links) (length u.routers) (omega arith) (omega arith)) s.places kept.places;
         few_interfaces = kept.few_interfaces;
-        few_places = kept.few_places
+        few_places = kept.few_places;
       };
       links = now.links;
-      number = more ∙ next
+      number = more ∙ next;
     } in
     let some : 1 ≤ n = omega arith in
     let between = steps_keep (interface_step n) (λ _ v. WhileRouter links n v) (λ j x v w k e. interface_keeps links n j x v w some k e) 1 taken.interfaces u taken.between start taken.first (1 + length taken.interfaces) refl in

@@ -153,8 +153,8 @@ clash_none clash earlier (x ∷ xs) h =
     let (apart, distinct) = clash_none clash (earlier ++ x ∷ []) xs h1 in
     let (before, after) = all_both (λ z. list_any (λ y. clash y z) (earlier ++ x ∷ []) ≡ false) (λ z. list_any (λ y. clash y z) earlier ≡ false) (λ z. clash x z ≡ false)
     (λ z p.
-        let both = or_false (list_any (λ y. clash y z) earlier) (list_any (λ y. clash y z) (x ∷ [])) (sym (list_any-append (λ y. clash y z) earlier (x ∷ [])) ∙ p) in
-        (both.0, (or_false (clash x z) false both.1).0))
+    let both = or_false (list_any (λ y. clash y z) earlier) (list_any (λ y. clash y z) (x ∷ [])) (sym (list_any-append (λ y. clash y z) earlier (x ∷ [])) ∙ p) in
+    (both.0, (or_false (clash x z) false both.1).0))
     xs apart in
     ((here, before), (after, distinct))
 

@@ -134,7 +134,7 @@ module _ (s : Sketch) (good : Good s) where
   inside i l a p h (k, place) =
       let (x, at, same) = interface_in s i _ h.listed in
       let not_outside : is_outside l a s.places ≡ false =
-          ap (λ (v : Interface). is_outside v.link v.address s.places) (sym same) ∙ all_at (IsInsideOf s.places) s.interfaces i x good.kept.inside at in
+      ap (λ (v : Interface). is_outside v.link v.address s.places) (sym same) ∙ all_at (IsInsideOf s.places) s.interfaces i x good.kept.inside at in
       let (d, its, prefix, seat) = place_in s k p (seats.Link l) place in
       let self : (l == l) ≡ true = grind (arith, nat_tests) in
       let some : list_any (λ (q : DraftPlace). is_on l q.seat) s.places ≡ true = any_at (λ (q : DraftPlace). is_on l q.seat) s.places k d its (rw (← seat) self) in
@@ -147,10 +147,12 @@ module _ (s : Sketch) (good : Good s) where
       both : (b c : Bool) → (b && c) ≡ true → (b ≡ true) × (c ≡ true)
       both true c e = (refl, e)
       both false c e = absurd cc
+
       contains_one : (b c : Bool) → b ≡ true → (b && not c) ≡ false → c ≡ true
       contains_one true true e f = refl
       contains_one true false e f = absurd cc
       contains_one false c e f = absurd cc
+
       on_link : (seat : Seat) → is_on l seat ≡ true → seat ≡ seats.Link l
       on_link (seats.Link m) e = let same : m ≡ l = grind (arith, nat_tests) in ap seats.Link same
       on_link (seats.Own r c) e = absurd cc
@@ -191,7 +193,7 @@ module _ (s : Sketch) (good : Good s) where
     own_cost_least = λ k p r c h. (seat_at k p (seats.Own r c) h).1;
     own_cost_most = λ k p r c h. (seat_at k p (seats.Own r c) h).2;
     carried_once = carried_once;
-    touched_once = touched_once
+    touched_once = touched_once;
   }
 
 -- ---- the document
@@ -222,7 +224,9 @@ unfolding IsDistinct
 good_document doc s taken =
     let nothing : BetweenLinks 1 empty = record {
       kept = record { link_names = tt; links_differ = tt; router_names = tt; routers_differ = tt; interfaces = tt; inside = tt; places = tt; few_interfaces = omega arith; few_places = omega arith };
-      interfaces = refl; routers = refl; next = refl
+      interfaces = refl;
+      routers = refl;
+      next = refl;
     } in
     let links = steps_keep link_step BetweenLinks link_keeps 1 taken.links empty taken.between nothing taken.first (1 + length taken.links) refl in
     let counted : length taken.between.links ≡ length taken.links = omega (arith, links.next) in
@@ -237,7 +241,7 @@ good_document doc s taken =
       some_link = omega (arith, some.0, end.links);
       few_links = grind (arith, nat_tests, end.links, few.0);
       some_router = omega (arith, some.1, routers);
-      few_routers = grind (arith, nat_tests, routers, few.1)
+      few_routers = grind (arith, nat_tests, routers, few.1);
     }
 
 pub lawful : (bytes : List ℕ) (s : Sketch) → sketch_of bytes ≡ Ok s → IsLawful (network_of_sketch s)

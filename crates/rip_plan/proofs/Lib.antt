@@ -12,3 +12,7 @@ pub mod Numbering
 pub mod SecondPasses
 pub mod LawfulPlan
 pub mod Costs
+pub mod NumbersWhere
+pub mod Lookups
+pub mod Leaves
+pub mod PlanAnswers

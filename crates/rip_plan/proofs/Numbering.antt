@@ -69,7 +69,7 @@ one_more ps qs ds d are None h =
       used = λ p below. elim (cases_lt p (length ps)) [
         | inl old ↦ let place = are.used p old in (place.0, place.1, get_left qs (q ∷ []) place.0 _ place.2)
         | inr last ↦ let here : length ps ≡ p = omega arith in (length qs, d.seat, get_last qs q ∙ ap (λ n. Some (record { prefix = n; seat = d.seat })) here)
-      ]
+      ];
     }
   where
     at_end : (k : ℕ) → k ≡ length qs → slice_get (ds ++ d ∷ []) k ≡ Some d
@@ -86,7 +86,7 @@ one_more ps qs ds d are (Some n) h =
         | inl old ↦ let here = are.each k p old in (here.0, get_left ds (d ∷ []) k here.0 here.1, here.2, here.3)
         | inr last ↦ (d, at_end k last.0, ap (λ (m : Place). slice_get ps m.prefix) (sym last.1) ∙ there, ap (λ (m : Place). m.seat) (sym last.1))
       ];
-      used = λ p below. let place = are.used p below in (place.0, place.1, get_left qs (q ∷ []) place.0 _ place.2)
+      used = λ p below. let place = are.used p below in (place.0, place.1, get_left qs (q ∷ []) place.0 _ place.2);
     }
   where
     at_end : (k : ℕ) → k ≡ length qs → slice_get (ds ++ d ∷ []) k ≡ Some d
@@ -106,5 +106,5 @@ numbers ds =
       distinct = tt;
       count = refl;
       each = λ k q h. absurd (none-some q h);
-      used = λ p h. absurd (omega arith)
+      used = λ p h. absurd (omega arith);
     })

@@ -49,7 +49,7 @@ passes_clear s h =
       meetings = no_clash do_meet (map (touching s.interfaces) s.places) (map_none _ _ one);
       links = no_clash are_twice s.interfaces (map_none _ _ two);
       addresses = no_clash have_one_address s.interfaces (map_none _ _ three);
-      bare = map_none _ _ four
+      bare = map_none _ _ four;
     }
 
 -- ---- each router has an interface
@@ -91,6 +91,7 @@ on_touched (y ∷ ys) l r (suc i) x h on of = by_test (y.interface.link == l) re
     either : (b c : Bool) → c ≡ true → (b || c) ≡ true
     either true c e = refl
     either false c e = e
+
     by_test : (b : Bool) → (y.interface.link == l) ≡ b → list_any (λ s. s == r) (touched ys (seats.Link l)) ≡ true → list_any (λ s. s == r) (touched (y ∷ ys) (seats.Link l)) ≡ true
     by_test true e later = rw e (either (y.interface.router == r) (list_any (λ s. s == r) (touched ys (seats.Link l))) later)
     by_test false e later = rw e later

@@ -95,9 +95,19 @@ interface_taken r j d s t h =
     let (inside, h5) = guard_ok (is_outside link address s.places) (fault codes.OutsidePrefix (RouterInterface r j)) _ t h4 in
     let (room, h6) = guard_ok (nat_le 1024 (length s.interfaces)) (fault codes.Limit (RouterInterface r j)) _ t h5 in
     record {
-      name = f.0; text = f.1; given = f.2; fields = fields;
-      address = address; parsed = parsed; cost = cost; costs = costs; link = link; known = known;
-      inside = inside; room = room; made = sym (ok_same _ t h6)
+      name = f.0;
+      text = f.1;
+      given = f.2;
+      fields = fields;
+      address = address;
+      parsed = parsed;
+      cost = cost;
+      costs = costs;
+      link = link;
+      known = known;
+      inside = inside;
+      room = room;
+      made = sym (ok_same _ t h6);
     }
 
 pub record OwnTaken (r j : ℕ) (d : Data) (s t : Sketch) : Type 0 where
@@ -117,8 +127,14 @@ own_taken r j d s t h =
     let (prefix, parsed, h2) = wanted_ok (fault codes.Prefix (RouterOwn r j)) (prefix_in f.0) _ t h1 in
     let (cost, costs, h3) = wanted_ok (fault codes.Cost (RouterOwn r j)) (cost_of f.1) _ t h2 in
     record {
-      text = f.0; given = f.1; fields = fields; prefix = prefix; parsed = parsed; cost = cost; costs = costs;
-      added = place_taken (RouterOwn r j) prefix (seats.Own (r - 1) cost) s t h3
+      text = f.0;
+      given = f.1;
+      fields = fields;
+      prefix = prefix;
+      parsed = parsed;
+      cost = cost;
+      costs = costs;
+      added = place_taken (RouterOwn r j) prefix (seats.Own (r - 1) cost) s t h3;
     }
 
 pub record RouterTaken (r : ℕ) (d : Data) (s t : Sketch) : Type 0 where

@@ -1,11 +1,12 @@
 //! A plan, and what it answers.
 
-ghost use Rattle.std.specs.Prelude.{◌≡◌, ◌<◌, IfOk, Some, length, slice_get};
+ghost use Rattle.std.specs.Prelude.{◌≡◌, ◌<◌, ◌↔◌, ℕ, Contains, Decides, IfOk, IfSome, None, Some, false, is_some, length, not, option_and_then, slice_get};
+ghost use Rattle.std.specs.List.Sorted.{IsStrictlyIncreasing};
 ghost use Rattle.rip_plan.specs.Answers.{IsAnswer};
 ghost use Rattle.rip_plan.specs.Fault.{Gives};
-ghost use Rattle.rip_plan.specs.Network.{found_at, is_of, is_on, network_in, network_of_sketch, numbers_where};
+ghost use Rattle.rip_plan.specs.Network.{direct_at, first_carrying, found_at, is_of, is_on, network_in, network_of_sketch, number_of_prefix, numbers_where};
 ghost use Rattle.rip_plan.specs.Draft.{sketch};
-ghost use Rattle.rip_plan.specs.Relations.{IsLawful};
+ghost use Rattle.rip_plan.specs.Relations.{Carries, HasTwoInterfaces, IsAt, IsDirect, IsInterface, IsLawful, IsLeaf, IsLinkName, IsPlace, IsPrefix, IsRouterName};
 
 use crate::draft::Draft;
 use crate::error::{At, PlanCode, PlanError, ReadError};
@@ -31,6 +32,9 @@ pub struct Plan {
     of_router: Vec<Vec<usize>>,
     names: BTreeMap<String, usize>,
     addresses: BTreeMap<(usize, u32), usize>,
+    numbers: BTreeMap<Prefix, usize>,
+    carriers: BTreeMap<(usize, usize), usize>,
+    costs: BTreeMap<(usize, usize), u8>,
 }
 
 impl Model for Plan {
@@ -56,6 +60,9 @@ fn plan_of(alloc: Global, draft: Draft) -> Result<Plan, AllocError>
     let of_router = index::all_of(alloc, interfaces.as_slice(), draft.routers.len())?;
     let names = index::numbers_of_names(alloc, draft.links.as_slice())?;
     let addresses = index::numbers_of_addresses(alloc, interfaces.as_slice())?;
+    let numbers = index::numbers_of_prefixes(alloc, prefixes.as_slice())?;
+    let carriers = index::numbers_of_carriers(alloc, places.as_slice())?;
+    let costs = index::costs_of_places(alloc, interfaces.as_slice(), places.as_slice())?;
     Ok(Plan {
         links: draft.links,
         routers: draft.routers,
@@ -66,6 +73,9 @@ fn plan_of(alloc: Global, draft: Draft) -> Result<Plan, AllocError>
         of_router,
         names,
         addresses,
+        numbers,
+        carriers,
+        costs,
     })
 }
 
@@ -138,7 +148,7 @@ impl Plan {
     /// The name of a router.
     pub fn router_name(&self, router: usize) -> &str
         requires { router < length self.now.routers }
-        ensures { slice_get self.now.routers router ≡ Some result.now }
+        ensures { IsRouterName self.now router result.now }
     {
         self.routers[router].as_str()
     }
@@ -146,7 +156,7 @@ impl Plan {
     /// The name of a link.
     pub fn link_name(&self, link: usize) -> &str
         requires { link < length self.now.links }
-        ensures { slice_get self.now.links link ≡ Some result.now }
+        ensures { IsLinkName self.now link result.now }
     {
         self.links[link].as_str()
     }
@@ -154,7 +164,7 @@ impl Plan {
     /// A prefix.
     pub fn prefix(&self, k: usize) -> Prefix
         requires { k < length self.now.prefixes }
-        ensures { slice_get self.now.prefixes k ≡ Some result }
+        ensures { IsPrefix self.now k result }
     {
         self.prefixes[k]
     }
@@ -162,7 +172,8 @@ impl Plan {
     /// An interface.
     pub fn interface(&self, i: usize) -> Interface
         requires { i < length self.now.interfaces }
-        ensures { slice_get self.now.interfaces i ≡ Some result }
+        ensures exact { slice_get self.now.interfaces i ≡ Some result }
+        ensures is { IsInterface self.now i result.router result.link result.cost }
     {
         self.interfaces[i]
     }
@@ -170,7 +181,7 @@ impl Plan {
     /// A place of a prefix.
     pub fn place(&self, k: usize) -> Place
         requires { k < length self.now.places }
-        ensures { slice_get self.now.places k ≡ Some result }
+        ensures { IsPlace self.now k result.prefix result.seat }
     {
         self.places[k]
     }
@@ -178,7 +189,9 @@ impl Plan {
     /// The numbers of the interfaces on a link, ascending.
     pub fn on_link(&self, link: usize) -> &[usize]
         requires { link < length self.now.links }
-        ensures { result.now ≡ numbers_where (is_on link) 0 self.now.interfaces }
+        ensures exact { (i : ℕ) → Contains result.now i ↔ ((r c : ℕ) × IsInterface self.now i r link c) }
+        ensures ascending { IsStrictlyIncreasing result.now }
+        ensures value { result.now ≡ numbers_where (is_on link) 0 self.now.interfaces }
     {
         self.on_link[link].as_slice()
     }
@@ -186,13 +199,15 @@ impl Plan {
     /// The numbers of the interfaces of a router, ascending.
     pub fn of_router(&self, router: usize) -> &[usize]
         requires { router < length self.now.routers }
-        ensures { result.now ≡ numbers_where (is_of router) 0 self.now.interfaces }
+        ensures exact { (i : ℕ) → Contains result.now i ↔ ((l c : ℕ) × IsInterface self.now i router l c) }
+        ensures ascending { IsStrictlyIncreasing result.now }
+        ensures value { result.now ≡ numbers_where (is_of router) 0 self.now.interfaces }
     {
         self.of_router[router].as_slice()
     }
 
-    /// The number of the interface on the link of this name with this address.
-    pub fn find(&self, link_name: &str, address: Address) -> Option<usize>
+    /// The number of the interface on the link of this name with this address, by the look-ups.
+    fn number_at(&self, link_name: &str, address: Address) -> Option<usize>
         ensures { result ≡ found_at self.now link_name.now address }
     {
         match self.names.get(link_name) {
@@ -202,5 +217,60 @@ impl Plan {
                 Some(number) => Some(*number),
             },
         }
+    }
+
+    /// The number of the interface on the link of this name with this address, if there is one.
+    pub fn find(&self, link_name: &str, address: Address) -> Option<usize>
+        ensures exact { (i : ℕ) → (result ≡ Some i) ↔ IsAt self.now link_name.now address i }
+        ensures below { IfSome result (λ i. i < length self.now.interfaces) }
+    {
+        self.lawful();
+        self.number_at(link_name, address)
+    }
+
+    /// Whether a router is a leaf: it has one interface alone.
+    pub fn leaf(&self, router: usize) -> bool
+        requires { router < length self.now.routers }
+        ensures one { Decides result ((i l c : ℕ) × IsLeaf self.now router i l c) }
+        ensures more { Decides (not result) (HasTwoInterfaces self.now router) }
+    {
+        self.lawful();
+        self.of_router(router).len() == 1
+    }
+
+    /// The cost at which a router has a prefix, by the look-ups.
+    fn cost_at(&self, router: usize, prefix: Prefix) -> Option<u8>
+        ensures { result ≡ option_and_then (λ k. direct_at router k self.now.interfaces self.now.places) (number_of_prefix prefix self.now.prefixes) }
+    {
+        let number = self.numbers.get(&prefix)?;
+        self.costs.get(&(router, *number)).copied()
+    }
+
+    /// The cost at which a router has a prefix on a link of its own, or as its own prefix.
+    pub fn direct(&self, router: usize, prefix: Prefix) -> Option<u8>
+        ensures planned { (k c : ℕ) → IsPrefix self.now k prefix → (result ≡ Some c) ↔ IsDirect self.now router k c }
+        ensures unplanned { ((k : ℕ) → IsPrefix self.now k prefix → ⊥) → result ≡ None }
+    {
+        self.lawful();
+        self.cost_at(router, prefix)
+    }
+
+    /// Whether a link has a prefix, by the look-ups.
+    fn is_carrier(&self, link: usize, prefix: Prefix) -> bool
+        ensures { result ≡ is_some (option_and_then (λ k. first_carrying link k 0 self.now.places) (number_of_prefix prefix self.now.prefixes)) }
+    {
+        match self.numbers.get(&prefix) {
+            Some(number) => self.carriers.contains_key(&(link, *number)),
+            None => false,
+        }
+    }
+
+    /// Whether a link is a place of a prefix.
+    pub fn carries(&self, link: usize, prefix: Prefix) -> bool
+        ensures planned { (k : ℕ) → IsPrefix self.now k prefix → Decides result (Carries self.now link k) }
+        ensures unplanned { ((k : ℕ) → IsPrefix self.now k prefix → ⊥) → result ≡ false }
+    {
+        self.lawful();
+        self.is_carrier(link, prefix)
     }
 }

@@ -1,5 +1,5 @@
 use crate::{At, Plan, PlanCode, PlanError, Seat};
-use rip_wire::Address;
+use rip_wire::{Address, Prefix};
 use std::alloc::{AllocError, Global};
 use std::test::Fail;
 
@@ -269,5 +269,27 @@ fn several_places(rt: HostRuntime) -> Result<(), Fail> {
     assert_eq!(rt; plan.places(), 4);
     assert_eq!(rt; plan.place(3).prefix, 0);
     assert_eq!(rt; plan.place(3).seat, Seat::Own { router: 2, cost: 5 });
+    let prefix = plan.prefix(0);
+    assert_eq!(rt; plan.direct(0, prefix), Some(1));
+    assert_eq!(rt; plan.direct(1, prefix), Some(1));
+    assert_eq!(rt; plan.direct(2, prefix), Some(5));
+    assert_eq!(rt; plan.direct(0, plan.prefix(1)), None);
+    assert!(rt; plan.carries(0, prefix));
+    assert!(rt; !plan.carries(1, prefix));
+    let unplanned = Prefix::parse("10.1.0.0/17").ok_or("a prefix")?;
+    assert_eq!(rt; plan.direct(0, unplanned), None);
+    assert!(rt; !plan.carries(0, unplanned));
+    assert!(rt; !plan.leaf(2));
+    plan.lawful();
+    Ok(())
+}
+
+#[test]
+fn a_leaf(rt: HostRuntime) -> Result<(), Fail> {
+    let alloc = rt.alloc();
+    let second = "\n[[router.interface]]\nlink = \"c\"\naddress = \"10.3.0.3\"\n";
+    let plan = Plan::read(alloc, changed(alloc, second, "")?.as_bytes())?;
+    assert!(rt; plan.leaf(2));
+    assert!(rt; !plan.leaf(0));
     Ok(())
 }

@@ -1,0 +1,271 @@
+-- What the look-ups of a lawful plan find, in the words of its relations.
+use Rattle.std.proofs.Common.{◌≡◌, ◌≢◌, ℕ, zero, suc, ◌+◌, ◌<◌, ◌≤◌, ◌⊎◌, ◌↔◌, inl, inr, List, [], ◌∷◌, length, get_or, Bool, true, false, cond, not, ◌&&◌, Option, Some, None, refl, sym, ◌∙◌, ap, subst, arith}
+use Rattle.std.specs.Prelude.{slice_get, ◌==◌, option_and_then}
+use Rattle.std.specs.Option.{option_or, is_some}
+use Rattle.std.specs.List.{Contains, position_from, list_any}
+use Rattle.std.specs.Str.{bytes_eq}
+use Rattle.std.proofs.lemmas.Option.{none-some, same_Some, slice_get_within, slice_get-get_or}
+use Rattle.std.proofs.lemmas.Bool.{cases_lt}
+use Rattle.std.proofs.lemmas.Bool.Decides.{nat_tests}
+use Rattle.std.proofs.lemmas.Slice.Eq.{bytes_eq-Decides}
+use Rattle.rip_wire.specs.Prefix.{Block}
+use Rattle.rip_plan.specs.declared.parts.Interface.{Interface}
+use Rattle.rip_plan.specs.declared.parts.Place.{Place}
+use Rattle.rip_plan.specs.declared.parts.Seat.{Seat}
+use Rattle.rip_plan.specs.declared.parts.Seat.TheVariants as seats
+use Rattle.rip_plan.specs.Draft as draft
+use Rattle.rip_plan.specs.Passes.{same_prefix}
+use Rattle.rip_plan.specs.Network.{Network, number_of_prefix, first_named, first_at, is_at, found_at, is_on, is_of, numbers_where, is_carrying, first_carrying, cost_on, cost_at, direct_at}
+use Rattle.rip_plan.specs.Relations.{IsLinkName, IsPrefix, IsInterface, HasAddress, IsAt, HasCost, IsPlace, Carries, Touches, IsDirect, IsLeaf, HasTwoInterfaces, IsLawful}
+use Rattle.rip_plan.proofs.Items.{position_finds, position_none, none_at}
+use Rattle.rip_plan.proofs.Numbering.{same_is, same_self}
+use Rattle.rip_plan.proofs.NumbersWhere.{contains_at, at_contains, number_passes, passing_number}
+
+both : (a b : Bool) → (a && b) ≡ true → (a ≡ true) × (b ≡ true)
+both true b h = (refl, h)
+both false b h = absurd cc
+
+-- where an item passes, the first that passes is found
+found : {A : Type 0} (test : A → Bool) (xs : List A) (i : ℕ) (x : A) → slice_get xs i ≡ Some x → test x ≡ true → (k : ℕ) × (y : A) × (position_from test 0 xs ≡ Some k) × (slice_get xs k ≡ Some y) × (test y ≡ true)
+found {A} test xs i x h t = by_option (position_from test 0 xs) refl
+  where
+    by_option : (o : Option ℕ) → position_from test 0 xs ≡ o → (k : ℕ) × (y : A) × (position_from test 0 xs ≡ Some k) × (slice_get xs k ≡ Some y) × (test y ≡ true)
+    by_option None e = let off : test x ≡ false = none_at test xs i x (position_none test 0 xs e) h in absurd cc
+    by_option (Some k) e =
+        let (j, y, at, is, passes) = position_finds test 0 xs k e in
+        let same : k ≡ j = omega arith in
+        (k, y, e, ap (slice_get xs) same ∙ is, passes)
+
+at_first : {A : Type 0} (test : A → Bool) (xs : List A) (k : ℕ) → position_from test 0 xs ≡ Some k → (y : A) × (slice_get xs k ≡ Some y) × (test y ≡ true)
+at_first test xs k e =
+    let (j, y, at, is, passes) = position_finds test 0 xs k e in
+    let same : k ≡ j = omega arith in
+    (y, ap (slice_get xs) same ∙ is, passes)
+
+-- ---- prefixes
+
+pub prefix_of_number : (n : Network) (p : Block) (k : ℕ) → number_of_prefix p n.prefixes ≡ Some k → IsPrefix n k p
+prefix_of_number n p k h =
+    let (q, at, same) = at_first (same_prefix p) n.prefixes k h in
+    at ∙ ap (λ (b : Block). Some b) (sym (same_is p q same))
+
+pub number_of_planned : (n : Network) → IsLawful n → (p : Block) (k : ℕ) → IsPrefix n k p → number_of_prefix p n.prefixes ≡ Some k
+number_of_planned n laws p k h =
+    let (j, q, e, at, same) = found (same_prefix p) n.prefixes k p h (same_self p) in
+    let one : j ≡ k = laws.prefixes_differ j k p (at ∙ ap (λ (b : Block). Some b) (sym (same_is p q same))) h in
+    e ∙ ap (λ (m : ℕ). Some m) one
+
+-- ---- direct costs
+
+same_interface : (x : Interface) (r l c : ℕ) → x.router ≡ r → x.link ≡ l → x.cost ≡ c → x ≡ record { router = r; link = l; address = x.address; cost = c }
+same_interface x r l c e f g = rw (← e, ← f, ← g) refl
+
+cost_found : (r l c : ℕ) (is : List Interface) → cost_on r l is ≡ Some c → (i : ℕ) × (a : ℕ) × (slice_get is i ≡ Some (record { router = r; link = l; address = a; cost = c }))
+cost_found r l c [] h = absurd (none-some c h)
+cost_found r l c (x ∷ xs) h = by_test (x.router == r && x.link == l) refl h (λ e. cost_found r l c xs e)
+  where
+    by_test : (b : Bool) → (x.router == r && x.link == l) ≡ b → cond b (Some x.cost) (cost_on r l xs) ≡ Some c
+        → (cost_on r l xs ≡ Some c → (i : ℕ) × (a : ℕ) × (slice_get xs i ≡ Some (record { router = r; link = l; address = a; cost = c })))
+        → (i : ℕ) × (a : ℕ) × (slice_get (x ∷ xs) i ≡ Some (record { router = r; link = l; address = a; cost = c }))
+    by_test true e f later =
+        let tests = both (x.router == r) (x.link == l) e in
+        let router : x.router ≡ r = grind (arith, nat_tests) in
+        let link : x.link ≡ l = grind (arith, nat_tests) in
+        let cost : x.cost ≡ c = same_Some x.cost c f in
+        (zero, x.address, ap (λ (y : Interface). Some y) (same_interface x r l c router link cost))
+    by_test false e f later = let (i, a, at) = later f in (suc i, a, at)
+
+cost_there : (r l c a i : ℕ) (is : List Interface) → slice_get is i ≡ Some (record { router = r; link = l; address = a; cost = c }) → cost_on r l is ≡ None → ⊥
+cost_there r l c a i [] h e = absurd (none-some _ h)
+cost_there r l c a zero (x ∷ xs) h e =
+    let same = same_Some x _ h in
+    let router : (x.router == r) ≡ true = rw same (grind (arith, nat_tests)) in
+    let link : (x.link == l) ≡ true = rw same (grind (arith, nat_tests)) in
+    let here : cost_on r l (x ∷ xs) ≡ Some x.cost = rw (router, link) refl in
+    none-some x.cost (sym e ∙ here)
+cost_there r l c a (suc i) (x ∷ xs) h e = by_test (x.router == r && x.link == l) e (λ f. cost_there r l c a i xs h f)
+  where
+    by_test : (b : Bool) → cond b (Some x.cost) (cost_on r l xs) ≡ None → (cost_on r l xs ≡ None → ⊥) → ⊥
+    by_test true f later = absurd cc
+    by_test false f later = later f
+
+or_parts : {A : Type 0} (o p : Option A) (x : A) → option_or o p ≡ Some x → (o ≡ Some x) ⊎ (p ≡ Some x)
+or_parts None p x h = inr h
+or_parts (Some y) p x h = inl h
+
+or_none : {A : Type 0} (o p : Option A) → option_or o p ≡ None → (o ≡ None) × (p ≡ None)
+or_none None p h = (refl, h)
+or_none (Some y) p h = absurd cc
+
+direct_found : (r k c : ℕ) (is : List Interface) (qs : List Place) → direct_at r k is qs ≡ Some c → (j : ℕ) × (seat : Seat) × (slice_get qs j ≡ Some (record { prefix = k; seat = seat })) × (cost_at r is seat ≡ Some c)
+direct_found r k c is [] h = absurd (none-some c h)
+direct_found r k c is (q ∷ qs) h = by_test (q.prefix == k) refl h (λ e. direct_found r k c is qs e)
+  where
+    by_test : (b : Bool) → (q.prefix == k) ≡ b → cond b (option_or (cost_at r is q.seat) (direct_at r k is qs)) (direct_at r k is qs) ≡ Some c
+        → (direct_at r k is qs ≡ Some c → (j : ℕ) × (seat : Seat) × (slice_get qs j ≡ Some (record { prefix = k; seat = seat })) × (cost_at r is seat ≡ Some c))
+        → (j : ℕ) × (seat : Seat) × (slice_get (q ∷ qs) j ≡ Some (record { prefix = k; seat = seat })) × (cost_at r is seat ≡ Some c)
+    by_test true e f later =
+        elim (or_parts (cost_at r is q.seat) (direct_at r k is qs) c f) [
+          | inl here ↦ let same : q.prefix ≡ k = grind (arith, nat_tests) in (zero, q.seat, ap (λ (m : ℕ). Some (record { prefix = m; seat = q.seat })) same, here)
+          | inr there ↦ let (j, seat, at, cost) = later there in (suc j, seat, at, cost)
+        ]
+    by_test false e f later = let (j, seat, at, cost) = later f in (suc j, seat, at, cost)
+
+direct_there : (r k j : ℕ) (seat : Seat) (is : List Interface) (qs : List Place) → slice_get qs j ≡ Some (record { prefix = k; seat = seat }) → direct_at r k is qs ≡ None → cost_at r is seat ≡ None
+direct_there r k j seat is [] h e = absurd (none-some _ h)
+direct_there r k zero seat is (q ∷ qs) h e =
+    let same = same_Some q _ h in
+    let test : (q.prefix == k) ≡ true = rw same (grind (arith, nat_tests)) in
+    let parts = or_none (cost_at r is q.seat) (direct_at r k is qs) (rw test at e) in
+    ap (λ (p : Place). cost_at r is p.seat) (sym same) ∙ parts.0
+direct_there r k (suc j) seat is (q ∷ qs) h e = by_test (q.prefix == k) e (λ f. direct_there r k j seat is qs h f)
+  where
+    by_test : (b : Bool) → cond b (option_or (cost_at r is q.seat) (direct_at r k is qs)) (direct_at r k is qs) ≡ None → (direct_at r k is qs ≡ None → cost_at r is seat ≡ None) → cost_at r is seat ≡ None
+    by_test true f later = later (or_none (cost_at r is q.seat) (direct_at r k is qs) f).1
+    by_test false f later = later f
+
+cost_touches : (n : Network) (j k r c : ℕ) (seat : Seat) → IsPlace n j k seat → cost_at r n.interfaces seat ≡ Some c → Touches n j k r c
+cost_touches n j k r c (seats.Link l) place h =
+    let (i, a, at) = cost_found r l c n.interfaces h in
+    inl (l, place, (i, record { address = a; listed = at }))
+cost_touches n j k r c (seats.Own owner d) place h = by_test (owner == r) refl h
+  where
+    by_test : (b : Bool) → (owner == r) ≡ b → cond b (Some d) None ≡ Some c → Touches n j k r c
+    by_test true e f =
+        let one : owner ≡ r = grind (arith, nat_tests) in
+        let two : d ≡ c = same_Some d c f in
+        inr (record { listed = place.listed ∙ ap (λ (m : ℕ). Some (record { prefix = k; seat = seats.Own m d })) one ∙ ap (λ (m : ℕ). Some (record { prefix = k; seat = seats.Own r m })) two })
+    by_test false e f = absurd cc
+
+touch_costs : (n : Network) (j k r c : ℕ) → Touches n j k r c → (seat : Seat) × IsPlace n j k seat × (cost_at r n.interfaces seat ≡ None → ⊥)
+touch_costs n j k r c (inl (l, place, (i, is))) = (seats.Link l, place, λ e. cost_there r l c is.address i n.interfaces is.listed e)
+touch_costs n j k r c (inr place) = (seats.Own r c, place, λ e. let same : (r == r) ≡ true = grind (arith, nat_tests) in none-some c (sym (rw same at e)))
+
+-- a place has one seat
+one_seat : (n : Network) (j k : ℕ) (seat other : Seat) → IsPlace n j k seat → IsPlace n j k other → seat ≡ other
+one_seat n j k seat other h h' = ap (λ (q : Place). q.seat) (same_Some _ _ (sym h.listed ∙ h'.listed))
+
+-- a router has a prefix at one cost
+pub direct_once : (n : Network) → IsLawful n → (r k c d : ℕ) → IsDirect n r k c → IsDirect n r k d → c ≡ d
+direct_once n laws r k c d (j, h) (m, h') =
+    let one : j ≡ m = laws.touched_once j m k r c d h h' in
+    same_touch h (subst (λ (p : ℕ). Touches n p k r d) (sym one) h')
+  where
+    same_touch : Touches n j k r c → Touches n j k r d → c ≡ d
+    same_touch (inl (l, place, (i, is))) (inl (l', place', (i', is'))) =
+        let seat : seats.Link l ≡ seats.Link l' = one_seat n j k _ _ place place' in
+        let link : l ≡ l' = cc in
+        let is'' : IsInterface n i' r l d = rw (← link) at is' in
+        let same : i ≡ i' = laws.one_on_link i i' r l c d is is'' in
+        let listed : slice_get n.interfaces i ≡ slice_get n.interfaces i' = ap (slice_get n.interfaces) same in
+        ap (λ (x : Interface). x.cost) (same_Some _ _ (sym is.listed ∙ listed ∙ is''.listed))
+    same_touch (inl (l, place, on)) (inr place') = let seat : seats.Link l ≡ seats.Own r d = one_seat n j k _ _ place place' in absurd cc
+    same_touch (inr place) (inl (l', place', on)) = let seat : seats.Own r c ≡ seats.Link l' = one_seat n j k _ _ place place' in absurd cc
+    same_touch (inr place) (inr place') = let seat : seats.Own r c ≡ seats.Own r d = one_seat n j k _ _ place place' in cc
+
+pub direct_gives : (n : Network) (r k c : ℕ) → direct_at r k n.interfaces n.places ≡ Some c → IsDirect n r k c
+direct_gives n r k c h =
+    let (j, seat, at, cost) = direct_found r k c n.interfaces n.places h in
+    (j, cost_touches n j k r c seat (record { listed = at }) cost)
+
+pub direct_finds : (n : Network) → IsLawful n → (r k c : ℕ) → IsDirect n r k c → direct_at r k n.interfaces n.places ≡ Some c
+direct_finds n laws r k c h = by_option (direct_at r k n.interfaces n.places) refl
+  where
+    by_option : (o : Option ℕ) → direct_at r k n.interfaces n.places ≡ o → direct_at r k n.interfaces n.places ≡ Some c
+    by_option None e =
+        let (seat, place, some) = touch_costs n h.0 k r c h.1 in
+        absurd (some (direct_there r k h.0 seat n.interfaces n.places place.listed e))
+    by_option (Some d) e = e ∙ ap (λ (m : ℕ). Some m) (direct_once n laws r k d c (direct_gives n r k d e) h)
+
+-- ---- carriers
+
+on_seat : (l : ℕ) (seat : Seat) → draft.is_on l seat ≡ true → seat ≡ seats.Link l
+on_seat l (seats.Link m) e = let same : m ≡ l = grind (arith, nat_tests) in ap seats.Link same
+on_seat l (seats.Own r c) e = absurd cc
+
+pub carrier_gives : (n : Network) (l k j : ℕ) → first_carrying l k 0 n.places ≡ Some j → Carries n l k
+carrier_gives n l k j h =
+    let (q, at, passes) = at_first (is_carrying l k) n.places j h in
+    let tests = both (draft.is_on l q.seat) (q.prefix == k) passes in
+    let seat : q.seat ≡ seats.Link l = on_seat l q.seat tests.0 in
+    let prefix : q.prefix ≡ k = grind (arith, nat_tests) in
+    (j, record { listed = at ∙ ap (λ (m : Seat). Some (record q { seat = m })) seat ∙ ap (λ (m : ℕ). Some (record { prefix = m; seat = seats.Link l })) prefix })
+
+pub carrier_finds : (n : Network) (l k : ℕ) → Carries n l k → first_carrying l k 0 n.places ≡ None → ⊥
+carrier_finds n l k (j, place) e =
+    let link : (l == l) ≡ true = grind (arith, nat_tests) in
+    let prefix : (k == k) ≡ true = grind (arith, nat_tests) in
+    let (m, q, f, at, passes) = found (is_carrying l k) n.places j (record { prefix = k; seat = seats.Link l }) place.listed (rw (link, prefix) refl) in
+    none-some m (sym e ∙ f)
+
+-- ---- interfaces on a link and of a router
+
+pub on_link_gives : (n : Network) (l i : ℕ) → Contains (numbers_where (is_on l) 0 n.interfaces) i → (r c : ℕ) × IsInterface n i r l c
+on_link_gives n l i h =
+    let (k, at) = at_contains (numbers_where (is_on l) 0 n.interfaces) i h in
+    let (j, x, e, is, test) = number_passes (is_on l) 0 n.interfaces k i at in
+    let same : i ≡ j = omega arith in
+    let link : x.link ≡ l = grind (arith, nat_tests) in
+    (x.router, x.cost, record { address = x.address; listed = ap (slice_get n.interfaces) same ∙ is ∙ ap (λ (m : ℕ). Some (record x { link = m })) link })
+
+pub on_link_finds : (n : Network) (l i r c : ℕ) → IsInterface n i r l c → Contains (numbers_where (is_on l) 0 n.interfaces) i
+on_link_finds n l i r c h =
+    let test : (l == l) ≡ true = grind (arith, nat_tests) in
+    let (k, at) = passing_number (is_on l) 0 n.interfaces i _ h.listed test in
+    let same : 0 + i ≡ i = omega arith in
+    contains_at (numbers_where (is_on l) 0 n.interfaces) k i (at ∙ ap (λ (m : ℕ). Some m) same)
+
+pub of_router_gives : (n : Network) (r i : ℕ) → Contains (numbers_where (is_of r) 0 n.interfaces) i → (l c : ℕ) × IsInterface n i r l c
+of_router_gives n r i h =
+    let (k, at) = at_contains (numbers_where (is_of r) 0 n.interfaces) i h in
+    let (j, x, e, is, test) = number_passes (is_of r) 0 n.interfaces k i at in
+    let same : i ≡ j = omega arith in
+    let router : x.router ≡ r = grind (arith, nat_tests) in
+    (x.link, x.cost, record { address = x.address; listed = ap (slice_get n.interfaces) same ∙ is ∙ ap (λ (m : ℕ). Some (record x { router = m })) router })
+
+pub of_router_finds : (n : Network) (r i l c : ℕ) → IsInterface n i r l c → Contains (numbers_where (is_of r) 0 n.interfaces) i
+of_router_finds n r i l c h =
+    let test : (r == r) ≡ true = grind (arith, nat_tests) in
+    let (k, at) = passing_number (is_of r) 0 n.interfaces i _ h.listed test in
+    let same : 0 + i ≡ i = omega arith in
+    contains_at (numbers_where (is_of r) 0 n.interfaces) k i (at ∙ ap (λ (m : ℕ). Some m) same)
+
+-- ---- an interface by the name of its link and its address
+
+name_is : (a b : List ℕ) → bytes_eq a b ≡ true → a ≡ b
+name_is a b h = (bytes_eq-Decides a b).0 h
+
+name_same : (a : List ℕ) → bytes_eq a a ≡ true
+name_same a = (bytes_eq-Decides a a).1 refl
+
+placed : (x : Interface) (l a : ℕ) → x.link ≡ l → x.address ≡ a → x ≡ record { router = x.router; link = l; address = a; cost = x.cost }
+placed x l a e f = rw (← e, ← f) refl
+
+pub found_gives : (n : Network) (name : List ℕ) (a i : ℕ) → found_at n name a ≡ Some i → IsAt n name a i
+found_gives n name a i h = by_link (first_named name 0 n.links) refl h
+  where
+    by_link : (o : Option ℕ) → first_named name 0 n.links ≡ o → option_and_then (λ l. first_at l a 0 n.interfaces) o ≡ Some i → IsAt n name a i
+    by_link None e f = absurd cc
+    by_link (Some l) e f =
+        let (other, at, same) = at_first (λ m. bytes_eq m name) n.links l e in
+        let (x, there, test) = at_first (is_at l a) n.interfaces i f in
+        let tests = both (x.link == l) (x.address == a) test in
+        let link : x.link ≡ l = grind (arith, nat_tests) in
+        let address : x.address ≡ a = grind (arith, nat_tests) in
+        let is : x ≡ record { router = x.router; link = l; address = a; cost = x.cost } = placed x l a link address in
+        (l, at ∙ ap (λ (m : List ℕ). Some m) (name_is other name same), record { router = x.router; cost = x.cost; listed = there ∙ ap (λ (y : Interface). Some y) is })
+
+pub found_finds : (n : Network) → IsLawful n → (name : List ℕ) (a i : ℕ) → IsAt n name a i → found_at n name a ≡ Some i
+found_finds n laws name a i (l, named, here) =
+    let (k, other, e, at, same) = found (λ m. bytes_eq m name) n.links l name named (name_same name) in
+    let link : k ≡ l = laws.link_names_differ k l name (at ∙ ap (λ (m : List ℕ). Some m) (name_is other name same)) named in
+    let on : (l == l) ≡ true = grind (arith, nat_tests) in
+    let its : (a == a) ≡ true = grind (arith, nat_tests) in
+    let (j, x, f, there, test) = found (is_at l a) n.interfaces i _ here.listed (rw (on, its) refl) in
+    let value : found_at n name a ≡ Some j = rw (e, link, f) refl in
+    let at_j = found_gives n name a j value in
+    let one : j ≡ i = laws.addresses_differ j i l a (moved (laws.link_names_differ at_j.0 l name at_j.1 named) at_j.2) here in
+    value ∙ ap (λ (m : ℕ). Some m) one
+  where
+    moved : {j m : ℕ} → m ≡ l → HasAddress n j m a → HasAddress n j l a
+    moved e h = rw (← e) h
