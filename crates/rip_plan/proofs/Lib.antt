@@ -16,3 +16,6 @@ pub mod NumbersWhere
 pub mod Lookups
 pub mod Leaves
 pub mod PlanAnswers
+pub mod Matching
+pub mod EachOnce
+pub mod PlanMatches

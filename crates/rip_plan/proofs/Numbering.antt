@@ -46,7 +46,7 @@ same_flips p q = by_tests (same_prefix p q) (same_prefix q p) refl refl
     by_tests false true e f = same_from p q (sym (same_is q p f)) ∙ sym f
     by_tests false false e f = e ∙ sym f
 
-none_same : (p : Block) (ps : List Block) → list_any (same_prefix p) ps ≡ false → list_any (λ q. same_prefix q p) ps ≡ false
+pub none_same : (p : Block) (ps : List Block) → list_any (same_prefix p) ps ≡ false → list_any (λ q. same_prefix q p) ps ≡ false
 none_same p [] h = refl
 none_same p (q ∷ qs) h =
     let parts = or_false (same_prefix p q) (list_any (same_prefix p) qs) h in

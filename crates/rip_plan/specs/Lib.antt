@@ -8,3 +8,4 @@ pub mod Network
 pub mod Answers
 pub mod Relations
 pub mod Indexed
+pub mod PlanOf

@@ -265,6 +265,7 @@ fn several_places(rt: HostRuntime) -> Result<(), Fail> {
         "name = \"r3\"\nown = [{ prefix = \"10.1.0.0/16\", cost = 5 }]",
     )?;
     let plan = Plan::read(alloc, text.as_bytes())?;
+    assert_eq!(rt; plan.routers(), 3);
     assert_eq!(rt; plan.prefixes(), 3);
     assert_eq!(rt; plan.places(), 4);
     assert_eq!(rt; plan.place(3).prefix, 0);
@@ -289,6 +290,7 @@ fn a_leaf(rt: HostRuntime) -> Result<(), Fail> {
     let alloc = rt.alloc();
     let second = "\n[[router.interface]]\nlink = \"c\"\naddress = \"10.3.0.3\"\n";
     let plan = Plan::read(alloc, changed(alloc, second, "")?.as_bytes())?;
+    assert_eq!(rt; plan.routers(), 3);
     assert!(rt; plan.leaf(2));
     assert!(rt; !plan.leaf(0));
     Ok(())

@@ -1,0 +1,115 @@
+-- What it is for a network to be the plan of a document: each list is matched item by item with the document's tables.
+use Rattle.std.specs.Prelude.{◌≡◌, ◌⊎◌, ℕ, ◌+◌, pos, List, [], ◌∷◌, ◌++◌, map, filter, not, codes, Option, None, Some}
+use Rattle.toml.specs.Data.{Data, Items, Members, string, integer, array, table, get}
+use Rattle.rip_wire.specs.Address.{address_in}
+use Rattle.rip_wire.specs.Prefix.{Block, prefix_in}
+use Rattle.rip_plan.specs.declared.parts.Interface.{Interface}
+use Rattle.rip_plan.specs.declared.parts.Place.{Place}
+use Rattle.rip_plan.specs.declared.parts.Seat.{Seat}
+use Rattle.rip_plan.specs.declared.parts.Seat.TheVariants as seats
+use Rattle.rip_plan.specs.Fields.{list_of}
+use Rattle.rip_plan.specs.Draft.{number_of}
+use Rattle.rip_plan.specs.Passes.{same_prefix}
+use Rattle.rip_plan.specs.PlanText.{document_of}
+use Rattle.rip_plan.specs.Network.{Network}
+use Rattle.rip_plan.specs.Relations.{IsPrefix}
+
+-- each item of the one list with the item of the other at the same place
+abbrev pub Matched : {A B : Type 0} → (A → B → Type 0) → List A → List B → Type 0
+Matched R [] [] = Unit {0}
+Matched R [] (y ∷ ys) = ⊥
+Matched R (x ∷ xs) [] = ⊥
+Matched R (x ∷ xs) (y ∷ ys) = R x y × Matched R xs ys
+
+-- ---- tables
+
+-- the table has this text at the key
+abbrev pub HasText : List ℕ → Data → List ℕ → Type 0
+HasText key d text = get key d ≡ Some (string text)
+
+-- the table has a list of these items at the key
+abbrev pub HasItems : List ℕ → Data → List Data → Type 0
+HasItems key d ds = (items : Items) × (get key d ≡ Some (array items)) × (list_of items ≡ ds)
+
+-- the table's cost: what it gives, or 1 where it gives none
+abbrev pub IsCostOf : Data → ℕ → Type 0
+IsCostOf d c = (get (codes "cost") d ≡ Some (integer (pos c))) ⊎ ((get (codes "cost") d ≡ None) × (c ≡ 1))
+
+abbrev pub IsNameOf : List ℕ → Data → Type 0
+IsNameOf name d = HasText (codes "name") d name
+
+abbrev pub items_in : Option Data → List Data
+items_in (Some (array items)) = list_of items
+items_in _ = []
+
+-- the items of the lists at the key, each with the number of its table, counted from n
+abbrev pub items_under : List ℕ → ℕ → List Data → List (ℕ × Data)
+items_under key n [] = []
+items_under key n (d ∷ ds) = map (λ item. (n, item)) (items_in (get key d)) ++ items_under key (n + 1) ds
+
+-- ---- parts of the plan
+
+-- the interface of this table, which stands in the table of the router of this number
+pub record IsInterfaceOf (links : List (List ℕ)) (i : Interface) (at : ℕ × Data) : Type 0 where
+  pub router : i.router ≡ at.0
+  pub link_name : List ℕ
+  pub has_link : HasText (codes "link") at.1 link_name
+  pub link : number_of link_name links ≡ Some i.link
+  pub text : List ℕ
+  pub has_address : HasText (codes "address") at.1 text
+  pub address : address_in text ≡ Some i.address
+  pub cost : IsCostOf at.1 i.cost
+
+-- a prefix at a seat
+pub record Placement : Type 0 where
+  pub prefix : Block
+  pub seat : Seat
+
+-- the prefix of this text, on the link of this number
+pub record IsOnLink (p : Placement) (at : ℕ × Data) : Type 0 where
+  pub text : List ℕ
+  pub is_text : at.1 ≡ string text
+  pub prefix : prefix_in text ≡ Some p.prefix
+  pub seat : p.seat ≡ seats.Link at.0
+
+-- the own prefix of this table, with the router of this number
+pub record IsOwned (p : Placement) (at : ℕ × Data) : Type 0 where
+  pub text : List ℕ
+  pub has_prefix : HasText (codes "prefix") at.1 text
+  pub prefix : prefix_in text ≡ Some p.prefix
+  pub cost : ℕ
+  pub is_cost : IsCostOf at.1 cost
+  pub seat : p.seat ≡ seats.Own at.0 cost
+
+-- the prefixes, each once, in the order in which they first stand
+abbrev pub each_once : List Block → List Block
+each_once [] = []
+each_once (p ∷ ps) = p ∷ filter (λ q. not (same_prefix p q)) (each_once ps)
+
+-- the place with the number of its prefix
+pub record IsPlaceOf (n : Network) (q : Place) (p : Placement) : Type 0 where
+  pub prefix : IsPrefix n q.prefix p.prefix
+  pub seat : q.seat ≡ p.seat
+
+-- ---- the plan
+
+pub record PlanOf (document : Members) (n : Network) : Type 0 where
+  pub links : List Data
+  pub has_links : HasItems (codes "link") (table document) links
+  pub link_names : Matched IsNameOf n.links links
+  pub routers : List Data
+  pub has_routers : HasItems (codes "router") (table document) routers
+  pub router_names : Matched IsNameOf n.routers routers
+  pub interfaces : Matched (IsInterfaceOf n.links) n.interfaces (items_under (codes "interface") 0 routers)
+  pub on_links : List Placement
+  pub link_prefixes : Matched IsOnLink on_links (items_under (codes "prefixes") 0 links)
+  pub owned : List Placement
+  pub own_prefixes : Matched IsOwned owned (items_under (codes "own") 0 routers)
+  pub places : Matched (IsPlaceOf n) n.places (on_links ++ owned)
+  pub prefixes : n.prefixes ≡ each_once (map (λ p. p.prefix) (on_links ++ owned))
+
+-- the bytes are a document, and the network is its plan
+pub record IsPlanOfText (bytes : List ℕ) (n : Network) : Type 0 where
+  pub document : Members
+  pub reads : document_of bytes ≡ Some document
+  pub plan : PlanOf document n
