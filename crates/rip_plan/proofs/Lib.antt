@@ -18,4 +18,5 @@ pub mod Leaves
 pub mod PlanAnswers
 pub mod Matching
 pub mod EachOnce
+pub mod Tables
 pub mod PlanMatches

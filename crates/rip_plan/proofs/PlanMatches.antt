@@ -1,180 +1,260 @@
 -- A plan that was read is matched item by item with the document.
-use Rattle.std.proofs.Common.{◌≡◌, ℕ, ◌+◌, ◌-◌, ◌⊎◌, inl, inr, List, [], ◌∷◌, ◌++◌, length, map, append_assoc, Bool, true, false, cond, ◌&&◌, Option, Some, None, Result, Ok, refl, sym, ◌∙◌, ap, arith, length-append}
-use Rattle.std.specs.Prelude.{ℤ, pos, negsuc, option_and_then, option_map, slice_get, codes as codes_of}
-use Rattle.std.proofs.lemmas.Option.{none-some, same_Some, cond_some}
+use Rattle.std.proofs.Common.{◌≡◌, ℕ, ◌+◌, ◌-◌, List, [], ◌∷◌, ◌++◌, length, map, append_assoc, Option, Some, None, Result, Ok, refl, sym, ◌∙◌, ap, subst, arith}
+use Rattle.std.specs.Prelude.{slice_get, codes as codes_of}
+use Rattle.std.proofs.lemmas.Option.{none-some, same_Some}
 use Rattle.std.proofs.lemmas.List.{append-nil, length-map}
-use Rattle.toml.specs.Data.{Data, Items, Members, string, integer, float, boolean, datetime, array, table, get, get_member, as_str, as_integer, as_array, as_table}
+use Rattle.toml.specs.Data.{Data, Members, get, get_member, table, as_table}
 use Rattle.rip_wire.specs.Prefix.{Block}
-use Rattle.rip_plan.specs.declared.error.PlanError.{PlanError}
 use Rattle.rip_plan.specs.declared.draft.DraftInterface.{DraftInterface}
 use Rattle.rip_plan.specs.declared.draft.DraftPlace.{DraftPlace}
 use Rattle.rip_plan.specs.declared.parts.Interface.{Interface}
 use Rattle.rip_plan.specs.declared.parts.Place.{Place}
 use Rattle.rip_plan.specs.declared.parts.Seat.{Seat}
 use Rattle.rip_plan.specs.declared.parts.Seat.TheVariants as seats
-use Rattle.rip_plan.specs.declared.error.At.{At}
 use Rattle.rip_plan.specs.declared.error.At.TheVariants.{LinkPrefix, RouterInterface, RouterOwn}
-use Rattle.rip_plan.specs.Fault.{◌>>=◌, steps}
-use Rattle.rip_plan.specs.Fields.{◌&>◌, keys_pass, list_of, text_at, items_at, items_if, integer_if, is_link_key, is_interface_key, is_own_key, is_router_key, is_root_key, is_between, some_items, link_fields, interface_fields, own_fields, router_fields, root_fields, cost_of}
+use Rattle.rip_plan.specs.Fault.{steps}
+use Rattle.rip_plan.specs.Fields.{◌&>◌, items_at, is_root_key, keys_pass, some_items, root_fields}
 use Rattle.rip_plan.specs.Draft.{Sketch, prefix_step, link_step, interface_step, own_step, router_step}
 use Rattle.rip_plan.specs.PlanText.{empty, sketch_of}
-use Rattle.rip_plan.specs.Network.{network_of_sketch, numbered}
-use Rattle.rip_plan.specs.PlanOf.{Matched, HasText, HasItems, IsCostOf, IsNameOf, items_in, items_under, IsInterfaceOf, Placement, IsOnLink, IsOwned, IsPlaceOf, each_once, PlanOf, IsPlanOfText}
+use Rattle.rip_plan.specs.Network.{Network, network_of_sketch, numbered}
+use Rattle.rip_plan.specs.PlanOf.{Matched, HasItems, IsNameOf, items_in, items_under, IsInterfaceOf, Placement, IsOnLink, IsOwned, IsPlaceOf, each_once, PlanOf, IsPlanOfText}
 use Rattle.rip_plan.proofs.Binds.{bind_ok, ok_same}
 use Rattle.rip_plan.proofs.StepsTaken.{with_link, with_router, prefix_taken, link_taken, interface_taken, own_taken, router_taken, DocumentTaken, text_taken}
 use Rattle.rip_plan.proofs.Numbering.{numbers}
 use Rattle.rip_plan.proofs.Matching.{matched_append, matched_at, map_append}
 use Rattle.rip_plan.proofs.EachOnce.{numbered_once}
 use Rattle.rip_plan.proofs.Items.{get_seen}
+use Rattle.rip_plan.proofs.Tables.{link_table, interface_table, own_table, router_table, then_some, chosen, items_there, text_is}
 
--- ---- what a table's fields are
+abbrev placement : DraftPlace → Placement
+placement d = record { prefix = d.prefix; seat = d.seat }
 
-then_some : {A B : Type 0} (o : Option A) (f : A → Option B) (y : B) → (o &> f) ≡ Some y → (x : A) × (o ≡ Some x) × (f x ≡ Some y)
-then_some None f y h = absurd (none-some y h)
-then_some (Some x) f y h = (x, refl, h)
+abbrev its_interface : DraftInterface → Interface
+its_interface d = d.interface
 
-chosen : {A : Type 0} (b : Bool) (o : Option A) (x : A) → cond b o None ≡ Some x → o ≡ Some x
-chosen true o x h = h
-chosen false o x h = absurd (none-some x h)
+abbrev with_number : ℕ → Data → ℕ × Data
+with_number n d = (n, d)
 
-table_is : (d : Data) (ms : Members) → as_table d ≡ Some ms → d ≡ table ms
-table_is (table ms) ns h = ap table (same_Some ms ns h)
-table_is (string s) ns h = absurd (none-some ns h)
-table_is (integer z) ns h = absurd (none-some ns h)
-table_is (float x) ns h = absurd (none-some ns h)
-table_is (boolean b) ns h = absurd (none-some ns h)
-table_is (datetime t) ns h = absurd (none-some ns h)
-table_is (array ds) ns h = absurd (none-some ns h)
+back : (n : ℕ) → n + 1 - 1 ≡ n
+back n = omega arith
 
-text_is : (d : Data) (t : List ℕ) → as_str d ≡ Some t → d ≡ string t
-text_is (string s) t h = ap string (same_Some s t h)
-text_is (table ms) t h = absurd (none-some t h)
-text_is (integer z) t h = absurd (none-some t h)
-text_is (float x) t h = absurd (none-some t h)
-text_is (boolean b) t h = absurd (none-some t h)
-text_is (datetime u) t h = absurd (none-some t h)
-text_is (array ds) t h = absurd (none-some t h)
+-- ---- the prefixes of a link
 
-integer_is : (d : Data) (z : ℤ) → as_integer d ≡ Some z → d ≡ integer z
-integer_is (integer y) z h = ap integer (same_Some y z h)
-integer_is (string s) z h = absurd (none-some z h)
-integer_is (table ms) z h = absurd (none-some z h)
-integer_is (float x) z h = absurd (none-some z h)
-integer_is (boolean b) z h = absurd (none-some z h)
-integer_is (datetime u) z h = absurd (none-some z h)
-integer_is (array ds) z h = absurd (none-some z h)
+record PrefixesAdded (l : ℕ) (xs : List Data) (s t : Sketch) : Type 0 where
+  added : List DraftPlace
+  made : t ≡ record s { places = s.places ++ added }
+  match : Matched IsOnLink (map placement added) (map (with_number l) xs)
 
-array_is : (d : Data) (xs : List Data) → option_map list_of (as_array d) ≡ Some xs → (items : Items) × (d ≡ array items) × (list_of items ≡ xs)
-array_is (array ds) xs h = (ds, refl, same_Some (list_of ds) xs h)
-array_is (string s) xs h = absurd (none-some xs h)
-array_is (integer z) xs h = absurd (none-some xs h)
-array_is (table ms) xs h = absurd (none-some xs h)
-array_is (float x) xs h = absurd (none-some xs h)
-array_is (boolean b) xs h = absurd (none-some xs h)
-array_is (datetime u) xs h = absurd (none-some xs h)
+prefixes_added : (l j : ℕ) (xs : List Data) (s t : Sketch) → steps (prefix_step (l + 1)) j xs s ≡ Ok t → PrefixesAdded l xs s t
+prefixes_added l j [] s t h = record { added = []; made = sym (ok_same s t h) ∙ ap (λ (ps : List DraftPlace). record s { places = ps }) (sym (append-nil s.places)); match = tt }
+prefixes_added l j (x ∷ xs) s t h =
+    let (u, first, others) = bind_ok (prefix_step (l + 1) j x s) (steps (prefix_step (l + 1)) (j + 1) xs) t h in
+    let taken = prefix_taken (l + 1) j x s u first in
+    let rest = prefixes_added l (j + 1) xs u t others in
+    let new : DraftPlace = record { prefix = taken.prefix; seat = seats.Link (l + 1 - 1); place = LinkPrefix (l + 1) j } in
+    record {
+      added = new ∷ rest.added;
+      made = rest.made ∙ ap (λ (v : Sketch). record v { places = v.places ++ rest.added }) taken.added.made ∙ ap (λ (ps : List DraftPlace). record s { places = ps }) (append_assoc s.places (new ∷ []) rest.added);
+      match = (record { text = taken.text; is_text = text_is x taken.text taken.is_text; prefix = taken.parsed; seat = ap seats.Link (back l) }, rest.match)
+    }
 
-text_there : (o : Option Data) (t : List ℕ) → option_and_then as_str o ≡ Some t → o ≡ Some (string t)
-text_there None t h = absurd (none-some t h)
-text_there (Some d) t h = ap (λ (x : Data). Some x) (text_is d t h)
+-- ---- links
 
-items_there : (o : Option Data) (xs : List Data) → option_map list_of (option_and_then as_array o) ≡ Some xs → (items : Items) × (o ≡ Some (array items)) × (list_of items ≡ xs)
-items_there None xs h = absurd (none-some xs h)
-items_there (Some d) xs h = let (items, is, same) = array_is d xs h in (items, ap (λ (x : Data). Some x) is, same)
+record LinksAdded (k : ℕ) (xs : List Data) (s t : Sketch) : Type 0 where
+  names : List (List ℕ)
+  added : List DraftPlace
+  made : t ≡ record s { links = s.links ++ names; places = s.places ++ added }
+  named : Matched IsNameOf names xs
+  placed : Matched IsOnLink (map placement added) (items_under (codes_of "prefixes") k xs)
 
-items_given : (o : Option Data) (xs : List Data) → items_if o ≡ Some xs → items_in o ≡ xs
-items_given None xs h = same_Some [] xs h
-items_given (Some d) xs h = let (items, is, same) = array_is d xs h in rw is same
+links_added : (k : ℕ) (xs : List Data) (s t : Sketch) → steps link_step (k + 1) xs s ≡ Ok t → LinksAdded k xs s t
+links_added k [] s t h = record {
+    names = []; added = [];
+    made = sym (ok_same s t h) ∙ ap (λ (ls : List (List ℕ)). record s { links = ls }) (sym (append-nil s.links)) ∙ ap (λ (ps : List DraftPlace). record s { links = s.links ++ []; places = ps }) (sym (append-nil s.places));
+    named = tt; placed = tt
+  }
+links_added k (x ∷ xs) s t h =
+    let (u, first, others) = bind_ok (link_step (k + 1) x s) (steps link_step (k + 1 + 1) xs) t h in
+    let taken = link_taken (k + 1) x s u first in
+    let fields = link_table x taken.name taken.prefixes taken.fields in
+    let inner = prefixes_added k 1 taken.prefixes (with_link taken.name s) u taken.others in
+    let rest = links_added (k + 1) xs u t others in
+    record {
+      names = taken.name ∷ rest.names;
+      added = inner.added ++ rest.added;
+      made = rest.made
+          ∙ ap (λ (v : Sketch). record v { links = v.links ++ rest.names; places = v.places ++ rest.added }) inner.made
+          ∙ ap (λ (ls : List (List ℕ)). record s { links = ls; places = (s.places ++ inner.added) ++ rest.added }) (append_assoc s.links (taken.name ∷ []) rest.names)
+          ∙ ap (λ (ps : List DraftPlace). record s { links = s.links ++ taken.name ∷ rest.names; places = ps }) (append_assoc s.places inner.added rest.added);
+      named = (fields.named, rest.named);
+      placed = rw (map_append placement inner.added rest.added, fields.prefixes_are)
+          (matched_append IsOnLink (map placement inner.added) (map placement rest.added) (map (with_number k) taken.prefixes) (items_under (codes_of "prefixes") (k + 1) xs) inner.match rest.placed)
+    }
 
-items_are : (o : Option Data) (xs : List Data) → option_map list_of (option_and_then as_array o) ≡ Some xs → items_in o ≡ xs
-items_are o xs h = let (items, is, same) = items_there o xs h in rw is same
+-- ---- the interfaces and the own prefixes of a router
 
-cost_is : (o : Option Data) (given : Option ℤ) (c : ℕ) → integer_if o ≡ Some given → cost_of given ≡ Some c → (o ≡ Some (integer (pos c))) ⊎ ((o ≡ None) × (c ≡ 1))
-cost_is None given c h e = let same : None ≡ given = same_Some None given h in inr (refl, sym (same_Some 1 c (ap cost_of same ∙ e)))
-cost_is (Some d) given c h e = by_given (as_integer d) refl h
+record InterfacesAdded (r : ℕ) (xs : List Data) (s t : Sketch) : Type 0 where
+  added : List DraftInterface
+  made : t ≡ record s { interfaces = s.interfaces ++ added }
+  match : Matched (IsInterfaceOf s.links) (map its_interface added) (map (with_number r) xs)
+
+interfaces_added : (r j : ℕ) (xs : List Data) (s t : Sketch) → steps (interface_step (r + 1)) j xs s ≡ Ok t → InterfacesAdded r xs s t
+interfaces_added r j [] s t h = record { added = []; made = sym (ok_same s t h) ∙ ap (λ (is : List DraftInterface). record s { interfaces = is }) (sym (append-nil s.interfaces)); match = tt }
+interfaces_added r j (x ∷ xs) s t h =
+    let (u, first, others) = bind_ok (interface_step (r + 1) j x s) (steps (interface_step (r + 1)) (j + 1) xs) t h in
+    let taken = interface_taken (r + 1) j x s u first in
+    let fields = interface_table x taken.name taken.text taken.given taken.cost taken.fields taken.costs in
+    let rest = interfaces_added r (j + 1) xs u t others in
+    let new : DraftInterface = record { interface = record { router = r + 1 - 1; link = taken.link; address = taken.address; cost = taken.cost }; place = RouterInterface (r + 1) j } in
+    record {
+      added = new ∷ rest.added;
+      made = rest.made ∙ ap (λ (v : Sketch). record v { interfaces = v.interfaces ++ rest.added }) taken.made ∙ ap (λ (is : List DraftInterface). record s { interfaces = is }) (append_assoc s.interfaces (new ∷ []) rest.added);
+      match = (
+        record { router = back r; link_name = taken.name; has_link = fields.has_link; link = taken.known; text = taken.text; has_address = fields.has_address; address = taken.parsed; cost = fields.cost },
+        subst (λ (names : List (List ℕ)). Matched (IsInterfaceOf names) (map its_interface rest.added) (map (with_number r) xs)) (ap (λ (v : Sketch). v.links) taken.made) rest.match
+      )
+    }
+
+record OwnsAdded (r : ℕ) (xs : List Data) (s t : Sketch) : Type 0 where
+  added : List DraftPlace
+  made : t ≡ record s { places = s.places ++ added }
+  match : Matched IsOwned (map placement added) (map (with_number r) xs)
+
+owns_added : (r j : ℕ) (xs : List Data) (s t : Sketch) → steps (own_step (r + 1)) j xs s ≡ Ok t → OwnsAdded r xs s t
+owns_added r j [] s t h = record { added = []; made = sym (ok_same s t h) ∙ ap (λ (ps : List DraftPlace). record s { places = ps }) (sym (append-nil s.places)); match = tt }
+owns_added r j (x ∷ xs) s t h =
+    let (u, first, others) = bind_ok (own_step (r + 1) j x s) (steps (own_step (r + 1)) (j + 1) xs) t h in
+    let taken = own_taken (r + 1) j x s u first in
+    let fields = own_table x taken.text taken.given taken.cost taken.fields taken.costs in
+    let rest = owns_added r (j + 1) xs u t others in
+    let new : DraftPlace = record { prefix = taken.prefix; seat = seats.Own (r + 1 - 1) taken.cost; place = RouterOwn (r + 1) j } in
+    record {
+      added = new ∷ rest.added;
+      made = rest.made ∙ ap (λ (v : Sketch). record v { places = v.places ++ rest.added }) taken.added.made ∙ ap (λ (ps : List DraftPlace). record s { places = ps }) (append_assoc s.places (new ∷ []) rest.added);
+      match = (
+        record { text = taken.text; has_prefix = fields.has_prefix; prefix = taken.parsed; cost = taken.cost; is_cost = fields.cost; seat = ap (λ (n : ℕ). seats.Own n taken.cost) (back r) },
+        rest.match
+      )
+    }
+
+-- ---- routers
+
+record RoutersAdded (k : ℕ) (xs : List Data) (s t : Sketch) : Type 0 where
+  names : List (List ℕ)
+  interfaces : List DraftInterface
+  owned : List DraftPlace
+  made : t ≡ record s { routers = s.routers ++ names; interfaces = s.interfaces ++ interfaces; places = s.places ++ owned }
+  named : Matched IsNameOf names xs
+  on_links : Matched (IsInterfaceOf s.links) (map its_interface interfaces) (items_under (codes_of "interface") k xs)
+  own : Matched IsOwned (map placement owned) (items_under (codes_of "own") k xs)
+
+routers_added : (k : ℕ) (xs : List Data) (s t : Sketch) → steps router_step (k + 1) xs s ≡ Ok t → RoutersAdded k xs s t
+routers_added k [] s t h = record {
+    names = []; interfaces = []; owned = [];
+    made = sym (ok_same s t h)
+        ∙ ap (λ (rs : List (List ℕ)). record s { routers = rs }) (sym (append-nil s.routers))
+        ∙ ap (λ (is : List DraftInterface). record s { routers = s.routers ++ []; interfaces = is }) (sym (append-nil s.interfaces))
+        ∙ ap (λ (ps : List DraftPlace). record s { routers = s.routers ++ []; interfaces = s.interfaces ++ []; places = ps }) (sym (append-nil s.places));
+    named = tt; on_links = tt; own = tt
+  }
+routers_added k (x ∷ xs) s t h =
+    let (u, first, others) = bind_ok (router_step (k + 1) x s) (steps router_step (k + 1 + 1) xs) t h in
+    let taken = router_taken (k + 1) x s u first in
+    let fields = router_table x taken.name taken.interfaces taken.owns taken.fields in
+    let inner = interfaces_added k 1 taken.interfaces (with_router taken.name s) taken.between taken.first in
+    let own = owns_added k 1 taken.owns taken.between u taken.second in
+    let rest = routers_added (k + 1) xs u t others in
+    let here : u ≡ record s { routers = s.routers ++ taken.name ∷ []; interfaces = s.interfaces ++ inner.added; places = s.places ++ own.added } =
+        own.made ∙ ap (λ (v : Sketch). record v { places = v.places ++ own.added }) inner.made in
+    record {
+      names = taken.name ∷ rest.names;
+      interfaces = inner.added ++ rest.interfaces;
+      owned = own.added ++ rest.owned;
+      made = rest.made
+          ∙ ap (λ (v : Sketch). record v { routers = v.routers ++ rest.names; interfaces = v.interfaces ++ rest.interfaces; places = v.places ++ rest.owned }) here
+          ∙ ap (λ (rs : List (List ℕ)). record s { routers = rs; interfaces = (s.interfaces ++ inner.added) ++ rest.interfaces; places = (s.places ++ own.added) ++ rest.owned }) (append_assoc s.routers (taken.name ∷ []) rest.names)
+          ∙ ap (λ (is : List DraftInterface). record s { routers = s.routers ++ taken.name ∷ rest.names; interfaces = is; places = (s.places ++ own.added) ++ rest.owned }) (append_assoc s.interfaces inner.added rest.interfaces)
+          ∙ ap (λ (ps : List DraftPlace). record s { routers = s.routers ++ taken.name ∷ rest.names; interfaces = s.interfaces ++ (inner.added ++ rest.interfaces); places = ps }) (append_assoc s.places own.added rest.owned);
+      named = (fields.named, rest.named);
+      on_links = rw (map_append its_interface inner.added rest.interfaces, fields.interfaces_are)
+          (matched_append (IsInterfaceOf s.links) (map its_interface inner.added) (map its_interface rest.interfaces) (map (with_number k) taken.interfaces) (items_under (codes_of "interface") (k + 1) xs) inner.match
+              (subst (λ (names : List (List ℕ)). Matched (IsInterfaceOf names) (map its_interface rest.interfaces) (items_under (codes_of "interface") (k + 1) xs)) (ap (λ (v : Sketch). v.links) here) rest.on_links));
+      own = rw (map_append placement own.added rest.owned, fields.owns_are)
+          (matched_append IsOwned (map placement own.added) (map placement rest.owned) (map (with_number k) taken.owns) (items_under (codes_of "own") (k + 1) xs) own.match rest.own)
+    }
+
+-- ---- the document
+
+some_items_same : (xs ys : List Data) → some_items xs ≡ Some ys → xs ≡ ys
+some_items_same [] ys h = absurd (none-some ys h)
+some_items_same (x ∷ xs) ys h = same_Some (x ∷ xs) ys h
+
+record IsRoot (doc : Members) (links routers : List Data) : Type 0 where
+  has_links : HasItems (codes_of "link") (table doc) links
+  has_routers : HasItems (codes_of "router") (table doc) routers
+
+root_table : (doc : Members) (links routers : List Data) → root_fields doc ≡ Some (links, routers) → IsRoot doc links routers
+unfolding root_fields
+root_table doc links routers h =
+    let h1 = chosen (keys_pass is_root_key doc) _ (links, routers) h in
+    let (a, first, h2) = then_some (items_at (codes_of "link") doc &> some_items) _ (links, routers) h1 in
+    let (b, second, h3) = then_some (items_at (codes_of "router") doc &> some_items) _ (links, routers) h2 in
+    let same = same_Some (a, b) (links, routers) h3 in
+    let (c, given, some) = then_some (items_at (codes_of "link") doc) some_items a first in
+    let (d, given', some') = then_some (items_at (codes_of "router") doc) some_items b second in
+    record {
+      has_links = items_there (get_member (codes_of "link") doc) links (given ∙ ap (λ (xs : List Data). Some xs) (some_items_same c a some ∙ ap (λ (f : List Data × List Data). f.0) same));
+      has_routers = items_there (get_member (codes_of "router") doc) routers (given' ∙ ap (λ (xs : List Data). Some xs) (some_items_same d b some' ∙ ap (λ (f : List Data × List Data). f.1) same))
+    }
+
+places_match : (s : Sketch) → Matched (IsPlaceOf (network_of_sketch s)) (network_of_sketch s).places (map placement s.places)
+places_match s =
+    matched_at (IsPlaceOf (network_of_sketch s)) (network_of_sketch s).places (map placement s.places) ((numbers s.places).count ∙ sym (length-map s.places placement))
+    (λ k q p at there.
+        let (d, is, prefix, seat) = (numbers s.places).each k q at in
+        let (e, its, same) = get_seen placement s.places k p there in
+        let one : d ≡ e = same_Some d e (sym is ∙ its) in
+        let placed : placement d ≡ p = ap placement one ∙ same in
+        record { prefix = prefix ∙ ap (λ (x : Placement). Some x.prefix) placed; seat = seat ∙ ap (λ (x : Placement). x.seat) placed })
+
+document_matches : (doc : Members) (s : Sketch) → DocumentTaken doc s → PlanOf doc (network_of_sketch s)
+document_matches doc s taken =
+    let root = root_table doc taken.links taken.routers taken.root in
+    let links = links_added 0 taken.links empty taken.between taken.first in
+    let routers = routers_added 0 taken.routers taken.between s taken.second in
+    let made : s ≡ record { links = links.names; routers = routers.names; interfaces = routers.interfaces; places = links.added ++ routers.owned } =
+        routers.made ∙ ap (λ (v : Sketch). record v { routers = v.routers ++ routers.names; interfaces = v.interfaces ++ routers.interfaces; places = v.places ++ routers.owned }) links.made in
+    let split : map placement s.places ≡ map placement links.added ++ map placement routers.owned = ap (λ (v : Sketch). map placement v.places) made ∙ map_append placement links.added routers.owned in
+    record {
+      links = taken.links;
+      has_links = root.has_links;
+      link_names = subst (λ (names : List (List ℕ)). Matched IsNameOf names taken.links) (ap (λ (v : Sketch). v.links) (sym made)) links.named;
+      routers = taken.routers;
+      has_routers = root.has_routers;
+      router_names = subst (λ (names : List (List ℕ)). Matched IsNameOf names taken.routers) (ap (λ (v : Sketch). v.routers) (sym made)) routers.named;
+      interfaces = interfaces_match doc s taken;
+      on_links = map placement links.added;
+      link_prefixes = links.placed;
+      owned = map placement routers.owned;
+      own_prefixes = routers.own;
+      places = subst (λ (ps : List Placement). Matched (IsPlaceOf (network_of_sketch s)) (network_of_sketch s).places ps) split (places_match s);
+      prefixes = numbered_once s.places ∙ ap each_once (blocks_seen s.places ∙ ap (map (λ (p : Placement). p.prefix)) split)
+    }
   where
-    within : (z : ℤ) → cost_of (Some z) ≡ Some c → z ≡ pos c
-    within (pos n) f = ap pos (cond_some (is_between 1 15 n) n c f).1
-    within (negsuc n) f = absurd (none-some c f)
-    by_given : (i : Option ℤ) → as_integer d ≡ i → option_map Some i ≡ Some given → (Some d ≡ Some (integer (pos c))) ⊎ ((Some d ≡ None) × (c ≡ 1))
-    by_given None f g = absurd (none-some given g)
-    by_given (Some z) f g =
-        let same : Some z ≡ given = same_Some (Some z) given g in
-        inl (ap (λ (x : Data). Some x) (integer_is d z f ∙ ap integer (within z (ap cost_of same ∙ e))))
+    blocks_seen : (ds : List DraftPlace) → map (λ (d : DraftPlace). d.prefix) ds ≡ map (λ (p : Placement). p.prefix) (map placement ds)
+    blocks_seen [] = refl
+    blocks_seen (d ∷ ds) = ap (λ (l : List Block). d.prefix ∷ l) (blocks_seen ds)
+    interfaces_match : (m : Members) (v : Sketch) (was : DocumentTaken m v) → Matched (IsInterfaceOf v.links) (map its_interface v.interfaces) (items_under (codes_of "interface") 0 was.routers)
+    interfaces_match m v was =
+        let links = links_added 0 was.links empty was.between was.first in
+        let routers = routers_added 0 was.routers was.between v was.second in
+        let none : was.between.interfaces ≡ [] = ap (λ (w : Sketch). w.interfaces) links.made in
+        let are : v.interfaces ≡ routers.interfaces = ap (λ (w : Sketch). w.interfaces) routers.made ∙ ap (λ (is : List DraftInterface). is ++ routers.interfaces) none in
+        let names : v.links ≡ was.between.links = ap (λ (w : Sketch). w.links) routers.made in
+        subst (λ (is : List DraftInterface). Matched (IsInterfaceOf v.links) (map its_interface is) (items_under (codes_of "interface") 0 was.routers)) (sym are)
+        (subst (λ (ls : List (List ℕ)). Matched (IsInterfaceOf ls) (map its_interface routers.interfaces) (items_under (codes_of "interface") 0 was.routers)) (sym names) routers.on_links)
 
-record IsLinkTable (d : Data) (name : List ℕ) (prefixes : List Data) : Type 0 where
-  named : IsNameOf name d
-  prefixes_are : items_in (get (codes_of "prefixes") d) ≡ prefixes
-
-link_table : (d : Data) (name : List ℕ) (prefixes : List Data) → (as_table d &> link_fields) ≡ Some (name, prefixes) → IsLinkTable d name prefixes
-unfolding link_fields
-link_table d name prefixes h =
-    let (ms, is, h1) = then_some (as_table d) link_fields (name, prefixes) h in
-    let h2 = chosen (keys_pass is_link_key ms) _ (name, prefixes) h1 in
-    let (a, first, h3) = then_some (text_at (codes_of "name") ms) _ (name, prefixes) h2 in
-    let (b, second, h4) = then_some (items_at (codes_of "prefixes") ms) _ (name, prefixes) h3 in
-    let same = same_Some (a, b) (name, prefixes) h4 in
-    let there : d ≡ table ms = table_is d ms is in
-    rw there (record {
-      named = text_there (get_member (codes_of "name") ms) name (first ∙ ap (λ (f : List ℕ × List Data). Some f.0) same);
-      prefixes_are = items_are (get_member (codes_of "prefixes") ms) prefixes (second ∙ ap (λ (f : List ℕ × List Data). Some f.1) same)
-    })
-
-record IsInterfaceTable (d : Data) (link text : List ℕ) (c : ℕ) : Type 0 where
-  has_link : HasText (codes_of "link") d link
-  has_address : HasText (codes_of "address") d text
-  cost : IsCostOf d c
-
-interface_table : (d : Data) (link text : List ℕ) (given : Option ℤ) (c : ℕ) → (as_table d &> interface_fields) ≡ Some (link, text, given) → cost_of given ≡ Some c → IsInterfaceTable d link text c
-unfolding interface_fields
-interface_table d link text given c h e =
-    let (ms, is, h1) = then_some (as_table d) interface_fields (link, text, given) h in
-    let h2 = chosen (keys_pass is_interface_key ms) _ (link, text, given) h1 in
-    let (a, first, h3) = then_some (text_at (codes_of "link") ms) _ (link, text, given) h2 in
-    let (b, second, h4) = then_some (text_at (codes_of "address") ms) _ (link, text, given) h3 in
-    let (g, third, h5) = then_some (integer_if (get_member (codes_of "cost") ms)) _ (link, text, given) h4 in
-    let same = same_Some (a, b, g) (link, text, given) h5 in
-    let there : d ≡ table ms = table_is d ms is in
-    rw there (record {
-      has_link = text_there (get_member (codes_of "link") ms) link (first ∙ ap (λ (f : List ℕ × List ℕ × Option ℤ). Some f.0) same);
-      has_address = text_there (get_member (codes_of "address") ms) text (second ∙ ap (λ (f : List ℕ × List ℕ × Option ℤ). Some f.1) same);
-      cost = cost_is (get_member (codes_of "cost") ms) given c (third ∙ ap (λ (f : List ℕ × List ℕ × Option ℤ). Some f.2) same) e
-    })
-
-record IsOwnTable (d : Data) (text : List ℕ) (c : ℕ) : Type 0 where
-  has_prefix : HasText (codes_of "prefix") d text
-  cost : IsCostOf d c
-
-own_table : (d : Data) (text : List ℕ) (given : Option ℤ) (c : ℕ) → (as_table d &> own_fields) ≡ Some (text, given) → cost_of given ≡ Some c → IsOwnTable d text c
-unfolding own_fields
-own_table d text given c h e =
-    let (ms, is, h1) = then_some (as_table d) own_fields (text, given) h in
-    let h2 = chosen (keys_pass is_own_key ms) _ (text, given) h1 in
-    let (a, first, h3) = then_some (text_at (codes_of "prefix") ms) _ (text, given) h2 in
-    let (g, second, h4) = then_some (integer_if (get_member (codes_of "cost") ms)) _ (text, given) h3 in
-    let same = same_Some (a, g) (text, given) h4 in
-    let there : d ≡ table ms = table_is d ms is in
-    rw there (record {
-      has_prefix = text_there (get_member (codes_of "prefix") ms) text (first ∙ ap (λ (f : List ℕ × Option ℤ). Some f.0) same);
-      cost = cost_is (get_member (codes_of "cost") ms) given c (second ∙ ap (λ (f : List ℕ × Option ℤ). Some f.1) same) e
-    })
-
-record IsRouterTable (d : Data) (name : List ℕ) (interfaces owns : List Data) : Type 0 where
-  named : IsNameOf name d
-  interfaces_are : items_in (get (codes_of "interface") d) ≡ interfaces
-  owns_are : items_in (get (codes_of "own") d) ≡ owns
-
-router_table : (d : Data) (name : List ℕ) (interfaces owns : List Data) → (as_table d &> router_fields) ≡ Some (name, interfaces, owns) → IsRouterTable d name interfaces owns
-unfolding router_fields
-router_table d name interfaces owns h =
-    let (ms, is, h1) = then_some (as_table d) router_fields (name, interfaces, owns) h in
-    let h2 = chosen (keys_pass is_router_key ms) _ (name, interfaces, owns) h1 in
-    let (a, first, h3) = then_some (text_at (codes_of "name") ms) _ (name, interfaces, owns) h2 in
-    let (b, second, h4) = then_some (items_at (codes_of "interface") ms) _ (name, interfaces, owns) h3 in
-    let (c, third, h5) = then_some (items_if (get_member (codes_of "own") ms)) _ (name, interfaces, owns) h4 in
-    let same = same_Some (a, b, c) (name, interfaces, owns) h5 in
-    let there : d ≡ table ms = table_is d ms is in
-    rw there (record {
-      named = text_there (get_member (codes_of "name") ms) name (first ∙ ap (λ (f : List ℕ × List Data × List Data). Some f.0) same);
-      interfaces_are = items_are (get_member (codes_of "interface") ms) interfaces (second ∙ ap (λ (f : List ℕ × List Data × List Data). Some f.1) same);
-      owns_are = items_given (get_member (codes_of "own") ms) owns (third ∙ ap (λ (f : List ℕ × List Data × List Data). Some f.2) same)
-    })
+pub matches : (bytes : List ℕ) (s : Sketch) → sketch_of bytes ≡ Ok s → IsPlanOfText bytes (network_of_sketch s)
+matches bytes s h =
+    let taken = text_taken bytes s h in
+    record { document = taken.document; reads = taken.read; plan = document_matches taken.document s taken.taken }
