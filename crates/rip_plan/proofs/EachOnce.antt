@@ -17,7 +17,6 @@ use Rattle.rip_plan.proofs.Matching.{filter_both, filter_all}
 abbrev is_new : List Block → Block → Bool
 is_new ps q = not (list_any (λ p. same_prefix p q) ps)
 
-
 new_push : (ps : List Block) (b q : Block) → is_new (ps ++ b ∷ []) q ≡ (not (same_prefix b q) && is_new ps q)
 new_push ps b q = ap not (list_any-append (λ p. same_prefix p q) ps (b ∷ [])) ∙ by_tests (list_any (λ p. same_prefix p q) ps) (same_prefix b q)
   where

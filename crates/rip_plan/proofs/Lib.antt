@@ -20,3 +20,5 @@ pub mod Matching
 pub mod EachOnce
 pub mod Tables
 pub mod PlanMatches
+pub mod OnePlan
+pub mod NoMemory

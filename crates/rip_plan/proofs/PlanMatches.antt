@@ -16,7 +16,7 @@ use Rattle.rip_plan.specs.Fault.{steps}
 use Rattle.rip_plan.specs.Fields.{◌&>◌, items_at, is_root_key, keys_pass, some_items, root_fields}
 use Rattle.rip_plan.specs.Draft.{Sketch, prefix_step, link_step, interface_step, own_step, router_step}
 use Rattle.rip_plan.specs.PlanText.{empty, sketch_of}
-use Rattle.rip_plan.specs.Network.{Network, network_of_sketch, numbered}
+use Rattle.rip_plan.specs.Network.{Network, network_in, network_of_sketch, numbered}
 use Rattle.rip_plan.specs.PlanOf.{Matched, HasItems, IsNameOf, items_in, items_under, IsInterfaceOf, Placement, IsOnLink, IsOwned, IsPlaceOf, each_once, PlanOf, IsPlanOfText}
 use Rattle.rip_plan.proofs.Binds.{bind_ok, ok_same}
 use Rattle.rip_plan.proofs.StepsTaken.{with_link, with_router, prefix_taken, link_taken, interface_taken, own_taken, router_taken, DocumentTaken, text_taken}
@@ -55,7 +55,7 @@ prefixes_added l j (x ∷ xs) s t h =
     record {
       added = new ∷ rest.added;
       made = rest.made ∙ ap (λ (v : Sketch). record v { places = v.places ++ rest.added }) taken.added.made ∙ ap (λ (ps : List DraftPlace). record s { places = ps }) (append_assoc s.places (new ∷ []) rest.added);
-      match = (record { text = taken.text; is_text = text_is x taken.text taken.is_text; prefix = taken.parsed; seat = ap seats.Link (back l) }, rest.match)
+      match = (record { text = taken.text; is_text = text_is x taken.text taken.is_text; prefix = taken.parsed; seat = ap seats.Link (back l) }, rest.match);
     }
 
 -- ---- links
@@ -69,10 +69,12 @@ record LinksAdded (k : ℕ) (xs : List Data) (s t : Sketch) : Type 0 where
 
 links_added : (k : ℕ) (xs : List Data) (s t : Sketch) → steps link_step (k + 1) xs s ≡ Ok t → LinksAdded k xs s t
 links_added k [] s t h = record {
-    names = []; added = [];
-    made = sym (ok_same s t h) ∙ ap (λ (ls : List (List ℕ)). record s { links = ls }) (sym (append-nil s.links)) ∙ ap (λ (ps : List DraftPlace). record s { links = s.links ++ []; places = ps }) (sym (append-nil s.places));
-    named = tt; placed = tt
-  }
+  names = [];
+  added = [];
+  made = sym (ok_same s t h) ∙ ap (λ (ls : List (List ℕ)). record s { links = ls }) (sym (append-nil s.links)) ∙ ap (λ (ps : List DraftPlace). record s { links = s.links ++ []; places = ps }) (sym (append-nil s.places));
+  named = tt;
+  placed = tt;
+}
 links_added k (x ∷ xs) s t h =
     let (u, first, others) = bind_ok (link_step (k + 1) x s) (steps link_step (k + 1 + 1) xs) t h in
     let taken = link_taken (k + 1) x s u first in
@@ -88,7 +90,7 @@ links_added k (x ∷ xs) s t h =
           ∙ ap (λ (ps : List DraftPlace). record s { links = s.links ++ taken.name ∷ rest.names; places = ps }) (append_assoc s.places inner.added rest.added);
       named = (fields.named, rest.named);
       placed = rw (map_append placement inner.added rest.added, fields.prefixes_are)
-          (matched_append IsOnLink (map placement inner.added) (map placement rest.added) (map (with_number k) taken.prefixes) (items_under (codes_of "prefixes") (k + 1) xs) inner.match rest.placed)
+          (matched_append IsOnLink (map placement inner.added) (map placement rest.added) (map (with_number k) taken.prefixes) (items_under (codes_of "prefixes") (k + 1) xs) inner.match rest.placed);
     }
 
 -- ---- the interfaces and the own prefixes of a router
@@ -111,8 +113,8 @@ interfaces_added r j (x ∷ xs) s t h =
       made = rest.made ∙ ap (λ (v : Sketch). record v { interfaces = v.interfaces ++ rest.added }) taken.made ∙ ap (λ (is : List DraftInterface). record s { interfaces = is }) (append_assoc s.interfaces (new ∷ []) rest.added);
       match = (
         record { router = back r; link_name = taken.name; has_link = fields.has_link; link = taken.known; text = taken.text; has_address = fields.has_address; address = taken.parsed; cost = fields.cost },
-        subst (λ (names : List (List ℕ)). Matched (IsInterfaceOf names) (map its_interface rest.added) (map (with_number r) xs)) (ap (λ (v : Sketch). v.links) taken.made) rest.match
-      )
+        subst (λ (names : List (List ℕ)). Matched (IsInterfaceOf names) (map its_interface rest.added) (map (with_number r) xs)) (ap (λ (v : Sketch). v.links) taken.made) rest.match,
+      );
     }
 
 record OwnsAdded (r : ℕ) (xs : List Data) (s t : Sketch) : Type 0 where
@@ -133,8 +135,8 @@ owns_added r j (x ∷ xs) s t h =
       made = rest.made ∙ ap (λ (v : Sketch). record v { places = v.places ++ rest.added }) taken.added.made ∙ ap (λ (ps : List DraftPlace). record s { places = ps }) (append_assoc s.places (new ∷ []) rest.added);
       match = (
         record { text = taken.text; has_prefix = fields.has_prefix; prefix = taken.parsed; cost = taken.cost; is_cost = fields.cost; seat = ap (λ (n : ℕ). seats.Own n taken.cost) (back r) },
-        rest.match
-      )
+        rest.match,
+      );
     }
 
 -- ---- routers
@@ -150,13 +152,17 @@ record RoutersAdded (k : ℕ) (xs : List Data) (s t : Sketch) : Type 0 where
 
 routers_added : (k : ℕ) (xs : List Data) (s t : Sketch) → steps router_step (k + 1) xs s ≡ Ok t → RoutersAdded k xs s t
 routers_added k [] s t h = record {
-    names = []; interfaces = []; owned = [];
-    made = sym (ok_same s t h)
-        ∙ ap (λ (rs : List (List ℕ)). record s { routers = rs }) (sym (append-nil s.routers))
-        ∙ ap (λ (is : List DraftInterface). record s { routers = s.routers ++ []; interfaces = is }) (sym (append-nil s.interfaces))
-        ∙ ap (λ (ps : List DraftPlace). record s { routers = s.routers ++ []; interfaces = s.interfaces ++ []; places = ps }) (sym (append-nil s.places));
-    named = tt; on_links = tt; own = tt
-  }
+  names = [];
+  interfaces = [];
+  owned = [];
+  made = sym (ok_same s t h)
+      ∙ ap (λ (rs : List (List ℕ)). record s { routers = rs }) (sym (append-nil s.routers))
+      ∙ ap (λ (is : List DraftInterface). record s { routers = s.routers ++ []; interfaces = is }) (sym (append-nil s.interfaces))
+      ∙ ap (λ (ps : List DraftPlace). record s { routers = s.routers ++ []; interfaces = s.interfaces ++ []; places = ps }) (sym (append-nil s.places));
+  named = tt;
+  on_links = tt;
+  own = tt;
+}
 routers_added k (x ∷ xs) s t h =
     let (u, first, others) = bind_ok (router_step (k + 1) x s) (steps router_step (k + 1 + 1) xs) t h in
     let taken = router_taken (k + 1) x s u first in
@@ -165,7 +171,7 @@ routers_added k (x ∷ xs) s t h =
     let own = owns_added k 1 taken.owns taken.between u taken.second in
     let rest = routers_added (k + 1) xs u t others in
     let here : u ≡ record s { routers = s.routers ++ taken.name ∷ []; interfaces = s.interfaces ++ inner.added; places = s.places ++ own.added } =
-        own.made ∙ ap (λ (v : Sketch). record v { places = v.places ++ own.added }) inner.made in
+    own.made ∙ ap (λ (v : Sketch). record v { places = v.places ++ own.added }) inner.made in
     record {
       names = taken.name ∷ rest.names;
       interfaces = inner.added ++ rest.interfaces;
@@ -178,9 +184,9 @@ routers_added k (x ∷ xs) s t h =
       named = (fields.named, rest.named);
       on_links = rw (map_append its_interface inner.added rest.interfaces, fields.interfaces_are)
           (matched_append (IsInterfaceOf s.links) (map its_interface inner.added) (map its_interface rest.interfaces) (map (with_number k) taken.interfaces) (items_under (codes_of "interface") (k + 1) xs) inner.match
-              (subst (λ (names : List (List ℕ)). Matched (IsInterfaceOf names) (map its_interface rest.interfaces) (items_under (codes_of "interface") (k + 1) xs)) (ap (λ (v : Sketch). v.links) here) rest.on_links));
+          (subst (λ (names : List (List ℕ)). Matched (IsInterfaceOf names) (map its_interface rest.interfaces) (items_under (codes_of "interface") (k + 1) xs)) (ap (λ (v : Sketch). v.links) here) rest.on_links));
       own = rw (map_append placement own.added rest.owned, fields.owns_are)
-          (matched_append IsOwned (map placement own.added) (map placement rest.owned) (map (with_number k) taken.owns) (items_under (codes_of "own") (k + 1) xs) own.match rest.own)
+          (matched_append IsOwned (map placement own.added) (map placement rest.owned) (map (with_number k) taken.owns) (items_under (codes_of "own") (k + 1) xs) own.match rest.own);
     }
 
 -- ---- the document
@@ -204,18 +210,18 @@ root_table doc links routers h =
     let (d, given', some') = then_some (items_at (codes_of "router") doc) some_items b second in
     record {
       has_links = items_there (get_member (codes_of "link") doc) links (given ∙ ap (λ (xs : List Data). Some xs) (some_items_same c a some ∙ ap (λ (f : List Data × List Data). f.0) same));
-      has_routers = items_there (get_member (codes_of "router") doc) routers (given' ∙ ap (λ (xs : List Data). Some xs) (some_items_same d b some' ∙ ap (λ (f : List Data × List Data). f.1) same))
+      has_routers = items_there (get_member (codes_of "router") doc) routers (given' ∙ ap (λ (xs : List Data). Some xs) (some_items_same d b some' ∙ ap (λ (f : List Data × List Data). f.1) same));
     }
 
 places_match : (s : Sketch) → Matched (IsPlaceOf (network_of_sketch s)) (network_of_sketch s).places (map placement s.places)
 places_match s =
     matched_at (IsPlaceOf (network_of_sketch s)) (network_of_sketch s).places (map placement s.places) ((numbers s.places).count ∙ sym (length-map s.places placement))
     (λ k q p at there.
-        let (d, is, prefix, seat) = (numbers s.places).each k q at in
-        let (e, its, same) = get_seen placement s.places k p there in
-        let one : d ≡ e = same_Some d e (sym is ∙ its) in
-        let placed : placement d ≡ p = ap placement one ∙ same in
-        record { prefix = prefix ∙ ap (λ (x : Placement). Some x.prefix) placed; seat = seat ∙ ap (λ (x : Placement). x.seat) placed })
+    let (d, is, prefix, seat) = (numbers s.places).each k q at in
+    let (e, its, same) = get_seen placement s.places k p there in
+    let one : d ≡ e = same_Some d e (sym is ∙ its) in
+    let placed : placement d ≡ p = ap placement one ∙ same in
+    record { prefix = prefix ∙ ap (λ (x : Placement). Some x.prefix) placed; seat = seat ∙ ap (λ (x : Placement). x.seat) placed })
 
 document_matches : (doc : Members) (s : Sketch) → DocumentTaken doc s → PlanOf doc (network_of_sketch s)
 document_matches doc s taken =
@@ -223,7 +229,7 @@ document_matches doc s taken =
     let links = links_added 0 taken.links empty taken.between taken.first in
     let routers = routers_added 0 taken.routers taken.between s taken.second in
     let made : s ≡ record { links = links.names; routers = routers.names; interfaces = routers.interfaces; places = links.added ++ routers.owned } =
-        routers.made ∙ ap (λ (v : Sketch). record v { routers = v.routers ++ routers.names; interfaces = v.interfaces ++ routers.interfaces; places = v.places ++ routers.owned }) links.made in
+    routers.made ∙ ap (λ (v : Sketch). record v { routers = v.routers ++ routers.names; interfaces = v.interfaces ++ routers.interfaces; places = v.places ++ routers.owned }) links.made in
     let split : map placement s.places ≡ map placement links.added ++ map placement routers.owned = ap (λ (v : Sketch). map placement v.places) made ∙ map_append placement links.added routers.owned in
     record {
       links = taken.links;
@@ -238,12 +244,13 @@ document_matches doc s taken =
       owned = map placement routers.owned;
       own_prefixes = routers.own;
       places = subst (λ (ps : List Placement). Matched (IsPlaceOf (network_of_sketch s)) (network_of_sketch s).places ps) split (places_match s);
-      prefixes = numbered_once s.places ∙ ap each_once (blocks_seen s.places ∙ ap (map (λ (p : Placement). p.prefix)) split)
+      prefixes = numbered_once s.places ∙ ap each_once (blocks_seen s.places ∙ ap (map (λ (p : Placement). p.prefix)) split);
     }
   where
     blocks_seen : (ds : List DraftPlace) → map (λ (d : DraftPlace). d.prefix) ds ≡ map (λ (p : Placement). p.prefix) (map placement ds)
     blocks_seen [] = refl
     blocks_seen (d ∷ ds) = ap (λ (l : List Block). d.prefix ∷ l) (blocks_seen ds)
+
     interfaces_match : (m : Members) (v : Sketch) (was : DocumentTaken m v) → Matched (IsInterfaceOf v.links) (map its_interface v.interfaces) (items_under (codes_of "interface") 0 was.routers)
     interfaces_match m v was =
         let links = links_added 0 was.links empty was.between was.first in
@@ -254,7 +261,13 @@ document_matches doc s taken =
         subst (λ (is : List DraftInterface). Matched (IsInterfaceOf v.links) (map its_interface is) (items_under (codes_of "interface") 0 was.routers)) (sym are)
         (subst (λ (ls : List (List ℕ)). Matched (IsInterfaceOf ls) (map its_interface routers.interfaces) (items_under (codes_of "interface") 0 was.routers)) (sym names) routers.on_links)
 
-pub matches : (bytes : List ℕ) (s : Sketch) → sketch_of bytes ≡ Ok s → IsPlanOfText bytes (network_of_sketch s)
+matches : (bytes : List ℕ) (s : Sketch) → sketch_of bytes ≡ Ok s → IsPlanOfText bytes (network_of_sketch s)
 matches bytes s h =
     let taken = text_taken bytes s h in
     record { document = taken.document; reads = taken.read; plan = document_matches taken.document s taken.taken }
+
+-- of a network that the bytes are
+pub network_matches : (bytes : List ℕ) (n : Network) → network_in bytes ≡ Ok n → IsPlanOfText bytes n
+network_matches bytes n h =
+    let (s, read, made) = bind_ok (sketch_of bytes) (λ t. Ok (network_of_sketch t)) n h in
+    subst (IsPlanOfText bytes) (ok_same (network_of_sketch s) n made) (matches bytes s read)

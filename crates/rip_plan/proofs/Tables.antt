@@ -93,6 +93,7 @@ cost_is (Some d) given c h e = by_given (as_integer d) refl h
     within : (z : ℤ) → cost_of (Some z) ≡ Some c → z ≡ pos c
     within (pos n) f = ap pos (cond_some (is_between 1 15 n) n c f).1
     within (negsuc n) f = absurd (none-some c f)
+
     by_given : (i : Option ℤ) → as_integer d ≡ i → option_map Some i ≡ Some given → (Some d ≡ Some (integer (pos c))) ⊎ ((Some d ≡ None) × (c ≡ 1))
     by_given None f g = absurd (none-some given g)
     by_given (Some z) f g =
@@ -114,7 +115,7 @@ link_table d name prefixes h =
     let there : d ≡ table ms = table_is d ms is in
     rw there (record {
       named = text_there (get_member (codes_of "name") ms) name (first ∙ ap (λ (f : List ℕ × List Data). Some f.0) same);
-      prefixes_are = items_are (get_member (codes_of "prefixes") ms) prefixes (second ∙ ap (λ (f : List ℕ × List Data). Some f.1) same)
+      prefixes_are = items_are (get_member (codes_of "prefixes") ms) prefixes (second ∙ ap (λ (f : List ℕ × List Data). Some f.1) same);
     })
 
 pub record IsInterfaceTable (d : Data) (link text : List ℕ) (c : ℕ) : Type 0 where
@@ -135,7 +136,7 @@ interface_table d link text given c h e =
     rw there (record {
       has_link = text_there (get_member (codes_of "link") ms) link (first ∙ ap (λ (f : List ℕ × List ℕ × Option ℤ). Some f.0) same);
       has_address = text_there (get_member (codes_of "address") ms) text (second ∙ ap (λ (f : List ℕ × List ℕ × Option ℤ). Some f.1) same);
-      cost = cost_is (get_member (codes_of "cost") ms) given c (third ∙ ap (λ (f : List ℕ × List ℕ × Option ℤ). Some f.2) same) e
+      cost = cost_is (get_member (codes_of "cost") ms) given c (third ∙ ap (λ (f : List ℕ × List ℕ × Option ℤ). Some f.2) same) e;
     })
 
 pub record IsOwnTable (d : Data) (text : List ℕ) (c : ℕ) : Type 0 where
@@ -153,7 +154,7 @@ own_table d text given c h e =
     let there : d ≡ table ms = table_is d ms is in
     rw there (record {
       has_prefix = text_there (get_member (codes_of "prefix") ms) text (first ∙ ap (λ (f : List ℕ × Option ℤ). Some f.0) same);
-      cost = cost_is (get_member (codes_of "cost") ms) given c (second ∙ ap (λ (f : List ℕ × Option ℤ). Some f.1) same) e
+      cost = cost_is (get_member (codes_of "cost") ms) given c (second ∙ ap (λ (f : List ℕ × Option ℤ). Some f.1) same) e;
     })
 
 pub record IsRouterTable (d : Data) (name : List ℕ) (interfaces owns : List Data) : Type 0 where
@@ -174,5 +175,5 @@ router_table d name interfaces owns h =
     rw there (record {
       named = text_there (get_member (codes_of "name") ms) name (first ∙ ap (λ (f : List ℕ × List Data × List Data). Some f.0) same);
       interfaces_are = items_are (get_member (codes_of "interface") ms) interfaces (second ∙ ap (λ (f : List ℕ × List Data × List Data). Some f.1) same);
-      owns_are = items_given (get_member (codes_of "own") ms) owns (third ∙ ap (λ (f : List ℕ × List Data × List Data). Some f.2) same)
+      owns_are = items_given (get_member (codes_of "own") ms) owns (third ∙ ap (λ (f : List ℕ × List Data × List Data). Some f.2) same);
     })

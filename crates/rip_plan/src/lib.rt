@@ -5,6 +5,7 @@ mod draft;
 mod error;
 mod fields;
 mod index;
+pub mod laws;
 mod numbers;
 mod parts;
 mod passes;

@@ -1,8 +1,10 @@
 //! A plan, and what it answers.
 
-ghost use Rattle.std.specs.Prelude.{◌≡◌, ◌<◌, ◌↔◌, ℕ, Contains, Decides, IfOk, IfSome, None, Some, false, is_some, length, not, option_and_then, slice_get};
+ghost use Rattle.std.specs.Prelude.{◌≡◌, ◌≢◌, ◌<◌, ◌↔◌, ◌⊎◌, ℕ, Contains, Decides, IfErr, IfOk, IfSome, None, Some, false, is_some, length, not, option_and_then, slice_get};
 ghost use Rattle.std.specs.List.Sorted.{IsStrictlyIncreasing};
-ghost use Rattle.rip_plan.specs.Answers.{IsAnswer};
+ghost use Rattle.rip_plan.specs.declared.error.PlanCode.TheVariants.{Memory};
+ghost use Rattle.rip_plan.specs.Answers.{IsAnswer, first_fault, out_of_memory};
+ghost use Rattle.rip_plan.specs.PlanOf.{IsPlanOfText};
 ghost use Rattle.rip_plan.specs.Fault.{Gives};
 ghost use Rattle.rip_plan.specs.Network.{direct_at, first_carrying, found_at, is_of, is_on, network_in, network_of_sketch, number_of_prefix, numbers_where};
 ghost use Rattle.rip_plan.specs.Draft.{sketch};
@@ -92,6 +94,10 @@ impl Plan {
     /// fault of the text, or Memory where a growth was refused.
     pub fn read(alloc: Global, bytes: &[u8]) -> Result<Plan, PlanError>
         ensures exact { IsAnswer result (network_in bytes.now) }
+        ensures faultless { IfOk result (λ plan. first_fault bytes.now ≡ None) }
+        ensures plan { IfOk result (λ plan. IsPlanOfText bytes.now plan) }
+        ensures fault { IfErr result (λ e. (e ≡ out_of_memory) ⊎ (first_fault bytes.now ≡ Some e)) }
+        ensures apart { (e : PlanError) → first_fault bytes.now ≡ Some e → e.code ≢ Memory }
     {
         match read_plan(alloc, bytes) {
             Ok(plan) => Ok(plan),
