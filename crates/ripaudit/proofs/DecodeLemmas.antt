@@ -1,24 +1,14 @@
 -- What `decode` prints for a word, by what was read of it.
-use Rattle.std.proofs.Common.{◌≡◌, ℕ, ◌<◌, ◌≤◌, ◌⊎◌, inl, inr, Bool, true, List, [], ◌++◌, Option, Some, None, Result, Ok, Err, length, take, drop, refl, sym, ap, subst, ◌∙◌, is_err, arith}
-use Rattle.std.specs.Prelude.{IfOk, IfErr, OnOk, OnErr}
-use Rattle.std.specs.Io.KnownBytes.{Appends}
+use Rattle.std.proofs.Common.{◌≡◌, ℕ, ◌<◌, ◌≤◌, ◌⊎◌, inl, inr, List, ◌++◌, Ok, length, take, drop, refl, sym, ap, subst, ◌∙◌, arith}
 use Rattle.std.proofs.lemmas.List.{length-take, take_all, take-append-drop}
 use Rattle.hex.specs.Hex.{decode_of}
-use Rattle.rip_log.specs.declared.device.Failed.{Failed}
 use Rattle.rip_wire.specs.declared.entry.Entry.{Entry}
 use Rattle.rip_wire.specs.declared.error.WireCode.{WireCode}
 use Rattle.rip_wire.specs.Faults.{WireFault}
 use Rattle.rip_wire.specs.Grammar.{ResponseBytes, RequestBytes}
 use Rattle.rip_wire.specs.Message.{Message, request, response}
-use Rattle.ripaudit.specs.DecodeText.{DecodeText, no_hex, no_datagram, a_request, a_response, refused_wire, shown, shown_request}
-use Rattle.ripaudit.specs.Finished.{finished}
-use Rattle.ripaudit.specs.Sent.{Sent, Began}
-use Rattle.ripaudit.specs.Written.{Written}
-use Rattle.ripaudit.specs.declared.status.Status.{Status}
+use Rattle.ripaudit.specs.DecodeText.{DecodeText, no_datagram, a_request, a_response, refused_wire, shown}
 use Rattle.ripaudit.specs.declared.status.Status.TheVariants.{Done}
-use Rattle.ripaudit.specs.declared.status.RunError.{RunError}
-use Rattle.ripaudit.specs.declared.status.RunError.TheVariants.{Write}
-use Rattle.ripaudit.proofs.SentLemmas.{Sent-whole}
 
 -- where the front is shorter than it could be it is the whole
 whole : (front b : List ℕ) → front ≡ take 505 b → length front ≤ 504 → front ≡ b
@@ -49,17 +39,6 @@ told_fault word front b code at h is fault longer = by_length (split (length fro
     by_length (inr long) =
         let all : front ++ drop 505 b ≡ b = ap (λ (l : List ℕ). l ++ drop 505 b) is ∙ take-append-drop 505 b in
         no_datagram b code at h (subst (λ (l : List ℕ). WireFault l code at) all (longer long (drop 505 b)))
-
--- the end of a run that wrote
-pub finished_text : (word : List ℕ) (w : Written) (a b : Option (List ℕ)) (r : Result (Unit {0}) Failed) (outcome : Result Status RunError) → DecodeText word w → outcome ≡ finished r w.status → OnOk r (Sent a b w.text [])
-    → IfOk outcome (λ status. (text : List ℕ) × DecodeText word (record { text = text; status = status }) × Appends a b text)
-finished_text word w a b (Ok done) outcome told is sent = rw is (w.text, told, Sent-whole a b w.text sent)
-finished_text word w a b (Err e) outcome told is sent = rw is tt
-
-pub finished_write : (word : List ℕ) (w : Written) (a b : Option (List ℕ)) (broken : Bool) (r : Result (Unit {0}) Failed) (outcome : Result Status RunError) → DecodeText word w → outcome ≡ finished r w.status → OnErr r (Began a b w.text)
-    → (is_err r ≡ true → broken ≡ true) → IfErr outcome (λ e. (e ≡ Write) × (broken ≡ true) × ((x : Written) × DecodeText word x × Began a b x.text))
-finished_write word w a b broken (Ok done) outcome told is began failed = rw is tt
-finished_write word w a b broken (Err e) outcome told is began failed = rw is (refl, failed refl, (w, told, began))
 
 pub shown_done : (b : List ℕ) (m : Message) → (shown b m).status ≡ Done
 shown_done b request = refl

@@ -1,8 +1,7 @@
 -- The first bytes of a word in hexadecimal digits.
-use Rattle.std.proofs.Common.{◌≡◌, ℕ, zero, suc, ◌+◌, ◌-◌, ◌*◌, ◌/◌, ◌%◌, ◌<◌, ◌≤◌, min, List, [], ◌∷◌, ◌++◌, Result, Ok, Err, length, take, refl, sym, ap, ◌∙◌, arith, MatchResult, ◌⊎◌, inl, inr}
-use Rattle.std.specs.List.{AllPass}
-use Rattle.std.proofs.lemmas.List.{length-take, take_all, take_at}
-use Rattle.hex.specs.Hex.{decode_of, decode_sized, decode_pairs, pair_value, is_hex_digit}
+use Rattle.std.proofs.Common.{◌≡◌, ℕ, zero, suc, ◌+◌, ◌*◌, ◌/◌, ◌%◌, ◌<◌, ◌≤◌, min, List, [], ◌∷◌, Result, Ok, Err, length, take, refl, sym, ap, ◌∙◌, arith, MatchResult, ◌⊎◌, inl, inr}
+use Rattle.std.proofs.lemmas.List.{length-take, take_all}
+use Rattle.hex.specs.Hex.{decode_of, decode_sized, decode_pairs, pair_value}
 use Rattle.hex.specs.declared.error.FromHexError.{FromHexError}
 use Rattle.hex.proofs.HexLemmas.{decode_of-ok, decode_of-even, decode_sized-twice}
 

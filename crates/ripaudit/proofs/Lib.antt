@@ -1,4 +1,5 @@
 pub mod SentLemmas
 pub mod HexLemmas
-pub mod EntryLemmas
+pub mod LineLemmas
+pub mod FinishLemmas
 pub mod DecodeLemmas

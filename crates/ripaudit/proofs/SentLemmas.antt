@@ -1,8 +1,8 @@
 -- Texts that go out in parts.
-use Rattle.std.proofs.Common.{◌≡◌, ℕ, ◌+◌, ◌≤◌, ◌<◌, List, [], ◌∷◌, ◌++◌, Option, Some, None, length, take, drop, Result, Ok, Err, Bool, true, false, refl, sym, ap, ◌∙◌, append_assoc, append-nil, arith}
+use Rattle.std.proofs.Common.{◌≡◌, ℕ, List, [], ◌++◌, Option, Some, None, take, drop, Result, Ok, Err, Bool, true, false, refl, sym, ap, ◌∙◌, append_assoc, append-nil}
 use Rattle.std.specs.Io.KnownBytes.{Appends, Keeps}
 use Rattle.std.specs.Prelude.{OnErr, OnOk}
-use Rattle.std.proofs.lemmas.List.{drop-drop, take-append-drop}
+use Rattle.std.proofs.lemmas.List.{take-append-drop}
 use Rattle.ripaudit.specs.Sent.{Sent, Began}
 
 pub Appends-none : (t : Option (List ℕ)) → Appends t t []
@@ -96,3 +96,10 @@ Sent-whole (Some xs) (Some ys) text s = s.sent ∙ ap (λ (l : List ℕ). xs ++ 
 pub onok-map : {A E P Q : Type 0} (r : Result A E) → (P → Q) → OnOk r P → OnOk r Q
 onok-map (Ok x) f p = f p
 onok-map (Err e) f p = tt
+
+-- more text was held, and what no longer is went out
+pub Sent-more : (a b c : Option (List ℕ)) (text held more left : List ℕ) → Sent a b text held → Sent b c (held ++ more) left → Sent a c (text ++ more) left
+Sent-more a b c text held more left s t = Sent-then a b c (text ++ more) (held ++ more) left (Sent-front a b text held more s) t
+
+pub Began-more : (a b c : Option (List ℕ)) (text held more : List ℕ) → Sent a b text held → Began b c (held ++ more) → Began a c (text ++ more)
+Began-more a b c text held more s t = Began-all a b c (text ++ more) (held ++ more) (Sent-front a b text held more s) t

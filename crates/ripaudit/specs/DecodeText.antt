@@ -1,5 +1,6 @@
 -- What `decode` prints.
-use Rattle.std.specs.Prelude.{◌≡◌, ℕ, ◌-◌, ◌/◌, List, [], ◌∷◌, ◌++◌, length, codes, decimal, Ok}
+use Rattle.std.specs.Prelude.{◌≡◌, ℕ, ◌-◌, ◌/◌, List, ◌++◌, length, codes, decimal, Ok}
+use Rattle.std.specs.List.{flat_map}
 use Rattle.hex.specs.Hex.{decode_of}
 use Rattle.rip_wire.specs.Address.{address_text}
 use Rattle.rip_wire.specs.Prefix.{prefix_text}
@@ -34,9 +35,8 @@ entry_line e =
     line (prefix_text e.prefix ++ codes " tag " ++ decimal e.tag ++ codes " next " ++ address_text e.next_hop ++ codes " metric " ++ decimal e.metric)
 
 -- one line for each entry
-unfoldable pub entry_lines : List Entry → List ℕ
-entry_lines [] = []
-entry_lines (e ∷ es) = entry_line e ++ entry_lines es
+abbrev pub entry_lines : List Entry → List ℕ
+entry_lines es = flat_map entry_line es
 
 abbrev pub refused_hex : Written
 refused_hex = record { text = line (codes "refused: hex"); status = Refused }

@@ -2,5 +2,6 @@ pub mod Sent
 pub mod Statuses
 pub mod Written
 pub mod DecodeText
+pub mod PlanText
 pub mod Held
 pub mod Finished

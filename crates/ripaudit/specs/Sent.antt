@@ -1,5 +1,5 @@
 -- What has gone out of a text, by the bytes that a sink has taken before and after.
-use Rattle.std.specs.Prelude.{◌≡◌, ℕ, List, [], ◌++◌, Option}
+use Rattle.std.specs.Prelude.{◌≡◌, ℕ, List, ◌++◌, Option}
 use Rattle.std.specs.Io.KnownBytes.{Appends}
 
 -- a front of the text went out, and `left` is the rest of it

@@ -1,12 +1,18 @@
 //! The words of the command line, and what they ask for.
 
 use crate::decode::run_decode;
+use crate::plan::run_plan;
 use crate::status::{RunError, Status, exit_code, fault_line};
 use clap::error::ErrorKind;
 use clap::{Arg, ArgMatches, Command, Error};
 use rip_log::IntoWrite;
 use std::alloc::Global;
-use std::{env, io};
+use std::io::Read;
+use std::rt::Files;
+use std::{env, fs, io};
+
+/// The most bytes of a plan's file that are read: one more than a plan may have.
+const MOST_BYTES: u64 = 1_048_577;
 
 /// The commands, with their words and their help.
 fn commands<'a>(alloc: Global) -> Result<Command<'a>, Error> {
@@ -16,10 +22,17 @@ fn commands<'a>(alloc: Global) -> Result<Command<'a>, Error> {
     let decode = Command::new(alloc, "decode")
         .about("Prints one datagram of RIP version 2")
         .arg(hex)?;
+    let file = Arg::new(alloc, "PLAN")
+        .required(true)
+        .help("The file of the plan, a TOML document");
+    let plan = Command::new(alloc, "plan")
+        .about("Prints the parts of a plan")
+        .arg(file)?;
     let ripaudit = Command::new(alloc, "ripaudit")
         .version("0.1.0")
         .about("Audits the routes of a RIP version 2 network")
         .subcommand_required(true)
+        .subcommand(plan)?
         .subcommand(decode)?;
     Ok(ripaudit)
 }
@@ -49,17 +62,44 @@ fn end_words(rt: &(impl Print + Eprint), error: &Error) -> u8 {
     }
 }
 
+/// Want of memory, or a failure of reading.
+fn read_fault(error: &io::Error) -> RunError {
+    match error.kind() {
+        io::ErrorKind::OutOfMemory => RunError::Memory,
+        _ => RunError::Read,
+    }
+}
+
+/// The bytes of a plan's file, or the first of them where there are too many.
+fn read_plan<R: Files + AllocGlobal>(rt: &R, path: &str) -> io::Result<Vec<u8>> {
+    let mut bytes = Vec::new(rt.alloc());
+    let mut file = fs::open(rt, path)?.take(MOST_BYTES);
+    file.read_to_end(&mut bytes)?;
+    Ok(bytes)
+}
+
+/// Runs `plan` on a file.
+fn plan_file<R: Files + AllocGlobal + Print>(rt: &R, path: &str) -> Result<Status, RunError> {
+    match read_plan(rt, path) {
+        Ok(bytes) => run_plan(
+            rt.alloc(),
+            bytes.as_slice(),
+            &mut IntoWrite::new(io::writer(rt)),
+        ),
+        Err(error) => Err(read_fault(&error)),
+    }
+}
+
 /// Runs the command that was found.
-fn run_command<R: Print + Eprint>(rt: &R, matches: &ArgMatches<'_>) -> u8 {
-    let mut out = IntoWrite::new(io::writer(rt));
-    let decoded = match matches.subcommand() {
-        Some(("decode", words)) => words.get_str("HEX"),
+fn run_command<R: Files + AllocGlobal + Print + Eprint>(rt: &R, matches: &ArgMatches<'_>) -> u8 {
+    let outcome = match matches.subcommand() {
+        Some(("plan", words)) => words.get_str("PLAN").map(|path| plan_file(rt, path)),
+        Some(("decode", words)) => words
+            .get_str("HEX")
+            .map(|hex| run_decode(hex, &mut IntoWrite::new(io::writer(rt)))),
         _ => None,
     };
-    match decoded {
-        Some(hex) => end_run(rt, run_decode(hex, &mut out)),
-        None => exit_code(&Ok(Status::Refused)),
-    }
+    end_run(rt, outcome.unwrap_or(Ok(Status::Refused)))
 }
 
 /// Runs the command that the words ask for, and answers the exit status.
@@ -84,12 +124,9 @@ pub(crate) fn run(rt: &HostRuntime) -> u8 {
 
 /// The end of a run whose arguments could not be had.
 fn end_arguments(rt: &impl Eprint, error: &io::Error) -> u8 {
-    match error.kind() {
-        io::ErrorKind::OutOfMemory => end_run(rt, Err(RunError::Memory)),
-        io::ErrorKind::InvalidData => {
-            let _ = rt.eprintln("error: an argument is no text");
-            exit_code(&Ok(Status::Refused))
-        }
-        _ => end_run(rt, Err(RunError::Read)),
+    if error.kind() == io::ErrorKind::InvalidData {
+        let _ = rt.eprintln("error: an argument is no text");
+        return exit_code(&Ok(Status::Refused));
     }
+    end_run(rt, Err(read_fault(error)))
 }

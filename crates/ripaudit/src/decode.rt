@@ -6,13 +6,12 @@ ghost use Rattle.std.specs.List.{AllPass};
 ghost use Rattle.hex.specs.Hex.{decode_of, is_hex_digit};
 ghost use Rattle.rip_wire.specs.Datagram.{datagram_bytes, entries_of, kind_of, message_of};
 ghost use Rattle.ripaudit.specs.DecodeText.{DecodeText, entry_line, entry_lines, refused_wire, shown, shown_response, wire_code_text};
-ghost use Rattle.ripaudit.specs.Finished.{finished};
 ghost use Rattle.ripaudit.specs.Held.{held};
 ghost use Rattle.ripaudit.specs.Sent.{Began, Sent};
 ghost use Rattle.ripaudit.specs.Written.{Written, line};
 
 use crate::line::Line;
-use crate::output::{Page, write_all};
+use crate::output::{Page, finish, write_all};
 use crate::status::{RunError, Status};
 use rip_log::{Failed, Sink};
 use rip_wire::{Datagram, Entry, Kind, WireCode, WireError, read};
@@ -148,16 +147,6 @@ fn write_datagram<K: Sink>(datagram: &Datagram<'_>, out: &mut K) -> Result<(), F
     match datagram.kind() {
         Kind::Request => write_all(out, kind_text("request ", datagram.len()).as_bytes()),
         Kind::Response => write_response_text(datagram, out),
-    }
-}
-
-/// How a run ends that has written.
-fn finish(wrote: Result<(), Failed>, status: Status) -> Result<Status, RunError>
-    ensures { result ≡ finished wrote status }
-{
-    match wrote {
-        Ok(()) => Ok(status),
-        Err(Failed) => Err(RunError::Write),
     }
 }
 

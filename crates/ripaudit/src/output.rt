@@ -1,8 +1,10 @@
 //! Writing text to a sink.
 
 ghost use Rattle.std.specs.Prelude.{◌≡◌, ◌+◌, ◌≤◌, ◌++◌, [], false, true, OnErr, OnOk, is_err, length};
+ghost use Rattle.ripaudit.specs.Finished.{finished};
 ghost use Rattle.ripaudit.specs.Sent.{Began, Sent};
 
+use crate::status::{RunError, Status};
 use rip_log::{Failed, Sink};
 
 /// Writes all bytes. Where the sink fails, a beginning of them is out.
@@ -17,6 +19,16 @@ pub(crate) fn write_all<K: Sink>(out: &mut K, bytes: &[u8]) -> Result<(), Failed
         at += out.push(&bytes[at..])?;
     }
     Ok(())
+}
+
+/// How a run ends that has written.
+pub(crate) fn finish(wrote: Result<(), Failed>, status: Status) -> Result<Status, RunError>
+    ensures { result ≡ finished wrote status }
+{
+    match wrote {
+        Ok(()) => Ok(status),
+        Err(Failed) => Err(RunError::Write),
+    }
 }
 
 /// How many bytes a page holds.

@@ -1,4 +1,4 @@
-use Rattle.std.proofs.Common.{◌≡◌, ◌++◌, [], List, ℕ, length, decimal, codes, sym, ap, subst, ◌∙◌, refl, Option}
+use Rattle.std.proofs.Common.{◌≡◌, ◌++◌, [], List, ℕ, length, decimal, codes, subst, ◌∙◌, refl}
 use Rattle.rip_wire.specs.Datagram.{entries_of, message_of}
 use Rattle.ripaudit.specs.DecodeText.{entry_lines, shown_response}
 use Rattle.ripaudit.specs.Written.{line}

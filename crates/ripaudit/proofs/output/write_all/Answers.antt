@@ -1,4 +1,4 @@
-use Rattle.std.proofs.Common.{rules, arith, take, drop, length, ℕ, ◌+◌, ◌≤◌, ◌∙◌, List, subst}
+use Rattle.std.proofs.Common.{arith, take, drop, length, ℕ, ◌+◌, ◌≤◌, ◌∙◌, List, subst}
 use Rattle.std.specs.Io.KnownBytes.{Appends}
 use Rattle.std.proofs.lemmas.List.{drop-drop, length-drop, take_rest}
 use Rattle.ripaudit.specs.Sent.{Sent}

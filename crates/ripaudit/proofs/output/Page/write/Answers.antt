@@ -1,5 +1,4 @@
-use Rattle.std.proofs.Common.{rules, arith, ◌++◌, []}
-use Rattle.ripaudit.specs.Sent.{Sent, Began}
+use Rattle.std.proofs.Common.{◌++◌, []}
 use Rattle.ripaudit.specs.Held.{held}
 use Rattle.ripaudit.proofs.SentLemmas.{Sent-none, Sent-on, Began-on, Began-all, onerr, onerr-map}
 use Rattle.ripaudit.proofs.output.Page.write.Goals as goal

@@ -1,0 +1,39 @@
+-- Lines of the items of a list, one after the other.
+use Rattle.std.proofs.Common.{◌≡◌, ℕ, zero, suc, ◌+◌, ◌≤◌, List, [], ◌∷◌, ◌++◌, Option, Some, length, drop, refl, sym, ap, subst, ◌∙◌, append_assoc, append-nil, arith}
+use Rattle.std.specs.List.{slice_get, flat_map}
+use Rattle.std.proofs.lemmas.List.{drop_all}
+use Rattle.ripaudit.specs.Sent.{Sent, Began}
+use Rattle.ripaudit.proofs.SentLemmas.{Sent-on, Began-on}
+
+-- what is left of a list at an item
+drop-item : {A : Type 0} (xs : List A) (i : ℕ) (x : A) → slice_get xs i ≡ Some x → drop i xs ≡ x ∷ drop (suc i) xs
+drop-item [] zero x h = absurd (cc)
+drop-item [] (suc i) x h = absurd (cc)
+drop-item (y ∷ xs) zero x h = let same : y ≡ x = cc in rw same refl
+drop-item (y ∷ xs) (suc i) x h = drop-item xs i x h
+
+-- the line of the next item, and those after it
+lines-next : {A : Type 0} (line : A → List ℕ) (xs : List A) (i : ℕ) (x : A) → slice_get xs i ≡ Some x → flat_map line (drop i xs) ≡ line x ++ flat_map line (drop (i + 1) xs)
+lines-next line xs i x h = let next : i + 1 ≡ suc i = omega arith in rw (drop-item xs i x h, next) refl
+
+held-next : {A : Type 0} (line : A → List ℕ) (held : List ℕ) (xs : List A) (i : ℕ) (x : A) → slice_get xs i ≡ Some x
+    → held ++ flat_map line (drop i xs) ≡ (held ++ line x) ++ flat_map line (drop (i + 1) xs)
+held-next line held xs i x h = ap (λ (l : List ℕ). held ++ l) (lines-next line xs i x h) ∙ sym (append_assoc held (line x) (flat_map line (drop (i + 1) xs)))
+
+-- one more line is written
+pub Sent-line : {A : Type 0} (line : A → List ℕ) (a b c : Option (List ℕ)) (text held left : List ℕ) (xs : List A) (i : ℕ) (x : A) → slice_get xs i ≡ Some x
+    → Sent a b text (held ++ flat_map line (drop i xs)) → Sent b c (held ++ line x) left → Sent a c text (left ++ flat_map line (drop (i + 1) xs))
+Sent-line line a b c text held left xs i x h s t =
+    Sent-on a b c text (held ++ line x) _ left (subst (λ (l : List ℕ). Sent a b text l) (held-next line held xs i x h) s) t
+
+-- a line was begun
+pub Began-line : {A : Type 0} (line : A → List ℕ) (a b c : Option (List ℕ)) (text held : List ℕ) (xs : List A) (i : ℕ) (x : A) → slice_get xs i ≡ Some x
+    → Sent a b text (held ++ flat_map line (drop i xs)) → Began b c (held ++ line x) → Began a c text
+Began-line line a b c text held xs i x h s t =
+    Began-on a b c text (held ++ line x) _ (subst (λ (l : List ℕ). Sent a b text l) (held-next line held xs i x h) s) t
+
+-- after the last item nothing is left
+pub Sent-lines : {A : Type 0} (line : A → List ℕ) (a b : Option (List ℕ)) (text held : List ℕ) (xs : List A) (i : ℕ) → length xs ≤ i
+    → Sent a b text (held ++ flat_map line (drop i xs)) → Sent a b text held
+Sent-lines line a b text held xs i le s =
+    subst (λ (l : List ℕ). Sent a b text l) (ap (λ rest. held ++ flat_map line rest) (drop_all i xs le) ∙ append-nil held) s

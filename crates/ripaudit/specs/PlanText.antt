@@ -1,0 +1,95 @@
+-- What `plan` prints.
+use Rattle.std.specs.Prelude.{◌≡◌, ℕ, ◌<◌, List, [], ◌++◌, length, codes, decimal, slice_get, option_map, unwrap_or, None, Some}
+use Rattle.std.specs.List.{flat_map}
+use Rattle.rip_wire.specs.Address.{address_text}
+use Rattle.rip_wire.specs.Prefix.{prefix_text}
+use Rattle.rip_plan.specs.Answers.{first_fault}
+use Rattle.rip_plan.specs.Network.{Network}
+use Rattle.rip_plan.specs.PlanOf.{IsPlanOfText}
+use Rattle.rip_plan.specs.declared.error.At.{At}
+use Rattle.rip_plan.specs.declared.error.At.TheVariants as places
+use Rattle.rip_plan.specs.declared.error.PlanCode.{PlanCode}
+use Rattle.rip_plan.specs.declared.error.PlanCode.TheVariants.{Syntax, Version, Key, Name, DuplicateName, Address, Prefix, Cost, DuplicatePrefix, UnknownLink, TwiceOnLink, DuplicateAddress, OutsidePrefix, NoInterface, Limit, Memory}
+use Rattle.rip_plan.specs.declared.error.PlanError.{PlanError}
+use Rattle.rip_plan.specs.declared.parts.Interface.{Interface}
+use Rattle.rip_plan.specs.declared.parts.Place.{Place}
+use Rattle.rip_plan.specs.declared.parts.Seat.{Seat}
+use Rattle.rip_plan.specs.declared.parts.Seat.TheVariants as seats
+use Rattle.ripaudit.specs.Written.{Written, line}
+use Rattle.ripaudit.specs.declared.status.Status.TheVariants.{Done, Refused}
+
+-- the number and the word of a code
+abbrev pub plan_code_text : PlanCode → List ℕ
+plan_code_text Syntax = codes "1 Syntax"
+plan_code_text Version = codes "2 Version"
+plan_code_text Key = codes "3 Key"
+plan_code_text Name = codes "4 Name"
+plan_code_text DuplicateName = codes "5 DuplicateName"
+plan_code_text Address = codes "6 Address"
+plan_code_text Prefix = codes "7 Prefix"
+plan_code_text Cost = codes "8 Cost"
+plan_code_text DuplicatePrefix = codes "9 DuplicatePrefix"
+plan_code_text UnknownLink = codes "10 UnknownLink"
+plan_code_text TwiceOnLink = codes "11 TwiceOnLink"
+plan_code_text DuplicateAddress = codes "12 DuplicateAddress"
+plan_code_text OutsidePrefix = codes "13 OutsidePrefix"
+plan_code_text NoInterface = codes "14 NoInterface"
+plan_code_text Limit = codes "15 Limit"
+plan_code_text Memory = codes "16 Memory"
+
+-- a word and a number
+abbrev pub numbered : List ℕ → ℕ → List ℕ
+numbered word n = word ++ decimal n
+
+-- a place in a plan's text, as `router 1 interface 2`
+abbrev pub at_text : At → List ℕ
+at_text places.Text = codes "text"
+at_text places.Version = codes "version"
+at_text (places.Link i) = numbered (codes "link ") i
+at_text (places.LinkPrefix i j) = numbered (codes "link ") i ++ numbered (codes " prefix ") j
+at_text (places.Router i) = numbered (codes "router ") i
+at_text (places.RouterInterface i j) = numbered (codes "router ") i ++ numbered (codes " interface ") j
+at_text (places.RouterOwn i j) = numbered (codes "router ") i ++ numbered (codes " own ") j
+
+abbrev pub refused_plan : PlanError → Written
+refused_plan e = record { text = line (codes "refused: plan " ++ plan_code_text e.code ++ codes " at " ++ at_text e.place); status = Refused }
+
+-- the name of a number, which is below their count in a plan
+abbrev pub name_of : List (List ℕ) → ℕ → List ℕ
+name_of names k = unwrap_or (slice_get names k) []
+
+-- the text of the prefix of a number, which is below their count in a plan
+abbrev pub prefix_of : Network → ℕ → List ℕ
+prefix_of n k = unwrap_or (option_map prefix_text (slice_get n.prefixes k)) []
+
+-- `plan: 3 routers, 3 links, 6 interfaces, 3 prefixes`
+unfoldable pub counts_line : Network → List ℕ
+counts_line n =
+    line (codes "plan: " ++ decimal (length n.routers) ++ codes " routers, " ++ decimal (length n.links) ++ codes " links, " ++ decimal (length n.interfaces) ++ codes " interfaces, " ++ decimal (length n.prefixes) ++ codes " prefixes")
+
+-- `interface r1 a 10.1.0.1 cost 1`
+unfoldable pub interface_line : Network → Interface → List ℕ
+interface_line n i =
+    line (codes "interface " ++ name_of n.routers i.router ++ codes " " ++ name_of n.links i.link ++ codes " " ++ address_text i.address ++ codes " cost " ++ decimal i.cost)
+
+-- the link, or the router, is one of the plan
+abbrev pub IsSeat : Network → Seat → Type 0
+IsSeat n (seats.Link l) = l < length n.links
+IsSeat n (seats.Own r c) = r < length n.routers
+
+abbrev pub seat_text : Network → Seat → List ℕ
+seat_text n (seats.Link l) = codes " link " ++ name_of n.links l
+seat_text n (seats.Own r c) = codes " router " ++ name_of n.routers r ++ codes " cost " ++ decimal c
+
+-- `prefix 10.1.0.0/16 link a`, or `prefix 10.9.0.0/16 router r1 cost 1`
+unfoldable pub place_line : Network → Place → List ℕ
+place_line n p = line (codes "prefix " ++ prefix_of n p.prefix ++ seat_text n p.seat)
+
+-- a plan: its counts, its interfaces and its places
+abbrev pub shown_plan : Network → Written
+shown_plan n = record { text = (counts_line n ++ flat_map (interface_line n) n.interfaces) ++ flat_map (place_line n) n.places; status = Done }
+
+-- what is written for the bytes of a plan: their first fault, or the plan that their document is
+pub data PlanText (bytes : List ℕ) : Written → Type 0 where
+  a_fault : (e : PlanError) → first_fault bytes ≡ Some e → PlanText bytes (refused_plan e)
+  a_plan : (n : Network) → first_fault bytes ≡ None → IsPlanOfText bytes n → PlanText bytes (shown_plan n)

@@ -1,0 +1,258 @@
+//! The command `plan`: the parts of a plan.
+
+ghost use Rattle.std.specs.Prelude.{◌≡◌, ◌+◌, ◌≤◌, ◌<◌, ◌++◌, ℕ, List, [], Err, IfOk, IsOk, OnErr, OnOk, Some, false, is_err, length, slice_get, true};
+ghost use Rattle.std.specs.Io.KnownBytes.{Appends, Keeps};
+ghost use Rattle.std.specs.List.{flat_map};
+ghost use Rattle.ripaudit.specs.PlanText.{IsSeat, PlanText, at_text, counts_line, interface_line, name_of, numbered, place_line, plan_code_text, refused_plan, seat_text, shown_plan};
+ghost use Rattle.ripaudit.specs.Held.{held};
+ghost use Rattle.ripaudit.specs.Sent.{Began, Sent};
+ghost use Rattle.ripaudit.specs.Written.{Written};
+
+use crate::line::Line;
+use crate::output::{Page, finish, write_all};
+use crate::status::{RunError, Status};
+use rip_log::{Failed, Sink};
+use rip_plan::{At, Interface, Place, Plan, PlanCode, PlanError, Seat};
+use std::alloc::Global;
+
+/// The number and the word of a code.
+fn code_text(code: PlanCode) -> &'static str
+    ensures text { result.now ≡ plan_code_text code }
+    ensures short { length result.now ≤ 32 }
+{
+    match code {
+        PlanCode::Syntax => "1 Syntax",
+        PlanCode::Version => "2 Version",
+        PlanCode::Key => "3 Key",
+        PlanCode::Name => "4 Name",
+        PlanCode::DuplicateName => "5 DuplicateName",
+        PlanCode::Address => "6 Address",
+        PlanCode::Prefix => "7 Prefix",
+        PlanCode::Cost => "8 Cost",
+        PlanCode::DuplicatePrefix => "9 DuplicatePrefix",
+        PlanCode::UnknownLink => "10 UnknownLink",
+        PlanCode::TwiceOnLink => "11 TwiceOnLink",
+        PlanCode::DuplicateAddress => "12 DuplicateAddress",
+        PlanCode::OutsidePrefix => "13 OutsidePrefix",
+        PlanCode::NoInterface => "14 NoInterface",
+        PlanCode::Limit => "15 Limit",
+        PlanCode::Memory => "16 Memory",
+    }
+}
+
+/// Adds a word and a number.
+fn push_numbered(text: &mut Line, word: &str, number: usize)
+    requires short { length word.now ≤ 16 }
+    requires room { length text.old + 36 ≤ 256 }
+    ensures text { text.new ≡ text.old ++ numbered word.now number }
+    ensures size { length text.new ≤ length text.old + 36 }
+{
+    text.push(word);
+    text.push_number(number as u64);
+}
+
+/// Adds a place in a plan's text.
+fn push_at(text: &mut Line, place: At)
+    requires { length text.old + 72 ≤ 256 }
+    ensures text { text.new ≡ text.old ++ at_text place }
+    ensures size { length text.new ≤ length text.old + 72 }
+{
+    match place {
+        At::Text => text.push("text"),
+        At::Version => text.push("version"),
+        At::Link(i) => push_numbered(text, "link ", i),
+        At::LinkPrefix(i, j) => {
+            push_numbered(text, "link ", i);
+            push_numbered(text, " prefix ", j);
+        }
+        At::Router(i) => push_numbered(text, "router ", i),
+        At::RouterInterface(i, j) => {
+            push_numbered(text, "router ", i);
+            push_numbered(text, " interface ", j);
+        }
+        At::RouterOwn(i, j) => {
+            push_numbered(text, "router ", i);
+            push_numbered(text, " own ", j);
+        }
+    }
+}
+
+/// The line of a fault.
+pub(crate) fn fault_text(error: PlanError) -> Line
+    ensures { result ≡ (refused_plan error).text }
+{
+    let mut text = Line::new();
+    text.push("refused: plan ");
+    text.push(code_text(error.code));
+    text.push(" at ");
+    push_at(&mut text, error.place);
+    text.end();
+    text
+}
+
+/// The line of the counts.
+#[tactic(auto, unfolding(crate::specs::PlanText::counts_line))]
+fn counts_text(plan: &Plan) -> Line
+    ensures { result ≡ counts_line plan.now }
+{
+    let mut text = Line::new();
+    text.push("plan: ");
+    text.push_number(plan.routers() as u64);
+    text.push(" routers, ");
+    text.push_number(plan.links() as u64);
+    text.push(" links, ");
+    text.push_number(plan.interfaces() as u64);
+    text.push(" interfaces, ");
+    text.push_number(plan.prefixes() as u64);
+    text.push(" prefixes");
+    text.end();
+    text
+}
+
+/// Adds the name of a router.
+pub(crate) fn push_router(text: &mut Line, plan: &Plan, router: usize)
+    requires known { router < length plan.now.routers }
+    requires room { length text.old + 32 ≤ 256 }
+    ensures text { text.new ≡ text.old ++ name_of plan.now.routers router }
+    ensures size { length text.new ≤ length text.old + 32 }
+{
+    plan.lawful();
+    text.push(plan.router_name(router));
+}
+
+/// Adds the name of a link.
+pub(crate) fn push_link(text: &mut Line, plan: &Plan, link: usize)
+    requires known { link < length plan.now.links }
+    requires room { length text.old + 32 ≤ 256 }
+    ensures text { text.new ≡ text.old ++ name_of plan.now.links link }
+    ensures size { length text.new ≤ length text.old + 32 }
+{
+    plan.lawful();
+    text.push(plan.link_name(link));
+}
+
+/// The line of an interface.
+#[tactic(auto, unfolding(crate::specs::PlanText::interface_line))]
+fn interface_text(plan: &Plan, interface: Interface) -> Line
+    requires router { interface.router < length plan.now.routers }
+    requires link { interface.link < length plan.now.links }
+    ensures { result ≡ interface_line plan.now interface }
+{
+    let mut text = Line::new();
+    text.push("interface ");
+    push_router(&mut text, plan, interface.router);
+    text.push(" ");
+    push_link(&mut text, plan, interface.link);
+    text.push(" ");
+    text.push_address(interface.address);
+    text.push(" cost ");
+    text.push_number(u64::from(interface.cost));
+    text.end();
+    text
+}
+
+/// Writes the lines of the interfaces.
+fn write_interfaces<K: Sink>(page: &mut Page, plan: &Plan, out: &mut K) -> Result<(), Failed>
+    ensures ok { OnOk result (Sent (K.taken out.old) (K.taken out.new) (held page.old ++ flat_map (interface_line plan.now) plan.now.interfaces) (held page.new)) }
+    ensures err { OnErr result (Began (K.taken out.old) (K.taken out.new) (held page.old ++ flat_map (interface_line plan.now) plan.now.interfaces)) }
+    ensures failed { is_err result ≡ true → K.broken out.new ≡ true }
+    ensures marks { is_err result ≡ false → K.broken out.new ≡ K.broken out.old }
+{
+    plan.lawful();
+    for i in 0..plan.interfaces() {
+        page.write(out, interface_text(plan, plan.interface(i)).as_bytes())?;
+    }
+    Ok(())
+}
+
+/// Adds the seat of a place.
+fn push_seat(text: &mut Line, plan: &Plan, seat: Seat)
+    requires known { IsSeat plan.now seat }
+    requires room { length text.old + 80 ≤ 256 }
+    ensures text { text.new ≡ text.old ++ seat_text plan.now seat }
+    ensures size { length text.new ≤ length text.old + 80 }
+{
+    match seat {
+        Seat::Link(link) => {
+            text.push(" link ");
+            push_link(text, plan, link);
+        }
+        Seat::Own { router, cost } => {
+            text.push(" router ");
+            push_router(text, plan, router);
+            text.push(" cost ");
+            text.push_number(u64::from(cost));
+        }
+    }
+}
+
+/// The line of a place.
+#[tactic(auto, unfolding(crate::specs::PlanText::place_line))]
+fn place_text(plan: &Plan, place: Place) -> Line
+    requires prefix { place.prefix < length plan.now.prefixes }
+    requires seat { IsSeat plan.now place.seat }
+    ensures { result ≡ place_line plan.now place }
+{
+    let mut text = Line::new();
+    text.push("prefix ");
+    text.push_prefix(plan.prefix(place.prefix));
+    push_seat(&mut text, plan, place.seat);
+    text.end();
+    text
+}
+
+/// Writes the lines of the places.
+fn write_places<K: Sink>(page: &mut Page, plan: &Plan, out: &mut K) -> Result<(), Failed>
+    ensures ok { OnOk result (Sent (K.taken out.old) (K.taken out.new) (held page.old ++ flat_map (place_line plan.now) plan.now.places) (held page.new)) }
+    ensures err { OnErr result (Began (K.taken out.old) (K.taken out.new) (held page.old ++ flat_map (place_line plan.now) plan.now.places)) }
+    ensures failed { is_err result ≡ true → K.broken out.new ≡ true }
+    ensures marks { is_err result ≡ false → K.broken out.new ≡ K.broken out.old }
+{
+    plan.lawful();
+    for k in 0..plan.places() {
+        page.write(out, place_text(plan, plan.place(k)).as_bytes())?;
+    }
+    Ok(())
+}
+
+/// Writes a plan: its counts, its interfaces and its places.
+fn write_plan<K: Sink>(plan: &Plan, out: &mut K) -> Result<(), Failed>
+    ensures ok { OnOk result (Sent (K.taken out.old) (K.taken out.new) (shown_plan plan.now).text []) }
+    ensures err { OnErr result (Began (K.taken out.old) (K.taken out.new) (shown_plan plan.now).text) }
+    ensures failed { is_err result ≡ true → K.broken out.new ≡ true }
+    ensures marks { is_err result ≡ false → K.broken out.new ≡ K.broken out.old }
+{
+    let mut page = Page::new();
+    page.write(out, counts_text(plan).as_bytes())?;
+    write_interfaces(&mut page, plan, out)?;
+    write_places(&mut page, plan, out)?;
+    page.flush(out)
+}
+
+/// Prints the plan that the bytes of a TOML document are, or their first fault.
+pub fn run_plan<K: Sink>(alloc: Global, plan: &[u8], out: &mut K) -> Result<Status, RunError>
+    // The whole text went out, and nothing else.
+    ensures text { IfOk result (λ status. (text : List ℕ) × PlanText plan.now (record { text = text; status = status }) × Appends (K.taken out.old) (K.taken out.new) text) }
+    // The sink has failed, and a beginning of the text went out.
+    ensures write { result ≡ Err RunError.Write → (K.broken out.new ≡ true) × ((w : Written) × PlanText plan.now w × Began (K.taken out.old) (K.taken out.new) w.text) }
+    // A growth was refused, and nothing went out.
+    ensures memory { result ≡ Err RunError.Memory → (K.broken out.new ≡ K.broken out.old) × Keeps (K.taken out.old) (K.taken out.new) }
+    ensures read { result ≡ Err RunError.Read → ⊥ }
+    ensures marks { IsOk result → K.broken out.new ≡ K.broken out.old }
+{
+    match Plan::read(alloc, plan) {
+        Ok(plan) => finish(write_plan(&plan, out), Status::Done),
+        Err(error) => {
+            if error.code == PlanCode::Memory {
+                return Err(RunError::Memory);
+            }
+            finish(
+                write_all(out, fault_text(error).as_bytes()),
+                Status::Refused,
+            )
+        }
+    }
+}
+
+#[cfg(test)]
+mod tests;
