@@ -1,5 +1,5 @@
 -- What a reader stands for, and what a call of `next` answers and leaves.
-use Rattle.std.specs.Prelude.{◌≡◌, ◌+◌, ◌≤◌, ℕ, Bool, true, false, List, [], Option, None, Result, Ok, Err, IfOk, IfErr, IfSome, is_err}
+use Rattle.std.specs.Prelude.{◌≡◌, ◌+◌, ◌≤◌, ℕ, Bool, true, false, not, List, [], Option, None, Result, Ok, Err, IfOk, IfErr, IfSome, is_err}
 use Rattle.rip_wire.specs.Datagram.{datagram_bytes}
 use Rattle.rip_log.specs.Codes.{is_read}
 use Rattle.rip_log.specs.Cuts.{PassesLines}
@@ -43,27 +43,40 @@ capture_of r = record { link = r.link.now; sender = r.sender; datagram = datagra
 abbrev pub line_of : Record → ℕ
 line_of r = r.line
 
--- the call ended since the source failed
+-- the source failed in the call
 abbrev pub unread : {A : Type 0} → Result A LogError → Bool
 unread (Ok x) = false
 unread (Err e) = is_read e.code
+
+-- a line is bad, or an error was answered before
+abbrev pub is_refused : {A : Type 0} → Result A LogError → Bool
+is_refused (Ok x) = false
+is_refused (Err e) = not (is_read e.code)
+
+-- how a call moves a reader on
+pub record Moves {R A : Type 0} (coming : R → Option (List ℕ)) (broken at_end : R → Bool) (old new : Reading R) (result : Result A LogError) : Type 0 where
+  -- the code Read only where the source failed; every other outcome leaves its mark
+  pub failed : unread result ≡ true → broken (source_of new) ≡ true
+  pub marks : unread result ≡ false → broken (source_of new) ≡ broken (source_of old)
+  -- the lines behind are those that were passed, and an error is at the line after them
+  pub passed : is_refused result ≡ false → PassesLines (text coming old) (lines_behind old) (text coming new) (lines_behind new)
+  pub here : IfErr result (λ e. e.line ≡ lines_behind new + 1)
+  pub stopped : has_stopped new ≡ is_err result
+  -- past its end the source is not pulled
+  pub unpulled : at_end (source_of old) ≡ true → source_of new ≡ source_of old
 
 -- what a call of `next` answers, seen by view and number, and leaves
 pub record Leaves {R X : Type 0} (coming : R → Option (List ℕ)) (broken at_end : R → Bool) (view : X → Capture) (number : X → ℕ) (old new : Reading R) (result : Result (Option X) LogError) : Type 0 where
   -- the next record of the log to come, or its end or fault
   pub gives : has_stopped old ≡ false → Gives view number (log_to_come coming old) (log_to_come coming new) result
-  -- the code Read only where the source failed; every other outcome leaves its mark
-  pub failed : unread result ≡ true → broken (source_of new) ≡ true
-  -- at the line after those that were passed
-  pub passed : unread result ≡ true → has_stopped old ≡ false → PassesLines (text coming old) (lines_behind old) (text coming new) (lines_behind new)
-  pub marks : unread result ≡ false → broken (source_of new) ≡ broken (source_of old)
-  pub here : IfErr result (λ e. e.line ≡ lines_behind new + 1)
-  -- after an error there is none but Ended, at the same line
-  pub ended : has_stopped old ≡ true → (result ≡ Err (record { code = Ended; line = lines_behind old + 1 })) × (lines_behind new ≡ lines_behind old)
+  pub moves : Moves coming broken at_end old new result
+  -- after an error there is none but Ended, at the same line, and the source is not pulled
+  pub ended : has_stopped old ≡ true → (result ≡ Err (record { code = Ended; line = lines_behind old + 1 }))
+      × (lines_behind new ≡ lines_behind old)
+      × (source_of new ≡ source_of old)
   -- None only where the source has come to its end, and for good
-  pub none_left : result ≡ Ok None → at_end (source_of new) ≡ true
   pub over : result ≡ Ok None → IsOver at_end new
   pub stays_over : has_stopped old ≡ false → IsOver at_end old → (result ≡ Ok None) × IsOver at_end new
-  pub onward : IfOk result (λ found. IfSome found (λ _. (lines_behind old + 1 ≤ lines_behind new) × (lines_behind new ≤ 1000000)))
-  pub numbered : IfOk result (λ found. IfSome found (λ x. number x ≡ lines_behind new))
-  pub stopped : has_stopped new ≡ is_err result
+  -- a record is of a line behind it, and each call has a later one
+  pub onward : IfOk result (λ found. IfSome found (λ x. (lines_behind old + 1 ≤ lines_behind new) × (number x ≡ lines_behind new)))
+  pub few : lines_behind new ≤ 1000000

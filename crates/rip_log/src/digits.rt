@@ -8,7 +8,7 @@ ghost use Rattle.rip_log.specs.Lines.{bytes_of};
 use crate::line::LineCode;
 
 /// The most bytes of a datagram.
-const MOST_BYTES: usize = 504;
+const MOST_DATAGRAM_BYTES: usize = 504;
 
 /// Whether the byte is a hex digit, of either case.
 fn is_digit(byte: u8) -> bool
@@ -44,7 +44,7 @@ fn code_of_long(digits: &[u8]) -> LineCode
 pub fn decode(digits: &[u8], room: &mut [u8; 504]) -> Result<usize, LineCode>
     ensures { MatchResult result (λ n. (n ≤ 504) × (bytes_of digits.now ≡ Ok (take n room.new))) (λ code. bytes_of digits.now ≡ Err code) }
 {
-    if digits.len() > 2 * MOST_BYTES {
+    if digits.len() > 2 * MOST_DATAGRAM_BYTES {
         return Err(code_of_long(digits));
     }
     let count = digits.len() / 2;

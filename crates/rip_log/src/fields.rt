@@ -12,13 +12,14 @@ pub enum Fields {
     Other,
 }
 
+/// Whether the byte is a blank: a space or a tab.
 fn is_blank(byte: u8) -> bool
     ensures { result ≡ is_blank byte }
 {
     byte == b' ' || byte == b'\t'
 }
 
-// The first place from `from` that is no blank.
+/// The first place from `from` that is no blank, or the end of the line.
 fn skip_blanks(line: &[u8], from: usize) -> usize
     requires { from ≤ length line.now }
     ensures after { from ≤ result }
@@ -33,7 +34,7 @@ fn skip_blanks(line: &[u8], from: usize) -> usize
     at
 }
 
-// The first place from `from` that is a blank, or the end.
+/// The first place after `from` that is a blank, or the end of the line.
 fn skip_field(line: &[u8], from: usize) -> usize
     requires inside { from < length line.now }
     requires field { is_blank (slice_index line.now from) ≡ false }
@@ -48,7 +49,7 @@ fn skip_field(line: &[u8], from: usize) -> usize
     at
 }
 
-// The next field from `from`.
+/// The next field from `from`, as the places where it begins and ends.
 fn next_field(line: &[u8], from: usize) -> Option<(usize, usize)>
     requires { from ≤ length line.now }
     ensures { MatchOption result (fields_of (drop from line.now) ≡ []) (λ s. NextField line.now from s.0 s.1) }

@@ -1,6 +1,6 @@
 //! The records of a log, one after the other.
 
-ghost use Rattle.std.specs.Prelude.{◌≡◌, ◌≢◌, ◌+◌, ◌≤◌, ◌<◌, true, false, length, IfErr, IfOk, IfSome, is_err};
+ghost use Rattle.std.specs.Prelude.{◌≡◌, ◌≢◌, ◌+◌, ◌≤◌, ◌<◌, true, false, length, IfErr, IfOk, IfSome};
 ghost use Rattle.std.specs.Borrow.{sem};
 ghost use Rattle.std.specs.Io.BufRead.{Rests};
 ghost use Rattle.rip_wire.specs.Name.{is_name};
@@ -73,8 +73,7 @@ struct Reading<R> {
 }
 
 impl<R: Source> Reading<R> {
-    ghost use Rattle.rip_log.specs.Leaves.{IsOver, Leaves, capture_of, has_stopped, lines_behind, source_of, text, unread};
-    ghost use Rattle.rip_log.specs.Cuts.{PassesLines};
+    ghost use Rattle.rip_log.specs.Leaves.{IsOver, Leaves, Moves, capture_of, has_stopped, lines_behind};
     ghost use Rattle.rip_log.specs.Places.{IsGood, LineSays, capture_at};
     ghost use Rattle.rip_log.specs.Held.{held};
 
@@ -100,12 +99,7 @@ impl<R: Source> Reading<R> {
         requires few { lines_behind self.old < 1000000 }
         requires held { 0 < length (held self.old.window) }
         ensures says { LineSays R.coming R.at_end self.old self.new result }
-        ensures failed { unread result ≡ true → R.broken (source_of self.new) ≡ true }
-        ensures marks { unread result ≡ false → R.broken (source_of self.new) ≡ R.broken (source_of self.old) }
-        ensures passed { unread result ≡ true → PassesLines (text R.coming self.old) (lines_behind self.old) (text R.coming self.new) (lines_behind self.new) }
-        ensures skipped { result ≡ Ok Step.Skipped → PassesLines (text R.coming self.old) (lines_behind self.old) (text R.coming self.new) (lines_behind self.new) }
-        ensures here { IfErr result (λ e. e.line ≡ lines_behind self.new + 1) }
-        ensures stopped { has_stopped self.new ≡ is_err result }
+        ensures moves { Moves R.coming R.broken R.at_end self.old self.new result }
         ensures some { result ≢ Ok Step.End }
     {
         let (from, to) = match self.window.take_line() {
@@ -130,12 +124,7 @@ impl<R: Source> Reading<R> {
     fn step(&mut self) -> Result<Step, LogError>
         requires { has_stopped self.old ≡ false }
         ensures says { LineSays R.coming R.at_end self.old self.new result }
-        ensures failed { unread result ≡ true → R.broken (source_of self.new) ≡ true }
-        ensures marks { unread result ≡ false → R.broken (source_of self.new) ≡ R.broken (source_of self.old) }
-        ensures passed { unread result ≡ true → PassesLines (text R.coming self.old) (lines_behind self.old) (text R.coming self.new) (lines_behind self.new) }
-        ensures skipped { result ≡ Ok Step.Skipped → PassesLines (text R.coming self.old) (lines_behind self.old) (text R.coming self.new) (lines_behind self.new) }
-        ensures here { IfErr result (λ e. e.line ≡ lines_behind self.new + 1) }
-        ensures stopped { has_stopped self.new ≡ is_err result }
+        ensures moves { Moves R.coming R.broken R.at_end self.old self.new result }
         ensures over { result ≡ Ok Step.End → IsOver R.at_end self.new }
         ensures stays_over { IsOver R.at_end self.old → result ≡ Ok Step.End }
     {
@@ -206,7 +195,7 @@ pub struct LogReader<R> {
 
 impl<R: Source> LogReader<R> {
     ghost use Rattle.rip_log.specs.contracts.reader.LogReader.{the_row};
-    ghost use Rattle.rip_log.specs.Leaves.{Leaves, capture_of, has_stopped, line_of, lines_behind, log_to_come, source_of};
+    ghost use Rattle.rip_log.specs.Leaves.{Leaves, capture_of, has_stopped, line_of, lines_behind, log_to_come, source_of, text};
     ghost use Rattle.rip_log.specs.Logs.{log_in};
     ghost use Rattle.rip_log.specs.Reader.{reading_of};
 
@@ -214,6 +203,7 @@ impl<R: Source> LogReader<R> {
     /// nothing yet. A refusal hands the source back.
     pub fn new(alloc: Global, source: R) -> Result<LogReader<R>, (LogError, R)>
         ensures source { IfOk result (λ r. source_of (reading_of r) ≡ source) }
+        ensures text { IfOk result (λ r. text R.coming (reading_of r) ≡ R.coming source) }
         ensures to_come { IfOk result (λ r. log_to_come R.coming (reading_of r) ≡ log_in (R.coming source)) }
         ensures front { IfOk result (λ r. (lines_behind (reading_of r) ≡ 0) × (has_stopped (reading_of r) ≡ false)) }
         ensures refused { IfErr result (λ e. (e.1 ≡ source) × (e.0 ≡ record { code = LogCode.Memory; line = 0 })) }

@@ -9,7 +9,7 @@ use memchr::memchr;
 use std::alloc::{AllocError, Global};
 
 /// The most bytes of a line.
-const MOST_BYTES: usize = 2048;
+const MOST_LINE_BYTES: usize = 2048;
 
 /// The bytes of the buffer.
 const ROOM: usize = 65_536;
@@ -136,6 +136,7 @@ impl<R: Source> Window<R> {
         ensures held { result ≡ Ok true → 0 < length (held self.new) }
         ensures ok { OnOk result (R.broken self.new.source ≡ R.broken self.old.source) }
         ensures err { OnErr result (R.broken self.new.source ≡ true) }
+        ensures unpulled { R.at_end self.old.source ≡ true → self.new.source ≡ self.old.source }
     {
         if self.start < self.end {
             return Ok(true);
@@ -167,18 +168,19 @@ impl<R: Source> Window<R> {
         ensures more { OnOk result (length (held self.old) ≤ length (held self.new)) }
         ensures ok { OnOk result (R.broken self.new.source ≡ R.broken self.old.source) }
         ensures err { OnErr result (R.broken self.new.source ≡ true) }
+        ensures unpulled { R.at_end self.old.source ≡ true → self.new.source ≡ self.old.source }
     {
         let mut seen = 0;
         loop {
             if let Some(at) = self.feed_from(seen) {
-                return Ok(if at <= MOST_BYTES {
+                return Ok(if at <= MOST_LINE_BYTES {
                     LineEnd::Feed(at)
                 } else {
                     LineEnd::Long
                 });
             }
             seen = self.held().len();
-            if seen > MOST_BYTES {
+            if seen > MOST_LINE_BYTES {
                 return Ok(LineEnd::Long);
             }
             if self.source.ended() || self.refill()? == 0 {
@@ -195,6 +197,7 @@ impl<R: Source> Window<R> {
         ensures within { IfOk result (LiesWithin (vec_len self.new.buffer)) }
         ensures ok { OnOk result (R.broken self.new.source ≡ R.broken self.old.source) }
         ensures err { OnErr result (R.broken self.new.source ≡ true) }
+        ensures unpulled { R.at_end self.old.source ≡ true → self.new.source ≡ self.old.source }
     {
         match self.find_end()? {
             LineEnd::Feed(at) => {

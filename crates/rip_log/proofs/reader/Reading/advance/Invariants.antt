@@ -1,4 +1,4 @@
-use Rattle.std.proofs.Common.{◌≡◌, ◌-◌, ◌≤◌, false}
+use Rattle.std.proofs.Common.{◌≡◌, ◌-◌, ◌≤◌, false, true}
 use Rattle.rip_log.specs.Leaves.{IsOver, text, log_to_come, lines_behind, has_stopped, source_of}
 use Rattle.rip_log.specs.Cuts.{PassesLines}
 use Rattle.rip_log.specs.Logs.{SameLog}
@@ -11,6 +11,7 @@ invariant-lines g l = record {
   running : has_stopped l.self ≡ false;
   onward : lines_behind l.fn.self ≤ lines_behind l.self;
   marks : g.R.Source.broken (source_of l.self) ≡ g.R.Source.broken (source_of l.fn.self);
+  unpulled : g.R.Source.at_end (source_of l.fn.self) ≡ true → source_of l.self ≡ source_of l.fn.self;
   over : IsOver g.R.Source.at_end l.fn.self → IsOver g.R.Source.at_end l.self;
   was_running : has_stopped l.fn.self ≡ false;
 }

@@ -1,4 +1,4 @@
-use Rattle.std.proofs.Common.{◌≡◌, ◌≤◌, ◌-◌, length}
+use Rattle.std.proofs.Common.{◌≡◌, ◌≤◌, ◌-◌, length, true}
 use Rattle.std.specs.Io.KnownBytes.{Keeps}
 use Rattle.rip_log.specs.Held.{held, text}
 use Rattle.rip_log.specs.Ends.{NoFeedBelow}
@@ -11,6 +11,7 @@ invariant-loop-at g l = record {
   within : l.seen ≤ length (held l.self);
   before : NoFeedBelow (held l.self) l.seen;
   marks : g.R.Source.broken l.self.source ≡ g.R.Source.broken l.fn.self.source;
+  unpulled : g.R.Source.at_end l.fn.self.source ≡ true → l.self.source ≡ l.fn.self.source;
 }
 
 abbrev pub decreases-loop-at : goal.decreases-loop-at
