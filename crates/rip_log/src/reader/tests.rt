@@ -1,46 +1,34 @@
 //! Logs in pieces, with faults, and from readers that fail.
 
-use crate::{FromRead, LogCode, LogError, LogReader, Source};
-use rip_wire::{Address, Kind, WireCode, WireError};
+use crate::{FromRead, LogCode, LogError, LogReader, Record};
+use rip_wire::{Address, Datagram, Entry, Kind, Metric, Prefix, write_response};
 use std::alloc::{AllocError, Global};
 use std::io;
 use std::io::Read;
 use std::process::Abort;
 use std::test::Fail;
 
-/// The settled log of a triangle of routers: links, senders and digits.
-const SETTLED: [(&str, &str, &str); 6] = [
-    (
-        "a",
-        "10.1.0.1",
-        "02020000000200000a030000ffff00000000000000000001000200000a020000ffff00000000000000000010",
-    ),
-    (
-        "c",
-        "10.3.0.1",
-        "02020000000200000a010000ffff00000000000000000001000200000a020000ffff00000000000000000002",
-    ),
-    (
-        "a",
-        "10.1.0.2",
-        "02020000000200000a020000ffff00000000000000000001000200000a030000ffff00000000000000000002",
-    ),
-    (
-        "b",
-        "10.2.0.2",
-        "02020000000200000a010000ffff00000000000000000001000200000a030000ffff00000000000000000010",
-    ),
-    (
-        "b",
-        "10.2.0.3",
-        "02020000000200000a030000ffff00000000000000000001000200000a010000ffff00000000000000000002",
-    ),
-    (
-        "c",
-        "10.3.0.3",
-        "02020000000200000a020000ffff00000000000000000001000200000a010000ffff00000000000000000010",
-    ),
+mod faults;
+mod growths;
+mod limits;
+mod pulls;
+
+ghost use Rattle.std.specs.Prelude.{◌≤◌, length};
+
+/// The settled log of a triangle of routers: links, senders, and entries by the X of 10.X.0.0/16 and
+/// the metric.
+const SETTLED: [(&str, &str, [(u8, u32); 2]); 6] = [
+    ("a", "10.1.0.1", [(3, 1), (2, 16)]),
+    ("c", "10.3.0.1", [(1, 1), (2, 2)]),
+    ("a", "10.1.0.2", [(2, 1), (3, 2)]),
+    ("b", "10.2.0.2", [(1, 1), (3, 16)]),
+    ("b", "10.2.0.3", [(3, 1), (1, 2)]),
+    ("c", "10.3.0.3", [(2, 1), (1, 16)]),
 ];
+
+/// Its first line, byte by byte.
+const FIRST_LINE: &str =
+    "a 10.1.0.1 02020000000200000a030000ffff00000000000000000001000200000a020000ffff00000000000000000010\n";
 
 /// How many bytes come in one pull.
 const PIECES: [usize; 8] = [1, 2, 3, 7, 99, 100, 101, 2049];
@@ -68,41 +56,36 @@ impl Read for Pieces<'_> {
     }
 }
 
-/// A reader of one byte over and over, so many of them a call.
-#[derive(Drop)]
-struct Endless {
-    byte: u8,
-    piece: usize,
-    calls: usize,
+/// The entry of 10.X.0.0/16 with this metric.
+fn entry(rt: &impl Abort, (x, metric): (u8, u32)) -> Entry {
+    let network = Address::new(u32::from_be_bytes([10, x, 0, 0]));
+    Entry {
+        tag: 0,
+        prefix: Prefix::new(network, 16).expect(rt, "a prefix"),
+        next_hop: Address::new(0),
+        metric: Metric::new(metric).expect(rt, "a metric"),
+    }
 }
 
-impl Read for Endless {
-    fn read(&mut self, buffer: &mut [u8]) -> io::Result<usize> {
-        self.calls = self.calls.wrapping_add(1);
-        let count = self.piece.min(buffer.len());
-        buffer[..count].fill(self.byte);
-        Ok(count)
-    }
+/// The digits of a response.
+fn digits_of(alloc: Global, entries: &[Entry]) -> Result<String, AllocError>
+    requires some { 1 ≤ length entries.now }
+    requires few { length entries.now ≤ 25 }
+{
+    let mut room = [0; 504];
+    let len = write_response(entries, &mut room);
+    hex::encode(alloc, &room[..len])
 }
 
 /// The settled log with these ends of its lines.
-fn settled(alloc: Global, end: &str) -> Result<String, AllocError> {
+fn settled(rt: &impl Abort, alloc: Global, end: &str) -> Result<String, AllocError> {
     let mut text = String::new(alloc);
-    for (link, sender, digits) in &SETTLED {
-        for part in [*link, " ", *sender, " ", *digits, end] {
-            text.push_str(part)?;
-        }
+    for (link, sender, [one, other]) in SETTLED {
+        let digits = digits_of(alloc, &[entry(rt, one), entry(rt, other)])?;
+        let line = format!(in alloc; "{link} {sender} {digits}{end}")?;
+        text.push_str(line.as_str())?;
     }
     Ok(text)
-}
-
-/// A text, and after it so many times another.
-fn extended(alloc: Global, text: &str, more: &str, times: usize) -> Result<String, AllocError> {
-    let mut whole = String::from_str(alloc, text)?;
-    for _ in 0..times {
-        whole.push_str(more)?;
-    }
-    Ok(whole)
 }
 
 fn reader_in<'a>(
@@ -124,6 +107,24 @@ fn reader_in<'a>(
     }
 }
 
+/// Expects the records of the settled log. It takes no memory.
+fn expect_settled(rt: &impl Abort, reader: &mut LogReader<FromRead<Pieces<'_>>>) {
+    let mut line = 0u32;
+    for (link, sender, [one, other]) in SETTLED {
+        line = line.wrapping_add(1);
+        let Ok(Some(record)) = reader.next() else {
+            panic!(rt; "no record in line {line}");
+        };
+        let mut room = [0; 504];
+        let len = write_response(&[entry(rt, one), entry(rt, other)], &mut room);
+        assert_eq!(rt; record.line, line);
+        assert_eq!(rt; record.link, link);
+        assert_eq!(rt; Some(record.sender()), Address::parse(sender));
+        assert_eq!(rt; record.datagram.kind(), Kind::Response);
+        assert_eq!(rt; Some(record.datagram.body()), room.get(4..len));
+    }
+}
+
 /// Reads to the end or the first fault, and expects so many records before it, and that it stays.
 fn expect_outcome(
     rt: &impl Abort,
@@ -137,47 +138,30 @@ fn expect_outcome(
             _ => panic!(rt; "no record"),
         }
     }
-    match (reader.next(), fault) {
-        (Ok(None), None) => {}
-        (Err(error), Some(fault)) => assert_eq!(rt; error, fault),
-        _ => panic!(rt; "another outcome"),
-    }
-    for _ in 0..2 {
+    let ended = fault.map(|fault| LogError {
+        code: LogCode::Ended,
+        line: fault.line,
+    });
+    for fault in [fault, ended, ended] {
         match (reader.next(), fault) {
             (Ok(None), None) => {}
-            (Err(error), Some(fault)) => assert_eq!(rt;
-                error,
-                LogError {
-                    code: LogCode::Ended,
-                    line: fault.line
-                }
-            ),
-            _ => panic!(rt; "another outcome later"),
+            (Err(error), Some(fault)) => assert_eq!(rt; error, fault),
+            _ => panic!(rt; "another outcome"),
         }
     }
 }
 
 #[test]
 fn records_in_any_pieces(rt: HostRuntime) -> Result<(), Fail> {
+    let first = settled(&rt, rt.alloc(), "\n")?;
+    assert_eq!(rt; first.as_str().get(..100), Some(FIRST_LINE));
     for end in ["\n", "\r\n"] {
-        let whole = settled(rt.alloc(), end)?;
+        let whole = settled(&rt, rt.alloc(), end)?;
         for dropped in 0..2 {
             let text = &whole.as_bytes()[..whole.len().saturating_sub(dropped)];
             for piece in PIECES {
                 let mut reader = reader_in(&rt, rt.alloc(), text, piece, 0);
-                let mut line = 0u32;
-                for (link, sender, digits) in &SETTLED {
-                    line = line.wrapping_add(1);
-                    let Ok(Some(record)) = reader.next() else {
-                        panic!(rt; "no record in line {line}");
-                    };
-                    let bytes = hex::decode(rt.alloc(), *digits)?;
-                    assert_eq!(rt; record.line, line);
-                    assert_eq!(rt; record.link, *link);
-                    assert_eq!(rt; Some(record.sender()), Address::parse(*sender));
-                    assert_eq!(rt; record.datagram.kind(), Kind::Response);
-                    assert_eq!(rt; Some(record.datagram.body()), bytes.as_slice().get(4..));
-                }
+                expect_settled(&rt, &mut reader);
                 expect_outcome(&rt, &mut reader, 0, None);
             }
         }
@@ -186,129 +170,19 @@ fn records_in_any_pieces(rt: HostRuntime) -> Result<(), Fail> {
 }
 
 #[test]
-fn first_faults(rt: HostRuntime) -> Result<(), Fail> {
-    let whole = settled(rt.alloc(), "\n")?;
-    let whole = whole.as_bytes();
-    let digit_lost = whole.get(..598).ok_or("short")?;
-    let byte_lost = whole.get(..597).ok_or("short")?;
-    let comment = extended(rt.alloc(), "#", "x", 2047)?;
-    let line = extended(rt.alloc(), "a 10.1.0.1 ", "02", 504)?;
-    let entry = "000200000a640000ffff00000000000000000010";
-    let entries = extended(rt.alloc(), "a 10.1.0.1 02020000", entry, 26)?;
-    let ragged = LogCode::Wire(WireError {
-        code: WireCode::Ragged,
-        at: 43,
-    });
-    for (front, text, records, fault) in [
-        ("", "".as_bytes(), 0, None),
-        ("", b"#\xFF\n \t\r", 0, None),
-        ("", b"z 9.9.9.9 01020000", 1, None),
-        (comment.as_str(), b"\n", 0, None),
-        (comment.as_str(), b"x\n", 0, Some((LogCode::LongLine, 1))),
-        (comment.as_str(), b"\r\n", 0, Some((LogCode::LongLine, 1))),
-        ("", digit_lost, 5, Some((LogCode::Hex, 6))),
-        ("", byte_lost, 5, Some((ragged, 6))),
-        (
-            " \t# a b\n\r\n",
-            b"a 10.1.0.1",
-            0,
-            Some((LogCode::Fields, 3)),
-        ),
-        ("", b"a 10.1.0.1 02 02", 0, Some((LogCode::Fields, 1))),
-        ("", b"\r\r", 0, Some((LogCode::Fields, 1))),
-        ("", b"a! 10.1.0.01 02", 0, Some((LogCode::LinkName, 1))),
-        ("", b"a 10.1.0.01 02", 0, Some((LogCode::Sender, 1))),
-        ("", b"a 10.1.0.\xFF 02", 0, Some((LogCode::Sender, 1))),
-        ("", b"a 10.1.0.1 020", 0, Some((LogCode::Hex, 1))),
-        (line.as_str(), b"0", 0, Some((LogCode::Hex, 1))),
-        (line.as_str(), b"0x", 0, Some((LogCode::Hex, 1))),
-        (line.as_str(), b"02", 0, Some((LogCode::LongDatagram, 1))),
-        (entries.as_str(), b"", 0, Some((LogCode::LongDatagram, 1))),
-    ] {
-        let mut log = Vec::new(rt.alloc());
-        log.extend_from_slice(front.as_bytes())?;
-        log.extend_from_slice(text)?;
-        for piece in PIECES {
-            let mut reader = reader_in(&rt, rt.alloc(), log.as_slice(), piece, 0);
-            let fault = fault.map(|(code, line)| LogError { code, line });
-            expect_outcome(&rt, &mut reader, records, fault);
-        }
-    }
-    Ok(())
-}
-
-#[test]
-fn pulls_what_a_line_needs(rt: HostRuntime) -> Result<(), Fail> {
-    let whole = settled(rt.alloc(), "\n")?;
-    for (records, calls) in [(0, 0), (1, 100), (6, 600), (7, 601), (9, 601)] {
-        let mut reader = reader_in(&rt, rt.alloc(), whole.as_bytes(), 1, 0);
-        for _ in 0..records {
-            assert!(rt; reader.next().is_ok());
-        }
-        assert_eq!(rt; reader.into_source().into_reader().calls, calls);
-    }
-    Ok(())
-}
-
-#[test]
-fn failing_reads(rt: HostRuntime) -> Result<(), Fail> {
-    let whole = settled(rt.alloc(), "\n")?;
-    for call in 1..602u32 {
-        let lines = (call - 1) / 100;
-        let mut reader = reader_in(&rt, rt.alloc(), whole.as_bytes(), 1, call as usize);
-        let fault = LogError {
-            code: LogCode::Read,
-            line: lines + 1,
+fn one_record_in_many_forms(rt: HostRuntime) -> Result<(), Fail> {
+    let mut room = [0; 504];
+    let len = write_response(&[entry(&rt, (171, 1))], &mut room);
+    let lower = hex::encode(rt.alloc(), &room[..len])?;
+    let upper = hex::encode_upper(rt.alloc(), &room[..len])?;
+    for (digits, end) in [(&lower, ""), (&lower, " \n"), (&upper, "\t \r\n")] {
+        let text = format!(in rt.alloc(); " \ta\t 10.1.0.1 \t{digits}{end}")?;
+        let mut reader = reader_in(&rt, rt.alloc(), text.as_bytes(), 7, 0);
+        let Ok(Some(record)) = reader.next() else {
+            panic!(rt; "no record");
         };
-        expect_outcome(&rt, &mut reader, lines as usize, Some(fault));
-        assert!(rt; reader.into_source().failed());
-    }
-    let mut reader = reader_in(&rt, rt.alloc(), b"a 10.1.0.1\n", 1, 12);
-    let fault = LogError {
-        code: LogCode::Fields,
-        line: 1,
-    };
-    expect_outcome(&rt, &mut reader, 0, Some(fault));
-    Ok(())
-}
-
-#[test]
-fn the_last_lines(rt: HostRuntime) -> Result<(), Fail> {
-    let alloc = rt.alloc();
-    let whole = settled(alloc, "\n")?;
-    let fault = LogError {
-        code: LogCode::TooManyLines,
-        line: 1_000_001,
-    };
-    for (more, outcome) in [("", None), ("\n", Some(fault)), ("x", Some(fault))] {
-        let mut log = Vec::new(alloc);
-        log.extend_from_slice(whole.as_bytes())?;
-        log.resize(whole.len() + 999_994, b'\n')?;
-        log.extend_from_slice(more.as_bytes())?;
-        let mut reader = reader_in(&rt, alloc, log.as_slice(), 4096, 0);
-        expect_outcome(&rt, &mut reader, 6, outcome);
+        assert_eq!(rt; record.link, "a");
+        assert_eq!(rt; Some(record.datagram.body()), room.get(4..len));
     }
     Ok(())
-}
-
-#[test]
-fn endless_sources(rt: HostRuntime) {
-    for (byte, piece, code, line, calls) in [
-        (b'x', 1, LogCode::LongLine, 1, 2049),
-        (b'\n', 1000, LogCode::TooManyLines, 1_000_001, 1001),
-    ] {
-        let source = FromRead::new(Endless {
-            byte,
-            piece,
-            calls: 0,
-        });
-        let Ok(mut reader) = LogReader::new(rt.alloc(), source) else {
-            panic!(rt; "no memory");
-        };
-        match reader.next() {
-            Err(error) => assert_eq!(rt; error, LogError { code, line }),
-            Ok(_) => panic!(rt; "no fault"),
-        }
-        assert_eq!(rt; reader.into_source().into_reader().calls, calls);
-    }
 }

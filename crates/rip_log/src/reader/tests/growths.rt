@@ -1,0 +1,45 @@
+//! Reading where memory is refused: `tests/growths` runs these with each growth refused in turn, and
+//! wants the lines that they print.
+
+use super::{Pieces, expect_outcome, expect_settled, settled};
+use crate::{FromRead, LogCode, LogError, LogReader};
+use std::test::Fail;
+
+#[test]
+fn new_hands_back(rt: HostRuntime) -> Result<(), Fail> {
+    let source = FromRead::new(Pieces {
+        left: b"",
+        piece: 1,
+        calls: 0,
+        fails_at: 0,
+    });
+    if let Err((error, source)) = LogReader::new(rt.alloc(), source) {
+        let memory = LogError {
+            code: LogCode::Memory,
+            line: 0,
+        };
+        assert_eq!(rt; error, memory);
+        assert_eq!(rt; source.into_reader().calls, 0);
+        println!(rt; "handed back")?;
+    }
+    Ok(())
+}
+
+#[test]
+fn next_takes_no_memory(rt: HostRuntime) -> Result<(), Fail> {
+    let Ok(text) = settled(&rt, rt.alloc(), "\n") else {
+        return Ok(());
+    };
+    let source = FromRead::new(Pieces {
+        left: text.as_bytes(),
+        piece: 7,
+        calls: 0,
+        fails_at: 0,
+    });
+    if let Ok(mut reader) = LogReader::new(rt.alloc(), source) {
+        expect_settled(&rt, &mut reader);
+        expect_outcome(&rt, &mut reader, 0, None);
+        println!(rt; "six records")?;
+    }
+    Ok(())
+}
