@@ -10,7 +10,7 @@ use Rattle.rip_log.specs.declared.line.LineCode.TheVariants.{Hex, LongDatagram}
 pub bytes_of-odd : (s : List ℕ) → length s % 2 ≡ 1 → bytes_of s ≡ Err Hex
 bytes_of-odd s odd = ap sized (decode_of-odd s odd)
 
-sized-long : (bytes : List ℕ) → 504 < length bytes → sized (Ok bytes) ≡ Err LongDatagram
+pub sized-long : (bytes : List ℕ) → 504 < length bytes → sized (Ok bytes) ≡ Err LongDatagram
 sized-long bytes h = grind arith
 
 pub bytes_of-long : (s : List ℕ) → length s % 2 ≡ 0 → AllPass is_hex_digit s → 1008 < length s → bytes_of s ≡ Err LongDatagram

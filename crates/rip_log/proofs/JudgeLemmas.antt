@@ -1,5 +1,5 @@
 -- A line and the line without its carriage return.
-use Rattle.std.proofs.Common.{◌≡◌, ◌+◌, ◌-◌, ◌≤◌, ℕ, List, length, take, drop, slice_range, Option, Some, None, Result, Ok, Err, refl, sym, ap, ◌∙◌, arith, Bool, true, false, cond}
+use Rattle.std.proofs.Common.{◌≡◌, ◌+◌, ◌-◌, ◌≤◌, ◌<◌, ℕ, List, length, take, drop, slice_range, Option, Some, None, Result, Ok, Err, refl, sym, ap, ◌∙◌, arith, Bool, true, false, cond}
 use Rattle.std.proofs.lemmas.List.{take-take, drop-take, length-take, take_all}
 use Rattle.std.specs.Io.BufRead.{strip_last, ends_with_byte}
 use Rattle.rip_wire.specs.Name.{is_name}
@@ -7,10 +7,14 @@ use Rattle.rip_log.specs.Fields.{fields_of}
 use Rattle.rip_log.specs.Lines.{Capture, judge, judge_short, unless_skipped}
 use Rattle.rip_log.specs.Parts.{Tells, AreParts, capture_of_parts}
 use Rattle.rip_log.specs.declared.line.LineCode.{LineCode}
+use Rattle.rip_log.specs.declared.line.LineCode.TheVariants.{LongLine}
 use Rattle.rip_log.specs.declared.line.Parts.{Parts}
 
-judge-short : (line : List ℕ) → length line ≤ 2048 → judge line ≡ judge_short line
+pub judge-short : (line : List ℕ) → length line ≤ 2048 → judge line ≡ judge_short line
 judge-short line h = grind arith
+
+pub judge-long : (line : List ℕ) → 2048 < length line → judge line ≡ Err LongLine
+judge-long line h = grind arith
 
 Front : List ℕ → List ℕ → Type 0
 Front line front = (m : ℕ) × (m ≤ length line) × (front ≡ take m line)

@@ -1,5 +1,5 @@
 -- What a line says is what is computed.
-use Rattle.std.proofs.Common.{◌≡◌, ◌≢◌, ◌≤◌, ◌<◌, ℕ, Bool, true, false, cond, List, [], ◌∷◌, length, Option, Some, None, Result, Ok, Err, refl, ap, ◌∙◌, arith, eqb-true}
+use Rattle.std.proofs.Common.{◌≡◌, ◌≢◌, ◌≤◌, ◌<◌, ℕ, Bool, true, false, cond, List, [], ◌∷◌, length, Option, Some, None, Result, Ok, Err, refl, ap, subst, ◌∙◌, arith, eqb-true}
 use Rattle.std.specs.Prelude.{nat_lt}
 use Rattle.std.specs.Io.BufRead.{strip_last}
 use Rattle.hex.specs.Hex.{decode_of}
@@ -16,8 +16,9 @@ use Rattle.rip_wire.proofs.Parsing.{address_in-gives, address_in-finds}
 use Rattle.rip_log.proofs.FieldRelations.{AreFields-fields_of, fields_of-AreFields, IsBare-strip_last, strip_last-IsBare}
 use Rattle.rip_log.specs.Fields.{fields_of, is_comment}
 use Rattle.rip_log.specs.Lines.{Capture, sized, bytes_of, checked, capture_in, with_sender, three_fields, said_by, unless_skipped, judge_short, judge}
-use Rattle.rip_log.specs.LogText.{HasFields, SaysNothing, HasThree, IsSender, HasSender, HasOthers, IsBad}
-use Rattle.rip_log.specs.Says.{Says}
+use Rattle.rip_log.specs.LogText.{HasFields, SaysNothing, HasThree, IsSender, HasSender, HasOthers, IsBad, IsJudged}
+use Rattle.rip_log.proofs.DigitLemmas.{sized-long}
+use Rattle.rip_log.proofs.JudgeLemmas.{judge-long, judge-short}
 use Rattle.rip_log.specs.declared.line.LineCode.{LineCode}
 use Rattle.rip_log.specs.declared.line.LineCode.TheVariants as codes
 
@@ -50,7 +51,7 @@ no_fault : (bytes : List ℕ) (m : Message) → message_in bytes ≡ Ok m → (c
 no_fault bytes m e code at fault = cc (e, wire_fault_told bytes code at fault)
 
 says-checked : (line link digits bytes : List ℕ) (sender : ℕ) (r : Result Message WireError) → HasSender line link digits sender → decode_of digits ≡ Ok bytes → length bytes ≤ 504 → message_in bytes ≡ r
-    → Says line (checked link sender bytes r)
+    → IsJudged line (checked link sender bytes r)
 says-checked line link digits bytes sender (Ok m) front e few read = record { digits = digits; front = front; bytes = e; few = few; no_fault = no_fault bytes m read }
 says-checked line link digits bytes sender (Err f) front e few read = (link, digits, bytes, sender, front, e, few, wire_fault bytes f read)
 
@@ -61,15 +62,15 @@ many-of : (bytes : List ℕ) → nat_lt 504 (length bytes) ≡ true → 504 < le
 many-of bytes h = grind arith
 
 says-sized : (line link digits bytes : List ℕ) (sender : ℕ) (x : Bool) → HasSender line link digits sender → decode_of digits ≡ Ok bytes → nat_lt 504 (length bytes) ≡ x
-    → Says line (capture_in link sender (cond x (Err codes.LongDatagram) (Ok bytes)))
+    → IsJudged line (capture_in link sender (cond x (Err codes.LongDatagram) (Ok bytes)))
 says-sized line link digits bytes sender true front e h = (link, digits, bytes, sender, front, e, many-of bytes h)
 says-sized line link digits bytes sender false front e h = says-checked line link digits bytes sender (message_in bytes) front e (few-of bytes h) refl
 
-says-digits : (line link digits : List ℕ) (sender : ℕ) (r : Result (List ℕ) FromHexError) → HasSender line link digits sender → decode_of digits ≡ r → Says line (capture_in link sender (sized r))
+says-digits : (line link digits : List ℕ) (sender : ℕ) (r : Result (List ℕ) FromHexError) → HasSender line link digits sender → decode_of digits ≡ r → IsJudged line (capture_in link sender (sized r))
 says-digits line link digits sender (Ok bytes) front e = says-sized line link digits bytes sender (nat_lt 504 (length bytes)) front e refl
 says-digits line link digits sender (Err f) front e = (link, digits, sender, front, λ bytes is. cc (e, is))
 
-says-sender : (line link sender digits : List ℕ) (o : Option ℕ) → HasThree line link sender digits → IsName link → address_in sender ≡ o → Says line (with_sender link o digits)
+says-sender : (line link sender digits : List ℕ) (o : Option ℕ) → HasThree line link sender digits → IsName link → address_in sender ≡ o → IsJudged line (with_sender link o digits)
 says-sender line link sender digits None three name e =
     (link, sender, digits, three, name, λ address is. cc (e, address_in-finds sender address is.fits is.spelled))
 says-sender line link sender digits (Some a) three name e =
@@ -80,25 +81,25 @@ no-name : (link : List ℕ) → is_name link ≡ false → ¬ IsName link
 no-name link e is = cc (e, is_name-holds link is)
 
 says-three : (line link sender digits : List ℕ) (x : Bool) → HasThree line link sender digits → is_name link ≡ x
-    → Says line (cond x (with_sender link (address_in sender) digits) (Err codes.LinkName))
+    → IsJudged line (cond x (with_sender link (address_in sender) digits) (Err codes.LinkName))
 says-three line link sender digits true three e = says-sender line link sender digits (address_in sender) three (is_name-gives link e) refl
 says-three line link sender digits false three e = (link, sender, digits, three, no-name link e)
 
 others : (line : List ℕ) (fields : List (List ℕ)) → HasFields line fields → ¬ SaysNothing fields → length fields ≢ 3 → HasOthers line
 others line fields has says count = record { fields = fields; has_fields = has; says = says; count = count }
 
-says-said : (line : List ℕ) (fields : List (List ℕ)) → HasFields line fields → ¬ SaysNothing fields → Says line (said_by fields)
+says-said : (line : List ℕ) (fields : List (List ℕ)) → HasFields line fields → ¬ SaysNothing fields → IsJudged line (said_by fields)
 says-said line [] has says = absurd (says tt)
 says-said line (a ∷ []) has says = others line (a ∷ []) has says (λ e. omega (arith, e))
 says-said line (a ∷ b ∷ []) has says = others line (a ∷ b ∷ []) has says (λ e. omega (arith, e))
 says-said line (a ∷ b ∷ c ∷ []) has says = says-three line a b c (is_name a) (record { has_fields = has; says = says }) refl
 says-said line (a ∷ b ∷ c ∷ d ∷ more) has says = others line (a ∷ b ∷ c ∷ d ∷ more) has says (λ e. omega (arith, e))
 
-says-comment : (line first : List ℕ) (rest : List (List ℕ)) (x : Bool) → HasFields line (first ∷ rest) → is_comment (first ∷ rest) ≡ x → Says line (cond x (Ok None) (said_by (first ∷ rest)))
+says-comment : (line first : List ℕ) (rest : List (List ℕ)) (x : Bool) → HasFields line (first ∷ rest) → is_comment (first ∷ rest) ≡ x → IsJudged line (cond x (Ok None) (said_by (first ∷ rest)))
 says-comment line first rest true has e = record { fields = first ∷ rest; has_fields = has; says_nothing = says-yes first rest e }
 says-comment line first rest false has e = says-said line (first ∷ rest) has (says-no first rest e)
 
-says-fields : (line : List ℕ) (fields : List (List ℕ)) → HasFields line fields → Says line (unless_skipped fields)
+says-fields : (line : List ℕ) (fields : List (List ℕ)) → HasFields line fields → IsJudged line (unless_skipped fields)
 says-fields line [] has = record { fields = []; has_fields = has; says_nothing = tt }
 says-fields line (first ∷ rest) has = says-comment line first rest (is_comment (first ∷ rest)) has refl
 
@@ -108,20 +109,17 @@ short-of line h = grind arith
 long-of : (line : List ℕ) → nat_lt 2048 (length line) ≡ true → 2048 < length line
 long-of line h = grind arith
 
-says-line : (line : List ℕ) (x : Bool) → nat_lt 2048 (length line) ≡ x → Says line (cond x (Err codes.LongLine) (judge_short line))
+says-line : (line : List ℕ) (x : Bool) → nat_lt 2048 (length line) ≡ x → IsJudged line (cond x (Err codes.LongLine) (judge_short line))
 says-line line true e = long-of line e
 says-line line false e = says-fields line (fields_of (strip_last 13 line)) (HasFields-line line (short-of line e))
 
-pub Says-judge : (line : List ℕ) → Says line (judge line)
-Says-judge line = says-line line (nat_lt 2048 (length line)) refl
+pub IsJudged-judge : (line : List ℕ) → IsJudged line (judge line)
+IsJudged-judge line = says-line line (nat_lt 2048 (length line)) refl
+
+pub judged-line : (line : List ℕ) (judged : Result (Option Capture) LineCode) → judge line ≡ judged → IsJudged line judged
+judged-line line judged e = subst (IsJudged line) e (IsJudged-judge line)
 
 -- from the words to the computed
-judge-long : (line : List ℕ) → 2048 < length line → judge line ≡ Err codes.LongLine
-judge-long line h = grind arith
-
-judge-short : (line : List ℕ) → length line ≤ 2048 → judge line ≡ judge_short line
-judge-short line h = grind arith
-
 judge-fields : (line : List ℕ) (fields : List (List ℕ)) → HasFields line fields → judge line ≡ unless_skipped fields
 judge-fields line fields has = judge-short line has.short ∙ ap unless_skipped (fields-same line fields has)
 
@@ -167,9 +165,6 @@ sized-bad : (r : Result (List ℕ) FromHexError) → ((bytes : List ℕ) → r �
 sized-bad (Ok bytes) none = absurd (none bytes refl)
 sized-bad (Err f) none = refl
 
-sized-long : (bytes : List ℕ) → 504 < length bytes → sized (Ok bytes) ≡ Err codes.LongDatagram
-sized-long bytes h = grind arith
-
 sized-few : (bytes : List ℕ) → length bytes ≤ 504 → sized (Ok bytes) ≡ Ok bytes
 sized-few bytes h = grind arith
 
@@ -196,9 +191,9 @@ bad-line line codes.Hex bad = judge-sender line bad.0 bad.1 bad.2 bad.3 ∙ ap (
 bad-line line codes.LongDatagram bad = judge-sender line bad.0 bad.1 bad.3 bad.4 ∙ ap (capture_in bad.0 bad.3) (ap sized bad.5 ∙ sized-long bad.2 bad.6)
 bad-line line (codes.Wire f) bad = judge-bytes line bad.0 bad.1 bad.2 bad.3 bad.4 bad.5 bad.6 ∙ ap (checked bad.0 bad.3 bad.2) (wire_fault_told bad.2 f.code f.at bad.7)
 
-pub judge-Says : (line : List ℕ) (r : Result (Option Capture) LineCode) → Says line r → judge line ≡ r
-judge-Says line (Ok None) skipped = judge-fields line skipped.fields skipped.has_fields ∙ skipped-fields skipped.fields skipped.says_nothing
-judge-Says line (Ok (Some capture)) is =
+pub judge-IsJudged : (line : List ℕ) (r : Result (Option Capture) LineCode) → IsJudged line r → judge line ≡ r
+judge-IsJudged line (Ok None) skipped = judge-fields line skipped.fields skipped.has_fields ∙ skipped-fields skipped.fields skipped.says_nothing
+judge-IsJudged line (Ok (Some capture)) is =
     judge-bytes line capture.link is.digits capture.datagram capture.sender is.front is.bytes is.few
     ∙ checked-none capture.link capture.datagram capture.sender (message_in capture.datagram) refl is.no_fault
-judge-Says line (Err code) bad = bad-line line code bad
+judge-IsJudged line (Err code) bad = bad-line line code bad

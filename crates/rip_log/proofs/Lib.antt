@@ -11,3 +11,5 @@ pub mod FieldRelations
 pub mod JudgeRelations
 pub mod LogRelations
 pub mod PassLemmas
+pub mod LogLemmas
+pub mod FollowLemmas

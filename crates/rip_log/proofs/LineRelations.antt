@@ -4,12 +4,10 @@ use Rattle.std.specs.List.{AllByRecursion}
 use Rattle.rip_log.specs.Fields.{onto}
 use Rattle.rip_log.specs.Lines.{lines_of}
 use Rattle.rip_log.specs.LogText.{HasNoFeed, AreLines, ended_text, last_line}
+use Rattle.rip_log.proofs.LinesLemmas.{lines_of-other}
 
 not-eq : (a b : ℕ) → (a == b) ≡ false → a ≢ b
 not-eq a b e = grind arith
-
-lines_of-other : (b : ℕ) (bytes : List ℕ) → b ≢ 10 → lines_of (b ∷ bytes) ≡ onto b (lines_of bytes)
-lines_of-other b bytes h = grind arith
 
 onto-last : (b : ℕ) (last : List ℕ) → onto b (last_line last) ≡ last_line (b ∷ last)
 onto-last b [] = refl

@@ -1,11 +1,11 @@
 -- The first line of a text.
-use Rattle.std.proofs.Common.{◌≡◌, ℕ, zero, suc, List, [], ◌∷◌, ◌++◌, length, take, drop, refl, ap, ◌∙◌, arith}
+use Rattle.std.proofs.Common.{◌≡◌, ◌≢◌, ℕ, zero, suc, List, [], ◌∷◌, ◌++◌, length, take, drop, refl, ap, ◌∙◌, arith}
 use Rattle.rip_log.specs.Fields.{onto}
 use Rattle.rip_log.specs.Lines.{lines_of}
 use Rattle.rip_log.specs.Ends.{NoFeedBelow, FirstFeed}
 
 -- a byte that is no line feed goes onto the first line
-lines_of-other : (b : ℕ) (bytes : List ℕ) → (b ≡ 10 → ⊥) → lines_of (b ∷ bytes) ≡ onto b (lines_of bytes)
+pub lines_of-other : (b : ℕ) (bytes : List ℕ) → b ≢ 10 → lines_of (b ∷ bytes) ≡ onto b (lines_of bytes)
 lines_of-other b bytes h = grind arith
 
 -- a line feed ends the first line
@@ -24,15 +24,15 @@ lines_of-feed (b ∷ xs) ys (suc k) f =
     lines_of-other b (xs ++ ys) (f.before 0 (omega arith)) ∙ ap (onto b) (lines_of-feed xs ys k rest)
 
 -- a line, with these bytes at its front, and the lines after it
-abbrev LongFirst : List ℕ → List (List ℕ) → Type 0
-LongFirst xs lines = (more : List ℕ) × (rest : List (List ℕ)) × (lines ≡ (xs ++ more) ∷ rest)
+abbrev BeginsWith : List ℕ → List (List ℕ) → Type 0
+BeginsWith xs lines = (more : List ℕ) × (rest : List (List ℕ)) × (lines ≡ (xs ++ more) ∷ rest)
 
-onto-first : (b : ℕ) (lines : List (List ℕ)) → LongFirst (b ∷ []) (onto b lines)
+onto-first : (b : ℕ) (lines : List (List ℕ)) → BeginsWith (b ∷ []) (onto b lines)
 onto-first b [] = ([], [], refl)
 onto-first b (l ∷ ls) = (l, ls, refl)
 
 -- bytes without a line feed are the front of the first line
-pub lines_of-front : (b : ℕ) (xs ys : List ℕ) → NoFeedBelow (b ∷ xs) (suc (length xs)) → LongFirst (b ∷ xs) (lines_of ((b ∷ xs) ++ ys))
+pub lines_of-front : (b : ℕ) (xs ys : List ℕ) → NoFeedBelow (b ∷ xs) (suc (length xs)) → BeginsWith (b ∷ xs) (lines_of ((b ∷ xs) ++ ys))
 lines_of-front b [] ys none =
     let first = onto-first b (lines_of ys) in
     (first.0, first.1, lines_of-other b ys (none 0 (omega arith)) ∙ first.2)

@@ -6,63 +6,54 @@ use Rattle.rip_log.specs.Codes.{is_read}
 use Rattle.rip_log.specs.Leaves.{capture_of, line_of}
 use Rattle.rip_log.specs.Lines.{Capture, lines_of, judge}
 use Rattle.rip_log.specs.Logs.{Numbered, Log, log_of, log_in, with_line, faulty_log, onto_log, Gives, Whether}
-use Rattle.rip_log.specs.LogText.{AreLines, AreRecords, IsSkipped, IsFault, too_many, bad, LogText, LogFault}
+use Rattle.rip_log.specs.LogText.{AreLines, AreRecords, IsSkipped, IsFault, too_many, bad, IsJudged, LogText, LogFault}
 use Rattle.rip_log.specs.Runs.{IsTaken, numbered}
-use Rattle.rip_log.specs.Says.{Says}
 use Rattle.rip_log.specs.declared.line.LineCode.{LineCode}
 use Rattle.rip_log.specs.declared.error.LogCode.{LogCode}
 use Rattle.rip_log.specs.declared.error.LogCode.TheVariants.{TooManyLines}
 use Rattle.rip_log.specs.declared.error.LogError.{LogError}
 use Rattle.rip_log.specs.declared.reader.Record.{Record}
-use Rattle.rip_log.proofs.JudgeRelations.{Says-judge, judge-Says}
+use Rattle.rip_log.proofs.LogLemmas.{first-line, too-many}
+use Rattle.rip_log.proofs.JudgeRelations.{IsJudged-judge, judge-IsJudged}
 use Rattle.rip_log.proofs.LineRelations.{AreLines-lines_of, lines_of-AreLines}
 
 -- these records in front of a log
-abbrev onto_all : List Numbered → Log → Log
+abbrev pub onto_all : List Numbered → Log → Log
 onto_all records log = record { records = records ++ log.records; fault = log.fault }
 
-lt-leb_false : (a b : ℕ) → b < a → leb a b ≡ false
-lt-leb_false a b h = grind arith
-
-first-line : (n : ℕ) (line : List ℕ) (rest : List (List ℕ)) (said : Result (Option Capture) LineCode) → n < 1000000 → judge line ≡ said
-    → log_of n (line ∷ rest) ≡ with_line (n + 1) said (log_of (n + 1) rest)
-first-line n line rest said few e = rw (lt-leb_false 1000000 n few) (ap (λ s. with_line (n + 1) s (log_of (n + 1) rest)) e)
-
-too-many : (n : ℕ) (line : List ℕ) (rest : List (List ℕ)) → 1000000 ≤ n → log_of n (line ∷ rest) ≡ faulty_log (record { line = n + 1; code = TooManyLines })
-too-many n line rest many = rw (le-leb 1000000 n many)
-
 -- lines whose records these are, in front of others
-log-before : (n : ℕ) (before rest : List (List ℕ)) (records : List Numbered) → n + length before ≤ 1000000 → AreRecords n before records
+pub log-before : (n : ℕ) (before rest : List (List ℕ)) (records : List Numbered) → n + length before ≤ 1000000 → AreRecords n before records
     → log_of n (before ++ rest) ≡ onto_all records (log_of (n + length before) rest)
 log-before n [] rest records few are =
     ap (λ (k : ℕ). log_of k rest) (sym (add-zero n)) ∙ ap (λ (l : List Numbered). onto_all l (log_of (n + 0) rest)) (sym are)
 log-before n (line ∷ before) rest [] few are =
-    first-line n line (before ++ rest) (Ok None) (omega arith) (judge-Says line (Ok None) are.0)
+    first-line n line (before ++ rest) (Ok None) (omega arith) (judge-IsJudged line (Ok None) are.0)
     ∙ log-before (n + 1) before rest [] (omega arith) are.1
     ∙ ap (λ (k : ℕ). onto_all [] (log_of k rest)) (omega arith)
 log-before n (line ∷ before) rest (r ∷ records) few (inl are) =
-    first-line n line (before ++ rest) (Ok None) (omega arith) (judge-Says line (Ok None) are.0)
+    first-line n line (before ++ rest) (Ok None) (omega arith) (judge-IsJudged line (Ok None) are.0)
     ∙ log-before (n + 1) before rest (r ∷ records) (omega arith) are.1
     ∙ ap (λ (k : ℕ). onto_all (r ∷ records) (log_of k rest)) (omega arith)
 log-before n (line ∷ before) rest (r ∷ records) few (inr are) =
-    first-line n line (before ++ rest) (Ok (Some r.capture)) (omega arith) (judge-Says line (Ok (Some r.capture)) are.1)
+    first-line n line (before ++ rest) (Ok (Some r.capture)) (omega arith) (judge-IsJudged line (Ok (Some r.capture)) are.1)
     ∙ ap (onto_log (record { line = n + 1; capture = r.capture })) (log-before (n + 1) before rest records (omega arith) are.2)
     ∙ ap (λ (k : ℕ). onto_log (record { line = n + 1; capture = r.capture }) (onto_all records (log_of k rest))) (omega arith)
     ∙ ap (λ (k : ℕ). onto_log (record { line = k; capture = r.capture }) (onto_all records (log_of (n + length (line ∷ before)) rest))) (sym are.0)
 
 -- a fault after lines that are good
-record Broken (n : ℕ) (lines : List (List ℕ)) (records : List Numbered) (e : LogError) : Type 0 where
-  before : List (List ℕ)
-  bad : List ℕ
-  after : List (List ℕ)
-  split : lines ≡ before ++ bad ∷ after
-  are_records : AreRecords n before records
-  number : e.line ≡ n + length before + 1
-  fault : IsFault (n + length before) bad e.code
+pub record FaultIn (n : ℕ) (lines : List (List ℕ)) (records : List Numbered) (e : LogError) : Type 0 where
+  pub before : List (List ℕ)
+  pub bad : List ℕ
+  pub after : List (List ℕ)
+  pub split : lines ≡ before ++ bad ∷ after
+  pub are_records : AreRecords n before records
+  pub number : e.line ≡ n + length before + 1
+  pub fault : IsFault (n + length before) bad e.code
 
-abbrev Tells : ℕ → List (List ℕ) → List Numbered → Option LogError → Type 0
-Tells n lines records None = AreRecords n lines records × (n + length lines ≤ 1000000)
-Tells n lines records (Some e) = Broken n lines records e
+-- the records of lines after n others, with no fault or with this one
+abbrev pub IsOutcome : ℕ → List (List ℕ) → List Numbered → Option LogError → Type 0
+IsOutcome n lines records None = AreRecords n lines records × (n + length lines ≤ 1000000)
+IsOutcome n lines records (Some e) = FaultIn n lines records e
 
 skip : (n : ℕ) (line : List ℕ) (lines : List (List ℕ)) (records : List Numbered) → IsSkipped line → AreRecords (n + 1) lines records → AreRecords n (line ∷ lines) records
 skip n line lines [] skipped are = (skipped, are)
@@ -71,9 +62,9 @@ skip n line lines (r ∷ records) skipped are = inl (skipped, are)
 fault-moved : (n m : ℕ) (line : List ℕ) (code : LogCode) → n ≡ m → IsFault n line code → IsFault m line code
 fault-moved n m line code e h = subst (λ (k : ℕ). IsFault k line code) e h
 
-later-broken : (n : ℕ) (line : List ℕ) (lines : List (List ℕ)) (records all : List Numbered) (e : LogError)
-    → ((before : List (List ℕ)) → AreRecords (n + 1) before records → AreRecords n (line ∷ before) all) → Broken (n + 1) lines records e → Broken n (line ∷ lines) all e
-later-broken n line lines records all e onto b = record {
+later-fault : (n : ℕ) (line : List ℕ) (lines : List (List ℕ)) (records all : List Numbered) (e : LogError)
+    → ((before : List (List ℕ)) → AreRecords (n + 1) before records → AreRecords n (line ∷ before) all) → FaultIn (n + 1) lines records e → FaultIn n (line ∷ lines) all e
+later-fault n line lines records all e onto b = record {
   before = line ∷ b.before;
   bad = b.bad;
   after = b.after;
@@ -83,17 +74,17 @@ later-broken n line lines records all e onto b = record {
   fault = fault-moved _ _ b.bad e.code (omega arith) b.fault;
 }
 
-tells-later : (n : ℕ) (line : List ℕ) (lines : List (List ℕ)) (records all : List Numbered) (f : Option LogError)
-    → ((before : List (List ℕ)) → AreRecords (n + 1) before records → AreRecords n (line ∷ before) all) → Tells (n + 1) lines records f → Tells n (line ∷ lines) all f
-tells-later n line lines records all None onto t = (onto lines t.0, omega (arith, t.1))
-tells-later n line lines records all (Some e) onto t = later-broken n line lines records all e onto t
+outcome-later : (n : ℕ) (line : List ℕ) (lines : List (List ℕ)) (records all : List Numbered) (f : Option LogError)
+    → ((before : List (List ℕ)) → AreRecords (n + 1) before records → AreRecords n (line ∷ before) all) → IsOutcome (n + 1) lines records f → IsOutcome n (line ∷ lines) all f
+outcome-later n line lines records all None onto t = (onto lines t.0, omega (arith, t.1))
+outcome-later n line lines records all (Some e) onto t = later-fault n line lines records all e onto t
 
-tells-line : (n : ℕ) (line : List ℕ) (lines : List (List ℕ)) (later : Log) (x : Result (Option Capture) LineCode) → n < 1000000 → Says line x → Tells (n + 1) lines later.records later.fault
-    → Tells n (line ∷ lines) (with_line (n + 1) x later).records (with_line (n + 1) x later).fault
-tells-line n line lines later (Ok None) few says t = tells-later n line lines later.records later.records later.fault (λ before are. skip n line before later.records says are) t
-tells-line n line lines later (Ok (Some capture)) few says t =
-    tells-later n line lines later.records (record { line = n + 1; capture = capture } ∷ later.records) later.fault (λ before are. inr (refl, says, are)) t
-tells-line n line lines later (Err code) few says t =
+outcome-line : (n : ℕ) (line : List ℕ) (lines : List (List ℕ)) (later : Log) (x : Result (Option Capture) LineCode) → n < 1000000 → IsJudged line x → IsOutcome (n + 1) lines later.records later.fault
+    → IsOutcome n (line ∷ lines) (with_line (n + 1) x later).records (with_line (n + 1) x later).fault
+outcome-line n line lines later (Ok None) few says t = outcome-later n line lines later.records later.records later.fault (λ before are. skip n line before later.records says are) t
+outcome-line n line lines later (Ok (Some capture)) few says t =
+    outcome-later n line lines later.records (record { line = n + 1; capture = capture } ∷ later.records) later.fault (λ before are. inr (refl, says, are)) t
+outcome-line n line lines later (Err code) few says t =
     record { before = []; bad = line; after = lines; split = refl; are_records = refl; number = omega arith; fault = bad (omega arith) code says refl }
 
 lt-of : (n : ℕ) → leb 1000000 n ≡ false → n < 1000000
@@ -102,18 +93,18 @@ lt-of n h = grind arith
 le-of : (n : ℕ) → leb 1000000 n ≡ true → 1000000 ≤ n
 le-of n h = grind arith
 
-tells-first : (n : ℕ) (line : List ℕ) (lines : List (List ℕ)) (x : Bool) → n ≤ 1000000 → leb 1000000 n ≡ x → (n < 1000000 → Tells (n + 1) lines (log_of (n + 1) lines).records (log_of (n + 1) lines).fault)
-    → let log = cond x (faulty_log (record { line = n + 1; code = TooManyLines })) (with_line (n + 1) (judge line) (log_of (n + 1) lines)) in Tells n (line ∷ lines) log.records log.fault
-tells-first n line lines true few e t =
+outcome-first : (n : ℕ) (line : List ℕ) (lines : List (List ℕ)) (x : Bool) → n ≤ 1000000 → leb 1000000 n ≡ x → (n < 1000000 → IsOutcome (n + 1) lines (log_of (n + 1) lines).records (log_of (n + 1) lines).fault)
+    → let log = cond x (faulty_log (record { line = n + 1; code = TooManyLines })) (with_line (n + 1) (judge line) (log_of (n + 1) lines)) in IsOutcome n (line ∷ lines) log.records log.fault
+outcome-first n line lines true few e t =
     let here : n + length {A = List ℕ} [] ≡ 1000000 = omega (arith, le-of n e) in
     record { before = []; bad = line; after = lines; split = refl; are_records = refl; number = omega arith; fault = too_many here refl }
-tells-first n line lines false few e t = tells-line n line lines (log_of (n + 1) lines) (judge line) (lt-of n e) (Says-judge line) (t (lt-of n e))
+outcome-first n line lines false few e t = outcome-line n line lines (log_of (n + 1) lines) (judge line) (lt-of n e) (IsJudged-judge line) (t (lt-of n e))
 
-tells : (n : ℕ) (lines : List (List ℕ)) → n ≤ 1000000 → Tells n lines (log_of n lines).records (log_of n lines).fault
-tells n [] few = (refl, omega arith)
-tells n (line ∷ lines) few = tells-first n line lines (leb 1000000 n) few refl (λ h. tells (n + 1) lines (omega arith))
+pub outcome : (n : ℕ) (lines : List (List ℕ)) → n ≤ 1000000 → IsOutcome n lines (log_of n lines).records (log_of n lines).fault
+outcome n [] few = (refl, omega arith)
+outcome n (line ∷ lines) few = outcome-first n line lines (leb 1000000 n) few refl (λ h. outcome (n + 1) lines (omega arith))
 
-some-log : (a b : Log) → ◌≡◌ {A = Option Log} (Some a) (Some b) → a ≡ b
+pub some-log : (a b : Log) → ◌≡◌ {A = Option Log} (Some a) (Some b) → a ≡ b
 some-log a b e = cc e
 
 pub log_in-LogText : (text : List ℕ) (records : List Numbered) → LogText text records → log_in (Some text) ≡ Some (record { records = records; fault = None })
@@ -126,34 +117,37 @@ log_in-LogText text records is =
 
 pub LogText-log_in : (text : List ℕ) (records : List Numbered) → log_in (Some text) ≡ Some (record { records = records; fault = None }) → LogText text records
 LogText-log_in text records e =
-    let told = subst (λ (log : Log). Tells 0 (lines_of text) log.records log.fault) (some-log _ _ e) (tells 0 (lines_of text) (omega arith)) in
+    let told = subst (λ (log : Log). IsOutcome 0 (lines_of text) log.records log.fault) (some-log _ _ e) (outcome 0 (lines_of text) (omega arith)) in
     record { lines = lines_of text; are_lines = AreLines-lines_of text; few = omega (arith, told.1); are_records = told.0 }
 
 fault-log : (n : ℕ) (line : List ℕ) (rest : List (List ℕ)) (code : LogCode) → IsFault n line code → log_of n (line ∷ rest) ≡ faulty_log (record { line = n + 1; code = code })
 fault-log n line rest code (too_many here what) = too-many n line rest (omega (arith, here)) ∙ ap (λ (c : LogCode). faulty_log (record { line = n + 1; code = c })) (sym what)
 fault-log n line rest code (bad few c is what) =
-    first-line n line rest (Err c) few (judge-Says line (Err c) is) ∙ ap (λ (d : LogCode). faulty_log (record { line = n + 1; code = d })) (sym what)
+    first-line n line rest (Err c) few (judge-IsJudged line (Err c) is) ∙ ap (λ (d : LogCode). faulty_log (record { line = n + 1; code = d })) (sym what)
 
 fault-few : (n : ℕ) (line : List ℕ) (code : LogCode) → IsFault n line code → n ≤ 1000000
 fault-few n line code (too_many here what) = omega (arith, here)
 fault-few n line code (bad few c is what) = omega (arith, few)
 
+-- a fault after lines that are good ends the log
+pub log-fault : (n : ℕ) (before : List (List ℕ)) (line : List ℕ) (after : List (List ℕ)) (records : List Numbered) (e : LogError) → AreRecords n before records → e.line ≡ n + length before + 1
+    → IsFault (n + length before) line e.code → log_of n (before ++ line ∷ after) ≡ record { records = records; fault = Some e }
+log-fault n before line after records e are number fault =
+    log-before n before (line ∷ after) records (fault-few (n + length before) line e.code fault) are
+    ∙ ap (onto_all records) (fault-log (n + length before) line after e.code fault)
+    ∙ ap (λ (l : List Numbered). record { records = l; fault = Some (record { line = n + length before + 1; code = e.code }) }) (append-nil records)
+    ∙ ap (λ (k : ℕ). record { records = records; fault = Some (record { line = k; code = e.code }) }) (sym number)
+
 pub log_in-LogFault : (text : List ℕ) (records : List Numbered) (e : LogError) → LogFault text records e.line e.code → log_in (Some text) ≡ Some (record { records = records; fault = Some e })
 log_in-LogFault text records e is =
-    let lines = lines_of-AreLines text (is.before ++ is.bad ∷ is.after) is.are_lines in
-    let few : 0 + length is.before ≤ 1000000 = omega (arith, fault-few (length is.before) is.bad e.code is.fault) in
-    let number : 0 + length is.before + 1 ≡ e.line = omega (arith, is.number) in
     let here : IsFault (0 + length is.before) is.bad e.code = fault-moved (length is.before) (0 + length is.before) is.bad e.code (omega arith) is.fault in
     ap Some
-    (ap (log_of 0) lines
-    ∙ log-before 0 is.before (is.bad ∷ is.after) records few is.are_records
-    ∙ ap (onto_all records) (fault-log (0 + length is.before) is.bad is.after e.code here)
-    ∙ ap (λ (l : List Numbered). record { records = l; fault = Some (record { line = 0 + length is.before + 1; code = e.code }) }) (append-nil records)
-    ∙ ap (λ (k : ℕ). record { records = records; fault = Some (record { line = k; code = e.code }) }) number)
+    (ap (log_of 0) (lines_of-AreLines text (is.before ++ is.bad ∷ is.after) is.are_lines)
+    ∙ log-fault 0 is.before is.bad is.after records e is.are_records (is.number ∙ omega arith) here)
 
 pub LogFault-log_in : (text : List ℕ) (records : List Numbered) (e : LogError) → log_in (Some text) ≡ Some (record { records = records; fault = Some e }) → LogFault text records e.line e.code
 LogFault-log_in text records e is =
-    let told = subst (λ (log : Log). Tells 0 (lines_of text) log.records log.fault) (some-log _ _ is) (tells 0 (lines_of text) (omega arith)) in
+    let told = subst (λ (log : Log). IsOutcome 0 (lines_of text) log.records log.fault) (some-log _ _ is) (outcome 0 (lines_of text) (omega arith)) in
     record {
       before = told.before;
       bad = told.bad;

@@ -1,12 +1,12 @@
 -- What taking a line does to the log to come.
 use Rattle.std.proofs.Common.{◌≡◌, ◌+◌, ◌≤◌, ◌<◌, ℕ, List, ◌∷◌, length, Option, Some, None, Result, Ok, Err, refl, sym, ap, ◌∙◌, arith, subst, Bool, true, false}
-use Rattle.std.proofs.Math.Dec.{leb}
-use Rattle.std.proofs.lemmas.Bool.{le-leb}
 use Rattle.std.specs.Io.KnownBytes.{Keeps}
 use Rattle.rip_log.specs.Codes.{log_code, is_read}
 use Rattle.rip_log.specs.Cuts.{FirstLine, LongFirst, HasLine}
 use Rattle.rip_log.specs.Lines.{Capture, lines_of, judge}
 use Rattle.rip_log.specs.Logs.{Log, log_of, log_at, with_line, faulty_log, onto_log, Gives, SameLog, Whether}
+use Rattle.rip_log.proofs.JudgeLemmas.{judge-long}
+use Rattle.rip_log.proofs.LogLemmas.{first-line, too-many}
 use Rattle.rip_log.specs.declared.line.LineCode.{LineCode}
 use Rattle.rip_log.specs.declared.line.LineCode.TheVariants as codes
 use Rattle.rip_log.specs.declared.error.LogCode.{LogCode}
@@ -26,20 +26,6 @@ pub SameLog-kept : (t mid : Option (List ℕ)) (n : ℕ) → Keeps t mid → Sam
 SameLog-kept None mid n keeps = tt
 SameLog-kept (Some t) None n keeps = absurd keeps
 SameLog-kept (Some t) (Some m) n keeps = ap (λ (l : List ℕ). Some (log_of n (lines_of l))) keeps
-
-lt-leb_false : (a b : ℕ) → b < a → leb a b ≡ false
-lt-leb_false a b h = grind arith
-
--- the first of several lines
-first-line : (n : ℕ) (line : List ℕ) (rest : List (List ℕ)) (said : Result (Option Capture) LineCode) → n < 1000000 → judge line ≡ said
-    → log_of n (line ∷ rest) ≡ with_line (n + 1) said (log_of (n + 1) rest)
-first-line n line rest said few e = rw (lt-leb_false 1000000 n few) (ap (λ s. with_line (n + 1) s (log_of (n + 1) rest)) e)
-
-too-many : (n : ℕ) (line : List ℕ) (rest : List (List ℕ)) → 1000000 ≤ n → log_of n (line ∷ rest) ≡ faulty_log (record { line = n + 1; code = TooManyLines })
-too-many n line rest many = rw (le-leb 1000000 n many)
-
-judge-long : (line : List ℕ) → 2048 < length line → judge line ≡ Err codes.LongLine
-judge-long line long = grind arith
 
 is_read-log_code : (c : LineCode) → is_read (log_code c) ≡ false
 is_read-log_code codes.LongLine = refl

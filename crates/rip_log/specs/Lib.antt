@@ -7,12 +7,10 @@ pub mod Leaves
 pub mod Lines
 pub mod LogText
 pub mod Logs
-pub mod MarkLemmas
 pub mod Marks
 pub mod Parts
 pub mod Places
 pub mod Reader
 pub mod Readers
 pub mod Runs
-pub mod Says
 pub mod Writers

@@ -1,5 +1,5 @@
 -- What the text of a log is, in the words of its format.
-use Rattle.std.specs.Prelude.{◌≡◌, ◌≢◌, ◌⊎◌, ℕ, ◌+◌, ◌<◌, ◌≤◌, ◌^◌, List, [], ◌∷◌, ◌++◌, length, Ok, ⊤}
+use Rattle.std.specs.Prelude.{◌≡◌, ◌≢◌, ◌⊎◌, ℕ, ◌+◌, ◌<◌, ◌≤◌, ◌^◌, List, [], ◌∷◌, ◌++◌, length, Option, Some, None, Result, Ok, Err, ⊤}
 use Rattle.std.specs.List.{AllByRecursion}
 use Rattle.hex.specs.Hex.{decode_of}
 use Rattle.rip_wire.specs.Address.{address_text}
@@ -129,6 +129,12 @@ IsBad line Hex = (link digits : List ℕ) × (address : ℕ) × HasSender line l
 IsBad line LongDatagram = (link digits bytes : List ℕ) × (address : ℕ) × HasSender line link digits address × (decode_of digits ≡ Ok bytes) × (504 < length bytes)
 IsBad line (Wire e) = (link digits bytes : List ℕ) × (address : ℕ) × HasSender line link digits address × (decode_of digits ≡ Ok bytes) × (length bytes ≤ 504) × WireFault bytes e.code e.at
 
+-- a line is judged: it is skipped, or is a record, or is bad
+abbrev pub IsJudged : List ℕ → Result (Option Capture) LineCode → Type 0
+IsJudged line (Ok None) = IsSkipped line
+IsJudged line (Ok (Some capture)) = IsRecord line capture
+IsJudged line (Err code) = IsBad line code
+
 -- the records of lines, of which n others come before: of each that is not skipped, in order
 abbrev pub AreRecords : ℕ → List (List ℕ) → List Numbered → Type 0
 AreRecords n [] records = records ≡ []
@@ -157,3 +163,12 @@ pub record LogFault (text : List ℕ) (records : List Numbered) (line : ℕ) (co
   pub are_records : AreRecords 0 before records
   pub number : line ≡ length before + 1
   pub fault : IsFault (length before) bad code
+
+-- a log whose source failed while this line was read, this text being still to come; the records are those of the lines before it
+pub record LogCut (text left : List ℕ) (records : List Numbered) (line : ℕ) : Type 0 where
+  pub before : List (List ℕ)
+  pub after : List (List ℕ)
+  pub are_lines : AreLines text (before ++ after)
+  pub to_come : AreLines left after
+  pub are_records : AreRecords 0 before records
+  pub number : line ≡ length before + 1

@@ -1,5 +1,6 @@
 -- What a source over a reader has come to.
-use Rattle.std.specs.Prelude.{Bool, true, false, ℕ, List, [], Option, Some}
+use Rattle.std.specs.Prelude.{◌≡◌, Bool, true, false, ℕ, List, [], Option, Some, refl}
+use Rattle.std.specs.Io.KnownBytes.{IsAtEnd}
 use Rattle.rip_log.specs.declared.source.Mark.{Mark}
 use Rattle.rip_log.specs.declared.source.Mark.TheVariants.{Open, Ended, Broken}
 
@@ -20,3 +21,9 @@ abbrev pub left_at : Mark → Option (List ℕ) → Option (List ℕ)
 left_at Open left = left
 left_at Ended left = Some []
 left_at Broken left = left
+
+-- at the end nothing is left
+pub nothing_left : (m : Mark) (left : Option (List ℕ)) → is_ended m ≡ true → IsAtEnd (left_at m left)
+nothing_left Open left h = cc h
+nothing_left Ended left h = refl
+nothing_left Broken left h = cc h

@@ -1,20 +1,37 @@
 //! Laws of the definitions alone: functions without a body, whose contracts hold of every text and
 //! every log.
 
-ghost use Rattle.std.specs.Prelude.{◌≡◌, ◌↔◌, ℕ, List, [], ◌∷◌, ◌++◌, Option, Some, None, Ok, Err, false};
+ghost use Rattle.std.specs.Prelude.{◌≡◌, ◌⊎◌, ◌↔◌, ◌+◌, ◌≤◌, ℕ, List, [], ◌∷◌, ◌++◌, length, Option, Some, None, Result, Ok, Err, false, true};
 ghost use Rattle.rip_log.specs.Codes.{is_read};
+ghost use Rattle.rip_log.specs.Cuts.{PassesLines};
 ghost use Rattle.rip_log.specs.Leaves.{capture_of, line_of};
-ghost use Rattle.rip_log.specs.Logs.{Gives, Log, Numbered, log_in};
-ghost use Rattle.rip_log.specs.LogText.{LogFault, LogText};
+ghost use Rattle.rip_log.specs.Lines.{Capture, judge};
+ghost use Rattle.rip_log.specs.Logs.{Gives, Log, Numbered, log_at, log_in};
+ghost use Rattle.rip_log.specs.LogText.{AreLines, IsJudged, LogCut, LogFault, LogText};
 ghost use Rattle.rip_log.specs.Runs.{IsTaken, numbered};
+ghost use Rattle.rip_log.specs.declared.error.LogCode.{LogCode};
 ghost use Rattle.rip_log.specs.declared.error.LogError.{LogError};
+ghost use Rattle.rip_log.specs.declared.line.LineCode.{LineCode};
 ghost use Rattle.rip_log.specs.declared.reader.Record.{Record};
+
+/// What is computed of a line is what the words of the format say: it is skipped, or is a record, or
+/// is bad by the first of its faults.
+pub fn judged_lines()
+    ensures { (line : List ℕ) (judged : Result (Option Capture) LineCode) → (judge line ≡ judged) ↔ IsJudged line judged }
+{}
 
 /// What a reader has to come at the front of a text is what the words of the format say: its
 /// records, and its first fault.
 pub fn log_texts()
     ensures text { (text : List ℕ) (records : List Numbered) → (log_in (Some text) ≡ Some (record { records = records; fault = None })) ↔ LogText text records }
     ensures fault { (text : List ℕ) (records : List Numbered) (e : LogError) → (log_in (Some text) ≡ Some (record { records = records; fault = Some e })) ↔ LogFault text records e.line e.code }
+{}
+
+/// A line's fault is the same whatever follows the line, and that of a line that is too long, or one
+/// too many, whatever else follows.
+pub fn early_faults()
+    ensures ended { (text more others : List ℕ) (lines : List (List ℕ)) (records : List Numbered) (line : ℕ) (code : LogCode) → AreLines (text ++ 10 ∷ []) lines → line ≤ length lines → LogFault (text ++ 10 ∷ more) records line code → LogFault (text ++ 10 ∷ others) records line code }
+    ensures at_once { (text more : List ℕ) (records : List Numbered) (line : ℕ) (code : LogCode) → (code ≡ LogCode.LongLine) ⊎ (code ≡ LogCode.TooManyLines) → LogFault text records line code → LogFault (text ++ more) records line code }
 {}
 
 /// The records of a whole run: from the front of a log each call adds its record to those that were
@@ -24,4 +41,13 @@ pub fn whole_runs()
     ensures more { (taken : List Numbered) (log rest : Log) (new : Option Log) (r : Record) → IsTaken taken log rest → Gives capture_of line_of (Some rest) new (Ok (Some r)) → (later : Log) × (new ≡ Some later) × IsTaken (taken ++ numbered r ∷ []) log later }
     ensures end { (taken : List Numbered) (log rest : Log) (new : Option Log) → IsTaken taken log rest → Gives capture_of line_of (Some rest) new (Ok None) → log ≡ record { records = taken; fault = None } }
     ensures fault { (taken : List Numbered) (log rest : Log) (new : Option Log) (e : LogError) → IsTaken taken log rest → is_read e.code ≡ false → Gives capture_of line_of (Some rest) new (Err e) → log ≡ record { records = taken; fault = Some e } }
+{}
+
+/// The lines of a whole run: from the front of a text each call adds those that it passed, and where
+/// the source fails, the records that were taken are those of these lines, and the line that was
+/// being read is the next.
+pub fn lines_of_runs()
+    ensures none { (text : List ℕ) → PassesLines (Some text) 0 (Some text) 0 }
+    ensures more { (text left new : Option (List ℕ)) (n behind after : ℕ) → PassesLines text n left behind → PassesLines left behind new after → PassesLines text n new after }
+    ensures read { (text left : List ℕ) (taken : List Numbered) (log rest : Log) (n : ℕ) (e : LogError) → log_in (Some text) ≡ Some log → IsTaken taken log rest → is_read e.code ≡ true → Gives capture_of line_of (Some rest) (log_at n (Some left)) (Err e) → PassesLines (Some text) 0 (Some left) n → n ≤ 1000000 → LogCut text left taken (n + 1) }
 {}

@@ -85,7 +85,7 @@ impl<R: Read> FromRead<R> {
 
 impl<R: Read> Source for FromRead<R> {
     ghost use Rattle.rip_log.specs.Readers.{has_ended, has_failed, left_of};
-    ghost use Rattle.rip_log.specs.MarkLemmas.{IsAtEnd-left_at};
+    ghost use Rattle.rip_log.specs.Marks.{nothing_left};
 
     ghost coming = { left_of R.remaining };
 
@@ -93,7 +93,7 @@ impl<R: Read> Source for FromRead<R> {
 
     ghost at_end = { has_ended };
 
-    ghost nothing_left = { λ s. IsAtEnd-left_at s.mark (R.remaining s.reader) };
+    ghost nothing_left = { λ s. nothing_left s.mark (R.remaining s.reader) };
 
     fn pull(&mut self, buffer: &mut [u8]) -> Result<usize, Failed> {
         match self.mark {
