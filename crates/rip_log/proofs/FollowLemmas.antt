@@ -105,6 +105,9 @@ onto-long : (b : ℕ) (lines : List (List ℕ)) → Longer (onto b lines) [] (b 
 onto-long b [] = record { whole = b ∷ []; after = []; split = refl; long = omega arith }
 onto-long b (line ∷ lines) = record { whole = b ∷ line; after = lines; split = refl; long = omega arith }
 
+first-same : {line first : List ℕ} {lines rest : List (List ℕ)} → line ∷ lines ≡ first ∷ rest → line ≡ first
+first-same e = cc e
+
 longer-other : (b : ℕ) (all lines before : List (List ℕ)) (line : List ℕ) (after : List (List ℕ)) → onto b lines ≡ before ++ line ∷ after
     → ((front : List (List ℕ)) (l : List ℕ) (rest : List (List ℕ)) → lines ≡ front ++ l ∷ rest → Longer all front l) → Longer (onto b all) before line
 longer-other b all [] [] line after e rest =
@@ -114,13 +117,13 @@ longer-other b all [] (first ∷ []) line after e rest = absurd (cc e)
 longer-other b all [] (first ∷ second ∷ before) line after e rest = absurd (cc e)
 longer-other b all (l ∷ lines) [] line after e rest =
     let found = rest [] l lines refl in
-    let same : b ∷ l ≡ line = cc e in
-    record { whole = b ∷ found.whole; after = found.after; split = ap (onto b) found.split; long = omega (arith, found.long, ap length (sym same)) }
+    let size : length line ≡ length l + 1 = ap length (sym (first-same e)) ∙ omega arith in
+    record { whole = b ∷ found.whole; after = found.after; split = ap (onto b) found.split; long = omega (arith, found.long, size) }
 longer-other b all (l ∷ lines) (first ∷ before) line after e rest =
     let tail : lines ≡ before ++ line ∷ after = cc e in
     let found = rest (l ∷ before) line after (ap (λ (m : List (List ℕ)). l ∷ m) tail) in
-    let same : b ∷ l ≡ first = cc e in
-    record { whole = found.whole; after = found.after; split = ap (onto b) found.split ∙ ap (λ (m : List ℕ). m ∷ (before ++ found.whole ∷ found.after)) same; long = found.long }
+    let rest : List (List ℕ) = before ++ found.whole ∷ found.after in
+    record { whole = found.whole; after = found.after; split = ap (onto b) found.split ∙ ap (λ (m : List ℕ). m ∷ rest) (first-same e); long = found.long }
 
 longer-byte : (b : ℕ) (x : Bool) (text more : List ℕ) (before : List (List ℕ)) (line : List ℕ) (after : List (List ℕ)) → cond x ([] ∷ lines_of text) (onto b (lines_of text)) ≡ before ++ line ∷ after
     → ((front : List (List ℕ)) (l : List ℕ) (rest : List (List ℕ)) → lines_of text ≡ front ++ l ∷ rest → Longer (lines_of (text ++ more)) front l)
