@@ -1,7 +1,10 @@
 -- A run of bytes that are no blanks is a field.
-use Rattle.std.proofs.Common.{◌≡◌, ◌+◌, ◌-◌, ◌≤◌, ◌<◌, ℕ, zero, suc, true, false, List, [], ◌∷◌, length, take, drop, get_or, refl, ap, ◌∙◌, arith, slice_range, ◌==◌, eq-eqb}
+use Rattle.std.proofs.Common.{◌≡◌, ◌+◌, ◌-◌, ◌≤◌, ◌<◌, ℕ, zero, suc, Bool, true, false, List, [], ◌∷◌, length, take, drop, get_or, refl, sym, ap, ◌∙◌, arith, inl, inr, slice_range, ◌==◌, eq-eqb}
+use Rattle.std.proofs.lemmas.Bool.{cases_lt}
 use Rattle.std.proofs.lemmas.List.{get_or-drop, drop-drop, length-drop, drop_more}
+use Rattle.memchr.specs.Find.{Nowhere, NoneBefore, Passes, is_byte2}
 use Rattle.rip_log.specs.Fields.{fields_of, is_blank, ends_field, onto, is_comment}
+use Rattle.rip_log.proofs.HeldLemmas.{at-drop}
 
 fields_of-blank : (b : ℕ) (bytes : List ℕ) → is_blank b ≡ true → fields_of (b ∷ bytes) ≡ fields_of bytes
 fields_of-blank b bytes h = rw h
@@ -40,6 +43,38 @@ fields_of-at line from at some within run stops =
     fields_of-run (drop from line) n (omega (arith, length-drop from line)) here (rw rest (ends_field-at line at stops))
     ∙ ap (λ k. take k (drop from line) ∷ fields_of (drop (suc n) (drop from line))) count
     ∙ ap (λ l. slice_range line from at ∷ fields_of l) rest
+
+no-true : (b : Bool) → (b ≡ true → ⊥) → b ≡ false
+no-true true h = absurd (h refl)
+no-true false h = refl
+
+-- what follows a byte that is no blank, as far as a search finds none
+run-on : (line hay : List ℕ) (from at : ℕ) → hay ≡ drop (from + 1) line → is_blank (get_or line from 0) ≡ false → Nowhere (Passes (is_byte2 32 9) hay) 0 (at - (from + 1))
+    → (k : ℕ) → from ≤ k → k < at → is_blank (get_or line k 0) ≡ false
+run-on line hay from at is here nowhere k low high =
+    elim (cases_lt from k) [
+      | inl h ↦
+          no-true (is_blank (get_or line k 0))
+          (λ e. nowhere (k - (from + 1)) (omega arith) (omega arith) (ap is_blank (at-drop line hay (from + 1) k is (omega arith)) ∙ e))
+      | inr h ↦ ap (λ i. is_blank (get_or line i 0)) {x = k} {y = from} (omega arith) ∙ here
+    ]
+
+-- a search behind the first byte of a field finds the blank that ends it
+pub field-to_blank : (line hay : List ℕ) (from found : ℕ) → hay ≡ drop (from + 1) line → from < length line → is_blank (get_or line from 0) ≡ false
+    → NoneBefore (Passes (is_byte2 32 9) hay) 0 (length hay) found → Passes (is_byte2 32 9) hay found
+    → fields_of (drop from line) ≡ slice_range line from (from + 1 + found) ∷ fields_of (drop (from + 1 + found) line)
+field-to_blank line hay from found is inside here none passes =
+    fields_of-at line from (from + 1 + found) (omega arith) (omega (arith, none.high, ap length is, length-drop (from + 1) line))
+    (run-on line hay from (from + 1 + found) is here (λ k low high. none.before k low (omega (arith, high))))
+    (λ h. ap is_blank (sym (ap (λ l. get_or l found 0) is ∙ get_or-drop (from + 1) line found 0)) ∙ passes)
+
+-- or none, where the line ends it
+pub field-to_end : (line hay : List ℕ) (from : ℕ) → hay ≡ drop (from + 1) line → from < length line → is_blank (get_or line from 0) ≡ false → Nowhere (Passes (is_byte2 32 9) hay) 0 (length hay)
+    → fields_of (drop from line) ≡ slice_range line from (length line) ∷ fields_of (drop (length line) line)
+field-to_end line hay from is inside here nowhere =
+    fields_of-at line from (length line) inside (omega arith)
+    (run-on line hay from (length line) is here (λ k low high. nowhere k low (omega (arith, high, ap length is, length-drop (from + 1) line))))
+    (λ h. absurd (omega (arith, h)))
 
 -- a part of a line begins with its first byte
 pub is_comment-range : (line : List ℕ) (fields rest : List (List ℕ)) (start end : ℕ) → fields ≡ slice_range line start end ∷ rest → start < end → end ≤ length line → is_comment fields ≡ (get_or line start 0 == 35)

@@ -108,6 +108,17 @@ onto-long b (line ∷ lines) = record { whole = b ∷ line; after = lines; split
 first-same : {line first : List ℕ} {lines rest : List (List ℕ)} → line ∷ lines ≡ first ∷ rest → line ≡ first
 first-same e = cc e
 
+rest-same : {line first : List ℕ} {lines rest : List (List ℕ)} → line ∷ lines ≡ first ∷ rest → lines ≡ rest
+rest-same e = cc e
+
+behind-first : (b : ℕ) (l first : List ℕ) (before all : List (List ℕ)) (line : List ℕ) → b ∷ l ≡ first → Longer all (l ∷ before) line → Longer (onto b all) (first ∷ before) line
+behind-first b l first before all line same found = record {
+  whole = found.whole;
+  after = found.after;
+  split = ap (onto b) found.split ∙ ap (λ (m : List ℕ). m ∷ (before ++ found.whole ∷ found.after)) same;
+  long = found.long;
+}
+
 longer-other : (b : ℕ) (all lines before : List (List ℕ)) (line : List ℕ) (after : List (List ℕ)) → onto b lines ≡ before ++ line ∷ after
     → ((front : List (List ℕ)) (l : List ℕ) (rest : List (List ℕ)) → lines ≡ front ++ l ∷ rest → Longer all front l) → Longer (onto b all) before line
 longer-other b all [] [] line after e rest =
@@ -117,13 +128,10 @@ longer-other b all [] (first ∷ []) line after e rest = absurd (cc e)
 longer-other b all [] (first ∷ second ∷ before) line after e rest = absurd (cc e)
 longer-other b all (l ∷ lines) [] line after e rest =
     let found = rest [] l lines refl in
-    let size : length line ≡ length l + 1 = ap length (sym (first-same e)) ∙ omega arith in
+    let size : length line ≡ length l + 1 = ap length {y = b ∷ l} (sym (first-same e)) ∙ omega arith in
     record { whole = b ∷ found.whole; after = found.after; split = ap (onto b) found.split; long = omega (arith, found.long, size) }
 longer-other b all (l ∷ lines) (first ∷ before) line after e rest =
-    let tail : lines ≡ before ++ line ∷ after = cc e in
-    let found = rest (l ∷ before) line after (ap (λ (m : List (List ℕ)). l ∷ m) tail) in
-    let rest : List (List ℕ) = before ++ found.whole ∷ found.after in
-    record { whole = found.whole; after = found.after; split = ap (onto b) found.split ∙ ap (λ (m : List ℕ). m ∷ rest) (first-same e); long = found.long }
+    behind-first b l first before all line (first-same e) (rest (l ∷ before) line after (ap (λ (m : List (List ℕ)). l ∷ m) (rest-same e)))
 
 longer-byte : (b : ℕ) (x : Bool) (text more : List ℕ) (before : List (List ℕ)) (line : List ℕ) (after : List (List ℕ)) → cond x ([] ∷ lines_of text) (onto b (lines_of text)) ≡ before ++ line ∷ after
     → ((front : List (List ℕ)) (l : List ℕ) (rest : List (List ℕ)) → lines_of text ≡ front ++ l ∷ rest → Longer (lines_of (text ++ more)) front l)

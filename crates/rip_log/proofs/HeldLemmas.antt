@@ -24,7 +24,7 @@ held-more old new start end n zero front =
     rw (zero, between_from_start new (end + n), between_from_start old end, ← front) (take-add new end n)
 
 -- the byte of what follows the first n, at k, is that of the whole at n + k
-at-drop : (xs hay : List ℕ) (seen k : ℕ) → hay ≡ drop seen xs → seen ≤ k → get_or hay (k - seen) 0 ≡ get_or xs k 0
+pub at-drop : (xs hay : List ℕ) (seen k : ℕ) → hay ≡ drop seen xs → seen ≤ k → get_or hay (k - seen) 0 ≡ get_or xs k 0
 at-drop xs hay seen k e h =
     rw e (get_or-drop seen xs (k - seen) 0 ∙ ap (λ i. get_or xs i 0) (omega arith))
 

@@ -3,6 +3,8 @@
 ghost use Rattle.std.specs.Prelude.{◌≡◌, ◌≤◌, ◌<◌, [], ◌∷◌, false, length, drop, MatchOption, slice_range, slice_index};
 ghost use Rattle.rip_log.specs.Fields.{is_blank, fields_of, NextField, IsSplit};
 
+use memchr::memchr2;
+
 /// The fields of a line, where they lie.
 #[derive(Clone, Copy)]
 pub enum Fields {
@@ -42,11 +44,10 @@ fn skip_field(line: &[u8], from: usize) -> usize
     ensures within { result ≤ length line.now }
     ensures split { fields_of (drop from line.now) ≡ slice_range line.now from result ∷ fields_of (drop result line.now) }
 {
-    let mut at = from + 1;
-    while at < line.len() && !is_blank(line[at]) {
-        at += 1;
+    match memchr2(b' ', b'\t', &line[from + 1..]) {
+        Some(count) => from + 1 + count,
+        None => line.len(),
     }
-    at
 }
 
 /// The next field from `from`, as the places where it begins and ends.

@@ -1,13 +1,13 @@
-use Rattle.std.proofs.Common.{arith, sym, ◌∙◌}
-use Rattle.rip_log.proofs.FieldLemmas.{fields_of-at}
+use Rattle.std.proofs.Common.{◌+◌}
+use Rattle.std.proofs.lemmas.List.{take_rest}
+use Rattle.rip_log.proofs.FieldLemmas.{field-to_blank, field-to_end}
 use Rattle.rip_log.proofs.fields.skip_field.Goals as goal
 
-pub returns-else-not-is_blank-clause-split : goal.returns-else-not-is_blank-clause-split
-returns-else-not-is_blank-clause-split c =
-    let i = c.loop-at.invariant in
-    fields_of-at c.args.line.now c.args.from c.loop-at.at i.after i.within i.run (λ h. sym c.is_blank.ensures ∙ c.if-not-is_blank.false)
+pub returns-in-Some-clause-split : goal.returns-in-Some-clause-split
+returns-in-Some-clause-split c =
+    field-to_blank _ _ c.args.from c.in-Some.count (take_rest c.args.line.now (c.args.from + 1))
+    c.requires.inside c.requires.field c.in-Some.ensures.0 c.in-Some.ensures.1
 
-pub returns-after-loop-at-clause-split : goal.returns-after-loop-at-clause-split
-returns-after-loop-at-clause-split c =
-    let i = c.loop-at.invariant in
-    fields_of-at c.args.line.now c.args.from c.loop-at.at i.after i.within i.run (λ h. absurd (omega (arith, h, c.loop-at-test.false)))
+pub returns-in-None-clause-split : goal.returns-in-None-clause-split
+returns-in-None-clause-split c =
+    field-to_end _ _ c.args.from (take_rest c.args.line.now (c.args.from + 1)) c.requires.inside c.requires.field c.in-None.ensures
