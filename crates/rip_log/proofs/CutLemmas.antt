@@ -49,9 +49,9 @@ last-cut (Some t) None xs rest empty some end keeps none = absurd keeps
 last-cut (Some t) (Some ys) xs rest empty some end keeps none =
     ap lines_of (sym keeps ∙ ap (λ l. xs ++ l) end ∙ append-nil xs) ∙ last-of xs none some ∙ ap (λ l. xs ∷ lines_of l) (sym (ap (λ l. l ++ ys) empty ∙ end))
 
-long-of : (xs ys : List ℕ) → NoFeedBelow xs (length xs) → length xs ≡ 2049 → (line : List ℕ) × (rest : List (List ℕ)) × (2048 < length line) × (lines_of (xs ++ ys) ≡ line ∷ rest)
-long-of [] ys none long = absurd (omega arith)
-long-of (b ∷ xs) ys none long =
+long-front_of : (xs ys : List ℕ) → NoFeedBelow xs (length xs) → length xs ≡ 2049 → (line : List ℕ) × (rest : List (List ℕ)) × (2048 < length line) × (lines_of (xs ++ ys) ≡ line ∷ rest)
+long-front_of [] ys none long = absurd (omega arith)
+long-front_of (b ∷ xs) ys none long =
     let first = lines_of-front b xs ys none in
     ((b ∷ xs) ++ first.0, first.1, omega (arith, long, length-append (b ∷ xs) first.0), first.2)
 
@@ -63,7 +63,7 @@ no-feed-front xs n within none k inside feed =
 
 long-front : (xs ys : List ℕ) → NoFeedBelow xs 2049 → 2049 ≤ length xs → (line : List ℕ) × (rest : List (List ℕ)) × (2048 < length line) × (lines_of (xs ++ ys) ≡ line ∷ rest)
 long-front xs ys none long =
-    let found = long-of (take 2049 xs) (drop 2049 xs ++ ys) (no-feed-front xs 2049 long none) (length-take 2049 xs ∙ omega arith) in
+    let found = long-front_of (take 2049 xs) (drop 2049 xs ++ ys) (no-feed-front xs 2049 long none) (length-take 2049 xs ∙ omega arith) in
     let split : xs ++ ys ≡ take 2049 xs ++ (drop 2049 xs ++ ys) = ap (λ l. l ++ ys) (sym (take-append-drop 2049 xs)) ∙ append_assoc (take 2049 xs) (drop 2049 xs) ys in
     (found.0, found.1, found.2, ap lines_of split ∙ found.3)
 
@@ -107,12 +107,12 @@ count-none xs (suc n) count e = absurd (grind arith)
 count-some : (n : ℕ) → nat_lt 0 n ≡ true → 0 < n
 count-some n e = grind arith
 
-choose : (xs : List ℕ) (left : Option (List ℕ)) (n : ℕ) (b : Bool) → length xs ≡ n → (n ≡ 0 → IsAtEnd left) → nat_lt 0 n ≡ b → HasLine (prepend_known xs left) b
-choose xs left n true count end e = HasLine-held xs left (omega (arith, count, count-some n e))
-choose xs left n false count end e =
+HasLine-by : (xs : List ℕ) (left : Option (List ℕ)) (n : ℕ) (b : Bool) → length xs ≡ n → (n ≡ 0 → IsAtEnd left) → nat_lt 0 n ≡ b → HasLine (prepend_known xs left) b
+HasLine-by xs left n true count end e = HasLine-held xs left (omega (arith, count, count-some n e))
+HasLine-by xs left n false count end e =
     let none = count-none xs n count e in
     HasLine-none xs left none.0 (end none.1)
 
 -- where as many bytes came as are held, there is a line exactly where some did
 pub HasLine-count : (xs : List ℕ) (left : Option (List ℕ)) (n : ℕ) → length xs ≡ n → (n ≡ 0 → IsAtEnd left) → HasLine (prepend_known xs left) (nat_lt 0 n)
-HasLine-count xs left n count end = choose xs left n (nat_lt 0 n) count end refl
+HasLine-count xs left n count end = HasLine-by xs left n (nat_lt 0 n) count end refl

@@ -71,39 +71,39 @@ run : (b : ℕ) (bytes : List ℕ) (fields : List (List ℕ)) (x : Bool) → end
 run b bytes fields true e is are = alone b bytes fields is (ends bytes e) are
 run b bytes fields false e is are = more b bytes fields is e are
 
-choose : (b : ℕ) (bytes : List ℕ) (fields : List (List ℕ)) (x : Bool) → is_blank b ≡ x → AreFields bytes fields
+AreFields-byte : (b : ℕ) (bytes : List ℕ) (fields : List (List ℕ)) (x : Bool) → is_blank b ≡ x → AreFields bytes fields
     → AreFields (b ∷ bytes) (cond x fields (cond (ends_field bytes) ((b ∷ []) ∷ fields) (onto b fields)))
-choose b bytes fields true e are = after-blank b bytes fields (blank b e) are
-choose b bytes fields false e are = run b bytes fields (ends_field bytes) refl (no-blank b e) are
+AreFields-byte b bytes fields true e are = after-blank b bytes fields (blank b e) are
+AreFields-byte b bytes fields false e are = run b bytes fields (ends_field bytes) refl (no-blank b e) are
 
 pub AreFields-fields_of : (bare : List ℕ) → AreFields bare (fields_of bare)
 AreFields-fields_of [] = tt
-AreFields-fields_of (b ∷ bytes) = choose b bytes (fields_of bytes) (is_blank b) refl (AreFields-fields_of bytes)
+AreFields-fields_of (b ∷ bytes) = AreFields-byte b bytes (fields_of bytes) (is_blank b) refl (AreFields-fields_of bytes)
 
-fields_of-blank : (b : ℕ) (bytes : List ℕ) → IsBlank b → fields_of (b ∷ bytes) ≡ fields_of bytes
-fields_of-blank b bytes h = rw (is_blank-yes b h)
+fields_of-skip : (b : ℕ) (bytes : List ℕ) → IsBlank b → fields_of (b ∷ bytes) ≡ fields_of bytes
+fields_of-skip b bytes h = rw (is_blank-yes b h)
 
 fields_of-blanks : (bytes : List ℕ) → AllByRecursion IsBlank bytes → fields_of bytes ≡ []
 fields_of-blanks [] h = refl
-fields_of-blanks (b ∷ bytes) h = fields_of-blank b bytes h.0 ∙ fields_of-blanks bytes h.1
+fields_of-blanks (b ∷ bytes) h = fields_of-skip b bytes h.0 ∙ fields_of-blanks bytes h.1
 
 fields_of-after : (before bytes : List ℕ) → AllByRecursion IsBlank before → fields_of (before ++ bytes) ≡ fields_of bytes
 fields_of-after [] bytes h = refl
-fields_of-after (b ∷ before) bytes h = fields_of-blank b (before ++ bytes) h.0 ∙ fields_of-after before bytes h.1
+fields_of-after (b ∷ before) bytes h = fields_of-skip b (before ++ bytes) h.0 ∙ fields_of-after before bytes h.1
 
 fields_of-one : (b : ℕ) (rest : List ℕ) → ¬ IsBlank b → EndsRun rest → fields_of (b ∷ rest) ≡ (b ∷ []) ∷ fields_of rest
 fields_of-one b rest h end = rw (is_blank-no b h, ends_field-yes rest end)
 
-fields_of-more : (b c : ℕ) (bytes : List ℕ) → ¬ IsBlank b → ¬ IsBlank c → fields_of (b ∷ c ∷ bytes) ≡ onto b (fields_of (c ∷ bytes))
-fields_of-more b c bytes h k = rw (is_blank-no b h, is_blank-no c k)
+fields_of-onto : (b c : ℕ) (bytes : List ℕ) → ¬ IsBlank b → ¬ IsBlank c → fields_of (b ∷ c ∷ bytes) ≡ onto b (fields_of (c ∷ bytes))
+fields_of-onto b c bytes h k = rw (is_blank-no b h, is_blank-no c k)
 
-fields_of-run : (b : ℕ) (field rest : List ℕ) → AllByRecursion (λ b. ¬ IsBlank b) (b ∷ field) → EndsRun rest → fields_of ((b ∷ field) ++ rest) ≡ (b ∷ field) ∷ fields_of rest
-fields_of-run b [] rest h end = fields_of-one b rest h.0 end
-fields_of-run b (c ∷ field) rest h end = fields_of-more b c (field ++ rest) h.0 h.1.0 ∙ ap (onto b) (fields_of-run c field rest h.1 end)
+fields_of-whole : (b : ℕ) (field rest : List ℕ) → AllByRecursion (λ b. ¬ IsBlank b) (b ∷ field) → EndsRun rest → fields_of ((b ∷ field) ++ rest) ≡ (b ∷ field) ∷ fields_of rest
+fields_of-whole b [] rest h end = fields_of-one b rest h.0 end
+fields_of-whole b (c ∷ field) rest h end = fields_of-onto b c (field ++ rest) h.0 h.1.0 ∙ ap (onto b) (fields_of-whole c field rest h.1 end)
 
 fields_of-field : (field rest : List ℕ) → IsField field → EndsRun rest → fields_of (field ++ rest) ≡ field ∷ fields_of rest
 fields_of-field [] rest f end = absurd (f.some refl)
-fields_of-field (b ∷ field) rest f end = fields_of-run b field rest f.bytes end
+fields_of-field (b ∷ field) rest f end = fields_of-whole b field rest f.bytes end
 
 pub fields_of-AreFields : (bare : List ℕ) (fields : List (List ℕ)) → AreFields bare fields → fields_of bare ≡ fields
 fields_of-AreFields bare [] are = fields_of-blanks bare are

@@ -23,8 +23,8 @@ fault-of n lines e few h = subst (λ (f : Option LogError). IsOutcome n lines (l
 none-of : (n : ℕ) (lines : List (List ℕ)) → n ≤ 1000000 → (log_of n lines).fault ≡ None → AreRecords n lines (log_of n lines).records × (n + length lines ≤ 1000000)
 none-of n lines few h = subst (λ (f : Option LogError). IsOutcome n lines (log_of n lines).records f) h (outcome n lines few)
 
-fault-few : (n : ℕ) (lines : List (List ℕ)) (e : LogError) (b : FaultIn n lines (log_of n lines).records e) → (n < e.line) × (e.line ≤ n + length lines)
-fault-few n lines e b =
+fault-place : (n : ℕ) (lines : List (List ℕ)) (e : LogError) (b : FaultIn n lines (log_of n lines).records e) → (n < e.line) × (e.line ≤ n + length lines)
+fault-place n lines e b =
     (omega (arith, b.number), omega (arith, b.number, ap length b.split, length-append b.before (b.bad ∷ b.after)))
 
 -- a fault of the first lines is that of all
@@ -43,7 +43,7 @@ whatever : (lines more others : List (List ℕ)) (e : LogError) (f : Option LogE
 whatever lines more others e None h told near =
     let none = none-of 0 lines (omega arith) h in
     let later : (log_of (0 + length lines) more).fault ≡ Some e = sym (ap (λ (l : Log). l.fault) (log-before 0 lines more _ none.1 none.0)) ∙ told in
-    absurd (omega (arith, near, (fault-few (0 + length lines) more e (fault-of (0 + length lines) more e none.1 later)).0))
+    absurd (omega (arith, near, (fault-place (0 + length lines) more e (fault-of (0 + length lines) more e none.1 later)).0))
 whatever lines more others e (Some f) h told near = fault-first 0 lines others f (omega arith) h ∙ sym (fault-first 0 lines more f (omega arith) h)
 
 -- the lines of a text that a line feed ends, and those that follow
@@ -189,7 +189,7 @@ records-passed passed rest taken None few h e =
     subst (AreRecords 0 passed) (append_cancel_right (log_of 0 passed).records taken (log_of (0 + length passed) rest).records all) none.0
 records-passed passed rest taken (Some f) few h e =
     let later : (log_of (0 + length passed) rest).fault ≡ Some f = sym (ap (λ (l : Log). l.fault) (sym (fault-first 0 passed rest f (omega arith) h) ∙ e)) ∙ h in
-    absurd (omega (arith, (fault-few 0 passed f (fault-of 0 passed f (omega arith) h)).1, (fault-few (0 + length passed) rest f (fault-of (0 + length passed) rest f few later)).0))
+    absurd (omega (arith, (fault-place 0 passed f (fault-of 0 passed f (omega arith) h)).1, (fault-place (0 + length passed) rest f (fault-of (0 + length passed) rest f few later)).0))
 
 read-same : (P Q : Type 0) (x : Bool) → x ≡ true → Whether x P Q → P
 read-same P Q true e w = w

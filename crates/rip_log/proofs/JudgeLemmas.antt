@@ -19,10 +19,10 @@ judge-long line h = grind arith
 Front : List ℕ → List ℕ → Type 0
 Front line front = (m : ℕ) × (m ≤ length line) × (front ≡ take m line)
 
-choose : (b : Bool) (line : List ℕ) → Front line (cond b (take (length line - 1) line) line)
+front-of : (b : Bool) (line : List ℕ) → Front line (cond b (take (length line - 1) line) line)
 unfolding Front
-choose true line = (length line - 1, omega arith, refl)
-choose false line = (length line, omega arith, sym (take_all (length line) line (omega arith)))
+front-of true line = (length line - 1, omega arith, refl)
+front-of false line = (length line, omega arith, sym (take_all (length line) line (omega arith)))
 
 first-part : (line : List ℕ) (m from to : ℕ) → to ≤ m → from ≤ to → slice_range (take m line) from to ≡ slice_range line from to
 first-part line m from to h o =
@@ -44,7 +44,7 @@ pub Tells-line : (line room : List ℕ) (r : Result (Option Parts) LineCode) →
 unfolding Front
 Tells-line line room (Ok None) h said = judge-short line h ∙ said
 Tells-line line room (Ok (Some p)) h said =
-    let front = choose (ends_with_byte 13 line) line in
+    let front = front-of (ends_with_byte 13 line) line in
     let moved = parts-front line (strip_last 13 line) room front.0 p front.1 front.2 said.1 in
     let said_of : Capture → Result (Option Capture) LineCode = λ e. Ok (Some e) in
     (judge-short line h ∙ said.0 ∙ ap said_of moved.0, moved.1)

@@ -33,8 +33,8 @@ put b bytes lines (line ∷ ended) last other no_feed after whole parts = record
   parts = ap (onto b) parts;
 }
 
-choose : (b : ℕ) (bytes : List ℕ) (x : Bool) → (b == 10) ≡ x → AreLines bytes (lines_of bytes) → AreLines (b ∷ bytes) (cond x ([] ∷ lines_of bytes) (onto b (lines_of bytes)))
-choose b bytes true e rest = record {
+AreLines-byte : (b : ℕ) (bytes : List ℕ) (x : Bool) → (b == 10) ≡ x → AreLines bytes (lines_of bytes) → AreLines (b ∷ bytes) (cond x ([] ∷ lines_of bytes) (onto b (lines_of bytes)))
+AreLines-byte b bytes true e rest = record {
   ended = [] ∷ rest.ended;
   last = rest.last;
   no_feed = (tt, rest.no_feed);
@@ -42,22 +42,22 @@ choose b bytes true e rest = record {
   whole = ap (λ (k : ℕ). k ∷ bytes) (eqb-true b 10 e) ∙ ap (λ l. 10 ∷ l) rest.whole;
   parts = ap (λ l. [] ∷ l) rest.parts;
 }
-choose b bytes false e rest = put b bytes (lines_of bytes) rest.ended rest.last (not-eq b 10 e) rest.no_feed rest.no_feed_after rest.whole rest.parts
+AreLines-byte b bytes false e rest = put b bytes (lines_of bytes) rest.ended rest.last (not-eq b 10 e) rest.no_feed rest.no_feed_after rest.whole rest.parts
 
 pub AreLines-lines_of : (text : List ℕ) → AreLines text (lines_of text)
 AreLines-lines_of [] = record { ended = []; last = []; no_feed = tt; no_feed_after = tt; whole = refl; parts = refl }
-AreLines-lines_of (b ∷ bytes) = choose b bytes (b == 10) refl (AreLines-lines_of bytes)
+AreLines-lines_of (b ∷ bytes) = AreLines-byte b bytes (b == 10) refl (AreLines-lines_of bytes)
 
 lines_of-ended : (line rest : List ℕ) → HasNoFeed line → lines_of (line ++ (10 ∷ rest)) ≡ line ∷ lines_of rest
 lines_of-ended [] rest none = refl
 lines_of-ended (b ∷ line) rest none = lines_of-other b (line ++ (10 ∷ rest)) none.0 ∙ ap (onto b) (lines_of-ended line rest none.1)
 
-lines_of-last : (last : List ℕ) → HasNoFeed last → lines_of last ≡ last_line last
-lines_of-last [] none = refl
-lines_of-last (b ∷ last) none = lines_of-other b last none.0 ∙ ap (onto b) (lines_of-last last none.1) ∙ onto-last b last
+lines_of-unended : (last : List ℕ) → HasNoFeed last → lines_of last ≡ last_line last
+lines_of-unended [] none = refl
+lines_of-unended (b ∷ last) none = lines_of-other b last none.0 ∙ ap (onto b) (lines_of-unended last none.1) ∙ onto-last b last
 
 lines_of-parts : (ended : List (List ℕ)) (last : List ℕ) → AllByRecursion HasNoFeed ended → HasNoFeed last → lines_of (ended_text ended ++ last) ≡ ended ++ last_line last
-lines_of-parts [] last no_feed after = lines_of-last last after
+lines_of-parts [] last no_feed after = lines_of-unended last after
 lines_of-parts (line ∷ ended) last no_feed after =
     ap lines_of (append_assoc line (10 ∷ ended_text ended) last)
     ∙ lines_of-ended line (ended_text ended ++ last) no_feed.0

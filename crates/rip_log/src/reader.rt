@@ -23,7 +23,7 @@ pub struct Record<'a> {
     pub line: u32,
     /// The name of the link that it was captured on.
     pub link: &'a str,
-    /// The datagram.
+    /// The datagram, a request or a response (RFC 2453, section 3.6).
     pub datagram: Datagram<'a>,
     // The number of the sender's address.
     sender: u32,
@@ -187,7 +187,8 @@ fn name_text(name: &[u8]) -> &str
     }
 }
 
-/// A reader of a log's records. After an error there are no more.
+/// A reader of a log's records: one a line, of at most 1,000,000 lines of at most 2,048 bytes. After
+/// an error there are no more.
 #[derive(Drop)]
 pub struct LogReader<R> {
     reading: Reading<R>,
@@ -200,7 +201,7 @@ impl<R: Source> LogReader<R> {
     ghost use Rattle.rip_log.specs.Reader.{reading_of};
 
     /// A reader at the front of the source's text. It takes the memory that it needs, and pulls
-    /// nothing yet. A refusal hands the source back.
+    /// nothing yet. Where there is none, the error is Memory at line 0, and the source comes back.
     pub fn new(alloc: Global, source: R) -> Result<LogReader<R>, (LogError, R)>
         ensures source { IfOk result (λ r. source_of (reading_of r) ≡ source) }
         ensures text { IfOk result (λ r. text R.coming (reading_of r) ≡ R.coming source) }
@@ -229,7 +230,9 @@ impl<R: Source> LogReader<R> {
         }
     }
 
-    /// The next record, which borrows the reader's buffers. It takes no memory.
+    /// The next record, which borrows the reader's buffers, or None at the end of the text. It takes
+    /// no memory. An error is the fault of the first bad line, or Read where the source failed while a
+    /// line was read; after an error each call answers Ended at the same line.
     pub fn next(&mut self) -> Result<Option<Record<'_>>, LogError>
         ensures* leaves { sem 𝓛 (Rests (the_row R.row) self.entry (λ new. Leaves R.coming R.broken R.at_end capture_of line_of (reading_of self.old) (reading_of new) result)) }
     {

@@ -15,7 +15,8 @@ pub trait Sink {
     // Whether it has failed.
     ghost broken: { Self → Bool };
 
-    /// Gives bytes to the device, and answers how many of them it took.
+    /// Gives bytes to the device, and answers how many of them it took, of a nonempty slice at least
+    /// one. An error says that the device has failed, then or before.
     fn push(&mut self, bytes: &[u8]) -> Result<usize, Failed>
         ensures bound { WritesAtMost result bytes.now }
         // It appends the bytes that it took, and none where it fails.

@@ -18,7 +18,8 @@ pub trait Source {
     // Whether it has come to its end.
     ghost at_end: { Self → Bool };
 
-    /// Takes bytes from the device into the buffer, and answers how many came.
+    /// Takes bytes from the device into the buffer, and answers how many came: 0 into a nonempty one
+    /// at the end. An error says that the device has failed, then or before.
     fn pull(&mut self, buffer: &mut [u8]) -> Result<usize, Failed>
         ensures bound { ReadsAtMost result buffer.new }
         // The bytes that came were the next to come. Where it fails, none came.
