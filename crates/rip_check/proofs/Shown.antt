@@ -1,0 +1,48 @@
+-- What a showing tells of the metric that is behind it.
+use Rattle.std.proofs.Common.{◌≡◌, ℕ, ◌+◌, ◌<◌, ◌≤◌, inl, inr, Option, Some, unwrap_or, arith, length}
+use Rattle.rip_plan.specs.Network.{Network}
+use Rattle.rip_plan.specs.Relations.{IsLawful, IsOn}
+use Rattle.rip_check.specs.Tables.{Tables, Showing, Shows, MayShow, FitsWay, IsSilent, Offers}
+use Rattle.rip_check.specs.declared.way.Way.{Way}
+use Rattle.rip_check.specs.declared.way.Way.TheVariants.{Unreachable, Here, Over}
+
+-- silence counts as 16
+pub silent_is_16 : (x : Option ℕ) → IsSilent x → unwrap_or x 16 ≡ 16
+silent_is_16 x (inl e) = rw e
+silent_is_16 x (inr e) = rw e
+
+pub some_is : (x : Option ℕ) (m : ℕ) → x ≡ Some m → unwrap_or x 16 ≡ m
+some_is x m e = rw e
+
+-- what is shown below 16 is the metric
+pub shown_below : (n : Network) (l p m : ℕ) (w : Way) (x : Option ℕ) → MayShow n l p m w x → unwrap_or x 16 < 16 → unwrap_or x 16 ≡ m
+shown_below n l p m Unreachable x h b = absurd (omega (arith, silent_is_16 x h, b))
+shown_below n l p m Here x (inl e) b = some_is x m e
+shown_below n l p m Here x (inr h) b = absurd (omega (arith, silent_is_16 x h.1, b))
+shown_below n l p m (Over k) x (inl h) b = absurd (omega (arith, some_is x 16 h.1, b))
+shown_below n l p m (Over k) x (inr h) b = some_is x m h.1
+
+-- a metric is at most 16
+pub metric_most : (n : Network) (r p m : ℕ) (w : Way) → FitsWay n r p m w → m ≤ 16
+metric_most n r p m Unreachable h = omega arith
+metric_most n r p m Here h = omega arith
+metric_most n r p m (Over l) h = omega arith
+
+-- and at least 1
+pub metric_least : (n : Network) (r p m : ℕ) (w : Way) → FitsWay n r p m w → 1 ≤ m
+metric_least n r p m Unreachable h = omega arith
+metric_least n r p m Here h = omega arith
+metric_least n r p m (Over l) h = omega arith
+
+-- who is on a link is known
+pub known_on : (n : Network) → IsLawful n → (r l : ℕ) → IsOn n r l → r < length n.routers
+known_on n plan r l on = plan.router_known on.1.0 r l on.0 on.1.1
+
+module _ (n : Network) (count : ℕ) (shown : Showing) (T : Tables) (plan : IsLawful n) (shows : Shows n count shown T) where
+  -- an offer below 16 is the cost to the neighbour and the neighbour's metric
+  pub offer_below : (r l s p v : ℕ) (o : Offers n shown r l s p v) → p < count → v < 16 → v ≡ o.cost + (T s p).metric
+  offer_below r l s p v o known b =
+      let told = (shows.fits s p (known_on n plan s l o.neighbour.there) known).as_told o.interface l o.its_cost o.there in
+      let small : unwrap_or (shown.cell o.interface p) 16 < 16 = omega (arith, o.value) in
+      let e = shown_below n l p (T s p).metric (T s p).way (shown.cell o.interface p) told small in
+      omega (arith, o.value, e)

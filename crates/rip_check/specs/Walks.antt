@@ -1,0 +1,27 @@
+-- Walks: a packet that follows the tables.
+use Rattle.std.specs.Prelude.{◌≡◌, ℕ, ◌≤◌, ◌<◌, List, [], ◌∷◌, length}
+use Rattle.rip_plan.specs.Network.{Network}
+use Rattle.rip_check.specs.Tables.{Tables, Showing, Offers}
+use Rattle.rip_check.specs.declared.way.Way.TheVariants.{Over}
+
+-- a packet for p can go from r to s: r's route leads over a link, and s is any neighbour there that offers r's metric
+pub record GoesTo (n : Network) (shown : Showing) (T : Tables) (p r s : ℕ) : Type 0 where
+  pub link : ℕ
+  pub way : (T r p).way ≡ Over link
+  pub offer : Offers n shown r link s p (T r p).metric
+
+-- each router goes to the next
+abbrev pub EachGoesOn : Network → Showing → Tables → ℕ → ℕ → List ℕ → Type 0
+EachGoesOn n shown T p r [] = Unit {0}
+EachGoesOn n shown T p r (s ∷ rest) = GoesTo n shown T p r s × EachGoesOn n shown T p s rest
+
+-- the walk has a router, the first has a metric below 16, and each goes to the next
+abbrev pub IsWalk : Network → Showing → Tables → ℕ → List ℕ → Type 0
+IsWalk n shown T p [] = ⊥
+IsWalk n shown T p (r ∷ rest) = (r < length n.routers) × ((T r p).metric < 16) × EachGoesOn n shown T p r rest
+
+-- each number is below the one before it, and the last is at least 1
+abbrev pub IsFalling : List ℕ → Type 0
+IsFalling [] = Unit {0}
+IsFalling (x ∷ []) = 1 ≤ x
+IsFalling (x ∷ y ∷ rest) = (y < x) × IsFalling (y ∷ rest)

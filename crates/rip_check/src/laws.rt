@@ -1,0 +1,52 @@
+//! Laws of settled tables: functions without a body, whose contracts hold of every plan and every
+//! showing.
+
+ghost use Rattle.std.specs.Prelude.{ℕ, ◌↔◌};
+ghost use Rattle.rip_plan.specs.Network.{Network};
+ghost use Rattle.rip_plan.specs.Relations.{IsLawful};
+ghost use Rattle.rip_check.specs.Tables.{Showing};
+ghost use Rattle.rip_check.specs.Laws.{OneIsShown, OneRouteFits, PlacesSettled, RightTablesShown, Case, IsSettled, HasRightTables, PoisonHidesNothing, MetricsAreReached, NoPathIsCheaper, WalksFall, WalksEnd, WalksGoOn};
+
+/// Poison hides no better route: where every place holds, no neighbour is nearer to a prefix than a
+/// router by more than the link costs, though what it shows there may be 16 (RFC 2453, section 3.4.3).
+pub fn poison_hides_nothing()
+    ensures { (k : Case) → IsSettled k → PoisonHidesNothing k }
+{}
+
+/// Where every equation holds, the metrics are the least costs of paths that begin as the routes say.
+pub fn equations_give_least_paths()
+    ensures reached { (k : Case) → IsSettled k → MetricsAreReached k }
+    ensures least { (k : Case) → IsSettled k → NoPathIsCheaper k }
+{}
+
+/// Right tables satisfy every equation, although routes are poisoned.
+pub fn least_paths_satisfy_equations()
+    ensures { (k : Case) → HasRightTables k → IsSettled k }
+{}
+
+/// The equations have one solution, the least paths: for a log that shows tables every place holds
+/// exactly where the tables are right.
+pub fn settled_is_right()
+    ensures { (k : Case) → IsSettled k ↔ HasRightTables k }
+{}
+
+/// No two routes fit what a router shows, those of leaves included, so that a log never shows two
+/// sets of tables.
+pub fn one_set_of_tables()
+    ensures route { (n : Network) (shown : Showing) → IsLawful n → OneRouteFits n shown }
+    ensures tables { (n : Network) (count : ℕ) (shown : Showing) → IsLawful n → OneIsShown n count shown }
+{}
+
+/// Every interface was heard and each place has a route that fits and holds exactly where the log
+/// shows tables that are right.
+pub fn settled_places()
+    ensures { (n : Network) (count : ℕ) (shown : Showing) → IsLawful n → PlacesSettled n count shown ↔ RightTablesShown n count shown }
+{}
+
+/// A packet that follows the tables comes nearer with each router, and arrives after at most fifteen:
+/// one that has not arrived has a next router, and where it arrives the router has the prefix.
+pub fn walks_arrive()
+    ensures fall { (k : Case) → WalksFall k }
+    ensures end { (k : Case) → WalksEnd k }
+    ensures go_on { (k : Case) → IsSettled k → WalksGoOn k }
+{}
