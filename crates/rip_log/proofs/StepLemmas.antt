@@ -1,10 +1,10 @@
 -- What taking a line does to the log to come.
-use Rattle.std.proofs.Common.{◌≡◌, ◌+◌, ◌≤◌, ◌<◌, ℕ, List, ◌∷◌, length, Option, Some, None, Result, Ok, Err, refl, sym, ap, ◌∙◌, arith, subst, Bool, true, false}
+use Rattle.std.proofs.Common.{◌≡◌, ◌+◌, ◌≤◌, ◌<◌, ℕ, List, Option, Some, None, Result, Ok, Err, refl, sym, ap, ◌∙◌, subst, Bool, true, false}
 use Rattle.std.specs.Io.KnownBytes.{Keeps}
 use Rattle.rip_log.specs.Codes.{log_code, is_read}
 use Rattle.rip_log.specs.Cuts.{FirstLine, LongFirst, HasLine}
 use Rattle.rip_log.specs.Lines.{Capture, lines_of, judge}
-use Rattle.rip_log.specs.Logs.{Log, log_of, log_at, with_line, faulty_log, onto_log, Gives, SameLog, Whether}
+use Rattle.rip_log.specs.Logs.{Log, log_of, log_at, faulty_log, onto_log, Gives, SameLog, Whether}
 use Rattle.rip_log.proofs.JudgeLemmas.{judge-long}
 use Rattle.rip_log.proofs.LogLemmas.{first-line, too-many}
 use Rattle.rip_log.specs.declared.line.LineCode.{LineCode}

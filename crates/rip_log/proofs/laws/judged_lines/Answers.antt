@@ -1,4 +1,3 @@
-use Rattle.std.proofs.Common.{◌≡◌, ◌∙◌, refl}
 use Rattle.rip_log.proofs.JudgeRelations.{judged-line, judge-IsJudged}
 use Rattle.rip_log.proofs.laws.judged_lines.Goals as goal
 
