@@ -23,10 +23,12 @@ use Rattle.rip_plan.specs.PlanText.{empty, sketch_of_document, sketch_of}
 use Rattle.rip_plan.specs.Network.{Network, network_of_sketch, numbered}
 use Rattle.rip_plan.specs.Relations.{IsLinkName, IsRouterName, IsPrefix, IsInterface, HasAddress, IsPlace, HasCost, Carries, Touches, IsInside, IsLawful}
 use Rattle.rip_plan.proofs.Binds.{steps_keep}
-use Rattle.rip_plan.proofs.Items.{or_false, all_at, any_at, any_finds, distinct_at, none_at, get_seen, see_got, get_some}
+use Rattle.rip_plan.proofs.Items.{both, or_false, all_at, any_at, any_finds, distinct_at, none_at, get_seen, see_got, get_some}
 use Rattle.rip_plan.proofs.StepsTaken.{DocumentTaken, text_taken}
 use Rattle.rip_plan.proofs.FirstPass.{Kept, IsFit, IsFitPlace, IsFitSeat, IsInsideOf, BetweenLinks, BetweenRouters, link_keeps, router_keeps}
 use Rattle.rip_plan.proofs.Numbering.{AreNumbered, numbers, same_from, same_self}
+use Rattle.rip_plan.proofs.Tables.{chosen}
+use Rattle.rip_plan.proofs.Lookups.{name_same, on_seat}
 use Rattle.rip_plan.proofs.SecondPasses.{Clear, passes_clear, has_one, on_touched, own_touched, common}
 
 -- what the passes leave
@@ -37,9 +39,6 @@ record Good (s : Sketch) : Type 0 where
   few_links : length s.links ≤ 512
   some_router : 1 ≤ length s.routers
   few_routers : length s.routers ≤ 128
-
-name_same : (a b : List ℕ) → a ≡ b → bytes_eq a b ≡ true
-name_same a b h = (bytes_eq-Decides a b).1 h
 
 -- ---- the parts of the plan of a draft
 
@@ -142,20 +141,12 @@ module _ (s : Sketch) (good : Good s) where
       let (m, e, there, test) = any_finds (λ (q : DraftPlace). is_on l q.seat && has_address q.prefix a) s.places holds in
       let parts = both (is_on l e.seat) (has_address e.prefix a) test in
       let (q, here, block) = place_from s m e there in
-      (q, e.prefix, (m, subst (IsPlace (network_of_sketch s) m q) (on_link e.seat parts.0) here), block, grind (arith, nat_tests, parts.1))
+      (q, e.prefix, (m, subst (IsPlace (network_of_sketch s) m q) (on_seat l e.seat parts.0) here), block, grind (arith, nat_tests, parts.1))
     where
-      both : (b c : Bool) → (b && c) ≡ true → (b ≡ true) × (c ≡ true)
-      both true c e = (refl, e)
-      both false c e = absurd cc
-
       contains_one : (b c : Bool) → b ≡ true → (b && not c) ≡ false → c ≡ true
       contains_one true true e f = refl
       contains_one true false e f = absurd cc
       contains_one false c e f = absurd cc
-
-      on_link : (seat : Seat) → is_on l seat ≡ true → seat ≡ seats.Link l
-      on_link (seats.Link m) e = let same : m ≡ l = grind (arith, nat_tests) in ap seats.Link same
-      on_link (seats.Own r c) e = absurd cc
 
   is_block : (p : ℕ) (b : Block) → IsPrefix (network_of_sketch s) p b → IsBlock b
   is_block p b h =
@@ -173,8 +164,8 @@ module _ (s : Sketch) (good : Good s) where
     few_places = omega (arith, good.kept.few_places, (numbers s.places).count);
     link_named = λ l name h. all_at IsName s.links l name good.kept.link_names h;
     router_named = λ r name h. all_at IsName s.routers r name good.kept.router_names h;
-    link_names_differ = λ l m name h k. distinct_at bytes_eq s.links l m name name good.kept.links_differ h k (name_same name name refl) (name_same name name refl);
-    router_names_differ = λ r t name h k. distinct_at bytes_eq s.routers r t name name good.kept.routers_differ h k (name_same name name refl) (name_same name name refl);
+    link_names_differ = λ l m name h k. distinct_at bytes_eq s.links l m name name good.kept.links_differ h k (name_same name) (name_same name);
+    router_names_differ = λ r t name h k. distinct_at bytes_eq s.routers r t name name good.kept.routers_differ h k (name_same name) (name_same name);
     router_known = λ i r l c h. let (x, at, same, fit) = fit_at i _ h.listed in rw (ap (λ (v : Interface). v.router) same) at fit.router;
     link_known = λ i r l c h. let (x, at, same, fit) = fit_at i _ h.listed in rw (ap (λ (v : Interface). v.link) same) at fit.link;
     cost_least = λ i r l c h. let (x, at, same, fit) = fit_at i _ h.listed in rw (ap (λ (v : Interface). v.cost) same) at fit.least;
@@ -214,10 +205,6 @@ some_of_both (Some (x ∷ xs)) (Some (y ∷ ys)) f h =
 some_of_root : (doc : Members) (f : List Data × List Data) → root_fields doc ≡ Some f → (1 ≤ length f.0) × (1 ≤ length f.1)
 unfolding root_fields
 some_of_root doc f h = some_of_both (items_at (codes_of "link") doc) (items_at (codes_of "router") doc) f (chosen (keys_pass is_root_key doc) _ f h)
-  where
-    chosen : {A : Type 0} (b : Bool) (o : Option A) (x : A) → cond b o None ≡ Some x → o ≡ Some x
-    chosen true o x e = e
-    chosen false o x e = absurd cc
 
 good_document : (doc : Members) (s : Sketch) → DocumentTaken doc s → Good s
 unfolding IsDistinct

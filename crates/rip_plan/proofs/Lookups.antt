@@ -17,13 +17,9 @@ use Rattle.rip_plan.specs.Draft as draft
 use Rattle.rip_plan.specs.Passes.{same_prefix}
 use Rattle.rip_plan.specs.Network.{Network, number_of_prefix, first_named, first_at, is_at, found_at, is_on, is_of, numbers_where, is_carrying, first_carrying, cost_on, cost_at, direct_at}
 use Rattle.rip_plan.specs.Relations.{IsLinkName, IsPrefix, IsInterface, HasAddress, IsAt, HasCost, IsPlace, Carries, Touches, IsDirect, IsLeaf, HasTwoInterfaces, IsLawful}
-use Rattle.rip_plan.proofs.Items.{position_finds, position_none, none_at}
+use Rattle.rip_plan.proofs.Items.{both, position_finds, position_none, none_at}
 use Rattle.rip_plan.proofs.Numbering.{same_is, same_self}
 use Rattle.rip_plan.proofs.NumbersWhere.{contains_at, at_contains, number_passes, passing_number}
-
-both : (a b : Bool) → (a && b) ≡ true → (a ≡ true) × (b ≡ true)
-both true b h = (refl, h)
-both false b h = absurd cc
 
 -- where an item passes, the first that passes is found
 found : {A : Type 0} (test : A → Bool) (xs : List A) (i : ℕ) (x : A) → slice_get xs i ≡ Some x → test x ≡ true → (k : ℕ) × (y : A) × (position_from test 0 xs ≡ Some k) × (slice_get xs k ≡ Some y) × (test y ≡ true)
@@ -179,7 +175,7 @@ direct_finds n laws r k c h = by_option (direct_at r k n.interfaces n.places) re
 
 -- ---- carriers
 
-on_seat : (l : ℕ) (seat : Seat) → draft.is_on l seat ≡ true → seat ≡ seats.Link l
+pub on_seat : (l : ℕ) (seat : Seat) → draft.is_on l seat ≡ true → seat ≡ seats.Link l
 on_seat l (seats.Link m) e = let same : m ≡ l = grind (arith, nat_tests) in ap seats.Link same
 on_seat l (seats.Own r c) e = absurd cc
 
@@ -235,7 +231,7 @@ of_router_finds n r i l c h =
 name_is : (a b : List ℕ) → bytes_eq a b ≡ true → a ≡ b
 name_is a b h = (bytes_eq-Decides a b).0 h
 
-name_same : (a : List ℕ) → bytes_eq a a ≡ true
+pub name_same : (a : List ℕ) → bytes_eq a a ≡ true
 name_same a = (bytes_eq-Decides a a).1 refl
 
 placed : (x : Interface) (l a : ℕ) → x.link ≡ l → x.address ≡ a → x ≡ record { router = x.router; link = l; address = a; cost = x.cost }
@@ -264,8 +260,8 @@ found_finds n laws name a i (l, named, here) =
     let (j, x, f, there, test) = found (is_at l a) n.interfaces i _ here.listed (rw (on, its) refl) in
     let value : found_at n name a ≡ Some j = rw (e, link, f) refl in
     let at_j = found_gives n name a j value in
-    let one : j ≡ i = laws.addresses_differ j i l a (moved (laws.link_names_differ at_j.0 l name at_j.1 named) at_j.2) here in
+    let one : j ≡ i = laws.addresses_differ j i l a (moved j at_j.0 (laws.link_names_differ at_j.0 l name at_j.1 named) at_j.2) here in
     value ∙ ap (λ (m : ℕ). Some m) one
   where
-    moved : {j m : ℕ} → m ≡ l → HasAddress n j m a → HasAddress n j l a
-    moved e h = rw (← e) h
+    moved : (j m : ℕ) → m ≡ l → HasAddress n j m a → HasAddress n j l a
+    moved j m e h = rw (← e) h

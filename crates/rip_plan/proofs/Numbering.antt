@@ -12,11 +12,7 @@ use Rattle.rip_plan.specs.declared.parts.Seat.{Seat}
 use Rattle.rip_plan.specs.declared.draft.DraftPlace.{DraftPlace}
 use Rattle.rip_plan.specs.Passes.{same_prefix}
 use Rattle.rip_plan.specs.Network.{number_of_prefix, number_or_next, with_prefix, numbered}
-use Rattle.rip_plan.proofs.Items.{or_false, get_left, get_last, get_push, distinct_push, position_finds, position_none}
-
-both : (a b : Bool) → (a && b) ≡ true → (a ≡ true) × (b ≡ true)
-both true b h = (refl, h)
-both false b h = absurd cc
+use Rattle.rip_plan.proofs.Items.{both, or_false, get_left, get_last, get_push, distinct_push, position_finds, position_none}
 
 pub same_is : (p q : Block) → same_prefix p q ≡ true → p ≡ q
 same_is p q h =

@@ -19,7 +19,7 @@ IsRouterName n r name = slice_get n.routers r ≡ Some name
 abbrev pub IsPrefix : Network → ℕ → Block → Type 0
 IsPrefix n k p = slice_get n.prefixes k ≡ Some p
 
--- interface i is router r's on link l, and has cost c (RFC 2453, 3.5: the cost of the network for the router)
+-- interface i is router r's on link l, and has cost c (RFC 2453, 3.5: the metric of a directly-connected network)
 pub record IsInterface (n : Network) (i r l c : ℕ) : Type 0 where
   pub address : ℕ
   pub listed : slice_get n.interfaces i ≡ Some (record { router = r; link = l; address = address; cost = c })
@@ -68,7 +68,7 @@ Carries n l p = (k : ℕ) × IsPlace n k p (Link l)
 abbrev pub Touches : Network → ℕ → ℕ → ℕ → ℕ → Type 0
 Touches n k p r c = ((l : ℕ) × IsPlace n k p (Link l) × HasCost n r l c) ⊎ IsPlace n k p (Own r c)
 
--- router r has prefix p on its own link, or as its own, at cost c (RFC 2453, 3.9.2: the directly connected networks)
+-- router r has prefix p on its own link, or as its own, at cost c (RFC 2453, 3.5: its directly-connected networks)
 abbrev pub IsDirect : Network → ℕ → ℕ → ℕ → Type 0
 IsDirect n r p c = (k : ℕ) × Touches n k p r c
 
@@ -91,7 +91,7 @@ pub record IsLawful (n : Network) : Type 0 where
   pub router_named : (r : ℕ) (name : List ℕ) → IsRouterName n r name → IsName name
   pub link_names_differ : (l m : ℕ) (name : List ℕ) → IsLinkName n l name → IsLinkName n m name → l ≡ m
   pub router_names_differ : (r s : ℕ) (name : List ℕ) → IsRouterName n r name → IsRouterName n s name → r ≡ s
-  -- interfaces
+  -- interfaces; costs are 1 to 15 (RFC 2453, 3.5)
   pub router_known : (i r l c : ℕ) → IsInterface n i r l c → r < length n.routers
   pub link_known : (i r l c : ℕ) → IsInterface n i r l c → l < length n.links
   pub cost_least : (i r l c : ℕ) → IsInterface n i r l c → 1 ≤ c

@@ -30,6 +30,9 @@ pub struct Plan {
     interfaces: Vec<Interface>,
     prefixes: Vec<Prefix>,
     places: Vec<Place>,
+    // Look-ups, so that no answer walks over the parts: the interfaces of each link and router, links
+    // by name, interfaces by link and address, prefixes, places by link and prefix, and direct costs
+    // by router and prefix.
     on_link: Vec<Vec<usize>>,
     of_router: Vec<Vec<usize>>,
     names: BTreeMap<String, usize>,
@@ -90,8 +93,9 @@ fn read_plan(alloc: Global, bytes: &[u8]) -> Result<Plan, ReadError>
 }
 
 impl Plan {
-    /// Reads the text of a plan: a TOML document of at most 1,048,576 bytes. The error is the first
-    /// fault of the text, or Memory where a growth was refused.
+    /// Reads the text of a plan: a TOML document of at most 1,048,576 bytes. The answer is the plan
+    /// of the document where the text has no fault; else the first fault with its place, or Memory at
+    /// the text where a growth was refused.
     pub fn read(alloc: Global, bytes: &[u8]) -> Result<Plan, PlanError>
         ensures exact { IsAnswer result (network_in bytes.now) }
         ensures faultless { IfOk result (λ plan. first_fault bytes.now ≡ None) }
