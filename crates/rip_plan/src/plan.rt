@@ -233,6 +233,7 @@ impl Plan {
     pub fn find(&self, link_name: &str, address: Address) -> Option<usize>
         ensures exact { (i : ℕ) → (result ≡ Some i) ↔ IsAt self.now link_name.now address i }
         ensures below { IfSome result (λ i. i < length self.now.interfaces) }
+        ensures value { result ≡ found_at self.now link_name.now address }
     {
         self.lawful();
         self.number_at(link_name, address)

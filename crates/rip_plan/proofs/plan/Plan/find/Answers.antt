@@ -8,4 +8,5 @@ returns c =
     record {
       exact = found_exact c.args.self.now laws c.args.link_name.now c.args.address c.number_at.result c.number_at.ensures;
       below = found_below c.args.self.now c.args.link_name.now c.args.address c.number_at.result c.number_at.ensures;
+      value = c.number_at.ensures;
     }

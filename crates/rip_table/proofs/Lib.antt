@@ -1,0 +1,5 @@
+pub mod Lists
+pub mod FitLemmas
+pub mod BlameLemmas
+pub mod JoinLemmas
+pub mod TakeLemmas

@@ -1,0 +1,90 @@
+use Rattle.std.proofs.Common.{◌≡◌, ◌∙◌, sym, refl, false, subst, Some}
+use Rattle.rip_log.specs.Leaves.{capture_of, line_of, log_to_come, has_stopped}
+use Rattle.rip_log.specs.Reader.{reading_of}
+use Rattle.rip_table.specs.State.{State, Fits}
+use Rattle.rip_table.specs.Joined.{is_memory}
+use Rattle.rip_table.specs.Collects.{is_read_cause, StuckKnown, OutcomeKnown, PassedKnown}
+use Rattle.rip_table.proofs.JoinLemmas.{PassedKnown-more, told_bad, OutcomeKnown-none, OutcomeKnown-refused, StuckKnown-wants}
+use Rattle.rip_table.proofs.FitLemmas.{Fits-joined}
+use Rattle.rip_table.proofs.BlameLemmas.{Joins-blame, unread-blame, tell, runs, again}
+use Rattle.rip_table.proofs.joining.collect.Goals as goal
+
+pub records-preserved : goal.records-preserved
+records-preserved g c =
+    let h = rw (c.in-Ok-Some.is, c.in-Ok-Some.field-0-is) at c.next.follows.holds-at-none in
+    let run : has_stopped (reading_of c.records.reader) ≡ false = runs _ _ _ h.ended in
+    let was_run : has_stopped (reading_of c.args.reader.now) ≡ false = sym c.records.invariant.running ∙ run in
+    let joins = rw c.in-Ok.is at c.join.ensures in
+    record {
+      passed = λ was. PassedKnown-more capture_of line_of _ _ _ (g.T.MetricTable.state c.records.table) (g.T.MetricTable.state c.join.new.table) _ _ _ (c.records.invariant.passed was) (h.gives run) joins;
+      fits = Fits-joined c.args.plan.now (g.T.MetricTable.state c.records.table) (g.T.MetricTable.state c.join.new.table) (capture_of c.in-Ok-Some.record) c.records.invariant.fits joins;
+      running = h.moves.stopped ∙ sym was_run;
+      marks = h.moves.marks refl ∙ c.records.invariant.marks;
+      still = λ was. cc (was, was_run);
+      here = λ was. cc (was, was_run);
+    }
+
+pub returns-in-Err-join : goal.returns-in-Err-join
+returns-in-Err-join g c =
+    let state = g.T.MetricTable.state in
+    let coming = g.R.Source.coming in
+    let plan = c.args.plan.now in
+    let before = (reading_of c.records.reader) in
+    let after = (reading_of c.next.follows.lender-at-none) in
+    let entry = capture_of c.in-Ok-Some.record in
+    let cause = c.in-Err-join.cause in
+    let inv = c.records.invariant in
+    let log = log_to_come coming (reading_of c.args.reader.now) in
+    let old = state c.args.table.now in
+    let h = rw (c.in-Ok-Some.is, c.in-Ok-Some.field-0-is) at c.next.follows.holds-at-none in
+    let run : has_stopped (reading_of c.records.reader) ≡ false = runs _ _ _ h.ended in
+    let was_run : has_stopped (reading_of c.args.reader.now) ≡ false = sym inv.running ∙ run in
+    let joins = rw c.in-Err-join.is at c.join.ensures in
+    let blame = Joins-blame plan (state c.records.table) entry (state c.join.new.table) cause joins in
+    let unread = unread-blame cause blame in
+    record {
+      told = λ was.
+          let passed = inv.passed was in
+          let gives = h.gives run in
+          tell (PassedKnown plan old log (state c.join.new.table) (log_to_come coming after)) (is_memory cause) (is_read_cause cause) joins.1
+          (λ w. subst (λ (s : State). StuckKnown plan old log s (log_to_come coming after) c.in-Ok-Some.record.line) (sym joins.0)
+          (StuckKnown-wants capture_of line_of plan old log (state c.records.table) (log_to_come coming before) (log_to_come coming after) c.in-Ok-Some.record passed gives w))
+          (λ j. subst (λ (s : State). OutcomeKnown plan old log s (Some (record { line = c.in-Ok-Some.record.line; cause = cause }))) (sym joins.0)
+          (OutcomeKnown-refused capture_of line_of plan old log (state c.records.table) (log_to_come coming before) (log_to_come coming after) c.in-Ok-Some.record cause passed gives j))
+          unread;
+      stopped = λ was. cc (was, was_run);
+      refused = λ was. h.moves.stopped ∙ sym blame;
+      fits = subst (λ (s : State). Fits plan s) (sym joins.0) inv.fits;
+      ended = λ fine. cc fine;
+      failed = λ bad. cc (bad, unread);
+      marks = λ fine. h.moves.marks refl ∙ inv.marks;
+    }
+
+pub returns-in-Ok-None : goal.returns-in-Ok-None
+returns-in-Ok-None g c =
+    let h = rw (c.in-Ok-None.is, c.in-Ok-None.field-0-is) at c.next.follows.holds-at-none in
+    let run : has_stopped (reading_of c.records.reader) ≡ false = runs _ _ _ h.ended in
+    let was_run : has_stopped (reading_of c.args.reader.now) ≡ false = sym c.records.invariant.running ∙ run in
+    record {
+      told = λ was. OutcomeKnown-none capture_of line_of _ _ _ _ _ _ (c.records.invariant.passed was) (h.gives run);
+      stopped = λ was. cc (was, was_run);
+      refused = λ was. h.moves.stopped;
+      fits = c.records.invariant.fits;
+      ended = λ fine. (h.over refl).1;
+      failed = λ bad. cc bad;
+      marks = λ fine. h.moves.marks refl ∙ c.records.invariant.marks;
+    }
+
+pub returns-in-Err : goal.returns-in-Err
+returns-in-Err g c =
+    let h = rw c.in-Err.is at c.next.follows.holds-at-none in
+    let inv = c.records.invariant in
+    record {
+      told = λ was. told_bad capture_of line_of _ _ _ _ _ _ c.in-Err.error (inv.passed was) (h.gives (inv.running ∙ was));
+      stopped = λ was. (inv.still was, again c.in-Err.error _ _ (h.ended (inv.running ∙ was)).0 (inv.here was));
+      refused = λ was. h.moves.stopped;
+      fits = inv.fits;
+      ended = λ fine. cc fine;
+      failed = λ bad. h.moves.failed bad;
+      marks = λ fine. h.moves.marks fine ∙ inv.marks;
+    }

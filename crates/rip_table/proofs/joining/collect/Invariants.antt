@@ -1,0 +1,22 @@
+use Rattle.std.proofs.Common.{◌≡◌, ◌-◌, true, false}
+use Rattle.rip_log.specs.Leaves.{log_to_come, lines_behind, has_stopped, source_of}
+use Rattle.rip_log.specs.Reader.{reading_of}
+use Rattle.rip_table.specs.State.{Fits}
+use Rattle.rip_table.specs.Collects.{PassedKnown}
+use Rattle.rip_table.proofs.joining.collect.Given as goal
+
+abbrev pub invariant-records : goal.invariant-records
+invariant-records g l =
+    let coming = g.R.Source.coming in
+    let state = g.T.MetricTable.state in
+    record {
+      passed : has_stopped (reading_of l.fn.reader) ≡ false → PassedKnown l.plan (state l.fn.table) (log_to_come coming (reading_of l.fn.reader)) (state l.table) (log_to_come coming (reading_of l.reader));
+      fits : Fits l.plan (state l.table);
+      running : has_stopped (reading_of l.reader) ≡ has_stopped (reading_of l.fn.reader);
+      marks : g.R.Source.broken (source_of (reading_of l.reader)) ≡ g.R.Source.broken (source_of (reading_of l.fn.reader));
+      still : has_stopped (reading_of l.fn.reader) ≡ true → (state l.table ≡ state l.fn.table);
+      here : has_stopped (reading_of l.fn.reader) ≡ true → (lines_behind (reading_of l.reader) ≡ lines_behind (reading_of l.fn.reader));
+    }
+
+abbrev pub decreases-records : goal.decreases-records
+decreases-records g l = 1000000 - lines_behind (reading_of l.reader)

@@ -1,0 +1,79 @@
+-- What `collect` answers and leaves.
+use Rattle.std.specs.Prelude.{◌≡◌, ℕ, ◌+◌, Bool, true, false, List, ◌∷◌, ◌++◌, Option, Some, None, is_ok, Result, Ok, Err}
+use Rattle.rip_plan.specs.Network.{Network}
+use Rattle.rip_log.specs.Codes.{is_read}
+use Rattle.rip_log.specs.Leaves.{has_stopped, lines_behind, log_to_come, source_of}
+use Rattle.rip_log.specs.Lines.{Capture}
+use Rattle.rip_log.specs.Logs.{Log, Numbered, Whether}
+use Rattle.rip_log.specs.declared.error.LogCode.TheVariants as codes
+use Rattle.rip_log.specs.declared.reader.Reading.{Reading}
+use Rattle.rip_table.specs.State.{Fits, State}
+use Rattle.rip_table.specs.Joined.{WantsFor, is_memory, joined_records, outcome}
+use Rattle.rip_table.specs.declared.error.CollectCause.{CollectCause}
+use Rattle.rip_table.specs.declared.error.CollectCause.TheVariants.{Log as OfLog}
+use Rattle.rip_table.specs.declared.error.CollectError.{CollectError}
+
+-- some first records of a log were joined, and the others are left
+pub record Passed (n : Network) (old : State) (log : Log) (new : State) (left : Log) : Type 0 where
+  pub taken : List Numbered
+  pub records : log.records ≡ taken ++ left.records
+  pub fault : log.fault ≡ left.fault
+  pub joined : joined_records n old taken ≡ Ok new
+
+-- the same where bytes are told
+abbrev pub PassedKnown : Network → State → Option Log → State → Option Log → Type 0
+PassedKnown n old None new left = Unit {0}
+PassedKnown n old (Some log) new None = ⊥
+PassedKnown n old (Some log) new (Some left) = Passed n old log new left
+
+-- want of memory came at a record of this line, which brings a pair that the table lacks
+pub record Stuck (n : Network) (old : State) (log : Log) (new : State) (left : Log) (line : ℕ) : Type 0 where
+  pub capture : Capture
+  pub before : Passed n old log new (record { records = (record { line = line; capture = capture }) ∷ left.records; fault = left.fault })
+  pub wants : WantsFor n new capture
+
+abbrev pub StuckKnown : Network → State → Option Log → State → Option Log → ℕ → Type 0
+StuckKnown n old None new left line = Unit {0}
+StuckKnown n old (Some log) new None line = ⊥
+StuckKnown n old (Some log) new (Some left) line = Stuck n old log new left line
+
+-- the whole log was joined, or what comes before its first refusal
+abbrev pub OutcomeKnown : Network → State → Option Log → State → Option CollectError → Type 0
+OutcomeKnown n old None new fault = Unit {0}
+OutcomeKnown n old (Some log) new fault = outcome n old log ≡ record { state = new; fault = fault }
+
+-- the source failed
+abbrev pub is_read_cause : CollectCause → Bool
+is_read_cause (OfLog e) = is_read e.code
+is_read_cause other = false
+
+abbrev pub failed_to_read : Result (Unit {0}) CollectError → Bool
+failed_to_read (Ok u) = false
+failed_to_read (Err e) = is_read_cause e.cause
+
+-- the reader refused
+abbrev pub is_log_cause : CollectCause → Bool
+is_log_cause (OfLog e) = true
+is_log_cause other = false
+
+abbrev pub reader_refused : Result (Unit {0}) CollectError → Bool
+reader_refused (Ok u) = false
+reader_refused (Err e) = is_log_cause e.cause
+
+-- what was joined, where bytes are told
+abbrev pub ToldOutcome : Network → State → Option Log → State → Option Log → Result (Unit {0}) CollectError → Type 0
+ToldOutcome n old log new left (Ok u) = OutcomeKnown n old log new None
+ToldOutcome n old log new left (Err e) =
+    Whether (is_memory e.cause) (StuckKnown n old log new left e.line)
+    (Whether (is_read_cause e.cause) (PassedKnown n old log new left) (OutcomeKnown n old log new (Some e)))
+
+pub record Collects {R : Type 0} (coming : R → Option (List ℕ)) (broken at_end : R → Bool) (n : Network) (old new : State) (before after : Reading R) (result : Result (Unit {0}) CollectError) : Type 0 where
+  pub told : has_stopped before ≡ false → ToldOutcome n old (log_to_come coming before) new (log_to_come coming after) result
+  -- a reader that had stopped changes nothing
+  pub stopped : has_stopped before ≡ true → (new ≡ old) × (result ≡ Err (record { line = lines_behind before + 1; cause = OfLog (record { code = codes.Ended; line = lines_behind before + 1 }) }))
+  pub refused : has_stopped before ≡ false → has_stopped after ≡ reader_refused result
+  pub fits : Fits n new
+  -- an Ok only where the source has come to its end, Read only where it has failed
+  pub ended : is_ok result ≡ true → at_end (source_of after) ≡ true
+  pub failed : failed_to_read result ≡ true → broken (source_of after) ≡ true
+  pub marks : failed_to_read result ≡ false → broken (source_of after) ≡ broken (source_of before)

@@ -1,0 +1,56 @@
+//! What refuses a log.
+
+use rip_log::LogError;
+use rip_wire::{Metric, Prefix};
+use thiserror::Error;
+
+/// Why a response is refused, in the numbering that is printed.
+#[derive(Clone, Copy, Debug, PartialEq, Eq, Error)]
+pub enum TableError {
+    /// The interface gave the prefix another metric before, or earlier in the datagram.
+    #[error("changed prefix {prefix:?} from {old:?} to {new:?}")]
+    Changed {
+        /// The prefix of the entry.
+        prefix: Prefix,
+        /// The metric that stands in the table.
+        old: Metric,
+        /// The metric of the entry.
+        new: Metric,
+    },
+    /// The metric is below 16, and the next hop is neither 0.0.0.0 nor the sender.
+    #[error("next hop of prefix {prefix:?}")]
+    NextHop {
+        /// The prefix of the entry.
+        prefix: Prefix,
+    },
+    /// The prefix is new, and the table has 2,048.
+    #[error("too many prefixes")]
+    TooManyPrefixes,
+    /// A growth was refused.
+    #[error("out of memory")]
+    Memory,
+}
+
+/// Why a line of a log is refused.
+#[derive(Clone, Copy, Debug, PartialEq, Eq, Error)]
+pub enum CollectCause {
+    /// The line is bad, or could not be read.
+    #[error("{0:?}")]
+    Log(LogError),
+    /// The table refuses the response.
+    #[error("{0:?}")]
+    Table(TableError),
+    /// A response whose link and sender no interface of the plan has.
+    #[error("unknown sender")]
+    UnknownSender,
+}
+
+/// The first refusal of a log, and its line.
+#[derive(Clone, Copy, Debug, PartialEq, Eq, Error)]
+#[error("line {line}: {cause:?}")]
+pub struct CollectError {
+    /// The number of the line, from 1 on.
+    pub line: u32,
+    /// Why it is refused.
+    pub cause: CollectCause,
+}

@@ -1,0 +1,60 @@
+//! Tables of what interfaces show.
+
+ghost use Rattle.std.specs.Prelude.{◌≡◌, ℕ, ◌<◌, Some, length, slice_get};
+ghost use Rattle.rip_wire.specs.Prefix.{Block};
+ghost use Rattle.rip_wire.specs.Datagram.{message_of};
+ghost use Rattle.rip_plan.specs.Relations.{HasAddress};
+ghost use Rattle.rip_table.specs.Joined.{Takes};
+ghost use Rattle.rip_table.specs.State.{Fits, IsState, State};
+
+use crate::error::TableError;
+use rip_plan::Plan;
+use rip_wire::{Datagram, Metric, Prefix};
+
+/// What the interfaces of a plan showed: for each interface and prefix a metric or nothing, and
+/// which interfaces were heard. Prefixes are those of the plan, and then others in the order in which
+/// they came.
+pub trait MetricTable {
+    // What it means.
+    ghost state: { Self → State };
+
+    // Its prefixes differ, there are at most 2,048, and what is shown is a metric.
+    ghost is_state: { (t : Self) → IsState (state t) };
+
+    /// How many interfaces it has.
+    fn interface_count(&self) -> usize
+        ensures { result ≡ (state self.now).interfaces };
+
+    /// How many prefixes it has.
+    fn prefix_count(&self) -> usize
+        ensures { result ≡ length (state self.now).prefixes };
+
+    /// A prefix, by its number.
+    fn prefix(&self, k: usize) -> Prefix
+        requires { k < length (state self.now).prefixes }
+        ensures { slice_get (state self.now).prefixes k ≡ Some result };
+
+    /// The metric, if any, that an interface showed for the prefix of a number.
+    fn metric(&self, interface: usize, k: usize) -> Option<Metric>
+        requires interface { interface < (state self.now).interfaces }
+        requires prefix { k < length (state self.now).prefixes }
+        ensures { (p : Block) → slice_get (state self.now).prefixes k ≡ Some p → result ≡ (state self.now).shows interface p };
+
+    /// Whether an interface was heard: whether a response of it was taken.
+    fn heard(&self, interface: usize) -> bool
+        requires { interface < (state self.now).interfaces }
+        ensures { result ≡ (state self.now).heard interface };
+
+    /// Takes in a datagram of an interface. A request changes nothing. A response adds the metric of
+    /// each entry, or is refused by its first bad entry, and then changes nothing; Memory comes only
+    /// for one without a bad entry that brings a pair of interface and prefix.
+    fn take(
+        &mut self,
+        plan: &Plan,
+        interface: usize,
+        datagram: &Datagram<'_>,
+    ) -> Result<(), TableError>
+        requires fits { Fits plan.now (state self.old) }
+        requires interface { interface < length plan.now.interfaces }
+        ensures takes { (l a : ℕ) → HasAddress plan.now interface l a → Takes a interface (state self.old) (message_of datagram.now) (state self.new) result };
+}
