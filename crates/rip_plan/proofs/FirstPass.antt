@@ -1,5 +1,5 @@
 -- What the first pass over a plan's places keeps.
-use Rattle.std.proofs.Common.{◌≡◌, ℕ, zero, suc, ◌+◌, ◌-◌, ◌<◌, ◌≤◌, ◌^◌, List, [], ◌∷◌, ◌++◌, length, length-append, Bool, true, false, cond, not, ◌&&◌, ◌||◌, Option, Some, None, Result, Ok, refl, sym, ◌∙◌, ap, arith, leb, ltb}
+use Rattle.std.proofs.Common.{◌≡◌, ℕ, ◌+◌, ◌-◌, ◌<◌, ◌≤◌, ◌^◌, List, [], ◌∷◌, ◌++◌, length, length-append, Bool, true, false, not, ◌&&◌, ◌||◌, Option, Some, None, Ok, refl, ◌∙◌, ap, arith}
 use Rattle.std.specs.Prelude.{ℤ, pos, negsuc, nat_le, nat_lt}
 use Rattle.std.specs.List.{AllByRecursion, IsDistinct, list_any, position_or_len}
 use Rattle.std.specs.Str.{bytes_eq}
@@ -13,16 +13,14 @@ use Rattle.rip_wire.proofs.Names.{is_name-gives}
 use Rattle.rip_wire.proofs.Parsing.{address_in-gives, prefix_in-gives}
 use Rattle.rip_plan.specs.declared.draft.DraftInterface.{DraftInterface}
 use Rattle.rip_plan.specs.declared.draft.DraftPlace.{DraftPlace}
-use Rattle.rip_plan.specs.declared.parts.Interface.{Interface}
 use Rattle.rip_plan.specs.declared.parts.Seat.{Seat}
 use Rattle.rip_plan.specs.declared.parts.Seat.TheVariants as seats
 use Rattle.rip_plan.specs.declared.error.At.{At}
-use Rattle.rip_plan.specs.Fault.{steps}
 use Rattle.rip_plan.specs.Fields.{cost_of, is_between}
-use Rattle.rip_plan.specs.Draft.{Sketch, prefix_step, link_step, interface_step, own_step, router_step, is_on, is_taken, is_outside, has_address, number_of}
+use Rattle.rip_plan.specs.Draft.{Sketch, prefix_step, link_step, interface_step, own_step, router_step, is_on, is_outside, has_address, number_of}
 use Rattle.rip_plan.proofs.Binds.{steps_keep}
 use Rattle.rip_plan.proofs.Items.{all_none, all_push, all_weaker, distinct_push}
-use Rattle.rip_plan.proofs.StepsTaken.{PlaceTaken, with_link, with_router, prefix_taken, link_taken, interface_taken, own_taken, router_taken}
+use Rattle.rip_plan.proofs.StepsTaken.{with_link, with_router, prefix_taken, link_taken, interface_taken, own_taken, router_taken}
 
 pub record IsFit (links routers : ℕ) (i : DraftInterface) : Type 0 where
   pub least : 1 ≤ i.interface.cost

@@ -1,10 +1,10 @@
 -- The keys of a table, as a chain over the map meets them.
-use Rattle.std.proofs.Common.{◌≡◌, ℕ, List, [], ◌∷◌, Bool, true, false, ◌&&◌, refl, ap, String, string_bytes, Global}
+use Rattle.std.proofs.Common.{◌≡◌, ℕ, List, [], ◌∷◌, Bool, ◌&&◌, refl, ap, String, string_bytes, Global}
 use Rattle.std.specs.List.{list_all}
 use Rattle.std.specs.BTreeMap.{BTreeMap, keys}
 use Rattle.toml.specs.declared.value.Value.{Value}
 use Rattle.toml.specs.View.{view, members_view, table_view}
-use Rattle.toml.specs.Data.{Data, Items}
+use Rattle.toml.specs.Data.{Data}
 use Rattle.toml.specs.View.{items_view}
 use Rattle.std.proofs.Common.{map}
 use Rattle.rip_plan.specs.Fields.{keys_pass, list_of}

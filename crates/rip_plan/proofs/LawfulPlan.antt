@@ -1,32 +1,30 @@
 -- A plan that was read keeps the laws.
-use Rattle.std.proofs.Common.{◌≡◌, ℕ, zero, suc, ◌+◌, ◌^◌, ◌<◌, ◌≤◌, ◌⊎◌, inl, inr, List, [], ◌∷◌, length, map, Bool, true, false, cond, not, ◌&&◌, ◌||◌, Option, Some, None, Result, Ok, refl, sym, ◌∙◌, ap, subst, arith, rules}
+use Rattle.std.proofs.Common.{◌≡◌, ℕ, ◌+◌, ◌^◌, ◌<◌, ◌≤◌, inl, inr, List, [], ◌∷◌, length, map, Bool, true, false, not, ◌&&◌, ◌||◌, Option, Some, None, Ok, refl, sym, ◌∙◌, ap, subst, arith}
 use Rattle.std.specs.Prelude.{slice_get, ◌==◌, nat_lt, codes as codes_of}
 use Rattle.std.specs.List.{IsDistinct, list_any}
 use Rattle.std.specs.Str.{bytes_eq}
 use Rattle.std.proofs.lemmas.Option.{none-some, same_Some, slice_get_within}
 use Rattle.std.proofs.lemmas.List.{length-map}
 use Rattle.std.proofs.lemmas.Bool.Decides.{nat_tests}
-use Rattle.std.proofs.lemmas.Slice.Eq.{bytes_eq-Decides}
 use Rattle.toml.specs.Data.{Data, Members}
 use Rattle.rip_wire.specs.Name.{IsName}
-use Rattle.rip_wire.specs.Prefix.{Block, IsBlock, ContainsAddress}
+use Rattle.rip_wire.specs.Prefix.{Block, IsBlock}
 use Rattle.rip_plan.specs.declared.draft.DraftInterface.{DraftInterface}
 use Rattle.rip_plan.specs.declared.draft.DraftPlace.{DraftPlace}
 use Rattle.rip_plan.specs.declared.parts.Interface.{Interface}
-use Rattle.rip_plan.specs.declared.parts.Place.{Place}
 use Rattle.rip_plan.specs.declared.parts.Seat.{Seat}
 use Rattle.rip_plan.specs.declared.parts.Seat.TheVariants as seats
 use Rattle.rip_plan.specs.Fields.{some_items, root_fields, items_at, is_root_key, keys_pass, ◌&>◌}
 use Rattle.rip_plan.specs.Draft.{Sketch, link_step, router_step, is_on, is_outside, has_address}
-use Rattle.rip_plan.specs.Passes.{same_prefix, touched, touching, Touching, do_meet, is_same_link, have_common, are_twice, have_one_address, second_passes}
-use Rattle.rip_plan.specs.PlanText.{empty, sketch_of_document, sketch_of}
-use Rattle.rip_plan.specs.Network.{Network, network_of_sketch, numbered}
-use Rattle.rip_plan.specs.Relations.{IsLinkName, IsRouterName, IsPrefix, IsInterface, HasAddress, IsPlace, HasCost, Carries, Touches, IsInside, IsLawful}
+use Rattle.rip_plan.specs.Passes.{same_prefix, touched, touching, do_meet, is_same_link, have_common, are_twice, have_one_address}
+use Rattle.rip_plan.specs.PlanText.{empty, sketch_of}
+use Rattle.rip_plan.specs.Network.{network_of_sketch}
+use Rattle.rip_plan.specs.Relations.{IsPrefix, IsInterface, HasAddress, IsPlace, Carries, Touches, IsInside, IsLawful}
 use Rattle.rip_plan.proofs.Binds.{steps_keep}
-use Rattle.rip_plan.proofs.Items.{both, or_false, all_at, any_at, any_finds, distinct_at, none_at, get_seen, see_got, get_some}
+use Rattle.rip_plan.proofs.Items.{both, or_false, all_at, any_at, any_finds, distinct_at, get_seen, see_got, get_some}
 use Rattle.rip_plan.proofs.StepsTaken.{DocumentTaken, text_taken}
 use Rattle.rip_plan.proofs.FirstPass.{Kept, IsFit, IsFitPlace, IsFitSeat, IsInsideOf, BetweenLinks, BetweenRouters, link_keeps, router_keeps}
-use Rattle.rip_plan.proofs.Numbering.{AreNumbered, numbers, same_from, same_self}
+use Rattle.rip_plan.proofs.Numbering.{numbers, same_from, same_self}
 use Rattle.rip_plan.proofs.Tables.{chosen}
 use Rattle.rip_plan.proofs.Lookups.{name_same, on_seat}
 use Rattle.rip_plan.proofs.SecondPasses.{Clear, passes_clear, has_one, on_touched, own_touched, common}

@@ -1,11 +1,10 @@
 -- What the look-ups of a lawful plan find, in the words of its relations.
-use Rattle.std.proofs.Common.{◌≡◌, ◌≢◌, ℕ, zero, suc, ◌+◌, ◌<◌, ◌≤◌, ◌⊎◌, ◌↔◌, inl, inr, List, [], ◌∷◌, length, get_or, Bool, true, false, cond, not, ◌&&◌, Option, Some, None, refl, sym, ◌∙◌, ap, subst, arith}
+use Rattle.std.proofs.Common.{◌≡◌, ℕ, zero, suc, ◌+◌, ◌⊎◌, inl, inr, List, [], ◌∷◌, Bool, true, false, cond, ◌&&◌, Option, Some, None, refl, sym, ◌∙◌, ap, subst, arith}
 use Rattle.std.specs.Prelude.{slice_get, ◌==◌, option_and_then}
-use Rattle.std.specs.Option.{option_or, is_some}
-use Rattle.std.specs.List.{Contains, position_from, list_any}
+use Rattle.std.specs.Option.{option_or}
+use Rattle.std.specs.List.{Contains, position_from}
 use Rattle.std.specs.Str.{bytes_eq}
-use Rattle.std.proofs.lemmas.Option.{none-some, same_Some, slice_get_within, slice_get-get_or}
-use Rattle.std.proofs.lemmas.Bool.{cases_lt}
+use Rattle.std.proofs.lemmas.Option.{none-some, same_Some}
 use Rattle.std.proofs.lemmas.Bool.Decides.{nat_tests}
 use Rattle.std.proofs.lemmas.Slice.Eq.{bytes_eq-Decides}
 use Rattle.rip_wire.specs.Prefix.{Block}
@@ -16,7 +15,7 @@ use Rattle.rip_plan.specs.declared.parts.Seat.TheVariants as seats
 use Rattle.rip_plan.specs.Draft as draft
 use Rattle.rip_plan.specs.Passes.{same_prefix}
 use Rattle.rip_plan.specs.Network.{Network, number_of_prefix, first_named, first_at, is_at, found_at, is_on, is_of, numbers_where, is_carrying, first_carrying, cost_on, cost_at, direct_at}
-use Rattle.rip_plan.specs.Relations.{IsLinkName, IsPrefix, IsInterface, HasAddress, IsAt, HasCost, IsPlace, Carries, Touches, IsDirect, IsLeaf, HasTwoInterfaces, IsLawful}
+use Rattle.rip_plan.specs.Relations.{IsPrefix, IsInterface, HasAddress, IsAt, IsPlace, Carries, Touches, IsDirect, IsLawful}
 use Rattle.rip_plan.proofs.Items.{both, position_finds, position_none, none_at}
 use Rattle.rip_plan.proofs.Numbering.{same_is, same_self}
 use Rattle.rip_plan.proofs.NumbersWhere.{contains_at, at_contains, number_passes, passing_number}

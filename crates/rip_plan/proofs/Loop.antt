@@ -1,10 +1,10 @@
 -- A step for each item of a list, as a loop takes them.
-use Rattle.std.proofs.Common.{◌≡◌, ℕ, ◌+◌, ◌<◌, ◌≤◌, List, [], ◌∷◌, length, map, drop, get_or, Result, Ok, Err, refl, sym, ◌∙◌, arith, ap}
+use Rattle.std.proofs.Common.{◌≡◌, ℕ, ◌+◌, ◌<◌, ◌≤◌, List, [], ◌∷◌, length, map, drop, get_or, Result, Ok, Err, refl, sym, ◌∙◌, ap}
 use Rattle.std.proofs.lemmas.List.{drop_more, at_drop_all}
 use Rattle.rip_plan.specs.declared.error.PlanError.{PlanError}
 use Rattle.rip_plan.specs.declared.error.ReadError.{ReadError}
 use Rattle.rip_plan.specs.declared.error.ReadError.TheVariants as errors
-use Rattle.rip_plan.specs.Fault.{◌>>=◌, steps, Fails}
+use Rattle.rip_plan.specs.Fault.{steps, Fails}
 
 module _ {S A V : Type 0} (view : V → A) (step : ℕ → A → S → Result S PlanError) (vs : List V) where
   pub goes_on : (i : ℕ) (v : V) (s t : S) (total : Result S PlanError) → i < length vs → v ≡ get_or vs i v → step (i + 1) (view v) s ≡ Ok t

@@ -1,7 +1,7 @@
 -- A name among the texts of a list.
-use Rattle.std.proofs.Common.{◌≡◌, ℕ, List, [], ◌∷◌, Bool, true, false, cond, not, ◌||◌, ◌+◌, length, map, refl, ap, String, string_bytes, Global, Option, Some, None, ltb, rules, arith, ◌∙◌, sym}
+use Rattle.std.proofs.Common.{◌≡◌, ℕ, List, [], ◌∷◌, cond, not, ◌||◌, ◌+◌, length, map, refl, ap, String, string_bytes, Global, Some, None}
 use Rattle.std.specs.Str.{bytes_eq}
-use Rattle.std.specs.List.{list_any, prefix_len, position_or_len}
+use Rattle.std.specs.List.{list_any, position_or_len}
 use Rattle.std.specs.Prelude.{nat_lt}
 use Rattle.std.proofs.lemmas.List.{length-map}
 use Rattle.rip_plan.specs.Draft.{is_taken, number_of}

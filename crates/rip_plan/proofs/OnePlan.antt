@@ -1,8 +1,8 @@
 -- A document has one plan.
-use Rattle.std.proofs.Common.{◌≡◌, ℕ, ◌⊎◌, inl, inr, List, [], ◌∷◌, ◌++◌, map, Option, Some, None, refl, sym, ◌∙◌, ap, subst}
-use Rattle.std.specs.Prelude.{ℤ, pos, slice_get, codes as codes_of}
+use Rattle.std.proofs.Common.{◌≡◌, ℕ, inl, inr, List, ◌++◌, map, Some, sym, ◌∙◌, ap, subst}
+use Rattle.std.specs.Prelude.{pos, slice_get, codes as codes_of}
 use Rattle.std.proofs.lemmas.Option.{none-some, same_Some}
-use Rattle.toml.specs.Data.{Data, Items, Members, string, integer, array, table, get}
+use Rattle.toml.specs.Data.{Data, Members, string, integer, array, table}
 use Rattle.rip_wire.specs.Address.{address_in}
 use Rattle.rip_wire.specs.Prefix.{Block, prefix_in}
 use Rattle.rip_plan.specs.declared.parts.Interface.{Interface}

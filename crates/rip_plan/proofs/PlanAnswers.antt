@@ -1,8 +1,8 @@
 -- What a lawful plan answers from its look-ups.
-use Rattle.std.proofs.Common.{◌≡◌, ◌<◌, ◌↔◌, ℕ, Bool, true, false, not, Option, Some, None, List, length, refl, sym, ◌∙◌, ap}
+use Rattle.std.proofs.Common.{◌≡◌, ◌<◌, ◌↔◌, ℕ, Bool, false, Option, Some, None, List, length, refl, sym, ◌∙◌, ap}
 use Rattle.std.specs.Prelude.{option_and_then, Decides, IfSome}
 use Rattle.std.specs.Option.{is_some}
-use Rattle.std.proofs.lemmas.Option.{none-some, same_Some, slice_get_within}
+use Rattle.std.proofs.lemmas.Option.{slice_get_within}
 use Rattle.rip_wire.specs.Prefix.{Block}
 use Rattle.rip_plan.specs.Network.{Network, direct_at, first_carrying, found_at, number_of_prefix}
 use Rattle.rip_plan.specs.Relations.{IsAt, IsPrefix, IsDirect, Carries, IsLawful}

@@ -1,31 +1,10 @@
 -- What the tables of a document hold, where their fields were read.
-use Rattle.std.proofs.Common.{◌≡◌, ℕ, ◌+◌, ◌-◌, ◌⊎◌, inl, inr, List, [], ◌∷◌, ◌++◌, length, map, append_assoc, Bool, true, false, cond, ◌&&◌, Option, Some, None, Result, Ok, refl, sym, ◌∙◌, ap, arith, length-append}
-use Rattle.std.specs.Prelude.{ℤ, pos, negsuc, option_and_then, option_map, slice_get, codes as codes_of}
+use Rattle.std.proofs.Common.{◌≡◌, ℕ, ◌⊎◌, inl, inr, List, [], Bool, true, false, cond, Option, Some, None, refl, sym, ◌∙◌, ap}
+use Rattle.std.specs.Prelude.{ℤ, pos, negsuc, option_and_then, option_map, codes as codes_of}
 use Rattle.std.proofs.lemmas.Option.{none-some, same_Some, cond_some}
-use Rattle.std.proofs.lemmas.List.{append-nil, length-map}
 use Rattle.toml.specs.Data.{Data, Items, Members, string, integer, float, boolean, datetime, array, table, get, get_member, as_str, as_integer, as_array, as_table}
-use Rattle.rip_wire.specs.Prefix.{Block}
-use Rattle.rip_plan.specs.declared.error.PlanError.{PlanError}
-use Rattle.rip_plan.specs.declared.draft.DraftInterface.{DraftInterface}
-use Rattle.rip_plan.specs.declared.draft.DraftPlace.{DraftPlace}
-use Rattle.rip_plan.specs.declared.parts.Interface.{Interface}
-use Rattle.rip_plan.specs.declared.parts.Place.{Place}
-use Rattle.rip_plan.specs.declared.parts.Seat.{Seat}
-use Rattle.rip_plan.specs.declared.parts.Seat.TheVariants as seats
-use Rattle.rip_plan.specs.declared.error.At.{At}
-use Rattle.rip_plan.specs.declared.error.At.TheVariants.{LinkPrefix, RouterInterface, RouterOwn}
-use Rattle.rip_plan.specs.Fault.{◌>>=◌, steps}
-use Rattle.rip_plan.specs.Fields.{◌&>◌, keys_pass, list_of, text_at, items_at, items_if, integer_if, is_link_key, is_interface_key, is_own_key, is_router_key, is_root_key, is_between, some_items, link_fields, interface_fields, own_fields, router_fields, root_fields, cost_of}
-use Rattle.rip_plan.specs.Draft.{Sketch, prefix_step, link_step, interface_step, own_step, router_step}
-use Rattle.rip_plan.specs.PlanText.{empty, sketch_of}
-use Rattle.rip_plan.specs.Network.{network_of_sketch, numbered}
-use Rattle.rip_plan.specs.PlanOf.{Matched, HasText, HasItems, IsCostOf, IsNameOf, items_in, items_under, IsInterfaceOf, Placement, IsOnLink, IsOwned, IsPlaceOf, each_once, PlanOf, IsPlanOfText}
-use Rattle.rip_plan.proofs.Binds.{bind_ok, ok_same}
-use Rattle.rip_plan.proofs.StepsTaken.{with_link, with_router, prefix_taken, link_taken, interface_taken, own_taken, router_taken, DocumentTaken, text_taken}
-use Rattle.rip_plan.proofs.Numbering.{numbers}
-use Rattle.rip_plan.proofs.Matching.{matched_append, matched_at, map_append}
-use Rattle.rip_plan.proofs.EachOnce.{numbered_once}
-use Rattle.rip_plan.proofs.Items.{get_seen}
+use Rattle.rip_plan.specs.Fields.{◌&>◌, keys_pass, list_of, text_at, items_at, items_if, integer_if, is_link_key, is_interface_key, is_own_key, is_router_key, is_between, link_fields, interface_fields, own_fields, router_fields, cost_of}
+use Rattle.rip_plan.specs.PlanOf.{HasText, IsCostOf, IsNameOf, items_in}
 
 pub then_some : {A B : Type 0} (o : Option A) (f : A → Option B) (y : B) → (o &> f) ≡ Some y → (x : A) × (o ≡ Some x) × (f x ≡ Some y)
 then_some None f y h = absurd (none-some y h)

@@ -1,5 +1,5 @@
 -- What was read of a plan so far, and each step of the first pass over its places.
-use Rattle.std.specs.Prelude.{◌≡◌, ℕ, ◌+◌, ◌-◌, ◌/◌, List, [], ◌∷◌, ◌++◌, length, map, Bool, true, false, ◌&&◌, not, ◌==◌, nat_le, Option, Some, None, Result, Ok, Err, if◌then◌else◌, string_bytes, position}
+use Rattle.std.specs.Prelude.{◌≡◌, ℕ, ◌-◌, ◌/◌, List, [], ◌∷◌, ◌++◌, length, map, Bool, false, ◌&&◌, not, ◌==◌, nat_le, Option, Result, Ok, Err, if◌then◌else◌, string_bytes, position}
 use Rattle.std.specs.Str.{bytes_eq}
 use Rattle.std.specs.List.{list_any}
 use Rattle.toml.specs.Data.{Data, as_str, as_table}

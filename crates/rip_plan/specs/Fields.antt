@@ -1,8 +1,7 @@
 -- The tables of a plan's document, by their keys.
-use Rattle.std.specs.Prelude.{◌≡◌, ℕ, ℤ, pos, negsuc, zero, suc, List, [], ◌∷◌, length, codes, Bool, true, false, ◌&&◌, ◌||◌, ◌==◌, nat_le, Option, Some, None, option_and_then, option_map, if◌then◌else◌}
+use Rattle.std.specs.Prelude.{ℕ, ℤ, pos, negsuc, List, [], ◌∷◌, codes, Bool, true, false, ◌&&◌, ◌||◌, ◌==◌, nat_le, Option, Some, None, option_and_then, option_map, if◌then◌else◌}
 use Rattle.std.specs.Str.{bytes_eq}
-use Rattle.std.specs.List.{list_all}
-use Rattle.toml.specs.Data.{Data, string, integer, float, boolean, datetime, array, table, Items, no_items, item, Members, no_members, member, get_member, as_str, as_integer, as_array}
+use Rattle.toml.specs.Data.{Data, integer, Items, no_items, item, Members, no_members, member, get_member, as_str, as_integer, as_array}
 
 infixl 10 ◌&>◌
 abbrev pub ◌&>◌ : {A B : Type 0} → Option A → (A → Option B) → Option B

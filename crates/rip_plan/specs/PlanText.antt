@@ -1,5 +1,5 @@
 -- The plan that a text is, or its first fault.
-use Rattle.std.specs.Prelude.{◌≡◌, ℕ, List, [], length, codes, ◌||◌, not, nat_lt, Option, None, Result, Ok, Err, if◌then◌else◌, ◌⊎◌}
+use Rattle.std.specs.Prelude.{ℕ, List, [], length, codes, ◌||◌, not, nat_lt, Option, None, Result, Ok, Err, if◌then◌else◌}
 use Rattle.std.specs.Str.{is_utf8}
 use Rattle.toml.specs.Data.{Members, get_member}
 use Rattle.toml.specs.Parse.{parse_document}

@@ -2,7 +2,6 @@
 use Rattle.std.specs.Prelude.{◌≡◌, ◌≢◌, ℕ, ◌<◌, ◌≤◌, ◌^◌, ◌⊎◌, List, length, Some, slice_get}
 use Rattle.rip_wire.specs.Name.{IsName}
 use Rattle.rip_wire.specs.Prefix.{Block, ContainsAddress, IsBlock}
-use Rattle.rip_plan.specs.declared.parts.Place.{Place}
 use Rattle.rip_plan.specs.declared.parts.Seat.{Seat}
 use Rattle.rip_plan.specs.declared.parts.Seat.TheVariants.{Link, Own}
 use Rattle.rip_plan.specs.Network.{Network}

@@ -1,4 +1,4 @@
-use Rattle.std.proofs.Common.{◌≡◌, ℕ, refl, cond, Some, eqb, ◌&&◌, ◌∙◌}
+use Rattle.std.proofs.Common.{◌≡◌, refl, cond, Some, eqb, ◌&&◌, ◌∙◌}
 use Rattle.std.specs.BTreeMap.{get}
 use Rattle.rip_plan.specs.Network.{pair_cmp}
 use Rattle.rip_plan.proofs.Back.{is_eq-pair_cmp}

@@ -1,4 +1,4 @@
-use Rattle.std.proofs.Common.{◌≡◌, true, ℕ, ◌-◌, ◌∷◌, drop, arith, refl, cond, Some, eqb, ◌&&◌, ◌∙◌, sym}
+use Rattle.std.proofs.Common.{◌≡◌, true, ◌-◌, ◌∷◌, drop, arith, refl, cond, Some, eqb, ◌&&◌, ◌∙◌}
 use Rattle.std.specs.Prelude.{◌==◌}
 use Rattle.std.specs.BTreeMap.{get}
 use Rattle.std.proofs.lemmas.Bool.Decides.{nat_tests}

@@ -1,4 +1,4 @@
-use Rattle.std.proofs.Common.{◌≡◌, ℕ, ◌-◌, ◌&&◌, arith, refl, cond, Some, get_or, eqb, ◌∙◌, sym}
+use Rattle.std.proofs.Common.{◌≡◌, ◌-◌, ◌&&◌, arith, refl, cond, Some, get_or, eqb, ◌∙◌, sym}
 use Rattle.std.specs.BTreeMap.{get}
 use Rattle.std.proofs.lemmas.Option.{get_or_from_slice_get}
 use Rattle.rip_plan.specs.declared.parts.Place.{Place}

@@ -1,9 +1,6 @@
-use Rattle.std.proofs.Common.{◌≡◌, ℕ, ◌-◌, ◌<◌, ◌≤◌, length, get_or, arith, rules, refl, cond, Some, sym, ◌∙◌, ap, drop, map, string_bytes}
-use Rattle.std.specs.BTreeMap.{get_by_text}
-use Rattle.std.specs.List.{position_from}
+use Rattle.std.proofs.Common.{arith, ◌∙◌, string_bytes}
 use Rattle.std.specs.Str.{bytes_eq}
 use Rattle.std.proofs.lemmas.Map.Text.{btree_map_updates_text}
-use Rattle.rip_plan.specs.Network.{first_named}
 use Rattle.rip_plan.proofs.Back.{first_back_seen}
 use Rattle.rip_plan.proofs.index.numbers_of_names.Goals as goal
 
