@@ -1,7 +1,9 @@
 //! Logs in pieces, with faults, and from readers that fail.
 
-use crate::{FromRead, LogCode, LogError, LogReader, Record};
-use rip_wire::{Address, Datagram, Entry, Kind, Metric, Prefix, write_response};
+ghost use Rattle.std.specs.Prelude.{◌≤◌, length};
+
+use crate::{FromRead, LogCode, LogError, LogReader};
+use rip_wire::{Address, Entry, Kind, Metric, Prefix, write_response};
 use std::alloc::{AllocError, Global};
 use std::io;
 use std::io::Read;
@@ -12,8 +14,6 @@ mod faults;
 mod growths;
 mod limits;
 mod pulls;
-
-ghost use Rattle.std.specs.Prelude.{◌≤◌, length};
 
 /// The settled log of a triangle of routers: links, senders, and entries by the X of 10.X.0.0/16 and
 /// the metric.

@@ -2,7 +2,6 @@
 
 use super::{expect_outcome, reader_in, settled};
 use crate::{FromRead, LogCode, LogError, LogReader};
-use std::alloc::Global;
 use std::io;
 use std::io::Read;
 use std::test::Fail;
