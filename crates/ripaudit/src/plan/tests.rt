@@ -170,6 +170,38 @@ fn refuses_a_router_without_interfaces(rt: HostRuntime) -> Result<(), Fail> {
     Ok(())
 }
 
+#[test]
+fn accepts_plans(rt: HostRuntime) -> Result<(), Fail> {
+    let rows = [
+        // A prefix of link a that r3, which is not on it, owns too.
+        (
+            "link = \"c\"\naddress = \"10.3.0.3\"\n",
+            "link = \"c\"\naddress = \"10.3.0.3\"\n[[router.own]]\nprefix = \"10.1.0.0/16\"\n",
+        ),
+        // A fourth router with one interface, and the same with a prefix of its own.
+        (
+            "link = \"c\"\naddress = \"10.3.0.3\"\n",
+            "link = \"c\"\naddress = \"10.3.0.3\"\n[[router]]\nname = \"r4\"\n[[router.interface]]\nlink = \"b\"\naddress = \"10.2.0.4\"\n",
+        ),
+        (
+            "link = \"c\"\naddress = \"10.3.0.3\"\n",
+            "link = \"c\"\naddress = \"10.3.0.3\"\n[[router]]\nname = \"r4\"\n[[router.interface]]\nlink = \"b\"\naddress = \"10.2.0.4\"\n[[router.own]]\nprefix = \"10.7.0.0/16\"\n",
+        ),
+        // The third router with one interface.
+        (
+            "[[router.interface]]\nlink = \"c\"\naddress = \"10.3.0.3\"\n",
+            "",
+        ),
+    ];
+    for (old, new) in rows {
+        let plan = changed(rt.alloc(), old, new)?;
+        let mut out = IntoWrite::new(Vec::new(rt.alloc()));
+        let outcome = run_plan(rt.alloc(), plan.as_bytes(), &mut out);
+        assert_eq!(rt; outcome, Ok(Status::Done), "{new}");
+    }
+    Ok(())
+}
+
 /// The triangle, and a comment after it that brings it to so many bytes.
 fn padded(alloc: Global, size: usize) -> Result<String, AllocError> {
     let mut text = String::new(alloc);
