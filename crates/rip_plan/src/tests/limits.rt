@@ -129,6 +129,19 @@ fn prefixes(rt: HostRuntime) -> Result<(), Fail> {
     Ok(())
 }
 
+/// A limit of places comes before a prefix twice on one link.
+#[test]
+fn prefixes_and_a_duplicate(rt: HostRuntime) -> Result<(), Fail> {
+    let alloc = rt.alloc();
+    let over = with_prefixes(alloc, 1025)?;
+    let both = replaced(alloc, over.as_str(), "172.0.1.0/24", "10.0.0.0/16")?;
+    assert_eq!(rt;
+        Plan::read(alloc, both.as_bytes()).err(),
+        limit(At::LinkPrefix(1, 1025))
+    );
+    Ok(())
+}
+
 /// A plan that passes a limit and has another fault is refused with the one that the order puts first.
 #[test]
 fn limits_and_other_faults(rt: HostRuntime) -> Result<(), Fail> {

@@ -182,6 +182,15 @@ fn two_faults(rt: HostRuntime) -> Result<(), Fail> {
             PlanCode::TwiceOnLink,
             At::RouterInterface(3, 2),
         ),
+        // UnknownLink before TwiceOnLink
+        (
+            "link = \"c\"\naddress = \"10.3.0.1\"",
+            "link = \"a\"\naddress = \"10.1.0.9\"",
+            "link = \"b\"",
+            "link = \"d\"",
+            PlanCode::UnknownLink,
+            At::RouterInterface(2, 2),
+        ),
         // DuplicateAddress before NoInterface
         (
             "[[router]]\nname = \"r1\"",
