@@ -3,3 +3,5 @@ pub mod FitLemmas
 pub mod BlameLemmas
 pub mod JoinLemmas
 pub mod TakeLemmas
+pub mod NumberLemmas
+pub mod CheckLemmas

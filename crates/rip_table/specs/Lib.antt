@@ -1,3 +1,4 @@
 pub mod State
 pub mod Joined
 pub mod Collects
+pub mod Numbers

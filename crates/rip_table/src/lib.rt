@@ -3,6 +3,7 @@
 
 mod error;
 mod joining;
+mod numbered;
 mod table;
 
 pub use error::{CollectCause, CollectError, TableError};

@@ -1,0 +1,167 @@
+-- Numbers of prefixes, and what entries say of a prefix.
+use Rattle.std.proofs.Common.{inl, inr, take, drop, ◌≡◌, ◌≢◌, ℕ, zero, suc, ◌+◌, ◌<◌, ◌≤◌, Bool, true, false, cond, ◌||◌, not, List, [], ◌∷◌, ◌++◌, length, Option, Some, None, is_some, is_none, refl, sym, ap, ◌∙◌, arith, subst}
+use Rattle.std.specs.List.{slice_get, slice_index_or, list_any, position_from}
+use Rattle.std.specs.Option.{option_or}
+use Rattle.std.proofs.lemmas.Option.{get_or_from_slice_get, slice_get_cases, slice_get_within}
+use Rattle.std.proofs.lemmas.List.Folds.{list_any-append}
+use Rattle.rip_wire.specs.Prefix.{Block}
+use Rattle.rip_wire.specs.Message.{Message, request, response}
+use Rattle.rip_wire.specs.Datagram.{entries_of, kind_of}
+use Rattle.rip_wire.specs.declared.datagram.Kind.TheVariants.{Request, Response}
+use Rattle.rip_wire.specs.declared.entry.Entry.{Entry}
+use Rattle.rip_plan.specs.Network.{number_of_prefix}
+use Rattle.rip_plan.specs.Passes.{same_prefix}
+use Rattle.rip_table.specs.State.{IsState, State, is_among}
+use Rattle.rip_table.specs.Numbers.{AreNumbers, metric_among}
+use Rattle.rip_table.proofs.Lists.{same-is, same-self, is_among-item}
+
+pub true-false : {A : Type 0} (b : Bool) → b ≡ true → b ≡ false → A
+true-false true h k = absurd (cc k)
+true-false false h k = absurd (cc h)
+
+-- the number is that of an item that passes
+placed : (test : Block → Bool) (ps : List Block) (n k : ℕ) → position_from test n ps ≡ Some k → (i : ℕ) × (p : Block) × (k ≡ n + i) × (slice_get ps i ≡ Some p) × (test p ≡ true)
+placed test [] n k h = absurd (cc h)
+placed test (q ∷ ps) n k h = by (test q) refl h (λ e. placed test ps (n + 1) k e)
+  where
+    by : (b : Bool) → test q ≡ b → cond b (Some n) (position_from test (n + 1) ps) ≡ Some k
+        → (position_from test (n + 1) ps ≡ Some k → (i : ℕ) × (p : Block) × (k ≡ n + 1 + i) × (slice_get ps i ≡ Some p) × (test p ≡ true))
+        → (i : ℕ) × (p : Block) × (k ≡ n + i) × (slice_get (q ∷ ps) i ≡ Some p) × (test p ≡ true)
+    by true t e later = let same : n ≡ k = cc e in (0, q, omega (arith, same), refl, t)
+    by false t e later =
+        let found = later e in
+        let at : slice_get (q ∷ ps) (suc found.0) ≡ Some found.1 = found.3 in
+        (suc found.0, found.1, omega (arith, found.2), at, found.4)
+
+pub number-at : (p : Block) (ps : List Block) (k : ℕ) → number_of_prefix p ps ≡ Some k → slice_get ps k ≡ Some p
+number-at p ps k h =
+    let found = placed (same_prefix p) ps 0 k h in
+    let here : k ≡ found.0 = omega (arith, found.2) in
+    let same : p ≡ found.1 = same-is p found.1 found.4 in
+    ap (slice_get ps) here ∙ found.3 ∙ ap (λ (q : Block). Some q) (sym same)
+
+missing : (p : Block) (ps : List Block) (n : ℕ) → position_from (same_prefix p) n ps ≡ None → is_among p ps ≡ false
+missing p [] n h = refl
+missing p (q ∷ ps) n h = by (same_prefix p q) h (λ e. missing p ps (n + 1) e)
+  where
+    by : (b : Bool) → cond b (Some n) (position_from (same_prefix p) (n + 1) ps) ≡ None → (position_from (same_prefix p) (n + 1) ps ≡ None → is_among p ps ≡ false) → (b || is_among p ps) ≡ false
+    by true e later = absurd (cc e)
+    by false e later = later e
+
+pub number-none : (p : Block) (ps : List Block) → number_of_prefix p ps ≡ None → is_among p ps ≡ false
+number-none p ps h = missing p ps 0 h
+
+pub number-some : (p : Block) (ps : List Block) (k : ℕ) → number_of_prefix p ps ≡ Some k → is_among p ps ≡ true
+number-some p ps k h = is_among-item ps k p (number-at p ps k h)
+
+-- nothing is shown of a prefix that is not in the list
+pub unlisted : (s : State) (i : ℕ) (p : Block) → IsState s → i < s.interfaces → is_among p s.prefixes ≡ false → s.shows i p ≡ None
+unlisted s i p valid lt h = by (s.shows i p) refl
+  where
+    by : (o : Option ℕ) → s.shows i p ≡ o → s.shows i p ≡ None
+    by None e = e
+    by (Some m) e = true-false (is_among p s.prefixes) (valid.shown i m p lt e).listed h
+
+-- what one more entry says
+pub metric_among-snoc : (p : Block) (es : List Entry) (e : Entry) → metric_among p (es ++ e ∷ []) ≡ option_or (metric_among p es) (cond (same_prefix p e.prefix) (Some e.metric) None)
+metric_among-snoc p [] e = refl
+metric_among-snoc p (d ∷ es) e = by (same_prefix p d.prefix) (metric_among-snoc p es e)
+  where
+    by : (b : Bool) → metric_among p (es ++ e ∷ []) ≡ option_or (metric_among p es) (cond (same_prefix p e.prefix) (Some e.metric) None)
+        → cond b (Some d.metric) (metric_among p (es ++ e ∷ [])) ≡ option_or (cond b (Some d.metric) (metric_among p es)) (cond (same_prefix p e.prefix) (Some e.metric) None)
+    by true later = refl
+    by false later = later
+
+-- the entries before the next one, and this one
+pub take-next : (es : List Entry) (j : ℕ) (e : Entry) → slice_get es j ≡ Some e → take (j + 1) es ≡ take j es ++ e ∷ []
+take-next [] j e h = absurd (cc h)
+take-next (d ∷ es) zero e h = let same : d ≡ e = cc h in ap (λ (x : Entry). x ∷ []) same
+take-next (d ∷ es) (suc j) e h =
+    let next : suc j + 1 ≡ suc (j + 1) = omega arith in
+    ap (λ (k : ℕ). take k (d ∷ es)) next ∙ ap (λ (l : List Entry). d ∷ l) (take-next es j e h)
+
+-- the rest from one on is it and the rest after it
+pub drop-next : (es : List Entry) (j : ℕ) (e : Entry) → slice_get es j ≡ Some e → drop j es ≡ e ∷ drop (j + 1) es
+drop-next [] j e h = absurd (cc h)
+drop-next (d ∷ es) zero e h = let same : d ≡ e = cc h in ap (λ (x : Entry). x ∷ es) same
+drop-next (d ∷ es) (suc j) e h =
+    let next : suc (j + 1) ≡ suc j + 1 = omega arith in
+    drop-next es j e h ∙ ap (λ (k : ℕ). e ∷ drop k (d ∷ es)) next
+
+-- the number that was found for an entry is that of its prefix
+pub number-here : (ps : List Block) (es : List Entry) (ns : List (Option ℕ)) (j : ℕ) (e : Entry) → AreNumbers ps es ns → slice_get es j ≡ Some e → slice_index_or ns j None ≡ number_of_prefix e.prefix ps
+number-here ps es ns j e are at = get_or_from_slice_get ns j (number_of_prefix e.prefix ps) None (are j e at)
+
+-- there is an entry at a number below the length
+pub entry-at : (es : List Entry) (j : ℕ) → j < length es → (e : Entry) × (slice_get es j ≡ Some e)
+entry-at es j lt = elim (slice_get_cases es j).1 [
+    inl found ↦ (found.0, found.2)
+  | inr past ↦ absurd (omega (arith, past.0, lt))
+  ]
+
+-- a number that was found is below the length of the list
+pub number-below : (ps : List Block) (es : List Entry) (ns : List (Option ℕ)) (j k : ℕ) → AreNumbers ps es ns → j < length es → slice_index_or ns j None ≡ Some k → k < length ps
+number-below ps es ns j k are lt h =
+    let here = entry-at es j lt in
+    slice_get_within ps k (here.0).prefix (number-at (here.0).prefix ps k (sym (number-here ps es ns j here.0 are here.1) ∙ h))
+
+-- the first entry of a prefix among the first entries
+pub metric_among-found : (p : Block) (es : List Entry) (j n : ℕ) (e : Entry) → metric_among p (take j es) ≡ None → slice_get es j ≡ Some e → same_prefix p e.prefix ≡ true → j < n → metric_among p (take n es) ≡ Some e.metric
+metric_among-found p [] j n e none at same lt = absurd (cc at)
+metric_among-found p (d ∷ es) j zero e none at same lt = absurd (omega (arith, lt))
+metric_among-found p (d ∷ es) zero (suc n) e none at same lt =
+    let is : d ≡ e = cc at in
+    ap (λ (b : Bool). cond b (Some d.metric) (metric_among p (take n es))) (ap (λ (x : Entry). same_prefix p x.prefix) is ∙ same) ∙ ap (λ (x : Entry). Some x.metric) is
+metric_among-found p (d ∷ es) (suc j) (suc n) e none at same lt = by (same_prefix p d.prefix) none (λ h. metric_among-found p es j n e h at same (omega (arith, lt)))
+  where
+    by : (b : Bool) → cond b (Some d.metric) (metric_among p (take j es)) ≡ None → (metric_among p (take j es) ≡ None → metric_among p (take n es) ≡ Some e.metric) → cond b (Some d.metric) (metric_among p (take n es)) ≡ Some e.metric
+    by true h later = absurd (cc h)
+    by false h later = later h
+
+-- one more entry of another prefix
+pub metric_among-passed : (p : Block) (es : List Entry) (j : ℕ) (e : Entry) → metric_among p (take j es) ≡ None → slice_get es j ≡ Some e → same_prefix p e.prefix ≡ false → metric_among p (take (j + 1) es) ≡ None
+metric_among-passed p es j e none at other =
+    ap (metric_among p) (take-next es j e at)
+    ∙ metric_among-snoc p (take j es) e
+    ∙ ap (λ (o : Option ℕ). option_or o (cond (same_prefix p e.prefix) (Some e.metric) None)) none
+    ∙ ap (λ (b : Bool). cond b (Some e.metric) None) other
+
+-- an entry that passes
+pub any-item : (test : Entry → Bool) (es : List Entry) (j : ℕ) (e : Entry) → slice_get es j ≡ Some e → test e ≡ true → list_any test es ≡ true
+any-item test [] j e at h = absurd (cc at)
+any-item test (d ∷ es) zero e at h =
+    let is : d ≡ e = cc at in
+    ap (λ (b : Bool). b || list_any test es) (ap test is ∙ h)
+any-item test (d ∷ es) (suc j) e at h = ap (λ (b : Bool). test d || b) (any-item test es j e at h) ∙ or_true (test d)
+  where
+    or_true : (b : Bool) → (b || true) ≡ true
+    or_true true = refl
+    or_true false = refl
+
+-- one more entry that does not pass
+pub any-passed : (test : Entry → Bool) (es : List Entry) (j : ℕ) (e : Entry) → list_any test (take j es) ≡ false → slice_get es j ≡ Some e → test e ≡ false → list_any test (take (j + 1) es) ≡ false
+any-passed test es j e none at h =
+    ap (list_any test) (take-next es j e at)
+    ∙ list_any-append test (take j es) (e ∷ [])
+    ∙ ap (λ (b : Bool). b || (test e || false)) none
+    ∙ ap (λ (b : Bool). b || false) h
+
+-- a response is its entries
+pub response-is : (m : Message) → kind_of m ≡ Response → m ≡ response (entries_of m)
+response-is request h = absurd (cc h)
+response-is (response es) h = refl
+
+-- all entries
+pub take-end : (es : List Entry) (n : ℕ) → length es ≤ n → take n es ≡ es
+take-end [] zero h = refl
+take-end [] (suc n) h = refl
+take-end (e ∷ es) zero h = absurd (omega (arith, h))
+take-end (e ∷ es) (suc n) h = ap (λ (l : List Entry). e ∷ l) (take-end es n (omega (arith, h)))
+
+pub none-of : (o : Option ℕ) → is_some o ≡ false → is_none o ≡ true
+none-of None h = refl
+none-of (Some x) h = absurd (cc h)
+
+pub some-of : (o : Option ℕ) → is_some o ≡ true → is_none o ≡ false
+some-of None h = absurd (cc h)
+some-of (Some x) h = refl
