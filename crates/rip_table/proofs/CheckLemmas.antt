@@ -14,8 +14,8 @@ use Rattle.rip_table.specs.declared.error.TableError.TheVariants.{Changed, NextH
 use Rattle.std.proofs.lemmas.Bool.{eq-eqb, le-ltb, leb-false}
 use Rattle.std.proofs.lemmas.Bool.Decides.{nat_tests}
 use Rattle.std.proofs.lemmas.List.{take-append-drop}
-use Rattle.rip_table.proofs.Lists.{same-is, same-self, is_among-append, is_among-item}
-use Rattle.rip_table.proofs.NumberLemmas.{drop-next, metric_among-snoc, take-next, number-none, number-some, true-false, unlisted}
+use Rattle.rip_table.proofs.Lists.{drop-more, same-is, same-self, is_among-append, is_among-item, take-more}
+use Rattle.rip_table.proofs.NumberLemmas.{metric_among-snoc, number-none, number-some, true-false, unlisted}
 
 -- the first j entries have no fault, and this is what they make of a table; it has so many prefixes
 pub record Checked (sender i : ℕ) (s : State) (es : List Entry) (j count : ℕ) : Type 0 where
@@ -227,12 +227,12 @@ module _ (sender i : ℕ) (s : State) (es : List Entry) (j count : ℕ) (e : Ent
       ap (joined_entries sender i (with_heard s i)) (sym (take-append-drop j es))
       ∙ joined-append sender i (with_heard s i) (take j es) (drop j es)
       ∙ ap (λ (r : Result State TableError). and_then r (λ t. joined_entries sender i t (drop j es))) ck.joined
-      ∙ ap (joined_entries sender i ck.state) (drop-next es j e here)
+      ∙ ap (joined_entries sender i ck.state) (drop-more es j e here)
       ∙ ap (λ (r : Result State TableError). and_then r (λ t. joined_entries sender i t (drop (j + 1) es))) (next-is ∙ ap (λ (r : Result (Unit {0}) TableError). after r (added ck.state i e o)) h)
 
   known_step : (p : Block) → known_metric s i (take (j + 1) es) p ≡ option_or (ck.state.shows i p) (cond (same_prefix p e.prefix) (Some e.metric) None)
   known_step p =
-      ap (λ (l : List Entry). option_or (s.shows i p) (metric_among p l)) (take-next es j e here)
+      ap (λ (l : List Entry). option_or (s.shows i p) (metric_among p l)) (take-more es j e here)
       ∙ ap (option_or (s.shows i p)) (metric_among-snoc p (take j es) e)
       ∙ by (s.shows i p) (metric_among p (take j es)) (cond (same_prefix p e.prefix) (Some e.metric) None)
       ∙ ap (λ (o : Option ℕ). option_or o (cond (same_prefix p e.prefix) (Some e.metric) None)) (sym (ck.shows p))
@@ -243,7 +243,7 @@ module _ (sender i : ℕ) (s : State) (es : List Entry) (j count : ℕ) (e : Ent
 
   among_step : (p : Block) → (is_among p s.prefixes || is_some (metric_among p (take (j + 1) es))) ≡ (is_among p ck.state.prefixes || same_prefix p e.prefix)
   among_step p =
-      ap (λ (l : List Entry). is_among p s.prefixes || is_some (metric_among p l)) (take-next es j e here)
+      ap (λ (l : List Entry). is_among p s.prefixes || is_some (metric_among p l)) (take-more es j e here)
       ∙ ap (λ (o : Option ℕ). is_among p s.prefixes || is_some o) (metric_among-snoc p (take j es) e)
       ∙ by (is_among p s.prefixes) (metric_among p (take j es)) (same_prefix p e.prefix)
       ∙ ap (λ (b : Bool). b || same_prefix p e.prefix) (sym (ck.among p))
@@ -266,7 +266,7 @@ module _ (sender i : ℕ) (s : State) (es : List Entry) (j count : ℕ) (e : Ent
 
   joined_next : (k : Option ℕ) → o ≡ k → judged sender e o (counted count number (is_some o)) ≡ Ok tt → joined_entries sender i (with_heard s i) (take (j + 1) es) ≡ Ok (added ck.state i e k)
   joined_next k is h =
-      ap (joined_entries sender i (with_heard s i)) (take-next es j e here)
+      ap (joined_entries sender i (with_heard s i)) (take-more es j e here)
       ∙ joined-append sender i (with_heard s i) (take j es) (e ∷ [])
       ∙ ap (λ (r : Result State TableError). and_then r (λ t. joined_entries sender i t (e ∷ []))) ck.joined
       ∙ ap (λ (r : Result State TableError). and_then r (λ t. Ok t)) (next-is ∙ ap (λ (r : Result (Unit {0}) TableError). after r (added ck.state i e o)) h)

@@ -5,3 +5,6 @@ pub mod JoinLemmas
 pub mod TakeLemmas
 pub mod NumberLemmas
 pub mod CheckLemmas
+pub mod TakingLemmas
+pub mod ListLemmas
+pub mod NewLemmas

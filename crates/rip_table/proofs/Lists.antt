@@ -1,5 +1,5 @@
 -- Prefixes in a list.
-use Rattle.std.proofs.Common.{◌≡◌, ℕ, zero, suc, ◌==◌, Bool, true, false, ◌&&◌, ◌||◌, List, [], ◌∷◌, ◌++◌, Some, refl, ap, ◌∙◌}
+use Rattle.std.proofs.Common.{◌≡◌, ℕ, zero, suc, ◌+◌, ◌≤◌, ◌==◌, take, drop, length, arith, Bool, true, false, ◌&&◌, ◌||◌, List, [], ◌∷◌, ◌++◌, Some, refl, ap, ◌∙◌}
 use Rattle.std.specs.List.{slice_get}
 use Rattle.std.proofs.lemmas.Bool.{eqb-true, eq-eqb}
 use Rattle.std.proofs.lemmas.List.Folds.{list_any-append}
@@ -40,3 +40,33 @@ is_among-item (q ∷ ps) (suc k) p h = ap (λ (b : Bool). same_prefix p q || b) 
 
 pub is_among-append : (p : Block) (ps qs : List Block) → is_among p (ps ++ qs) ≡ (is_among p ps || is_among p qs)
 is_among-append p ps qs = list_any-append (same_prefix p) ps qs
+
+-- the items before the next one, and this one
+pub take-more : {A : Type 0} (xs : List A) (j : ℕ) (x : A) → slice_get xs j ≡ Some x → take (j + 1) xs ≡ take j xs ++ x ∷ []
+take-more [] j x h = absurd (cc h)
+take-more {A} (y ∷ xs) zero x h = let same : y ≡ x = cc h in ap (λ (z : A). z ∷ []) same
+take-more {A} (y ∷ xs) (suc j) x h =
+    let next : suc j + 1 ≡ suc (j + 1) = omega arith in
+    ap (λ (k : ℕ). take k (y ∷ xs)) next ∙ ap (λ (l : List A). y ∷ l) (take-more xs j x h)
+
+-- the rest from one on is it and the rest after it
+pub drop-more : {A : Type 0} (xs : List A) (j : ℕ) (x : A) → slice_get xs j ≡ Some x → drop j xs ≡ x ∷ drop (j + 1) xs
+drop-more [] j x h = absurd (cc h)
+drop-more {A} (y ∷ xs) zero x h = let same : y ≡ x = cc h in ap (λ (z : A). z ∷ xs) same
+drop-more {A} (y ∷ xs) (suc j) x h =
+    let next : suc (j + 1) ≡ suc j + 1 = omega arith in
+    drop-more xs j x h ∙ ap (λ (k : ℕ). x ∷ drop k (y ∷ xs)) next
+
+-- all items
+pub take-end : {A : Type 0} (xs : List A) (n : ℕ) → length xs ≤ n → take n xs ≡ xs
+take-end [] zero h = refl
+take-end [] (suc n) h = refl
+take-end (x ∷ xs) zero h = absurd (omega (arith, h))
+take-end {A} (x ∷ xs) (suc n) h = ap (λ (l : List A). x ∷ l) (take-end xs n (omega (arith, h)))
+
+-- no more items
+pub drop-end : {A : Type 0} (xs : List A) (n : ℕ) → length xs ≤ n → drop n xs ≡ []
+drop-end [] zero h = refl
+drop-end [] (suc n) h = refl
+drop-end (x ∷ xs) zero h = absurd (omega (arith, h))
+drop-end (x ∷ xs) (suc n) h = drop-end xs n (omega (arith, h))

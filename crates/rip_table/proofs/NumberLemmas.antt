@@ -13,7 +13,7 @@ use Rattle.rip_plan.specs.Network.{number_of_prefix}
 use Rattle.rip_plan.specs.Passes.{same_prefix}
 use Rattle.rip_table.specs.State.{IsState, State, is_among}
 use Rattle.rip_table.specs.Numbers.{AreNumbers, metric_among}
-use Rattle.rip_table.proofs.Lists.{same-is, same-self, is_among-item}
+use Rattle.rip_table.proofs.Lists.{same-is, same-self, is_among-item, take-more}
 
 pub true-false : {A : Type 0} (b : Bool) → b ≡ true → b ≡ false → A
 true-false true h k = absurd (cc k)
@@ -72,22 +72,6 @@ metric_among-snoc p (d ∷ es) e = by (same_prefix p d.prefix) (metric_among-sno
     by true later = refl
     by false later = later
 
--- the entries before the next one, and this one
-pub take-next : (es : List Entry) (j : ℕ) (e : Entry) → slice_get es j ≡ Some e → take (j + 1) es ≡ take j es ++ e ∷ []
-take-next [] j e h = absurd (cc h)
-take-next (d ∷ es) zero e h = let same : d ≡ e = cc h in ap (λ (x : Entry). x ∷ []) same
-take-next (d ∷ es) (suc j) e h =
-    let next : suc j + 1 ≡ suc (j + 1) = omega arith in
-    ap (λ (k : ℕ). take k (d ∷ es)) next ∙ ap (λ (l : List Entry). d ∷ l) (take-next es j e h)
-
--- the rest from one on is it and the rest after it
-pub drop-next : (es : List Entry) (j : ℕ) (e : Entry) → slice_get es j ≡ Some e → drop j es ≡ e ∷ drop (j + 1) es
-drop-next [] j e h = absurd (cc h)
-drop-next (d ∷ es) zero e h = let same : d ≡ e = cc h in ap (λ (x : Entry). x ∷ es) same
-drop-next (d ∷ es) (suc j) e h =
-    let next : suc (j + 1) ≡ suc j + 1 = omega arith in
-    drop-next es j e h ∙ ap (λ (k : ℕ). e ∷ drop k (d ∷ es)) next
-
 -- the number that was found for an entry is that of its prefix
 pub number-here : (ps : List Block) (es : List Entry) (ns : List (Option ℕ)) (j : ℕ) (e : Entry) → AreNumbers ps es ns → slice_get es j ≡ Some e → slice_index_or ns j None ≡ number_of_prefix e.prefix ps
 number-here ps es ns j e are at = get_or_from_slice_get ns j (number_of_prefix e.prefix ps) None (are j e at)
@@ -121,7 +105,7 @@ metric_among-found p (d ∷ es) (suc j) (suc n) e none at same lt = by (same_pre
 -- one more entry of another prefix
 pub metric_among-passed : (p : Block) (es : List Entry) (j : ℕ) (e : Entry) → metric_among p (take j es) ≡ None → slice_get es j ≡ Some e → same_prefix p e.prefix ≡ false → metric_among p (take (j + 1) es) ≡ None
 metric_among-passed p es j e none at other =
-    ap (metric_among p) (take-next es j e at)
+    ap (metric_among p) (take-more es j e at)
     ∙ metric_among-snoc p (take j es) e
     ∙ ap (λ (o : Option ℕ). option_or o (cond (same_prefix p e.prefix) (Some e.metric) None)) none
     ∙ ap (λ (b : Bool). cond b (Some e.metric) None) other
@@ -141,7 +125,7 @@ any-item test (d ∷ es) (suc j) e at h = ap (λ (b : Bool). test d || b) (any-i
 -- one more entry that does not pass
 pub any-passed : (test : Entry → Bool) (es : List Entry) (j : ℕ) (e : Entry) → list_any test (take j es) ≡ false → slice_get es j ≡ Some e → test e ≡ false → list_any test (take (j + 1) es) ≡ false
 any-passed test es j e none at h =
-    ap (list_any test) (take-next es j e at)
+    ap (list_any test) (take-more es j e at)
     ∙ list_any-append test (take j es) (e ∷ [])
     ∙ ap (λ (b : Bool). b || (test e || false)) none
     ∙ ap (λ (b : Bool). b || false) h
@@ -151,13 +135,6 @@ pub response-is : (m : Message) → kind_of m ≡ Response → m ≡ response (e
 response-is request h = absurd (cc h)
 response-is (response es) h = refl
 
--- all entries
-pub take-end : (es : List Entry) (n : ℕ) → length es ≤ n → take n es ≡ es
-take-end [] zero h = refl
-take-end [] (suc n) h = refl
-take-end (e ∷ es) zero h = absurd (omega (arith, h))
-take-end (e ∷ es) (suc n) h = ap (λ (l : List Entry). e ∷ l) (take-end es n (omega (arith, h)))
-
 pub none-of : (o : Option ℕ) → is_some o ≡ false → is_none o ≡ true
 none-of None h = refl
 none-of (Some x) h = absurd (cc h)
@@ -165,3 +142,11 @@ none-of (Some x) h = absurd (cc h)
 pub some-of : (o : Option ℕ) → is_some o ≡ true → is_none o ≡ false
 some-of None h = absurd (cc h)
 some-of (Some x) h = refl
+
+-- a prefix is in a list where it has a number
+pub number-is : (p : Block) (ps : List Block) → is_among p ps ≡ is_some (number_of_prefix p ps)
+number-is p ps = by (number_of_prefix p ps) refl
+  where
+    by : (o : Option ℕ) → number_of_prefix p ps ≡ o → is_among p ps ≡ is_some o
+    by None h = number-none p ps h
+    by (Some k) h = number-some p ps k h

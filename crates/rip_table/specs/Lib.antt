@@ -2,3 +2,4 @@ pub mod State
 pub mod Joined
 pub mod Collects
 pub mod Numbers
+pub mod ListState

@@ -1,7 +1,10 @@
 //! What refuses a log.
 
+ghost use Rattle.std.specs.Prelude.{◌≡◌};
+
 use rip_log::LogError;
 use rip_wire::{Metric, Prefix};
+use std::alloc::{AllocError, AllocFailed};
 use thiserror::Error;
 
 /// Why a response is refused, in the numbering that is printed.
@@ -29,6 +32,26 @@ pub enum TableError {
     /// A growth was refused.
     #[error("out of memory")]
     Memory,
+}
+
+impl From<AllocError> for TableError {
+    ghost use Rattle.rip_table.specs.declared.error.TableError.TheVariants.{Memory};
+
+    ghost from_gives = { λ _ error. error ≡ Memory };
+
+    fn from(_refused: AllocError) -> TableError {
+        TableError::Memory
+    }
+}
+
+impl<T: Drop> From<AllocFailed<T>> for TableError {
+    ghost use Rattle.rip_table.specs.declared.error.TableError.TheVariants.{Memory};
+
+    ghost from_gives = { λ _ error. error ≡ Memory };
+
+    fn from(_refused: AllocFailed<T>) -> TableError {
+        TableError::Memory
+    }
 }
 
 /// Why a line of a log is refused.

@@ -3,9 +3,11 @@
 
 mod error;
 mod joining;
+mod list;
 mod numbered;
 mod table;
 
 pub use error::{CollectCause, CollectError, TableError};
 pub use joining::collect;
+pub use list::ListTable;
 pub use table::MetricTable;

@@ -6,15 +6,15 @@ ghost use Rattle.rip_wire.specs.declared.entry.Entry.{Entry};
 ghost use Rattle.rip_wire.specs.Prefix.{Block};
 ghost use Rattle.rip_wire.specs.Datagram.{entries_of, kind_of, message_of};
 ghost use Rattle.rip_plan.specs.Network.{number_of_prefix};
+ghost use Rattle.rip_table.specs.State.{IsState, State};
 ghost use Rattle.rip_table.specs.Joined as joined;
 ghost use Rattle.rip_table.specs.Numbers.{AreNumbers, IsChecked, counted, judged, known_metric, metric_among};
 
 use crate::error::TableError;
-use crate::table::MetricTable;
 use rip_wire::{Address, Datagram, Entry, Kind, Metric, Prefix};
 
 /// The most entries of a datagram.
-const MOST_ENTRIES: usize = 25;
+pub(crate) const MOST_ENTRIES: usize = 25;
 
 /// The most prefixes of a table.
 const MOST_PREFIXES: usize = 2_048;
@@ -22,11 +22,27 @@ const MOST_PREFIXES: usize = 2_048;
 /// For each entry of a response the number, if any, of its prefix.
 pub(crate) type Numbers = [Option<usize>; MOST_ENTRIES];
 
-/// A table that finds the numbers of its prefixes.
-pub(crate) trait Numbered: MetricTable {
+/// What a table knows before a response changes it.
+pub(crate) trait Numbered {
+    // What it means.
+    ghost state: { Self → State };
+
+    // Its prefixes differ, there are at most 2,048, and what is shown is a metric.
+    ghost is_state: { (t : Self) → IsState (state t) };
+
+    /// How many prefixes it has.
+    fn count(&self) -> usize
+        ensures { result ≡ length (state self.now).prefixes };
+
     /// The number of a prefix, if it is in the list.
     fn number(&self, prefix: Prefix) -> Option<usize>
-        ensures { result ≡ number_of_prefix prefix (Self.state self.now).prefixes };
+        ensures { result ≡ number_of_prefix prefix (state self.now).prefixes };
+
+    /// The metric, if any, that an interface showed for the prefix of a number.
+    fn metric_at(&self, interface: usize, k: usize) -> Option<Metric>
+        requires interface { interface < (state self.now).interfaces }
+        requires prefix { k < length (state self.now).prefixes }
+        ensures { (p : Block) → slice_get (state self.now).prefixes k ≡ Some p → result ≡ (state self.now).shows interface p };
 }
 
 /// The numbers of the prefixes of a response's entries.
@@ -48,7 +64,7 @@ fn shown<T: Numbered>(table: &T, interface: usize, number: Option<usize>) -> Opt
     ensures { (p : Block) → number ≡ number_of_prefix p (T.state table.now).prefixes → result ≡ (T.state table.now).shows interface p }
 {
     match number {
-        Some(k) => table.metric(interface, k),
+        Some(k) => table.metric_at(interface, k),
         None => None,
     }
 }
@@ -147,7 +163,7 @@ pub(crate) fn check<T: Numbered>(
     requires numbers { AreNumbers (T.state table.now).prefixes (entries_of (message_of datagram.now)) numbers.now }
     ensures { IsChecked sender interface (T.state table.now) (entries_of (message_of datagram.now)) result }
 {
-    let mut count = table.prefix_count();
+    let mut count = table.count();
     for j in 0..datagram.len() {
         let entry = datagram.entry(j);
         let number = numbers[j];

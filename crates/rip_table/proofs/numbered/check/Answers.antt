@@ -4,24 +4,25 @@ use Rattle.rip_table.specs.Joined.{joined_entries, with_heard}
 use Rattle.std.specs.Option.{is_some}
 use Rattle.rip_wire.specs.Datagram.{entries_of, message_of}
 use Rattle.rip_table.specs.Numbers.{counted, judged, IsChecked}
-use Rattle.rip_table.proofs.NumberLemmas.{number-below, number-here, take-end}
+use Rattle.rip_table.proofs.Lists.{take-end}
+use Rattle.rip_table.proofs.NumberLemmas.{number-below, number-here}
 use Rattle.rip_table.proofs.CheckLemmas.{Checked, Checked-start, Checked-fault, Checked-next}
 use Rattle.rip_table.proofs.numbered.check.Goals as goal
 
 pub known-before-requires-clause-number : goal.known-before-requires-clause-number
 known-before-requires-clause-number g c k h =
-    number-below (g.T.MetricTable.state c.args.table.now).prefixes (entries_of (message_of c.args.datagram.now)) c.args.numbers.now c.loop-j.j k c.requires.numbers
+    number-below (g.T.Numbered.state c.args.table.now).prefixes (entries_of (message_of c.args.datagram.now)) c.args.numbers.now c.loop-j.j k c.requires.numbers
     (omega (arith, c.loop-j-test.true, c.len-j-end.ensures.entries c.requires.response)) h
 
 pub loop-j-init : goal.loop-j-init
 loop-j-init g c =
-    let s = g.T.MetricTable.state c.args.table.now in
-    subst (Checked c.args.sender c.args.interface s (entries_of (message_of c.args.datagram.now)) 0) (sym c.prefix_count-count.ensures)
-    (Checked-start c.args.sender c.args.interface s (entries_of (message_of c.args.datagram.now)) (g.T.MetricTable.is_state c.args.table.now))
+    let s = g.T.Numbered.state c.args.table.now in
+    subst (Checked c.args.sender c.args.interface s (entries_of (message_of c.args.datagram.now)) 0) (sym c.count-count.ensures)
+    (Checked-start c.args.sender c.args.interface s (entries_of (message_of c.args.datagram.now)) (g.T.Numbered.is_state c.args.table.now))
 
 pub returns-in_err-judge : goal.returns-in_err-judge
 returns-in_err-judge g c =
-    let s = g.T.MetricTable.state c.args.table.now in
+    let s = g.T.Numbered.state c.args.table.now in
     let es = entries_of (message_of c.args.datagram.now) in
     let number = number-here s.prefixes es c.args.numbers.now c.loop-j.j c.entry-entry.result c.requires.numbers c.entry-entry.ensures in
     let known = c.known-before.ensures c.entry-entry.result c.entry-entry.ensures number in
@@ -34,7 +35,7 @@ returns-in_err-judge g c =
 
 pub loop-j-preserved : goal.loop-j-preserved
 loop-j-preserved g c =
-    let s = g.T.MetricTable.state c.args.table.now in
+    let s = g.T.Numbered.state c.args.table.now in
     let es = entries_of (message_of c.args.datagram.now) in
     let number = number-here s.prefixes es c.args.numbers.now c.loop-j.j c.entry-entry.result c.requires.numbers c.entry-entry.ensures in
     let known = c.known-before.ensures c.entry-entry.result c.entry-entry.ensures number in
@@ -47,7 +48,7 @@ loop-j-preserved g c =
 
 pub returns : goal.returns
 returns g c =
-    let s = g.T.MetricTable.state c.args.table.now in
+    let s = g.T.Numbered.state c.args.table.now in
     let es = entries_of (message_of c.args.datagram.now) in
     let ck = c.loop-j.invariant in
     (ck.state, ap (joined_entries c.args.sender c.args.interface (with_heard s c.args.interface)) (sym (take-end es c.loop-j.j (omega (arith, c.loop-j-test, c.len-j-end.ensures.entries c.requires.response)))) ∙ ck.joined, ck.valid)

@@ -8,5 +8,5 @@ use Rattle.rip_table.proofs.numbered.numbers_of.Given as goal
 abbrev pub invariant-loop-j : goal.invariant-loop-j
 invariant-loop-j g l = record {
   room : length l.numbers ≡ 25;
-  found : (k : ℕ) (e : Entry) → k < l.j → slice_get (entries_of (message_of l.datagram)) k ≡ Some e → slice_get l.numbers k ≡ Some (number_of_prefix e.prefix (g.T.MetricTable.state l.table).prefixes);
+  found : (k : ℕ) (e : Entry) → k < l.j → slice_get (entries_of (message_of l.datagram)) k ≡ Some e → slice_get l.numbers k ≡ Some (number_of_prefix e.prefix (g.T.Numbered.state l.table).prefixes);
 }

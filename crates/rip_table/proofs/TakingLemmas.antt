@@ -1,0 +1,81 @@
+-- What checking the entries of a response says of taking it.
+use Rattle.std.proofs.Common.{◌≡◌, ℕ, ◌==◌, Bool, true, false, cond, not, List, [], ◌∷◌, length, Option, Some, None, is_none, is_ok, Result, Ok, Err, refl, sym, ap, ◌∙◌, subst, set, get_or, ◌<◌, get_or-set_same, get_or-set_other, ◌≢◌, arith}
+use mathlib.Core.Path.{fun_ext}
+use Rattle.std.proofs.lemmas.Bool.Decides.{nat_tests}
+use Rattle.std.specs.List.{list_any, slice_get}
+use Rattle.rip_wire.specs.Message.{Message, request, response}
+use Rattle.rip_wire.specs.declared.entry.Entry.{Entry}
+use Rattle.rip_plan.specs.Network.{Network}
+use Rattle.rip_plan.specs.Relations.{HasAddress}
+use Rattle.rip_plan.specs.declared.parts.Interface.{Interface}
+use Rattle.rip_table.specs.State.{IsState, State}
+use Rattle.rip_table.specs.Joined.{and_then, brings_pair, is_foreign, is_past, joined_at, joined_entries, joined_message, Takes, Wants, with_heard, with_metric}
+use Rattle.rip_table.specs.Numbers.{IsChecked}
+use Rattle.rip_table.specs.declared.error.TableError.{TableError}
+use Rattle.rip_table.specs.declared.error.TableError.TheVariants.{Changed, NextHop, TooManyPrefixes, Memory}
+
+abbrev pub is_memory_fault : Result State TableError → Bool
+is_memory_fault (Err Memory) = true
+is_memory_fault (Err (Changed p x y)) = false
+is_memory_fault (Err (NextHop p)) = false
+is_memory_fault (Err TooManyPrefixes) = false
+is_memory_fault (Ok s) = false
+
+at-memory : (sender i : ℕ) (s : State) (e : Entry) (o : Option ℕ) → is_memory_fault (joined_at sender i s e o) ≡ false
+at-memory sender i s e (Some old) = by (not (old == e.metric)) (is_foreign sender e)
+  where
+    by : (c f : Bool) → is_memory_fault (cond c (Err (Changed e.prefix old e.metric)) (cond f (Err (NextHop e.prefix)) (Ok s))) ≡ false
+    by true f = refl
+    by false true = refl
+    by false false = refl
+at-memory sender i s e None = by (is_foreign sender e) (is_past s e.prefix)
+  where
+    by : (f b : Bool) → is_memory_fault (cond f (Err (NextHop e.prefix)) (cond b (Err TooManyPrefixes) (Ok (with_metric s i e.prefix e.metric)))) ≡ false
+    by true b = refl
+    by false true = refl
+    by false false = refl
+
+then-memory : (r : Result State TableError) (f : State → Result State TableError) → is_memory_fault r ≡ false → ((t : State) → is_memory_fault (f t) ≡ false) → is_memory_fault (and_then r f) ≡ false
+then-memory (Ok t) f h k = k t
+then-memory (Err e) f h k = h
+
+-- want of memory is no fault of an entry
+pub entries-memory : (sender i : ℕ) (s : State) (es : List Entry) → is_memory_fault (joined_entries sender i s es) ≡ false
+entries-memory sender i s [] = refl
+entries-memory sender i s (e ∷ es) = then-memory (joined_at sender i s e (s.shows i e.prefix)) (λ t. joined_entries sender i t es) (at-memory sender i s e (s.shows i e.prefix)) (λ t. entries-memory sender i t es)
+
+-- a response with a bad entry is refused
+pub refused : (a i : ℕ) (s : State) (m : Message) (es : List Entry) (f : TableError) → m ≡ response es → IsChecked a i s es (Err f) → Takes a i s m s (Err f)
+refused a i s m es Memory is h = let k : true ≡ false = sym (ap is_memory_fault h) ∙ entries-memory a i (with_heard s i) es in absurd (cc k)
+refused a i s m es (Changed p x y) is h = (refl, ap (joined_message a i s) is ∙ h)
+refused a i s m es (NextHop p) is h = (refl, ap (joined_message a i s) is ∙ h)
+refused a i s m es TooManyPrefixes is h = (refl, ap (joined_message a i s) is ∙ h)
+
+-- a response without a bad entry that brings a pair may want memory
+pub wanting : (a i : ℕ) (s : State) (m : Message) (es : List Entry) (new : State) → m ≡ response es → IsChecked a i s es (Ok tt) → brings_pair i s m ≡ true → new ≡ s → Takes a i s m new (Err Memory)
+wanting a i s m es new is checked brings same = (same, record {
+  good = ap (λ (x : Message). is_ok (joined_message a i s x)) is ∙ ap is_ok checked.1;
+  brings = brings;
+})
+
+-- a response without a bad entry is taken
+pub taken : (a i : ℕ) (s : State) (m : Message) (es : List Entry) (new : State) → m ≡ response es → (checked : IsChecked a i s es (Ok tt)) → new ≡ checked.0 → Takes a i s m new (Ok tt)
+taken a i s m es new is checked same = ap (joined_message a i s) is ∙ checked.1 ∙ ap (λ (t : State). Ok t) (sym same)
+
+-- an interface has one address
+pub sender-is : (n : Network) (i l a : ℕ) (interface : Interface) → slice_get n.interfaces i ≡ Some interface → HasAddress n i l a → interface.address ≡ a
+sender-is n i l a interface at has =
+    let same : Some interface ≡ Some (record { router = has.router; link = l; address = a; cost = has.cost }) = sym at ∙ has.listed in
+    let is : interface ≡ record { router = has.router; link = l; address = a; cost = has.cost } = cc same in
+    ap (λ (x : Interface). x.address) is
+
+heard_at : (heard : List Bool) (i j : ℕ) → i < length heard → get_or (set heard i true) j false ≡ cond (j == i) true (get_or heard j false)
+heard_at heard i j lt = by (j == i) refl
+  where
+    by : (b : Bool) → (j == i) ≡ b → get_or (set heard i true) j false ≡ cond b true (get_or heard j false)
+    by true e = let same : j ≡ i = grind (arith, nat_tests) in ap (λ (k : ℕ). get_or (set heard i true) k false) same ∙ get_or-set_same heard i true false lt
+    by false e = let apart : j ≢ i = grind (arith, nat_tests) in get_or-set_other heard i j true false apart
+
+-- which interfaces were heard, with one more
+pub heard-with : (heard : List Bool) (i : ℕ) → i < length heard → ◌≡◌ {A = ℕ → Bool} (λ j. get_or (set heard i true) j false) (λ j. cond (j == i) true (get_or heard j false))
+heard-with heard i lt = fun_ext (λ j. heard_at heard i j lt)

@@ -1,0 +1,68 @@
+use Rattle.std.proofs.Common.{◌≡◌, ◌∙◌, sym, ap, subst, Err, Ok, Result, Bool, true, set, List, ℕ, ◌<◌, arith, rules, length}
+use Rattle.rip_wire.specs.Prefix.{Block}
+use Rattle.rip_wire.specs.declared.entry.Entry.{Entry}
+use Rattle.rip_table.specs.declared.error.TableError.TheVariants.{Memory}
+use Rattle.rip_table.specs.declared.list.shown.Shown.{Shown}
+use Rattle.rip_wire.specs.Datagram.{entries_of, kind_of, message_of}
+use Rattle.rip_wire.specs.declared.datagram.Kind.TheVariants.{Response}
+use Rattle.rip_table.specs.State.{IsState, State}
+use Rattle.rip_table.specs.Joined.{Takes, joined_entries}
+use Rattle.rip_table.specs.Numbers.{IsChecked}
+use Rattle.rip_table.specs.ListState.{AreAdded, list_state}
+use Rattle.rip_table.proofs.NumberLemmas.{response-is}
+use Rattle.rip_table.proofs.TakingLemmas.{refused, sender-is, taken, wanting}
+use Rattle.rip_table.proofs.ListLemmas.{list_state-heard}
+use Rattle.rip_table.proofs.list.ListTableMetricTable.take.Goals as goal
+
+pub returns-in_err-check : goal.returns-in_err-check
+returns-in_err-check c = record {
+  takes = λ l a has.
+      let s = list_state c.args.self.now.heard.items c.args.self.now.prefixes.items c.args.self.now.shown.items in
+      let m = message_of c.args.datagram.now in
+      let response : kind_of m ≡ Response = search rules in
+      let sender = sender-is c.args.plan.now c.args.interface l a c.interface-sender.result c.interface-sender.ensures.exact has in
+      let is : c.from_residual.result ≡ Err (c.in_err-check.field-0).0 = search rules in
+      let checked : IsChecked a c.args.interface s (entries_of m) (Err (c.in_err-check.field-0).0) = subst (λ (x : ℕ). IsChecked x c.args.interface s (entries_of m) (Err (c.in_err-check.field-0).0)) sender c.in_err-check.ensures in
+      subst (Takes a c.args.interface s m s) (sym is) (refused a c.args.interface s m (entries_of m) (c.in_err-check.field-0).0 (response-is m response) checked);
+}
+
+pub returns-in_err-add_new : goal.returns-in_err-add_new
+returns-in_err-add_new c = record {
+  takes = λ l a has.
+      let heard = c.args.self.now.heard.items in
+      let s = list_state heard c.args.self.now.prefixes.items c.args.self.now.shown.items in
+      let m = message_of c.args.datagram.now in
+      let response : kind_of m ≡ Response = search rules in
+      let sender = sender-is c.args.plan.now c.args.interface l a c.interface-sender.result c.interface-sender.ensures.exact has in
+      let is : c.from_residual-in_err-add_new.result ≡ Err Memory = search rules in
+      let checked : IsChecked a c.args.interface s (entries_of m) (Ok tt) = subst (λ (x : ℕ). IsChecked x c.args.interface s (entries_of m) (Ok tt)) sender c.in_ok-check.ensures in
+      let new = list_state heard c.add_new.new.prefixes.items c.add_new.new.shown.items in
+      let same : new ≡ s = ap (λ (p : List Block). list_state heard p c.add_new.new.shown.items) c.in_err-add_new.ensures.prefixes ∙ ap (list_state heard c.args.self.now.prefixes.items) c.in_err-add_new.ensures.shown in
+      subst (Takes a c.args.interface s m new) (sym is)
+      (wanting a c.args.interface s m (entries_of m) new (response-is m response) checked (sym c.brings_pair-brings.ensures ∙ c.in_err-add_new.ensures.wants) same);
+}
+
+-- what was taken is the join of the entries
+joined_is : (a i : ℕ) (heard : List Bool) (prefixes new_prefixes : List Block) (shown new_shown : List Shown) (es : List Entry) → i < length heard
+    → (checked : IsChecked a i (list_state heard prefixes shown) es (Ok tt)) → AreAdded i es prefixes shown new_prefixes new_shown → list_state (set heard i true) new_prefixes new_shown ≡ checked.0
+joined_is a i heard prefixes new_prefixes shown new_shown es lt checked added =
+    added (set heard i true) a checked.0 (ap (λ (s : State). joined_entries a i s es) (list_state-heard heard prefixes shown i lt) ∙ checked.1)
+
+pub invariant_of-self-2 : goal.invariant_of-self-2
+invariant_of-self-2 c =
+    let same = joined_is c.interface-sender.result.address c.args.interface c.args.self.now.heard.items c.args.self.now.prefixes.items c.add_new.new.prefixes.items c.args.self.now.shown.items c.add_new.new.shown.items
+        (entries_of (message_of c.args.datagram.now)) (omega (arith, c.requires.interface, c.requires.fits.interfaces)) c.in_ok-check.ensures c.in_ok-add_new.ensures.ok in
+    record { valid = subst IsState (sym same) (c.in_ok-check.ensures).2; }
+
+pub returns : goal.returns
+returns c = record {
+  takes = λ l a has.
+      let heard = c.args.self.now.heard.items in
+      let s = list_state heard c.args.self.now.prefixes.items c.args.self.now.shown.items in
+      let m = message_of c.args.datagram.now in
+      let response : kind_of m ≡ Response = search rules in
+      let sender = sender-is c.args.plan.now c.args.interface l a c.interface-sender.result c.interface-sender.ensures.exact has in
+      let checked : IsChecked a c.args.interface s (entries_of m) (Ok tt) = subst (λ (x : ℕ). IsChecked x c.args.interface s (entries_of m) (Ok tt)) sender c.in_ok-check.ensures in
+      taken a c.args.interface s m (entries_of m) (list_state (set heard c.args.interface true) c.add_new.new.prefixes.items c.add_new.new.shown.items) (response-is m response) checked
+      (joined_is a c.args.interface heard c.args.self.now.prefixes.items c.add_new.new.prefixes.items c.args.self.now.shown.items c.add_new.new.shown.items (entries_of m) (omega (arith, c.requires.interface, c.requires.fits.interfaces)) checked c.in_ok-add_new.ensures.ok);
+}

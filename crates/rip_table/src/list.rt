@@ -1,0 +1,222 @@
+//! The plain table: a list of what the interfaces showed.
+
+ghost use Rattle.std.specs.Prelude.{◌≡◌, ◌+◌, ◌≤◌, ◌<◌, if◌then◌else◌, List, [], ◌∷◌, ◌++◌, Bool, true, IfOk, IfErr, OnOk, OnErr, length, vec_len, vec_capacity};
+ghost use Rattle.rip_wire.specs.Datagram.{entries_of, kind_of, message_of};
+ghost use Rattle.rip_plan.specs.Network.{number_of_prefix};
+ghost use Rattle.rip_table.specs.State.{IsState, is_among, new_state};
+ghost use Rattle.rip_table.specs.Joined as joined;
+ghost use Rattle.rip_table.specs.ListState.{AreAdded, IsAdded, list_state, metric_in};
+
+mod shown;
+
+use crate::error::TableError;
+use crate::numbered::{MOST_ENTRIES, Numbered, brings_pair, check, numbers_of};
+use crate::table::MetricTable;
+use rip_plan::Plan;
+use rip_wire::{Datagram, Entry, Kind, Metric, Prefix};
+use self::shown::Shown;
+use std::alloc::{AllocError, Global};
+
+/// The plain table: a list of what the interfaces showed, in the order in which it came.
+#[derive(Drop)]
+pub struct ListTable {
+    prefixes: Vec<Prefix>,
+    shown: Vec<Shown>,
+    heard: Vec<bool>,
+    ghost valid: { IsState (list_state heard.items prefixes.items shown.items) },
+}
+
+/// The prefixes of a plan.
+fn planned(alloc: Global, plan: &Plan) -> Result<Vec<Prefix>, AllocError>
+    ensures { IfOk result (λ prefixes. prefixes.items ≡ plan.now.prefixes) }
+{
+    let mut prefixes = Vec::with_capacity(alloc, plan.prefixes())?;
+    for k in 0..plan.prefixes() {
+        prefixes.push_reserved(plan.prefix(k));
+    }
+    Ok(prefixes)
+}
+
+/// The number of a prefix in a list, if it is there.
+fn number_in(prefixes: &[Prefix], prefix: Prefix) -> Option<usize>
+    ensures { result ≡ number_of_prefix prefix prefixes.now }
+{
+    prefixes.iter().position(|listed| prefix == *listed)
+}
+
+/// The first metric of an interface and a prefix.
+fn metric_of(shown: &[Shown], interface: usize, prefix: Prefix) -> Option<Metric>
+    ensures { result ≡ metric_in interface prefix shown.now }
+{
+    shown
+        .iter()
+        .find(|item| interface == item.interface && prefix == item.prefix)
+        .map(|item| item.metric)
+}
+
+/// Makes room for what a response can bring.
+fn make_room(prefixes: &mut Vec<Prefix>, shown: &mut Vec<Shown>) -> Result<(), AllocError>
+    ensures prefixes { prefixes.new.items ≡ prefixes.old.items }
+    ensures shown { shown.new.items ≡ shown.old.items }
+    ensures more_prefixes { OnOk result (vec_len prefixes.new + 25 ≤ vec_capacity prefixes.new) }
+    ensures more_shown { OnOk result (vec_len shown.new + 25 ≤ vec_capacity shown.new) }
+{
+    prefixes.reserve(MOST_ENTRIES)?;
+    shown.reserve(MOST_ENTRIES)
+}
+
+/// Adds a prefix, where it is new. There is room for it.
+fn add_prefix(prefixes: &mut Vec<Prefix>, prefix: Prefix)
+    requires { vec_len prefixes.old < vec_capacity prefixes.old }
+    ensures items { prefixes.new.items ≡ (if is_among prefix prefixes.old.items then prefixes.old.items else prefixes.old.items ++ prefix ∷ []) }
+    ensures room { vec_capacity prefixes.new ≡ vec_capacity prefixes.old }
+    ensures len { vec_len prefixes.new ≤ vec_len prefixes.old + 1 }
+{
+    if number_in(prefixes.as_slice(), prefix).is_none() {
+        prefixes.push_reserved(prefix);
+    }
+}
+
+/// Adds what an interface shows, where it is new. There is room for it.
+fn add(prefixes: &mut Vec<Prefix>, shown: &mut Vec<Shown>, item: Shown)
+    requires prefixes { vec_len prefixes.old < vec_capacity prefixes.old }
+    requires shown { vec_len shown.old < vec_capacity shown.old }
+    ensures items { IsAdded item prefixes.old.items shown.old.items prefixes.new.items shown.new.items }
+    ensures prefix_room { vec_capacity prefixes.new ≡ vec_capacity prefixes.old }
+    ensures prefix_len { vec_len prefixes.new ≤ vec_len prefixes.old + 1 }
+    ensures shown_room { vec_capacity shown.new ≡ vec_capacity shown.old }
+    ensures shown_len { vec_len shown.new ≤ vec_len shown.old + 1 }
+{
+    if metric_of(shown.as_slice(), item.interface, item.prefix).is_some() {
+        return;
+    }
+    add_prefix(prefixes, item.prefix);
+    shown.push_reserved(item);
+}
+
+/// Adds what the entries of a response show. There is room for them.
+fn add_all(
+    prefixes: &mut Vec<Prefix>,
+    shown: &mut Vec<Shown>,
+    interface: usize,
+    datagram: &Datagram<'_>,
+)
+    requires response { kind_of (message_of datagram.now) ≡ Kind.Response }
+    requires prefixes { vec_len prefixes.old + 25 ≤ vec_capacity prefixes.old }
+    requires shown { vec_len shown.old + 25 ≤ vec_capacity shown.old }
+    ensures { AreAdded interface (entries_of (message_of datagram.now)) prefixes.old.items shown.old.items prefixes.new.items shown.new.items }
+{
+    for j in 0..datagram.len() {
+        let entry = datagram.entry(j);
+        let item = Shown {
+            interface,
+            prefix: entry.prefix,
+            metric: entry.metric,
+        };
+        add(prefixes, shown, item);
+    }
+}
+
+/// Adds what the entries of a response show, where they bring anything, or leaves what was there.
+fn add_new(
+    prefixes: &mut Vec<Prefix>,
+    shown: &mut Vec<Shown>,
+    interface: usize,
+    datagram: &Datagram<'_>,
+    brings: bool,
+) -> Result<(), AllocError>
+    requires response { kind_of (message_of datagram.now) ≡ Kind.Response }
+    requires brings { (heard : List Bool) → brings ≡ joined.brings_pair interface (list_state heard prefixes.old.items shown.old.items) (message_of datagram.now) }
+    ensures ok { OnOk result (AreAdded interface (entries_of (message_of datagram.now)) prefixes.old.items shown.old.items prefixes.new.items shown.new.items) }
+    ensures prefixes { OnErr result (prefixes.new.items ≡ prefixes.old.items) }
+    ensures shown { OnErr result (shown.new.items ≡ shown.old.items) }
+    ensures wants { OnErr result (brings ≡ true) }
+{
+    if !brings {
+        return Ok(());
+    }
+    make_room(prefixes, shown)?;
+    add_all(prefixes, shown, interface, datagram);
+    Ok(())
+}
+
+impl Numbered for ListTable {
+    ghost state = { λ t. list_state t.heard.items t.prefixes.items t.shown.items };
+
+    ghost is_state = { λ t. t.valid };
+
+    fn count(&self) -> usize {
+        self.prefixes.len()
+    }
+
+    fn number(&self, prefix: Prefix) -> Option<usize> {
+        number_in(self.prefixes.as_slice(), prefix)
+    }
+
+    fn metric_at(&self, interface: usize, k: usize) -> Option<Metric> {
+        metric_of(self.shown.as_slice(), interface, self.prefixes[k])
+    }
+}
+
+impl MetricTable for ListTable {
+    ghost state = { λ t. list_state t.heard.items t.prefixes.items t.shown.items };
+
+    ghost is_state = { λ t. t.valid };
+
+    fn interface_count(&self) -> usize {
+        self.heard.len()
+    }
+
+    fn prefix_count(&self) -> usize {
+        self.count()
+    }
+
+    fn prefix(&self, k: usize) -> Prefix {
+        self.prefixes[k]
+    }
+
+    fn metric(&self, interface: usize, k: usize) -> Option<Metric> {
+        self.metric_at(interface, k)
+    }
+
+    fn heard(&self, interface: usize) -> bool {
+        self.heard[interface]
+    }
+
+    fn take(
+        &mut self,
+        plan: &Plan,
+        interface: usize,
+        datagram: &Datagram<'_>,
+    ) -> Result<(), TableError> {
+        if datagram.kind() == Kind::Request {
+            return Ok(());
+        }
+        let numbers = numbers_of(self, datagram);
+        let sender = plan.interface(interface).address;
+        check(self, &numbers, interface, sender, datagram)?;
+        let brings = brings_pair(self, &numbers, interface, datagram);
+        add_new(&mut self.prefixes, &mut self.shown, interface, datagram, brings)?;
+        self.heard[interface] = true;
+        Ok(())
+    }
+}
+
+impl ListTable {
+    ghost use Rattle.rip_table.specs.declared.error.TableError.TheVariants.{Memory};
+
+    /// The table of a plan in which nothing was heard.
+    pub fn new(alloc: Global, plan: &Plan) -> Result<ListTable, TableError>
+        ensures state { IfOk result (λ table. ⟦<ListTable as MetricTable>⟧.state table ≡ new_state plan.now) }
+        ensures memory { IfErr result (λ error. error ≡ Memory) }
+    {
+        let prefixes = planned(alloc, plan)?;
+        let heard = vec![in alloc; false; plan.interfaces()]?;
+        plan.lawful();
+        Ok(ListTable {
+            prefixes,
+            shown: Vec::new(alloc),
+            heard,
+        })
+    }
+}
