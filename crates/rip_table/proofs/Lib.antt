@@ -8,3 +8,5 @@ pub mod CheckLemmas
 pub mod TakingLemmas
 pub mod ListLemmas
 pub mod NewLemmas
+pub mod RowLemmas
+pub mod CellLemmas

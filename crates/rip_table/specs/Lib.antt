@@ -3,3 +3,4 @@ pub mod Joined
 pub mod Collects
 pub mod Numbers
 pub mod ListState
+pub mod Rows

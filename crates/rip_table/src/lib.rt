@@ -2,6 +2,7 @@
 #![tactic(auto)]
 
 mod error;
+mod grid;
 mod joining;
 mod list;
 mod numbered;

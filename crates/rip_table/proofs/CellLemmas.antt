@@ -1,0 +1,129 @@
+-- What is at the cells of rows.
+use Rattle.std.proofs.Common.{◌≡◌, ◌≢◌, ℕ, zero, suc, ◌+◌, ◌<◌, ◌==◌, Bool, true, false, cond, ◌&&◌, List, [], ◌∷◌, ◌++◌, length, set, get_or, replicate, Option, Some, None, refl, sym, ap, ◌∙◌, arith, get_or-set_same, get_or-set_other}
+use Rattle.std.proofs.lemmas.Bool.Decides.{nat_tests}
+use Rattle.std.specs.List.{slice_get, position_from}
+use mathlib.Core.Path.{fun_ext}
+use Rattle.rip_wire.specs.Prefix.{Block}
+use Rattle.rip_wire.specs.declared.entry.Entry.{Entry}
+use Rattle.rip_plan.specs.Network.{number_of_prefix}
+use Rattle.rip_plan.specs.Passes.{same_prefix}
+use Rattle.rip_table.specs.State.{is_among}
+use Rattle.rip_table.specs.Rows.{IsGrid, Rows, cell, heads, shown_after, with_cell, with_row, with_rows}
+use Rattle.rip_table.proofs.Lists.{same-is, same-self}
+use Rattle.rip_table.proofs.NumberLemmas.{true-false}
+
+-- row k is the first of the prefix
+abbrev IsRow : Block → Rows → ℕ → Type 0
+IsRow p [] k = ⊥
+IsRow p (row ∷ rows) zero = same_prefix p row.0 ≡ true
+IsRow p (row ∷ rows) (suc k) = (same_prefix p row.0 ≡ false) × IsRow p rows k
+
+row_from : (p : Block) (rows : Rows) (n k : ℕ) → position_from (same_prefix p) n (heads rows) ≡ Some (n + k) → IsRow p rows k
+row_from p [] n k h = absurd (cc h)
+row_from p (row ∷ rows) n zero h = by (same_prefix p row.0) refl h
+  where
+    least : (m : ℕ) (ps : List Block) (v : ℕ) → position_from (same_prefix p) m ps ≡ Some v → m < v + 1
+    least m [] v h = absurd (cc h)
+    least m (q ∷ ps) v h = step (same_prefix p q) h (λ e. least (m + 1) ps v e)
+      where
+        step : (b : Bool) → cond b (Some m) (position_from (same_prefix p) (m + 1) ps) ≡ Some v → (position_from (same_prefix p) (m + 1) ps ≡ Some v → m + 1 < v + 1) → m < v + 1
+        step true e later = let same : m ≡ v = cc e in omega (arith, same)
+        step false e later = omega (arith, later e)
+    by : (b : Bool) → same_prefix p row.0 ≡ b → cond b (Some n) (position_from (same_prefix p) (n + 1) (heads rows)) ≡ Some (n + 0) → same_prefix p row.0 ≡ true
+    by true t e = t
+    by false t e = absurd (omega (arith, least (n + 1) (heads rows) (n + 0) e))
+row_from p (row ∷ rows) n (suc k) h = by (same_prefix p row.0) refl h (λ e. row_from p rows (n + 1) k e)
+  where
+    by : (b : Bool) → same_prefix p row.0 ≡ b → cond b (Some n) (position_from (same_prefix p) (n + 1) (heads rows)) ≡ Some (n + suc k)
+        → (position_from (same_prefix p) (n + 1) (heads rows) ≡ Some (n + 1 + k) → IsRow p rows k) → (same_prefix p row.0 ≡ false) × IsRow p rows k
+    by true t e later = let same : n ≡ n + suc k = cc e in absurd (omega (arith, same))
+    by false t e later = let more : n + suc k ≡ n + 1 + k = omega arith in (t, later (e ∙ ap (λ (m : ℕ). Some m) more))
+
+row_is : (p : Block) (rows : Rows) (k : ℕ) → number_of_prefix p (heads rows) ≡ Some k → IsRow p rows k
+row_is p rows k h = let same : k ≡ 0 + k = omega arith in row_from p rows 0 k (h ∙ ap (λ (m : ℕ). Some m) same)
+
+grid_tail : (n : ℕ) (r : Block × List (Option ℕ)) (rows : Rows) → IsGrid n (r ∷ rows) → IsGrid n rows
+grid_tail n r rows h k d lt = h (suc k) d (omega (arith, lt))
+
+set_at : (xs : List (Option ℕ)) (i j : ℕ) (x : Option ℕ) → i < length xs → get_or (set xs i x) j None ≡ cond (j == i) x (get_or xs j None)
+set_at xs i j x lt = by (j == i) refl
+  where
+    by : (b : Bool) → (j == i) ≡ b → get_or (set xs i x) j None ≡ cond b x (get_or xs j None)
+    by true e = let same : j ≡ i = grind (arith, nat_tests) in ap (λ (k : ℕ). get_or (set xs i x) k None) same ∙ get_or-set_same xs i x None lt
+    by false e = let apart : j ≢ i = grind (arith, nat_tests) in get_or-set_other xs i j x None apart
+
+and_true : (b : Bool) → b ≡ (b && true)
+and_true true = refl
+and_true false = refl
+
+and_false : (b : Bool) → (b && false) ≡ false
+and_false true = refl
+and_false false = refl
+
+-- what is at a cell once another was written
+at_cell : (w : ℕ) (rows : Rows) (p : Block) (k i : ℕ) (x : Option ℕ) → IsRow p rows k → IsGrid w rows → i < w → (j : ℕ) (q : Block)
+    → cell (with_cell rows k i x) j q ≡ cond ((j == i) && same_prefix q p) x (cell rows j q)
+at_cell w [] p k i x is grid lt j q = absurd is
+at_cell w (row ∷ rows) p zero i x is grid lt j q = by (same_prefix q row.0) refl
+  where
+    here : p ≡ row.0
+    here = same-is p row.0 is
+    by : (b : Bool) → same_prefix q row.0 ≡ b → cond b (get_or (set row.1 i x) j None) (cell rows j q) ≡ cond ((j == i) && same_prefix q p) x (cond b (get_or row.1 j None) (cell rows j q))
+    by true t =
+        set_at row.1 i j x (omega (arith, lt, grid 0 row (omega arith)))
+        ∙ ap (λ (b : Bool). cond b x (get_or row.1 j None)) (and_true (j == i) ∙ ap (λ (b : Bool). (j == i) && b) (sym t ∙ ap (same_prefix q) (sym here)))
+    by false t = sym (ap (λ (b : Bool). cond b x (cell rows j q)) (ap (λ (b : Bool). (j == i) && b) (ap (same_prefix q) here ∙ t) ∙ and_false (j == i)))
+at_cell w (row ∷ rows) p (suc k) i x is grid lt j q = by (same_prefix q row.0) refl (at_cell w rows p k i x is.1 (grid_tail w row rows grid) lt j q)
+  where
+    by : (b : Bool) → same_prefix q row.0 ≡ b → cell (with_cell rows k i x) j q ≡ cond ((j == i) && same_prefix q p) x (cell rows j q)
+        → cond b (get_or row.1 j None) (cell (with_cell rows k i x) j q) ≡ cond ((j == i) && same_prefix q p) x (cond b (get_or row.1 j None) (cell rows j q))
+    by true t later = apart (same_prefix q p) refl
+      where
+        apart : (b : Bool) → same_prefix q p ≡ b → get_or row.1 j None ≡ cond ((j == i) && b) x (get_or row.1 j None)
+        apart true s = true-false (same_prefix p row.0) (ap (λ (r : Block). same_prefix r row.0) (sym (same-is q p s)) ∙ t) is.0
+        apart false s = sym (ap (λ (b : Bool). cond b x (get_or row.1 j None)) (and_false (j == i)))
+    by false t later = later
+
+pub cells-with_cell : (w : ℕ) (rows : Rows) (p : Block) (k i m : ℕ) → number_of_prefix p (heads rows) ≡ Some k → IsGrid w rows → i < w
+    → ◌≡◌ {A = ℕ → Block → Option ℕ} (cell (with_cell rows k i (Some m))) (λ j q. cond ((j == i) && same_prefix q p) (Some m) (cell rows j q))
+cells-with_cell w rows p k i m is grid lt = fun_ext (λ j. fun_ext (λ q. at_cell w rows p k i (Some m) (row_is p rows k is) grid lt j q))
+
+-- what is at a cell, by the row's number
+pub cell-at : (rows : Rows) (p : Block) (k i : ℕ) (row : List (Option ℕ)) → number_of_prefix p (heads rows) ≡ Some k → slice_get rows k ≡ Some (p, row) → cell rows i p ≡ get_or row i None
+cell-at rows p k i row is at = here rows k (row_is p rows k is) at
+  where
+    here : (rs : Rows) (n : ℕ) → IsRow p rs n → slice_get rs n ≡ Some (p, row) → cell rs i p ≡ get_or row i None
+    here [] n is at = absurd is
+    here (r ∷ rs) zero is at =
+        let same : r ≡ (p, row) = cc at in
+        ap (λ (b : Bool). cond b (get_or r.1 i None) (cell rs i p)) is ∙ ap (λ (x : Block × List (Option ℕ)). get_or x.1 i None) same
+    here (r ∷ rs) (suc n) is at = ap (λ (b : Bool). cond b (get_or r.1 i None) (cell rs i p)) is.0 ∙ here rs n is.1 at
+
+empty_at : (w j : ℕ) → get_or (replicate {A = Option ℕ} w None) j None ≡ None
+empty_at zero j = refl
+empty_at (suc w) zero = refl
+empty_at (suc w) (suc j) = empty_at w j
+
+cell_last : (w : ℕ) (rows : Rows) (p : Block) (j : ℕ) (q : Block) → cell (rows ++ (p, replicate w None) ∷ []) j q ≡ cell rows j q
+cell_last w [] p j q = by (same_prefix q p)
+  where
+    by : (b : Bool) → cond b (get_or (replicate {A = Option ℕ} w None) j None) None ≡ None
+    by true = empty_at w j
+    by false = refl
+cell_last w (row ∷ rows) p j q = ap (cond (same_prefix q row.0) (get_or row.1 j None)) (cell_last w rows p j q)
+
+cell_with : (w : ℕ) (rows : Rows) (p : Block) (j : ℕ) (q : Block) (b : Bool) → cell (cond b rows (rows ++ (p, replicate w None) ∷ [])) j q ≡ cell rows j q
+cell_with w rows p j q true = refl
+cell_with w rows p j q false = cell_last w rows p j q
+
+cell_rows : (w : ℕ) (rows : Rows) (es : List Entry) (j : ℕ) (q : Block) → cell (with_rows w rows es) j q ≡ cell rows j q
+cell_rows w rows [] j q = refl
+cell_rows w rows (e ∷ es) j q = cell_rows w (with_row w rows e.prefix) es j q ∙ cell_with w rows e.prefix j q (is_among e.prefix (heads rows))
+
+-- new rows show nothing
+pub cells-with_rows : (w : ℕ) (rows : Rows) (es : List Entry) → cell (with_rows w rows es) ≡ cell rows
+cells-with_rows w rows es = fun_ext (λ j. fun_ext (λ q. cell_rows w rows es j q))
+
+-- one more metric that was written
+pub shown_after-step : (shows : ℕ → Block → Option ℕ) (i : ℕ) (e : Entry) (es : List Entry) → shown_after (λ j q. cond ((j == i) && same_prefix q e.prefix) (Some e.metric) (shows j q)) i es ≡ shown_after shows i (e ∷ es)
+shown_after-step shows i e es = refl

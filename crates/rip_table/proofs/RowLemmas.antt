@@ -1,0 +1,198 @@
+-- Rows of cells: finding them, adding them and writing to them.
+use Rattle.std.proofs.Common.{◌≡◌, ℕ, zero, suc, ◌+◌, ◌<◌, ◌≤◌, ◌==◌, Bool, true, false, cond, ◌&&◌, ◌||◌, List, [], ◌∷◌, ◌++◌, length, map, take, drop, set, get_or, replicate, Option, Some, None, is_some, Result, Ok, Err, refl, sym, ap, ◌∙◌, arith, length-append, ltb}
+use Rattle.std.proofs.Math.ListN.{length-set}
+use Rattle.std.specs.List.{slice_get, position, position_from, position_or_len}
+use Rattle.std.specs.Map.{lookup, values_of, keys_of}
+use Rattle.std.specs.Result.{OnErr}
+use Rattle.std.specs.declared.vec.Vec.{Vec}
+use Rattle.std.specs.declared.alloc.Global.{Global}
+use Rattle.std.proofs.lemmas.Option.{same_Some, slice_get_within, get_or_from_slice_get, none-some}
+use Rattle.std.proofs.lemmas.Iterator.Adapters.{position_from-zero}
+use Rattle.indexmap.specs.IndexMap.{set_value_at}
+use Rattle.rip_wire.specs.Prefix.{Block}
+use Rattle.rip_wire.specs.declared.entry.Entry.{Entry}
+use Rattle.rip_plan.specs.Network.{number_of_prefix}
+use Rattle.rip_plan.specs.Passes.{same_prefix}
+use Rattle.rip_table.specs.State.{is_among}
+use Rattle.rip_table.specs.Rows.{Rows, IsGrid, cell, heads, rows_of, with_cell, with_row, with_rows}
+use Rattle.rip_table.proofs.Lists.{same-self}
+use Rattle.rip_table.proofs.NumberLemmas.{number-is}
+
+abbrev pub Entries : Type 0
+Entries = List (Block × Vec (Option ℕ) Global)
+
+-- the map's keys are the prefixes of the rows
+pub keys-heads : (es : Entries) → keys_of es ≡ heads (rows_of es)
+keys-heads [] = refl
+keys-heads (e ∷ es) = ap (λ (ps : List Block). e.0 ∷ ps) (keys-heads es)
+
+-- the index of a key is the number of its prefix
+pub index-number : (p : Block) (es : Entries) → position (same_prefix p) (keys_of es) ≡ number_of_prefix p (heads (rows_of es))
+index-number p es = position_from-zero (same_prefix p) (keys_of es) ∙ ap (number_of_prefix p) (keys-heads es)
+
+pub rows-append : (es : Entries) (p : Block) (row : Vec (Option ℕ) Global) → rows_of (es ++ (p, row) ∷ []) ≡ rows_of es ++ (p, row.items) ∷ []
+rows-append [] p row = refl
+rows-append (e ∷ es) p row = ap (λ (xs : Rows). (e.0, e.1.items) ∷ xs) (rows-append es p row)
+
+pub rows-take : (n : ℕ) (es : Entries) → rows_of (take n es) ≡ take n (rows_of es)
+rows-take zero es = refl
+rows-take (suc n) [] = refl
+rows-take (suc n) (e ∷ es) = ap (λ (xs : Rows). (e.0, e.1.items) ∷ xs) (rows-take n es)
+
+pub length-rows : (es : Entries) → length (rows_of es) ≡ length es
+length-rows [] = refl
+length-rows (e ∷ es) = ap suc (length-rows es)
+
+pub length-heads : (rows : Rows) → length (heads rows) ≡ length rows
+length-heads [] = refl
+length-heads (r ∷ rows) = ap suc (length-heads rows)
+
+pub heads-append : (rows : Rows) (r : Block × List (Option ℕ)) → heads (rows ++ r ∷ []) ≡ heads rows ++ r.0 ∷ []
+heads-append [] r = refl
+heads-append (x ∷ rows) r = ap (λ (ps : List Block). x.0 ∷ ps) (heads-append rows r)
+
+pub with_row-old : (w : ℕ) (rows : Rows) (p : Block) → is_among p (heads rows) ≡ true → rows ≡ with_row w rows p
+with_row-old w rows p h = sym (ap (λ (b : Bool). cond b rows (rows ++ (p, replicate w None) ∷ [])) h)
+
+pub with_row-new : (w : ℕ) (rows : Rows) (p : Block) → is_among p (heads rows) ≡ false → rows ++ (p, replicate w None) ∷ [] ≡ with_row w rows p
+with_row-new w rows p h = sym (ap (λ (b : Bool). cond b rows (rows ++ (p, replicate w None) ∷ [])) h)
+
+number_last : (p : Block) (ps : List Block) (n : ℕ) → position_from (same_prefix p) n ps ≡ None → position_from (same_prefix p) n (ps ++ p ∷ []) ≡ Some (n + length ps)
+number_last p [] n h = ap (λ (b : Bool). cond b (Some n) None) (same-self p) ∙ (let e : n ≡ n + 0 = omega arith in ap (λ (k : ℕ). Some k) e)
+number_last p (q ∷ ps) n h = by (same_prefix p q) h (λ e. number_last p ps (n + 1) e)
+  where
+    by : (b : Bool) → cond b (Some n) (position_from (same_prefix p) (n + 1) ps) ≡ None
+        → (position_from (same_prefix p) (n + 1) ps ≡ None → position_from (same_prefix p) (n + 1) (ps ++ p ∷ []) ≡ Some (n + 1 + length ps))
+        → cond b (Some n) (position_from (same_prefix p) (n + 1) (ps ++ p ∷ [])) ≡ Some (n + suc (length ps))
+    by true e later = absurd (cc e)
+    by false e later = let more : n + 1 + length ps ≡ n + suc (length ps) = omega arith in later e ∙ ap (λ (k : ℕ). Some k) more
+
+-- a prefix that is put last has the last number
+pub number-last : (p : Block) (ps : List Block) → number_of_prefix p ps ≡ None → number_of_prefix p (ps ++ p ∷ []) ≡ Some (length ps)
+number-last p ps h = let same : 0 + length ps ≡ length ps = omega arith in number_last p ps 0 h ∙ ap (λ (k : ℕ). Some k) same
+
+number_keeps : (p : Block) (ps qs : List Block) (n k : ℕ) → position_from (same_prefix p) n ps ≡ Some k → position_from (same_prefix p) n (ps ++ qs) ≡ Some k
+number_keeps p [] qs n k h = absurd (cc h)
+number_keeps p (q ∷ ps) qs n k h = by (same_prefix p q) h (λ e. number_keeps p ps qs (n + 1) k e)
+  where
+    by : (b : Bool) → cond b (Some n) (position_from (same_prefix p) (n + 1) ps) ≡ Some k
+        → (position_from (same_prefix p) (n + 1) ps ≡ Some k → position_from (same_prefix p) (n + 1) (ps ++ qs) ≡ Some k)
+        → cond b (Some n) (position_from (same_prefix p) (n + 1) (ps ++ qs)) ≡ Some k
+    by true e later = e
+    by false e later = later e
+
+-- a number stays when others are put last
+pub number-keeps : (p : Block) (ps qs : List Block) (k : ℕ) → number_of_prefix p ps ≡ Some k → number_of_prefix p (ps ++ qs) ≡ Some k
+number-keeps p ps qs k h = number_keeps p ps qs 0 k h
+
+-- what is so in any case
+pub on_err : {X E P : Type 0} (r : Result X E) → P → OnErr r P
+on_err (Ok x) p = tt
+on_err (Err e) p = p
+
+-- ---- more rows
+
+pub with_row-keeps : (w : ℕ) (rows : Rows) (p q : Block) (k : ℕ) → number_of_prefix q (heads rows) ≡ Some k → number_of_prefix q (heads (with_row w rows p)) ≡ Some k
+with_row-keeps w rows p q k h = by (is_among p (heads rows))
+  where
+    by : (b : Bool) → number_of_prefix q (heads (cond b rows (rows ++ (p, replicate w None) ∷ []))) ≡ Some k
+    by true = h
+    by false = ap (number_of_prefix q) (heads-append rows (p, replicate w None)) ∙ number-keeps q (heads rows) (p ∷ []) k h
+
+take_more : (n : ℕ) (xs : Rows) (x : Block × List (Option ℕ)) → n ≤ length xs → take n (xs ++ x ∷ []) ≡ take n xs
+take_more zero xs x h = refl
+take_more (suc n) [] x h = absurd (omega (arith, h))
+take_more (suc n) (y ∷ xs) x h = ap (λ (r : Rows). y ∷ r) (take_more n xs x (omega (arith, h)))
+
+pub with_row-front : (n w : ℕ) (rows : Rows) (p : Block) → n ≤ length rows → take n (with_row w rows p) ≡ take n rows
+with_row-front n w rows p h = by (is_among p (heads rows))
+  where
+    by : (b : Bool) → take n (cond b rows (rows ++ (p, replicate w None) ∷ [])) ≡ take n rows
+    by true = refl
+    by false = take_more n rows (p, replicate w None) h
+
+pub with_row-longer : (w : ℕ) (rows : Rows) (p : Block) → length rows ≤ length (with_row w rows p)
+with_row-longer w rows p = by (is_among p (heads rows))
+  where
+    by : (b : Bool) → length rows ≤ length (cond b rows (rows ++ (p, replicate w None) ∷ []))
+    by true = omega arith
+    by false = omega (arith, length-append rows ((p, replicate w None) ∷ []))
+
+-- what is not there was not there before
+pub was_absent : (x y : Bool) → (x ≡ true → y ≡ true) → y ≡ false → x ≡ false
+was_absent true y f h = let k : true ≡ false = sym (f refl) ∙ h in absurd (cc k)
+was_absent false y f h = refl
+
+-- a prefix that has a number is in the list, and the other way round
+pub kept-among : (ps qs : List Block) (p : Block) → ((q : Block) (k : ℕ) → number_of_prefix q ps ≡ Some k → number_of_prefix q qs ≡ Some k) → is_among p ps ≡ true → is_among p qs ≡ true
+kept-among ps qs p kept h = by (number_of_prefix p ps) refl (sym (number-is p ps) ∙ h)
+  where
+    by : (o : Option ℕ) → number_of_prefix p ps ≡ o → is_some o ≡ true → is_among p qs ≡ true
+    by None e some = absurd (cc some)
+    by (Some k) e some = number-is p qs ∙ ap is_some (kept p k e)
+
+pub take-all : (rows : Rows) → take (length rows) rows ≡ rows
+take-all [] = refl
+take-all (r ∷ rows) = ap (λ (xs : Rows). r ∷ xs) (take-all rows)
+
+-- ---- writing to a cell
+
+pub rows-set : (es : Entries) (k i : ℕ) (x : Option ℕ) (row new : Vec (Option ℕ) Global) → slice_get (values_of es) k ≡ Some row → new.items ≡ set row.items i x → rows_of (set_value_at es k new) ≡ with_cell (rows_of es) k i x
+rows-set [] k i x row new h s = refl
+rows-set (e ∷ es) zero i x row new h s =
+    let same : e.1 ≡ row = same_Some _ _ h in
+    ap (λ (xs : List (Option ℕ)). (e.0, xs) ∷ rows_of es) (s ∙ ap (λ (r : Vec (Option ℕ) Global). set r.items i x) (sym same))
+rows-set (e ∷ es) (suc k) i x row new h s = ap (λ (xs : Rows). (e.0, e.1.items) ∷ xs) (rows-set es k i x row new h s)
+
+all_at : (rows : Rows) (j n : ℕ) (r : Block × List (Option ℕ)) → slice_get rows j ≡ Some r → IsGrid n rows → length r.1 ≡ n
+all_at rows j n r at all =
+    let within = slice_get_within rows j r at in
+    rw (get_or_from_slice_get rows j r r at) at (all j r within)
+
+from_rows : (fs : Entries) (j : ℕ) (r : Vec (Option ℕ) Global) → slice_get (values_of fs) j ≡ Some r → (b : Block) × (slice_get (rows_of fs) j ≡ Some (b, r.items))
+from_rows [] j r e = absurd (none-some _ e)
+from_rows (f ∷ fs) zero r e = (f.0, ap (λ (v : Vec (Option ℕ) Global). Some (f.0, v.items)) (same_Some _ _ e))
+from_rows (f ∷ fs) (suc j) r e = from_rows fs j r e
+
+-- a row is as wide as the grid
+pub row-width : (es : Entries) (k n : ℕ) (row : Vec (Option ℕ) Global) → IsGrid n (rows_of es) → slice_get (values_of es) k ≡ Some row → length row.items ≡ n
+row-width es k n row grid h =
+    let at = from_rows es k row h in
+    all_at (rows_of es) k n (at.0, row.items) at.1 grid
+
+pub heads-with_cell : (rows : Rows) (k i : ℕ) (x : Option ℕ) → heads (with_cell rows k i x) ≡ heads rows
+heads-with_cell [] k i x = refl
+heads-with_cell (row ∷ rows) zero i x = refl
+heads-with_cell (row ∷ rows) (suc k) i x = ap (λ (ps : List Block). row.0 ∷ ps) (heads-with_cell rows k i x)
+
+grid_tail : (n : ℕ) (r : Block × List (Option ℕ)) (rows : Rows) → IsGrid n (r ∷ rows) → IsGrid n rows
+grid_tail n r rows h k d lt = h (suc k) d (omega (arith, lt))
+
+grid_cons : (n : ℕ) (r : Block × List (Option ℕ)) (rows : Rows) → length r.1 ≡ n → IsGrid n rows → IsGrid n (r ∷ rows)
+grid_cons n r rows e h zero d lt = e
+grid_cons n r rows e h (suc k) d lt = h k d (omega (arith, lt))
+
+-- a write leaves the width
+pub grid-with_cell : (n : ℕ) (rows : Rows) (k i : ℕ) (x : Option ℕ) → IsGrid n rows → IsGrid n (with_cell rows k i x)
+grid-with_cell n [] k i x h = h
+grid-with_cell n (r ∷ rows) zero i x h = grid_cons n (r.0, set r.1 i x) rows (length-set r.1 i x ∙ h 0 r (omega arith)) (grid_tail n r rows h)
+grid-with_cell n (r ∷ rows) (suc k) i x h = grid_cons n r (with_cell rows k i x) (h 0 r (omega arith)) (grid-with_cell n rows k i x (grid_tail n r rows h))
+
+length-empty : (w : ℕ) → length (replicate {A = Option ℕ} w None) ≡ w
+length-empty zero = refl
+length-empty (suc w) = ap suc (length-empty w)
+
+grid_push : (n : ℕ) (rows : Rows) (r : Block × List (Option ℕ)) → IsGrid n rows → length r.1 ≡ n → IsGrid n (rows ++ r ∷ [])
+grid_push n [] r all h = grid_cons n r [] h (λ k d lt. absurd (omega (arith, lt)))
+grid_push n (x ∷ rows) r all h = grid_cons n x (rows ++ r ∷ []) (all 0 x (omega arith)) (grid_push n rows r (grid_tail n x rows all) h)
+
+pub grid-with_row : (n : ℕ) (rows : Rows) (p : Block) → IsGrid n rows → IsGrid n (with_row n rows p)
+grid-with_row n rows p h = by (is_among p (heads rows))
+  where
+    by : (b : Bool) → IsGrid n (cond b rows (rows ++ (p, replicate n None) ∷ []))
+    by true = h
+    by false = grid_push n rows (p, replicate n None) h (length-empty n)
+
+pub grid-with_rows : (n : ℕ) (rows : Rows) (es : List Entry) → IsGrid n rows → IsGrid n (with_rows n rows es)
+grid-with_rows n rows [] h = h
+grid-with_rows n rows (e ∷ es) h = grid-with_rows n (with_row n rows e.prefix) es (grid-with_row n rows e.prefix h)

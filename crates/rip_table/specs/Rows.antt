@@ -1,0 +1,66 @@
+-- What a table means that has a row of cells for each prefix, one cell for each interface.
+use Rattle.std.specs.Prelude.{◌≡◌, ℕ, zero, suc, Bool, false, if◌then◌else◌, ◌==◌, ◌&&◌, List, [], ◌∷◌, ◌++◌, length, map, replicate, All, Option, Some, None, slice_get, slice_set, slice_index_or}
+use Rattle.std.specs.declared.vec.Vec.{Vec}
+use Rattle.std.specs.declared.alloc.Global.{Global}
+use Rattle.rip_wire.specs.Prefix.{Block}
+use Rattle.rip_wire.specs.declared.entry.Entry.{Entry}
+use Rattle.rip_plan.specs.Network.{number_of_prefix}
+use Rattle.rip_plan.specs.Passes.{same_prefix}
+use Rattle.rip_table.specs.State.{State, is_among}
+
+-- for each prefix what each interface showed of it
+abbrev pub Rows : Type 0
+Rows = List (Block × List (Option ℕ))
+
+-- the rows of a map's entries, without where they lie in memory
+abbrev pub rows_of : List (Block × Vec (Option ℕ) Global) → Rows
+rows_of entries = map (λ e. (e.0, e.1.items)) entries
+
+-- the prefixes, in order
+abbrev pub heads : Rows → List Block
+heads rows = map (λ row. row.0) rows
+
+-- each row has so many cells
+abbrev pub IsGrid : ℕ → Rows → Type 0
+IsGrid width rows = All (λ row. length row.1 ≡ width) rows
+
+-- what is at the cell of an interface in the row of a prefix
+abbrev pub cell : Rows → ℕ → Block → Option ℕ
+cell [] i p = None
+cell (row ∷ rows) i p = if same_prefix p row.0 then slice_index_or row.1 i None else cell rows i p
+
+abbrev pub grid_state : List Bool → Rows → State
+grid_state heard rows = record {
+  interfaces = length heard;
+  prefixes = heads rows;
+  shows = cell rows;
+  heard = λ i. slice_index_or heard i false;
+}
+
+-- x at cell i of row k
+abbrev pub with_cell : Rows → ℕ → ℕ → Option ℕ → Rows
+with_cell [] k i x = []
+with_cell (row ∷ rows) zero i x = (row.0, slice_set row.1 i x) ∷ rows
+with_cell (row ∷ rows) (suc k) i x = row ∷ with_cell rows k i x
+
+-- a new prefix gets a row of empty cells, at the end
+abbrev pub with_row : ℕ → Rows → Block → Rows
+with_row width rows p = if is_among p (heads rows) then rows else rows ++ (p, replicate width None) ∷ []
+
+-- the prefixes of entries, one after the other
+abbrev pub with_rows : ℕ → Rows → List Entry → Rows
+with_rows width rows [] = rows
+with_rows width rows (e ∷ es) = with_rows width (with_row width rows e.prefix) es
+
+-- what is shown once an interface has shown the metrics of entries
+abbrev pub shown_after : (ℕ → Block → Option ℕ) → ℕ → List Entry → ℕ → Block → Option ℕ
+shown_after shows i [] = shows
+shown_after shows i (e ∷ es) = shown_after (λ j q. if (j == i) && same_prefix q e.prefix then Some e.metric else shows j q) i es
+
+-- for each entry the number of its prefix
+abbrev pub ArePlaces : Rows → List Entry → List ℕ → Type 0
+ArePlaces rows entries places = (j : ℕ) (e : Entry) → slice_get entries j ≡ Some e → number_of_prefix e.prefix (heads rows) ≡ Some (slice_index_or places j 0)
+
+-- some entry is of a prefix that has no row
+abbrev pub LacksSome : Rows → List Entry → Type 0
+LacksSome rows entries = (j : ℕ) × (e : Entry) × (slice_get entries j ≡ Some e) × (is_among e.prefix (heads rows) ≡ false)
