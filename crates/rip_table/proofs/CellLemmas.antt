@@ -8,7 +8,7 @@ use Rattle.rip_wire.specs.declared.entry.Entry.{Entry}
 use Rattle.rip_plan.specs.Network.{number_of_prefix}
 use Rattle.rip_plan.specs.Passes.{same_prefix}
 use Rattle.rip_table.specs.State.{is_among}
-use Rattle.rip_table.specs.Rows.{IsGrid, Rows, cell, heads, shown_after, with_cell, with_row, with_rows}
+use Rattle.rip_table.specs.Rows.{IsGrid, Rows, cell, heads, planned_rows, shown_after, with_cell, with_row, with_rows}
 use Rattle.rip_table.proofs.Lists.{same-is, same-self}
 use Rattle.rip_table.proofs.NumberLemmas.{true-false}
 
@@ -29,6 +29,7 @@ row_from p (row ∷ rows) n zero h = by (same_prefix p row.0) refl h
         step : (b : Bool) → cond b (Some m) (position_from (same_prefix p) (m + 1) ps) ≡ Some v → (position_from (same_prefix p) (m + 1) ps ≡ Some v → m + 1 < v + 1) → m < v + 1
         step true e later = let same : m ≡ v = cc e in omega (arith, same)
         step false e later = omega (arith, later e)
+
     by : (b : Bool) → same_prefix p row.0 ≡ b → cond b (Some n) (position_from (same_prefix p) (n + 1) (heads rows)) ≡ Some (n + 0) → same_prefix p row.0 ≡ true
     by true t e = t
     by false t e = absurd (omega (arith, least (n + 1) (heads rows) (n + 0) e))
@@ -68,6 +69,7 @@ at_cell w (row ∷ rows) p zero i x is grid lt j q = by (same_prefix q row.0) re
   where
     here : p ≡ row.0
     here = same-is p row.0 is
+
     by : (b : Bool) → same_prefix q row.0 ≡ b → cond b (get_or (set row.1 i x) j None) (cell rows j q) ≡ cond ((j == i) && same_prefix q p) x (cond b (get_or row.1 j None) (cell rows j q))
     by true t =
         set_at row.1 i j x (omega (arith, lt, grid 0 row (omega arith)))
@@ -127,3 +129,12 @@ cells-with_rows w rows es = fun_ext (λ j. fun_ext (λ q. cell_rows w rows es j 
 -- one more metric that was written
 pub shown_after-step : (shows : ℕ → Block → Option ℕ) (i : ℕ) (e : Entry) (es : List Entry) → shown_after (λ j q. cond ((j == i) && same_prefix q e.prefix) (Some e.metric) (shows j q)) i es ≡ shown_after shows i (e ∷ es)
 shown_after-step shows i e es = refl
+
+-- a row of a plan's prefix shows nothing
+pub cell-planned : (w : ℕ) (ps : List Block) (j : ℕ) (q : Block) → cell (planned_rows w ps) j q ≡ None
+cell-planned w [] j q = refl
+cell-planned w (p ∷ ps) j q = by (same_prefix q p) (cell-planned w ps j q)
+  where
+    by : (b : Bool) → cell (planned_rows w ps) j q ≡ None → cond b (get_or (replicate {A = Option ℕ} w None) j None) (cell (planned_rows w ps) j q) ≡ None
+    by true later = empty_at w j
+    by false later = later

@@ -36,7 +36,7 @@ or_none None = refl
 or_none (Some x) = refl
 
 heard_valid : (s : State) (i : ℕ) → IsState s → IsState (with_heard s i)
-heard_valid s i v = record { differ = v.differ; few = v.few; shown = λ j m p lt h. let shown = v.shown j m p lt h in record { least = shown.least; most = shown.most; listed = shown.listed; }; }
+heard_valid s i v = record { differ = v.differ; few = v.few; shown = λ j m p lt h. let shown = v.shown j m p lt h in record { least = shown.least; most = shown.most; listed = shown.listed } }
 
 pub Checked-start : (sender i : ℕ) (s : State) (es : List Entry) → IsState s → Checked sender i s es 0 (length s.prefixes)
 Checked-start sender i s es valid = record {
@@ -77,9 +77,9 @@ listed_at ps p k absent at = true-false (is_among p ps) (is_among-item ps k p at
 differ_with : (ps : List Block) (p : Block) → ((j k : ℕ) (q : Block) → slice_get ps j ≡ Some q → slice_get ps k ≡ Some q → j ≡ k) → is_among p ps ≡ false
     → (j k : ℕ) (q : Block) → slice_get (ps ++ p ∷ []) j ≡ Some q → slice_get (ps ++ p ∷ []) k ≡ Some q → j ≡ k
 differ_with ps p differ absent j k q h e = elim (at_end ps p q j h) [
-    inl a ↦ elim (at_end ps p q k e) [ inl b ↦ differ j k q a b | inr b ↦ listed_at ps p j absent (a ∙ ap (λ (x : Block). Some x) b.1) ]
+  | inl a ↦ elim (at_end ps p q k e) [ inl b ↦ differ j k q a b | inr b ↦ listed_at ps p j absent (a ∙ ap (λ (x : Block). Some x) b.1) ]
   | inr a ↦ elim (at_end ps p q k e) [ inl b ↦ listed_at ps p k absent (b ∙ ap (λ (x : Block). Some x) a.1) | inr b ↦ a.0 ∙ sym b.0 ]
-  ]
+]
 
 -- the prefix is in the list, or there is room for it
 abbrev pub HasRoom : State → Block → Type 0
@@ -114,11 +114,12 @@ valid_with s i m p true low high valid among room = record {
   few = omega (arith, valid.few, ap length listed);
   shown = λ j k q lt h.
       let shown = shown_with s i m p (with_metric s i p m).prefixes low high valid (λ r e. ap (is_among r) listed ∙ e) (ap (is_among p) listed ∙ among) j k q lt ((j == i) && same_prefix q p) refl h in
-      record { least = shown.0; most = shown.1; listed = shown.2; };
+      record { least = shown.0; most = shown.1; listed = shown.2 };
 }
   where
     listed : (with_metric s i p m).prefixes ≡ s.prefixes
     listed = ap (λ (b : Bool). cond b s.prefixes (s.prefixes ++ p ∷ [])) among
+
     h' : (j : ℕ) (q : Block) → slice_get (with_metric s i p m).prefixes j ≡ Some q → slice_get s.prefixes j ≡ Some q
     h' j q h = ap (λ (l : List Block). slice_get l j) (sym listed) ∙ h
 valid_with s i m p false low high valid among room = record {
@@ -126,11 +127,12 @@ valid_with s i m p false low high valid among room = record {
   few = omega (arith, room refl, ap length listed, length-append s.prefixes (p ∷ []));
   shown = λ j k q lt h.
       let shown = shown_with s i m p (with_metric s i p m).prefixes low high valid (λ r e. ap (is_among r) listed ∙ longer s.prefixes p r e) (ap (is_among p) listed ∙ last_among s.prefixes p) j k q lt ((j == i) && same_prefix q p) refl h in
-      record { least = shown.0; most = shown.1; listed = shown.2; };
+      record { least = shown.0; most = shown.1; listed = shown.2 };
 }
   where
     listed : (with_metric s i p m).prefixes ≡ s.prefixes ++ p ∷ []
     listed = ap (λ (b : Bool). cond b s.prefixes (s.prefixes ++ p ∷ [])) among
+
     h' : (j : ℕ) (q : Block) → slice_get (with_metric s i p m).prefixes j ≡ Some q → slice_get (s.prefixes ++ p ∷ []) j ≡ Some q
     h' j q h = ap (λ (l : List Block). slice_get l j) (sym listed) ∙ h
 
@@ -315,6 +317,7 @@ module _ (sender i : ℕ) (s : State) (es : List Entry) (j count : ℕ) (e : Ent
       unpast true b h = absurd (cc h)
       unpast false true h = absurd (cc h)
       unpast false false h = refl
+
       left : (b : Bool) → (b && true) ≡ false → b ≡ false
       left true h = h
       left false h = refl

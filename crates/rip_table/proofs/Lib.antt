@@ -10,3 +10,4 @@ pub mod ListLemmas
 pub mod NewLemmas
 pub mod RowLemmas
 pub mod CellLemmas
+pub mod AfterLemmas

@@ -43,6 +43,7 @@ shown_with i m p shown none j q = by ((j == i) && same_prefix q p) refl ∙ sym 
     or_none : (o : Option ℕ) → o ≡ option_or o None
     or_none None = refl
     or_none (Some x) = refl
+
     by : (b : Bool) → ((j == i) && same_prefix q p) ≡ b → cond b (Some m) (metric_in j q shown) ≡ option_or (metric_in j q shown) (cond b (Some m) None)
     by true h =
         let parts = both (j == i) (same_prefix q p) h in
@@ -108,6 +109,7 @@ nothing-joins sender i s (e ∷ es) t none h =
     neither : (a b : Bool) → (a || b) ≡ false → (a ≡ false) × (b ≡ false)
     neither true b h = absurd (cc h)
     neither false b h = (refl, h)
+
     here : (o : Option ℕ) → is_none o ≡ false → (u : State) → joined_at sender i s e o ≡ Ok u → s ≡ u
     here None h u k = absurd (cc h)
     here (Some old) h u k = known_at sender i s u e old k

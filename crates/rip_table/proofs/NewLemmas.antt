@@ -1,5 +1,5 @@
 -- The table of a plan in which nothing was heard.
-use Rattle.std.proofs.Common.{◌≡◌, ℕ, ◌+◌, ◌<◌, ◌≤◌, nat_lt, Bool, true, false, List, length, Option, Some, None, refl, sym, ap, ◌∙◌, arith}
+use Rattle.std.proofs.Common.{◌≡◌, ℕ, ◌+◌, ◌<◌, ◌≤◌, nat_lt, zero, suc, replicate, get_or, Bool, true, false, List, length, Option, Some, None, refl, sym, ap, ◌∙◌, arith}
 use Rattle.std.specs.List.{slice_get}
 use Rattle.std.proofs.lemmas.Option.{slice_get_within}
 use Rattle.std.proofs.lemmas.Bool.{ltb-true, lt-ltb}
@@ -9,7 +9,11 @@ use Rattle.rip_plan.specs.Network.{Network}
 use Rattle.rip_plan.specs.Relations.{IsLawful, IsPlace}
 use Rattle.rip_plan.specs.declared.parts.Place.{Place}
 use Rattle.rip_plan.specs.declared.parts.Seat.{Seat}
-use Rattle.rip_table.specs.State.{IsState, State}
+use Rattle.rip_table.specs.State.{IsState, State, new_state}
+use Rattle.rip_table.specs.Rows.{cell, grid_state, heads, planned_rows}
+use Rattle.rip_table.proofs.RowLemmas.{heads-planned}
+use Rattle.rip_table.proofs.CellLemmas.{cell-planned}
+use mathlib.Core.Path.{fun_ext}
 
 -- a place of a prefix, where there is one
 record Placed (n : Network) (p : ℕ) : Type 0 where
@@ -19,8 +23,8 @@ record Placed (n : Network) (p : ℕ) : Type 0 where
 place_by : (n : Network) → IsLawful n → (p : ℕ) → (b : Bool) → nat_lt p (length n.prefixes) ≡ b → Placed n p
 place_by n lawful p true h =
     let place = lawful.one_place p (ltb-true p (length n.prefixes) h) in
-    record { at = place.0; is = λ lt. (place.1, place.2); }
-place_by n lawful p false h = record { at = 0; is = λ lt. let k : true ≡ false = sym (lt-ltb p (length n.prefixes) lt) ∙ h in absurd (cc k); }
+    record { at = place.0; is = λ lt. (place.1, place.2) }
+place_by n lawful p false h = record { at = 0; is = λ lt. let k : true ≡ false = sym (lt-ltb p (length n.prefixes) lt) ∙ h in absurd (cc k) }
 
 placed : (n : Network) → IsLawful n → (p : ℕ) → Placed n p
 placed n lawful p = place_by n lawful p (nat_lt p (length n.prefixes)) refl
@@ -44,3 +48,22 @@ empty-is n lawful s prefixes nothing = record {
   few = omega (arith, few_prefixes n lawful, lawful.few_places, ap length prefixes);
   shown = λ i m p lt h. let k : None ≡ Some m = sym (nothing i p) ∙ h in absurd (cc k);
 }
+
+pub length-none : (n : ℕ) → length (replicate n false) ≡ n
+length-none zero = refl
+length-none (suc n) = ap suc (length-none n)
+
+none_at : (n i : ℕ) → get_or (replicate n false) i false ≡ false
+none_at zero i = refl
+none_at (suc n) zero = refl
+none_at (suc n) (suc i) = none_at n i
+
+-- the rows of a plan's prefixes mean its new table
+pub grid-new : (n : Network) → grid_state (replicate (length n.interfaces) false) (planned_rows (length n.interfaces) n.prefixes) ≡ new_state n
+grid-new n =
+    let w = length n.interfaces in
+    let rows = planned_rows w n.prefixes in
+    ap (λ (k : ℕ). record { interfaces = k; prefixes = heads rows; shows = cell rows; heard = (grid_state (replicate w false) rows).heard }) (length-none w)
+    ∙ ap (λ (ps : List Block). record { interfaces = w; prefixes = ps; shows = cell rows; heard = (grid_state (replicate w false) rows).heard }) (heads-planned w n.prefixes)
+    ∙ ap (λ (f : ℕ → Block → Option ℕ). record { interfaces = w; prefixes = n.prefixes; shows = f; heard = (grid_state (replicate w false) rows).heard }) (fun_ext (λ i. fun_ext (λ p. cell-planned w n.prefixes i p)))
+    ∙ ap (λ (f : ℕ → Bool). record { interfaces = w; prefixes = n.prefixes; shows = λ i p. None; heard = f }) (fun_ext (none_at w))

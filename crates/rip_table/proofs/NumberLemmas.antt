@@ -79,9 +79,9 @@ number-here ps es ns j e are at = get_or_from_slice_get ns j (number_of_prefix e
 -- there is an entry at a number below the length
 pub entry-at : (es : List Entry) (j : ℕ) → j < length es → (e : Entry) × (slice_get es j ≡ Some e)
 entry-at es j lt = elim (slice_get_cases es j).1 [
-    inl found ↦ (found.0, found.2)
+  | inl found ↦ (found.0, found.2)
   | inr past ↦ absurd (omega (arith, past.0, lt))
-  ]
+]
 
 -- a number that was found is below the length of the list
 pub number-below : (ps : List Block) (es : List Entry) (ns : List (Option ℕ)) (j k : ℕ) → AreNumbers ps es ns → j < length es → slice_index_or ns j None ≡ Some k → k < length ps

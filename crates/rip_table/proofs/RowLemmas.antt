@@ -6,7 +6,7 @@ use Rattle.std.specs.Map.{lookup, values_of, keys_of}
 use Rattle.std.specs.Result.{OnErr}
 use Rattle.std.specs.declared.vec.Vec.{Vec}
 use Rattle.std.specs.declared.alloc.Global.{Global}
-use Rattle.std.proofs.lemmas.Option.{same_Some, slice_get_within, get_or_from_slice_get, none-some}
+use Rattle.std.proofs.lemmas.Option.{same_Some, slice_get_within, get_or_from_slice_get, none-some, slice_get-get_or}
 use Rattle.std.proofs.lemmas.Iterator.Adapters.{position_from-zero}
 use Rattle.indexmap.specs.IndexMap.{set_value_at}
 use Rattle.rip_wire.specs.Prefix.{Block}
@@ -14,9 +14,9 @@ use Rattle.rip_wire.specs.declared.entry.Entry.{Entry}
 use Rattle.rip_plan.specs.Network.{number_of_prefix}
 use Rattle.rip_plan.specs.Passes.{same_prefix}
 use Rattle.rip_table.specs.State.{is_among}
-use Rattle.rip_table.specs.Rows.{Rows, IsGrid, cell, heads, rows_of, with_cell, with_row, with_rows}
-use Rattle.rip_table.proofs.Lists.{same-self}
-use Rattle.rip_table.proofs.NumberLemmas.{number-is}
+use Rattle.rip_table.specs.Rows.{Rows, IsGrid, cell, heads, planned_rows, rows_of, with_cell, with_row, with_rows}
+use Rattle.rip_table.proofs.Lists.{is_among-item, same-self, take-more}
+use Rattle.rip_table.proofs.NumberLemmas.{number-at, number-is, number-none, true-false}
 
 abbrev pub Entries : Type 0
 Entries = List (Block × Vec (Option ℕ) Global)
@@ -196,3 +196,71 @@ grid-with_row n rows p h = by (is_among p (heads rows))
 pub grid-with_rows : (n : ℕ) (rows : Rows) (es : List Entry) → IsGrid n rows → IsGrid n (with_rows n rows es)
 grid-with_rows n rows [] h = h
 grid-with_rows n rows (e ∷ es) h = grid-with_rows n (with_row n rows e.prefix) es (grid-with_row n rows e.prefix h)
+
+-- ---- a row by its number
+
+pub head-at : (es : Entries) (k : ℕ) (e : Block × Vec (Option ℕ) Global) → slice_get es k ≡ Some e → slice_get (heads (rows_of es)) k ≡ Some (e.0)
+head-at [] k e h = absurd (none-some _ h)
+head-at (x ∷ es) zero e h = ap (λ (y : Block × Vec (Option ℕ) Global). Some (y.0)) (same_Some _ _ h)
+head-at (x ∷ es) (suc k) e h = head-at es k e h
+
+heads_at : (rows : Rows) (k : ℕ) (r : Block × List (Option ℕ)) → slice_get rows k ≡ Some r → slice_get (heads rows) k ≡ Some r.0
+heads_at [] k r h = absurd (none-some _ h)
+heads_at (x ∷ rows) zero r h = ap (λ (y : Block × List (Option ℕ)). Some y.0) (same_Some _ _ h)
+heads_at (x ∷ rows) (suc k) r h = heads_at rows k r h
+
+-- the row of a prefix
+pub row-at : (es : Entries) (k : ℕ) (row : Vec (Option ℕ) Global) (p : Block) → slice_get (values_of es) k ≡ Some row → slice_get (heads (rows_of es)) k ≡ Some p → slice_get (rows_of es) k ≡ Some (p, row.items)
+row-at es k row p h at =
+    let found = from_rows es k row h in
+    let same : found.0 ≡ p = same_Some _ _ (sym (heads_at (rows_of es) k (found.0, row.items) found.1) ∙ at) in
+    found.1 ∙ ap (λ (q : Block). Some (q, row.items)) same
+
+-- where prefixes differ, the number of one is where it stands
+pub number-listed : (ps : List Block) (k : ℕ) (p : Block) → ((i j : ℕ) (q : Block) → slice_get ps i ≡ Some q → slice_get ps j ≡ Some q → i ≡ j) → slice_get ps k ≡ Some p → number_of_prefix p ps ≡ Some k
+number-listed ps k p differ at = by (number_of_prefix p ps) refl
+  where
+    by : (o : Option ℕ) → number_of_prefix p ps ≡ o → number_of_prefix p ps ≡ Some k
+    by None h = true-false (is_among p ps) (is_among-item ps k p at) (number-none p ps h)
+    by (Some j) h = h ∙ ap (λ (i : ℕ). Some i) (differ j k p (number-at p ps j h) at)
+
+-- ---- the rows of a plan's prefixes
+
+pub heads-planned : (w : ℕ) (ps : List Block) → heads (planned_rows w ps) ≡ ps
+heads-planned w [] = refl
+heads-planned w (p ∷ ps) = ap (λ (qs : List Block). p ∷ qs) (heads-planned w ps)
+
+take_at : (k j : ℕ) (ps : List Block) (p : Block) → slice_get (take k ps) j ≡ Some p → (j < k) × (slice_get ps j ≡ Some p)
+take_at zero j ps p h = absurd (none-some _ h)
+take_at (suc k) j [] p h = absurd (none-some _ h)
+take_at (suc k) zero (q ∷ ps) p h = (omega arith, h)
+take_at (suc k) (suc j) (q ∷ ps) p h = let found = take_at k j ps p h in (omega (arith, found.0), found.1)
+
+absent_before : (ps : List Block) (k : ℕ) (p : Block) → ((i j : ℕ) (q : Block) → slice_get ps i ≡ Some q → slice_get ps j ≡ Some q → i ≡ j) → slice_get ps k ≡ Some p → is_among p (take k ps) ≡ false
+absent_before ps k p differ at = by (number_of_prefix p (take k ps)) refl
+  where
+    by : (o : Option ℕ) → number_of_prefix p (take k ps) ≡ o → is_among p (take k ps) ≡ false
+    by None h = number-none p (take k ps) h
+    by (Some j) h =
+        let found = take_at k j ps p (number-at p (take k ps) j h) in
+        let same : j ≡ k = differ j k p found.1 at in
+        absurd (omega (arith, found.0, same))
+
+planned_append : (w : ℕ) (ps : List Block) (p : Block) → planned_rows w (ps ++ p ∷ []) ≡ planned_rows w ps ++ (p, replicate w None) ∷ []
+planned_append w [] p = refl
+planned_append w (q ∷ ps) p = ap (λ (rows : Rows). (q, replicate w None) ∷ rows) (planned_append w ps p)
+
+-- one more prefix of a plan
+pub planned-more : (w : ℕ) (ps : List Block) (k : ℕ) (p : Block) → ((i j : ℕ) (q : Block) → slice_get ps i ≡ Some q → slice_get ps j ≡ Some q → i ≡ j) → slice_get ps k ≡ Some p
+    → with_row w (planned_rows w (take k ps)) p ≡ planned_rows w (take (k + 1) ps)
+planned-more w ps k p differ at =
+    let absent : is_among p (heads (planned_rows w (take k ps))) ≡ false = ap (is_among p) (heads-planned w (take k ps)) ∙ absent_before ps k p differ at in
+    sym (with_row-new w (planned_rows w (take k ps)) p absent) ∙ sym (planned_append w (take k ps) p) ∙ ap (planned_rows w) (sym (take-more ps k p at))
+
+pub grid-planned : (w : ℕ) (ps : List Block) → IsGrid w (planned_rows w ps)
+grid-planned w [] = λ k d lt. absurd (omega (arith, lt))
+grid-planned w (p ∷ ps) = grid_cons w (p, replicate w None) (planned_rows w ps) (length-empty w) (grid-planned w ps)
+
+-- an item that is there is the same by any default
+pub get_or-any : {A : Type 0} (xs : List A) (i : ℕ) (d e : A) → i < length xs → get_or xs i d ≡ get_or xs i e
+get_or-any xs i d e lt = same_Some _ _ (sym (slice_get-get_or xs i d lt) ∙ slice_get-get_or xs i e lt)

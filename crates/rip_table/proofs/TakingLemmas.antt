@@ -53,10 +53,13 @@ refused a i s m es TooManyPrefixes is h = (refl, ap (joined_message a i s) is �
 
 -- a response without a bad entry that brings a pair may want memory
 pub wanting : (a i : ℕ) (s : State) (m : Message) (es : List Entry) (new : State) → m ≡ response es → IsChecked a i s es (Ok tt) → brings_pair i s m ≡ true → new ≡ s → Takes a i s m new (Err Memory)
-wanting a i s m es new is checked brings same = (same, record {
-  good = ap (λ (x : Message). is_ok (joined_message a i s x)) is ∙ ap is_ok checked.1;
-  brings = brings;
-})
+wanting a i s m es new is checked brings same = (
+  same,
+  record {
+    good = ap (λ (x : Message). is_ok (joined_message a i s x)) is ∙ ap is_ok checked.1;
+    brings = brings;
+  },
+)
 
 -- a response without a bad entry is taken
 pub taken : (a i : ℕ) (s : State) (m : Message) (es : List Entry) (new : State) → m ≡ response es → (checked : IsChecked a i s es (Ok tt)) → new ≡ checked.0 → Takes a i s m new (Ok tt)

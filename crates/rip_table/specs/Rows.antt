@@ -64,3 +64,7 @@ ArePlaces rows entries places = (j : ℕ) (e : Entry) → slice_get entries j �
 -- some entry is of a prefix that has no row
 abbrev pub LacksSome : Rows → List Entry → Type 0
 LacksSome rows entries = (j : ℕ) × (e : Entry) × (slice_get entries j ≡ Some e) × (is_among e.prefix (heads rows) ≡ false)
+
+-- a row of empty cells for each prefix
+abbrev pub planned_rows : ℕ → List Block → Rows
+planned_rows width prefixes = map (λ p. (p, replicate width None)) prefixes

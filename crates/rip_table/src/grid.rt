@@ -1,4 +1,110 @@
-//! The table that the program uses: a grid of cells.
+//! The table that the program uses: a grid of cells, by prefix and interface.
+
+ghost use Rattle.std.specs.Prelude.{◌≡◌, IfOk, IfErr, length};
+ghost use Rattle.indexmap.specs.IndexMap.{index_map_len};
+ghost use Rattle.rip_wire.specs.Prefix.{Block};
+ghost use Rattle.rip_table.specs.State.{IsState, new_state};
+ghost use Rattle.rip_table.specs.Rows.{IsGrid, grid_state, planned_rows, rows_of};
 
 mod cell;
 mod rows;
+
+use self::rows::{Rows, add_planned, grow_or_keep, write};
+use crate::error::TableError;
+use crate::numbered::{Numbered, check, numbers_of};
+use crate::table::{MetricTable, none_heard};
+use indexmap::IndexMap;
+use rip_plan::Plan;
+use rip_wire::{Datagram, Kind, Metric, Prefix};
+use std::alloc::Global;
+use std::hash::BuildHasher;
+
+/// A table in a hashed map, from each prefix to a row with a byte for each interface.
+#[derive(Drop)]
+pub struct GridTable<S: BuildHasher> {
+    alloc: Global,
+    rows: Rows<S>,
+    heard: Vec<bool>,
+    ghost valid: { IsState (grid_state heard.items (rows_of rows.entries)) },
+    ghost grid: { IsGrid (length heard.items) (rows_of rows.entries) },
+}
+
+impl<S: BuildHasher> Numbered for GridTable<S> {
+    ghost state = { λ t. grid_state t.heard.items (rows_of t.rows.entries) };
+
+    ghost is_state = { λ t. t.valid };
+
+    fn count(&self) -> usize {
+        self.rows.len()
+    }
+
+    fn number(&self, prefix: Prefix) -> Option<usize> {
+        self.rows.get_index_of(&prefix)
+    }
+
+    fn metric_at(&self, interface: usize, k: usize) -> Option<Metric> {
+        self.rows[k][interface].metric()
+    }
+}
+
+impl<S: BuildHasher> MetricTable for GridTable<S> {
+    ghost state = { λ t. grid_state t.heard.items (rows_of t.rows.entries) };
+
+    ghost is_state = { λ t. t.valid };
+
+    fn interface_count(&self) -> usize {
+        self.heard.len()
+    }
+
+    fn prefix_count(&self) -> usize {
+        self.count()
+    }
+
+    fn prefix(&self, k: usize) -> Prefix {
+        *self.rows.get_index(k).unwrap().0
+    }
+
+    fn metric(&self, interface: usize, k: usize) -> Option<Metric> {
+        self.metric_at(interface, k)
+    }
+
+    fn heard(&self, interface: usize) -> bool {
+        self.heard[interface]
+    }
+
+    fn take(
+        &mut self,
+        plan: &Plan,
+        interface: usize,
+        datagram: &Datagram<'_>,
+    ) -> Result<(), TableError> {
+        if datagram.kind() == Kind::Request {
+            return Ok(());
+        }
+        let numbers = numbers_of(self, datagram);
+        let sender = plan.interface(interface).address;
+        check(self, &numbers, interface, sender, datagram)?;
+        let width = self.heard.len();
+        let places = grow_or_keep(self.alloc, &mut self.rows, width, &numbers, datagram)?;
+        write(&mut self.rows, width, interface, &places, datagram);
+        self.heard[interface] = true;
+        Ok(())
+    }
+}
+
+impl<S: BuildHasher + Drop> GridTable<S> {
+    ghost use Rattle.rip_table.specs.declared.error.TableError.TheVariants.{Memory};
+
+    /// The table of a plan in which nothing was heard. It finds prefixes by hashing with `hasher`;
+    /// strangers choose them, so a program hands in one that is seeded at random.
+    pub fn with_hasher(alloc: Global, plan: &Plan, hasher: S) -> Result<GridTable<S>, TableError>
+        ensures state { IfOk result (λ table. ⟦<GridTable<S> as MetricTable>⟧.state table ≡ new_state plan.now) }
+        ensures memory { IfErr result (λ error. error ≡ Memory) }
+    {
+        let heard = none_heard(alloc, plan.interfaces())?;
+        let mut rows = IndexMap::with_hasher(alloc, hasher);
+        add_planned(alloc, &mut rows, plan)?;
+        plan.lawful();
+        Ok(GridTable { alloc, rows, heard })
+    }
+}

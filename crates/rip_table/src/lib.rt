@@ -9,6 +9,7 @@ mod numbered;
 mod table;
 
 pub use error::{CollectCause, CollectError, TableError};
+pub use grid::GridTable;
 pub use joining::collect;
 pub use list::ListTable;
 pub use table::MetricTable;

@@ -9,12 +9,12 @@ ghost use Rattle.rip_table.specs.ListState.{AreAdded, IsAdded, list_state, metri
 
 mod shown;
 
+use self::shown::Shown;
 use crate::error::TableError;
 use crate::numbered::{MOST_ENTRIES, Numbered, brings_pair, check, numbers_of};
-use crate::table::MetricTable;
+use crate::table::{MetricTable, none_heard};
 use rip_plan::Plan;
 use rip_wire::{Datagram, Entry, Kind, Metric, Prefix};
-use self::shown::Shown;
 use std::alloc::{AllocError, Global};
 
 /// The plain table: a list of what the interfaces showed, in the order in which it came.
@@ -196,7 +196,13 @@ impl MetricTable for ListTable {
         let sender = plan.interface(interface).address;
         check(self, &numbers, interface, sender, datagram)?;
         let brings = brings_pair(self, &numbers, interface, datagram);
-        add_new(&mut self.prefixes, &mut self.shown, interface, datagram, brings)?;
+        add_new(
+            &mut self.prefixes,
+            &mut self.shown,
+            interface,
+            datagram,
+            brings,
+        )?;
         self.heard[interface] = true;
         Ok(())
     }
@@ -211,7 +217,7 @@ impl ListTable {
         ensures memory { IfErr result (λ error. error ≡ Memory) }
     {
         let prefixes = planned(alloc, plan)?;
-        let heard = vec![in alloc; false; plan.interfaces()]?;
+        let heard = none_heard(alloc, plan.interfaces())?;
         plan.lawful();
         Ok(ListTable {
             prefixes,

@@ -1,6 +1,6 @@
 //! Tables of what interfaces show.
 
-ghost use Rattle.std.specs.Prelude.{◌≡◌, ℕ, ◌<◌, Some, length, slice_get};
+ghost use Rattle.std.specs.Prelude.{◌≡◌, ℕ, ◌<◌, Some, IfOk, false, length, replicate, slice_get};
 ghost use Rattle.rip_wire.specs.Prefix.{Block};
 ghost use Rattle.rip_wire.specs.Datagram.{message_of};
 ghost use Rattle.rip_plan.specs.Relations.{HasAddress};
@@ -10,6 +10,7 @@ ghost use Rattle.rip_table.specs.State.{Fits, IsState, State};
 use crate::error::TableError;
 use rip_plan::Plan;
 use rip_wire::{Datagram, Metric, Prefix};
+use std::alloc::{AllocError, Global};
 
 /// What the interfaces of a plan showed: for each interface and prefix a metric or nothing, and
 /// which interfaces were heard. Prefixes are those of the plan, and then others in the order in which
@@ -57,4 +58,11 @@ pub trait MetricTable {
         requires fits { Fits plan.now (state self.old) }
         requires interface { interface < length plan.now.interfaces }
         ensures takes { (l a : ℕ) → HasAddress plan.now interface l a → Takes a interface (state self.old) (message_of datagram.now) (state self.new) result };
+}
+
+/// The marks of interfaces of which none was heard.
+pub(crate) fn none_heard(alloc: Global, count: usize) -> Result<Vec<bool>, AllocError>
+    ensures { IfOk result (λ heard. heard.items ≡ replicate count false) }
+{
+    vec![in alloc; false; count]
 }

@@ -7,12 +7,13 @@ ghost use Rattle.rip_plan.specs.Network.{number_of_prefix};
 ghost use Rattle.rip_table.specs.State.{is_among};
 ghost use Rattle.rip_table.specs.declared.error.TableError.TheVariants.{Memory};
 ghost use Rattle.rip_table.specs.Numbers.{AreNumbers};
-ghost use Rattle.rip_table.specs.Rows.{ArePlaces, IsGrid, LacksSome, cell, heads, rows_of, shown_after, with_cell, with_row, with_rows};
+ghost use Rattle.rip_table.specs.Rows.{ArePlaces, IsGrid, LacksSome, cell, heads, planned_rows, rows_of, shown_after, with_cell, with_row, with_rows};
 
 use super::cell::Cell;
 use crate::error::TableError;
 use crate::numbered::{MOST_ENTRIES, Numbers};
 use indexmap::IndexMap;
+use rip_plan::Plan;
 use rip_wire::{Datagram, Kind, Prefix};
 use std::alloc::{AllocError, Global};
 use std::hash::BuildHasher;
@@ -42,6 +43,7 @@ fn row_at<S: BuildHasher>(
     requires { (k : ℕ) → number ≡ Some k → number_of_prefix prefix (heads (rows_of rows.old.entries)) ≡ Some k }
     ensures ok { OnOk result (rows_of rows.new.entries ≡ with_row width (rows_of rows.old.entries) prefix) }
     ensures number { IfOk result (λ k. number_of_prefix prefix (heads (rows_of rows.new.entries)) ≡ Some k) }
+    ensures memory { IfErr result (λ error. error ≡ Memory) }
     ensures err { OnErr result (rows.new.entries ≡ rows.old.entries) }
     ensures absent { OnErr result (is_among prefix (heads (rows_of rows.old.entries)) ≡ false) }
 {
@@ -109,7 +111,13 @@ pub(crate) fn grow_or_keep<S: BuildHasher>(
 }
 
 /// Writes to a cell.
-fn set_cell<S: BuildHasher>(rows: &mut Rows<S>, k: usize, width: usize, interface: usize, cell: Cell)
+fn set_cell<S: BuildHasher>(
+    rows: &mut Rows<S>,
+    k: usize,
+    width: usize,
+    interface: usize,
+    cell: Cell,
+)
     requires grid { IsGrid width (rows_of rows.old.entries) }
     requires row { k < index_map_len rows.old }
     requires cell { interface < width }
@@ -139,4 +147,21 @@ pub(crate) fn write<S: BuildHasher>(
         let metric = datagram.entry(j).metric;
         set_cell(rows, places[j], width, interface, Cell::of(metric));
     }
+}
+
+/// Adds a row for each prefix of a plan.
+pub(crate) fn add_planned<S: BuildHasher>(
+    alloc: Global,
+    rows: &mut Rows<S>,
+    plan: &Plan,
+) -> Result<(), TableError>
+    requires { rows.old.entries ≡ [] }
+    ensures ok { OnOk result (rows_of rows.new.entries ≡ planned_rows (length plan.now.interfaces) plan.now.prefixes) }
+    ensures memory { IfErr result (λ error. error ≡ Memory) }
+{
+    plan.lawful();
+    for k in 0..plan.prefixes() {
+        row_at(alloc, rows, plan.interfaces(), None, plan.prefix(k))?;
+    }
+    Ok(())
 }

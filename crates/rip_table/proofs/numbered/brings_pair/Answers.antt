@@ -21,7 +21,7 @@ returns-then-is_none g c =
     let shows = c.shown.ensures (here.0).prefix (number-here state.prefixes es c.args.numbers.now c.loop-j.j here.0 c.requires.numbers here.1) in
     let none = ap is_none (sym shows) ∙ none-of c.shown.result c.if-is_none.ensures in
     sym (ap (joined.brings_pair c.args.interface state) (response-is (message_of c.args.datagram.now) c.requires.response)
-        ∙ any-item (λ e. is_none (state.shows c.args.interface e.prefix)) es c.loop-j.j here.0 here.1 none)
+    ∙ any-item (λ e. is_none (state.shows c.args.interface e.prefix)) es c.loop-j.j here.0 here.1 none)
 
 pub loop-j-preserved : goal.loop-j-preserved
 loop-j-preserved g c =
@@ -37,5 +37,5 @@ returns g c =
     let state = g.T.Numbered.state c.args.table.now in
     let es = entries_of (message_of c.args.datagram.now) in
     sym (ap (joined.brings_pair c.args.interface state) (response-is (message_of c.args.datagram.now) c.requires.response)
-        ∙ ap (list_any (λ e. is_none (state.shows c.args.interface e.prefix))) (sym (take-end es c.loop-j.j (omega (arith, c.loop-j-test, c.len-j-end.ensures.entries c.requires.response))))
-        ∙ c.loop-j.invariant)
+    ∙ ap (list_any (λ e. is_none (state.shows c.args.interface e.prefix))) (sym (take-end es c.loop-j.j (omega (arith, c.loop-j-test, c.len-j-end.ensures.entries c.requires.response))))
+    ∙ c.loop-j.invariant)

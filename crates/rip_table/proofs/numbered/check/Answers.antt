@@ -28,7 +28,7 @@ returns-in_err-judge g c =
     let known = c.known-before.ensures c.entry-entry.result c.entry-entry.ensures number in
     let fault = Checked-fault c.args.sender c.args.interface s es c.loop-j.j c.loop-j.count c.entry-entry.result _ c.known-before.result c.entry-entry.ensures number known c.loop-j.invariant (c.in_err-judge.field-0).0 in
     let count : c.count_with-count.result ≡ counted c.loop-j.count (slice_index_or c.args.numbers.now c.loop-j.j None) (is_some c.known-before.result) =
-        c.count_with-count.ensures ∙ ap (counted c.loop-j.count (slice_index_or c.args.numbers.now c.loop-j.j None)) c.is_some.ensures in
+    c.count_with-count.ensures ∙ ap (counted c.loop-j.count (slice_index_or c.args.numbers.now c.loop-j.j None)) c.is_some.ensures in
     let is : c.from_residual.result ≡ Err (c.in_err-judge.field-0).0 = search rules in
     subst (IsChecked c.args.sender c.args.interface s es) (sym is)
     (fault (ap (judged c.args.sender c.entry-entry.result c.known-before.result) (sym count) ∙ sym c.judge.ensures.fault ∙ c.in_err-judge.was))
@@ -40,9 +40,9 @@ loop-j-preserved g c =
     let number = number-here s.prefixes es c.args.numbers.now c.loop-j.j c.entry-entry.result c.requires.numbers c.entry-entry.ensures in
     let known = c.known-before.ensures c.entry-entry.result c.entry-entry.ensures number in
     let next = Checked-next c.args.sender c.args.interface s es c.loop-j.j c.loop-j.count c.entry-entry.result _ c.known-before.result c.entry-entry.ensures number known c.loop-j.invariant
-        c.requires.interface c.judge.ensures.low c.judge.ensures.high in
+    c.requires.interface c.judge.ensures.low c.judge.ensures.high in
     let count : c.count_with-count.result ≡ counted c.loop-j.count (slice_index_or c.args.numbers.now c.loop-j.j None) (is_some c.known-before.result) =
-        c.count_with-count.ensures ∙ ap (counted c.loop-j.count (slice_index_or c.args.numbers.now c.loop-j.j None)) c.is_some.ensures in
+    c.count_with-count.ensures ∙ ap (counted c.loop-j.count (slice_index_or c.args.numbers.now c.loop-j.j None)) c.is_some.ensures in
     subst (Checked c.args.sender c.args.interface s es (c.loop-j.j + 1)) (sym count)
     (next (ap (judged c.args.sender c.entry-entry.result c.known-before.result) (sym count) ∙ sym c.judge.ensures.fault ∙ c.in_ok-judge.was))
 

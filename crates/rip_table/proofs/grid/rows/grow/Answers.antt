@@ -55,7 +55,7 @@ loop-j-preserved g c =
     let rows = rows_of c.loop-j.rows.entries in
     let step = c.in_ok-places.ensures.ok in
     let kept : (q : Block) (k : ℕ) → number_of_prefix q (heads rows) ≡ Some k → number_of_prefix q (heads (rows_of c.row_at.new.rows.entries)) ≡ Some k =
-        λ q k h. ap (λ (r : Rows). number_of_prefix q (heads r)) step ∙ with_row-keeps c.args.width rows p q k h in
+    λ q k h. ap (λ (r : Rows). number_of_prefix q (heads r)) step ∙ with_row-keeps c.args.width rows p q k h in
     let here = drop-more es c.loop-j.j c.entry-prefix.result c.entry-prefix.ensures in
     let few : length c.args.rows.now.entries ≤ length rows = omega (arith, inv.longer, length-rows c.loop-j.rows.entries) in
     record {

@@ -50,7 +50,7 @@ returns-clause-ok g c =
     let none = sym (index-number c.args.prefix es) ∙ sym c.in_default-get_index_of.ensures.index in
     let absent = absent_from _ (sym c.in_default-get_index_of.ensures.found) in
     added c.args.width c.args.prefix c.in_ok-row.row es c.insert.new.self.entries c.in_ok-row.ensures
-        (c.in_ok-insert.ensures.entries ∙ insert_entry-new same_prefix c.args.rows.now c.args.prefix c.in_ok-row.row absent)
+    (c.in_ok-insert.ensures.entries ∙ insert_entry-new same_prefix c.args.rows.now c.args.prefix c.in_ok-row.row absent)
     ∙ with_row-new c.args.width (rows_of es) c.args.prefix (number-none c.args.prefix (heads (rows_of es)) none)
 
 pub returns-clause-number : goal.returns-clause-number
@@ -60,7 +60,7 @@ returns-clause-number g c =
     let absent = absent_from _ (sym c.in_default-get_index_of.ensures.found) in
     let long : length (heads (rows_of es)) ≡ c.len-k.result = length-heads (rows_of es) ∙ length-rows es ∙ sym c.len-k.ensures.len in
     ap (λ (r : Rows). number_of_prefix c.args.prefix (heads r)) (added c.args.width c.args.prefix c.in_ok-row.row es c.insert.new.self.entries c.in_ok-row.ensures
-        (c.in_ok-insert.ensures.entries ∙ insert_entry-new same_prefix c.args.rows.now c.args.prefix c.in_ok-row.row absent))
+    (c.in_ok-insert.ensures.entries ∙ insert_entry-new same_prefix c.args.rows.now c.args.prefix c.in_ok-row.row absent))
     ∙ ap (number_of_prefix c.args.prefix) (heads-append (rows_of es) (c.args.prefix, replicate c.args.width None))
     ∙ number-last c.args.prefix (heads (rows_of es)) none
     ∙ ap (λ (k : ℕ). Some k) long

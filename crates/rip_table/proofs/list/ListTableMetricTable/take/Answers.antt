@@ -51,8 +51,8 @@ joined_is a i heard prefixes new_prefixes shown new_shown es lt checked added =
 pub invariant_of-self-2 : goal.invariant_of-self-2
 invariant_of-self-2 c =
     let same = joined_is c.interface-sender.result.address c.args.interface c.args.self.now.heard.items c.args.self.now.prefixes.items c.add_new.new.prefixes.items c.args.self.now.shown.items c.add_new.new.shown.items
-        (entries_of (message_of c.args.datagram.now)) (omega (arith, c.requires.interface, c.requires.fits.interfaces)) c.in_ok-check.ensures c.in_ok-add_new.ensures.ok in
-    record { valid = subst IsState (sym same) (c.in_ok-check.ensures).2; }
+    (entries_of (message_of c.args.datagram.now)) (omega (arith, c.requires.interface, c.requires.fits.interfaces)) c.in_ok-check.ensures c.in_ok-add_new.ensures.ok in
+    record { valid = subst IsState (sym same) (c.in_ok-check.ensures).2 }
 
 pub returns : goal.returns
 returns c = record {

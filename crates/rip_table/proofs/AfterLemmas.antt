@@ -1,0 +1,134 @@
+-- What the join of a response's entries is, part by part.
+use Rattle.std.proofs.Common.{◌≡◌, ℕ, ◌==◌, ◌<◌, Bool, true, false, cond, ◌&&◌, ◌||◌, not, List, [], ◌∷◌, ◌++◌, length, map, replicate, Option, Some, None, is_none, Result, Ok, Err, refl, sym, ap, ◌∙◌, set}
+use Rattle.std.proofs.Math.ListN.{length-set}
+use Rattle.std.proofs.lemmas.Bool.{eqb-true}
+use mathlib.Core.Path.{fun_ext}
+use Rattle.std.specs.List.{list_any, slice_get}
+use Rattle.rip_wire.specs.Prefix.{Block}
+use Rattle.rip_wire.specs.Message.{Message, request, response}
+use Rattle.rip_wire.specs.declared.entry.Entry.{Entry}
+use Rattle.rip_plan.specs.Passes.{same_prefix}
+use Rattle.rip_table.specs.State.{IsState, State, is_among}
+use Rattle.rip_table.specs.Joined.{and_then, brings_pair, is_foreign, is_past, joined_at, joined_entries, with_heard, with_metric}
+use Rattle.rip_table.specs.ListState.{with_prefix}
+use Rattle.rip_table.specs.Numbers.{IsChecked}
+use Rattle.rip_table.specs.Rows.{LacksSome, Rows, cell, grid_state, heads, shown_after, with_row, with_rows}
+use Rattle.rip_table.specs.declared.error.TableError.{TableError}
+use Rattle.rip_table.specs.declared.error.TableError.TheVariants.{Changed, NextHop, TooManyPrefixes}
+use Rattle.rip_table.proofs.Lists.{is_among-append, same-is, same-self}
+use Rattle.rip_table.proofs.NumberLemmas.{any-item, none-of, unlisted}
+use Rattle.rip_table.proofs.RowLemmas.{heads-append}
+use Rattle.rip_table.proofs.CellLemmas.{cells-with_rows}
+use Rattle.rip_table.proofs.TakingLemmas.{heard-with}
+
+-- the prefixes with those of entries
+abbrev pub prefixes_after : List Block → List Entry → List Block
+prefixes_after ps [] = ps
+prefixes_after ps (e ∷ es) = prefixes_after (with_prefix e.prefix ps) es
+
+abbrev pub after_all : State → ℕ → List Entry → State
+after_all s i es = record { interfaces = s.interfaces; prefixes = prefixes_after s.prefixes es; shows = shown_after s.shows i es; heard = s.heard }
+
+-- what the interface showed is of a prefix of the list
+abbrev pub Listed : State → ℕ → Type 0
+Listed s i = (p : Block) (m : ℕ) → s.shows i p ≡ Some m → is_among p s.prefixes ≡ true
+
+kept_among : (ps : List Block) (p q : Block) → is_among q ps ≡ true → is_among q (with_prefix p ps) ≡ true
+kept_among ps p q h = by (is_among p ps)
+  where
+    by : (b : Bool) → is_among q (cond b ps (ps ++ p ∷ [])) ≡ true
+    by true = h
+    by false = is_among-append q ps (p ∷ []) ∙ ap (λ (b : Bool). b || is_among q (p ∷ [])) h
+
+new_among : (ps : List Block) (p : Block) → is_among p (with_prefix p ps) ≡ true
+new_among ps p = by (is_among p ps) refl
+  where
+    or_true : (b : Bool) → (b || true) ≡ true
+    or_true true = refl
+    or_true false = refl
+
+    by : (b : Bool) → is_among p ps ≡ b → is_among p (cond b ps (ps ++ p ∷ [])) ≡ true
+    by true h = h
+    by false h = is_among-append p ps (p ∷ []) ∙ ap (λ (b : Bool). is_among p ps || (b || false)) (same-self p) ∙ or_true (is_among p ps)
+
+both : (a b : Bool) → (a && b) ≡ true → (a ≡ true) × (b ≡ true)
+both true b h = (refl, h)
+both false b h = absurd (cc h)
+
+listed_with : (s : State) (i m : ℕ) (p : Block) → Listed s i → Listed (with_metric s i p m) i
+listed_with s i m p listed q v h = by ((i == i) && same_prefix q p) refl h
+  where
+    by : (b : Bool) → ((i == i) && same_prefix q p) ≡ b → cond b (Some m) (s.shows i q) ≡ Some v → is_among q (with_prefix p s.prefixes) ≡ true
+    by true t e = ap (λ (r : Block). is_among r (with_prefix p s.prefixes)) (same-is q p (both (i == i) (same_prefix q p) t).1) ∙ new_among s.prefixes p
+    by false t e = kept_among s.prefixes p q (listed q v e)
+
+-- a metric that stands already adds nothing
+same_with : (s : State) (i m : ℕ) (p : Block) → Listed s i → s.shows i p ≡ Some m → s ≡ with_metric s i p m
+same_with s i m p listed here =
+    ap (λ (ps : List Block). record { interfaces = s.interfaces; prefixes = ps; shows = s.shows; heard = s.heard }) (sym (ap (λ (b : Bool). cond b s.prefixes (s.prefixes ++ p ∷ [])) (listed p m here)))
+    ∙ ap (λ (f : ℕ → Block → Option ℕ). record { interfaces = s.interfaces; prefixes = with_prefix p s.prefixes; shows = f; heard = s.heard }) (fun_ext (λ j. fun_ext (λ q. at j q ((j == i) && same_prefix q p) refl)))
+  where
+    at : (j : ℕ) (q : Block) (b : Bool) → ((j == i) && same_prefix q p) ≡ b → s.shows j q ≡ cond b (Some m) (s.shows j q)
+    at j q true t =
+        let parts = both (j == i) (same_prefix q p) t in
+        ap (λ (k : ℕ). s.shows k q) (eqb-true j i parts.0) ∙ ap (s.shows i) (same-is q p parts.1) ∙ here
+    at j q false t = refl
+
+joined_is : (sender i : ℕ) (s u : State) (e : Entry) → Listed s i → (o : Option ℕ) → s.shows i e.prefix ≡ o → joined_at sender i s e o ≡ Ok u → u ≡ with_metric s i e.prefix e.metric
+joined_is sender i s u e listed None is h = by (is_foreign sender e) (is_past s e.prefix) h
+  where
+    by : (f b : Bool) → cond f (Err (NextHop e.prefix)) (cond b (Err TooManyPrefixes) (Ok (with_metric s i e.prefix e.metric))) ≡ Ok u → u ≡ with_metric s i e.prefix e.metric
+    by true b h = absurd (cc h)
+    by false true h = absurd (cc h)
+    by false false h = let same : with_metric s i e.prefix e.metric ≡ u = cc h in sym same
+joined_is sender i s u e listed (Some old) is h = by (old == e.metric) refl (is_foreign sender e) h
+  where
+    by : (c : Bool) → (old == e.metric) ≡ c → (f : Bool) → cond (not c) (Err (Changed e.prefix old e.metric)) (cond f (Err (NextHop e.prefix)) (Ok s)) ≡ Ok u → u ≡ with_metric s i e.prefix e.metric
+    by false t f h = absurd (cc h)
+    by true t true h = absurd (cc h)
+    by true t false h =
+        let same : s ≡ u = cc h in
+        sym same ∙ same_with s i e.metric e.prefix listed (is ∙ ap (λ (m : ℕ). Some m) (eqb-true old e.metric t))
+
+then_split : (r : Result State TableError) (f : State → Result State TableError) (t : State) → and_then r f ≡ Ok t → (u : State) × (r ≡ Ok u) × (f u ≡ Ok t)
+then_split (Ok u) f t h = (u, refl, h)
+then_split (Err e) f t h = absurd (cc h)
+
+-- the join of entries without a fault
+pub joined-after : (sender i : ℕ) (s t : State) (es : List Entry) → Listed s i → joined_entries sender i s es ≡ Ok t → t ≡ after_all s i es
+joined-after sender i s t [] listed h = let same : s ≡ t = cc h in sym same
+joined-after sender i s t (e ∷ es) listed h =
+    let split = then_split (joined_at sender i s e (s.shows i e.prefix)) (λ u. joined_entries sender i u es) t h in
+    let is = joined_is sender i s split.0 e listed (s.shows i e.prefix) refl split.1 in
+    joined-after sender i (with_metric s i e.prefix e.metric) t es (listed_with s i e.metric e.prefix listed) (ap (λ (u : State). joined_entries sender i u es) (sym is) ∙ split.2)
+
+heads_with : (w : ℕ) (rows : Rows) (p : Block) (b : Bool) → heads (cond b rows (rows ++ (p, replicate {A = Option ℕ} w None) ∷ [])) ≡ cond b (heads rows) (heads rows ++ p ∷ [])
+heads_with w rows p true = refl
+heads_with w rows p false = heads-append rows (p, replicate w None)
+
+-- the prefixes of the rows that were added
+pub heads-with_rows : (w : ℕ) (rows : Rows) (es : List Entry) → heads (with_rows w rows es) ≡ prefixes_after (heads rows) es
+heads-with_rows w rows [] = refl
+heads-with_rows w rows (e ∷ es) = heads-with_rows w (with_row w rows e.prefix) es ∙ ap (λ (ps : List Block). prefixes_after ps es) (heads_with w rows e.prefix (is_among e.prefix (heads rows)))
+
+-- what was written to the grid is the join
+pub written-is : (a i w : ℕ) (heard : List Bool) (rows grown new : Rows) (es : List Entry) → i < length heard → IsState (grid_state heard rows)
+    → (checked : IsChecked a i (grid_state heard rows) es (Ok tt)) → grown ≡ with_rows w rows es → heads new ≡ heads grown → cell new ≡ shown_after (cell grown) i es
+    → grid_state (set heard i true) new ≡ checked.0
+written-is a i w heard rows grown new es lt valid checked grows names cells =
+    let s = with_heard (grid_state heard rows) i in
+    let prefixes : heads new ≡ prefixes_after (heads rows) es = names ∙ ap heads grows ∙ heads-with_rows w rows es in
+    let shows : cell new ≡ shown_after (cell rows) i es = cells ∙ ap (λ (f : ℕ → Block → Option ℕ). shown_after f i es) (ap cell grows ∙ cells-with_rows w rows es) in
+    let after : checked.0 ≡ after_all s i es = joined-after a i s checked.0 es (λ p m h. (valid.shown i m p lt h).listed) checked.1 in
+    ap (λ (n : ℕ). record { interfaces = n; prefixes = heads new; shows = cell new; heard = (grid_state (set heard i true) new).heard }) (length-set heard i true)
+    ∙ ap (λ (ps : List Block). record { interfaces = length heard; prefixes = ps; shows = cell new; heard = (grid_state (set heard i true) new).heard }) prefixes
+    ∙ ap (λ (f : ℕ → Block → Option ℕ). record { interfaces = length heard; prefixes = prefixes_after (heads rows) es; shows = f; heard = (grid_state (set heard i true) new).heard }) shows
+    ∙ ap (λ (f : ℕ → Bool). record { interfaces = length heard; prefixes = prefixes_after (heads rows) es; shows = shown_after (cell rows) i es; heard = f }) (heard-with heard i lt)
+    ∙ sym after
+
+-- a prefix without a row brings a pair
+pub lacks-brings : (i : ℕ) (s : State) (rows : Rows) (es : List Entry) → heads rows ≡ s.prefixes → IsState s → i < s.interfaces → LacksSome rows es → brings_pair i s (response es) ≡ true
+lacks-brings i s rows es names valid lt lacks =
+    let e = lacks.1 in
+    any-item (λ d. is_none (s.shows i d.prefix)) es lacks.0 e lacks.2
+    (ap is_none (unlisted s i e.prefix valid lt (ap (is_among e.prefix) (sym names) ∙ lacks.3)))
