@@ -1,11 +1,10 @@
 -- What the join of a response's entries is, part by part.
-use Rattle.std.proofs.Common.{◌≡◌, ℕ, ◌==◌, ◌<◌, Bool, true, false, cond, ◌&&◌, ◌||◌, not, List, [], ◌∷◌, ◌++◌, length, map, replicate, Option, Some, None, is_none, Result, Ok, Err, refl, sym, ap, ◌∙◌, set}
+use Rattle.std.proofs.Common.{◌≡◌, ℕ, ◌==◌, ◌<◌, Bool, true, false, cond, ◌&&◌, ◌||◌, not, List, [], ◌∷◌, ◌++◌, length, replicate, Option, Some, None, is_none, Result, Ok, Err, refl, sym, ap, ◌∙◌, set}
 use Rattle.std.proofs.Math.ListN.{length-set}
 use Rattle.std.proofs.lemmas.Bool.{eqb-true}
 use mathlib.Core.Path.{fun_ext}
-use Rattle.std.specs.List.{list_any, slice_get}
 use Rattle.rip_wire.specs.Prefix.{Block}
-use Rattle.rip_wire.specs.Message.{Message, request, response}
+use Rattle.rip_wire.specs.Message.{response}
 use Rattle.rip_wire.specs.declared.entry.Entry.{Entry}
 use Rattle.rip_plan.specs.Passes.{same_prefix}
 use Rattle.rip_table.specs.State.{IsState, State, is_among}
@@ -16,7 +15,7 @@ use Rattle.rip_table.specs.Rows.{LacksSome, Rows, cell, grid_state, heads, shown
 use Rattle.rip_table.specs.declared.error.TableError.{TableError}
 use Rattle.rip_table.specs.declared.error.TableError.TheVariants.{Changed, NextHop, TooManyPrefixes}
 use Rattle.rip_table.proofs.Lists.{is_among-append, same-is, same-self}
-use Rattle.rip_table.proofs.NumberLemmas.{any-item, none-of, unlisted}
+use Rattle.rip_table.proofs.NumberLemmas.{any-item, unlisted}
 use Rattle.rip_table.proofs.RowLemmas.{heads-append}
 use Rattle.rip_table.proofs.CellLemmas.{cells-with_rows}
 use Rattle.rip_table.proofs.TakingLemmas.{heard-with}

@@ -1,12 +1,12 @@
 -- Judging the entries of a response one after the other.
-use Rattle.std.proofs.Common.{inl, inr, ◌⊎◌, take, drop, ◌≡◌, ◌≢◌, ℕ, zero, suc, ◌+◌, ◌<◌, ◌≤◌, ◌==◌, nat_le, nat_lt, Bool, true, false, cond, ◌||◌, ◌&&◌, not, List, [], ◌∷◌, ◌++◌, length, Option, Some, None, is_some, is_none, Result, Ok, Err, refl, sym, ap, ◌∙◌, arith, subst, append_assoc, append-nil, length-append}
+use Rattle.std.proofs.Common.{inl, inr, ◌⊎◌, take, drop, ◌≡◌, ℕ, zero, suc, ◌+◌, ◌<◌, ◌≤◌, ◌==◌, nat_le, nat_lt, Bool, true, false, cond, ◌||◌, ◌&&◌, not, List, [], ◌∷◌, ◌++◌, length, Option, Some, None, is_some, is_none, Result, Ok, Err, refl, sym, ap, ◌∙◌, arith, length-append}
 use Rattle.std.specs.List.{slice_get}
 use Rattle.std.specs.Option.{option_or}
 use Rattle.rip_wire.specs.Prefix.{Block}
 use Rattle.rip_wire.specs.declared.entry.Entry.{Entry}
 use Rattle.rip_plan.specs.Network.{number_of_prefix}
 use Rattle.rip_plan.specs.Passes.{same_prefix}
-use Rattle.rip_table.specs.State.{IsState, IsShown, State, is_among}
+use Rattle.rip_table.specs.State.{IsState, State, is_among}
 use Rattle.rip_table.specs.Joined.{and_then, is_foreign, is_past, joined_at, joined_entries, with_heard, with_metric}
 use Rattle.rip_table.specs.Numbers.{counted, judged, judged_alone, known_metric, metric_among}
 use Rattle.rip_table.specs.declared.error.TableError.{TableError}
@@ -15,7 +15,7 @@ use Rattle.std.proofs.lemmas.Bool.{eq-eqb, le-ltb, leb-false}
 use Rattle.std.proofs.lemmas.Bool.Decides.{nat_tests}
 use Rattle.std.proofs.lemmas.List.{take-append-drop}
 use Rattle.rip_table.proofs.Lists.{drop-more, same-is, same-self, is_among-append, is_among-item, take-more}
-use Rattle.rip_table.proofs.NumberLemmas.{metric_among-snoc, number-none, number-some, true-false, unlisted}
+use Rattle.rip_table.proofs.NumberLemmas.{metric_among-snoc, number-none, number-some, true-false}
 
 -- the first j entries have no fault, and this is what they make of a table; it has so many prefixes
 pub record Checked (sender i : ℕ) (s : State) (es : List Entry) (j count : ℕ) : Type 0 where

@@ -1,5 +1,5 @@
 -- Adding to the list of what the interfaces showed.
-use Rattle.std.proofs.Common.{◌≡◌, ℕ, ◌==◌, Bool, true, false, cond, ◌&&◌, ◌||◌, not, List, [], ◌∷◌, ◌++◌, length, Option, Some, None, is_none, Result, Ok, Err, refl, sym, ap, ◌∙◌, subst, set, ◌<◌}
+use Rattle.std.proofs.Common.{◌≡◌, ℕ, ◌==◌, Bool, true, false, cond, ◌&&◌, ◌||◌, not, List, [], ◌∷◌, ◌++◌, length, Option, Some, None, is_none, Result, Ok, Err, refl, sym, ap, ◌∙◌, set, ◌<◌}
 use Rattle.std.proofs.Math.ListN.{length-set}
 use Rattle.std.specs.Option.{option_or, option_map}
 use Rattle.std.specs.List.{find, list_any}
@@ -7,7 +7,7 @@ use mathlib.Core.Path.{fun_ext}
 use Rattle.rip_wire.specs.Prefix.{Block}
 use Rattle.rip_wire.specs.declared.entry.Entry.{Entry}
 use Rattle.rip_plan.specs.Passes.{same_prefix}
-use Rattle.rip_table.specs.State.{State, is_among}
+use Rattle.rip_table.specs.State.{State}
 use Rattle.rip_table.specs.Joined.{and_then, is_foreign, is_past, joined_at, joined_entries, with_heard, with_metric}
 use Rattle.rip_table.specs.ListState.{IsAdded, list_state, metric_in, with_prefix}
 use Rattle.rip_table.specs.declared.error.TableError.{TableError}

@@ -1,5 +1,5 @@
 -- Numbers of prefixes, and what entries say of a prefix.
-use Rattle.std.proofs.Common.{inl, inr, take, drop, ◌≡◌, ◌≢◌, ℕ, zero, suc, ◌+◌, ◌<◌, ◌≤◌, Bool, true, false, cond, ◌||◌, not, List, [], ◌∷◌, ◌++◌, length, Option, Some, None, is_some, is_none, refl, sym, ap, ◌∙◌, arith, subst}
+use Rattle.std.proofs.Common.{inl, inr, take, ◌≡◌, ℕ, zero, suc, ◌+◌, ◌<◌, Bool, true, false, cond, ◌||◌, List, [], ◌∷◌, ◌++◌, length, Option, Some, None, is_some, is_none, refl, sym, ap, ◌∙◌, arith}
 use Rattle.std.specs.List.{slice_get, slice_index_or, list_any, position_from}
 use Rattle.std.specs.Option.{option_or}
 use Rattle.std.proofs.lemmas.Option.{get_or_from_slice_get, slice_get_cases, slice_get_within}
@@ -7,13 +7,13 @@ use Rattle.std.proofs.lemmas.List.Folds.{list_any-append}
 use Rattle.rip_wire.specs.Prefix.{Block}
 use Rattle.rip_wire.specs.Message.{Message, request, response}
 use Rattle.rip_wire.specs.Datagram.{entries_of, kind_of}
-use Rattle.rip_wire.specs.declared.datagram.Kind.TheVariants.{Request, Response}
+use Rattle.rip_wire.specs.declared.datagram.Kind.TheVariants.{Response}
 use Rattle.rip_wire.specs.declared.entry.Entry.{Entry}
 use Rattle.rip_plan.specs.Network.{number_of_prefix}
 use Rattle.rip_plan.specs.Passes.{same_prefix}
 use Rattle.rip_table.specs.State.{IsState, State, is_among}
 use Rattle.rip_table.specs.Numbers.{AreNumbers, metric_among}
-use Rattle.rip_table.proofs.Lists.{same-is, same-self, is_among-item, take-more}
+use Rattle.rip_table.proofs.Lists.{same-is, is_among-item, take-more}
 
 pub true-false : {A : Type 0} (b : Bool) → b ≡ true → b ≡ false → A
 true-false true h k = absurd (cc k)

@@ -1,8 +1,8 @@
 -- Rows of cells: finding them, adding them and writing to them.
-use Rattle.std.proofs.Common.{◌≡◌, ℕ, zero, suc, ◌+◌, ◌<◌, ◌≤◌, ◌==◌, Bool, true, false, cond, ◌&&◌, ◌||◌, List, [], ◌∷◌, ◌++◌, length, map, take, drop, set, get_or, replicate, Option, Some, None, is_some, Result, Ok, Err, refl, sym, ap, ◌∙◌, arith, length-append, ltb}
+use Rattle.std.proofs.Common.{◌≡◌, ℕ, zero, suc, ◌+◌, ◌<◌, ◌≤◌, Bool, true, false, cond, List, [], ◌∷◌, ◌++◌, length, take, set, get_or, replicate, Option, Some, None, is_some, Result, Ok, Err, refl, sym, ap, ◌∙◌, arith, length-append}
 use Rattle.std.proofs.Math.ListN.{length-set}
-use Rattle.std.specs.List.{slice_get, position, position_from, position_or_len}
-use Rattle.std.specs.Map.{lookup, values_of, keys_of}
+use Rattle.std.specs.List.{slice_get, position, position_from}
+use Rattle.std.specs.Map.{values_of, keys_of}
 use Rattle.std.specs.Result.{OnErr}
 use Rattle.std.specs.declared.vec.Vec.{Vec}
 use Rattle.std.specs.declared.alloc.Global.{Global}
@@ -14,7 +14,7 @@ use Rattle.rip_wire.specs.declared.entry.Entry.{Entry}
 use Rattle.rip_plan.specs.Network.{number_of_prefix}
 use Rattle.rip_plan.specs.Passes.{same_prefix}
 use Rattle.rip_table.specs.State.{is_among}
-use Rattle.rip_table.specs.Rows.{Rows, IsGrid, cell, heads, planned_rows, rows_of, with_cell, with_row, with_rows}
+use Rattle.rip_table.specs.Rows.{Rows, IsGrid, heads, planned_rows, rows_of, with_cell, with_row, with_rows}
 use Rattle.rip_table.proofs.Lists.{is_among-item, same-self, take-more}
 use Rattle.rip_table.proofs.NumberLemmas.{number-at, number-is, number-none, true-false}
 

@@ -1,15 +1,15 @@
 -- What checking the entries of a response says of taking it.
-use Rattle.std.proofs.Common.{◌≡◌, ℕ, ◌==◌, Bool, true, false, cond, not, List, [], ◌∷◌, length, Option, Some, None, is_none, is_ok, Result, Ok, Err, refl, sym, ap, ◌∙◌, subst, set, get_or, ◌<◌, get_or-set_same, get_or-set_other, ◌≢◌, arith}
+use Rattle.std.proofs.Common.{◌≡◌, ℕ, ◌==◌, Bool, true, false, cond, not, List, [], ◌∷◌, length, Option, Some, None, is_ok, Result, Ok, Err, refl, sym, ap, ◌∙◌, set, get_or, ◌<◌, get_or-set_same, get_or-set_other, ◌≢◌, arith}
 use mathlib.Core.Path.{fun_ext}
 use Rattle.std.proofs.lemmas.Bool.Decides.{nat_tests}
-use Rattle.std.specs.List.{list_any, slice_get}
-use Rattle.rip_wire.specs.Message.{Message, request, response}
+use Rattle.std.specs.List.{slice_get}
+use Rattle.rip_wire.specs.Message.{Message, response}
 use Rattle.rip_wire.specs.declared.entry.Entry.{Entry}
 use Rattle.rip_plan.specs.Network.{Network}
 use Rattle.rip_plan.specs.Relations.{HasAddress}
 use Rattle.rip_plan.specs.declared.parts.Interface.{Interface}
-use Rattle.rip_table.specs.State.{IsState, State}
-use Rattle.rip_table.specs.Joined.{and_then, brings_pair, is_foreign, is_past, joined_at, joined_entries, joined_message, Takes, Wants, with_heard, with_metric}
+use Rattle.rip_table.specs.State.{State}
+use Rattle.rip_table.specs.Joined.{and_then, brings_pair, is_foreign, is_past, joined_at, joined_entries, joined_message, Takes, with_heard, with_metric}
 use Rattle.rip_table.specs.Numbers.{IsChecked}
 use Rattle.rip_table.specs.declared.error.TableError.{TableError}
 use Rattle.rip_table.specs.declared.error.TableError.TheVariants.{Changed, NextHop, TooManyPrefixes, Memory}

@@ -1,5 +1,4 @@
-use Rattle.std.proofs.Common.{◌≡◌, ◌∙◌, sym, ap, arith, List, ◌∷◌, ◌+◌, drop, Result}
-use Rattle.rip_wire.specs.declared.entry.Entry.{Entry}
+use Rattle.std.proofs.Common.{◌∙◌, sym, ap, arith, ◌+◌, drop}
 use Rattle.rip_wire.specs.Datagram.{entries_of, message_of}
 use Rattle.rip_table.specs.Joined.{joined_entries}
 use Rattle.rip_table.specs.ListState.{list_state}

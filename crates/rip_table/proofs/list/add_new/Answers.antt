@@ -1,4 +1,4 @@
-use Rattle.std.proofs.Common.{◌≡◌, ◌∙◌, sym, ap, false}
+use Rattle.std.proofs.Common.{◌∙◌, sym, ap}
 use Rattle.rip_wire.specs.Datagram.{entries_of, message_of}
 use Rattle.rip_table.specs.Joined as joined
 use Rattle.rip_table.specs.ListState.{list_state}

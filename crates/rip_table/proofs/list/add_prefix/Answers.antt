@@ -1,6 +1,5 @@
-use Rattle.std.proofs.Common.{◌≡◌, ◌∙◌, sym, ap, cond, Bool, true, false, List, [], ◌∷◌, ◌++◌, Option, ℕ}
+use Rattle.std.proofs.Common.{◌≡◌, ◌∙◌, sym, ap, cond, Bool, true, false, [], ◌∷◌, ◌++◌}
 use Rattle.std.specs.Option.{is_some}
-use Rattle.rip_wire.specs.Prefix.{Block}
 use Rattle.rip_plan.specs.Network.{number_of_prefix}
 use Rattle.rip_table.specs.State.{is_among}
 use Rattle.rip_table.proofs.NumberLemmas.{number-is}

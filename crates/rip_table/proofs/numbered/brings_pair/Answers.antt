@@ -1,7 +1,6 @@
-use Rattle.std.proofs.Common.{◌≡◌, ◌∙◌, sym, ap, arith, not, true, false}
+use Rattle.std.proofs.Common.{◌∙◌, sym, ap, arith}
 use Rattle.std.specs.List.{list_any}
 use Rattle.std.specs.Option.{is_none}
-use Rattle.rip_wire.specs.Message.{Message}
 use Rattle.rip_wire.specs.Datagram.{entries_of, message_of}
 use Rattle.rip_table.specs.Joined as joined
 use Rattle.rip_table.proofs.Lists.{take-end}

@@ -1,4 +1,4 @@
-use Rattle.std.proofs.Common.{◌≡◌, ◌∙◌, sym, ap, arith, subst, Some, Option, None, ℕ, ◌+◌, Err, rules}
+use Rattle.std.proofs.Common.{◌≡◌, ◌∙◌, sym, ap, arith, subst, None, ◌+◌, Err, rules}
 use Rattle.std.specs.List.{slice_index_or}
 use Rattle.rip_table.specs.Joined.{joined_entries, with_heard}
 use Rattle.std.specs.Option.{is_some}

@@ -1,7 +1,5 @@
-use Rattle.std.proofs.Common.{◌≡◌, ◌∙◌, sym, ap, subst, ℕ, Bool, List, Option, None, length, replicate, false}
-use Rattle.rip_wire.specs.Prefix.{Block}
-use Rattle.rip_table.specs.State.{IsState, State, new_state}
-use Rattle.rip_table.specs.Rows.{IsGrid, Rows, cell, grid_state, heads, planned_rows, rows_of}
+use Rattle.std.proofs.Common.{◌≡◌, ◌∙◌, sym, ap, subst, ℕ, Bool, List, length, replicate, false}
+use Rattle.rip_table.specs.Rows.{IsGrid, Rows, cell, grid_state, heads, rows_of}
 use Rattle.rip_table.proofs.NewLemmas.{empty-is, grid-new, length-none}
 use Rattle.rip_table.proofs.RowLemmas.{grid-planned, heads-planned}
 use Rattle.rip_table.proofs.CellLemmas.{cell-planned}

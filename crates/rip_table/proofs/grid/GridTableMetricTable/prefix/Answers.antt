@@ -1,4 +1,4 @@
-use Rattle.std.proofs.Common.{◌≡◌, sym}
+use Rattle.std.proofs.Common.{sym}
 use Rattle.rip_table.proofs.RowLemmas.{head-at}
 use Rattle.rip_table.proofs.grid.GridTableMetricTable.prefix.Goals as goal
 

@@ -1,15 +1,13 @@
-use Rattle.std.proofs.Common.{◌≡◌, ◌∙◌, sym, ap, subst, Err, Ok, Result, Bool, true, set, List, ℕ, ◌<◌, arith, refl, rules, length}
+use Rattle.std.proofs.Common.{◌≡◌, ◌∙◌, sym, ap, subst, Err, Ok, Bool, true, set, List, ℕ, arith, refl, rules, length}
 use Rattle.std.proofs.Math.ListN.{length-set}
-use Rattle.rip_wire.specs.Prefix.{Block}
 use Rattle.rip_wire.specs.declared.entry.Entry.{Entry}
-use Rattle.rip_wire.specs.Message.{Message}
 use Rattle.rip_wire.specs.Datagram.{entries_of, kind_of, message_of}
 use Rattle.rip_wire.specs.declared.datagram.Kind.TheVariants.{Response}
 use Rattle.rip_table.specs.declared.error.TableError.TheVariants.{Memory}
-use Rattle.rip_table.specs.State.{IsState, State}
-use Rattle.rip_table.specs.Joined.{Takes, brings_pair, joined_entries}
+use Rattle.rip_table.specs.State.{IsState}
+use Rattle.rip_table.specs.Joined.{Takes, brings_pair}
 use Rattle.rip_table.specs.Numbers.{IsChecked}
-use Rattle.rip_table.specs.Rows.{IsGrid, Rows, grid_state, heads, rows_of, with_rows}
+use Rattle.rip_table.specs.Rows.{IsGrid, Rows, grid_state, rows_of, with_rows}
 use Rattle.rip_table.proofs.NumberLemmas.{response-is}
 use Rattle.rip_table.proofs.TakingLemmas.{refused, sender-is, taken, wanting}
 use Rattle.rip_table.proofs.RowLemmas.{grid-with_rows}

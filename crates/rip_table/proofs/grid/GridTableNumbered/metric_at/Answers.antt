@@ -1,4 +1,4 @@
-use Rattle.std.proofs.Common.{◌≡◌, ◌∙◌, sym, ap, arith, length, Option, None, ℕ}
+use Rattle.std.proofs.Common.{◌≡◌, ◌∙◌, sym, arith, length, None}
 use Rattle.rip_table.specs.Rows.{heads, rows_of}
 use Rattle.rip_table.proofs.RowLemmas.{get_or-any, number-listed, row-at, row-width}
 use Rattle.rip_table.proofs.CellLemmas.{cell-at}

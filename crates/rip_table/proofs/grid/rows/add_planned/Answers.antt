@@ -1,5 +1,5 @@
-use Rattle.std.proofs.Common.{◌≡◌, ◌∙◌, ap, take, length, ℕ}
-use Rattle.rip_table.specs.Rows.{Rows, planned_rows, rows_of, with_row}
+use Rattle.std.proofs.Common.{◌∙◌, ap, length, ℕ}
+use Rattle.rip_table.specs.Rows.{Rows, rows_of, with_row}
 use Rattle.rip_table.proofs.RowLemmas.{planned-more}
 use Rattle.rip_table.proofs.grid.rows.add_planned.Goals as goal
 

@@ -1,4 +1,4 @@
-use Rattle.std.proofs.Common.{◌≡◌, ◌∙◌, ◌<◌, ◌≤◌, ◌+◌, ap, sym, ℕ, suc, Bool, true, false, Some, Option, None, List, length, set, take, drop, arith, refl, nat_lt, ◌≢◌, get_or-set_same, get_or-set_other}
+use Rattle.std.proofs.Common.{◌≡◌, ◌∙◌, ◌<◌, ◌≤◌, ◌+◌, ap, sym, ℕ, Bool, true, false, Some, List, length, set, take, drop, arith, refl, nat_lt, ◌≢◌, get_or-set_same, get_or-set_other}
 use Rattle.std.proofs.lemmas.Bool.{ltb-true, ltb-false}
 use Rattle.std.proofs.Math.ListN.{length-set}
 use Rattle.std.specs.List.{slice_get, slice_index_or}
@@ -8,10 +8,10 @@ use Rattle.rip_wire.specs.declared.entry.Entry.{Entry}
 use Rattle.rip_wire.specs.Datagram.{entries_of, message_of}
 use Rattle.rip_plan.specs.Network.{number_of_prefix}
 use Rattle.rip_table.specs.State.{is_among}
-use Rattle.rip_table.specs.Rows.{LacksSome, Rows, heads, rows_of, with_row, with_rows}
-use Rattle.rip_table.proofs.Lists.{drop-end, drop-more}
+use Rattle.rip_table.specs.Rows.{Rows, heads, rows_of, with_rows}
+use Rattle.rip_table.proofs.Lists.{drop-more}
 use Rattle.rip_table.proofs.NumberLemmas.{number-here}
-use Rattle.rip_table.proofs.RowLemmas.{kept-among, length-rows, on_err, take-all, was_absent, with_row-front, with_row-keeps, with_row-longer}
+use Rattle.rip_table.proofs.RowLemmas.{kept-among, length-rows, on_err, was_absent, with_row-front, with_row-keeps, with_row-longer}
 use Rattle.rip_table.proofs.grid.rows.grow.Goals as goal
 
 pub row_at-requires : goal.row_at-requires

@@ -1,5 +1,5 @@
-use Rattle.std.proofs.Common.{◌≡◌, ◌∙◌, ap, sym, take}
-use Rattle.rip_table.specs.Rows.{Rows, rows_of}
+use Rattle.std.proofs.Common.{◌∙◌, ap, take}
+use Rattle.rip_table.specs.Rows.{rows_of}
 use Rattle.rip_table.proofs.RowLemmas.{rows-take}
 use Rattle.rip_table.proofs.grid.rows.grow_or_keep.Goals as goal
 

@@ -1,12 +1,10 @@
-use Rattle.std.proofs.Common.{◌≡◌, ◌∙◌, ap, sym, false, true, Some, None, Option, ℕ, List, [], ◌∷◌, ◌++◌, length, arith, refl, replicate}
+use Rattle.std.proofs.Common.{◌≡◌, ◌∙◌, ap, sym, false, Some, None, Option, ℕ, List, [], ◌∷◌, ◌++◌, length, refl, replicate}
 use Rattle.std.specs.Option.{is_some}
 use Rattle.std.specs.declared.vec.Vec.{Vec}
 use Rattle.std.specs.declared.alloc.Global.{Global}
-use Rattle.std.specs.Map.{lookup, keys_of}
 use Rattle.rip_wire.specs.Prefix.{Block}
 use Rattle.rip_plan.specs.Network.{number_of_prefix}
 use Rattle.rip_plan.specs.Passes.{same_prefix}
-use Rattle.rip_table.specs.State.{is_among}
 use Rattle.rip_table.specs.Rows.{Rows, heads, rows_of}
 use Rattle.rip_table.proofs.NumberLemmas.{number-none, number-some}
 use Rattle.rip_table.proofs.RowLemmas.{Entries, heads-append, index-number, length-heads, length-rows, number-last, on_err, rows-append, with_row-new, with_row-old}

@@ -1,6 +1,5 @@
-use Rattle.std.proofs.Common.{◌≡◌, ap, refl, ℕ, List, None}
+use Rattle.std.proofs.Common.{ap}
 use Rattle.rip_table.specs.ListState.{list_state, metric_in}
-use Rattle.rip_table.specs.declared.list.shown.Shown.{Shown}
 use Rattle.rip_table.proofs.NewLemmas.{empty-is}
 use Rattle.rip_table.proofs.list.ListTable.new.Goals as goal
 

@@ -1,4 +1,4 @@
-use Rattle.std.proofs.Common.{◌≡◌, ◌∙◌, sym, ap, subst, Err, Ok, Result, Bool, true, set, List, ℕ, ◌<◌, arith, rules, length}
+use Rattle.std.proofs.Common.{◌≡◌, ◌∙◌, sym, ap, subst, Err, Ok, Bool, true, set, List, ℕ, ◌<◌, arith, rules, length}
 use Rattle.rip_wire.specs.Prefix.{Block}
 use Rattle.rip_wire.specs.declared.entry.Entry.{Entry}
 use Rattle.rip_table.specs.declared.error.TableError.TheVariants.{Memory}
