@@ -6,10 +6,10 @@ use Rattle.rip_wire.specs.declared.entry.Entry.{Entry}
 use Rattle.rip_plan.specs.Network.{Network}
 use Rattle.rip_plan.specs.Passes.{same_prefix}
 use Rattle.rip_log.specs.Lines.{Capture}
-use Rattle.rip_table.specs.State.{Fits, State, is_among}
-use Rattle.rip_table.specs.Joined.{and_then, as_cause, interface_of, is_foreign, is_past, joined_at, joined_capture, joined_entries, joined_from, joined_message, message_of_capture, with_heard, with_metric}
+use Rattle.rip_table.specs.State.{Fits, State, is_among, new_state}
+use Rattle.rip_table.specs.Joined.{and_then, as_cause, interface_of, is_foreign, is_past, joined_at, joined_capture, joined_entries, joined_from, joined_message, message_of_capture, Takes, with_heard, with_metric}
 use Rattle.rip_table.specs.declared.error.TableError.{TableError}
-use Rattle.rip_table.specs.declared.error.TableError.TheVariants.{Changed, NextHop, TooManyPrefixes}
+use Rattle.rip_table.specs.declared.error.TableError.TheVariants.{Changed, Memory, NextHop, TooManyPrefixes}
 use Rattle.rip_table.proofs.Lists.{same-is, is_among-item, is_among-append}
 
 -- a table goes on as another: as many interfaces, and only new prefixes at the end of the list
@@ -112,3 +112,15 @@ pub Fits-joined : (n : Network) (s t : State) (c : Capture) → Fits n s → joi
 Fits-joined n s t c fits h =
     let k : GoesOn s t = subst (Kept s) h (kept-from c.sender s (message_of_capture c) (interface_of n c)) in
     fits_on n s t fits k
+
+-- a table fits its plan when a message was taken or refused
+pub Fits-taken : (n : Network) (a i : ℕ) (s t : State) (m : Message) (r : Result (Unit {0}) TableError) → Fits n s → Takes a i s m t r → Fits n t
+Fits-taken n a i s t m (Ok u) fits h = fits_on n s t fits (subst (Kept s) h (kept-message a i s m))
+Fits-taken n a i s t m (Err Memory) fits h = subst (Fits n) (sym h.0) fits
+Fits-taken n a i s t m (Err (Changed p x y)) fits h = subst (Fits n) (sym h.0) fits
+Fits-taken n a i s t m (Err (NextHop p)) fits h = subst (Fits n) (sym h.0) fits
+Fits-taken n a i s t m (Err TooManyPrefixes) fits h = subst (Fits n) (sym h.0) fits
+
+-- the new table of a plan fits it
+pub Fits-new : (n : Network) (s : State) → s ≡ new_state n → Fits n s
+Fits-new n s is = subst (Fits n) (sym is) (record { interfaces = refl; others = []; prefixes = sym (append-nil n.prefixes); unplanned = λ k p at. refl })

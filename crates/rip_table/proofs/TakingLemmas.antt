@@ -82,3 +82,7 @@ heard_at heard i j lt = by (j == i) refl
 -- which interfaces were heard, with one more
 pub heard-with : (heard : List Bool) (i : ℕ) → i < length heard → ◌≡◌ {A = ℕ → Bool} (λ j. get_or (set heard i true) j false) (λ j. cond (j == i) true (get_or heard j false))
 heard-with heard i lt = fun_ext (λ j. heard_at heard i j lt)
+
+-- an interface of the plan has an address
+pub has-address : (n : Network) (i : ℕ) (interface : Interface) → slice_get n.interfaces i ≡ Some interface → HasAddress n i interface.link interface.address
+has-address n i interface at = record { router = interface.router; cost = interface.cost; listed = at }

@@ -3,7 +3,7 @@
 ghost use Rattle.std.specs.Prelude.{◌≡◌, IfOk, IfErr, length};
 ghost use Rattle.indexmap.specs.IndexMap.{index_map_len};
 ghost use Rattle.rip_wire.specs.Prefix.{Block};
-ghost use Rattle.rip_table.specs.State.{IsState, new_state};
+ghost use Rattle.rip_table.specs.State.{Fits, IsState, new_state};
 ghost use Rattle.rip_table.specs.Rows.{IsGrid, grid_state, planned_rows, rows_of};
 
 mod cell;
@@ -99,6 +99,7 @@ impl<S: BuildHasher + Drop> GridTable<S> {
     /// strangers choose them, so a program hands in one that is seeded at random.
     pub fn with_hasher(alloc: Global, plan: &Plan, hasher: S) -> Result<GridTable<S>, TableError>
         ensures state { IfOk result (λ table. ⟦<GridTable<S> as MetricTable>⟧.state table ≡ new_state plan.now) }
+        ensures fits { IfOk result (λ table. Fits plan.now (⟦<GridTable<S> as MetricTable>⟧.state table)) }
         ensures memory { IfErr result (λ error. error ≡ Memory) }
     {
         let heard = none_heard(alloc, plan.interfaces())?;

@@ -3,7 +3,7 @@
 ghost use Rattle.std.specs.Prelude.{◌≡◌, ◌+◌, ◌≤◌, ◌<◌, if◌then◌else◌, List, [], ◌∷◌, ◌++◌, Bool, true, IfOk, IfErr, OnOk, OnErr, length, vec_len, vec_capacity};
 ghost use Rattle.rip_wire.specs.Datagram.{entries_of, kind_of, message_of};
 ghost use Rattle.rip_plan.specs.Network.{number_of_prefix};
-ghost use Rattle.rip_table.specs.State.{IsState, is_among, new_state};
+ghost use Rattle.rip_table.specs.State.{Fits, IsState, is_among, new_state};
 ghost use Rattle.rip_table.specs.Joined as joined;
 ghost use Rattle.rip_table.specs.ListState.{AreAdded, IsAdded, list_state, metric_in};
 
@@ -214,6 +214,7 @@ impl ListTable {
     /// The table of a plan in which nothing was heard.
     pub fn new(alloc: Global, plan: &Plan) -> Result<ListTable, TableError>
         ensures state { IfOk result (λ table. ⟦<ListTable as MetricTable>⟧.state table ≡ new_state plan.now) }
+        ensures fits { IfOk result (λ table. Fits plan.now (⟦<ListTable as MetricTable>⟧.state table)) }
         ensures memory { IfErr result (λ error. error ≡ Memory) }
     {
         let prefixes = planned(alloc, plan)?;

@@ -57,7 +57,9 @@ pub trait MetricTable {
     ) -> Result<(), TableError>
         requires fits { Fits plan.now (state self.old) }
         requires interface { interface < length plan.now.interfaces }
-        ensures takes { (l a : ℕ) → HasAddress plan.now interface l a → Takes a interface (state self.old) (message_of datagram.now) (state self.new) result };
+        ensures takes { (l a : ℕ) → HasAddress plan.now interface l a → Takes a interface (state self.old) (message_of datagram.now) (state self.new) result }
+        // It still fits the plan.
+        ensures fits { Fits plan.now (state self.new) };
 }
 
 /// The marks of interfaces of which none was heard.

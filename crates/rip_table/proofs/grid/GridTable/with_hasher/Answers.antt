@@ -1,5 +1,6 @@
 use Rattle.std.proofs.Common.{◌≡◌, ◌∙◌, sym, ap, subst, ℕ, Bool, List, length, replicate, false}
 use Rattle.rip_table.specs.Rows.{IsGrid, Rows, cell, grid_state, heads, rows_of}
+use Rattle.rip_table.proofs.FitLemmas.{Fits-new}
 use Rattle.rip_table.proofs.NewLemmas.{empty-is, grid-new, length-none}
 use Rattle.rip_table.proofs.RowLemmas.{grid-planned, heads-planned}
 use Rattle.rip_table.proofs.CellLemmas.{cell-planned}
@@ -26,3 +27,6 @@ returns-clause-state g c =
     ap (λ (h : List Bool). grid_state h (rows_of c.add_planned.new.rows.entries)) (c.in_ok-heard.ensures ∙ ap (λ (k : ℕ). replicate k false) c.interfaces.ensures)
     ∙ ap (grid_state (replicate w false)) rows
     ∙ grid-new n
+
+pub returns-clause-fits : goal.returns-clause-fits
+returns-clause-fits g c = Fits-new c.args.plan.now (grid_state c.in_ok-heard.heard.items (rows_of c.add_planned.new.rows.entries)) (returns-clause-state g c)

@@ -8,43 +8,55 @@ use Rattle.rip_table.specs.State.{IsState}
 use Rattle.rip_table.specs.Joined.{Takes, brings_pair}
 use Rattle.rip_table.specs.Numbers.{IsChecked}
 use Rattle.rip_table.specs.Rows.{IsGrid, Rows, grid_state, rows_of, with_rows}
+use Rattle.rip_plan.specs.Relations.{HasAddress}
+use Rattle.rip_table.proofs.FitLemmas.{Fits-taken}
 use Rattle.rip_table.proofs.NumberLemmas.{response-is}
-use Rattle.rip_table.proofs.TakingLemmas.{refused, sender-is, taken, wanting}
+use Rattle.rip_table.proofs.TakingLemmas.{has-address, refused, sender-is, taken, wanting}
 use Rattle.rip_table.proofs.RowLemmas.{grid-with_rows}
 use Rattle.rip_table.proofs.AfterLemmas.{lacks-brings, written-is}
 use Rattle.rip_table.proofs.grid.GridTableMetricTable.take.Goals as goal
 
 pub returns-in_err-check : goal.returns-in_err-check
-returns-in_err-check g c = record {
-  takes = λ l a has.
-      let s = grid_state c.args.self.now.heard.items (rows_of c.args.self.now.rows.entries) in
-      let m = message_of c.args.datagram.now in
-      let response : kind_of m ≡ Response = search rules in
-      let sender = sender-is c.args.plan.now c.args.interface l a c.interface-sender.result c.interface-sender.ensures.exact has in
-      let is : c.from_residual.result ≡ Err (c.in_err-check.field-0).0 = search rules in
-      let checked : IsChecked a c.args.interface s (entries_of m) (Err (c.in_err-check.field-0).0) = subst (λ (x : ℕ). IsChecked x c.args.interface s (entries_of m) (Err (c.in_err-check.field-0).0)) sender c.in_err-check.ensures in
-      subst (Takes a c.args.interface s m s) (sym is) (refused a c.args.interface s m (entries_of m) (c.in_err-check.field-0).0 (response-is m response) checked);
-}
+returns-in_err-check g c =
+    let takes : ((l a : ℕ) → HasAddress c.args.plan.now c.args.interface l a → Takes a c.args.interface (grid_state c.args.self.now.heard.items (rows_of c.args.self.now.rows.entries)) (message_of c.args.datagram.now) (grid_state c.args.self.now.heard.items (rows_of c.args.self.now.rows.entries)) c.from_residual.result) = λ l a has.
+    let s = grid_state c.args.self.now.heard.items (rows_of c.args.self.now.rows.entries) in
+    let m = message_of c.args.datagram.now in
+    let response : kind_of m ≡ Response = search rules in
+    let sender = sender-is c.args.plan.now c.args.interface l a c.interface-sender.result c.interface-sender.ensures.exact has in
+    let is : c.from_residual.result ≡ Err (c.in_err-check.field-0).0 = search rules in
+    let checked : IsChecked a c.args.interface s (entries_of m) (Err (c.in_err-check.field-0).0) = subst (λ (x : ℕ). IsChecked x c.args.interface s (entries_of m) (Err (c.in_err-check.field-0).0)) sender c.in_err-check.ensures in
+    subst (Takes a c.args.interface s m s) (sym is) (refused a c.args.interface s m (entries_of m) (c.in_err-check.field-0).0 (response-is m response) checked)
+    in
+    let here = has-address c.args.plan.now c.args.interface c.interface-sender.result c.interface-sender.ensures.exact in
+    record {
+      takes = takes;
+      fits = Fits-taken c.args.plan.now c.interface-sender.result.address c.args.interface (grid_state c.args.self.now.heard.items (rows_of c.args.self.now.rows.entries)) (grid_state c.args.self.now.heard.items (rows_of c.args.self.now.rows.entries)) (message_of c.args.datagram.now) c.from_residual.result c.requires.fits (takes c.interface-sender.result.link c.interface-sender.result.address here);
+    }
 
 pub returns-in_err-places : goal.returns-in_err-places
-returns-in_err-places g c = record {
-  takes = λ l a has.
-      let heard = c.args.self.now.heard.items in
-      let rows = rows_of c.args.self.now.rows.entries in
-      let s = grid_state heard rows in
-      let m = message_of c.args.datagram.now in
-      let response : kind_of m ≡ Response = search rules in
-      let message = response-is m response in
-      let sender = sender-is c.args.plan.now c.args.interface l a c.interface-sender.result c.interface-sender.ensures.exact has in
-      let is : c.from_residual-in_err-places.result ≡ Err Memory = search rules in
-      let checked : IsChecked a c.args.interface s (entries_of m) (Ok tt) = subst (λ (x : ℕ). IsChecked x c.args.interface s (entries_of m) (Ok tt)) sender c.in_ok-check.ensures in
-      let brings : brings_pair c.args.interface s m ≡ true =
-      ap (brings_pair c.args.interface s) message
-      ∙ lacks-brings c.args.interface s rows (entries_of m) refl c.args.self.now.valid (omega (arith, c.requires.interface, c.requires.fits.interfaces)) c.in_err-places.ensures.lacks in
-      let new = grid_state heard (rows_of c.grow_or_keep.new.rows.entries) in
-      let same : new ≡ s = ap (grid_state heard) c.in_err-places.ensures.err in
-      subst (Takes a c.args.interface s m new) (sym is) (wanting a c.args.interface s m (entries_of m) new message checked brings same);
-}
+returns-in_err-places g c =
+    let takes : ((l a : ℕ) → HasAddress c.args.plan.now c.args.interface l a → Takes a c.args.interface (grid_state c.args.self.now.heard.items (rows_of c.args.self.now.rows.entries)) (message_of c.args.datagram.now) (grid_state c.args.self.now.heard.items (rows_of c.grow_or_keep.new.rows.entries)) c.from_residual-in_err-places.result) = λ l a has.
+    let heard = c.args.self.now.heard.items in
+    let rows = rows_of c.args.self.now.rows.entries in
+    let s = grid_state heard rows in
+    let m = message_of c.args.datagram.now in
+    let response : kind_of m ≡ Response = search rules in
+    let message = response-is m response in
+    let sender = sender-is c.args.plan.now c.args.interface l a c.interface-sender.result c.interface-sender.ensures.exact has in
+    let is : c.from_residual-in_err-places.result ≡ Err Memory = search rules in
+    let checked : IsChecked a c.args.interface s (entries_of m) (Ok tt) = subst (λ (x : ℕ). IsChecked x c.args.interface s (entries_of m) (Ok tt)) sender c.in_ok-check.ensures in
+    let brings : brings_pair c.args.interface s m ≡ true =
+    ap (brings_pair c.args.interface s) message
+    ∙ lacks-brings c.args.interface s rows (entries_of m) refl c.args.self.now.valid (omega (arith, c.requires.interface, c.requires.fits.interfaces)) c.in_err-places.ensures.lacks in
+    let new = grid_state heard (rows_of c.grow_or_keep.new.rows.entries) in
+    let same : new ≡ s = ap (grid_state heard) c.in_err-places.ensures.err in
+    subst (Takes a c.args.interface s m new) (sym is) (wanting a c.args.interface s m (entries_of m) new message checked brings same)
+    in
+    let here = has-address c.args.plan.now c.args.interface c.interface-sender.result c.interface-sender.ensures.exact in
+    record {
+      takes = takes;
+      fits = Fits-taken c.args.plan.now c.interface-sender.result.address c.args.interface (grid_state c.args.self.now.heard.items (rows_of c.args.self.now.rows.entries)) (grid_state c.args.self.now.heard.items (rows_of c.grow_or_keep.new.rows.entries)) (message_of c.args.datagram.now) c.from_residual-in_err-places.result c.requires.fits (takes c.interface-sender.result.link c.interface-sender.result.address here);
+    }
 
 -- the rows after growth are a grid
 grid_after : (w : ℕ) (heard : List Bool) (rows grown : Rows) (es : List Entry) → w ≡ length heard → IsGrid (length heard) rows → grown ≡ with_rows w rows es → IsGrid w grown
@@ -68,16 +80,21 @@ invariant_of-self-2 g c =
     }
 
 pub returns : goal.returns
-returns g c = record {
-  takes = λ l a has.
-      let heard = c.args.self.now.heard.items in
-      let rows = rows_of c.args.self.now.rows.entries in
-      let s = grid_state heard rows in
-      let m = message_of c.args.datagram.now in
-      let response : kind_of m ≡ Response = search rules in
-      let sender = sender-is c.args.plan.now c.args.interface l a c.interface-sender.result c.interface-sender.ensures.exact has in
-      let checked : IsChecked a c.args.interface s (entries_of m) (Ok tt) = subst (λ (x : ℕ). IsChecked x c.args.interface s (entries_of m) (Ok tt)) sender c.in_ok-check.ensures in
-      taken a c.args.interface s m (entries_of m) (grid_state (set heard c.args.interface true) (rows_of c.write.new.rows.entries)) (response-is m response) checked
-      (written-is a c.args.interface c.len-width.result heard rows (rows_of c.grow_or_keep.new.rows.entries) (rows_of c.write.new.rows.entries) (entries_of m)
-      (omega (arith, c.requires.interface, c.requires.fits.interfaces)) c.args.self.now.valid checked c.in_ok-places.ensures.ok c.write.ensures.heads c.write.ensures.cells);
-}
+returns g c =
+    let takes : ((l a : ℕ) → HasAddress c.args.plan.now c.args.interface l a → Takes a c.args.interface (grid_state c.args.self.now.heard.items (rows_of c.args.self.now.rows.entries)) (message_of c.args.datagram.now) (grid_state (set c.args.self.now.heard.items c.args.interface true) (rows_of c.write.new.rows.entries)) (Ok tt)) = λ l a has.
+    let heard = c.args.self.now.heard.items in
+    let rows = rows_of c.args.self.now.rows.entries in
+    let s = grid_state heard rows in
+    let m = message_of c.args.datagram.now in
+    let response : kind_of m ≡ Response = search rules in
+    let sender = sender-is c.args.plan.now c.args.interface l a c.interface-sender.result c.interface-sender.ensures.exact has in
+    let checked : IsChecked a c.args.interface s (entries_of m) (Ok tt) = subst (λ (x : ℕ). IsChecked x c.args.interface s (entries_of m) (Ok tt)) sender c.in_ok-check.ensures in
+    taken a c.args.interface s m (entries_of m) (grid_state (set heard c.args.interface true) (rows_of c.write.new.rows.entries)) (response-is m response) checked
+    (written-is a c.args.interface c.len-width.result heard rows (rows_of c.grow_or_keep.new.rows.entries) (rows_of c.write.new.rows.entries) (entries_of m)
+    (omega (arith, c.requires.interface, c.requires.fits.interfaces)) c.args.self.now.valid checked c.in_ok-places.ensures.ok c.write.ensures.heads c.write.ensures.cells)
+    in
+    let here = has-address c.args.plan.now c.args.interface c.interface-sender.result c.interface-sender.ensures.exact in
+    record {
+      takes = takes;
+      fits = Fits-taken c.args.plan.now c.interface-sender.result.address c.args.interface (grid_state c.args.self.now.heard.items (rows_of c.args.self.now.rows.entries)) (grid_state (set c.args.self.now.heard.items c.args.interface true) (rows_of c.write.new.rows.entries)) (message_of c.args.datagram.now) (Ok tt) c.requires.fits (takes c.interface-sender.result.link c.interface-sender.result.address here);
+    }

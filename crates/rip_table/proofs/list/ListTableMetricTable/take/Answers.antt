@@ -9,38 +9,50 @@ use Rattle.rip_table.specs.State.{IsState, State}
 use Rattle.rip_table.specs.Joined.{Takes, joined_entries}
 use Rattle.rip_table.specs.Numbers.{IsChecked}
 use Rattle.rip_table.specs.ListState.{AreAdded, list_state}
+use Rattle.rip_plan.specs.Relations.{HasAddress}
+use Rattle.rip_table.proofs.FitLemmas.{Fits-taken}
 use Rattle.rip_table.proofs.NumberLemmas.{response-is}
-use Rattle.rip_table.proofs.TakingLemmas.{refused, sender-is, taken, wanting}
+use Rattle.rip_table.proofs.TakingLemmas.{has-address, refused, sender-is, taken, wanting}
 use Rattle.rip_table.proofs.ListLemmas.{list_state-heard}
 use Rattle.rip_table.proofs.list.ListTableMetricTable.take.Goals as goal
 
 pub returns-in_err-check : goal.returns-in_err-check
-returns-in_err-check c = record {
-  takes = λ l a has.
-      let s = list_state c.args.self.now.heard.items c.args.self.now.prefixes.items c.args.self.now.shown.items in
-      let m = message_of c.args.datagram.now in
-      let response : kind_of m ≡ Response = search rules in
-      let sender = sender-is c.args.plan.now c.args.interface l a c.interface-sender.result c.interface-sender.ensures.exact has in
-      let is : c.from_residual.result ≡ Err (c.in_err-check.field-0).0 = search rules in
-      let checked : IsChecked a c.args.interface s (entries_of m) (Err (c.in_err-check.field-0).0) = subst (λ (x : ℕ). IsChecked x c.args.interface s (entries_of m) (Err (c.in_err-check.field-0).0)) sender c.in_err-check.ensures in
-      subst (Takes a c.args.interface s m s) (sym is) (refused a c.args.interface s m (entries_of m) (c.in_err-check.field-0).0 (response-is m response) checked);
-}
+returns-in_err-check c =
+    let takes : ((l a : ℕ) → HasAddress c.args.plan.now c.args.interface l a → Takes a c.args.interface (list_state c.args.self.now.heard.items c.args.self.now.prefixes.items c.args.self.now.shown.items) (message_of c.args.datagram.now) (list_state c.args.self.now.heard.items c.args.self.now.prefixes.items c.args.self.now.shown.items) c.from_residual.result) = λ l a has.
+    let s = list_state c.args.self.now.heard.items c.args.self.now.prefixes.items c.args.self.now.shown.items in
+    let m = message_of c.args.datagram.now in
+    let response : kind_of m ≡ Response = search rules in
+    let sender = sender-is c.args.plan.now c.args.interface l a c.interface-sender.result c.interface-sender.ensures.exact has in
+    let is : c.from_residual.result ≡ Err (c.in_err-check.field-0).0 = search rules in
+    let checked : IsChecked a c.args.interface s (entries_of m) (Err (c.in_err-check.field-0).0) = subst (λ (x : ℕ). IsChecked x c.args.interface s (entries_of m) (Err (c.in_err-check.field-0).0)) sender c.in_err-check.ensures in
+    subst (Takes a c.args.interface s m s) (sym is) (refused a c.args.interface s m (entries_of m) (c.in_err-check.field-0).0 (response-is m response) checked)
+    in
+    let here = has-address c.args.plan.now c.args.interface c.interface-sender.result c.interface-sender.ensures.exact in
+    record {
+      takes = takes;
+      fits = Fits-taken c.args.plan.now c.interface-sender.result.address c.args.interface (list_state c.args.self.now.heard.items c.args.self.now.prefixes.items c.args.self.now.shown.items) (list_state c.args.self.now.heard.items c.args.self.now.prefixes.items c.args.self.now.shown.items) (message_of c.args.datagram.now) c.from_residual.result c.requires.fits (takes c.interface-sender.result.link c.interface-sender.result.address here);
+    }
 
 pub returns-in_err-add_new : goal.returns-in_err-add_new
-returns-in_err-add_new c = record {
-  takes = λ l a has.
-      let heard = c.args.self.now.heard.items in
-      let s = list_state heard c.args.self.now.prefixes.items c.args.self.now.shown.items in
-      let m = message_of c.args.datagram.now in
-      let response : kind_of m ≡ Response = search rules in
-      let sender = sender-is c.args.plan.now c.args.interface l a c.interface-sender.result c.interface-sender.ensures.exact has in
-      let is : c.from_residual-in_err-add_new.result ≡ Err Memory = search rules in
-      let checked : IsChecked a c.args.interface s (entries_of m) (Ok tt) = subst (λ (x : ℕ). IsChecked x c.args.interface s (entries_of m) (Ok tt)) sender c.in_ok-check.ensures in
-      let new = list_state heard c.add_new.new.prefixes.items c.add_new.new.shown.items in
-      let same : new ≡ s = ap (λ (p : List Block). list_state heard p c.add_new.new.shown.items) c.in_err-add_new.ensures.prefixes ∙ ap (list_state heard c.args.self.now.prefixes.items) c.in_err-add_new.ensures.shown in
-      subst (Takes a c.args.interface s m new) (sym is)
-      (wanting a c.args.interface s m (entries_of m) new (response-is m response) checked (sym c.brings_pair-brings.ensures ∙ c.in_err-add_new.ensures.wants) same);
-}
+returns-in_err-add_new c =
+    let takes : ((l a : ℕ) → HasAddress c.args.plan.now c.args.interface l a → Takes a c.args.interface (list_state c.args.self.now.heard.items c.args.self.now.prefixes.items c.args.self.now.shown.items) (message_of c.args.datagram.now) (list_state c.args.self.now.heard.items c.add_new.new.prefixes.items c.add_new.new.shown.items) c.from_residual-in_err-add_new.result) = λ l a has.
+    let heard = c.args.self.now.heard.items in
+    let s = list_state heard c.args.self.now.prefixes.items c.args.self.now.shown.items in
+    let m = message_of c.args.datagram.now in
+    let response : kind_of m ≡ Response = search rules in
+    let sender = sender-is c.args.plan.now c.args.interface l a c.interface-sender.result c.interface-sender.ensures.exact has in
+    let is : c.from_residual-in_err-add_new.result ≡ Err Memory = search rules in
+    let checked : IsChecked a c.args.interface s (entries_of m) (Ok tt) = subst (λ (x : ℕ). IsChecked x c.args.interface s (entries_of m) (Ok tt)) sender c.in_ok-check.ensures in
+    let new = list_state heard c.add_new.new.prefixes.items c.add_new.new.shown.items in
+    let same : new ≡ s = ap (λ (p : List Block). list_state heard p c.add_new.new.shown.items) c.in_err-add_new.ensures.prefixes ∙ ap (list_state heard c.args.self.now.prefixes.items) c.in_err-add_new.ensures.shown in
+    subst (Takes a c.args.interface s m new) (sym is)
+    (wanting a c.args.interface s m (entries_of m) new (response-is m response) checked (sym c.brings_pair-brings.ensures ∙ c.in_err-add_new.ensures.wants) same)
+    in
+    let here = has-address c.args.plan.now c.args.interface c.interface-sender.result c.interface-sender.ensures.exact in
+    record {
+      takes = takes;
+      fits = Fits-taken c.args.plan.now c.interface-sender.result.address c.args.interface (list_state c.args.self.now.heard.items c.args.self.now.prefixes.items c.args.self.now.shown.items) (list_state c.args.self.now.heard.items c.add_new.new.prefixes.items c.add_new.new.shown.items) (message_of c.args.datagram.now) c.from_residual-in_err-add_new.result c.requires.fits (takes c.interface-sender.result.link c.interface-sender.result.address here);
+    }
 
 -- what was taken is the join of the entries
 joined_is : (a i : ℕ) (heard : List Bool) (prefixes new_prefixes : List Block) (shown new_shown : List Shown) (es : List Entry) → i < length heard
@@ -55,14 +67,19 @@ invariant_of-self-2 c =
     record { valid = subst IsState (sym same) (c.in_ok-check.ensures).2 }
 
 pub returns : goal.returns
-returns c = record {
-  takes = λ l a has.
-      let heard = c.args.self.now.heard.items in
-      let s = list_state heard c.args.self.now.prefixes.items c.args.self.now.shown.items in
-      let m = message_of c.args.datagram.now in
-      let response : kind_of m ≡ Response = search rules in
-      let sender = sender-is c.args.plan.now c.args.interface l a c.interface-sender.result c.interface-sender.ensures.exact has in
-      let checked : IsChecked a c.args.interface s (entries_of m) (Ok tt) = subst (λ (x : ℕ). IsChecked x c.args.interface s (entries_of m) (Ok tt)) sender c.in_ok-check.ensures in
-      taken a c.args.interface s m (entries_of m) (list_state (set heard c.args.interface true) c.add_new.new.prefixes.items c.add_new.new.shown.items) (response-is m response) checked
-      (joined_is a c.args.interface heard c.args.self.now.prefixes.items c.add_new.new.prefixes.items c.args.self.now.shown.items c.add_new.new.shown.items (entries_of m) (omega (arith, c.requires.interface, c.requires.fits.interfaces)) checked c.in_ok-add_new.ensures.ok);
-}
+returns c =
+    let takes : ((l a : ℕ) → HasAddress c.args.plan.now c.args.interface l a → Takes a c.args.interface (list_state c.args.self.now.heard.items c.args.self.now.prefixes.items c.args.self.now.shown.items) (message_of c.args.datagram.now) (list_state (set c.args.self.now.heard.items c.args.interface true) c.add_new.new.prefixes.items c.add_new.new.shown.items) (Ok tt)) = λ l a has.
+    let heard = c.args.self.now.heard.items in
+    let s = list_state heard c.args.self.now.prefixes.items c.args.self.now.shown.items in
+    let m = message_of c.args.datagram.now in
+    let response : kind_of m ≡ Response = search rules in
+    let sender = sender-is c.args.plan.now c.args.interface l a c.interface-sender.result c.interface-sender.ensures.exact has in
+    let checked : IsChecked a c.args.interface s (entries_of m) (Ok tt) = subst (λ (x : ℕ). IsChecked x c.args.interface s (entries_of m) (Ok tt)) sender c.in_ok-check.ensures in
+    taken a c.args.interface s m (entries_of m) (list_state (set heard c.args.interface true) c.add_new.new.prefixes.items c.add_new.new.shown.items) (response-is m response) checked
+    (joined_is a c.args.interface heard c.args.self.now.prefixes.items c.add_new.new.prefixes.items c.args.self.now.shown.items c.add_new.new.shown.items (entries_of m) (omega (arith, c.requires.interface, c.requires.fits.interfaces)) checked c.in_ok-add_new.ensures.ok)
+    in
+    let here = has-address c.args.plan.now c.args.interface c.interface-sender.result c.interface-sender.ensures.exact in
+    record {
+      takes = takes;
+      fits = Fits-taken c.args.plan.now c.interface-sender.result.address c.args.interface (list_state c.args.self.now.heard.items c.args.self.now.prefixes.items c.args.self.now.shown.items) (list_state (set c.args.self.now.heard.items c.args.interface true) c.add_new.new.prefixes.items c.add_new.new.shown.items) (message_of c.args.datagram.now) (Ok tt) c.requires.fits (takes c.interface-sender.result.link c.interface-sender.result.address here);
+    }
