@@ -41,8 +41,12 @@ entry_lines es = flat_map entry_line es
 abbrev pub refused_hex : Written
 refused_hex = record { text = line (codes "refused: hex"); status = Refused }
 
+-- a fault of a datagram, as `10 Mask at 12`
+abbrev pub wire_fault_text : WireCode → ℕ → List ℕ
+wire_fault_text code at = wire_code_text code ++ codes " at " ++ decimal at
+
 abbrev pub refused_wire : WireCode → ℕ → Written
-refused_wire code at = record { text = line (codes "refused: wire " ++ wire_code_text code ++ codes " at " ++ decimal at); status = Refused }
+refused_wire code at = record { text = line (codes "refused: wire " ++ wire_fault_text code at); status = Refused }
 
 -- a request, with the number of twenties after its header
 abbrev pub shown_request : List ℕ → Written

@@ -1,11 +1,11 @@
 //! The command `decode`: one datagram in hexadecimal digits.
 
-ghost use Rattle.std.specs.Prelude.{◌≡◌, ◌≤◌, ◌%◌, ◌↔◌, ◌++◌, ℕ, List, Ok, [], decimal, false, is_err, length, take, true, IfErr, IfOk, IsOk, IsTrue, MatchOption, OnErr, OnOk};
+ghost use Rattle.std.specs.Prelude.{◌≡◌, ◌+◌, ◌≤◌, ◌%◌, ◌↔◌, ◌++◌, ℕ, List, Ok, [], decimal, false, is_err, length, take, true, IfErr, IfOk, IsOk, IsTrue, MatchOption, OnErr, OnOk};
 ghost use Rattle.std.specs.Io.KnownBytes.{Appends};
 ghost use Rattle.std.specs.List.{AllPass};
 ghost use Rattle.hex.specs.Hex.{decode_of, is_hex_digit};
 ghost use Rattle.rip_wire.specs.Datagram.{datagram_bytes, entries_of, kind_of, message_of};
-ghost use Rattle.ripaudit.specs.DecodeText.{DecodeText, entry_line, entry_lines, refused_wire, shown, shown_response, wire_code_text};
+ghost use Rattle.ripaudit.specs.DecodeText.{DecodeText, entry_line, entry_lines, refused_wire, shown, shown_response, wire_code_text, wire_fault_text};
 ghost use Rattle.ripaudit.specs.Held.{held};
 ghost use Rattle.ripaudit.specs.Sent.{Began, Sent};
 ghost use Rattle.ripaudit.specs.Written.{Written, line};
@@ -63,15 +63,24 @@ fn code_text(code: WireCode) -> &'static str
     }
 }
 
+/// Adds a fault of a datagram.
+pub(crate) fn push_wire_fault(text: &mut Line, error: WireError)
+    requires { length text.old + 56 ≤ 256 }
+    ensures text { text.new ≡ text.old ++ wire_fault_text error.code error.at }
+    ensures size { length text.new ≤ length text.old + 56 }
+{
+    text.push(code_text(error.code));
+    text.push(" at ");
+    text.push_number(error.at as u64);
+}
+
 /// The line of a fault.
 fn fault_text(error: WireError) -> Line
     ensures { result ≡ (refused_wire error.code error.at).text }
 {
     let mut text = Line::new();
     text.push("refused: wire ");
-    text.push(code_text(error.code));
-    text.push(" at ");
-    text.push_number(error.at as u64);
+    push_wire_fault(&mut text, error);
     text.end();
     text
 }
@@ -88,7 +97,7 @@ fn entry_text(entry: Entry) -> Line
     text.push(" next ");
     text.push_address(entry.next_hop);
     text.push(" metric ");
-    text.push_number(u64::from(entry.metric.get()));
+    text.push_metric(entry.metric);
     text.end();
     text
 }

@@ -5,7 +5,7 @@ ghost use Rattle.rip_wire.specs.Address.{address_text};
 ghost use Rattle.rip_wire.specs.Prefix.{prefix_text};
 
 use itoa::Buffer;
-use rip_wire::{Address, Prefix};
+use rip_wire::{Address, Metric, Prefix};
 use std::marker::Model;
 
 /// The most bytes of a line.
@@ -64,6 +64,15 @@ impl Line {
         ensures size { length self.new ≤ length self.old + 20 }
     {
         self.push(Buffer::new().format(number));
+    }
+
+    /// Adds a metric.
+    pub(crate) fn push_metric(&mut self, metric: Metric)
+        requires { length self.old + 20 ≤ 256 }
+        ensures text { self.new ≡ self.old ++ decimal metric }
+        ensures size { length self.new ≤ length self.old + 20 }
+    {
+        self.push_number(u64::from(metric.get()));
     }
 
     /// Adds an address.

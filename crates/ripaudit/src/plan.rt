@@ -41,7 +41,7 @@ fn code_text(code: PlanCode) -> &'static str
 }
 
 /// Adds a word and a number.
-fn push_numbered(text: &mut Line, word: &str, number: usize)
+pub(crate) fn push_numbered(text: &mut Line, word: &str, number: usize)
     requires short { length word.now ≤ 16 }
     requires room { length text.old + 36 ≤ 256 }
     ensures text { text.new ≡ text.old ++ numbered word.now number }
