@@ -1,6 +1,6 @@
 //! The command `plan`: the parts of a plan.
 
-ghost use Rattle.std.specs.Prelude.{◌≡◌, ◌+◌, ◌≤◌, ◌<◌, ◌++◌, ℕ, List, [], Err, IfOk, IsOk, OnErr, OnOk, Some, false, is_err, length, slice_get, true};
+ghost use Rattle.std.specs.Prelude.{◌≡◌, ◌≢◌, ◌+◌, ◌≤◌, ◌<◌, ◌++◌, ℕ, List, [], Err, IfOk, IsOk, OnErr, OnOk, Some, false, is_err, length, slice_get, true};
 ghost use Rattle.std.specs.Io.KnownBytes.{Appends, Keeps};
 ghost use Rattle.std.specs.List.{flat_map};
 ghost use Rattle.ripaudit.specs.PlanText.{IsSeat, PlanText, at_text, counts_line, interface_line, name_of, numbered, place_line, plan_code_text, refused_plan, seat_text, shown_plan};
@@ -78,7 +78,7 @@ fn push_at(text: &mut Line, place: At)
 }
 
 /// The line of a fault.
-pub(crate) fn fault_text(error: PlanError) -> Line
+fn fault_text(error: PlanError) -> Line
     ensures { result ≡ (refused_plan error).text }
 {
     let mut text = Line::new();
@@ -229,6 +229,23 @@ fn write_plan<K: Sink>(plan: &Plan, out: &mut K) -> Result<(), Failed>
     page.flush(out)
 }
 
+/// Ends a run whose plan is refused, or for whose plan there is no memory.
+pub(crate) fn refuse_plan<K: Sink>(error: PlanError, out: &mut K) -> Result<Status, RunError>
+    ensures text { IfOk result (λ status. (error.code ≢ PlanCode.Memory) × (status ≡ Status.Refused) × Appends (K.taken out.old) (K.taken out.new) (refused_plan error).text) }
+    ensures write { result ≡ Err RunError.Write → (error.code ≢ PlanCode.Memory) × (K.broken out.new ≡ true) × Began (K.taken out.old) (K.taken out.new) (refused_plan error).text }
+    ensures memory { result ≡ Err RunError.Memory → (error.code ≡ PlanCode.Memory) × Keeps (K.taken out.old) (K.taken out.new) }
+    ensures read { result ≢ Err RunError.Read }
+    ensures sink { result ≢ Err RunError.Write → K.broken out.new ≡ K.broken out.old }
+{
+    if error.code == PlanCode::Memory {
+        return Err(RunError::Memory);
+    }
+    finish(
+        write_all(out, fault_text(error).as_bytes()),
+        Status::Refused,
+    )
+}
+
 /// Prints the plan that the bytes of a TOML document are, or their first fault.
 pub fn run_plan<K: Sink>(alloc: Global, plan: &[u8], out: &mut K) -> Result<Status, RunError>
     // The whole text went out, and nothing else.
@@ -242,15 +259,7 @@ pub fn run_plan<K: Sink>(alloc: Global, plan: &[u8], out: &mut K) -> Result<Stat
 {
     match Plan::read(alloc, plan) {
         Ok(plan) => finish(write_plan(&plan, out), Status::Done),
-        Err(error) => {
-            if error.code == PlanCode::Memory {
-                return Err(RunError::Memory);
-            }
-            finish(
-                write_all(out, fault_text(error).as_bytes()),
-                Status::Refused,
-            )
-        }
+        Err(error) => refuse_plan(error, out),
     }
 }
 
