@@ -1,9 +1,21 @@
 -- Lines of the items of a list, one after the other.
 use Rattle.std.proofs.Common.{◌≡◌, ℕ, zero, suc, ◌+◌, ◌≤◌, List, [], ◌∷◌, ◌++◌, Option, Some, length, drop, refl, sym, ap, subst, ◌∙◌, append_assoc, append-nil, arith}
-use Rattle.std.specs.List.{slice_get, flat_map}
+use Rattle.std.specs.List.{slice_get, enumerate_from, flat_map}
 use Rattle.std.proofs.lemmas.List.{drop_all}
 use Rattle.ripaudit.specs.Sent.{Sent, Began}
 use Rattle.ripaudit.proofs.SentLemmas.{Sent-on, Began-on}
+
+-- an item with its number
+pub enumerated : {A : Type 0} (xs : List A) (n i k : ℕ) (x : A) → k ≡ n + i → slice_get xs i ≡ Some x → slice_get (enumerate_from n xs) i ≡ Some (k, x)
+enumerated [] n zero k x at h = absurd (cc)
+enumerated [] n (suc i) k x at h = absurd (cc)
+enumerated {A} (y ∷ xs) n zero k x at h =
+    let same : y ≡ x = cc in
+    let number : n ≡ k = omega arith in
+    rw (same, number) refl
+enumerated {A} (y ∷ xs) n (suc i) k x at h =
+    let number : k ≡ n + 1 + i = omega arith in
+    enumerated xs (n + 1) i k x number h
 
 -- what is left of a list at an item
 drop-item : {A : Type 0} (xs : List A) (i : ℕ) (x : A) → slice_get xs i ≡ Some x → drop i xs ≡ x ∷ drop (suc i) xs

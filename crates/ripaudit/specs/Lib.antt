@@ -4,5 +4,7 @@ pub mod Written
 pub mod DecodeText
 pub mod PlanText
 pub mod RefusalText
+pub mod Readings
+pub mod TableText
 pub mod Held
 pub mod Finished

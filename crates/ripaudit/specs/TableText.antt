@@ -1,0 +1,60 @@
+-- What `table` prints.
+use Rattle.std.specs.Prelude.{◌≡◌, ℕ, if◌then◌else◌, List, [], ◌++◌, length, codes, decimal, Option, None, Some}
+use Rattle.std.specs.List.{enumerate_from, flat_map}
+use Rattle.rip_wire.specs.Prefix.{Block, prefix_text}
+use Rattle.rip_plan.specs.Answers.{first_fault}
+use Rattle.rip_plan.specs.Network.{Network}
+use Rattle.rip_plan.specs.PlanOf.{IsPlanOfText}
+use Rattle.rip_plan.specs.declared.error.PlanError.{PlanError}
+use Rattle.rip_plan.specs.declared.parts.Interface.{Interface}
+use Rattle.rip_log.specs.Logs.{log_in}
+use Rattle.rip_table.specs.Collects.{OutcomeKnown}
+use Rattle.rip_table.specs.State.{State, new_state}
+use Rattle.rip_table.specs.declared.error.CollectError.{CollectError}
+use Rattle.ripaudit.specs.PlanText.{name_of, refused_plan}
+use Rattle.ripaudit.specs.RefusalText.{refused_log}
+use Rattle.ripaudit.specs.Written.{Written, line}
+use Rattle.ripaudit.specs.declared.status.Status.TheVariants.{Done}
+
+-- `table: 6 interfaces, 3 prefixes`
+unfoldable pub table_line : ℕ → ℕ → List ℕ
+table_line interfaces prefixes = line (codes "table: " ++ decimal interfaces ++ codes " interfaces, " ++ decimal prefixes ++ codes " prefixes")
+
+-- an interface by its router and its link, as `r1 a`
+abbrev pub interface_name : Network → Interface → List ℕ
+interface_name n i = name_of n.routers i.router ++ codes " " ++ name_of n.links i.link
+
+-- `r1 a not heard`
+unfoldable pub unheard_line : Network → Interface → List ℕ
+unheard_line n i = line (interface_name n i ++ codes " not heard")
+
+-- `r1 a 10.2.0.0/16 16`
+unfoldable pub metric_line : Network → Interface → Block → ℕ → List ℕ
+metric_line n i p m = line (interface_name n i ++ codes " " ++ prefix_text p ++ codes " " ++ decimal m)
+
+-- the line of a prefix, if the interface shows it
+abbrev pub prefix_lines : Network → Interface → Block → Option ℕ → List ℕ
+prefix_lines n i p None = []
+prefix_lines n i p (Some m) = metric_line n i p m
+
+-- one line for each prefix that the interface of this number shows
+abbrev pub shown_lines : Network → State → ℕ → Interface → List ℕ
+shown_lines n s k i = flat_map (λ p. prefix_lines n i p (s.shows k p)) s.prefixes
+
+-- the lines of an interface with its number
+abbrev pub interface_lines : Network → State → ℕ × Interface → List ℕ
+interface_lines n s at = if s.heard at.0 then shown_lines n s at.0 at.1 else unheard_line n at.1
+
+-- a table: its counts, and its interfaces in the order of the plan
+abbrev pub shown_table : Network → State → Written
+shown_table n s = record { text = table_line (length n.interfaces) (length s.prefixes) ++ flat_map (interface_lines n s) (enumerate_from 0 n.interfaces); status = Done }
+
+-- what is written for a network and the text of a log, where it is told: what refused the log, or the table of its records
+pub data TableOf (n : Network) (log : Option (List ℕ)) : Written → Type 0 where
+  a_refusal : (s : State) (e : CollectError) → OutcomeKnown n (new_state n) (log_in log) s (Some e) → TableOf n log (refused_log e)
+  a_table : (s : State) → OutcomeKnown n (new_state n) (log_in log) s None → TableOf n log (shown_table n s)
+
+-- the same for the bytes of a plan: their first fault, or what is written for the plan that their document is
+pub data TableText (plan : List ℕ) (log : Option (List ℕ)) : Written → Type 0 where
+  a_fault : (e : PlanError) → first_fault plan ≡ Some e → TableText plan log (refused_plan e)
+  of_plan : (n : Network) (w : Written) → first_fault plan ≡ None → IsPlanOfText plan n → TableOf n log w → TableText plan log w

@@ -1,0 +1,217 @@
+//! The command `table`: what the interfaces of a plan showed in a log.
+
+ghost use Rattle.std.specs.Prelude.{◌≡◌, ◌≢◌, ◌+◌, ◌≤◌, ◌<◌, ◌++◌, List, ℕ, [], Err, IfOk, Ok, OnErr, OnOk, Some, false, is_err, length, slice_get, true};
+ghost use Rattle.std.specs.Io.KnownBytes.{Appends, Keeps};
+ghost use Rattle.std.specs.List.{enumerate_from, flat_map};
+ghost use Rattle.rip_table.specs.State.{Fits, new_state};
+ghost use Rattle.ripaudit.specs.TableText.{TableOf, interface_lines, interface_name, metric_line, prefix_lines, shown_lines, shown_table, table_line, unheard_line};
+ghost use Rattle.ripaudit.specs.Held.{held};
+ghost use Rattle.ripaudit.specs.Sent.{Began, Sent};
+ghost use Rattle.ripaudit.specs.Written.{Written};
+
+use crate::line::Line;
+use crate::output::{Page, finish, write_all};
+use crate::plan::{push_link, push_router};
+use crate::reading::read_log;
+use crate::refusal::refusal_text;
+use crate::status::{RunError, Status};
+use rip_log::{Failed, Sink, Source};
+use rip_plan::{Interface, Plan};
+use rip_table::MetricTable;
+use rip_wire::{Metric, Prefix};
+use std::alloc::Global;
+
+/// The line of the counts.
+#[tactic(auto, unfolding(crate::specs::TableText::table_line))]
+fn counts_text(interfaces: usize, prefixes: usize) -> Line
+    ensures { result ≡ table_line interfaces prefixes }
+{
+    let mut text = Line::new();
+    text.push("table: ");
+    text.push_number(interfaces as u64);
+    text.push(" interfaces, ");
+    text.push_number(prefixes as u64);
+    text.push(" prefixes");
+    text.end();
+    text
+}
+
+/// Adds an interface by its router and its link.
+fn push_interface(text: &mut Line, plan: &Plan, interface: Interface)
+    requires router { interface.router < length plan.now.routers }
+    requires link { interface.link < length plan.now.links }
+    requires room { length text.old + 65 ≤ 256 }
+    ensures text { text.new ≡ text.old ++ interface_name plan.now interface }
+    ensures size { length text.new ≤ length text.old + 65 }
+{
+    push_router(text, plan, interface.router);
+    text.push(" ");
+    push_link(text, plan, interface.link);
+}
+
+/// The line of an interface that was not heard.
+#[tactic(auto, unfolding(crate::specs::TableText::unheard_line))]
+fn unheard_text(plan: &Plan, interface: Interface) -> Line
+    requires router { interface.router < length plan.now.routers }
+    requires link { interface.link < length plan.now.links }
+    ensures { result ≡ unheard_line plan.now interface }
+{
+    let mut text = Line::new();
+    push_interface(&mut text, plan, interface);
+    text.push(" not heard");
+    text.end();
+    text
+}
+
+/// The line of a prefix that an interface shows.
+#[tactic(auto, unfolding(crate::specs::TableText::metric_line))]
+fn metric_text(plan: &Plan, interface: Interface, prefix: Prefix, metric: Metric) -> Line
+    requires router { interface.router < length plan.now.routers }
+    requires link { interface.link < length plan.now.links }
+    ensures { result ≡ metric_line plan.now interface prefix metric }
+{
+    let mut text = Line::new();
+    push_interface(&mut text, plan, interface);
+    text.push(" ");
+    text.push_prefix(prefix);
+    text.push(" ");
+    text.push_metric(metric);
+    text.end();
+    text
+}
+
+/// Writes the line of a prefix, if the interface shows it.
+fn write_prefix<K: Sink>(
+    page: &mut Page,
+    plan: &Plan,
+    interface: Interface,
+    prefix: Prefix,
+    metric: Option<Metric>,
+    out: &mut K,
+) -> Result<(), Failed>
+    requires router { interface.router < length plan.now.routers }
+    requires link { interface.link < length plan.now.links }
+    ensures ok { OnOk result (Sent (K.taken out.old) (K.taken out.new) (held page.old ++ prefix_lines plan.now interface prefix metric) (held page.new)) }
+    ensures err { OnErr result (Began (K.taken out.old) (K.taken out.new) (held page.old ++ prefix_lines plan.now interface prefix metric)) }
+    ensures failed { is_err result ≡ true → K.broken out.new ≡ true }
+    ensures marks { is_err result ≡ false → K.broken out.new ≡ K.broken out.old }
+{
+    match metric {
+        None => Ok(()),
+        Some(metric) => page.write(out, metric_text(plan, interface, prefix, metric).as_bytes()),
+    }
+}
+
+/// Writes the lines of the prefixes that the interface of a number shows.
+fn write_shown<T: MetricTable, K: Sink>(
+    page: &mut Page,
+    plan: &Plan,
+    table: &T,
+    number: usize,
+    interface: &Interface,
+    out: &mut K,
+) -> Result<(), Failed>
+    requires number { number < (T.state table.now).interfaces }
+    requires router { interface.now.router < length plan.now.routers }
+    requires link { interface.now.link < length plan.now.links }
+    ensures ok { OnOk result (Sent (K.taken out.old) (K.taken out.new) (held page.old ++ shown_lines plan.now (T.state table.now) number interface.now) (held page.new)) }
+    ensures err { OnErr result (Began (K.taken out.old) (K.taken out.new) (held page.old ++ shown_lines plan.now (T.state table.now) number interface.now)) }
+    ensures failed { is_err result ≡ true → K.broken out.new ≡ true }
+    ensures marks { is_err result ≡ false → K.broken out.new ≡ K.broken out.old }
+{
+    for k in 0..table.prefix_count() {
+        let metric = table.metric(number, k);
+        write_prefix(page, plan, *interface, table.prefix(k), metric, out)?;
+    }
+    Ok(())
+}
+
+/// Writes the lines of the interface of a number.
+fn write_interface<T: MetricTable, K: Sink>(
+    page: &mut Page,
+    plan: &Plan,
+    table: &T,
+    number: usize,
+    interface: Interface,
+    out: &mut K,
+) -> Result<(), Failed>
+    requires number { number < (T.state table.now).interfaces }
+    requires router { interface.router < length plan.now.routers }
+    requires link { interface.link < length plan.now.links }
+    ensures ok { OnOk result (Sent (K.taken out.old) (K.taken out.new) (held page.old ++ interface_lines plan.now (T.state table.now) (number, interface)) (held page.new)) }
+    ensures err { OnErr result (Began (K.taken out.old) (K.taken out.new) (held page.old ++ interface_lines plan.now (T.state table.now) (number, interface))) }
+    ensures failed { is_err result ≡ true → K.broken out.new ≡ true }
+    ensures marks { is_err result ≡ false → K.broken out.new ≡ K.broken out.old }
+{
+    if table.heard(number) {
+        write_shown(page, plan, table, number, &interface, out)
+    } else {
+        page.write(out, unheard_text(plan, interface).as_bytes())
+    }
+}
+
+/// Writes the lines of the interfaces.
+fn write_interfaces<T: MetricTable, K: Sink>(
+    page: &mut Page,
+    plan: &Plan,
+    table: &T,
+    out: &mut K,
+) -> Result<(), Failed>
+    requires { Fits plan.now (T.state table.now) }
+    ensures ok { OnOk result (Sent (K.taken out.old) (K.taken out.new) (held page.old ++ flat_map (interface_lines plan.now (T.state table.now)) (enumerate_from 0 plan.now.interfaces)) (held page.new)) }
+    ensures err { OnErr result (Began (K.taken out.old) (K.taken out.new) (held page.old ++ flat_map (interface_lines plan.now (T.state table.now)) (enumerate_from 0 plan.now.interfaces))) }
+    ensures failed { is_err result ≡ true → K.broken out.new ≡ true }
+    ensures marks { is_err result ≡ false → K.broken out.new ≡ K.broken out.old }
+{
+    plan.lawful();
+    for i in 0..plan.interfaces() {
+        write_interface(page, plan, table, i, plan.interface(i), out)?;
+    }
+    Ok(())
+}
+
+/// Writes a table: its counts and its interfaces.
+fn write_table<T: MetricTable, K: Sink>(plan: &Plan, table: &T, out: &mut K) -> Result<(), Failed>
+    requires { Fits plan.now (T.state table.now) }
+    ensures ok { OnOk result (Sent (K.taken out.old) (K.taken out.new) (shown_table plan.now (T.state table.now)).text []) }
+    ensures err { OnErr result (Began (K.taken out.old) (K.taken out.new) (shown_table plan.now (T.state table.now)).text) }
+    ensures failed { is_err result ≡ true → K.broken out.new ≡ true }
+    ensures marks { is_err result ≡ false → K.broken out.new ≡ K.broken out.old }
+{
+    let mut page = Page::new();
+    let counts = counts_text(plan.interfaces(), table.prefix_count());
+    page.write(out, counts.as_bytes())?;
+    write_interfaces(&mut page, plan, table, out)?;
+    page.flush(out)
+}
+
+/// Prints the table of a log, or what refuses the log. The table is new.
+fn table_of<R: Source, K: Sink, T: MetricTable>(
+    alloc: Global,
+    plan: &Plan,
+    log: R,
+    out: &mut K,
+    table: &mut T,
+) -> (R, Result<Status, RunError>)
+    requires { T.state table.old ≡ new_state plan.now }
+    ensures text { IfOk result.1 (λ status. (text : List ℕ) × TableOf plan.now (R.coming log) (record { text = text; status = status }) × Appends (K.taken out.old) (K.taken out.new) text) }
+    ensures write { result.1 ≡ Err RunError.Write → (K.broken out.new ≡ true) × ((w : Written) × TableOf plan.now (R.coming log) w × Began (K.taken out.old) (K.taken out.new) w.text) }
+    ensures read { result.1 ≡ Err RunError.Read → (R.broken result.0 ≡ true) × Keeps (K.taken out.old) (K.taken out.new) }
+    ensures memory { result.1 ≡ Err RunError.Memory → Keeps (K.taken out.old) (K.taken out.new) }
+    ensures source { result.1 ≢ Err RunError.Read → R.broken result.0 ≡ R.broken log }
+    ensures sink { result.1 ≢ Err RunError.Write → K.broken out.new ≡ K.broken out.old }
+    ensures ended { result.1 ≡ Ok Status.Done → R.at_end result.0 ≡ true }
+{
+    let (source, read) = read_log(alloc, plan, log, table);
+    match read {
+        Ok(None) => (source, finish(write_table(plan, table, out), Status::Done)),
+        Ok(Some(error)) => (
+            source,
+            finish(
+                write_all(out, refusal_text(error).as_bytes()),
+                Status::Refused,
+            ),
+        ),
+        Err(error) => (source, Err(error)),
+    }
+}
