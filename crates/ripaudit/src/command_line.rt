@@ -3,16 +3,26 @@
 use crate::decode::run_decode;
 use crate::plan::run_plan;
 use crate::status::{RunError, Status, exit_code, fault_line};
+use crate::table::run_table;
 use clap::error::ErrorKind;
 use clap::{Arg, ArgMatches, Command, Error};
-use rip_log::IntoWrite;
+use rip_log::{FromRead, IntoWrite};
 use std::alloc::Global;
+use std::collections::hash_map::RandomState;
 use std::io::Read;
+use std::random::RandomSource;
 use std::rt::Files;
 use std::{env, fs, io};
 
 /// The most bytes of a plan's file that are read: one more than a plan may have.
 const MOST_BYTES: u64 = 1_048_577;
+
+/// The word of a plan's file.
+fn plan_word<'a>(alloc: Global) -> Arg<'a> {
+    Arg::new(alloc, "PLAN")
+        .required(true)
+        .help("The file of the plan, a TOML document")
+}
 
 /// The commands, with their words and their help.
 fn commands<'a>(alloc: Global) -> Result<Command<'a>, Error> {
@@ -22,16 +32,21 @@ fn commands<'a>(alloc: Global) -> Result<Command<'a>, Error> {
     let decode = Command::new(alloc, "decode")
         .about("Prints one datagram of RIP version 2")
         .arg(hex)?;
-    let file = Arg::new(alloc, "PLAN")
-        .required(true)
-        .help("The file of the plan, a TOML document");
     let plan = Command::new(alloc, "plan")
         .about("Prints the parts of a plan")
-        .arg(file)?;
+        .arg(plan_word(alloc))?;
+    let log = Arg::new(alloc, "LOG").help(
+        "The file of the log; standard input where it is left out",
+    );
+    let table = Command::new(alloc, "table")
+        .about("Prints what each interface of a plan shows in a log")
+        .arg(plan_word(alloc))?
+        .arg(log)?;
     let ripaudit = Command::new(alloc, "ripaudit")
         .version("0.1.0")
         .about("Audits the routes of a RIP version 2 network")
         .subcommand_required(true)
+        .subcommand(table)?
         .subcommand(plan)?
         .subcommand(decode)?;
     Ok(ripaudit)
@@ -90,9 +105,46 @@ fn plan_file<R: Files + AllocGlobal + Print>(rt: &R, path: &str) -> Result<Statu
     }
 }
 
+/// Runs `table` on a log.
+fn table_from<R: AllocGlobal + Print, L: Read + Drop>(
+    rt: &R,
+    plan: &[u8],
+    log: L,
+    hasher: RandomState,
+) -> Result<Status, RunError> {
+    let mut out = IntoWrite::new(io::writer(rt));
+    let (_, outcome) = run_table(rt.alloc(), plan, FromRead::new(log), &mut out, hasher);
+    outcome
+}
+
+/// Runs `table` on a file and on a log, which is standard input where no file is named.
+fn table_file<R: Files + AllocGlobal + RandomSource + Input + Print>(
+    rt: &R,
+    path: &str,
+    log: Option<&str>,
+) -> Result<Status, RunError> {
+    let plan = read_plan(rt, path).map_err(|error| read_fault(&error))?;
+    let Ok(hasher) = RandomState::new(rt) else {
+        return Err(RunError::Read);
+    };
+    match log {
+        None => table_from(rt, plan.as_slice(), rt.reader(), hasher),
+        Some(log) => match fs::open(rt, log) {
+            Ok(file) => table_from(rt, plan.as_slice(), file, hasher),
+            Err(error) => Err(read_fault(&error)),
+        },
+    }
+}
+
 /// Runs the command that was found.
-fn run_command<R: Files + AllocGlobal + Print + Eprint>(rt: &R, matches: &ArgMatches<'_>) -> u8 {
+fn run_command<R: Files + AllocGlobal + RandomSource + Input + Print + Eprint>(
+    rt: &R,
+    matches: &ArgMatches<'_>,
+) -> u8 {
     let outcome = match matches.subcommand() {
+        Some(("table", words)) => words
+            .get_str("PLAN")
+            .map(|path| table_file(rt, path, words.get_str("LOG"))),
         Some(("plan", words)) => words.get_str("PLAN").map(|path| plan_file(rt, path)),
         Some(("decode", words)) => words
             .get_str("HEX")

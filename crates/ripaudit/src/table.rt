@@ -3,23 +3,26 @@
 ghost use Rattle.std.specs.Prelude.{◌≡◌, ◌≢◌, ◌+◌, ◌≤◌, ◌<◌, ◌++◌, List, ℕ, [], Err, IfOk, Ok, OnErr, OnOk, Some, false, is_err, length, slice_get, true};
 ghost use Rattle.std.specs.Io.KnownBytes.{Appends, Keeps};
 ghost use Rattle.std.specs.List.{enumerate_from, flat_map};
+ghost use Rattle.rip_plan.specs.Answers.{first_fault};
+ghost use Rattle.rip_plan.specs.declared.error.PlanError.{PlanError};
 ghost use Rattle.rip_table.specs.State.{Fits, new_state};
-ghost use Rattle.ripaudit.specs.TableText.{TableOf, interface_lines, interface_name, metric_line, prefix_lines, shown_lines, shown_table, table_line, unheard_line};
+ghost use Rattle.ripaudit.specs.TableText.{TableOf, TableText, interface_lines, interface_name, metric_line, prefix_lines, shown_lines, shown_table, table_line, unheard_line};
 ghost use Rattle.ripaudit.specs.Held.{held};
 ghost use Rattle.ripaudit.specs.Sent.{Began, Sent};
 ghost use Rattle.ripaudit.specs.Written.{Written};
 
 use crate::line::Line;
 use crate::output::{Page, finish, write_all};
-use crate::plan::{push_link, push_router};
+use crate::plan::{push_link, push_router, refuse_plan};
 use crate::reading::read_log;
 use crate::refusal::refusal_text;
 use crate::status::{RunError, Status};
 use rip_log::{Failed, Sink, Source};
 use rip_plan::{Interface, Plan};
-use rip_table::MetricTable;
+use rip_table::{GridTable, MetricTable};
 use rip_wire::{Metric, Prefix};
 use std::alloc::Global;
+use std::hash::BuildHasher;
 
 /// The line of the counts.
 #[tactic(auto, unfolding(crate::specs::TableText::table_line))]
@@ -215,3 +218,40 @@ fn table_of<R: Source, K: Sink, T: MetricTable>(
         Err(error) => (source, Err(error)),
     }
 }
+
+/// Prints the table of a log for the plan that the bytes of a TOML document are, or what refuses the
+/// plan or the log. The source comes back. The hasher is for the prefixes, which strangers choose.
+pub fn run_table<R: Source, K: Sink, S: BuildHasher + Drop>(
+    alloc: Global,
+    plan: &[u8],
+    log: R,
+    out: &mut K,
+    hasher: S,
+) -> (R, Result<Status, RunError>)
+    // The whole text went out, and nothing else.
+    ensures text { IfOk result.1 (λ status. (text : List ℕ) × TableText plan.now (R.coming log) (record { text = text; status = status }) × Appends (K.taken out.old) (K.taken out.new) text) }
+    // The sink has failed, and a beginning of the text went out.
+    ensures write { result.1 ≡ Err RunError.Write → (K.broken out.new ≡ true) × ((w : Written) × TableText plan.now (R.coming log) w × Began (K.taken out.old) (K.taken out.new) w.text) }
+    // The source has failed, and nothing went out.
+    ensures read { result.1 ≡ Err RunError.Read → (R.broken result.0 ≡ true) × Keeps (K.taken out.old) (K.taken out.new) }
+    // A growth was refused, and nothing went out.
+    ensures memory { result.1 ≡ Err RunError.Memory → Keeps (K.taken out.old) (K.taken out.new) }
+    // Every other answer leaves the marks of the devices as they were.
+    ensures source { result.1 ≢ Err RunError.Read → R.broken result.0 ≡ R.broken log }
+    ensures sink { result.1 ≢ Err RunError.Write → K.broken out.new ≡ K.broken out.old }
+    // A table comes only where the source has come to its end.
+    ensures ended { result.1 ≡ Ok Status.Done → R.at_end result.0 ≡ true }
+    ensures untouched { (e : PlanError) → first_fault plan.now ≡ Some e → result.0 ≡ log }
+{
+    let plan = match Plan::read(alloc, plan) {
+        Ok(plan) => plan,
+        Err(error) => return (log, refuse_plan(error, out)),
+    };
+    match GridTable::with_hasher(alloc, &plan, hasher) {
+        Ok(mut table) => table_of(alloc, &plan, log, out, &mut table),
+        Err(_) => (log, Err(RunError::Memory)),
+    }
+}
+
+#[cfg(test)]
+mod tests;
