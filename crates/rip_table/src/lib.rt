@@ -13,3 +13,6 @@ pub use grid::GridTable;
 pub use joining::collect;
 pub use list::ListTable;
 pub use table::MetricTable;
+
+#[cfg(test)]
+mod tests;
