@@ -7,6 +7,8 @@ ghost use Rattle.rip_plan.specs.Relations.{IsLawful};
 ghost use Rattle.rip_check.specs.Tables.{Showing};
 ghost use Rattle.rip_check.specs.Laws.{OneIsShown, OneRouteFits, PlacesSettled, RightTablesShown, Case, IsSettled, HasRightTables, PoisonHidesNothing, MetricsAreReached, NoPathIsCheaper, WalksFall, WalksEnd, WalksGoOn};
 
+pub mod examples;
+
 /// Poison hides no better route: where every place holds, no neighbour is nearer to a prefix than a
 /// router by more than the link costs, though what it shows there may be 16 (RFC 2453, section 3.4.3).
 pub fn poison_hides_nothing()

@@ -1,0 +1,203 @@
+-- Worked examples: small networks, what their routers show, and the tables that this shows.
+use Rattle.std.specs.Prelude.{ℕ, zero, suc, ◌+◌, ◌*◌, ◌/◌, ◌%◌, ◌==◌, nat_lt, min, true, if◌then◌else◌, List, [], ◌∷◌, ◌++◌, Option, None, Some, option_and_then, unwrap_or, slice_get, codes}
+use Rattle.rip_wire.specs.Prefix.{Block, block}
+use Rattle.rip_plan.specs.declared.parts.Interface.{Interface}
+use Rattle.rip_plan.specs.declared.parts.Seat.{Seat}
+use Rattle.rip_plan.specs.declared.parts.Seat.TheVariants.{Link, Own}
+use Rattle.rip_plan.specs.declared.parts.Place.{Place}
+use Rattle.rip_plan.specs.Network.{Network, each_below}
+use Rattle.rip_check.specs.declared.way.Way.{Way}
+use Rattle.rip_check.specs.declared.way.Way.TheVariants.{Unreachable, Here, Over}
+use Rattle.rip_plan.specs.Relations.{IsLawful}
+use Rattle.rip_check.specs.Tables.{Tables, Showing, Route, Shows}
+use Rattle.rip_check.specs.Settled.{HoldsAll, AllRight}
+
+-- ---- How they are written
+
+-- the address a.b.c.d
+abbrev pub octets : ℕ → ℕ → ℕ → ℕ → ℕ
+octets a b c d = ((a * 256 + b) * 256 + c) * 256 + d
+
+-- the prefix 10.x.0.0/16
+abbrev pub ten : ℕ → Block
+ten x = block (octets 10 x 0 0) 16
+
+-- router r on link l, with address a, at cost c
+abbrev pub interface : ℕ → ℕ → ℕ → ℕ → Interface
+interface r l a c = record { router = r; link = l; address = a; cost = c }
+
+abbrev pub place : ℕ → Seat → Place
+place p seat = record { prefix = p; seat = seat }
+
+abbrev pub route : ℕ → Way → Route
+route m w = record { metric = m; way = w }
+
+-- what is shown, with a row of prefixes for each interface; every interface was heard
+abbrev pub showing : List (List (Option ℕ)) → Showing
+showing rows = record {
+  cell = λ i p. option_and_then (λ row. option_and_then (λ shown. shown) (slice_get row p)) (slice_get rows i);
+  is_heard = λ i. true;
+}
+
+-- tables, with a row of prefixes for each router
+abbrev pub tables : List (List Route) → Tables
+tables rows r p = unwrap_or (option_and_then (λ row. slice_get row p) (slice_get rows r)) (route 16 Unreachable)
+
+-- ---- What is said of them
+
+-- the plan keeps its laws, the log shows the tables, and every place holds: the tables are right
+pub record IsSettledNetwork (n : Network) (count : ℕ) (shown : Showing) (T : Tables) : Type 0 where
+  pub lawful : IsLawful n
+  pub shows : Shows n count shown T
+  pub holds : HoldsAll n count shown T
+  pub right : AllRight n count T
+
+-- the plan keeps its laws and the log shows the tables, but some place does not hold, and the tables are not right
+pub record IsUnsettledNetwork (n : Network) (count : ℕ) (shown : Showing) (T : Tables) : Type 0 where
+  pub lawful : IsLawful n
+  pub shows : Shows n count shown T
+  pub fails : HoldsAll n count shown T → ⊥
+  pub wrong : AllRight n count T → ⊥
+
+-- ---- The triangle: three routers, and a link with a prefix between any two
+
+abbrev pub triangle : Network
+triangle = record {
+  links = codes "a" ∷ codes "b" ∷ codes "c" ∷ [];
+  routers = codes "r1" ∷ codes "r2" ∷ codes "r3" ∷ [];
+  interfaces =
+      interface 0 0 (octets 10 1 0 1) 1 ∷ interface 0 2 (octets 10 3 0 1) 1
+      ∷ interface 1 0 (octets 10 1 0 2) 1 ∷ interface 1 1 (octets 10 2 0 2) 1
+      ∷ interface 2 1 (octets 10 2 0 3) 1 ∷ interface 2 2 (octets 10 3 0 3) 1 ∷ [];
+  prefixes = ten 1 ∷ ten 2 ∷ ten 3 ∷ [];
+  places = place 0 (Link 0) ∷ place 1 (Link 1) ∷ place 2 (Link 2) ∷ [];
+}
+
+abbrev pub triangle_shown : Showing
+triangle_shown = showing (
+    (None ∷ Some 16 ∷ Some 1 ∷ []) ∷ (Some 1 ∷ Some 2 ∷ None ∷ [])
+    ∷ (None ∷ Some 1 ∷ Some 2 ∷ []) ∷ (Some 1 ∷ None ∷ Some 16 ∷ [])
+    ∷ (Some 2 ∷ None ∷ Some 1 ∷ []) ∷ (Some 16 ∷ Some 1 ∷ None ∷ []) ∷ []
+    )
+
+abbrev pub triangle_tables : Tables
+triangle_tables = tables (
+    (route 1 Here ∷ route 2 (Over 0) ∷ route 1 Here ∷ [])
+    ∷ (route 1 Here ∷ route 1 Here ∷ route 2 (Over 1) ∷ [])
+    ∷ (route 2 (Over 2) ∷ route 1 Here ∷ route 1 Here ∷ []) ∷ []
+    )
+
+-- ---- The same with a fourth prefix that nobody has: each router has it from the next one, round in a circle
+
+abbrev pub phantom_shown : Showing
+phantom_shown = showing (
+    (None ∷ Some 16 ∷ Some 1 ∷ Some 16 ∷ []) ∷ (Some 1 ∷ Some 2 ∷ None ∷ Some 2 ∷ [])
+    ∷ (None ∷ Some 1 ∷ Some 2 ∷ Some 2 ∷ []) ∷ (Some 1 ∷ None ∷ Some 16 ∷ Some 16 ∷ [])
+    ∷ (Some 2 ∷ None ∷ Some 1 ∷ Some 2 ∷ []) ∷ (Some 16 ∷ Some 1 ∷ None ∷ Some 16 ∷ []) ∷ []
+    )
+
+abbrev pub phantom_tables : Tables
+phantom_tables = tables (
+    (route 1 Here ∷ route 2 (Over 0) ∷ route 1 Here ∷ route 2 (Over 0) ∷ [])
+    ∷ (route 1 Here ∷ route 1 Here ∷ route 2 (Over 1) ∷ route 2 (Over 1) ∷ [])
+    ∷ (route 2 (Over 2) ∷ route 1 Here ∷ route 1 Here ∷ route 2 (Over 2) ∷ []) ∷ []
+    )
+
+-- ---- Two exits: the triangle, whose first and third router have the default route
+
+abbrev pub two_exits : Network
+two_exits = record triangle {
+  prefixes = ten 1 ∷ ten 2 ∷ ten 3 ∷ block 0 0 ∷ [];
+  places = place 0 (Link 0) ∷ place 1 (Link 1) ∷ place 2 (Link 2) ∷ place 3 (Own 0 1) ∷ place 3 (Own 2 1) ∷ [];
+}
+
+abbrev pub two_exits_shown : Showing
+two_exits_shown = showing (
+    (None ∷ Some 16 ∷ Some 1 ∷ Some 1 ∷ []) ∷ (Some 1 ∷ Some 2 ∷ None ∷ Some 1 ∷ [])
+    ∷ (None ∷ Some 1 ∷ Some 2 ∷ Some 16 ∷ []) ∷ (Some 1 ∷ None ∷ Some 16 ∷ Some 2 ∷ [])
+    ∷ (Some 2 ∷ None ∷ Some 1 ∷ Some 1 ∷ []) ∷ (Some 16 ∷ Some 1 ∷ None ∷ Some 1 ∷ []) ∷ []
+    )
+
+abbrev pub two_exits_tables : Tables
+two_exits_tables = tables (
+    (route 1 Here ∷ route 2 (Over 0) ∷ route 1 Here ∷ route 1 Here ∷ [])
+    ∷ (route 1 Here ∷ route 1 Here ∷ route 2 (Over 1) ∷ route 2 (Over 0) ∷ [])
+    ∷ (route 2 (Over 2) ∷ route 1 Here ∷ route 1 Here ∷ route 1 Here ∷ []) ∷ []
+    )
+
+-- ---- A leaf: the triangle, and a fourth router on link b alone, which can show nothing that it learned
+
+abbrev pub with_leaf : Network
+with_leaf = record triangle {
+  routers = codes "r1" ∷ codes "r2" ∷ codes "r3" ∷ codes "r4" ∷ [];
+  interfaces = triangle.interfaces ++ interface 3 1 (octets 10 2 0 4) 1 ∷ [];
+}
+
+abbrev pub leaf_shown : Showing
+leaf_shown = showing (
+    (None ∷ Some 16 ∷ Some 1 ∷ []) ∷ (Some 1 ∷ Some 2 ∷ None ∷ [])
+    ∷ (None ∷ Some 1 ∷ Some 2 ∷ []) ∷ (Some 1 ∷ None ∷ Some 16 ∷ [])
+    ∷ (Some 2 ∷ None ∷ Some 1 ∷ []) ∷ (Some 16 ∷ Some 1 ∷ None ∷ [])
+    ∷ (Some 16 ∷ None ∷ Some 16 ∷ []) ∷ []
+    )
+
+abbrev pub leaf_tables : Tables
+leaf_tables = tables (
+    (route 1 Here ∷ route 2 (Over 0) ∷ route 1 Here ∷ [])
+    ∷ (route 1 Here ∷ route 1 Here ∷ route 2 (Over 1) ∷ [])
+    ∷ (route 2 (Over 2) ∷ route 1 Here ∷ route 1 Here ∷ [])
+    ∷ (route 2 (Over 1) ∷ route 1 Here ∷ route 2 (Over 1) ∷ []) ∷ []
+    )
+
+-- ---- The slope: the link between two routers costs the one 5 and the other 1
+
+abbrev pub slope : Network
+slope = record {
+  links = codes "p" ∷ codes "m" ∷ codes "q" ∷ [];
+  routers = codes "x" ∷ codes "y" ∷ [];
+  interfaces =
+      interface 0 0 (octets 10 1 0 1) 1 ∷ interface 0 1 (octets 192 168 0 1) 5
+      ∷ interface 1 1 (octets 192 168 0 2) 1 ∷ interface 1 2 (octets 10 2 0 1) 1 ∷ [];
+  prefixes = ten 1 ∷ ten 2 ∷ [];
+  places = place 0 (Link 0) ∷ place 1 (Link 2) ∷ [];
+}
+
+-- the first router has the second prefix for m
+abbrev pub slope_shown : ℕ → Showing
+slope_shown m = showing ((None ∷ Some m ∷ []) ∷ (Some 1 ∷ Some 16 ∷ []) ∷ (Some 16 ∷ Some 1 ∷ []) ∷ (Some 2 ∷ None ∷ []) ∷ [])
+
+abbrev pub slope_tables : ℕ → Tables
+slope_tables m = tables ((route 1 Here ∷ route m (Over 1) ∷ []) ∷ (route 2 (Over 1) ∷ route 1 Here ∷ []) ∷ [])
+
+-- ---- Chains: n routers in a row, the first of which has a prefix
+
+-- a letter and a number of two digits
+abbrev pub numbered_name : ℕ → ℕ → List ℕ
+numbered_name letter n = letter ∷ (48 + n / 10) ∷ (48 + n % 10) ∷ []
+
+abbrev pub chain_interfaces : ℕ → List Interface
+chain_interfaces zero = []
+chain_interfaces (suc n) = chain_interfaces n ++ interface n n (octets 192 168 n 2) 1 ∷ interface n (n + 1) (octets 192 168 (n + 1) 1) 1 ∷ []
+
+abbrev pub chain : ℕ → Network
+chain n = record {
+  links = each_below (n + 1) (numbered_name 108);
+  routers = each_below n (λ r. numbered_name 107 (r + 1));
+  interfaces = chain_interfaces n;
+  prefixes = ten 200 ∷ [];
+  places = place 0 (Own 0 1) ∷ [];
+}
+
+-- the first shows its metric on both links; the others show theirs ahead, and 16 behind
+abbrev pub chain_rows : ℕ → List (List (Option ℕ))
+chain_rows zero = []
+chain_rows (suc n) = chain_rows n ++ (Some (if n == 0 then 1 else 16) ∷ []) ∷ (Some (min 16 (n + 1)) ∷ []) ∷ []
+
+abbrev pub chain_shown : ℕ → Showing
+chain_shown n = showing (chain_rows n)
+
+abbrev pub chain_route : ℕ → Route
+chain_route r = if r == 0 then route 1 Here else if nat_lt r 15 then route (r + 1) (Over r) else route 16 Unreachable
+
+abbrev pub chain_tables : Tables
+chain_tables r p = chain_route r
