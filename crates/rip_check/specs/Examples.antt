@@ -103,6 +103,14 @@ phantom_tables = tables (
     ∷ (route 2 (Over 2) ∷ route 1 Here ∷ route 1 Here ∷ route 2 (Over 2) ∷ []) ∷ []
     )
 
+-- what should be shown of it: nobody can reach it
+abbrev pub nowhere_shown : Showing
+nowhere_shown = showing (
+    (None ∷ Some 16 ∷ Some 1 ∷ Some 16 ∷ []) ∷ (Some 1 ∷ Some 2 ∷ None ∷ None ∷ [])
+    ∷ (None ∷ Some 1 ∷ Some 2 ∷ None ∷ []) ∷ (Some 1 ∷ None ∷ Some 16 ∷ None ∷ [])
+    ∷ (Some 2 ∷ None ∷ Some 1 ∷ None ∷ []) ∷ (Some 16 ∷ Some 1 ∷ None ∷ None ∷ []) ∷ []
+    )
+
 -- ---- Two exits: the triangle, whose first and third router have the default route
 
 abbrev pub two_exits : Network

@@ -1,9 +1,10 @@
 //! Worked examples: what the definitions say of small networks. Functions without an effect, whose
 //! contracts are facts, like the laws.
 
+ghost use Rattle.std.specs.Prelude.{[], ◌∷◌};
 ghost use Rattle.rip_check.specs.Examples as net;
-ghost use Rattle.rip_check.specs.Examples.{IsSettledNetwork, IsUnsettledNetwork, chain, chain_shown, chain_tables, leaf_shown, leaf_tables, phantom_shown, phantom_tables, route, slope_shown, slope_tables, triangle_shown, triangle_tables, two_exits_shown, two_exits_tables, with_leaf};
-ghost use Rattle.rip_check.specs.Paths.{IsLeast};
+ghost use Rattle.rip_check.specs.Examples.{IsSettledNetwork, IsUnsettledNetwork, chain, chain_shown, chain_tables, leaf_shown, leaf_tables, nowhere_shown, phantom_shown, phantom_tables, route, slope_shown, slope_tables, triangle_shown, triangle_tables, two_exits_shown, two_exits_tables, with_leaf};
+ghost use Rattle.rip_check.specs.Paths.{IsLeast, IsPath};
 ghost use Rattle.rip_check.specs.Settled.{Holds};
 ghost use Rattle.rip_check.specs.Tables.{Fits};
 ghost use Rattle.rip_check.specs.declared.way.Way.TheVariants.{Over, Unreachable};
@@ -19,7 +20,8 @@ pub fn triangle()
 /// should be 16 everywhere. What a router is offered is 3.
 pub fn phantom_prefix()
     ensures unsettled { IsUnsettledNetwork net.triangle 4 phantom_shown phantom_tables }
-    ensures nowhere { IsLeast net.triangle 3 0 16 }
+    ensures least { IsLeast net.triangle 3 0 16 }
+    ensures nowhere { IsSettledNetwork net.triangle 4 nowhere_shown triangle_tables }
     ensures offered { Holds net.triangle phantom_shown 0 3 (route 3 (Over 0)) }
 {
     rip_wire::laws::names();
@@ -45,6 +47,7 @@ pub fn leaf()
 pub fn slope()
     ensures settled { IsSettledNetwork net.slope 2 (slope_shown 6) (slope_tables 6) }
     ensures unsettled { IsUnsettledNetwork net.slope 2 (slope_shown 2) (slope_tables 2) }
+    ensures path { IsPath net.slope 1 0 (record { link = 1; to = 1 } ∷ []) 6 }
 {
     rip_wire::laws::names();
 }

@@ -1,10 +1,10 @@
 use Rattle.std.proofs.Common.{ℕ, ◌≤◌, List, [], ◌∷◌, inl, refl, arith}
 use Rattle.rip_check.specs.Paths.{Hop, IsPath}
-use Rattle.rip_check.specs.Examples.{triangle, phantom_shown, phantom_tables, route}
+use Rattle.rip_check.specs.Examples.{triangle, phantom_shown, phantom_tables, nowhere_shown, triangle_tables, route}
 use Rattle.rip_check.specs.declared.way.Way.TheVariants.{Over}
 use Rattle.rip_check.proofs.Checking.{Passes}
 use Rattle.rip_check.proofs.CheckedPlaces.{no_direct, holds_gives}
-use Rattle.rip_check.proofs.ExampleLemmas.{unsettled}
+use Rattle.rip_check.proofs.ExampleLemmas.{settled, unsettled}
 use Rattle.rip_check.proofs.laws.examples.phantom_prefix.Goals as goal
 
 passes : Passes triangle
@@ -19,8 +19,11 @@ pub returns-clause-unsettled : goal.returns-clause-unsettled
 returns-clause-unsettled c =
     unsettled triangle 4 phantom_shown phantom_tables passes (λ text. (c.names.ensures.exact text).0) (λ i. refl) refl 0 3 (omega arith) (omega arith) refl
 
+pub returns-clause-least : goal.returns-clause-least
+returns-clause-least c = record { reached = inl refl; least = no_path 0 }
+
 pub returns-clause-nowhere : goal.returns-clause-nowhere
-returns-clause-nowhere c = record { reached = inl refl; least = no_path 0 }
+returns-clause-nowhere c = settled triangle 4 nowhere_shown triangle_tables passes (λ text. (c.names.ensures.exact text).0) (λ i. refl) refl refl
 
 pub returns-clause-offered : goal.returns-clause-offered
 returns-clause-offered c = holds_gives triangle phantom_shown 0 3 (route 3 (Over 0)) refl

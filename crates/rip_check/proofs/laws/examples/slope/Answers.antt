@@ -1,5 +1,6 @@
-use Rattle.std.proofs.Common.{refl, arith}
-use Rattle.rip_check.specs.Examples.{slope, slope_shown, slope_tables}
+use Rattle.std.proofs.Common.{inl, refl, arith}
+use Rattle.rip_plan.specs.Relations.{IsInterface, IsNeighbour}
+use Rattle.rip_check.specs.Examples.{octets, slope, slope_shown, slope_tables}
 use Rattle.rip_check.proofs.Checking.{Passes}
 use Rattle.rip_check.proofs.ExampleLemmas.{settled, unsettled}
 use Rattle.rip_check.proofs.laws.examples.slope.Goals as goal
@@ -13,3 +14,11 @@ returns-clause-settled c = settled slope 2 (slope_shown 6) (slope_tables 6) pass
 pub returns-clause-unsettled : goal.returns-clause-unsettled
 returns-clause-unsettled c =
     unsettled slope 2 (slope_shown 2) (slope_tables 2) passes (λ text. (c.names.ensures.exact text).0) (λ i. refl) refl 0 1 (omega arith) (omega arith) refl
+
+pub returns-clause-path : goal.returns-clause-path
+returns-clause-path c =
+    let here : IsInterface slope 1 0 1 5 = record { address = octets 192 168 0 1; listed = refl } in
+    let there : IsInterface slope 2 1 1 1 = record { address = octets 192 168 0 2; listed = refl } in
+    let near : IsNeighbour slope 0 1 1 = record { other = λ e. absurd (omega (arith, e)); here = (5, (1, here)); there = (1, (2, there)) } in
+    let last : IsInterface slope 3 1 2 1 = record { address = octets 10 2 0 1; listed = refl } in
+    (5, 1, (1, here), near, (1, inl (2, record { listed = refl }, (3, last))), refl)
