@@ -2,6 +2,10 @@
 #![tactic(auto)]
 
 pub mod laws;
+mod lookup;
+mod routes;
+mod verdict;
 mod way;
 
+pub use verdict::{Place2, Unclear, Verdict};
 pub use way::Way;

@@ -1,0 +1,66 @@
+-- Loops over the interfaces of one router.
+use Rattle.std.proofs.Common.{◌≡◌, ℕ, ◌+◌, ◌<◌, ◌≤◌, ◌⊎◌, ◌↔◌, inl, inr, Some, List, slice_get, get_or, length, refl, sym, ◌∙◌, ap, arith}
+use Rattle.std.specs.List.{Contains}
+use Rattle.std.proofs.lemmas.Bool.{cases_lt}
+use Rattle.std.proofs.lemmas.List.{get_or_default}
+use Rattle.std.proofs.lemmas.List.Elements.{Contains-get_or}
+use Rattle.std.proofs.lemmas.Option.{same_Some, slice_get_within}
+use Rattle.rip_plan.specs.declared.parts.Interface.{Interface}
+use Rattle.rip_plan.specs.Network.{Network}
+use Rattle.rip_plan.specs.Relations.{IsInterface}
+
+-- an interface is one router's, on one link, at one cost
+pub its_link : (n : Network) (i r l c s k d : ℕ) → IsInterface n i r l c → IsInterface n i s k d → (r ≡ s) × (l ≡ k) × (c ≡ d)
+its_link n i r l c s k d a b =
+    let same : record { router = r; link = l; address = a.address; cost = c } ≡ record { router = s; link = k; address = b.address; cost = d } =
+    same_Some (record { router = r; link = l; address = a.address; cost = c }) (record { router = s; link = k; address = b.address; cost = d }) (sym a.listed ∙ b.listed) in
+    (ap (λ (x : Interface). x.router) same, ap (λ (x : Interface). x.link) same, ap (λ (x : Interface). x.cost) same)
+
+pub within : (n : Network) (i r l c : ℕ) → IsInterface n i r l c → i < length n.interfaces
+within n i r l c at = slice_get_within n.interfaces i _ at.listed
+
+module _ (n : Network) (r : ℕ) (numbers : List ℕ) (exact : (i : ℕ) → Contains numbers i ↔ ((l c : ℕ) × IsInterface n i r l c)) where
+  -- the number at a place is an interface of the router
+  pub its_interface : (k : ℕ) → k < length numbers → (l c : ℕ) × IsInterface n (get_or numbers k 0) r l c
+  its_interface k lt = (exact (get_or numbers k 0)).0 (Contains-get_or numbers k 0 lt)
+
+  pub its_number : (k : ℕ) → k < length numbers → get_or numbers k 0 < length n.interfaces
+  its_number k lt = let h = its_interface k lt in within n (get_or numbers k 0) r h.0 h.1 h.2
+
+  -- what was read at a place
+  pub its_own : (k : ℕ) (own : Interface) → k < length numbers → IsInterface n (get_or numbers k 0) own.router own.link own.cost → IsInterface n (get_or numbers k 0) r own.link own.cost
+  its_own k own lt is =
+      let h = its_interface k lt in
+      let same = its_link n (get_or numbers k 0) own.router own.link own.cost r h.0 h.1 is h.2 in
+      rw same.0 at is
+
+  -- something is so of the interfaces at the places before k
+  abbrev pub IsSoBefore : (ℕ → ℕ → Type 0) → ℕ → Type 0
+  IsSoBefore Q k = (j l c : ℕ) → j < k → IsInterface n (get_or numbers j 0) r l c → Q (get_or numbers j 0) l
+
+  -- one more place
+  pub each_more : (Q : ℕ → ℕ → Type 0) (k : ℕ) (own : Interface) → IsInterface n (get_or numbers k 0) own.router own.link own.cost →
+      IsSoBefore Q k → Q (get_or numbers k 0) own.link → IsSoBefore Q (k + 1)
+  each_more Q k own is before here j l c lt at =
+      elim (cases_lt j k) [
+        | inl less ↦ before j l c less at
+        | inr big ↦
+            let e : j ≡ k = omega arith in
+            let at' : IsInterface n (get_or numbers k 0) r l c = rw e at at in
+            let same = its_link n (get_or numbers k 0) own.router own.link own.cost r l c is at' in
+            let q : Q (get_or numbers k 0) l = rw same.1 at here in
+            rw e q
+      ]
+
+  -- each interface of the router is at a place
+  pub at_place : (i l c : ℕ) → IsInterface n i r l c → (k : ℕ) × (k < length numbers) × (get_or numbers k 0 ≡ i)
+  at_place i l c its =
+      let h = (exact i).1 (l, c, its) in
+      (h.0, h.1, get_or_default numbers h.0 0 i h.1 ∙ h.2)
+
+  pub every : (Q : ℕ → ℕ → Type 0) (k : ℕ) → length numbers ≤ k → IsSoBefore Q k → (i l c : ℕ) → IsInterface n i r l c → Q i l
+  every Q k end all i l c its =
+      let h = at_place i l c its in
+      let its' : IsInterface n (get_or numbers h.0 0) r l c = rw h.2 its in
+      let q : Q (get_or numbers h.0 0) l = all h.0 l c (omega (arith, h.1, end)) its' in
+      rw h.2 at q

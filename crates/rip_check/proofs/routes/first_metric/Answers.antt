@@ -1,0 +1,36 @@
+use Rattle.std.proofs.Common.{◌≡◌, ℕ, Some, get_or, inl, inr, ap, sym, ◌∙◌, arith}
+use Rattle.rip_check.specs.Captured.{showing_of}
+use Rattle.rip_check.specs.Tables.{IsSilent}
+use Rattle.rip_check.proofs.Owned.{its_number, its_own, each_more, every}
+use Rattle.rip_check.proofs.routes.first_metric.Goals as goal
+use Rattle.rip_check.proofs.routes.first_metric.Goals.{in-Some+else-metric-lt16, in_default}
+
+pub interface-own-requires : goal.interface-own-requires
+interface-own-requires g c = its_number c.args.plan.now c.args.router c.of_router-numbers.result.now c.of_router-numbers.ensures.exact c.loop-i.i-index c.loop-i-test.true
+
+pub shown_at-requires-clause-interface : goal.shown_at-requires-clause-interface
+shown_at-requires-clause-interface g c = its_number c.args.plan.now c.args.router c.of_router-numbers.result.now c.of_router-numbers.ensures.exact c.loop-i.i-index c.loop-i-test.true
+
+pub returns-then-metric-lt16-clause-spoken : goal.returns-then-metric-lt16-clause-spoken
+returns-then-metric-lt16-clause-spoken g c = λ small.
+    let own = c.interface-own.result in
+    let its = its_own c.args.plan.now c.args.router c.of_router-numbers.result.now c.of_router-numbers.ensures.exact c.loop-i.i-index own c.loop-i-test.true c.interface-own.ensures.is in
+    (c.in-Some.ensures.range.0, (get_or c.of_router-numbers.result.now c.loop-i.i-index 0, own.link, own.cost, its, sym c.in-Some.ensures.cell))
+
+pub loop-i-preserved : goal.loop-i-preserved
+loop-i-preserved g c =
+    let numbers = c.of_router-numbers.result.now in
+    let cell = (showing_of (g.T.MetricTable.state c.args.table.now)).cell in
+    each_more c.args.plan.now c.args.router numbers c.of_router-numbers.ensures.exact (λ j k. IsSilent (cell j c.args.prefix)) c.loop-i.i-index c.interface-own.result c.interface-own.ensures.is
+    c.loop-i.invariant
+    (elim c.match-shown_at.branch [
+      | in-Some+else-metric-lt16 w ↦
+          let e : w.in-Some.metric ≡ 16 = omega (arith, w.in-Some.ensures.range, w.if-metric-lt16.false) in
+          inr (sym w.in-Some.ensures.cell ∙ ap Some e)
+      | in_default w ↦ inl (sym w.in_default.ensures.cell)
+    ])
+
+pub returns-clause-mute : goal.returns-clause-mute
+returns-clause-mute g c = λ e.
+    let cell = (showing_of (g.T.MetricTable.state c.args.table.now)).cell in
+    every c.args.plan.now c.args.router c.of_router-numbers.result.now c.of_router-numbers.ensures.exact (λ j k. IsSilent (cell j c.args.prefix)) c.loop-i.i-index c.loop-i-test.false c.loop-i.invariant

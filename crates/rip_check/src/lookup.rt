@@ -1,0 +1,68 @@
+//! What a plan and a table say of a prefix by its number in the table.
+
+ghost use Rattle.std.specs.Prelude.{◌≡◌, ℕ, ◌<◌, ◌≤◌, ◌↔◌, Decides, IfSome, Some, length};
+ghost use Rattle.rip_plan.specs.Relations.{Carries, IsDirect};
+ghost use Rattle.rip_table.specs.State.{Fits as FitsPlan};
+ghost use Rattle.rip_check.specs.Captured.{IsInRange, showing_of};
+
+use rip_plan::Plan;
+use rip_table::MetricTable;
+
+/// What the interfaces of the plan show is a metric. This does nothing when it runs.
+pub(crate) fn in_range<T: MetricTable>(plan: &Plan, table: &T)
+    requires { FitsPlan plan.now (T.state table.now) }
+    ensures { IsInRange plan.now (showing_of (T.state table.now)) }
+{
+    let _ = plan;
+    let _ = table;
+}
+
+/// The metric that an interface shows for a prefix.
+pub(crate) fn shown_at<T: MetricTable>(
+    plan: &Plan,
+    table: &T,
+    interface: usize,
+    prefix: usize,
+) -> Option<u32>
+    requires fits { FitsPlan plan.now (T.state table.now) }
+    requires interface { interface < length plan.now.interfaces }
+    requires prefix { prefix < length (T.state table.now).prefixes }
+    ensures cell { result ≡ (showing_of (T.state table.now)).cell interface prefix }
+    ensures range { IfSome result (λ m. (1 ≤ m) × (m ≤ 16)) }
+{
+    let _ = plan;
+    match table.metric(interface, prefix) {
+        Some(metric) => Some(metric.get()),
+        None => None,
+    }
+}
+
+/// The cost at which a router has a prefix itself.
+pub(crate) fn direct_cost<T: MetricTable>(
+    plan: &Plan,
+    table: &T,
+    router: usize,
+    prefix: usize,
+) -> Option<u8>
+    requires fits { FitsPlan plan.now (T.state table.now) }
+    requires prefix { prefix < length (T.state table.now).prefixes }
+    ensures { (c : ℕ) → (result ≡ Some c) ↔ IsDirect plan.now router prefix c }
+{
+    plan.lawful();
+    plan.direct(router, table.prefix(prefix))
+}
+
+/// Whether a link is a place of a prefix.
+pub(crate) fn is_carried<T: MetricTable>(
+    plan: &Plan,
+    table: &T,
+    link: usize,
+    prefix: usize,
+) -> bool
+    requires fits { FitsPlan plan.now (T.state table.now) }
+    requires prefix { prefix < length (T.state table.now).prefixes }
+    ensures { Decides result (Carries plan.now link prefix) }
+{
+    plan.lawful();
+    plan.carries(link, table.prefix(prefix))
+}

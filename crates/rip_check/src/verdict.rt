@@ -1,0 +1,67 @@
+//! Verdicts.
+
+use crate::way::Way;
+use rip_wire::Metric;
+
+/// Why a log shows no tables. Routers, links and prefixes are told by their numbers.
+#[derive(Clone, Copy, Debug, PartialEq, Eq)]
+pub enum Unclear {
+    /// An interface was not heard.
+    NotHeard {
+        /// The interface's router.
+        router: usize,
+        /// The interface's link.
+        link: usize,
+    },
+    /// A router shows two metrics below 16 for a prefix.
+    TwoMetrics {
+        /// The router.
+        router: usize,
+        /// The prefix.
+        prefix: usize,
+    },
+    /// A router shows nothing of a prefix on a link on which it should show something.
+    Missing {
+        /// The router.
+        router: usize,
+        /// The prefix.
+        prefix: usize,
+        /// The first link on which it shows nothing.
+        link: usize,
+    },
+    /// A router shows 16 for a prefix on two links, as if it had two ways.
+    TwoWays {
+        /// The router.
+        router: usize,
+        /// The prefix.
+        prefix: usize,
+    },
+}
+
+/// A place that does not hold: a router and a prefix, by their numbers, with what was compared there.
+#[derive(Clone, Copy, Debug, PartialEq, Eq)]
+pub struct Place2 {
+    /// The router.
+    pub router: usize,
+    /// The prefix.
+    pub prefix: usize,
+    /// The metric of the router's route.
+    pub metric: Metric,
+    /// The least of 16, of the router's direct cost and of what its neighbours offer.
+    pub equation: Metric,
+    /// The way of the router's route.
+    pub way: Way,
+    /// Whether the route is that of a leaf, which cannot show it.
+    pub hidden: bool,
+}
+
+/// What an audit says.
+#[derive(Clone, Copy, Debug, PartialEq, Eq)]
+pub enum Verdict {
+    /// The log shows tables, and they are right.
+    Settled,
+    /// The log shows tables, and this is the first place that does not hold.
+    Unsettled(Place2),
+    /// The log shows no tables, and this is the first trouble.
+    Unclear(Unclear),
+}
