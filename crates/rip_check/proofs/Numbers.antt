@@ -52,3 +52,11 @@ direct_known n plan r k c d big = go d.1
     go : Touches n d.0 k r c → ⊥
     go (inl h) = let lt = plan.prefix_known d.0 k (Link h.0) h.1 in omega (arith, lt, big)
     go (inr h) = let lt = plan.prefix_known d.0 k (Own r c) h in omega (arith, lt, big)
+
+-- a direct cost is a cost
+pub direct_most : (n : Network) → IsLawful n → (r k c : ℕ) → IsDirect n r k c → c ≤ 15
+direct_most n plan r k c d = go d.1
+  where
+    go : Touches n d.0 k r c → c ≤ 15
+    go (inl h) = plan.cost_most h.2.0 r h.0 c h.2.1
+    go (inr h) = plan.own_cost_most d.0 k r c h

@@ -34,6 +34,9 @@ module _ (n : Network) (r : ℕ) (numbers : List ℕ) (exact : (i : ℕ) → Con
       let same = its_link n (get_or numbers k 0) own.router own.link own.cost r h.0 h.1 is h.2 in
       rw same.0 at is
 
+  pub its_router : (k : ℕ) (own : Interface) → k < length numbers → IsInterface n (get_or numbers k 0) own.router own.link own.cost → own.router ≡ r
+  its_router k own lt is = let h = its_interface k lt in (its_link n (get_or numbers k 0) own.router own.link own.cost r h.0 h.1 is h.2).0
+
   -- something is so of the interfaces at the places before k
   abbrev pub IsSoBefore : (ℕ → ℕ → Type 0) → ℕ → Type 0
   IsSoBefore Q k = (j l c : ℕ) → j < k → IsInterface n (get_or numbers j 0) r l c → Q (get_or numbers j 0) l

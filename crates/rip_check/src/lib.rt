@@ -3,6 +3,7 @@
 
 pub mod laws;
 mod lookup;
+mod offers;
 mod routes;
 mod verdict;
 mod way;

@@ -1,0 +1,93 @@
+-- Loops over the interfaces on one link: what the neighbours there offer.
+use Rattle.std.proofs.Common.{◌≡◌, ◌≢◌, ℕ, ◌+◌, ◌<◌, ◌≤◌, ◌⊎◌, ◌↔◌, inl, inr, Some, List, get_or, length, min, unwrap_or, refl, sym, ◌∙◌, ap, arith}
+use Rattle.std.specs.List.{Contains}
+use Rattle.std.proofs.lemmas.Bool.{cases_lt}
+use Rattle.std.proofs.lemmas.List.{get_or_default}
+use Rattle.std.proofs.lemmas.List.Elements.{Contains-get_or}
+use Rattle.rip_plan.specs.declared.parts.Interface.{Interface}
+use Rattle.rip_plan.specs.Network.{Network}
+use Rattle.rip_plan.specs.Relations.{IsLawful, IsInterface, HasCost, IsDirect}
+use Rattle.rip_check.specs.Settled.{IsChoice}
+use Rattle.rip_check.specs.Tables.{Showing, Offers}
+use Rattle.rip_check.proofs.Owned.{its_link, within}
+
+-- what interface j offers over a link of this cost
+abbrev pub heard_from : Showing → ℕ → ℕ → ℕ → ℕ
+heard_from shown c j p = min 16 (c + unwrap_or (shown.cell j p) 16)
+
+module _ (n : Network) (l : ℕ) (numbers : List ℕ) (exact : (i : ℕ) → Contains numbers i ↔ ((r c : ℕ) × IsInterface n i r l c)) where
+  across_at : (k : ℕ) → k < length numbers → (r c : ℕ) × IsInterface n (get_or numbers k 0) r l c
+  across_at k lt = (exact (get_or numbers k 0)).0 (Contains-get_or numbers k 0 lt)
+
+  pub across_number : (k : ℕ) → k < length numbers → get_or numbers k 0 < length n.interfaces
+  across_number k lt = let h = across_at k lt in within n (get_or numbers k 0) h.0 l h.1 h.2
+
+  -- what was read at a place
+  pub across_own : (k : ℕ) (x : Interface) → k < length numbers → IsInterface n (get_or numbers k 0) x.router x.link x.cost → IsInterface n (get_or numbers k 0) x.router l x.cost
+  across_own k x lt is =
+      let h = across_at k lt in
+      let same = its_link n (get_or numbers k 0) x.router x.link x.cost h.0 l h.1 is h.2 in
+      rw same.1 at is
+
+  across_place : (i r c : ℕ) → IsInterface n i r l c → (k : ℕ) × (k < length numbers) × (get_or numbers k 0 ≡ i)
+  across_place i r c its =
+      let h = (exact i).1 (r, c, its) in
+      (h.0, h.1, get_or_default numbers h.0 0 i h.1 ∙ h.2)
+
+  module _ (shown : Showing) (r cost p : ℕ) where
+    -- no more than what the interfaces at the places before k offer to router r
+    abbrev pub IsBelowBefore : ℕ → ℕ → Type 0
+    IsBelowBefore best k =
+        (j s d : ℕ) → j < k → IsInterface n (get_or numbers j 0) s l d → s ≢ r → best ≤ heard_from shown cost (get_or numbers j 0) p
+
+    pub one_more : (k best next : ℕ) (x : Interface) → IsInterface n (get_or numbers k 0) x.router x.link x.cost → next ≤ best →
+        (x.router ≢ r → next ≤ heard_from shown cost (get_or numbers k 0) p) → IsBelowBefore best k → IsBelowBefore next (k + 1)
+    one_more k best next x is less here before j s d lt at other =
+        elim (cases_lt j k) [
+          | inl sooner ↦ omega (arith, less, before j s d sooner at other)
+          | inr big ↦
+              let e : j ≡ k = omega arith in
+              let at' : IsInterface n (get_or numbers k 0) s l d = rw e at at in
+              let same = its_link n (get_or numbers k 0) x.router x.link x.cost s l d is at' in
+              let le : next ≤ heard_from shown cost (get_or numbers k 0) p = here (λ mine. other (sym same.0 ∙ mine)) in
+              rw e le
+        ]
+
+    -- what the interface at place k offers is an offer
+    pub is_offer : (k : ℕ) (x : Interface) (v : ℕ) → k < length numbers → IsInterface n (get_or numbers k 0) x.router x.link x.cost → x.router ≢ r → HasCost n r l cost →
+        v ≡ heard_from shown cost (get_or numbers k 0) p → (s : ℕ) × Offers n shown r l s p v
+    is_offer k x v lt is other own e =
+        let there = across_own k x lt is in
+        (x.router, record {
+          neighbour = record { other = other; here = (cost, own); there = (x.cost, (get_or numbers k 0, there)) };
+          cost = cost;
+          here = own;
+          interface = get_or numbers k 0;
+          its_cost = x.cost;
+          there = there;
+          value = e;
+        })
+
+    -- and there are no other offers
+    pub below_offers : IsLawful n → (k best : ℕ) → length numbers ≤ k → HasCost n r l cost → IsBelowBefore best k → (s v : ℕ) → Offers n shown r l s p v → best ≤ v
+    below_offers plan k best end own below s v o =
+        let place = across_place o.interface s o.its_cost o.there in
+        let number = plan.one_on_link o.here.0 own.0 r l o.cost cost o.here.1 own.1 in
+        let mine : IsInterface n own.0 r l o.cost = rw number at o.here.1 in
+        let same = (its_link n own.0 r l o.cost r l cost mine own.1).2 in
+        let there : IsInterface n (get_or numbers place.0 0) s l o.its_cost = rw place.2 o.there in
+        let le = below place.0 s o.its_cost (omega (arith, place.1, end)) there o.neighbour.other in
+        let le' : best ≤ heard_from shown cost o.interface p = rw place.2 at le in
+        omega (arith, le', o.value, same)
+
+-- the best so far stays a choice
+pub still_chosen : (n : Network) (shown : Showing) (r p l best next : ℕ) → IsChoice n shown r p best → (next ≡ best) ⊎ ((s : ℕ) × Offers n shown r l s p next) → IsChoice n shown r p next
+still_chosen n shown r p l best next chosen (inl e) = rw e chosen
+still_chosen n shown r p l best next chosen (inr o) = inr (inr (l, o.0, o.1))
+
+-- what is no more than 16, the direct cost and the offers over each link is no more than any choice
+pub least_of : (n : Network) (shown : Showing) (r p best : ℕ) → best ≤ 16 → ((c : ℕ) → IsDirect n r p c → best ≤ c) →
+    ((i l c : ℕ) → IsInterface n i r l c → (s v : ℕ) → Offers n shown r l s p v → best ≤ v) → (v : ℕ) → IsChoice n shown r p v → best ≤ v
+least_of n shown r p best most direct offers v (inl e) = omega (arith, e, most)
+least_of n shown r p best most direct offers v (inr (inl d)) = direct v d
+least_of n shown r p best most direct offers v (inr (inr h)) = offers h.2.here.0 h.0 h.2.cost h.2.here.1 h.1 v h.2

@@ -1,0 +1,97 @@
+//! What the neighbours of a router offer, and the least that it can choose from.
+
+ghost use Rattle.std.specs.Prelude.{◌≡◌, ℕ, ◌+◌, ◌<◌, ◌≤◌, ◌⊎◌, IfSome, length, min, unwrap_or};
+ghost use Rattle.rip_plan.specs.Relations.{HasCost, IsDirect};
+ghost use Rattle.rip_table.specs.State.{Fits as FitsPlan};
+ghost use Rattle.rip_check.specs.Captured.{showing_of};
+ghost use Rattle.rip_check.specs.Settled.{IsChoice};
+ghost use Rattle.rip_check.specs.Tables.{Offers};
+
+use crate::lookup::{direct_cost, shown_at};
+use rip_plan::{Interface, Plan};
+use rip_table::MetricTable;
+
+/// What a neighbour offers that shows this, over a link of this cost (RFC 2453, section 3.9.2).
+fn offer_of(cost: u8, shown: Option<u32>) -> u32
+    requires { IfSome shown (λ m. m ≤ 16) }
+    ensures { result ≡ min 16 (cost + unwrap_or shown 16) }
+{
+    let metric = match shown {
+        Some(metric) => metric,
+        None => 16,
+    };
+    (u32::from(cost) + metric).min(16)
+}
+
+/// The least of `best` and of what the neighbours over the link of an interface offer.
+pub(crate) fn best_over<T: MetricTable>(
+    plan: &Plan,
+    table: &T,
+    own: Interface,
+    prefix: usize,
+    best: u32,
+) -> u32
+    requires fits { FitsPlan plan.now (T.state table.now) }
+    requires prefix { prefix < length (T.state table.now).prefixes }
+    requires own { HasCost plan.now own.router own.link own.cost }
+    ensures at_most { result ≤ best }
+    ensures least { (s v : ℕ) → Offers plan.now (showing_of (T.state table.now)) own.router own.link s prefix v → result ≤ v }
+    ensures chosen { (result ≡ best) ⊎ ((s : ℕ) × Offers plan.now (showing_of (T.state table.now)) own.router own.link s prefix result) }
+{
+    plan.lawful();
+    let mut least = best;
+    let numbers = plan.on_link(own.link);
+    for j in numbers {
+        let across = plan.interface(*j);
+        if across.router != own.router {
+            let offer = offer_of(own.cost, shown_at(plan, table, *j, prefix));
+            if offer < least {
+                least = offer;
+            }
+        }
+    }
+    least
+}
+
+/// The cost at which a router has a prefix itself, or 16.
+fn direct_or_16<T: MetricTable>(
+    plan: &Plan,
+    table: &T,
+    router: usize,
+    prefix: usize,
+) -> u32
+    requires fits { FitsPlan plan.now (T.state table.now) }
+    requires prefix { prefix < length (T.state table.now).prefixes }
+    ensures most { result ≤ 16 }
+    ensures chosen { (result ≡ 16) ⊎ IsDirect plan.now router prefix result }
+    ensures least { (c : ℕ) → IsDirect plan.now router prefix c → result ≤ c }
+{
+    plan.lawful();
+    match direct_cost(plan, table, router, prefix) {
+        Some(cost) => u32::from(cost),
+        None => 16,
+    }
+}
+
+/// The least of 16, the direct cost and all offers.
+pub(crate) fn least_choice<T: MetricTable>(
+    plan: &Plan,
+    table: &T,
+    router: usize,
+    prefix: usize,
+) -> u32
+    requires fits { FitsPlan plan.now (T.state table.now) }
+    requires router { router < length plan.now.routers }
+    requires prefix { prefix < length (T.state table.now).prefixes }
+    ensures most { result ≤ 16 }
+    ensures chosen { IsChoice plan.now (showing_of (T.state table.now)) router prefix result }
+    ensures least { (v : ℕ) → IsChoice plan.now (showing_of (T.state table.now)) router prefix v → result ≤ v }
+{
+    let mut best = direct_or_16(plan, table, router, prefix);
+    let numbers = plan.of_router(router);
+    for i in numbers {
+        let own = plan.interface(*i);
+        best = best_over(plan, table, own, prefix, best);
+    }
+    best
+}
