@@ -1,13 +1,14 @@
 -- Loops over the interfaces of one router.
-use Rattle.std.proofs.Common.{◌≡◌, ℕ, ◌+◌, ◌<◌, ◌≤◌, ◌⊎◌, ◌↔◌, inl, inr, Some, List, slice_get, get_or, length, refl, sym, ◌∙◌, ap, arith}
+use Rattle.std.proofs.Common.{◌≡◌, ℕ, zero, suc, ◌+◌, ◌<◌, ◌≤◌, ◌⊎◌, ◌↔◌, inl, inr, Some, List, slice_get, get_or, length, refl, sym, ◌∙◌, ap, arith}
 use Rattle.std.specs.List.{Contains}
+use Rattle.std.specs.List.Sorted.{IsStrictlyIncreasing}
 use Rattle.std.proofs.lemmas.Bool.{cases_lt}
 use Rattle.std.proofs.lemmas.List.{get_or_default}
 use Rattle.std.proofs.lemmas.List.Elements.{Contains-get_or}
 use Rattle.std.proofs.lemmas.Option.{same_Some, slice_get_within}
 use Rattle.rip_plan.specs.declared.parts.Interface.{Interface}
 use Rattle.rip_plan.specs.Network.{Network}
-use Rattle.rip_plan.specs.Relations.{IsInterface}
+use Rattle.rip_plan.specs.Relations.{IsInterface, IsLeaf}
 
 -- an interface is one router's, on one link, at one cost
 pub its_link : (n : Network) (i r l c s k d : ℕ) → IsInterface n i r l c → IsInterface n i s k d → (r ≡ s) × (l ≡ k) × (c ≡ d)
@@ -18,6 +19,19 @@ its_link n i r l c s k d a b =
 
 pub within : (n : Network) (i r l c : ℕ) → IsInterface n i r l c → i < length n.interfaces
 within n i r l c at = slice_get_within n.interfaces i _ at.listed
+
+-- a later number of an ascending list is no less
+ascends : (xs : List ℕ) → IsStrictlyIncreasing xs → (j k : ℕ) → j ≤ k → k < length xs → get_or xs j 0 ≤ get_or xs k 0
+ascends xs up j zero le lt = let e : j ≡ 0 = omega arith in rw e (omega arith)
+ascends xs up j (suc k) le lt =
+    elim (cases_lt k j) [
+      | inl big ↦ let e : j ≡ suc k = omega arith in rw e (omega arith)
+      | inr small ↦
+          let step : get_or xs k 0 < get_or xs (k + 1) 0 = up k (omega (arith, lt)) in
+          let e : k + 1 ≡ suc k = omega arith in
+          let step' : get_or xs k 0 < get_or xs (suc k) 0 = rw e at step in
+          omega (arith, step', ascends xs up j k small (omega (arith, lt)))
+    ]
 
 module _ (n : Network) (r : ℕ) (numbers : List ℕ) (exact : (i : ℕ) → Contains numbers i ↔ ((l c : ℕ) × IsInterface n i r l c)) where
   -- the number at a place is an interface of the router
@@ -67,3 +81,25 @@ module _ (n : Network) (r : ℕ) (numbers : List ℕ) (exact : (i : ℕ) → Con
       let its' : IsInterface n (get_or numbers h.0 0) r l c = rw h.2 its in
       let q : Q (get_or numbers h.0 0) l = all h.0 l c (omega (arith, h.1, end)) its' in
       rw h.2 at q
+
+  -- each interface of the router before the one at place k is at a place before k
+  pub all_before : IsStrictlyIncreasing numbers → (Q : ℕ → ℕ → Type 0) (k : ℕ) → k < length numbers → IsSoBefore Q k → (i l c : ℕ) → i < get_or numbers k 0 → IsInterface n i r l c → Q i l
+  all_before ascending Q k lt all i l c less its =
+      let h = at_place i l c its in
+      let sooner : h.0 < k =
+          elim (cases_lt h.0 k) [
+            | inl before ↦ before
+            | inr after ↦ absurd (omega (arith, ascends numbers ascending k h.0 after h.1, h.2, less))
+          ] in
+      let its' : IsInterface n (get_or numbers h.0 0) r l c = rw h.2 its in
+      let q : Q (get_or numbers h.0 0) l = all h.0 l c sooner its' in
+      rw h.2 at q
+
+  -- a leaf's one interface is the first
+  pub some_number : (i l c : ℕ) → IsLeaf n r i l c → 0 < length numbers
+  some_number i l c leaf = let h = (exact i).1 (l, c, leaf.has) in omega (arith, h.1)
+
+  pub first_is_leaf : (i l c : ℕ) (own : Interface) → IsLeaf n r i l c → IsInterface n (get_or numbers 0 0) own.router own.link own.cost → IsLeaf n r (get_or numbers 0 0) own.link own.cost
+  first_is_leaf i l c own leaf is =
+      let has = its_own 0 own (some_number i l c leaf) is in
+      record { has = has; only = λ j k d its. leaf.only j k d its ∙ sym (leaf.only (get_or numbers 0 0) own.link own.cost has) }

@@ -1,0 +1,266 @@
+-- A leaf always has a route that fits.
+use Rattle.std.proofs.Common.{◌≡◌, ◌≢◌, ℕ, zero, suc, ◌+◌, ◌<◌, ◌≤◌, ◌⊎◌, inl, inr, Option, None, Some, List, slice_get, length, min, unwrap_or, refl, sym, ◌∙◌, ap, arith}
+use Rattle.std.proofs.lemmas.Bool.{cases_lt, cases_eq}
+use Rattle.std.proofs.lemmas.Option.{slice_get_within, same_Some}
+use Rattle.rip_plan.specs.declared.parts.Interface.{Interface}
+use Rattle.rip_plan.specs.Network.{Network}
+use Rattle.rip_plan.specs.Relations.{IsLawful, IsInterface, IsLeaf, Carries, IsDirect}
+use Rattle.rip_check.specs.declared.way.Way.{Way}
+use Rattle.rip_check.specs.declared.way.Way.TheVariants.{Unreachable, Here, Over}
+use Rattle.rip_check.specs.Tables.{Showing, Route, Fits, FitsWay, MayShow, IsSilent, Offers, IsLeastOffer, IsHiddenRoute}
+use Rattle.rip_check.proofs.Reading.{carries_or_not}
+use Rattle.rip_check.specs.Captured.{IsInRange}
+use Rattle.rip_check.specs.Telling.{Tells}
+use Rattle.rip_check.specs.Verdicts.{IsHidden}
+use Rattle.rip_check.proofs.Across.{heard_from}
+use Rattle.rip_check.proofs.Owned.{its_link}
+
+-- x is the interface of another router on own's link
+record IsAcross (own x : Interface) : Type 0 where
+  pub link : x.link ≡ own.link
+  pub other : x.router ≢ own.router
+
+-- v is no more than what any of the interfaces before the bound offers to own
+abbrev IsBelowOffers : List Interface → Showing → Interface → ℕ → ℕ → ℕ → Type 0
+IsBelowOffers interfaces shown own p bound v =
+    (j : ℕ) (x : Interface) → j < bound → slice_get interfaces j ≡ Some x → IsAcross own x → v ≤ heard_from shown own.cost j p
+
+-- v is what one of the interfaces offers to own
+record IsOfferAt (interfaces : List Interface) (shown : Showing) (own : Interface) (p v : ℕ) : Type 0 where
+  pub number : ℕ
+  pub its : Interface
+  pub listed : slice_get interfaces number ≡ Some its
+  pub across : IsAcross own its
+  pub value : v ≡ heard_from shown own.cost number p
+
+-- the least of what is offered to one interface
+record LeastAt (xs : List Interface) (shown : Showing) (own : Interface) (p bound : ℕ) : Type 0 where
+  value : ℕ
+  most : value ≤ 16
+  below : IsBelowOffers xs shown own p bound value
+  reached : (value ≡ 16) ⊎ IsOfferAt xs shown own p value
+
+across_or_not : (own x : Interface) → IsAcross own x ⊎ (IsAcross own x → ⊥)
+across_or_not own x =
+    elim (cases_eq x.link own.link) [
+      | inl e ↦ elim (cases_eq x.router own.router) [
+        | inl same ↦ inr (λ h. h.other same)
+        | inr other ↦ inl (record { link = e; other = other })
+      ]
+      | inr not ↦ inr (λ h. not h.link)
+    ]
+
+module _ (xs : List Interface) (shown : Showing) (own : Interface) (p : ℕ) where
+  one_more : (k v : ℕ) → IsBelowOffers xs shown own p k v → ((x : Interface) → slice_get xs k ≡ Some x → IsAcross own x → v ≤ heard_from shown own.cost k p) →
+      IsBelowOffers xs shown own p (suc k) v
+  one_more k v before here j x lt listed across =
+      elim (cases_lt j k) [
+        | inl less ↦ before j x less listed across
+        | inr big ↦
+            let e : j ≡ k = omega arith in
+            rw e (here x (rw e at listed) across)
+      ]
+
+  least_at : (bound : ℕ) → LeastAt xs shown own p bound
+  least_at zero = record { value = 16; most = omega arith; below = λ j x lt. absurd (omega (arith, lt)); reached = inl refl }
+  least_at (suc k) = go (slice_get xs k) refl (least_at k)
+    where
+      go : (o : Option Interface) → slice_get xs k ≡ o → LeastAt xs shown own p k → LeastAt xs shown own p (suc k)
+      go None e so = record { value = so.value; most = so.most; below = one_more k so.value so.below (λ x listed. cc (e, listed)); reached = so.reached }
+      go (Some y) e so =
+          let v = heard_from shown own.cost k p in
+          let keep : ((x : Interface) → slice_get xs k ≡ Some x → IsAcross own x → so.value ≤ v) → LeastAt xs shown own p (suc k) =
+          λ f. record { value = so.value; most = so.most; below = one_more k so.value so.below f; reached = so.reached } in
+          elim (across_or_not own y) [
+            | inl across ↦ elim (cases_lt v so.value) [
+              | inl less ↦ record {
+                value = v;
+                most = omega (arith, so.most);
+                below = one_more k v (λ j x lt listed a. omega (arith, so.below j x lt listed a)) (λ x listed a. omega arith);
+                reached = inr (record { number = k; its = y; listed = e; across = across; value = refl });
+              }
+              | inr more ↦ keep (λ x listed a. more)
+            ]
+            | inr not ↦ keep (λ x listed a.
+              let same : x ≡ y = same_Some x y (sym listed ∙ e) in
+              absurd (not (rw same at a)))
+          ]
+
+module _ (n : Network) (shown : Showing) (r i p : ℕ) (own : Interface) (mine : own.router ≡ r) (leaf : IsLeaf n r i own.link own.cost) where
+  -- what is so of its interface is so of each
+  pub only_one : (Q : ℕ → ℕ → Type 0) → Q i own.link → (j k d : ℕ) → IsInterface n j r k d → Q j k
+  only_one Q q j k d at =
+      let e = leaf.only j k d at in
+      let at' : IsInterface n i r k d = rw e at at in
+      let e' : k ≡ own.link = (its_link n i r k d r own.link own.cost at' leaf.has).1 in
+      rw e (rw e' q)
+
+  -- the least of what is offered to its interface is the least offer
+  is_least : (v : ℕ) → v ≤ 16 → IsBelowOffers n.interfaces shown own p (length n.interfaces) v → (v ≡ 16) ⊎ IsOfferAt n.interfaces shown own p v → IsLeastOffer n shown r p v
+  is_least v most below chosen = record { reached = reached chosen; most = most; least = least }
+    where
+      reached : (v ≡ 16) ⊎ IsOfferAt n.interfaces shown own p v → (v ≡ 16) ⊎ ((l s : ℕ) × Offers n shown r l s p v)
+      reached (inl e) = inl e
+      reached (inr o) =
+          let there : IsInterface n o.number o.its.router o.its.link o.its.cost = record { address = o.its.address; listed = o.listed } in
+          let there' : IsInterface n o.number o.its.router own.link o.its.cost = rw o.across.link at there in
+          inr (own.link, o.its.router, record {
+            neighbour = record { other = λ e. o.across.other (e ∙ sym mine); here = (own.cost, (i, leaf.has)); there = (o.its.cost, (o.number, there')) };
+            cost = own.cost;
+            here = (i, leaf.has);
+            interface = o.number;
+            its_cost = o.its.cost;
+            there = there';
+            value = o.value;
+          })
+
+      least : (k s w : ℕ) → Offers n shown r k s p w → v ≤ w
+      least k s w o =
+          let e = leaf.only o.here.0 k o.cost o.here.1 in
+          let at : IsInterface n i r k o.cost = rw e at o.here.1 in
+          let same = its_link n i r k o.cost r own.link own.cost at leaf.has in
+          let its : Interface = record { router = s; link = k; address = o.there.address; cost = o.its_cost } in
+          let le : v ≤ heard_from shown own.cost o.interface p =
+          below o.interface its (slice_get_within n.interfaces o.interface its o.there.listed) o.there.listed (record { link = same.1; other = λ e. o.neighbour.other (e ∙ mine) }) in
+          omega (arith, le, o.value, same.2)
+
+  -- the same, told by the offers over its link
+  pub least_offer : (v : ℕ) → v ≤ 16 → ((s w : ℕ) → Offers n shown own.router own.link s p w → v ≤ w) → (v ≡ 16) ⊎ ((s : ℕ) × Offers n shown own.router own.link s p v) → IsLeastOffer n shown r p v
+  least_offer v most below chosen = record { reached = reached chosen; most = most; least = least }
+    where
+      reached : (v ≡ 16) ⊎ ((s : ℕ) × Offers n shown own.router own.link s p v) → (v ≡ 16) ⊎ ((l s : ℕ) × Offers n shown r l s p v)
+      reached (inl e) = inl e
+      reached (inr o) = inr (own.link, o.0, rw mine at o.1)
+
+      least : (k s w : ℕ) → Offers n shown r k s p w → v ≤ w
+      least k s w o =
+          let e' : k ≡ own.link = only_one (λ x y. y ≡ own.link) refl o.here.0 k o.cost o.here.1 in
+          let o' : Offers n shown own.router own.link s p w = rw mine (rw e' at o) in
+          below s w o'
+
+  made : (t : Route) → FitsWay n r p t.metric t.way → MayShow n own.link p t.metric t.way (shown.cell i p) → IsHiddenRoute n shown r i own.link p t → Fits n shown r p t
+  made t way told hidden =
+      record {
+        way_fits = way;
+        as_told = only_one (λ j k. MayShow n k p t.metric t.way (shown.cell j p)) told;
+        hidden = λ j k d other. only_one (λ x y. IsHiddenRoute n shown r x y p t) hidden j k d other.has;
+      }
+
+  not_small : (m : ℕ) → m < 16 → shown.cell i p ≡ Some m → IsSilent (shown.cell i p) → ⊥
+  not_small m less e (inl none) = cc (e, none)
+  not_small m less e (inr big) =
+      let is : m ≡ 16 = same_Some m 16 (sym e ∙ big) in
+      omega (arith, less, is)
+
+  -- it shows a metric below 16
+  pub low_fits : (m : ℕ) → 1 ≤ m → m < 16 → shown.cell i p ≡ Some m → Fits n shown r p (record { metric = m; way = Here })
+  low_fits m one less e = made (record { metric = m; way = Here }) (one, less) (inl e)
+      (record { carried = λ on silent. absurd (not_small m less e silent); learned = λ off is. absurd (not_small m less e (inr is)) })
+
+  -- it has the prefix on its link
+  pub here_fits : IsLawful n → IsSilent (shown.cell i p) → Carries n own.link p → Fits n shown r p (record { metric = own.cost; way = Here })
+  here_fits plan silent carried =
+      let least_cost = plan.cost_least i r own.link own.cost leaf.has in
+      let most_cost = plan.cost_most i r own.link own.cost leaf.has in
+      made (record { metric = own.cost; way = Here }) (least_cost, omega (arith, most_cost)) (inr (carried, silent))
+      (record { carried = λ on is. (refl, (carried.0, inl (own.link, carried.1, (i, leaf.has)))); learned = λ off is. absurd (off carried) })
+
+  -- it shows nothing, or 16 where no offer is below 16
+  pub nowhere_fits : IsSilent (shown.cell i p) → (Carries n own.link p → ⊥) → (shown.cell i p ≡ Some 16 → IsLeastOffer n shown r p 16) →
+      Fits n shown r p (record { metric = 16; way = Unreachable })
+  nowhere_fits silent off least = made (record { metric = 16; way = Unreachable }) refl silent
+      (record { carried = λ on is. absurd (off on); learned = λ off' is. (least is, λ lt. absurd (omega (arith, lt)), λ is'. refl) })
+
+  -- it shows 16, and the least offer is below that
+  pub over_fits : IsLawful n → shown.cell i p ≡ Some 16 → (Carries n own.link p → ⊥) → (h : ℕ) → IsLeastOffer n shown r p h → h < 16 →
+      Fits n shown r p (record { metric = h; way = Over own.link })
+  over_fits plan e off h so less =
+      made (record { metric = h; way = Over own.link }) (at_least so.reached, less, (own.cost, (i, leaf.has)), off) (inl (refl, e))
+      (record { carried = λ on is. absurd (off on); learned = λ off' is. (so, λ lt. refl, λ is'. absurd (omega (arith, less, is'))) })
+    where
+      at_least : (h ≡ 16) ⊎ ((l s : ℕ) × Offers n shown r l s p h) → 1 ≤ h
+      at_least (inl is) = omega (arith, is)
+      at_least (inr o) =
+          let offer = o.2 in
+          let one = plan.cost_least offer.here.0 r o.0 offer.cost offer.here.1 in
+          omega (arith, offer.value, one)
+
+  a_route : IsLawful n → IsInRange n shown → (t : Route) × Fits n shown r p t
+  a_route plan range = go (shown.cell i p) refl (carries_or_not n own.link p)
+    where
+      so : LeastAt n.interfaces shown own p (length n.interfaces)
+      so = least_at n.interfaces shown own p (length n.interfaces)
+
+      least : IsLeastOffer n shown r p so.value
+      least = is_least so.value so.most so.below so.reached
+
+      go : (x : Option ℕ) → shown.cell i p ≡ x → Carries n own.link p ⊎ (Carries n own.link p → ⊥) → (t : Route) × Fits n shown r p t
+      go None e (inl carried) = (record { metric = own.cost; way = Here }, here_fits plan (inl e) carried)
+      go None e (inr off) = (record { metric = 16; way = Unreachable }, nowhere_fits (inl e) off (λ is. cc (e, is)))
+      go (Some m) e carries =
+          elim (cases_lt m 16) [
+            | inl less ↦ (record { metric = m; way = Here }, low_fits m (range i r own.link own.cost p m leaf.has e).0 less e)
+            | inr more ↦
+                let is : m ≡ 16 = omega (arith, more, (range i r own.link own.cost p m leaf.has e).1) in
+                let e' : shown.cell i p ≡ Some 16 = e ∙ ap Some is in
+                elim carries [
+                  | inl carried ↦ (record { metric = own.cost; way = Here }, here_fits plan (inr e') carried)
+                  | inr off ↦ elim (cases_lt so.value 16) [
+                    | inl less ↦ (record { metric = so.value; way = Over own.link }, over_fits plan e' off so.value least less)
+                    | inr big ↦
+                        let at : so.value ≡ 16 = omega (arith, big, so.most) in
+                        (record { metric = 16; way = Unreachable }, nowhere_fits (inr e') off (λ same. rw at at least))
+                  ]
+                ]
+          ]
+
+  -- hidden is told from its interface
+  pub hidden_at : IsHidden n shown r p → (Carries n own.link p × IsSilent (shown.cell i p)) ⊎ ((Carries n own.link p → ⊥) × (shown.cell i p ≡ Some 16))
+  hidden_at h =
+      let e : h.0 ≡ i = leaf.only h.0 h.1 h.2 h.3.has in
+      let at : IsInterface n i r h.1 h.2 = rw e at h.3.has in
+      let e' : h.1 ≡ own.link = (its_link n i r h.1 h.2 r own.link own.cost at leaf.has).1 in
+      rw e' at (rw e at h.4)
+
+  pub low_shows : (m : ℕ) → m < 16 → shown.cell i p ≡ Some m → IsHidden n shown r p → ⊥
+  low_shows m less e h = elim (hidden_at h) [ | inl x ↦ not_small m less e x.1 | inr x ↦ not_small m less e (inr x.1) ]
+
+  pub nowhere_shows : shown.cell i p ≡ None → (Carries n own.link p → ⊥) → IsHidden n shown r p → ⊥
+  nowhere_shows e off h = elim (hidden_at h) [ | inl x ↦ off x.0 | inr x ↦ cc (e, x.1) ]
+
+  -- the same route
+  same_route : (t u : Route) → t.metric ≡ u.metric → t.way ≡ u.way → t ≡ u
+  same_route t u e f = λ x. record { metric = e x; way = f x }
+
+  -- where it shows its route, only that one fits
+  pub low_one : (m : ℕ) → m < 16 → shown.cell i p ≡ Some m → (u : Route) → Tells n shown r p u → u ≡ record { metric = m; way = Here }
+  low_one m less e u tells =
+      let both = go u.way tells.way_fits (tells.as_told i own.link own.cost leaf.has) in
+      same_route u (record { metric = m; way = Here }) both.0 both.1
+    where
+      go : (w : Way) → FitsWay n r p u.metric w → MayShow n own.link p u.metric w (shown.cell i p) → (u.metric ≡ m) × (w ≡ Here)
+      go Unreachable f told = absurd (not_small m less e told)
+      go Here f (inl is) = (same_Some u.metric m (sym is ∙ e), refl)
+      go Here f (inr h) = absurd (not_small m less e h.1)
+      go (Over k) f (inl h) = absurd (not_small m less e (inr h.1))
+      go (Over k) f (inr h) =
+          let on = f.2 in
+          absurd (h.0 (only_one (λ x y. y ≡ own.link) refl on.1.0 k on.0 on.1.1))
+
+  -- and where it shows nothing on a link that does not carry the prefix
+  pub nowhere_one : shown.cell i p ≡ None → (Carries n own.link p → ⊥) → (u : Route) → Tells n shown r p u → u ≡ record { metric = 16; way = Unreachable }
+  nowhere_one e off u tells =
+      let both = go u.way tells.way_fits (tells.as_told i own.link own.cost leaf.has) in
+      same_route u (record { metric = 16; way = Unreachable }) both.0 both.1
+    where
+      go : (w : Way) → FitsWay n r p u.metric w → MayShow n own.link p u.metric w (shown.cell i p) → (u.metric ≡ 16) × (w ≡ Unreachable)
+      go Unreachable f told = (f, refl)
+      go Here f (inl is) = cc (e, is)
+      go Here f (inr h) = absurd (off h.0)
+      go (Over k) f (inl h) = cc (e, h.1)
+      go (Over k) f (inr h) = cc (e, h.1)
+
+-- each leaf has a route that fits
+pub leaf_route : (n : Network) (shown : Showing) (r i l c p : ℕ) → IsLeaf n r i l c → IsLawful n → IsInRange n shown → (t : Route) × Fits n shown r p t
+leaf_route n shown r i l c p leaf plan range =
+    a_route n shown r i p (record { router = r; link = l; address = leaf.has.address; cost = c }) refl leaf plan range
