@@ -4,6 +4,7 @@
 pub mod laws;
 mod lookup;
 mod offers;
+mod places;
 mod routes;
 mod verdict;
 mod way;

@@ -7,6 +7,16 @@ ghost use Rattle.rip_check.specs.Captured.{IsInRange, showing_of};
 
 use rip_plan::Plan;
 use rip_table::MetricTable;
+use rip_wire::Metric;
+
+/// The metric with this number.
+pub(crate) fn metric_of(number: u32) -> Metric
+    requires low { 1 ≤ number }
+    requires high { number ≤ 16 }
+    ensures { result ≡ number }
+{
+    Metric::new(number).unwrap()
+}
 
 /// What the interfaces of the plan show is a metric. This does nothing when it runs.
 pub(crate) fn in_range<T: MetricTable>(plan: &Plan, table: &T)
