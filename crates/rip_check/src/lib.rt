@@ -2,6 +2,7 @@
 #![tactic(auto)]
 
 pub mod laws;
+mod audit;
 mod lookup;
 mod offers;
 mod places;
@@ -9,5 +10,7 @@ mod routes;
 mod verdict;
 mod way;
 
-pub use verdict::{Place2, Unclear, Verdict};
+pub use audit::{judge, next_unsettled};
+pub use places::{equation, route};
+pub use verdict::{Place2, Route, Unclear, Verdict};
 pub use way::Way;

@@ -1,21 +1,23 @@
 //! Whether a place holds.
 
-ghost use Rattle.std.specs.Prelude.{◌≡◌, ℕ, ◌<◌, ◌≤◌, Decides, IfNone, IfSome, length};
+ghost use Rattle.std.specs.Prelude.{◌≡◌, ℕ, ◌<◌, ◌≤◌, ◌⊎◌, ◌↔◌, Decides, IfErr, IfNone, IfOk, IfSome, IsTrue, is_ok, length};
 ghost use Rattle.rip_plan.specs.Relations.{IsDirect};
 ghost use Rattle.rip_table.specs.State.{Fits as FitsPlan};
 ghost use Rattle.rip_check.specs.Captured.{showing_of};
 ghost use Rattle.rip_check.specs.Firsts.{IsReadable, IsReason};
 ghost use Rattle.rip_check.specs.Settled.{IsChoice, IsGiven};
-ghost use Rattle.rip_check.specs.Tables.{FitsWay, Offers};
-ghost use Rattle.rip_check.specs.Verdicts.{IsFailing, IsSound};
+ghost use Rattle.rip_check.specs.Tables.{Fits, FitsWay, Offers, Route as TableRoute};
+ghost use Rattle.rip_check.specs.Telling.{Tells};
+ghost use Rattle.rip_check.specs.Verdicts.{IsEquation, IsFailing, IsHidden, IsSound};
 
 use crate::lookup::{direct_cost, in_range, metric_of};
 use crate::offers::{best_over, least_choice};
 use crate::routes::read;
-use crate::verdict::{Place2, Unclear};
+use crate::verdict::{Place2, Route, Unclear};
 use crate::way::Way;
 use rip_plan::Plan;
 use rip_table::MetricTable;
+use rip_wire::Metric;
 
 /// Whether a router has a prefix itself at this cost.
 fn is_direct<T: MetricTable>(
@@ -139,4 +141,45 @@ pub(crate) fn unclear_at<T: MetricTable>(
         Ok(_) => None,
         Err(unclear) => Some(unclear),
     }
+}
+
+/// The route of a router for a prefix, both by their numbers, or why none can be read. At a place of a
+/// leaf that is hidden, several routes may fit what is shown; the answer is then the defined one.
+pub fn route<T: MetricTable>(
+    plan: &Plan,
+    table: &T,
+    router: usize,
+    prefix: usize,
+) -> Result<Route, Unclear>
+    requires fits { FitsPlan plan.now (T.state table.now) }
+    requires router { router < length plan.now.routers }
+    requires prefix { prefix < length (T.state table.now).prefixes }
+    ensures exact { IsTrue (is_ok result) ↔ IsReadable plan.now (showing_of (T.state table.now)) router prefix }
+    ensures fits { IfOk result (λ t. Fits plan.now (showing_of (T.state table.now)) router prefix (record { metric = t.metric; way = t.way })) }
+    ensures hidden { IfOk result (λ t. Decides t.hidden (IsHidden plan.now (showing_of (T.state table.now)) router prefix)) }
+    ensures one { IfOk result (λ t. IsTrue t.hidden ⊎ ((u : TableRoute) → Tells plan.now (showing_of (T.state table.now)) router prefix u → u ≡ record { metric = t.metric; way = t.way })) }
+    ensures unclear { IfErr result (λ u. IsReason plan.now (showing_of (T.state table.now)) router prefix u) }
+{
+    plan.lawful();
+    in_range(plan, table);
+    match read(plan, table, router, prefix) {
+        Err(unclear) => Err(unclear),
+        Ok(route) => Ok(Route {
+            metric: metric_of(route.metric),
+            way: route.way,
+            hidden: route.hidden,
+        }),
+    }
+}
+
+/// The least of 16, of the cost at which a router has a prefix itself, and of what its neighbours
+/// offer (RFC 2453, section 3.9.2).
+pub fn equation<T: MetricTable>(plan: &Plan, table: &T, router: usize, prefix: usize) -> Metric
+    requires fits { FitsPlan plan.now (T.state table.now) }
+    requires router { router < length plan.now.routers }
+    requires prefix { prefix < length (T.state table.now).prefixes }
+    ensures { IsEquation plan.now (showing_of (T.state table.now)) router prefix result }
+{
+    plan.lawful();
+    metric_of(least_choice(plan, table, router, prefix))
 }

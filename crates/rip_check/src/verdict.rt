@@ -3,6 +3,17 @@
 use crate::way::Way;
 use rip_wire::Metric;
 
+/// A router's route for a prefix.
+#[derive(Clone, Copy, Debug, PartialEq, Eq)]
+pub struct Route {
+    /// The metric, 16 where the router cannot reach the prefix.
+    pub metric: Metric,
+    /// Which way the router sends.
+    pub way: Way,
+    /// Whether the route is that of a leaf, which cannot show it.
+    pub hidden: bool,
+}
+
 /// Why a log shows no tables. Routers, links and prefixes are told by their numbers.
 #[derive(Clone, Copy, Debug, PartialEq, Eq)]
 pub enum Unclear {

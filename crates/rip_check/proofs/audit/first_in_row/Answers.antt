@@ -1,0 +1,27 @@
+use Rattle.std.proofs.Common.{◌≡◌, ℕ, ◌≤◌, ◌<◌, inl, inr, arith, length}
+use Rattle.std.proofs.lemmas.Bool.{cases_lt}
+use Rattle.rip_check.specs.Captured.{showing_of}
+use Rattle.rip_check.proofs.audit.first_in_row.Goals as goal
+
+pub returns-in-Some-clause-some : goal.returns-in-Some-clause-some
+returns-in-Some-clause-some g c =
+    let h = c.in-Some.ensures.some in
+    record {
+      router = h.0;
+      from_on = omega (arith, h.1, c.loop-prefix.auto.prefix);
+      below = omega (arith, h.1, c.loop-prefix-test.true, c.prefix_count-count.ensures);
+      before = λ q on lt. c.loop-prefix.invariant q on (omega (arith, lt, h.1));
+      values = h.2;
+    }
+
+pub loop-prefix-preserved : goal.loop-prefix-preserved
+loop-prefix-preserved g c = λ q on lt.
+    elim (cases_lt q c.loop-prefix.prefix) [
+      | inl less ↦ c.loop-prefix.invariant q on less
+      | inr big ↦
+          let e : q ≡ c.loop-prefix.prefix = omega arith in
+          rw e c.in_default.ensures.none
+    ]
+
+pub returns-clause-none : goal.returns-clause-none
+returns-clause-none g c = λ q on lt. c.loop-prefix.invariant q on (omega (arith, lt, c.loop-prefix-test.false, c.prefix_count-count.ensures))
