@@ -2,11 +2,10 @@
 
 ghost use Rattle.std.specs.Prelude.{◌≡◌, ◌↔◌, ℕ, ◌≤◌, ◌<◌, IfNone, IfSome, None, length};
 ghost use Rattle.rip_table.specs.State.{Fits as FitsPlan};
+ghost use Rattle.rip_check.specs.Audits.{EachPlaceHolds, HoldsAfter, IsKnownPlace, IsNextUnsettled, PacketsArrive, ShowsRightTables, ShowsTables, TroubleIs};
 ghost use Rattle.rip_check.specs.Captured.{IsHeard, showing_of};
-ghost use Rattle.rip_check.specs.Firsts.{AreFine, IsFirstTrouble, IsFirstUnclear, IsFirstUnheard, IsReadable};
-ghost use Rattle.rip_check.specs.Laws.{PlacesSettled, RightTablesShown};
-ghost use Rattle.rip_check.specs.Tables.{Shows, Tables};
-ghost use Rattle.rip_check.specs.Verdicts.{IsFirstFailing, IsKnown, IsRowFirst, IsSound, IsVerdict, TablesShown, WalksArrive};
+ghost use Rattle.rip_check.specs.Firsts.{AreFine, IsFirstUnclear, IsFirstUnheard, IsReadable};
+ghost use Rattle.rip_check.specs.Verdicts.{IsRowFirst, IsSound, IsVerdict};
 
 use crate::lookup::in_range;
 use crate::places::{failing, unclear_at};
@@ -57,8 +56,7 @@ fn first_in_row<T: MetricTable>(
     ensures some { IfSome result (λ f. IsRowFirst plan.now (length (T.state table.now).prefixes) (showing_of (T.state table.now)) router from f) }
     ensures none { IfNone result ((q : ℕ) → from ≤ q → q < length (T.state table.now).prefixes → IsSound plan.now (showing_of (T.state table.now)) router q) }
 {
-    let count = table.prefix_count();
-    for prefix in from..count {
+    for prefix in from..table.prefix_count() {
         if let Some(found) = failing(plan, table, router, prefix) {
             return Some(found);
         }
@@ -74,9 +72,9 @@ pub fn next_unsettled<T: MetricTable>(
     after: Option<(usize, usize)>,
 ) -> Option<Place2>
     requires fits { FitsPlan plan.now (T.state table.now) }
-    requires known { IsKnown (length (T.state table.now).prefixes) after }
-    ensures some { IfSome result (λ f. IsFirstFailing plan.now (length (T.state table.now).prefixes) (showing_of (T.state table.now)) after f) }
-    ensures none { IfNone result (AreFine plan.now (length (T.state table.now).prefixes) after (IsSound plan.now (showing_of (T.state table.now)))) }
+    requires known { IsKnownPlace (T.state table.now) after }
+    ensures some { IfSome result (λ place. IsNextUnsettled plan.now (T.state table.now) after place) }
+    ensures none { IfNone result (HoldsAfter plan.now (T.state table.now) after) }
 {
     let (row, start) = match after {
         None => (0, 0),
@@ -114,15 +112,17 @@ fn decide<T: MetricTable>(plan: &Plan, table: &T) -> Verdict
     }
 }
 
-/// The verdict on a table that fits a plan.
+/// The verdict on a table that fits a plan. Settled is answered exactly where the table shows tables
+/// that are right; then what follows them arrives. Unsettled names the first place that does not
+/// hold, by router and then by prefix, and Unclear the first reason why no tables are shown.
 pub fn judge<T: MetricTable>(plan: &Plan, table: &T) -> Verdict
     requires { FitsPlan plan.now (T.state table.now) }
-    ensures settled { (result ≡ Verdict.Settled) ↔ RightTablesShown plan.now (length (T.state table.now).prefixes) (showing_of (T.state table.now)) }
-    ensures places { (result ≡ Verdict.Settled) ↔ PlacesSettled plan.now (length (T.state table.now).prefixes) (showing_of (T.state table.now)) }
-    ensures unsettled { (f : Place2) → (result ≡ Verdict.Unsettled f) ↔ (TablesShown plan.now (length (T.state table.now).prefixes) (showing_of (T.state table.now)) × IsFirstFailing plan.now (length (T.state table.now).prefixes) (showing_of (T.state table.now)) None f) }
-    ensures unclear { (u : Unclear) → (result ≡ Verdict.Unclear u) ↔ IsFirstTrouble plan.now (length (T.state table.now).prefixes) (showing_of (T.state table.now)) u }
-    ensures no_tables { ((u : Unclear) × (result ≡ Verdict.Unclear u)) ↔ (TablesShown plan.now (length (T.state table.now).prefixes) (showing_of (T.state table.now)) → ⊥) }
-    ensures arrive { result ≡ Verdict.Settled → (tables : Tables) → Shows plan.now (length (T.state table.now).prefixes) (showing_of (T.state table.now)) tables → WalksArrive plan.now (length (T.state table.now).prefixes) (showing_of (T.state table.now)) tables }
+    ensures settled { (result ≡ Verdict.Settled) ↔ ShowsRightTables plan.now (T.state table.now) }
+    ensures places { (result ≡ Verdict.Settled) ↔ EachPlaceHolds plan.now (T.state table.now) }
+    ensures unsettled { (place : Place2) → (result ≡ Verdict.Unsettled place) ↔ (ShowsTables plan.now (T.state table.now) × IsNextUnsettled plan.now (T.state table.now) None place) }
+    ensures unclear { (trouble : Unclear) → (result ≡ Verdict.Unclear trouble) ↔ TroubleIs plan.now (T.state table.now) trouble }
+    ensures no_tables { ((trouble : Unclear) × (result ≡ Verdict.Unclear trouble)) ↔ (ShowsTables plan.now (T.state table.now) → ⊥) }
+    ensures arrive { result ≡ Verdict.Settled → PacketsArrive plan.now (T.state table.now) }
 {
     plan.lawful();
     in_range(plan, table);

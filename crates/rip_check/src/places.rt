@@ -3,12 +3,12 @@
 ghost use Rattle.std.specs.Prelude.{◌≡◌, ℕ, ◌<◌, ◌≤◌, ◌⊎◌, ◌↔◌, Decides, IfErr, IfNone, IfOk, IfSome, IsTrue, is_ok, length};
 ghost use Rattle.rip_plan.specs.Relations.{IsDirect};
 ghost use Rattle.rip_table.specs.State.{Fits as FitsPlan};
+ghost use Rattle.rip_check.specs.Audits.{CanRead, FitsShown, IsHiddenPlace, IsLeastChoice, IsOnlyRoute, ReasonIs};
 ghost use Rattle.rip_check.specs.Captured.{showing_of};
 ghost use Rattle.rip_check.specs.Firsts.{IsReadable, IsReason};
 ghost use Rattle.rip_check.specs.Settled.{IsChoice, IsGiven};
-ghost use Rattle.rip_check.specs.Tables.{Fits, FitsWay, Offers, Route as TableRoute};
-ghost use Rattle.rip_check.specs.Telling.{Tells};
-ghost use Rattle.rip_check.specs.Verdicts.{IsEquation, IsFailing, IsHidden, IsSound};
+ghost use Rattle.rip_check.specs.Tables.{FitsWay, Offers};
+ghost use Rattle.rip_check.specs.Verdicts.{IsFailing, IsSound};
 
 use crate::lookup::{direct_cost, in_range, metric_of};
 use crate::offers::{best_over, least_choice};
@@ -154,11 +154,11 @@ pub fn route<T: MetricTable>(
     requires fits { FitsPlan plan.now (T.state table.now) }
     requires router { router < length plan.now.routers }
     requires prefix { prefix < length (T.state table.now).prefixes }
-    ensures exact { IsTrue (is_ok result) ↔ IsReadable plan.now (showing_of (T.state table.now)) router prefix }
-    ensures fits { IfOk result (λ t. Fits plan.now (showing_of (T.state table.now)) router prefix (record { metric = t.metric; way = t.way })) }
-    ensures hidden { IfOk result (λ t. Decides t.hidden (IsHidden plan.now (showing_of (T.state table.now)) router prefix)) }
-    ensures one { IfOk result (λ t. IsTrue t.hidden ⊎ ((u : TableRoute) → Tells plan.now (showing_of (T.state table.now)) router prefix u → u ≡ record { metric = t.metric; way = t.way })) }
-    ensures unclear { IfErr result (λ u. IsReason plan.now (showing_of (T.state table.now)) router prefix u) }
+    ensures exact { IsTrue (is_ok result) ↔ CanRead plan.now (T.state table.now) router prefix }
+    ensures fits { IfOk result (λ t. FitsShown plan.now (T.state table.now) router prefix (record { metric = t.metric; way = t.way })) }
+    ensures one { IfOk result (λ t. IsTrue t.hidden ⊎ IsOnlyRoute plan.now (T.state table.now) router prefix (record { metric = t.metric; way = t.way })) }
+    ensures hidden { IfOk result (λ t. Decides t.hidden (IsHiddenPlace plan.now (T.state table.now) router prefix)) }
+    ensures unclear { IfErr result (λ trouble. ReasonIs plan.now (T.state table.now) router prefix trouble) }
 {
     plan.lawful();
     in_range(plan, table);
@@ -178,7 +178,7 @@ pub fn equation<T: MetricTable>(plan: &Plan, table: &T, router: usize, prefix: u
     requires fits { FitsPlan plan.now (T.state table.now) }
     requires router { router < length plan.now.routers }
     requires prefix { prefix < length (T.state table.now).prefixes }
-    ensures { IsEquation plan.now (showing_of (T.state table.now)) router prefix result }
+    ensures { IsLeastChoice plan.now (T.state table.now) router prefix result }
 {
     plan.lawful();
     metric_of(least_choice(plan, table, router, prefix))

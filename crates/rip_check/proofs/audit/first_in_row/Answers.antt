@@ -9,7 +9,7 @@ returns-in-Some-clause-some g c =
     record {
       router = h.0;
       from_on = omega (arith, h.1, c.loop-prefix.auto.prefix);
-      below = omega (arith, h.1, c.loop-prefix-test.true, c.prefix_count-count.ensures);
+      below = omega (arith, h.1, c.loop-prefix-test.true);
       before = λ q on lt. c.loop-prefix.invariant q on (omega (arith, lt, h.1));
       values = h.2;
     }
@@ -24,4 +24,4 @@ loop-prefix-preserved g c = λ q on lt.
     ]
 
 pub returns-clause-none : goal.returns-clause-none
-returns-clause-none g c = λ q on lt. c.loop-prefix.invariant q on (omega (arith, lt, c.loop-prefix-test.false, c.prefix_count-count.ensures))
+returns-clause-none g c = λ q on lt. c.loop-prefix.invariant q on (omega (arith, lt, c.loop-prefix-test.false))
