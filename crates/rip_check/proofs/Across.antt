@@ -9,6 +9,8 @@ use Rattle.rip_plan.specs.Network.{Network}
 use Rattle.rip_plan.specs.Relations.{IsLawful, IsInterface, HasCost, IsDirect}
 use Rattle.rip_check.specs.Settled.{IsChoice}
 use Rattle.rip_check.specs.Tables.{Showing, Offers}
+use Rattle.rip_check.specs.declared.links.TwoLeast.{TwoLeast}
+use Rattle.rip_check.specs.TwoLeasts.{IsSeen, IsTwoLeast}
 use Rattle.rip_check.proofs.Owned.{its_link, within}
 
 -- what interface j offers over a link of this cost
@@ -91,3 +93,52 @@ pub least_of : (n : Network) (shown : Showing) (r p best : ℕ) → best ≤ 16 
 least_of n shown r p best most direct offers v (inl e) = omega (arith, e, most)
 least_of n shown r p best most direct offers v (inr (inl d)) = direct v d
 least_of n shown r p best most direct offers v (inr (inr h)) = offers h.2.here.0 h.0 h.2.cost h.2.here.1 h.1 v h.2
+
+-- ---- the two least metrics of a link
+
+-- what counts for router r: the next one where the least is its own
+abbrev pub IsFor : TwoLeast → ℕ → ℕ → Type 0
+IsFor two r v = ((r ≡ two.by) × (v ≡ two.next)) ⊎ ((r ≡ two.by → ⊥) × (v ≡ two.least))
+
+module _ (n : Network) (shown : Showing) (r l p cost : ℕ) (two : TwoLeast) (own : HasCost n r l cost) (is : IsTwoLeast n shown l p (length n.interfaces) two) where
+  -- no neighbour shows less
+  pub told_below : IsLawful n → (v : ℕ) → IsFor two r v → (s w : ℕ) → (o : Offers n shown r l s p w) →
+      (v ≤ unwrap_or (shown.cell o.interface p) 16) × (w ≡ min 16 (cost + unwrap_or (shown.cell o.interface p) 16))
+  told_below plan v for s w o =
+      let number = plan.one_on_link o.here.0 own.0 r l o.cost cost o.here.1 own.1 in
+      let mine : IsInterface n own.0 r l o.cost = rw number at o.here.1 in
+      let same : o.cost ≡ cost = (its_link n own.0 r l o.cost r l cost mine own.1).2 in
+      let seen : IsSeen n shown l p o.interface s (unwrap_or (shown.cell o.interface p) 16) = record { cost = o.its_cost; its = o.there; value = refl } in
+      let lt = within n o.interface s l o.its_cost o.there in
+      (below for seen lt, rw same at o.value)
+    where
+      below : IsFor two r v → IsSeen n shown l p o.interface s (unwrap_or (shown.cell o.interface p) 16) → o.interface < length n.interfaces → v ≤ unwrap_or (shown.cell o.interface p) 16
+      below (inl h) seen lt = omega (arith, h.1, is.others o.interface s (unwrap_or (shown.cell o.interface p) 16) lt seen (λ e. o.neighbour.other (e ∙ sym h.0)))
+      below (inr h) seen lt = omega (arith, h.1, is.below o.interface s (unwrap_or (shown.cell o.interface p) 16) lt seen)
+
+  -- and one shows it, if it is below 16
+  pub told_offer : (v : ℕ) → IsFor two r v → v < 16 → (w : ℕ) → w ≡ min 16 (cost + v) → (s : ℕ) × Offers n shown r l s p w
+  told_offer v for small w e = go for
+    where
+      made : (j s : ℕ) → IsSeen n shown l p j s v → s ≢ r → (t : ℕ) × Offers n shown r l t p w
+      made j s seen other = (s, record {
+        neighbour = record { other = other; here = (cost, own); there = (seen.cost, (j, seen.its)) };
+        cost = cost;
+        here = own;
+        interface = j;
+        its_cost = seen.cost;
+        there = seen.its;
+        value = rw seen.value at e;
+      })
+
+      next_one : r ≡ two.by → v ≡ two.next → (two.next ≡ 16) ⊎ ((j s : ℕ) × IsSeen n shown l p j s two.next × (s ≢ two.by)) → (t : ℕ) × Offers n shown r l t p w
+      next_one mine is_next (inl big) = absurd (omega (arith, is_next, big, small))
+      next_one mine is_next (inr h) = made h.0 h.1 (rw is_next h.2) (λ same. h.3 (same ∙ mine))
+
+      least_one : (r ≡ two.by → ⊥) → v ≡ two.least → (two.least ≡ 16) ⊎ ((j : ℕ) × IsSeen n shown l p j two.by two.least) → (t : ℕ) × Offers n shown r l t p w
+      least_one not_mine is_least (inl big) = absurd (omega (arith, is_least, big, small))
+      least_one not_mine is_least (inr h) = made h.0 two.by (rw is_least h.1) (λ same. not_mine (sym same))
+
+      go : IsFor two r v → (t : ℕ) × Offers n shown r l t p w
+      go (inl h) = next_one h.0 h.1 is.next_is
+      go (inr h) = least_one h.0 h.1 is.least_is

@@ -5,8 +5,10 @@ ghost use Rattle.rip_table.specs.State.{Fits as FitsPlan};
 ghost use Rattle.rip_check.specs.Audits.{EachPlaceHolds, HoldsAfter, IsKnownPlace, IsNextUnsettled, PacketsArrive, ShowsRightTables, ShowsTables, TroubleIs};
 ghost use Rattle.rip_check.specs.Captured.{IsHeard, showing_of};
 ghost use Rattle.rip_check.specs.Firsts.{AreFine, IsFirstUnclear, IsFirstUnheard, IsReadable};
-ghost use Rattle.rip_check.specs.Verdicts.{IsRowFirst, IsSound, IsVerdict};
+ghost use Rattle.rip_check.specs.TwoLeasts.{AreTwoLeast};
+ghost use Rattle.rip_check.specs.Verdicts.{IsColumnFirst, IsFirstFailing, IsRowFirst, IsSound, IsVerdict};
 
+use crate::links::{NOTHING, TwoLeast, fill};
 use crate::lookup::in_range;
 use crate::places::{failing, unclear_at};
 use crate::verdict::{Place2, Unclear, Verdict};
@@ -57,7 +59,7 @@ fn first_in_row<T: MetricTable>(
     ensures none { IfNone result ((q : ℕ) → from ≤ q → q < length (T.state table.now).prefixes → IsSound plan.now (showing_of (T.state table.now)) router q) }
 {
     for prefix in from..table.prefix_count() {
-        if let Some(found) = failing(plan, table, router, prefix) {
+        if let Some(found) = failing(plan, table, &[], router, prefix) {
             return Some(found);
         }
     }
@@ -90,6 +92,50 @@ pub fn next_unsettled<T: MetricTable>(
     None
 }
 
+/// The first router before the bound whose place of this prefix does not hold.
+fn first_in_column<T: MetricTable>(
+    plan: &Plan,
+    table: &T,
+    links: &[TwoLeast],
+    prefix: usize,
+    bound: usize,
+) -> Option<Place2>
+    requires fits { FitsPlan plan.now (T.state table.now) }
+    requires prefix { prefix < length (T.state table.now).prefixes }
+    requires links { AreTwoLeast plan.now (showing_of (T.state table.now)) prefix links.now }
+    requires bound { bound ≤ length plan.now.routers }
+    ensures some { IfSome result (λ f. IsColumnFirst plan.now (showing_of (T.state table.now)) prefix bound f) }
+    ensures none { IfNone result ((s : ℕ) → s < bound → IsSound plan.now (showing_of (T.state table.now)) s prefix) }
+{
+    for router in 0..bound {
+        if let Some(found) = failing(plan, table, links, router, prefix) {
+            return Some(found);
+        }
+    }
+    None
+}
+
+/// The first place that does not hold, by router and then by prefix. It goes prefix by prefix, so that
+/// the two least metrics of each link are found once for all routers.
+fn first_unsettled<T: MetricTable>(plan: &Plan, table: &T) -> Option<Place2>
+    requires { FitsPlan plan.now (T.state table.now) }
+    ensures some { IfSome result (λ f. IsFirstFailing plan.now (length (T.state table.now).prefixes) (showing_of (T.state table.now)) None f) }
+    ensures none { IfNone result (AreFine plan.now (length (T.state table.now).prefixes) None (IsSound plan.now (showing_of (T.state table.now)))) }
+{
+    plan.lawful();
+    let mut links = [NOTHING; 512];
+    let mut bound = plan.routers();
+    let mut best = None;
+    for prefix in 0..table.prefix_count() {
+        fill(plan, table, prefix, &mut links);
+        if let Some(found) = first_in_column(plan, table, &links, prefix, bound) {
+            bound = found.router;
+            best = Some(found);
+        }
+    }
+    best
+}
+
 /// The verdict, by its definition.
 fn decide<T: MetricTable>(plan: &Plan, table: &T) -> Verdict
     requires { FitsPlan plan.now (T.state table.now) }
@@ -106,7 +152,7 @@ fn decide<T: MetricTable>(plan: &Plan, table: &T) -> Verdict
     if let Some(unclear) = first_unclear(plan, table) {
         return Verdict::Unclear(unclear);
     }
-    match next_unsettled(plan, table, None) {
+    match first_unsettled(plan, table) {
         Some(found) => Verdict::Unsettled(found),
         None => Verdict::Settled,
     }

@@ -3,6 +3,7 @@
 
 pub mod laws;
 mod audit;
+mod links;
 mod lookup;
 mod offers;
 mod places;

@@ -1,12 +1,15 @@
 //! What the neighbours of a router offer, and the least that it can choose from.
 
 ghost use Rattle.std.specs.Prelude.{◌≡◌, ℕ, ◌+◌, ◌<◌, ◌≤◌, ◌⊎◌, IfSome, length, min, unwrap_or};
-ghost use Rattle.rip_plan.specs.Relations.{HasCost, IsDirect};
+ghost use Rattle.rip_plan.specs.Network.{Network};
+ghost use Rattle.rip_plan.specs.Relations.{HasCost, IsDirect, IsLawful};
 ghost use Rattle.rip_table.specs.State.{Fits as FitsPlan};
 ghost use Rattle.rip_check.specs.Captured.{showing_of};
 ghost use Rattle.rip_check.specs.Settled.{IsChoice};
-ghost use Rattle.rip_check.specs.Tables.{Offers};
+ghost use Rattle.rip_check.specs.Tables.{Offers, Showing};
+ghost use Rattle.rip_check.specs.TwoLeasts.{AreTwoLeast, IsTwoLeast};
 
+use crate::links::TwoLeast;
 use crate::lookup::{direct_cost, shown_at};
 use rip_plan::{Interface, Plan};
 use rip_table::MetricTable;
@@ -23,8 +26,8 @@ fn offer_of(cost: u8, shown: Option<u32>) -> u32
     (u32::from(cost) + metric).min(16)
 }
 
-/// The least of `best` and of what the neighbours over the link of an interface offer.
-pub(crate) fn best_over<T: MetricTable>(
+/// The least of `best` and of what the neighbours over the link of an interface offer, by asking each.
+fn least_asked<T: MetricTable>(
     plan: &Plan,
     table: &T,
     own: Interface,
@@ -53,6 +56,48 @@ pub(crate) fn best_over<T: MetricTable>(
     least
 }
 
+/// The least of `best` and of what the neighbours over a link offer, by the two least metrics there.
+fn least_told(own: Interface, two: TwoLeast, best: u32) -> u32
+    requires { best ≤ 16 }
+    ensures at_most { result ≤ best }
+    ensures least { (n : Network) (shown : Showing) (s p v : ℕ) → IsLawful n → HasCost n own.router own.link own.cost → IsTwoLeast n shown own.link p (length n.interfaces) two → Offers n shown own.router own.link s p v → result ≤ v }
+    ensures chosen { (n : Network) (shown : Showing) (p : ℕ) → HasCost n own.router own.link own.cost → IsTwoLeast n shown own.link p (length n.interfaces) two → (result ≡ best) ⊎ ((s : ℕ) × Offers n shown own.router own.link s p result) }
+{
+    let shown = if own.router == two.by { two.next } else { two.least };
+    if shown < best {
+        return (u32::from(own.cost) + shown).min(best);
+    }
+    best
+}
+
+/// The least of `best` and of what the neighbours over the link of an interface offer. The list has
+/// the two least metrics of each link for the prefix, or ends before this link: then each neighbour is
+/// asked.
+pub(crate) fn best_over<T: MetricTable>(
+    plan: &Plan,
+    table: &T,
+    links: &[TwoLeast],
+    own: Interface,
+    prefix: usize,
+    best: u32,
+) -> u32
+    requires fits { FitsPlan plan.now (T.state table.now) }
+    requires prefix { prefix < length (T.state table.now).prefixes }
+    requires links { AreTwoLeast plan.now (showing_of (T.state table.now)) prefix links.now }
+    requires own { HasCost plan.now own.router own.link own.cost }
+    requires best { best ≤ 16 }
+    ensures at_most { result ≤ best }
+    ensures least { (s v : ℕ) → Offers plan.now (showing_of (T.state table.now)) own.router own.link s prefix v → result ≤ v }
+    ensures chosen { (result ≡ best) ⊎ ((s : ℕ) × Offers plan.now (showing_of (T.state table.now)) own.router own.link s prefix result) }
+{
+    plan.lawful();
+    if own.link < links.len() {
+        let two = links[own.link];
+        return least_told(own, two, best);
+    }
+    least_asked(plan, table, own, prefix, best)
+}
+
 /// The cost at which a router has a prefix itself, or 16.
 fn direct_or_16<T: MetricTable>(
     plan: &Plan,
@@ -77,12 +122,14 @@ fn direct_or_16<T: MetricTable>(
 pub(crate) fn least_choice<T: MetricTable>(
     plan: &Plan,
     table: &T,
+    links: &[TwoLeast],
     router: usize,
     prefix: usize,
 ) -> u32
     requires fits { FitsPlan plan.now (T.state table.now) }
     requires router { router < length plan.now.routers }
     requires prefix { prefix < length (T.state table.now).prefixes }
+    requires links { AreTwoLeast plan.now (showing_of (T.state table.now)) prefix links.now }
     ensures most { result ≤ 16 }
     ensures chosen { IsChoice plan.now (showing_of (T.state table.now)) router prefix result }
     ensures least { (v : ℕ) → IsChoice plan.now (showing_of (T.state table.now)) router prefix v → result ≤ v }
@@ -91,7 +138,7 @@ pub(crate) fn least_choice<T: MetricTable>(
     let numbers = plan.of_router(router);
     for i in numbers {
         let own = plan.interface(*i);
-        best = best_over(plan, table, own, prefix, best);
+        best = best_over(plan, table, links, own, prefix, best);
     }
     best
 }

@@ -8,8 +8,10 @@ ghost use Rattle.rip_check.specs.Captured.{showing_of};
 ghost use Rattle.rip_check.specs.Firsts.{IsReadable, IsReason};
 ghost use Rattle.rip_check.specs.Settled.{IsChoice, IsGiven};
 ghost use Rattle.rip_check.specs.Tables.{FitsWay, Offers};
+ghost use Rattle.rip_check.specs.TwoLeasts.{AreTwoLeast};
 ghost use Rattle.rip_check.specs.Verdicts.{IsFailing, IsSound};
 
+use crate::links::TwoLeast;
 use crate::lookup::{direct_cost, in_range, metric_of};
 use crate::offers::{best_over, least_choice};
 use crate::routes::read;
@@ -41,6 +43,7 @@ fn is_direct<T: MetricTable>(
 fn is_offered<T: MetricTable>(
     plan: &Plan,
     table: &T,
+    links: &[TwoLeast],
     router: usize,
     prefix: usize,
     metric: u32,
@@ -49,6 +52,7 @@ fn is_offered<T: MetricTable>(
     requires fits { FitsPlan plan.now (T.state table.now) }
     requires router { router < length plan.now.routers }
     requires prefix { prefix < length (T.state table.now).prefixes }
+    requires links { AreTwoLeast plan.now (showing_of (T.state table.now)) prefix links.now }
     requires small { metric < 16 }
     requires least { (v : ℕ) → IsChoice plan.now (showing_of (T.state table.now)) router prefix v → metric ≤ v }
     ensures { Decides result ((s : ℕ) × Offers plan.now (showing_of (T.state table.now)) router link s prefix metric) }
@@ -57,7 +61,7 @@ fn is_offered<T: MetricTable>(
     for i in numbers {
         let own = plan.interface(*i);
         if own.link == link {
-            return best_over(plan, table, own, prefix, 16) == metric;
+            return best_over(plan, table, links, own, prefix, 16) == metric;
         }
     }
     false
@@ -67,6 +71,7 @@ fn is_offered<T: MetricTable>(
 fn is_given<T: MetricTable>(
     plan: &Plan,
     table: &T,
+    links: &[TwoLeast],
     router: usize,
     prefix: usize,
     metric: u32,
@@ -75,6 +80,7 @@ fn is_given<T: MetricTable>(
     requires fits { FitsPlan plan.now (T.state table.now) }
     requires router { router < length plan.now.routers }
     requires prefix { prefix < length (T.state table.now).prefixes }
+    requires links { AreTwoLeast plan.now (showing_of (T.state table.now)) prefix links.now }
     requires way { FitsWay plan.now router prefix metric way }
     requires least { (v : ℕ) → IsChoice plan.now (showing_of (T.state table.now)) router prefix v → metric ≤ v }
     ensures { Decides result (IsGiven plan.now (showing_of (T.state table.now)) router prefix metric way) }
@@ -82,7 +88,7 @@ fn is_given<T: MetricTable>(
     match way {
         Way::Unreachable => true,
         Way::Here => is_direct(plan, table, router, prefix, metric),
-        Way::Over(link) => is_offered(plan, table, router, prefix, metric, link),
+        Way::Over(link) => is_offered(plan, table, links, router, prefix, metric, link),
     }
 }
 
@@ -90,23 +96,25 @@ fn is_given<T: MetricTable>(
 pub(crate) fn failing<T: MetricTable>(
     plan: &Plan,
     table: &T,
+    links: &[TwoLeast],
     router: usize,
     prefix: usize,
 ) -> Option<Place2>
     requires fits { FitsPlan plan.now (T.state table.now) }
     requires router { router < length plan.now.routers }
     requires prefix { prefix < length (T.state table.now).prefixes }
+    requires links { AreTwoLeast plan.now (showing_of (T.state table.now)) prefix links.now }
     ensures some { IfSome result (λ f. (f.router ≡ router) × (f.prefix ≡ prefix) × IsFailing plan.now (showing_of (T.state table.now)) f) }
     ensures none { IfNone result (IsSound plan.now (showing_of (T.state table.now)) router prefix) }
 {
     plan.lawful();
     in_range(plan, table);
-    match read(plan, table, router, prefix) {
+    match read(plan, table, links, router, prefix) {
         Err(_) => None,
         Ok(route) => {
-            let equation = least_choice(plan, table, router, prefix);
+            let equation = least_choice(plan, table, links, router, prefix);
             if route.metric == equation
-                && is_given(plan, table, router, prefix, route.metric, route.way)
+                && is_given(plan, table, links, router, prefix, route.metric, route.way)
             {
                 return None;
             }
@@ -137,7 +145,7 @@ pub(crate) fn unclear_at<T: MetricTable>(
 {
     plan.lawful();
     in_range(plan, table);
-    match read(plan, table, router, prefix) {
+    match read(plan, table, &[], router, prefix) {
         Ok(_) => None,
         Err(unclear) => Some(unclear),
     }
@@ -162,7 +170,7 @@ pub fn route<T: MetricTable>(
 {
     plan.lawful();
     in_range(plan, table);
-    match read(plan, table, router, prefix) {
+    match read(plan, table, &[], router, prefix) {
         Err(unclear) => Err(unclear),
         Ok(route) => Ok(Route {
             metric: metric_of(route.metric),
@@ -181,5 +189,5 @@ pub fn equation<T: MetricTable>(plan: &Plan, table: &T, router: usize, prefix: u
     ensures { IsLeastChoice plan.now (T.state table.now) router prefix result }
 {
     plan.lawful();
-    metric_of(least_choice(plan, table, router, prefix))
+    metric_of(least_choice(plan, table, &[], router, prefix))
 }

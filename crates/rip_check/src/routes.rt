@@ -7,8 +7,10 @@ ghost use Rattle.rip_check.specs.Captured.{showing_of};
 ghost use Rattle.rip_check.specs.Firsts.{IsFirstGap, IsReadable, IsReason, IsShownBelow, ShowsEach};
 ghost use Rattle.rip_check.specs.Tables.{Fits, IsSilent, MayShow, Route as TableRoute};
 ghost use Rattle.rip_check.specs.Telling.{IsAsTold, IsGap, IsMute, IsSpoken, Tells};
+ghost use Rattle.rip_check.specs.TwoLeasts.{AreTwoLeast};
 ghost use Rattle.rip_check.specs.Verdicts.{IsHidden};
 
+use crate::links::TwoLeast;
 use crate::lookup::{in_range, is_carried, shown_at};
 use crate::offers::best_over;
 use crate::verdict::Unclear;
@@ -277,6 +279,7 @@ fn shown_or_0<T: MetricTable>(plan: &Plan, table: &T, interface: usize, prefix: 
 fn leaf_route<T: MetricTable>(
     plan: &Plan,
     table: &T,
+    links: &[TwoLeast],
     router: usize,
     prefix: usize,
     i: usize,
@@ -284,6 +287,7 @@ fn leaf_route<T: MetricTable>(
 ) -> Reading
     requires fits { FitsPlan plan.now (T.state table.now) }
     requires prefix { prefix < length (T.state table.now).prefixes }
+    requires links { AreTwoLeast plan.now (showing_of (T.state table.now)) prefix links.now }
     requires mine { own.router ≡ router }
     requires leaf { IsLeaf plan.now router i own.link own.cost }
     ensures most { result.metric ≤ 16 }
@@ -316,7 +320,7 @@ fn leaf_route<T: MetricTable>(
         };
     }
     let link = own.link;
-    let least = best_over(plan, table, own, prefix, 16);
+    let least = best_over(plan, table, links, own, prefix, 16);
     let way = if least < 16 { Way::Over(link) } else { Way::Unreachable };
     Reading {
         metric: least,
@@ -329,12 +333,14 @@ fn leaf_route<T: MetricTable>(
 pub(crate) fn read<T: MetricTable>(
     plan: &Plan,
     table: &T,
+    links: &[TwoLeast],
     router: usize,
     prefix: usize,
 ) -> Result<Reading, Unclear>
     requires fits { FitsPlan plan.now (T.state table.now) }
     requires router { router < length plan.now.routers }
     requires prefix { prefix < length (T.state table.now).prefixes }
+    requires links { AreTwoLeast plan.now (showing_of (T.state table.now)) prefix links.now }
     ensures most { IfOk result (λ t. t.metric ≤ 16) }
     ensures fits { IfOk result (λ t. Fits plan.now (showing_of (T.state table.now)) router prefix (record { metric = t.metric; way = t.way })) }
     ensures hidden { IfOk result (λ t. Decides t.hidden (IsHidden plan.now (showing_of (T.state table.now)) router prefix)) }
@@ -345,7 +351,7 @@ pub(crate) fn read<T: MetricTable>(
     in_range(plan, table);
     if plan.leaf(router) {
         let i = plan.of_router(router)[0];
-        return Ok(leaf_route(plan, table, router, prefix, i, plan.interface(i)));
+        return Ok(leaf_route(plan, table, links, router, prefix, i, plan.interface(i)));
     }
     match read_route(plan, table, router, prefix) {
         Some(told) => Ok(Reading {

@@ -9,11 +9,11 @@ returns-in-Some-first_unclear g c =
     trouble_from c.args.plan.now (length (g.T.MetricTable.state c.args.table.now).prefixes) (showing_of (g.T.MetricTable.state c.args.table.now)) c.in-Some-first_unclear.unclear
     c.in_default.ensures.none c.in-Some-first_unclear.ensures.some
 
-pub returns-in-Some-next_unsettled : goal.returns-in-Some-next_unsettled
-returns-in-Some-next_unsettled g c = (
+pub returns-in-Some-first_unsettled : goal.returns-in-Some-first_unsettled
+returns-in-Some-first_unsettled g c = (
   tables_shown c.args.plan.now c.lawful.ensures (showing_of (g.T.MetricTable.state c.args.table.now)) c.in_range.ensures (length (g.T.MetricTable.state c.args.table.now).prefixes)
       c.in_default.ensures.none c.in_default-first_unclear.ensures.none,
-  c.in-Some-next_unsettled.ensures.some,
+  c.in-Some-first_unsettled.ensures.some,
 )
 
 pub returns-in-None : goal.returns-in-None

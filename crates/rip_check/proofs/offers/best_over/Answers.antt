@@ -1,56 +1,17 @@
-use Rattle.std.proofs.Common.{◌≡◌, ◌≢◌, ℕ, ◌<◌, ◌≤◌, inl, inr, get_or, refl, sym, ◌∙◌, ap, arith}
+use Rattle.std.proofs.Common.{◌≡◌, ◌<◌, slice_get, get_or}
+use Rattle.std.proofs.lemmas.Option.{slice_get-get_or}
+use Rattle.rip_check.specs.declared.links.TwoLeast.{TwoLeast}
 use Rattle.rip_check.specs.Captured.{showing_of}
-use Rattle.rip_check.proofs.Across.{heard_from, across_number, one_more, is_offer, below_offers}
 use Rattle.rip_check.proofs.offers.best_over.Goals as goal
-use Rattle.rip_check.proofs.offers.best_over.Goals.{then-across-own+then-offer-least, then-across-own+else-offer-least, else-across-own}
 
-pub on_link-numbers-requires : goal.on_link-numbers-requires
-on_link-numbers-requires g c = c.lawful.ensures.link_known c.requires.own.0 c.args.own.router c.args.own.link c.args.own.cost c.requires.own.1
+pub returns-then-own-links-clause-least : goal.returns-then-own-links-clause-least
+returns-then-own-links-clause-least g c = λ s v o.
+    let blank : TwoLeast = record { least = 0; by = 0; next = 0 } in
+    let is = c.requires.links c.args.own.link _ (slice_get-get_or c.args.links.now c.args.own.link blank c.if-own-links.true) in
+    c.least_told.ensures.least c.args.plan.now (showing_of (g.T.MetricTable.state c.args.table.now)) s c.args.prefix v c.lawful.ensures c.requires.own is o
 
-pub interface-across-requires : goal.interface-across-requires
-interface-across-requires g c = across_number c.args.plan.now c.args.own.link c.on_link-numbers.result.now c.on_link-numbers.ensures.exact c.loop-j.j-index c.loop-j-test.true
-
-pub shown_at-requires-clause-interface : goal.shown_at-requires-clause-interface
-shown_at-requires-clause-interface g c = across_number c.args.plan.now c.args.own.link c.on_link-numbers.result.now c.on_link-numbers.ensures.exact c.loop-j.j-index c.loop-j-test.true
-
-pub loop-j-preserved : goal.loop-j-preserved
-loop-j-preserved g c =
-    let n = c.args.plan.now in
-    let own = c.args.own in
-    let shown = showing_of (g.T.MetricTable.state c.args.table.now) in
-    let numbers = c.on_link-numbers.result.now in
-    let exact = c.on_link-numbers.ensures.exact in
-    let k = c.loop-j.j-index in
-    let x = c.interface-across.result in
-    elim c.if-across-own.branch [
-      | then-across-own+then-offer-least w ↦
-          let e : w.offer_of-offer.result ≡ heard_from shown own.cost (get_or numbers k 0) c.args.prefix = rw w.shown_at.ensures.cell at w.offer_of-offer.ensures in
-          rw w.least-is (record {
-            at_most = omega (arith, w.if-offer-least.true, c.loop-j.invariant.at_most);
-            below = one_more n own.link numbers exact shown own.router own.cost c.args.prefix k c.loop-j.least w.offer_of-offer.result x c.interface-across.ensures.is
-                (omega (arith, w.if-offer-least.true)) (λ other. omega (arith, e)) c.loop-j.invariant.below;
-            chosen = inr (is_offer n own.link numbers exact shown own.router own.cost c.args.prefix k x w.offer_of-offer.result c.loop-j-test.true c.interface-across.ensures.is
-                w.if-across-own.true c.requires.own e);
-          })
-      | then-across-own+else-offer-least w ↦
-          let e : w.offer_of-offer.result ≡ heard_from shown own.cost (get_or numbers k 0) c.args.prefix = rw w.shown_at.ensures.cell at w.offer_of-offer.ensures in
-          rw w.least-is (record {
-            at_most = c.loop-j.invariant.at_most;
-            below = one_more n own.link numbers exact shown own.router own.cost c.args.prefix k c.loop-j.least c.loop-j.least x c.interface-across.ensures.is
-                (omega arith) (λ other. omega (arith, e, w.if-offer-least.false)) c.loop-j.invariant.below;
-            chosen = c.loop-j.invariant.chosen;
-          })
-      | else-across-own w ↦
-          rw w.least-is (record {
-            at_most = c.loop-j.invariant.at_most;
-            below = one_more n own.link numbers exact shown own.router own.cost c.args.prefix k c.loop-j.least c.loop-j.least x c.interface-across.ensures.is
-                (omega arith) (λ other. absurd (other w.if-across-own.false)) c.loop-j.invariant.below;
-            chosen = c.loop-j.invariant.chosen;
-          })
-    ]
-
-pub returns-clause-least : goal.returns-clause-least
-returns-clause-least g c =
-    let own = c.args.own in
-    below_offers c.args.plan.now own.link c.on_link-numbers.result.now c.on_link-numbers.ensures.exact (showing_of (g.T.MetricTable.state c.args.table.now)) own.router own.cost c.args.prefix
-    c.lawful.ensures c.loop-j.j-index c.loop-j.least c.loop-j-test.false c.requires.own c.loop-j.invariant.below
+pub returns-then-own-links-clause-chosen : goal.returns-then-own-links-clause-chosen
+returns-then-own-links-clause-chosen g c =
+    let blank : TwoLeast = record { least = 0; by = 0; next = 0 } in
+    let is = c.requires.links c.args.own.link _ (slice_get-get_or c.args.links.now c.args.own.link blank c.if-own-links.true) in
+    c.least_told.ensures.chosen c.args.plan.now (showing_of (g.T.MetricTable.state c.args.table.now)) c.args.prefix c.requires.own is
