@@ -59,16 +59,18 @@ module _ (n : Network) (l : ℕ) (numbers : List ℕ) (exact : (i : ℕ) → Con
     pub is_offer : (k : ℕ) (x : Interface) (v : ℕ) → k < length numbers → IsInterface n (get_or numbers k 0) x.router x.link x.cost → x.router ≢ r → HasCost n r l cost →
         v ≡ heard_from shown cost (get_or numbers k 0) p → (s : ℕ) × Offers n shown r l s p v
     is_offer k x v lt is other own e =
-        let there = across_own k x lt is in
-        (x.router, record {
-          neighbour = record { other = other; here = (cost, own); there = (x.cost, (get_or numbers k 0, there)) };
-          cost = cost;
-          here = own;
-          interface = get_or numbers k 0;
-          its_cost = x.cost;
-          there = there;
-          value = e;
-        })
+        let there = across_own k x lt is in (
+          x.router,
+          record {
+            neighbour = record { other = other; here = (cost, own); there = (x.cost, (get_or numbers k 0, there)) };
+            cost = cost;
+            here = own;
+            interface = get_or numbers k 0;
+            its_cost = x.cost;
+            there = there;
+            value = e;
+          },
+        )
 
     -- and there are no other offers
     pub below_offers : IsLawful n → (k best : ℕ) → length numbers ≤ k → HasCost n r l cost → IsBelowBefore best k → (s v : ℕ) → Offers n shown r l s p v → best ≤ v
@@ -121,15 +123,18 @@ module _ (n : Network) (shown : Showing) (r l p cost : ℕ) (two : TwoLeast) (ow
   told_offer v for small w e = go for
     where
       made : (j s : ℕ) → IsSeen n shown l p j s v → s ≢ r → (t : ℕ) × Offers n shown r l t p w
-      made j s seen other = (s, record {
-        neighbour = record { other = other; here = (cost, own); there = (seen.cost, (j, seen.its)) };
-        cost = cost;
-        here = own;
-        interface = j;
-        its_cost = seen.cost;
-        there = seen.its;
-        value = rw seen.value at e;
-      })
+      made j s seen other = (
+        s,
+        record {
+          neighbour = record { other = other; here = (cost, own); there = (seen.cost, (j, seen.its)) };
+          cost = cost;
+          here = own;
+          interface = j;
+          its_cost = seen.cost;
+          there = seen.its;
+          value = rw seen.value at e;
+        },
+      )
 
       next_one : r ≡ two.by → v ≡ two.next → (two.next ≡ 16) ⊎ ((j s : ℕ) × IsSeen n shown l p j s two.next × (s ≢ two.by)) → (t : ℕ) × Offers n shown r l t p w
       next_one mine is_next (inl big) = absurd (omega (arith, is_next, big, small))

@@ -82,8 +82,8 @@ module _ (xs : List Interface) (shown : Showing) (own : Interface) (p : ℕ) whe
               | inr more ↦ keep (λ x listed a. more)
             ]
             | inr not ↦ keep (λ x listed a.
-              let same : x ≡ y = same_Some x y (sym listed ∙ e) in
-              absurd (not (rw same at a)))
+                let same : x ≡ y = same_Some x y (sym listed ∙ e) in
+                absurd (not (rw same at a)))
           ]
 
 module _ (n : Network) (shown : Showing) (r i p : ℕ) (own : Interface) (mine : own.router ≡ r) (leaf : IsLeaf n r i own.link own.cost) where
@@ -104,15 +104,19 @@ module _ (n : Network) (shown : Showing) (r i p : ℕ) (own : Interface) (mine :
       reached (inr o) =
           let there : IsInterface n o.number o.its.router o.its.link o.its.cost = record { address = o.its.address; listed = o.listed } in
           let there' : IsInterface n o.number o.its.router own.link o.its.cost = rw o.across.link at there in
-          inr (own.link, o.its.router, record {
-            neighbour = record { other = λ e. o.across.other (e ∙ sym mine); here = (own.cost, (i, leaf.has)); there = (o.its.cost, (o.number, there')) };
-            cost = own.cost;
-            here = (i, leaf.has);
-            interface = o.number;
-            its_cost = o.its.cost;
-            there = there';
-            value = o.value;
-          })
+          inr (
+            own.link,
+            o.its.router,
+            record {
+              neighbour = record { other = λ e. o.across.other (e ∙ sym mine); here = (own.cost, (i, leaf.has)); there = (o.its.cost, (o.number, there')) };
+              cost = own.cost;
+              here = (i, leaf.has);
+              interface = o.number;
+              its_cost = o.its.cost;
+              there = there';
+              value = o.value;
+            },
+          )
 
       least : (k s w : ℕ) → Offers n shown r k s p w → v ≤ w
       least k s w o =
@@ -223,10 +227,10 @@ module _ (n : Network) (shown : Showing) (r i p : ℕ) (own : Interface) (mine :
       rw e' at (rw e at h.4)
 
   pub low_shows : (m : ℕ) → m < 16 → shown.cell i p ≡ Some m → IsHidden n shown r p → ⊥
-  low_shows m less e h = elim (hidden_at h) [ | inl x ↦ not_small m less e x.1 | inr x ↦ not_small m less e (inr x.1) ]
+  low_shows m less e h = elim (hidden_at h) [ inl x ↦ not_small m less e x.1 | inr x ↦ not_small m less e (inr x.1) ]
 
   pub nowhere_shows : shown.cell i p ≡ None → (Carries n own.link p → ⊥) → IsHidden n shown r p → ⊥
-  nowhere_shows e off h = elim (hidden_at h) [ | inl x ↦ off x.0 | inr x ↦ cc (e, x.1) ]
+  nowhere_shows e off h = elim (hidden_at h) [ inl x ↦ off x.0 | inr x ↦ cc (e, x.1) ]
 
   -- the same route
   same_route : (t u : Route) → t.metric ≡ u.metric → t.way ≡ u.way → t ≡ u

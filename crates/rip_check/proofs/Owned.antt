@@ -87,10 +87,10 @@ module _ (n : Network) (r : ℕ) (numbers : List ℕ) (exact : (i : ℕ) → Con
   all_before ascending Q k lt all i l c less its =
       let h = at_place i l c its in
       let sooner : h.0 < k =
-          elim (cases_lt h.0 k) [
-            | inl before ↦ before
-            | inr after ↦ absurd (omega (arith, ascends numbers ascending k h.0 after h.1, h.2, less))
-          ] in
+      elim (cases_lt h.0 k) [
+        | inl before ↦ before
+        | inr after ↦ absurd (omega (arith, ascends numbers ascending k h.0 after h.1, h.2, less))
+      ] in
       let its' : IsInterface n (get_or numbers h.0 0) r l c = rw h.2 its in
       let q : Q (get_or numbers h.0 0) l = all h.0 l c sooner its' in
       rw h.2 at q

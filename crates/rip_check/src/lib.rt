@@ -1,8 +1,8 @@
 //! Whether the tables of a RIP-2 network are right.
 #![tactic(auto)]
 
-pub mod laws;
 mod audit;
+pub mod laws;
 mod links;
 mod lookup;
 mod offers;

@@ -46,7 +46,11 @@ fn with(two: TwoLeast, router: usize, metric: u32) -> TwoLeast
 {
     if router == two.by {
         return TwoLeast {
-            least: if metric < two.least { metric } else { two.least },
+            least: if metric < two.least {
+                metric
+            } else {
+                two.least
+            },
             by: two.by,
             next: two.next,
         };

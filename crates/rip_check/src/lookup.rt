@@ -63,12 +63,7 @@ pub(crate) fn direct_cost<T: MetricTable>(
 }
 
 /// Whether a link is a place of a prefix.
-pub(crate) fn is_carried<T: MetricTable>(
-    plan: &Plan,
-    table: &T,
-    link: usize,
-    prefix: usize,
-) -> bool
+pub(crate) fn is_carried<T: MetricTable>(plan: &Plan, table: &T, link: usize, prefix: usize) -> bool
     requires fits { FitsPlan plan.now (T.state table.now) }
     requires prefix { prefix < length (T.state table.now).prefixes }
     ensures { Decides result (Carries plan.now link prefix) }

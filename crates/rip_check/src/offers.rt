@@ -63,7 +63,11 @@ fn least_told(own: Interface, two: TwoLeast, best: u32) -> u32
     ensures least { (n : Network) (shown : Showing) (s p v : ℕ) → IsLawful n → HasCost n own.router own.link own.cost → IsTwoLeast n shown own.link p (length n.interfaces) two → Offers n shown own.router own.link s p v → result ≤ v }
     ensures chosen { (n : Network) (shown : Showing) (p : ℕ) → HasCost n own.router own.link own.cost → IsTwoLeast n shown own.link p (length n.interfaces) two → (result ≡ best) ⊎ ((s : ℕ) × Offers n shown own.router own.link s p result) }
 {
-    let shown = if own.router == two.by { two.next } else { two.least };
+    let shown = if own.router == two.by {
+        two.next
+    } else {
+        two.least
+    };
     if shown < best {
         return (u32::from(own.cost) + shown).min(best);
     }
@@ -99,12 +103,7 @@ pub(crate) fn best_over<T: MetricTable>(
 }
 
 /// The cost at which a router has a prefix itself, or 16.
-fn direct_or_16<T: MetricTable>(
-    plan: &Plan,
-    table: &T,
-    router: usize,
-    prefix: usize,
-) -> u32
+fn direct_or_16<T: MetricTable>(plan: &Plan, table: &T, router: usize, prefix: usize) -> u32
     requires fits { FitsPlan plan.now (T.state table.now) }
     requires prefix { prefix < length (T.state table.now).prefixes }
     ensures most { result ≤ 16 }

@@ -130,7 +130,7 @@ pub(crate) fn failing<T: MetricTable>(
     }
 }
 
-/// Why no route can be read at a place.
+/// Why no route can be read at a place. A leaf always has one.
 pub(crate) fn unclear_at<T: MetricTable>(
     plan: &Plan,
     table: &T,
@@ -145,6 +145,9 @@ pub(crate) fn unclear_at<T: MetricTable>(
 {
     plan.lawful();
     in_range(plan, table);
+    if plan.leaf(router) {
+        return None;
+    }
     match read(plan, table, &[], router, prefix) {
         Ok(_) => None,
         Err(unclear) => Some(unclear),

@@ -72,12 +72,7 @@ fn is_silent(shown: Option<u32>) -> bool
 }
 
 /// The first link of a router that does not carry the prefix, and on which it shows nothing or 16.
-fn first_gap<T: MetricTable>(
-    plan: &Plan,
-    table: &T,
-    router: usize,
-    prefix: usize,
-) -> Option<usize>
+fn first_gap<T: MetricTable>(plan: &Plan, table: &T, router: usize, prefix: usize) -> Option<usize>
     requires fits { FitsPlan plan.now (T.state table.now) }
     requires router { router < length plan.now.routers }
     requires prefix { prefix < length (T.state table.now).prefixes }
@@ -321,7 +316,11 @@ fn leaf_route<T: MetricTable>(
     }
     let link = own.link;
     let least = best_over(plan, table, links, own, prefix, 16);
-    let way = if least < 16 { Way::Over(link) } else { Way::Unreachable };
+    let way = if least < 16 {
+        Way::Over(link)
+    } else {
+        Way::Unreachable
+    };
     Reading {
         metric: least,
         way,

@@ -39,4 +39,4 @@ returns-clause-least g c =
     let shown = showing_of (g.T.MetricTable.state c.args.table.now) in
     least_of n shown c.args.router c.args.prefix c.loop-i.best c.loop-i.invariant.most c.loop-i.invariant.direct
     (every n c.args.router c.of_router-numbers.result.now c.of_router-numbers.ensures.exact (λ j m. (s v : ℕ) → Offers n shown c.args.router m s c.args.prefix v → c.loop-i.best ≤ v)
-        c.loop-i.i-index c.loop-i-test.false c.loop-i.invariant.below)
+    c.loop-i.i-index c.loop-i-test.false c.loop-i.invariant.below)
