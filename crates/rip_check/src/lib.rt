@@ -15,3 +15,6 @@ pub use audit::{judge, next_unsettled};
 pub use places::{equation, route};
 pub use verdict::{Place2, Route, Unclear, Verdict};
 pub use way::Way;
+
+#[cfg(test)]
+mod tests;
