@@ -1,10 +1,9 @@
 -- A prefix by its number in a table, and by its number in the plan.
-use Rattle.std.proofs.Common.{◌≡◌, ℕ, ◌+◌, ◌<◌, ◌≤◌, ◌⊎◌, inl, inr, Option, None, Some, List, [], ◌∷◌, ◌++◌, length, slice_get, refl, sym, ◌∙◌, ap, arith, zero, suc, option_and_then}
-use Rattle.std.proofs.lemmas.Bool.{cases_lt}
-use Rattle.std.proofs.lemmas.Option.{same_Some, slice_get_within}
+use Rattle.std.proofs.Common.{◌≡◌, ℕ, ◌<◌, ◌≤◌, inl, inr, Option, None, Some, List, [], ◌∷◌, ◌++◌, length, slice_get, arith, zero, suc, option_and_then}
+use Rattle.std.proofs.lemmas.Option.{slice_get_within}
 use Rattle.rip_wire.specs.Prefix.{Block}
 use Rattle.rip_plan.specs.Network.{Network}
-use Rattle.rip_plan.specs.Relations.{IsLawful, IsPrefix, IsInterface, IsDirect, Touches}
+use Rattle.rip_plan.specs.Relations.{IsLawful, IsPrefix, IsDirect, Touches}
 use Rattle.rip_plan.specs.declared.parts.Seat.TheVariants.{Link, Own}
 use Rattle.rip_table.specs.State.{State, Fits, IsState}
 use Rattle.rip_check.specs.Captured.{IsInRange, showing_of}

@@ -1,11 +1,11 @@
 -- First places, prefix by prefix.
-use Rattle.std.proofs.Common.{◌≡◌, ℕ, ◌+◌, ◌<◌, ◌≤◌, ◌⊎◌, inl, inr, Option, None, Some, IfSome, IfNone, refl, sym, ◌∙◌, ap, arith, length}
-use Rattle.std.proofs.lemmas.Bool.{cases_lt, cases_eq}
+use Rattle.std.proofs.Common.{◌≡◌, ℕ, ◌+◌, ◌<◌, ◌≤◌, inl, inr, Option, None, Some, IfSome, IfNone, refl, arith, length}
+use Rattle.std.proofs.lemmas.Bool.{cases_lt}
 use Rattle.rip_plan.specs.Network.{Network}
 use Rattle.rip_check.specs.Tables.{Showing}
 use Rattle.rip_check.specs.Firsts.{IsBefore, IsAfter, IsFirst, AreFine}
 use Rattle.rip_check.specs.declared.verdict.Place2.{Place2}
-use Rattle.rip_check.specs.Verdicts.{IsSound, IsFailing, IsFirstFailing, IsColumnFirst}
+use Rattle.rip_check.specs.Verdicts.{IsSound, IsFirstFailing, IsColumnFirst}
 
 module _ (n : Network) (p : ℕ) (Fine : ℕ → ℕ → Type 0) where
   -- a column with nothing new above the first place

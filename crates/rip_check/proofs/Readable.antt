@@ -1,8 +1,8 @@
 -- A place can be read exactly where a route fits.
-use Rattle.std.proofs.Common.{◌≡◌, ◌≢◌, ℕ, ◌<◌, ◌≤◌, ◌⊎◌, inl, inr, Option, None, Some, IsTrue, refl, sym, ◌∙◌, ap, arith, length}
+use Rattle.std.proofs.Common.{ℕ, ◌<◌, ◌⊎◌, inl, inr, None, sym, ◌∙◌, length}
 use Rattle.rip_plan.specs.Network.{Network}
-use Rattle.rip_plan.specs.Relations.{IsLawful, IsInterface, IsLeaf, HasTwoInterfaces}
-use Rattle.rip_check.specs.Tables.{Tables, Showing, Shows, Route, Fits}
+use Rattle.rip_plan.specs.Relations.{IsLawful, IsLeaf, HasTwoInterfaces}
+use Rattle.rip_check.specs.Tables.{Showing, Route, Fits}
 use Rattle.rip_check.proofs.Reading.{one_route, two_or_leaf, tables_of}
 use Rattle.rip_check.specs.Telling.{Tells}
 use Rattle.rip_check.specs.Captured.{IsInRange, IsHeard}

@@ -1,8 +1,8 @@
 -- What a verdict means, both ways.
-use Rattle.std.proofs.Common.{◌≡◌, ◌≢◌, ℕ, ◌+◌, ◌<◌, ◌≤◌, ◌⊎◌, ◌↔◌, List, [], ◌∷◌, ◌++◌, length, inl, inr, Option, None, Some, refl, sym, ◌∙◌, ap, arith}
+use Rattle.std.proofs.Common.{◌≡◌, ℕ, ◌<◌, ◌≤◌, ◌↔◌, List, [], ◌∷◌, length, refl, arith}
 use Rattle.rip_plan.specs.Network.{Network}
 use Rattle.rip_plan.specs.Relations.{IsLawful}
-use Rattle.rip_check.specs.Tables.{Tables, Showing, Shows, Route}
+use Rattle.rip_check.specs.Tables.{Tables, Showing, Shows}
 use Rattle.rip_check.specs.Laws.{RightTablesShown, PlacesSettled}
 use Rattle.rip_check.specs.Settled.{Holds}
 use Rattle.rip_check.specs.Walks.{IsWalk}
@@ -11,11 +11,9 @@ use Rattle.rip_check.proofs.Judging.{places_are_settled, tables_are_right}
 use Rattle.rip_check.proofs.Walking.{walks_end, walks_go_on}
 use Rattle.rip_check.specs.Captured.{IsInRange}
 use Rattle.rip_check.specs.declared.verdict.Unclear.{Unclear}
-use Rattle.rip_check.specs.declared.verdict.Place2.{Place2}
 use Rattle.rip_check.specs.declared.verdict.Verdict.{Verdict}
 use Rattle.rip_check.specs.declared.verdict.Verdict.TheVariants.{Settled, Unsettled, Unclear as IsUnclear}
-use Rattle.rip_check.specs.Firsts.{IsFirstTrouble}
-use Rattle.rip_check.specs.Verdicts.{TablesShown, IsFirstFailing, IsVerdict, WalksArrive}
+use Rattle.rip_check.specs.Verdicts.{TablesShown, IsVerdict, WalksArrive}
 use Rattle.rip_check.proofs.Single.{one_verdict, no_trouble}
 
 module _ (n : Network) (count : ℕ) (shown : Showing) (plan : IsLawful n) (range : IsInRange n shown) where

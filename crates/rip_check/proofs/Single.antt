@@ -1,11 +1,9 @@
 -- Only one verdict can be given.
-use Rattle.std.proofs.Common.{◌≡◌, ◌≢◌, ℕ, ◌<◌, ◌≤◌, ◌⊎◌, ◌↔◌, inl, inr, Option, None, Some, Bool, true, false, IsTrue, refl, sym, ◌∙◌, ap, arith, length}
-use Rattle.std.proofs.lemmas.Bool.{cases_lt, cases_eq}
+use Rattle.std.proofs.Common.{◌≡◌, ℕ, ◌⊎◌, ◌↔◌, inl, inr, Option, None, Bool, true, false, IsTrue, refl, sym, ◌∙◌, ap, arith}
+use Rattle.std.proofs.lemmas.Bool.{cases_lt}
 use Rattle.rip_plan.specs.Network.{Network}
 use Rattle.rip_plan.specs.Relations.{IsLawful, IsInterface}
-use Rattle.rip_check.specs.declared.way.Way.{Way}
-use Rattle.rip_check.specs.Tables.{Tables, Showing, Shows, Route, Fits}
-use Rattle.rip_check.specs.Settled.{Holds, IsChoice}
+use Rattle.rip_check.specs.Tables.{Showing, Route, Fits}
 use Rattle.rip_check.specs.Laws.{RightTablesShown}
 use Rattle.rip_check.proofs.Reading.{one_route}
 use Rattle.rip_check.proofs.Judging.{places_are_settled, tables_are_right}
@@ -15,11 +13,11 @@ use Rattle.rip_check.specs.declared.verdict.Unclear.TheVariants.{NotHeard, TwoMe
 use Rattle.rip_check.specs.declared.verdict.Place2.{Place2}
 use Rattle.rip_check.specs.declared.verdict.Verdict.{Verdict}
 use Rattle.rip_check.specs.declared.verdict.Verdict.TheVariants.{Settled, Unsettled, Unclear as IsUnclear}
-use Rattle.rip_check.specs.Firsts.{IsFirst, AreFine, IsReadable, IsReason, IsFirstGap, IsFirstUnheard, IsFirstUnclear, IsFirstTrouble, ShowsTwo, ShowsEach}
-use Rattle.rip_check.specs.Verdicts.{TablesShown, IsSound, IsFailing, IsFirstFailing, IsVerdict, IsEquation, IsHidden}
+use Rattle.rip_check.specs.Firsts.{AreFine, IsReadable, IsReason, IsFirstGap, IsFirstUnheard, IsFirstUnclear, IsFirstTrouble}
+use Rattle.rip_check.specs.Verdicts.{TablesShown, IsSound, IsFirstFailing, IsVerdict, IsEquation, IsHidden}
 use Rattle.rip_check.proofs.Order.{one_first, none_first}
 use Rattle.rip_check.proofs.Owned.{its_link}
-use Rattle.rip_check.proofs.Readable.{shown_readable, tables_shown, readable_fits}
+use Rattle.rip_check.proofs.Readable.{shown_readable, readable_fits}
 
 same_bool : (a b : Bool) (P : Type 0) → (IsTrue a ↔ P) → (IsTrue b ↔ P) → a ≡ b
 same_bool true true P h k = refl

@@ -1,10 +1,9 @@
 -- One place: reasons, what a leaf shows, and when it holds.
-use Rattle.std.proofs.Common.{◌≡◌, ◌≢◌, ◌==◌, true, ℕ, ◌+◌, ◌<◌, ◌≤◌, ◌⊎◌, inl, inr, Option, None, Some, List, length, slice_get, refl, sym, ◌∙◌, ap, arith}
+use Rattle.std.proofs.Common.{◌≡◌, ◌≢◌, ◌==◌, true, ℕ, ◌<◌, ◌≤◌, ◌⊎◌, inl, inr, Option, None, Some, sym, ◌∙◌, arith}
 use Rattle.std.proofs.lemmas.Bool.{cases_lt, cases_eq, eqb-true, eq-eqb}
 use Rattle.std.proofs.lemmas.Option.{same_Some}
-use Rattle.rip_plan.specs.declared.parts.Interface.{Interface}
 use Rattle.rip_plan.specs.Network.{Network}
-use Rattle.rip_plan.specs.Relations.{IsLawful, IsInterface, IsLeaf, Touches}
+use Rattle.rip_plan.specs.Relations.{IsLawful, Touches}
 use Rattle.rip_check.specs.Tables.{Showing, Route, IsSilent, Offers}
 use Rattle.rip_check.specs.Settled.{IsChoice, Holds, IsGiven}
 use Rattle.rip_check.specs.Telling.{IsMute, IsSpoken}

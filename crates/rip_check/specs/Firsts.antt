@@ -1,8 +1,8 @@
 -- Which routes can be read, why others can't, and which place is the first.
 use Rattle.std.specs.Prelude.{◌≡◌, ◌≢◌, ℕ, ◌<◌, ◌⊎◌, Option, None, Some, IsTrue, length}
 use Rattle.rip_plan.specs.Network.{Network}
-use Rattle.rip_plan.specs.Relations.{IsInterface, IsLeaf, Carries}
-use Rattle.rip_check.specs.Tables.{Showing, Route, IsSilent}
+use Rattle.rip_plan.specs.Relations.{IsInterface, IsLeaf}
+use Rattle.rip_check.specs.Tables.{Showing, Route}
 use Rattle.rip_check.specs.Telling.{Tells}
 use Rattle.rip_check.specs.Captured.{IsHeard}
 use Rattle.rip_check.specs.declared.verdict.Unclear.{Unclear}

@@ -1,14 +1,13 @@
 -- Verdicts.
-use Rattle.std.specs.Prelude.{◌≡◌, ◌≢◌, ℕ, ◌+◌, ◌≤◌, ◌<◌, ◌⊎◌, ◌↔◌, List, [], ◌∷◌, ◌++◌, length, Option, None, Some, Bool, IsTrue}
+use Rattle.std.specs.Prelude.{◌≡◌, ℕ, ◌≤◌, ◌<◌, ◌⊎◌, ◌↔◌, List, [], ◌∷◌, ◌++◌, length, Option, None, Some, IsTrue}
 use Rattle.rip_plan.specs.Network.{Network}
-use Rattle.rip_plan.specs.Relations.{IsInterface, IsLeaf, IsDirect, Carries}
+use Rattle.rip_plan.specs.Relations.{IsLeaf, IsDirect, Carries}
 use Rattle.rip_check.specs.Tables.{Tables, Showing, Shows, Route, Fits, IsSilent}
 use Rattle.rip_check.specs.Settled.{IsChoice, Holds}
 use Rattle.rip_check.specs.Laws.{RightTablesShown}
 use Rattle.rip_check.specs.Walks.{IsWalk}
 use Rattle.rip_check.specs.declared.way.Way.TheVariants.{Here}
-use Rattle.rip_check.specs.Firsts.{IsFirst, AreFine, IsFirstTrouble}
-use Rattle.rip_check.specs.declared.verdict.Unclear.{Unclear}
+use Rattle.rip_check.specs.Firsts.{IsFirst, IsFirstTrouble}
 use Rattle.rip_check.specs.declared.verdict.Place2.{Place2}
 use Rattle.rip_check.specs.declared.verdict.Verdict.{Verdict}
 use Rattle.rip_check.specs.declared.verdict.Verdict.TheVariants.{Settled, Unsettled, Unclear as IsUnclear}

@@ -1,4 +1,4 @@
-use Rattle.std.proofs.Common.{ℕ, ◌<◌, below_more, arith}
+use Rattle.std.proofs.Common.{below_more, arith}
 use Rattle.rip_check.proofs.audit.first_in_column.Goals as goal
 
 pub returns-in-Some-clause-some : goal.returns-in-Some-clause-some

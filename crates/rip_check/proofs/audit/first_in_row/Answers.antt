@@ -1,6 +1,5 @@
-use Rattle.std.proofs.Common.{◌≡◌, ℕ, ◌≤◌, ◌<◌, inl, inr, arith, length}
+use Rattle.std.proofs.Common.{◌≡◌, inl, inr, arith}
 use Rattle.std.proofs.lemmas.Bool.{cases_lt}
-use Rattle.rip_check.specs.Captured.{showing_of}
 use Rattle.rip_check.proofs.audit.first_in_row.Goals as goal
 
 pub returns-in-Some-clause-some : goal.returns-in-Some-clause-some

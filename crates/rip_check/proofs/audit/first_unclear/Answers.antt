@@ -1,6 +1,5 @@
-use Rattle.std.proofs.Common.{◌≡◌, ℕ, ◌≤◌, ◌<◌, ◌⊎◌, inl, inr, None, below_more, arith, length}
-use Rattle.rip_check.specs.Firsts.{IsBefore, IsReadable}
-use Rattle.std.proofs.lemmas.Bool.{cases_lt}
+use Rattle.std.proofs.Common.{None, below_more, arith, length}
+use Rattle.rip_check.specs.Firsts.{IsReadable}
 use Rattle.rip_check.proofs.Order.{row_first, rows_on}
 use Rattle.rip_check.specs.Captured.{showing_of}
 use Rattle.rip_check.proofs.audit.first_unclear.Goals as goal

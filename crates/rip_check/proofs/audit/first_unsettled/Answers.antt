@@ -1,6 +1,6 @@
-use Rattle.std.proofs.Common.{◌≡◌, ℕ, ◌+◌, ◌<◌, ◌≤◌, length, Option, None, Some, IfSome, IfNone, refl, sym, arith}
+use Rattle.std.proofs.Common.{length, arith}
 use Rattle.rip_check.specs.Captured.{showing_of}
-use Rattle.rip_check.proofs.Picking.{Known, known_on, known_better, done_none}
+use Rattle.rip_check.proofs.Picking.{known_on, known_better, done_none}
 use Rattle.rip_check.proofs.audit.first_unsettled.Goals as goal
 use Rattle.rip_check.proofs.audit.first_unsettled.Goals.{in-Some, in_default}
 

@@ -1,5 +1,4 @@
-use Rattle.std.proofs.Common.{◌≡◌, ℕ, ◌+◌, ◌≤◌, ◌<◌, ◌⊎◌, inl, inr, None, Some, refl, arith, length}
-use Rattle.rip_check.specs.Firsts.{IsBefore, IsAfter}
+use Rattle.std.proofs.Common.{◌+◌, ◌<◌, arith, length}
 use Rattle.rip_check.specs.Verdicts.{IsSound}
 use Rattle.rip_check.proofs.Order.{row_first, rows_on, StartsAt, starts_none, starts_some, none_sooner, in_front, at_back, all_later}
 use Rattle.rip_check.specs.Captured.{showing_of}

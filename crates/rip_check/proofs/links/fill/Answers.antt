@@ -1,9 +1,9 @@
-use Rattle.std.proofs.Common.{◌≡◌, ℕ, ◌+◌, ◌<◌, ◌≤◌, inl, inr, Some, List, slice_get, slice_set, get_or, length, refl, sym, ◌∙◌, ap, arith}
+use Rattle.std.proofs.Common.{◌+◌, ◌<◌, ◌≤◌, inl, inr, get_or, length, sym, arith}
 use Rattle.std.proofs.lemmas.Grind.{common_steps}
 use Rattle.std.proofs.lemmas.Option.{slice_get-get_or}
 use Rattle.rip_check.specs.declared.links.TwoLeast.{TwoLeast}
 use Rattle.rip_check.specs.Captured.{showing_of}
-use Rattle.rip_check.specs.TwoLeasts.{IsTwoLeast, IsSeen}
+use Rattle.rip_check.specs.TwoLeasts.{IsTwoLeast}
 use Rattle.rip_check.proofs.Steps.{after_write, skip, reached}
 use Rattle.rip_check.proofs.links.fill.Goals as goal
 

@@ -1,4 +1,4 @@
-use Rattle.std.proofs.Common.{◌≤◌, arith}
+use Rattle.std.proofs.Common.{arith}
 use Rattle.rip_check.proofs.Steps.{lower, keep, new_least, new_next}
 use Rattle.rip_check.proofs.links.with.Goals as goal
 

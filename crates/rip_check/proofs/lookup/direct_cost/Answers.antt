@@ -1,6 +1,5 @@
-use Rattle.std.proofs.Common.{◌≡◌, ℕ, ◌<◌, ◌≤◌, ◌⊎◌, inl, inr, None, Some, length, sym, ◌∙◌}
+use Rattle.std.proofs.Common.{◌≡◌, ◌<◌, ◌≤◌, ◌⊎◌, inl, inr, None, length}
 use Rattle.std.proofs.lemmas.Bool.{cases_lt}
-use Rattle.rip_plan.specs.Relations.{IsDirect}
 use Rattle.rip_check.proofs.Numbers.{planned, unplanned, direct_known}
 use Rattle.rip_check.proofs.lookup.direct_cost.Goals as goal
 

@@ -1,6 +1,6 @@
-use Rattle.std.proofs.Common.{◌≡◌, Some, slice_get, get_or, sym, ◌∙◌, ap, arith, option_and_then}
+use Rattle.std.proofs.Common.{◌≡◌, Some, slice_get, get_or, ◌∙◌, ap}
 use Rattle.std.proofs.lemmas.Option.{slice_get-get_or}
-use Rattle.rip_wire.specs.Prefix.{Block, block}
+use Rattle.rip_wire.specs.Prefix.{block}
 use Rattle.rip_check.proofs.lookup.shown_at.Goals as goal
 
 pub returns-in-Some-clause-cell : goal.returns-in-Some-clause-cell

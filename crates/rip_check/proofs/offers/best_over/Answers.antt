@@ -1,4 +1,3 @@
-use Rattle.std.proofs.Common.{◌≡◌, ◌<◌, slice_get, get_or}
 use Rattle.std.proofs.lemmas.Option.{slice_get-get_or}
 use Rattle.rip_check.specs.declared.links.TwoLeast.{TwoLeast}
 use Rattle.rip_check.specs.Captured.{showing_of}

@@ -1,4 +1,4 @@
-use Rattle.std.proofs.Common.{◌≡◌, ◌≢◌, ℕ, ◌<◌, ◌≤◌, inl, inr, get_or, refl, sym, ◌∙◌, ap, arith}
+use Rattle.std.proofs.Common.{◌≡◌, inr, get_or, arith}
 use Rattle.rip_check.specs.Captured.{showing_of}
 use Rattle.rip_check.proofs.Across.{heard_from, across_number, one_more, is_offer, below_offers}
 use Rattle.rip_check.proofs.offers.least_asked.Goals as goal

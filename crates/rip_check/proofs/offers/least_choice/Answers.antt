@@ -1,7 +1,5 @@
-use Rattle.std.proofs.Common.{◌≡◌, ℕ, ◌<◌, ◌≤◌, ◌⊎◌, inl, inr, get_or, length, refl, sym, arith}
-use Rattle.rip_plan.specs.Relations.{IsInterface}
+use Rattle.std.proofs.Common.{◌≡◌, ℕ, ◌≤◌, ◌⊎◌, arith}
 use Rattle.rip_check.specs.Captured.{showing_of}
-use Rattle.rip_check.specs.Settled.{IsChoice}
 use Rattle.rip_check.specs.Tables.{Offers}
 use Rattle.rip_check.proofs.Owned.{its_number, its_router, each_more, every}
 use Rattle.rip_check.proofs.Across.{still_chosen, least_of}

@@ -1,4 +1,4 @@
-use Rattle.std.proofs.Common.{◌≡◌, ℕ, ◌<◌, ◌≤◌, get_or}
+use Rattle.std.proofs.Common.{ℕ, ◌<◌, ◌≤◌, get_or}
 use Rattle.rip_plan.specs.Relations.{IsInterface, IsDirect}
 use Rattle.rip_check.specs.Captured.{showing_of}
 use Rattle.rip_check.specs.Settled.{IsChoice}

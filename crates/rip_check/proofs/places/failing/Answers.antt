@@ -1,10 +1,9 @@
-use Rattle.std.proofs.Common.{◌≡◌, ℕ, ◌≤◌, inl, inr, refl, sym, arith}
+use Rattle.std.proofs.Common.{◌≡◌, refl, arith}
 use Rattle.std.proofs.lemmas.Bool.Decides.{not_from_Decides}
 use Rattle.rip_check.specs.Captured.{showing_of}
 use Rattle.rip_check.specs.Tables.{Route}
-use Rattle.rip_check.specs.Settled.{Holds, IsChoice}
+use Rattle.rip_check.specs.Settled.{Holds}
 use Rattle.rip_check.specs.Verdicts.{IsEquation}
-use Rattle.rip_check.proofs.Shown.{metric_least}
 use Rattle.rip_check.proofs.Reading.{one_route}
 use Rattle.rip_check.proofs.Readable.{fits_readable}
 use Rattle.rip_check.proofs.Standing.{all_hold, is_equation, choice_low}

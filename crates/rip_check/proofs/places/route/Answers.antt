@@ -1,4 +1,4 @@
-use Rattle.std.proofs.Common.{◌≡◌, refl}
+use Rattle.std.proofs.Common.{refl}
 use Rattle.rip_check.specs.Captured.{showing_of}
 use Rattle.rip_check.specs.Tables.{Route}
 use Rattle.rip_check.proofs.Readable.{fits_readable}

@@ -1,4 +1,4 @@
-use Rattle.std.proofs.Common.{◌≡◌, ℕ, Some, get_or, inl, inr, ap, sym, ◌∙◌, arith}
+use Rattle.std.proofs.Common.{◌≡◌, Some, get_or, inl, inr, ap, sym, ◌∙◌, arith}
 use Rattle.rip_check.specs.Captured.{showing_of}
 use Rattle.rip_check.specs.Tables.{IsSilent}
 use Rattle.rip_check.proofs.Owned.{its_number, its_own, each_more, every}

@@ -1,4 +1,4 @@
-use Rattle.std.proofs.Common.{◌≡◌, ℕ, ◌<◌, None, get_or, refl, sym, ◌∙◌, arith}
+use Rattle.std.proofs.Common.{◌≡◌, None, get_or, sym}
 use Rattle.rip_check.specs.Captured.{showing_of}
 use Rattle.rip_check.proofs.Owned.{its_number, its_own, each_more, every, all_before}
 use Rattle.rip_check.proofs.routes.first_silent.Goals as goal

@@ -1,4 +1,4 @@
-use Rattle.std.proofs.Common.{◌≡◌, ℕ, get_or, refl}
+use Rattle.std.proofs.Common.{get_or, refl}
 use Rattle.std.proofs.lemmas.Bool.Decides.{not_from_Decides}
 use Rattle.rip_check.specs.Captured.{showing_of}
 use Rattle.rip_check.specs.Tables.{MayShow}

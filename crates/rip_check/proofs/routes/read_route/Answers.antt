@@ -1,5 +1,4 @@
 use Rattle.std.proofs.Common.{◌<◌, inl, inr, arith}
-use Rattle.rip_check.specs.Telling.{IsAsTold}
 use Rattle.std.proofs.lemmas.Bool.Decides.{not_from_Decides}
 use Rattle.rip_check.specs.Captured.{showing_of}
 use Rattle.rip_check.proofs.Rows.{IsTold, told_fits, no_other}
