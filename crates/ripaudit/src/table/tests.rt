@@ -11,6 +11,8 @@ use std::io::{Read, Write};
 use std::process::Abort;
 use std::test::Fail;
 
+mod agree;
+
 const PRINTED: &str = "table: 6 interfaces, 3 prefixes
 r1 a 10.2.0.0/16 16
 r1 a 10.3.0.0/16 1
