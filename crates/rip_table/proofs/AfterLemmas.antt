@@ -1,5 +1,5 @@
 -- What the join of a response's entries is, part by part.
-use Rattle.std.proofs.Common.{◌≡◌, ℕ, ◌==◌, ◌<◌, Bool, true, false, cond, ◌&&◌, ◌||◌, not, List, [], ◌∷◌, ◌++◌, length, replicate, Option, Some, None, is_none, Result, Ok, Err, refl, sym, ap, ◌∙◌, set}
+use Rattle.std.proofs.Common.{◌≡◌, ℕ, ◌==◌, ◌<◌, Bool, true, false, cond, ◌&&◌, ◌||◌, not, List, [], ◌∷◌, ◌++◌, length, replicate, Option, Some, None, is_none, Ok, Err, refl, sym, ap, ◌∙◌, set}
 use Rattle.std.proofs.Math.ListN.{length-set}
 use Rattle.std.proofs.lemmas.Bool.{eqb-true}
 use mathlib.Core.Path.{fun_ext}
@@ -8,12 +8,12 @@ use Rattle.rip_wire.specs.Message.{response}
 use Rattle.rip_wire.specs.declared.entry.Entry.{Entry}
 use Rattle.rip_plan.specs.Passes.{same_prefix}
 use Rattle.rip_table.specs.State.{IsState, State, is_among}
-use Rattle.rip_table.specs.Joined.{and_then, brings_pair, is_foreign, is_past, joined_at, joined_entries, with_heard, with_metric}
+use Rattle.rip_table.specs.Joined.{brings_pair, is_foreign, is_past, joined_at, joined_entries, with_heard, with_metric}
 use Rattle.rip_table.specs.ListState.{with_prefix}
 use Rattle.rip_table.specs.Numbers.{IsChecked}
 use Rattle.rip_table.specs.Rows.{LacksSome, Rows, cell, grid_state, heads, shown_after, with_row, with_rows}
-use Rattle.rip_table.specs.declared.error.TableError.{TableError}
 use Rattle.rip_table.specs.declared.error.TableError.TheVariants.{Changed, NextHop, TooManyPrefixes}
+use Rattle.rip_table.proofs.Truth.{both-true, or-true, then-split}
 use Rattle.rip_table.proofs.Lists.{is_among-append, same-is, same-self}
 use Rattle.rip_table.proofs.NumberLemmas.{any-item, unlisted}
 use Rattle.rip_table.proofs.RowLemmas.{heads-append}
@@ -42,23 +42,15 @@ kept_among ps p q h = by (is_among p ps)
 new_among : (ps : List Block) (p : Block) → is_among p (with_prefix p ps) ≡ true
 new_among ps p = by (is_among p ps) refl
   where
-    or_true : (b : Bool) → (b || true) ≡ true
-    or_true true = refl
-    or_true false = refl
-
     by : (b : Bool) → is_among p ps ≡ b → is_among p (cond b ps (ps ++ p ∷ [])) ≡ true
     by true h = h
-    by false h = is_among-append p ps (p ∷ []) ∙ ap (λ (b : Bool). is_among p ps || (b || false)) (same-self p) ∙ or_true (is_among p ps)
-
-both : (a b : Bool) → (a && b) ≡ true → (a ≡ true) × (b ≡ true)
-both true b h = (refl, h)
-both false b h = absurd (cc h)
+    by false h = is_among-append p ps (p ∷ []) ∙ ap (λ (b : Bool). is_among p ps || (b || false)) (same-self p) ∙ or-true (is_among p ps)
 
 listed_with : (s : State) (i m : ℕ) (p : Block) → Listed s i → Listed (with_metric s i p m) i
 listed_with s i m p listed q v h = by ((i == i) && same_prefix q p) refl h
   where
     by : (b : Bool) → ((i == i) && same_prefix q p) ≡ b → cond b (Some m) (s.shows i q) ≡ Some v → is_among q (with_prefix p s.prefixes) ≡ true
-    by true t e = ap (λ (r : Block). is_among r (with_prefix p s.prefixes)) (same-is q p (both (i == i) (same_prefix q p) t).1) ∙ new_among s.prefixes p
+    by true t e = ap (λ (r : Block). is_among r (with_prefix p s.prefixes)) (same-is q p (both-true (i == i) (same_prefix q p) t).1) ∙ new_among s.prefixes p
     by false t e = kept_among s.prefixes p q (listed q v e)
 
 -- a metric that stands already adds nothing
@@ -69,7 +61,7 @@ same_with s i m p listed here =
   where
     at : (j : ℕ) (q : Block) (b : Bool) → ((j == i) && same_prefix q p) ≡ b → s.shows j q ≡ cond b (Some m) (s.shows j q)
     at j q true t =
-        let parts = both (j == i) (same_prefix q p) t in
+        let parts = both-true (j == i) (same_prefix q p) t in
         ap (λ (k : ℕ). s.shows k q) (eqb-true j i parts.0) ∙ ap (s.shows i) (same-is q p parts.1) ∙ here
     at j q false t = refl
 
@@ -89,15 +81,11 @@ joined_is sender i s u e listed (Some old) is h = by (old == e.metric) refl (is_
         let same : s ≡ u = cc h in
         sym same ∙ same_with s i e.metric e.prefix listed (is ∙ ap (λ (m : ℕ). Some m) (eqb-true old e.metric t))
 
-then_split : (r : Result State TableError) (f : State → Result State TableError) (t : State) → and_then r f ≡ Ok t → (u : State) × (r ≡ Ok u) × (f u ≡ Ok t)
-then_split (Ok u) f t h = (u, refl, h)
-then_split (Err e) f t h = absurd (cc h)
-
 -- the join of entries without a fault
 pub joined-after : (sender i : ℕ) (s t : State) (es : List Entry) → Listed s i → joined_entries sender i s es ≡ Ok t → t ≡ after_all s i es
 joined-after sender i s t [] listed h = let same : s ≡ t = cc h in sym same
 joined-after sender i s t (e ∷ es) listed h =
-    let split = then_split (joined_at sender i s e (s.shows i e.prefix)) (λ u. joined_entries sender i u es) t h in
+    let split = then-split (joined_at sender i s e (s.shows i e.prefix)) (λ u. joined_entries sender i u es) t h in
     let is = joined_is sender i s split.0 e listed (s.shows i e.prefix) refl split.1 in
     joined-after sender i (with_metric s i e.prefix e.metric) t es (listed_with s i e.metric e.prefix listed) (ap (λ (u : State). joined_entries sender i u es) (sym is) ∙ split.2)
 

@@ -9,6 +9,8 @@ use Rattle.rip_plan.specs.Network.{number_of_prefix}
 use Rattle.rip_plan.specs.Passes.{same_prefix}
 use Rattle.rip_table.specs.State.{is_among}
 use Rattle.rip_table.specs.Rows.{IsGrid, Rows, cell, heads, planned_rows, shown_after, with_cell, with_row, with_rows}
+use Rattle.rip_table.proofs.Truth.{and-false, and-true}
+use Rattle.rip_table.proofs.RowLemmas.{grid-tail}
 use Rattle.rip_table.proofs.Lists.{same-is}
 use Rattle.rip_table.proofs.NumberLemmas.{true-false}
 
@@ -43,23 +45,12 @@ row_from p (row ∷ rows) n (suc k) h = by (same_prefix p row.0) refl h (λ e. r
 row_is : (p : Block) (rows : Rows) (k : ℕ) → number_of_prefix p (heads rows) ≡ Some k → IsRow p rows k
 row_is p rows k h = let same : k ≡ 0 + k = omega arith in row_from p rows 0 k (h ∙ ap (λ (m : ℕ). Some m) same)
 
-grid_tail : (n : ℕ) (r : Block × List (Option ℕ)) (rows : Rows) → IsGrid n (r ∷ rows) → IsGrid n rows
-grid_tail n r rows h k d lt = h (suc k) d (omega (arith, lt))
-
 set_at : (xs : List (Option ℕ)) (i j : ℕ) (x : Option ℕ) → i < length xs → get_or (set xs i x) j None ≡ cond (j == i) x (get_or xs j None)
 set_at xs i j x lt = by (j == i) refl
   where
     by : (b : Bool) → (j == i) ≡ b → get_or (set xs i x) j None ≡ cond b x (get_or xs j None)
     by true e = let same : j ≡ i = grind (arith, nat_tests) in ap (λ (k : ℕ). get_or (set xs i x) k None) same ∙ get_or-set_same xs i x None lt
     by false e = let apart : j ≢ i = grind (arith, nat_tests) in get_or-set_other xs i j x None apart
-
-and_true : (b : Bool) → b ≡ (b && true)
-and_true true = refl
-and_true false = refl
-
-and_false : (b : Bool) → (b && false) ≡ false
-and_false true = refl
-and_false false = refl
 
 -- what is at a cell once another was written
 at_cell : (w : ℕ) (rows : Rows) (p : Block) (k i : ℕ) (x : Option ℕ) → IsRow p rows k → IsGrid w rows → i < w → (j : ℕ) (q : Block)
@@ -73,9 +64,9 @@ at_cell w (row ∷ rows) p zero i x is grid lt j q = by (same_prefix q row.0) re
     by : (b : Bool) → same_prefix q row.0 ≡ b → cond b (get_or (set row.1 i x) j None) (cell rows j q) ≡ cond ((j == i) && same_prefix q p) x (cond b (get_or row.1 j None) (cell rows j q))
     by true t =
         set_at row.1 i j x (omega (arith, lt, grid 0 row (omega arith)))
-        ∙ ap (λ (b : Bool). cond b x (get_or row.1 j None)) (and_true (j == i) ∙ ap (λ (b : Bool). (j == i) && b) (sym t ∙ ap (same_prefix q) (sym here)))
-    by false t = sym (ap (λ (b : Bool). cond b x (cell rows j q)) (ap (λ (b : Bool). (j == i) && b) (ap (same_prefix q) here ∙ t) ∙ and_false (j == i)))
-at_cell w (row ∷ rows) p (suc k) i x is grid lt j q = by (same_prefix q row.0) refl (at_cell w rows p k i x is.1 (grid_tail w row rows grid) lt j q)
+        ∙ ap (λ (b : Bool). cond b x (get_or row.1 j None)) (and-true (j == i) ∙ ap (λ (b : Bool). (j == i) && b) (sym t ∙ ap (same_prefix q) (sym here)))
+    by false t = sym (ap (λ (b : Bool). cond b x (cell rows j q)) (ap (λ (b : Bool). (j == i) && b) (ap (same_prefix q) here ∙ t) ∙ and-false (j == i)))
+at_cell w (row ∷ rows) p (suc k) i x is grid lt j q = by (same_prefix q row.0) refl (at_cell w rows p k i x is.1 (grid-tail w row rows grid) lt j q)
   where
     by : (b : Bool) → same_prefix q row.0 ≡ b → cell (with_cell rows k i x) j q ≡ cond ((j == i) && same_prefix q p) x (cell rows j q)
         → cond b (get_or row.1 j None) (cell (with_cell rows k i x) j q) ≡ cond ((j == i) && same_prefix q p) x (cond b (get_or row.1 j None) (cell rows j q))
@@ -83,7 +74,7 @@ at_cell w (row ∷ rows) p (suc k) i x is grid lt j q = by (same_prefix q row.0)
       where
         apart : (b : Bool) → same_prefix q p ≡ b → get_or row.1 j None ≡ cond ((j == i) && b) x (get_or row.1 j None)
         apart true s = true-false (same_prefix p row.0) (ap (λ (r : Block). same_prefix r row.0) (sym (same-is q p s)) ∙ t) is.0
-        apart false s = sym (ap (λ (b : Bool). cond b x (get_or row.1 j None)) (and_false (j == i)))
+        apart false s = sym (ap (λ (b : Bool). cond b x (get_or row.1 j None)) (and-false (j == i)))
     by false t later = later
 
 pub cells-with_cell : (w : ℕ) (rows : Rows) (p : Block) (k i m : ℕ) → number_of_prefix p (heads rows) ≡ Some k → IsGrid w rows → i < w

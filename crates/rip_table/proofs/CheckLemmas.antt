@@ -14,6 +14,7 @@ use Rattle.rip_table.specs.declared.error.TableError.TheVariants.{Changed, NextH
 use Rattle.std.proofs.lemmas.Bool.{eq-eqb, le-ltb, leb-false}
 use Rattle.std.proofs.lemmas.Bool.Decides.{nat_tests}
 use Rattle.std.proofs.lemmas.List.{take-append-drop}
+use Rattle.rip_table.proofs.Truth.{and-false, and-true, or-false, or-none, or-true}
 use Rattle.rip_table.proofs.Lists.{drop-more, same-is, same-self, is_among-append, is_among-item, take-more}
 use Rattle.rip_table.proofs.NumberLemmas.{metric_among-snoc, number-none, number-some, true-false}
 
@@ -27,14 +28,6 @@ pub record Checked (sender i : ℕ) (s : State) (es : List Entry) (j count : ℕ
   pub among : (p : Block) → is_among p state.prefixes ≡ (is_among p s.prefixes || is_some (metric_among p (take j es)))
   pub count_is : length state.prefixes ≡ count
 
-or_false : (b : Bool) → b ≡ (b || false)
-or_false true = refl
-or_false false = refl
-
-or_none : (o : Option ℕ) → o ≡ option_or o None
-or_none None = refl
-or_none (Some x) = refl
-
 heard_valid : (s : State) (i : ℕ) → IsState s → IsState (with_heard s i)
 heard_valid s i v = record { differ = v.differ; few = v.few; shown = λ j m p lt h. let shown = v.shown j m p lt h in record { least = shown.least; most = shown.most; listed = shown.listed } }
 
@@ -44,8 +37,8 @@ Checked-start sender i s es valid = record {
   interfaces = refl;
   joined = refl;
   valid = heard_valid s i valid;
-  shows = λ p. or_none (s.shows i p);
-  among = λ p. or_false (is_among p s.prefixes);
+  shows = λ p. or-none (s.shows i p);
+  among = λ p. or-false (is_among p s.prefixes);
   count_is = refl;
 }
 
@@ -60,10 +53,6 @@ joined-append sender i s (e ∷ es) fs = by (joined_at sender i s e (s.shows i e
     by (Err e) later = refl
 
 -- ---- what a table with one more metric is
-
-or_true : (b : Bool) → (b || true) ≡ true
-or_true true = refl
-or_true false = refl
 
 at_end : (ps : List Block) (p q : Block) (k : ℕ) → slice_get (ps ++ p ∷ []) k ≡ Some q → (slice_get ps k ≡ Some q) ⊎ ((k ≡ length ps) × (q ≡ p))
 at_end [] p q zero h = let same : p ≡ q = cc h in inr (refl, sym same)
@@ -89,7 +78,7 @@ longer : (ps : List Block) (p q : Block) → is_among q ps ≡ true → is_among
 longer ps p q h = is_among-append q ps (p ∷ []) ∙ ap (λ (b : Bool). b || is_among q (p ∷ [])) h
 
 last_among : (ps : List Block) (p : Block) → is_among p (ps ++ p ∷ []) ≡ true
-last_among ps p = is_among-append p ps (p ∷ []) ∙ ap (λ (b : Bool). is_among p ps || (b || false)) (same-self p) ∙ or_true (is_among p ps)
+last_among ps p = is_among-append p ps (p ∷ []) ∙ ap (λ (b : Bool). is_among p ps || (b || false)) (same-self p) ∙ or-true (is_among p ps)
 
 -- what a table with one more metric shows is a metric of one of its prefixes
 shown_with : (s : State) (i m : ℕ) (p : Block) (ps : List Block) → 1 ≤ m → m ≤ 16 → IsState s
@@ -156,17 +145,9 @@ one_more count = grind (arith, nat_tests)
 past-is : (t : State) (p : Block) (count : ℕ) (number : Option ℕ) → length t.prefixes ≡ count → count ≤ 2048 → is_among p t.prefixes ≡ not (is_none number)
     → nat_lt 2048 (counted count number false) ≡ is_past t p
 past-is t p count None long few new =
-    one_more count ∙ sym (left (nat_le 2048 count)) ∙ ap (λ (n : ℕ). nat_le 2048 n && true) (sym long) ∙ ap (λ (b : Bool). nat_le 2048 (length t.prefixes) && not b) (sym new)
-  where
-    left : (b : Bool) → (b && true) ≡ b
-    left true = refl
-    left false = refl
+    one_more count ∙ and-true (nat_le 2048 count) ∙ ap (λ (n : ℕ). nat_le 2048 n && true) (sym long) ∙ ap (λ (b : Bool). nat_le 2048 (length t.prefixes) && not b) (sym new)
 past-is t p count (Some k) long few new =
-    le-ltb 2048 count few ∙ sym (none (nat_le 2048 (length t.prefixes))) ∙ ap (λ (b : Bool). nat_le 2048 (length t.prefixes) && not b) (sym new)
-  where
-    none : (b : Bool) → (b && false) ≡ false
-    none true = refl
-    none false = refl
+    le-ltb 2048 count few ∙ sym (and-false (nat_le 2048 (length t.prefixes))) ∙ ap (λ (b : Bool). nat_le 2048 (length t.prefixes) && not b) (sym new)
 
 known-count : (count : ℕ) (number : Option ℕ) → counted count number true ≡ count
 known-count count None = refl
@@ -263,8 +244,8 @@ module _ (sender i : ℕ) (s : State) (es : List Entry) (j count : ℕ) (e : Ent
       by : (b : Bool) → same_prefix p e.prefix ≡ b → is_among p ck.state.prefixes ≡ (is_among p ck.state.prefixes || b)
       by true h =
           let is : is_among p ck.state.prefixes ≡ true = ap (λ (q : Block). is_among q ck.state.prefixes) (same-is p e.prefix h) ∙ there in
-          is ∙ sym (or_true (is_among p ck.state.prefixes))
-      by false h = or_false (is_among p ck.state.prefixes)
+          is ∙ sym (or-true (is_among p ck.state.prefixes))
+      by false h = or-false (is_among p ck.state.prefixes)
 
   joined_next : (k : Option ℕ) → o ≡ k → judged sender e o (counted count number (is_some o)) ≡ Ok tt → joined_entries sender i (with_heard s i) (take (j + 1) es) ≡ Ok (added ck.state i e k)
   joined_next k is h =
@@ -281,21 +262,21 @@ module _ (sender i : ℕ) (s : State) (es : List Entry) (j count : ℕ) (e : Ent
       by true h =
           let some : ck.state.shows i p ≡ Some old = ap (ck.state.shows i) (same-is p e.prefix h) ∙ shows_here ∙ is in
           some ∙ sym (ap (λ (x : Option ℕ). option_or x (Some e.metric)) some)
-      by false h = or_none (ck.state.shows i p)
+      by false h = or-none (ck.state.shows i p)
 
   shows_new : o ≡ None → (p : Block) → (with_metric ck.state i e.prefix e.metric).shows i p ≡ known_metric s i (take (j + 1) es) p
   shows_new is p = ap (λ (b : Bool). cond (b && same_prefix p e.prefix) (Some e.metric) (ck.state.shows i p)) (eq-eqb i i refl) ∙ by (same_prefix p e.prefix) refl ∙ sym (known_step p)
     where
       by : (b : Bool) → same_prefix p e.prefix ≡ b → cond b (Some e.metric) (ck.state.shows i p) ≡ option_or (ck.state.shows i p) (cond b (Some e.metric) None)
       by true h = sym (ap (λ (x : Option ℕ). option_or x (Some e.metric)) (ap (ck.state.shows i) (same-is p e.prefix h) ∙ shows_here ∙ is))
-      by false h = or_none (ck.state.shows i p)
+      by false h = or-none (ck.state.shows i p)
 
   among_new : (b : Bool) → is_among e.prefix ck.state.prefixes ≡ b → (p : Block) → is_among p (with_metric ck.state i e.prefix e.metric).prefixes ≡ (is_among p ck.state.prefixes || same_prefix p e.prefix)
   among_new true h p = ap (λ (b : Bool). is_among p (cond b ck.state.prefixes (ck.state.prefixes ++ e.prefix ∷ []))) h ∙ among_kept h p
   among_new false h p =
       ap (λ (b : Bool). is_among p (cond b ck.state.prefixes (ck.state.prefixes ++ e.prefix ∷ []))) h
       ∙ is_among-append p ck.state.prefixes (e.prefix ∷ [])
-      ∙ ap (λ (b : Bool). is_among p ck.state.prefixes || b) (sym (or_false (same_prefix p e.prefix)))
+      ∙ ap (λ (b : Bool). is_among p ck.state.prefixes || b) (sym (or-false (same_prefix p e.prefix)))
 
   count_new : (k : Option ℕ) → number ≡ k → is_among e.prefix ck.state.prefixes ≡ not (is_none k) → length (with_metric ck.state i e.prefix e.metric).prefixes ≡ counted count k false
   count_new None is new =

@@ -1,3 +1,4 @@
+pub mod Truth
 pub mod Lists
 pub mod FitLemmas
 pub mod BlameLemmas

@@ -1,5 +1,5 @@
 -- Adding to the list of what the interfaces showed.
-use Rattle.std.proofs.Common.{◌≡◌, ℕ, ◌==◌, Bool, true, false, cond, ◌&&◌, ◌||◌, not, List, [], ◌∷◌, ◌++◌, length, Option, Some, None, is_none, Result, Ok, Err, refl, sym, ap, ◌∙◌, set, ◌<◌}
+use Rattle.std.proofs.Common.{◌≡◌, ℕ, ◌==◌, Bool, true, false, cond, ◌&&◌, not, List, [], ◌∷◌, ◌++◌, length, Option, Some, None, is_none, Ok, Err, refl, sym, ap, ◌∙◌, set, ◌<◌}
 use Rattle.std.proofs.Math.ListN.{length-set}
 use Rattle.std.specs.Option.{option_or, option_map}
 use Rattle.std.specs.List.{find, list_any}
@@ -8,11 +8,11 @@ use Rattle.rip_wire.specs.Prefix.{Block}
 use Rattle.rip_wire.specs.declared.entry.Entry.{Entry}
 use Rattle.rip_plan.specs.Passes.{same_prefix}
 use Rattle.rip_table.specs.State.{State}
-use Rattle.rip_table.specs.Joined.{and_then, is_foreign, is_past, joined_at, joined_entries, with_heard, with_metric}
+use Rattle.rip_table.specs.Joined.{is_foreign, is_past, joined_at, joined_entries, with_heard, with_metric}
 use Rattle.rip_table.specs.ListState.{IsAdded, list_state, metric_in, with_prefix}
-use Rattle.rip_table.specs.declared.error.TableError.{TableError}
 use Rattle.rip_table.specs.declared.error.TableError.TheVariants.{Changed, NextHop, TooManyPrefixes}
 use Rattle.rip_table.specs.declared.list.shown.Shown.{Shown}
+use Rattle.rip_table.proofs.Truth.{both-true, neither-true, or-none, then-split}
 use Rattle.rip_table.proofs.Lists.{same-is}
 use Rattle.rip_table.proofs.TakingLemmas.{heard-with}
 use Rattle.std.proofs.lemmas.Bool.{eqb-true}
@@ -32,25 +32,17 @@ metric_in-snoc i p (d ∷ shown) c = by ((i == d.interface) && same_prefix p d.p
     by true later = refl
     by false later = later
 
-both : (a b : Bool) → (a && b) ≡ true → (a ≡ true) × (b ≡ true)
-both true b h = (refl, h)
-both false b h = absurd (cc h)
-
 shown_with : (i m : ℕ) (p : Block) (shown : List Shown) → metric_in i p shown ≡ None → (j : ℕ) (q : Block)
     → cond ((j == i) && same_prefix q p) (Some m) (metric_in j q shown) ≡ metric_in j q (shown ++ (record { interface = i; prefix = p; metric = m }) ∷ [])
 shown_with i m p shown none j q = by ((j == i) && same_prefix q p) refl ∙ sym (metric_in-snoc j q shown (record { interface = i; prefix = p; metric = m }))
   where
-    or_none : (o : Option ℕ) → o ≡ option_or o None
-    or_none None = refl
-    or_none (Some x) = refl
-
     by : (b : Bool) → ((j == i) && same_prefix q p) ≡ b → cond b (Some m) (metric_in j q shown) ≡ option_or (metric_in j q shown) (cond b (Some m) None)
     by true h =
-        let parts = both (j == i) (same_prefix q p) h in
+        let parts = both-true (j == i) (same_prefix q p) h in
         let here : j ≡ i = eqb-true j i parts.0 in
         let same : q ≡ p = same-is q p parts.1 in
         sym (ap (λ (o : Option ℕ). option_or o (Some m)) (ap (λ (k : ℕ). metric_in k q shown) here ∙ ap (λ (r : Block). metric_in i r shown) same ∙ none))
-    by false h = or_none (metric_in j q shown)
+    by false h = or-none (metric_in j q shown)
 
 -- a list with one more item means a table with one more metric
 state_with : (heard : List Bool) (prefixes : List Block) (shown : List Shown) (i m : ℕ) (p : Block) → metric_in i p shown ≡ None
@@ -76,16 +68,12 @@ new_at sender i s t e h = by (is_foreign sender e) (is_past s e.prefix) h
     by false true h = absurd (cc h)
     by false false h = cc h
 
-then_split : (r : Result State TableError) (f : State → Result State TableError) (t : State) → and_then r f ≡ Ok t → (u : State) × (r ≡ Ok u) × (f u ≡ Ok t)
-then_split (Ok u) f t h = (u, refl, h)
-then_split (Err e) f t h = absurd (cc h)
-
 -- one entry after the other
 pub added-joins : (heard : List Bool) (sender i : ℕ) (prefixes new_prefixes : List Block) (shown new_shown : List Shown) (e : Entry) (es : List Entry) (t : State)
     → IsAdded (record { interface = i; prefix = e.prefix; metric = e.metric }) prefixes shown new_prefixes new_shown
     → joined_entries sender i (list_state heard prefixes shown) (e ∷ es) ≡ Ok t → joined_entries sender i (list_state heard new_prefixes new_shown) es ≡ Ok t
 added-joins heard sender i prefixes new_prefixes shown new_shown e es t added h =
-    let split = then_split (joined_at sender i (list_state heard prefixes shown) e (metric_in i e.prefix shown)) (λ u. joined_entries sender i u es) t h in
+    let split = then-split (joined_at sender i (list_state heard prefixes shown) e (metric_in i e.prefix shown)) (λ u. joined_entries sender i u es) t h in
     ap (λ (u : State). joined_entries sender i u es) (by (metric_in i e.prefix shown) refl split.0 split.1) ∙ split.2
   where
     by : (o : Option ℕ) → metric_in i e.prefix shown ≡ o → (u : State) → joined_at sender i (list_state heard prefixes shown) e o ≡ Ok u → list_state heard new_prefixes new_shown ≡ u
@@ -101,15 +89,11 @@ added-joins heard sender i prefixes new_prefixes shown new_shown e es t added h 
 pub nothing-joins : (sender i : ℕ) (s : State) (es : List Entry) (t : State) → list_any (λ e. is_none (s.shows i e.prefix)) es ≡ false → joined_entries sender i s es ≡ Ok t → s ≡ t
 nothing-joins sender i s [] t none h = cc h
 nothing-joins sender i s (e ∷ es) t none h =
-    let split = then_split (joined_at sender i s e (s.shows i e.prefix)) (λ u. joined_entries sender i u es) t h in
-    let parts = neither (is_none (s.shows i e.prefix)) (list_any (λ d. is_none (s.shows i d.prefix)) es) none in
+    let split = then-split (joined_at sender i s e (s.shows i e.prefix)) (λ u. joined_entries sender i u es) t h in
+    let parts = neither-true (is_none (s.shows i e.prefix)) (list_any (λ d. is_none (s.shows i d.prefix)) es) none in
     let same = here (s.shows i e.prefix) parts.0 split.0 split.1 in
     nothing-joins sender i s es t parts.1 (ap (λ (u : State). joined_entries sender i u es) same ∙ split.2)
   where
-    neither : (a b : Bool) → (a || b) ≡ false → (a ≡ false) × (b ≡ false)
-    neither true b h = absurd (cc h)
-    neither false b h = (refl, h)
-
     here : (o : Option ℕ) → is_none o ≡ false → (u : State) → joined_at sender i s e o ≡ Ok u → s ≡ u
     here None h u k = absurd (cc h)
     here (Some old) h u k = known_at sender i s u e old k

@@ -13,6 +13,7 @@ use Rattle.rip_plan.specs.Network.{number_of_prefix}
 use Rattle.rip_plan.specs.Passes.{same_prefix}
 use Rattle.rip_table.specs.State.{IsState, State, is_among}
 use Rattle.rip_table.specs.Numbers.{AreNumbers, metric_among}
+use Rattle.rip_table.proofs.Truth.{or-true}
 use Rattle.rip_table.proofs.Lists.{same-is, is_among-item, take-more}
 
 pub true-false : {A : Type 0} (b : Bool) → b ≡ true → b ≡ false → A
@@ -116,11 +117,7 @@ any-item test [] j e at h = absurd (cc at)
 any-item test (d ∷ es) zero e at h =
     let is : d ≡ e = cc at in
     ap (λ (b : Bool). b || list_any test es) (ap test is ∙ h)
-any-item test (d ∷ es) (suc j) e at h = ap (λ (b : Bool). test d || b) (any-item test es j e at h) ∙ or_true (test d)
-  where
-    or_true : (b : Bool) → (b || true) ≡ true
-    or_true true = refl
-    or_true false = refl
+any-item test (d ∷ es) (suc j) e at h = ap (λ (b : Bool). test d || b) (any-item test es j e at h) ∙ or-true (test d)
 
 -- one more entry that does not pass
 pub any-passed : (test : Entry → Bool) (es : List Entry) (j : ℕ) (e : Entry) → list_any test (take j es) ≡ false → slice_get es j ≡ Some e → test e ≡ false → list_any test (take (j + 1) es) ≡ false

@@ -165,8 +165,8 @@ heads-with_cell [] k i x = refl
 heads-with_cell (row ∷ rows) zero i x = refl
 heads-with_cell (row ∷ rows) (suc k) i x = ap (λ (ps : List Block). row.0 ∷ ps) (heads-with_cell rows k i x)
 
-grid_tail : (n : ℕ) (r : Block × List (Option ℕ)) (rows : Rows) → IsGrid n (r ∷ rows) → IsGrid n rows
-grid_tail n r rows h k d lt = h (suc k) d (omega (arith, lt))
+pub grid-tail : (n : ℕ) (r : Block × List (Option ℕ)) (rows : Rows) → IsGrid n (r ∷ rows) → IsGrid n rows
+grid-tail n r rows h k d lt = h (suc k) d (omega (arith, lt))
 
 grid_cons : (n : ℕ) (r : Block × List (Option ℕ)) (rows : Rows) → length r.1 ≡ n → IsGrid n rows → IsGrid n (r ∷ rows)
 grid_cons n r rows e h zero d lt = e
@@ -175,8 +175,8 @@ grid_cons n r rows e h (suc k) d lt = h k d (omega (arith, lt))
 -- a write leaves the width
 pub grid-with_cell : (n : ℕ) (rows : Rows) (k i : ℕ) (x : Option ℕ) → IsGrid n rows → IsGrid n (with_cell rows k i x)
 grid-with_cell n [] k i x h = h
-grid-with_cell n (r ∷ rows) zero i x h = grid_cons n (r.0, set r.1 i x) rows (length-set r.1 i x ∙ h 0 r (omega arith)) (grid_tail n r rows h)
-grid-with_cell n (r ∷ rows) (suc k) i x h = grid_cons n r (with_cell rows k i x) (h 0 r (omega arith)) (grid-with_cell n rows k i x (grid_tail n r rows h))
+grid-with_cell n (r ∷ rows) zero i x h = grid_cons n (r.0, set r.1 i x) rows (length-set r.1 i x ∙ h 0 r (omega arith)) (grid-tail n r rows h)
+grid-with_cell n (r ∷ rows) (suc k) i x h = grid_cons n r (with_cell rows k i x) (h 0 r (omega arith)) (grid-with_cell n rows k i x (grid-tail n r rows h))
 
 length-empty : (w : ℕ) → length (replicate {A = Option ℕ} w None) ≡ w
 length-empty zero = refl
@@ -184,7 +184,7 @@ length-empty (suc w) = ap suc (length-empty w)
 
 grid_push : (n : ℕ) (rows : Rows) (r : Block × List (Option ℕ)) → IsGrid n rows → length r.1 ≡ n → IsGrid n (rows ++ r ∷ [])
 grid_push n [] r all h = grid_cons n r [] h (λ k d lt. absurd (omega (arith, lt)))
-grid_push n (x ∷ rows) r all h = grid_cons n x (rows ++ r ∷ []) (all 0 x (omega arith)) (grid_push n rows r (grid_tail n x rows all) h)
+grid_push n (x ∷ rows) r all h = grid_cons n x (rows ++ r ∷ []) (all 0 x (omega arith)) (grid_push n rows r (grid-tail n x rows all) h)
 
 pub grid-with_row : (n : ℕ) (rows : Rows) (p : Block) → IsGrid n rows → IsGrid n (with_row n rows p)
 grid-with_row n rows p h = by (is_among p (heads rows))

@@ -1,0 +1,39 @@
+-- Truth values, options and results: small facts that several proofs use.
+use Rattle.std.proofs.Common.{◌≡◌, ℕ, Bool, true, false, ◌&&◌, ◌||◌, Option, Some, None, Result, Ok, Err, refl}
+use Rattle.std.specs.Option.{option_or}
+use Rattle.rip_table.specs.State.{State}
+use Rattle.rip_table.specs.Joined.{and_then}
+use Rattle.rip_table.specs.declared.error.TableError.{TableError}
+
+pub both-true : (a b : Bool) → (a && b) ≡ true → (a ≡ true) × (b ≡ true)
+both-true true b h = (refl, h)
+both-true false b h = absurd (cc h)
+
+pub neither-true : (a b : Bool) → (a || b) ≡ false → (a ≡ false) × (b ≡ false)
+neither-true true b h = absurd (cc h)
+neither-true false b h = (refl, h)
+
+pub or-true : (b : Bool) → (b || true) ≡ true
+or-true true = refl
+or-true false = refl
+
+pub or-false : (b : Bool) → b ≡ (b || false)
+or-false true = refl
+or-false false = refl
+
+pub and-true : (b : Bool) → b ≡ (b && true)
+and-true true = refl
+and-true false = refl
+
+pub and-false : (b : Bool) → (b && false) ≡ false
+and-false true = refl
+and-false false = refl
+
+pub or-none : (o : Option ℕ) → o ≡ option_or o None
+or-none None = refl
+or-none (Some x) = refl
+
+-- what is joined after a step was joined to what the step gave
+pub then-split : (r : Result State TableError) (f : State → Result State TableError) (t : State) → and_then r f ≡ Ok t → (u : State) × (r ≡ Ok u) × (f u ≡ Ok t)
+then-split (Ok u) f t h = (u, refl, h)
+then-split (Err e) f t h = absurd (cc h)
