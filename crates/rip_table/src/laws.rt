@@ -1,0 +1,39 @@
+//! Laws of the definitions alone: functions without a body, whose contracts hold of every plan and
+//! every log.
+
+ghost use Rattle.std.specs.Prelude.{◌≡◌, ◌↔◌, ℕ, List, Option, Some, Ok, Err};
+ghost use Rattle.rip_wire.specs.Message.{request, message_in};
+ghost use Rattle.rip_plan.specs.Network.{Network, found_at};
+ghost use Rattle.rip_plan.specs.Relations.{IsAt, IsLawful};
+ghost use Rattle.rip_log.specs.Lines.{Capture};
+ghost use Rattle.rip_log.specs.Logs.{Log, Numbered};
+ghost use Rattle.rip_table.specs.State.{Fits, IsState, State};
+ghost use Rattle.rip_table.specs.Joined.{joined_capture, joined_records, outcome};
+ghost use Rattle.rip_table.specs.LogJoin.{IsFirstRefused, IsJoin, IsOutcome};
+ghost use Rattle.rip_table.specs.declared.error.CollectCause.{CollectCause};
+ghost use Rattle.rip_table.specs.declared.error.CollectError.{CollectError};
+
+/// The records that are joined make of a table what the log tells: metrics, interfaces that were
+/// heard, and prefixes in the order of their first appearance.
+pub fn joined_logs()
+    ensures join { (n : Network) (old new : State) (log : List Numbered) → IsLawful n → IsState old → Fits n old → joined_records n old log ≡ Ok new → IsJoin n old log new }
+    ensures state { (n : Network) (old new : State) (log : List Numbered) → IsLawful n → IsState old → Fits n old → joined_records n old log ≡ Ok new → IsState new }
+    ensures fits { (n : Network) (old new : State) (log : List Numbered) → Fits n old → joined_records n old log ≡ Ok new → Fits n new }
+{}
+
+/// A log is refused exactly by its first record that is refused, and its line is that record's; else
+/// by the log's own fault.
+pub fn refused_logs()
+    ensures records { (n : Network) (old : State) (log : List Numbered) (cause : CollectCause) → IsLawful n → IsState old → Fits n old → (joined_records n old log ≡ Err cause) ↔ ((s : State) × (line : ℕ) × IsFirstRefused n old log s line cause) }
+    ensures outcome { (n : Network) (old s : State) (log : Log) (fault : Option CollectError) → IsLawful n → IsState old → Fits n old → (outcome n old log ≡ record { state = s; fault = fault }) ↔ IsOutcome n old log s fault }
+{}
+
+/// A request changes nothing, whoever sent it.
+pub fn kept_requests()
+    ensures { (n : Network) (s : State) (c : Capture) → message_in c.datagram ≡ Ok request → joined_capture n s c ≡ Ok s }
+{}
+
+/// The interface that is found for a link and a sender is the one that has the address there.
+pub fn found_interfaces()
+    ensures { (n : Network) (name : List ℕ) (a i : ℕ) → IsLawful n → (found_at n name a ≡ Some i) ↔ IsAt n name a i }
+{}
