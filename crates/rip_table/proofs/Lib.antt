@@ -11,3 +11,4 @@ pub mod NewLemmas
 pub mod RowLemmas
 pub mod CellLemmas
 pub mod AfterLemmas
+pub mod FoundLemmas
