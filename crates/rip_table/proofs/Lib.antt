@@ -12,3 +12,6 @@ pub mod RowLemmas
 pub mod CellLemmas
 pub mod AfterLemmas
 pub mod FoundLemmas
+pub mod MakesLemmas
+pub mod MetricLemmas
+pub mod SaidLemmas
