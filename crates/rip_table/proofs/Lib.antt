@@ -15,3 +15,4 @@ pub mod FoundLemmas
 pub mod MakesLemmas
 pub mod MetricLemmas
 pub mod SaidLemmas
+pub mod RefusedLemmas
