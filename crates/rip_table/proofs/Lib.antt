@@ -16,3 +16,4 @@ pub mod MakesLemmas
 pub mod MetricLemmas
 pub mod SaidLemmas
 pub mod RefusedLemmas
+pub mod OneJoin

@@ -147,6 +147,10 @@ pub record IsFirstRefused (n : Network) (old : State) (log : List Numbered) (s :
   pub joined : joined_records n old before ≡ Ok s
   pub refused : IsRefused n s capture cause
 
+-- no record of a log is refused
+abbrev pub AreAccepted : Network → State → List Numbered → Type 0
+AreAccepted n old log = (s : State) (line : ℕ) (cause : CollectCause) → IsFirstRefused n old log s line cause → ⊥
+
 -- the records of a log are joined, and this is the log's own fault
 pub record IsFaultOf (n : Network) (old : State) (log : Log) (s : State) (error : CollectError) : Type 0 where
   pub fault : LogError

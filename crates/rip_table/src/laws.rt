@@ -9,7 +9,7 @@ ghost use Rattle.rip_log.specs.Lines.{Capture};
 ghost use Rattle.rip_log.specs.Logs.{Log, Numbered};
 ghost use Rattle.rip_table.specs.State.{Fits, IsState, State};
 ghost use Rattle.rip_table.specs.Joined.{joined_capture, joined_records, outcome};
-ghost use Rattle.rip_table.specs.LogJoin.{IsFirstRefused, IsJoin, IsOutcome};
+ghost use Rattle.rip_table.specs.LogJoin.{AreAccepted, IsFirstRefused, IsJoin, IsOutcome};
 ghost use Rattle.rip_table.specs.declared.error.CollectCause.{CollectCause};
 ghost use Rattle.rip_table.specs.declared.error.CollectError.{CollectError};
 
@@ -18,7 +18,15 @@ ghost use Rattle.rip_table.specs.declared.error.CollectError.{CollectError};
 pub fn joined_logs()
     ensures join { (n : Network) (old new : State) (log : List Numbered) → IsLawful n → IsState old → Fits n old → joined_records n old log ≡ Ok new → IsJoin n old log new }
     ensures state { (n : Network) (old new : State) (log : List Numbered) → IsLawful n → IsState old → Fits n old → joined_records n old log ≡ Ok new → IsState new }
+    // a table that is their join, where none of them is refused
+    ensures only { (n : Network) (old new : State) (log : List Numbered) → IsLawful n → IsState old → Fits n old → IsState new → IsJoin n old log new → AreAccepted n old log → joined_records n old log ≡ Ok new }
     ensures fits { (n : Network) (old new : State) (log : List Numbered) → Fits n old → joined_records n old log ≡ Ok new → Fits n new }
+{}
+
+/// What a log makes of a table is one table: two that are a join of the same are the same, the order
+/// of their prefixes included.
+pub fn one_join()
+    ensures { (n : Network) (old s t : State) (log : List Numbered) → IsState s → IsState t → IsJoin n old log s → IsJoin n old log t → s ≡ t }
 {}
 
 /// A log is refused exactly by its first record that is refused, and its line is that record's; else
