@@ -33,6 +33,12 @@ either_list (y ∷ xs) ys (suc k) x h = elim (either_list xs ys k x h) [
   | inr e ↦ inr (e.0, omega (arith, e.1), e.2)
 ]
 
+-- an item of the first of two lists is at its number there
+pub front_at : (ps qs : List Block) (k : ℕ) (p : Block) → slice_get ps k ≡ Some p → slice_get (ps ++ qs) k ≡ Some p
+front_at [] qs k p h = absurd (cc h)
+front_at (x ∷ ps) qs zero p h = h
+front_at (x ∷ ps) qs (suc k) p h = front_at ps qs k p h
+
 first_among : (p : Block) (ps qs : List Block) → is_among p ps ≡ true → is_among p (ps ++ qs) ≡ true
 first_among p ps qs h = is_among-append p ps qs ∙ ap (λ (b : Bool). b || is_among p qs) h
 

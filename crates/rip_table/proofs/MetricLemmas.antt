@@ -1,5 +1,5 @@
 -- The metrics of a response are metrics.
-use Rattle.std.proofs.Common.{◌≡◌, ℕ, zero, suc, ◌+◌, ◌≤◌, ◌==◌, ◌||◌, not, nat_lt, List, [], ◌∷◌, Some, Ok, ap, ◌∙◌, arith, subst}
+use Rattle.std.proofs.Common.{◌≡◌, ℕ, zero, suc, ◌+◌, ◌≤◌, ◌==◌, ◌||◌, not, nat_lt, List, [], ◌∷◌, ◌++◌, Some, Ok, ap, ◌∙◌, arith, subst}
 use Rattle.std.specs.List.{slice_get}
 use Rattle.std.proofs.lemmas.Bool.Decides.{nat_tests}
 use Rattle.rip_wire.specs.Fields.{number_at}
@@ -58,3 +58,9 @@ read_metrics b es h = let r = read_message b (response es) h in by r.kind r.mess
         let same : response e.0 ≡ response es = same_Ok (response e.0) (response es) e.2 in
         let is : e.0 ≡ es = cc same in
         subst AreMetrics is (read_entries (groups_in b) 4 b e.0 e.1)
+
+-- so are those of its first entries
+pub front_metrics : (front rest : List Entry) → AreMetrics (front ++ rest) → AreMetrics front
+front_metrics [] rest h k e at = absurd (cc at)
+front_metrics (d ∷ front) rest h zero e at = h 0 e at
+front_metrics (d ∷ front) rest h (suc k) e at = front_metrics front rest (λ j x there. h (suc j) x there) k e at

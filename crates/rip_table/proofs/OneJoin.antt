@@ -8,7 +8,7 @@ use Rattle.rip_plan.specs.Network.{Network}
 use Rattle.rip_log.specs.Logs.{Numbered}
 use Rattle.rip_table.specs.State.{IsState, State}
 use Rattle.rip_table.specs.LogJoin.{AreInOrder, ComesBefore, IsJoin, IsListed, IsNamed, IsTold}
-use Rattle.rip_table.proofs.MakesLemmas.{either_list}
+use Rattle.rip_table.proofs.MakesLemmas.{either_list, front_at}
 
 abbrev Has : List Block → Block → Type 0
 Has ps p = (k : ℕ) × (slice_get ps k ≡ Some p)
@@ -76,11 +76,6 @@ module _ (n : Network) (log : List Numbered) where
 back_at : (ps qs : List Block) (j : ℕ) (p : Block) → slice_get qs j ≡ Some p → slice_get (ps ++ qs) (length ps + j) ≡ Some p
 back_at [] qs j p h = let same : 0 + j ≡ j = omega arith in ap (slice_get qs) same ∙ h
 back_at (x ∷ ps) qs j p h = let same : length (x ∷ ps) + j ≡ suc (length ps + j) = omega arith in ap (slice_get (x ∷ (ps ++ qs))) same ∙ back_at ps qs j p h
-
-front_at : (ps qs : List Block) (k : ℕ) (p : Block) → slice_get ps k ≡ Some p → slice_get (ps ++ qs) k ≡ Some p
-front_at [] qs k p h = absurd (cc h)
-front_at (x ∷ ps) qs zero p h = h
-front_at (x ∷ ps) qs (suc k) p h = front_at ps qs k p h
 
 same_option : (a b : Option ℕ) → ((x : ℕ) → a ≡ Some x → b ≡ Some x) → ((x : ℕ) → b ≡ Some x → a ≡ Some x) → a ≡ b
 same_option None None to from = refl

@@ -27,7 +27,7 @@ use Rattle.rip_table.proofs.CheckLemmas.{heard_valid, joined-append}
 use Rattle.rip_table.proofs.FitLemmas.{Fits-joined}
 use Rattle.rip_table.proofs.FoundLemmas.{found-IsAt, IsAt-found}
 use Rattle.rip_table.proofs.JoinLemmas.{outcome_of-front}
-use Rattle.rip_table.proofs.MetricLemmas.{AreMetrics, read_metrics}
+use Rattle.rip_table.proofs.MetricLemmas.{AreMetrics, front_metrics, read_metrics}
 use Rattle.rip_table.proofs.SaidLemmas.{fits_log, interface_below, item-is_among, joined_valid, makes_capture, makes_entries, makes_log}
 
 -- ---- a route by another router
@@ -186,11 +186,6 @@ first_bad sender i s (e ∷ es) error h = by (joined_at sender i s e (s.shows i 
           joined = ap (λ (r : Result State TableError). and_then r (λ u. joined_entries sender i u found.front)) is ∙ found.joined;
           bad = found.bad;
         }
-
-front_metrics : (front rest : List Entry) → AreMetrics (front ++ rest) → AreMetrics front
-front_metrics [] rest h k e at = absurd (cc at)
-front_metrics (d ∷ front) rest h zero e at = h 0 e at
-front_metrics (d ∷ front) rest h (suc k) e at = front_metrics front rest (λ j x there. h (suc j) x there) k e at
 
 bad_entries : (sender i : ℕ) (s u : State) (front rest : List Entry) (e : Entry) (error : TableError) → AreMetrics (front ++ e ∷ rest) → IsState s → i < s.interfaces
     → joined_entries sender i s front ≡ Ok u → IsBadEntry sender i u e error → joined_entries sender i s (front ++ e ∷ rest) ≡ Err error

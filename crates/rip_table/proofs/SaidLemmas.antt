@@ -16,7 +16,7 @@ use Rattle.rip_log.specs.Lines.{Capture}
 use Rattle.rip_log.specs.Logs.{Numbered}
 use Rattle.rip_table.specs.State.{Fits, IsState, State, is_among}
 use Rattle.rip_table.specs.Joined.{and_then, as_cause, interface_of, is_foreign, is_past, joined_at, joined_capture, joined_entries, joined_from, joined_message, joined_records, message_of_capture, with_heard, with_metric}
-use Rattle.rip_table.specs.LogJoin.{ComesBefore, HasEntry, HasResponse, HasUpdate, IsJoin, IsListed, IsNamed, IsResponse, IsSaid, IsTold, KeepsMetric}
+use Rattle.rip_table.specs.LogJoin.{AreTaken, ComesBefore, HasEntry, HasResponse, HasUpdate, IsJoin, IsListed, IsNamed, IsResponse, IsSaid, IsTold, KeepsMetric}
 use Rattle.rip_table.specs.declared.error.TableError.{TableError}
 use Rattle.rip_table.specs.declared.error.TableError.TheVariants.{Changed, NextHop, TooManyPrefixes}
 use Rattle.rip_table.specs.declared.error.CollectCause.{CollectCause}
@@ -28,7 +28,7 @@ use Rattle.rip_table.proofs.FoundLemmas.{found-IsAt, IsAt-found}
 use Rattle.rip_table.proofs.AfterLemmas.{Listed, joined_is, new_among, then_split}
 use Rattle.rip_table.proofs.CheckLemmas.{heard_valid, valid_with}
 use Rattle.rip_table.proofs.MetricLemmas.{AreMetrics, read_metrics}
-use Rattle.rip_table.proofs.MakesLemmas.{Joining, Makes, either_list, makes_as, makes_both, makes_nothing}
+use Rattle.rip_table.proofs.MakesLemmas.{Joining, Makes, either_list, front_at, makes_as, makes_both, makes_nothing}
 
 both : (a b : Bool) → (a && b) ≡ true → (a ≡ true) × (b ≡ true)
 both true b h = (refl, h)
@@ -387,21 +387,30 @@ item-is_among p ps h = by (number_of_prefix p ps) refl
     by None is = true-false (is_among p ps) h (number-none p ps is)
     by (Some k) is = (k, number-at p ps k is)
 
-front_at : (ps qs : List Block) (k : ℕ) (p : Block) → slice_get ps k ≡ Some p → slice_get (ps ++ qs) k ≡ Some p
-front_at [] qs k p h = absurd (cc h)
-front_at (x ∷ ps) qs zero p h = h
-front_at (x ∷ ps) qs (suc k) p h = front_at ps qs k p h
+-- a prefix is listed where it was, or where something said it
+module _ {X : Type 0} (says : X → ℕ → Block → ℕ → Type 0) (before : X → X → Type 0) (hears : ℕ → Type 0) (old new : State) (made : Makes says before hears old new) where
+  said_of : (p : Block) → IsListed new p → IsListed old p ⊎ ((x : X) × (i m : ℕ) × says x i p m)
+  said_of p h = elim (either_list old.prefixes made.others h.0 p (ap (λ (ps : List Block). slice_get ps h.0) (sym made.prefixes) ∙ h.1)) [
+    | inl e ↦ inl (h.0, e)
+    | inr e ↦ inr (made.named e.0 p e.2)
+  ]
+
+  still_listed : (p : Block) → IsListed old p → IsListed new p
+  still_listed p h = (h.0, ap (λ (ps : List Block). slice_get ps h.0) made.prefixes ∙ front_at old.prefixes made.others h.0 p h.1)
+
+  said_listed : (p : Block) (x : X) (i m : ℕ) → says x i p m → IsListed new p
+  said_listed p x i m h = item-is_among p new.prefixes (made.listed x i p m h)
 
 module _ (n : Network) (old new : State) (log : List Numbered) (made : Makes (says_log n log) before_log (HasUpdate n log) old new) where
   listed_to : (p : Block) → IsListed new p → IsListed old p ⊎ ((i x : ℕ) × IsTold n log i p x)
-  listed_to p h = elim (either_list old.prefixes made.others h.0 p (ap (λ (ps : List Block). slice_get ps h.0) (sym made.prefixes) ∙ h.1)) [
-    | inl e ↦ inl (h.0, e)
-    | inr e ↦ let named = made.named e.0 p e.2 in let z = named.0 in inr (named.1, named.2, (z.0, z.1, named.3))
+  listed_to p h = elim (said_of (says_log n log) before_log (HasUpdate n log) old new made p h) [
+    | inl e ↦ inl e
+    | inr e ↦ let z = e.0 in inr (e.1, e.2, (z.0, z.1, e.3))
   ]
 
   listed_from : (p : Block) → IsListed old p ⊎ ((i x : ℕ) × IsTold n log i p x) → IsListed new p
-  listed_from p (inl h) = (h.0, ap (λ (ps : List Block). slice_get ps h.0) made.prefixes ∙ front_at old.prefixes made.others h.0 p h.1)
-  listed_from p (inr h) = let told = h.2 in item-is_among p new.prefixes (made.listed (told.0, told.1) h.0 p h.1 told.2)
+  listed_from p (inl h) = still_listed (says_log n log) before_log (HasUpdate n log) old new made p h
+  listed_from p (inr h) = let told = h.2 in said_listed (says_log n log) before_log (HasUpdate n log) old new made p (told.0, told.1) h.0 h.1 told.2
 
   shown_to : (i : ℕ) (p : Block) (x : ℕ) → new.shows i p ≡ Some x → (old.shows i p ≡ Some x) ⊎ IsTold n log i p x
   shown_to i p x h = elim (made.shown i p x h) [
@@ -429,4 +438,45 @@ module _ (n : Network) (old new : State) (log : List Numbered) (made : Makes (sa
         let first = made.order a b p q lt e d (l, m) h.0 h.1 h.2 in
         let y = first.0 in
         (y.0, y.1, first.1, first.2);
+  }
+
+-- ---- the entries that are taken
+
+module _ (i : ℕ) (old new : State) (es : List Entry) (made : Makes (says_entries i es) earlier nobody old new) where
+  entries_to : (j : ℕ) (p : Block) (x : ℕ) → new.shows j p ≡ Some x → (old.shows j p ≡ Some x) ⊎ ((j ≡ i) × ((k : ℕ) × HasEntry es k p x))
+  entries_to j p x h = elim (made.shown j p x h) [
+    | inl e ↦ inl e
+    | inr e ↦ let says = e.1 in inr (says.0, (e.0, says.1))
+  ]
+
+  entries_from : (j : ℕ) (p : Block) (x : ℕ) → (old.shows j p ≡ Some x) ⊎ ((j ≡ i) × ((k : ℕ) × HasEntry es k p x)) → new.shows j p ≡ Some x
+  entries_from j p x (inl h) = made.kept j p x h
+  entries_from j p x (inr h) = let entry = h.1 in made.told entry.0 j p x (h.0, entry.1)
+
+  heard_to : (j : ℕ) → new.heard j ≡ true → old.heard j ≡ true
+  heard_to j h = elim (made.heard j h) [ inl e ↦ e | inr e ↦ absurd e ]
+
+  entries_listed : (p : Block) → IsListed new p → IsListed old p ⊎ ((k x : ℕ) × HasEntry es k p x)
+  entries_listed p h = elim (said_of (says_entries i es) earlier nobody old new made p h) [
+    | inl e ↦ inl e
+    | inr e ↦ let says = e.3 in inr (e.0, e.2, says.1)
+  ]
+
+  listed_entries : (p : Block) → IsListed old p ⊎ ((k x : ℕ) × HasEntry es k p x) → IsListed new p
+  listed_entries p (inl h) = still_listed (says_entries i es) earlier nobody old new made p h
+  listed_entries p (inr h) = said_listed (says_entries i es) earlier nobody old new made p h.0 i h.1 (refl, h.2)
+
+  pub taken_made : AreTaken i old es new
+  taken_made = record {
+    interfaces = made.interfaces;
+    shown = λ j p x. (entries_to j p x, entries_from j p x);
+    heard = λ j. (heard_to j, made.still j);
+    listed = λ p. (entries_listed p, listed_entries p);
+    others = made.others;
+    prefixes = made.prefixes;
+    order = λ a b p q lt e d m y h.
+        let first = made.order a b p q lt e d m i y (refl, h) in
+        let named = first.1 in
+        let says = named.2 in
+        (first.0, named.1, says.1, first.2);
   }

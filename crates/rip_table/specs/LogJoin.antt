@@ -75,6 +75,22 @@ pub record IsJoin (n : Network) (old : State) (log : List Numbered) (new : State
   pub prefixes : new.prefixes ≡ old.prefixes ++ others
   pub order : AreInOrder n log others
 
+-- prefixes stand in the order of the first entries that are of them
+abbrev pub AreInEntryOrder : List Entry → List Block → Type 0
+AreInEntryOrder entries prefixes =
+    (a b : ℕ) (p q : Block) → a < b → slice_get prefixes a ≡ Some p → slice_get prefixes b ≡ Some q
+    → (m y : ℕ) → HasEntry entries m q y → (k x : ℕ) × HasEntry entries k p x × (k < m)
+
+-- entries of interface i make this table of an old one
+pub record AreTaken (i : ℕ) (old : State) (entries : List Entry) (new : State) : Type 0 where
+  pub interfaces : new.interfaces ≡ old.interfaces
+  pub shown : (j : ℕ) (p : Block) (x : ℕ) → (new.shows j p ≡ Some x) ↔ ((old.shows j p ≡ Some x) ⊎ ((j ≡ i) × ((k : ℕ) × HasEntry entries k p x)))
+  pub heard : (j : ℕ) → (new.heard j ≡ true) ↔ (old.heard j ≡ true)
+  pub listed : (p : Block) → IsListed new p ↔ (IsListed old p ⊎ ((k x : ℕ) × HasEntry entries k p x))
+  pub others : List Block
+  pub prefixes : new.prefixes ≡ old.prefixes ++ others
+  pub order : AreInEntryOrder entries others
+
 -- ---- what refuses a log
 
 -- what an interface showed of an entry's prefix, if anything, is the entry's metric

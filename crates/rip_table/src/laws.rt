@@ -1,15 +1,16 @@
 //! Laws of the definitions alone: functions without a body, whose contracts hold of every plan and
 //! every log.
 
-ghost use Rattle.std.specs.Prelude.{◌≡◌, ◌↔◌, ℕ, List, Option, Some, Ok, Err};
+ghost use Rattle.std.specs.Prelude.{◌≡◌, ◌↔◌, ℕ, List, ◌++◌, Option, Some, Ok, Err};
 ghost use Rattle.rip_wire.specs.Message.{request, message_in};
+ghost use Rattle.rip_wire.specs.declared.entry.Entry.{Entry};
 ghost use Rattle.rip_plan.specs.Network.{Network, found_at};
 ghost use Rattle.rip_plan.specs.Relations.{IsAt, IsLawful};
 ghost use Rattle.rip_log.specs.Lines.{Capture};
 ghost use Rattle.rip_log.specs.Logs.{Log, Numbered};
 ghost use Rattle.rip_table.specs.State.{Fits, IsState, State};
-ghost use Rattle.rip_table.specs.Joined.{joined_capture, joined_records, outcome};
-ghost use Rattle.rip_table.specs.LogJoin.{AreAccepted, IsFirstRefused, IsJoin, IsOutcome};
+ghost use Rattle.rip_table.specs.Joined.{joined_capture, joined_entries, joined_records, outcome};
+ghost use Rattle.rip_table.specs.LogJoin.{AreAccepted, AreTaken, IsFirstRefused, IsJoin, IsOutcome, IsResponse};
 ghost use Rattle.rip_table.specs.declared.error.CollectCause.{CollectCause};
 ghost use Rattle.rip_table.specs.declared.error.CollectError.{CollectError};
 
@@ -21,6 +22,11 @@ pub fn joined_logs()
     // a table that is their join, where none of them is refused
     ensures only { (n : Network) (old new : State) (log : List Numbered) → IsLawful n → IsState old → Fits n old → IsState new → IsJoin n old log new → AreAccepted n old log → joined_records n old log ≡ Ok new }
     ensures fits { (n : Network) (old new : State) (log : List Numbered) → Fits n old → joined_records n old log ≡ Ok new → Fits n new }
+{}
+
+/// The first entries of a response that are joined make of a table what they say.
+pub fn joined_entries_are_taken()
+    ensures { (n : Network) (old new : State) (c : Capture) (i : ℕ) (front rest : List Entry) → IsState old → Fits n old → IsResponse n c i (front ++ rest) → joined_entries c.sender i old front ≡ Ok new → AreTaken i old front new }
 {}
 
 /// What a log makes of a table is one table: two that are a join of the same are the same, the order
