@@ -17,3 +17,4 @@ pub mod MetricLemmas
 pub mod SaidLemmas
 pub mod RefusedLemmas
 pub mod OneJoin
+pub mod UpdateLemmas

@@ -92,7 +92,7 @@ module _ (n : Network) (old : State) (log : List Numbered) where
   differ_in s join valid j k p h e =
       valid.differ j k p (ap (λ (ps : List Block). slice_get ps j) join.prefixes ∙ h) (ap (λ (ps : List Block). slice_get ps k) join.prefixes ∙ e)
 
-  differ_others : (s : State) (join : IsJoin n old log s) → IsState s → Differ join.others
+  pub differ_others : (s : State) (join : IsJoin n old log s) → IsState s → Differ join.others
   differ_others s join valid j k p h e =
       let same = differ_in s join valid (length old.prefixes + j) (length old.prefixes + k) p (back_at old.prefixes join.others j p h) (back_at old.prefixes join.others k p e) in
       omega (arith, same)
@@ -104,7 +104,7 @@ module _ (n : Network) (old : State) (log : List Numbered) where
       omega (arith, same, slice_get_within old.prefixes there.0 p there.1)
 
   -- the log tells of a new prefix
-  new_told : (s : State) (join : IsJoin n old log s) → IsState s → (p : Block) → Has join.others p → (i x : ℕ) × IsTold n log i p x
+  pub new_told : (s : State) (join : IsJoin n old log s) → IsState s → (p : Block) → Has join.others p → (i x : ℕ) × IsTold n log i p x
   new_told s join valid p h =
       let listed : IsListed s p = (length old.prefixes + h.0, ap (λ (ps : List Block). slice_get ps (length old.prefixes + h.0)) join.prefixes ∙ back_at old.prefixes join.others h.0 p h.1) in
       elim ((join.listed p).0 listed) [

@@ -1,7 +1,7 @@
 //! Laws of the definitions alone: functions without a body, whose contracts hold of every plan and
 //! every log.
 
-ghost use Rattle.std.specs.Prelude.{◌≡◌, ◌↔◌, ℕ, List, ◌++◌, Option, Some, Ok, Err};
+ghost use Rattle.std.specs.Prelude.{◌≡◌, ◌≢◌, ◌↔◌, ℕ, true, List, [], ◌∷◌, ◌++◌, Option, Some, Ok, Err};
 ghost use Rattle.rip_wire.specs.Message.{request, message_in};
 ghost use Rattle.rip_wire.specs.declared.entry.Entry.{Entry};
 ghost use Rattle.rip_plan.specs.Network.{Network, found_at};
@@ -10,8 +10,10 @@ ghost use Rattle.rip_log.specs.Lines.{Capture};
 ghost use Rattle.rip_log.specs.Logs.{Log, Numbered};
 ghost use Rattle.rip_table.specs.State.{Fits, IsState, State};
 ghost use Rattle.rip_table.specs.Joined.{joined_capture, joined_entries, joined_records, outcome};
-ghost use Rattle.rip_table.specs.LogJoin.{AreAccepted, AreTaken, IsFirstRefused, IsJoin, IsOutcome, IsResponse};
+ghost use Rattle.rip_table.specs.LogJoin.{AreAccepted, AreTaken, IsFirstRefused, IsJoin, IsListed, IsOutcome, IsResponse};
 ghost use Rattle.rip_table.specs.declared.error.CollectCause.{CollectCause};
+ghost use Rattle.rip_table.specs.declared.error.CollectCause.TheVariants.{Table};
+ghost use Rattle.rip_table.specs.declared.error.TableError.TheVariants.{Changed};
 ghost use Rattle.rip_table.specs.declared.error.CollectError.{CollectError};
 
 /// The records that are joined make of a table what the log tells: metrics, interfaces that were
@@ -50,4 +52,16 @@ pub fn kept_requests()
 /// The interface that is found for a link and a sender is the one that has the address there.
 pub fn found_interfaces()
     ensures { (n : Network) (name : List ℕ) (a i : ℕ) → IsLawful n → (found_at n name a ≡ Some i) ↔ IsAt n name a i }
+{}
+
+/// A response with one entry, whose prefix is new, puts the prefix last in the list and shows its
+/// metric.
+pub fn new_prefixes()
+    ensures { (n : Network) (old new : State) (r : Numbered) (i : ℕ) (e : Entry) → IsState new → IsJoin n old (r ∷ []) new → IsResponse n r.capture i (e ∷ []) → ¬ IsListed old e.prefix → (new.prefixes ≡ old.prefixes ++ e.prefix ∷ []) × (new.shows i e.prefix ≡ Some e.metric) × (new.heard i ≡ true) }
+{}
+
+/// A response with one entry that gives a prefix another metric than the one before is refused on its
+/// line, whatever follows.
+pub fn changed_metrics()
+    ensures { (n : Network) (old s : State) (first second : Numbered) (log : Log) (rest : List Numbered) (i : ℕ) (e f : Entry) → IsLawful n → IsState old → Fits n old → log.records ≡ first ∷ second ∷ rest → joined_records n old (first ∷ []) ≡ Ok s → IsResponse n first.capture i (e ∷ []) → IsResponse n second.capture i (f ∷ []) → e.prefix ≡ f.prefix → e.metric ≢ f.metric → outcome n old log ≡ record { state = s; fault = Some (record { line = second.line; cause = Table (Changed f.prefix e.metric f.metric) }) } }
 {}
