@@ -15,7 +15,7 @@ use Rattle.rip_log.specs.Logs.{Log, Numbered}
 use Rattle.rip_log.specs.declared.error.LogError.{LogError}
 use Rattle.rip_table.specs.State.{Fits, IsState, State, is_among}
 use Rattle.rip_table.specs.Joined.{Outcome, and_then, as_cause, interface_of, is_foreign, is_past, joined_at, joined_capture, joined_entries, joined_from, joined_message, joined_records, log_fault, outcome, outcome_of, with_heard, with_metric, with_record}
-use Rattle.rip_table.specs.LogJoin.{HasBadEntry, IsBadEntry, IsElsewhere, IsFaultOf, IsFirstRefused, IsListed, IsOutcome, IsRefused, IsResponse, IsUnknown, KeepsMetric}
+use Rattle.rip_table.specs.LogJoin.{AreAccepted, HasBadEntry, IsBadEntry, IsElsewhere, IsFaultOf, IsFirstRefused, IsJoin, IsJoined, IsListed, IsOutcome, IsRefused, IsResponse, IsUnknown, KeepsMetric}
 use Rattle.rip_table.specs.declared.error.TableError.{TableError}
 use Rattle.rip_table.specs.declared.error.TableError.TheVariants.{Changed, NextHop, TooManyPrefixes, Memory}
 use Rattle.rip_table.specs.declared.error.CollectCause.{CollectCause}
@@ -28,7 +28,8 @@ use Rattle.rip_table.proofs.FitLemmas.{Fits-joined}
 use Rattle.rip_table.proofs.FoundLemmas.{found-IsAt, IsAt-found}
 use Rattle.rip_table.proofs.JoinLemmas.{outcome_of-front}
 use Rattle.rip_table.proofs.MetricLemmas.{AreMetrics, front_metrics, read_metrics}
-use Rattle.rip_table.proofs.SaidLemmas.{fits_log, interface_below, item-is_among, joined_valid, makes_capture, makes_entries, makes_log}
+use Rattle.rip_table.proofs.OneJoin.{one_join}
+use Rattle.rip_table.proofs.SaidLemmas.{fits_log, interface_below, item-is_among, join_made, log_then, makes_entries, makes_log}
 
 -- ---- a route by another router
 
@@ -256,13 +257,31 @@ refused_at n s c (Table error) lawful valid fits h =
 
 -- ---- a log
 
-pub first_refused : (n : Network) (s : State) (log : List Numbered) (cause : CollectCause) → IsLawful n → joined_records n s log ≡ Err cause → (t : State) × (line : ℕ) × IsFirstRefused n s log t line cause
+-- the first record that is refused, and the join of those before it
+pub record Refusal (n : Network) (old : State) (log : List Numbered) (s : State) (line : ℕ) (cause : CollectCause) : Type 0 where
+  pub before : List Numbered
+  pub capture : Capture
+  pub after : List Numbered
+  pub split : log ≡ before ++ (record { line = line; capture = capture }) ∷ after
+  pub joined : joined_records n old before ≡ Ok s
+  pub refused : IsRefused n s capture cause
+
+-- where a log is joined, so is what comes before one of its records, and then that record
+front_joined : (n : Network) (s t : State) (before after : List Numbered) (r : Numbered) → joined_records n s (before ++ r ∷ after) ≡ Ok t
+    → (u v : State) × (joined_records n s before ≡ Ok u) × (joined_capture n u r.capture ≡ Ok v)
+front_joined n s t [] after r h = let split = log_then (joined_capture n s r.capture) (λ u. joined_records n u after) t h in (s, split.0, refl, split.1)
+front_joined n s t (q ∷ before) after r h =
+    let split = log_then (joined_capture n s q.capture) (λ u. joined_records n u (before ++ r ∷ after)) t h in
+    let later = front_joined n split.0 t before after r split.2 in
+    (later.0, later.1, ap (λ (x : Result State CollectCause). and_then x (λ u. joined_records n u before)) split.1 ∙ later.2, later.3)
+
+first_refused : (n : Network) (s : State) (log : List Numbered) (cause : CollectCause) → IsLawful n → joined_records n s log ≡ Err cause → (t : State) × (line : ℕ) × Refusal n s log t line cause
 first_refused n s [] cause lawful h = absurd (cc h)
 first_refused n s (r ∷ log) cause lawful h = by (joined_capture n s r.capture) refl h (λ t k. first_refused n t log cause lawful k)
   where
     by : (x : Result State CollectCause) → joined_capture n s r.capture ≡ x → and_then x (λ t. joined_records n t log) ≡ Err cause
-        → ((t : State) → joined_records n t log ≡ Err cause → (u : State) × (line : ℕ) × IsFirstRefused n t log u line cause)
-        → (u : State) × (line : ℕ) × IsFirstRefused n s (r ∷ log) u line cause
+        → ((t : State) → joined_records n t log ≡ Err cause → (u : State) × (line : ℕ) × Refusal n t log u line cause)
+        → (u : State) × (line : ℕ) × Refusal n s (r ∷ log) u line cause
     by (Err other) is k later =
         let same : other ≡ cause = cc k in
         (s, r.line, record {
@@ -295,19 +314,59 @@ records-append n s t (r ∷ before) rest h = by (joined_capture n s r.capture) h
     by (Err e) k later = absurd (cc k)
 
 module _ (n : Network) (old : State) (lawful : IsLawful n) (valid : IsState old) (fits : Fits n old) where
+  made : (log : List Numbered) (s : State) → joined_records n old log ≡ Ok s → IsJoin n old log s × IsState s
+  made log s h = let m = makes_log n old s log lawful valid fits h in (join_made n old s log m.0, m.1)
+
+  accepted_in : (log : List Numbered) (s : State) → joined_records n old log ≡ Ok s → AreAccepted n old log
+  accepted_in log s h before after r t cause split join state refused =
+      let front = front_joined n old s before after r (ap (joined_records n old) (sym split) ∙ h) in
+      let there = made before front.0 front.2 in
+      let same = one_join n old before front.0 t there.1 state there.0 join in
+      let again : IsRefused n front.0 r.capture cause = subst (λ (u : State). IsRefused n u r.capture cause) (sym same) refused in
+      let clash : ◌≡◌ {A = Result State CollectCause} (Ok front.1) (Err cause) = sym front.3 ∙ refused_at n front.0 r.capture cause lawful there.1 (fits_log n old front.0 before fits front.2) again in
+      cc clash
+
+  pub is_joined : (log : List Numbered) (s : State) → joined_records n old log ≡ Ok s → IsJoined n old log s
+  is_joined log s h = let there = made log s h in record { join = there.0; state = there.1; accepted = accepted_in log s h }
+
+  pub joined_is : (log : List Numbered) (s : State) → IsJoined n old log s → joined_records n old log ≡ Ok s
+  joined_is log s h = by (joined_records n old log) refl
+    where
+      by : (x : Result State CollectCause) → joined_records n old log ≡ x → joined_records n old log ≡ Ok s
+      by (Ok t) is =
+          let there = made log t is in
+          is ∙ ap (λ (u : State). Ok u) (one_join n old log t s there.1 h.state there.0 h.join)
+      by (Err cause) is =
+          let found = first_refused n old log cause lawful is in
+          let first = found.2 in
+          let before = made first.before found.0 first.joined in
+          absurd (h.accepted first.before first.after (record { line = found.1; capture = first.capture }) found.0 cause first.split before.0 before.1 first.refused)
+
+  in_words : (log : List Numbered) (s : State) (line : ℕ) (cause : CollectCause) → Refusal n old log s line cause → IsFirstRefused n old log s line cause
+  in_words log s line cause h = record { before = h.before; capture = h.capture; after = h.after; split = h.split; joined = is_joined h.before s h.joined; refused = h.refused }
+
+  of_words : (log : List Numbered) (s : State) (line : ℕ) (cause : CollectCause) → IsFirstRefused n old log s line cause → Refusal n old log s line cause
+  of_words log s line cause h = record { before = h.before; capture = h.capture; after = h.after; split = h.split; joined = joined_is h.before s h.joined; refused = h.refused }
+
   -- the record that is refused
-  refused_there : (log : List Numbered) (s : State) (line : ℕ) (cause : CollectCause) (h : IsFirstRefused n old log s line cause) → joined_capture n s h.capture ≡ Err cause
+  refused_there : (log : List Numbered) (s : State) (line : ℕ) (cause : CollectCause) (h : Refusal n old log s line cause) → joined_capture n s h.capture ≡ Err cause
   refused_there log s line cause h =
       refused_at n s h.capture cause lawful (makes_log n old s h.before lawful valid fits h.joined).1 (fits_log n old s h.before fits h.joined) h.refused
 
-  pub records_refused : (log : List Numbered) (s : State) (line : ℕ) (cause : CollectCause) → IsFirstRefused n old log s line cause → joined_records n old log ≡ Err cause
+  records_refused : (log : List Numbered) (s : State) (line : ℕ) (cause : CollectCause) → Refusal n old log s line cause → joined_records n old log ≡ Err cause
   records_refused log s line cause h =
       let r : Numbered = record { line = line; capture = h.capture } in
       ap (joined_records n old) h.split
       ∙ records-append n old s h.before (r ∷ h.after) h.joined
       ∙ ap (λ (x : Result State CollectCause). and_then x (λ t. joined_records n t h.after)) (refused_there log s line cause h)
 
-  outcome_refused : (log : List Numbered) (fault : Option LogError) (s : State) (line : ℕ) (cause : CollectCause) → IsFirstRefused n old log s line cause
+  pub refused_is : (log : List Numbered) (s : State) (line : ℕ) (cause : CollectCause) → IsFirstRefused n old log s line cause → joined_records n old log ≡ Err cause
+  refused_is log s line cause h = records_refused log s line cause (of_words log s line cause h)
+
+  pub is_refused : (log : List Numbered) (cause : CollectCause) → joined_records n old log ≡ Err cause → (s : State) × (line : ℕ) × IsFirstRefused n old log s line cause
+  is_refused log cause h = let first = first_refused n old log cause lawful h in (first.0, first.1, in_words log first.0 first.1 cause first.2)
+
+  outcome_refused : (log : List Numbered) (fault : Option LogError) (s : State) (line : ℕ) (cause : CollectCause) → Refusal n old log s line cause
       → outcome_of n old log fault ≡ record { state = s; fault = Some (record { line = line; cause = cause }) }
   outcome_refused log fault s line cause h =
       let r : Numbered = record { line = line; capture = h.capture } in
@@ -319,10 +378,10 @@ module _ (n : Network) (old : State) (lawful : IsLawful n) (valid : IsState old)
   outcome_joined log fault s h = ap (λ (rs : List Numbered). outcome_of n old rs fault) (sym (append-nil log)) ∙ outcome_of-front n old log [] fault s h
 
   pub outcome_is : (log : Log) (s : State) (fault : Option CollectError) → IsOutcome n old log s fault → outcome n old log ≡ record { state = s; fault = fault }
-  outcome_is log s None h = outcome_joined log.records log.fault s h.1 ∙ ap (λ (f : Option LogError). record { state = s; fault = log_fault f }) h.0
-  outcome_is log s (Some error) (inl h) = outcome_refused log.records log.fault s error.line error.cause h
+  outcome_is log s None h = outcome_joined log.records log.fault s (joined_is log.records s h.1) ∙ ap (λ (f : Option LogError). record { state = s; fault = log_fault f }) h.0
+  outcome_is log s (Some error) (inl h) = outcome_refused log.records log.fault s error.line error.cause (of_words log.records s error.line error.cause h)
   outcome_is log s (Some error) (inr h) =
-      outcome_joined log.records log.fault s h.joined
+      outcome_joined log.records log.fault s (joined_is log.records s h.joined)
       ∙ ap (λ (f : Option LogError). record { state = s; fault = log_fault f }) h.has
       ∙ ap (λ (e : CollectError). record { state = s; fault = Some e }) (sym h.is)
 
@@ -330,8 +389,8 @@ module _ (n : Network) (old : State) (lawful : IsLawful n) (valid : IsState old)
   outcome_ok log s h = by log.fault refl
     where
       by : (f : Option LogError) → log.fault ≡ f → IsOutcome n old log s (log_fault f)
-      by None is = (is, h)
-      by (Some e) is = inr (record { fault = e; has = is; is = refl; joined = h })
+      by None is = (is, is_joined log.records s h)
+      by (Some e) is = inr (record { fault = e; has = is; is = refl; joined = is_joined log.records s h })
 
   outcome_as : (log : Log) (s t : State) (fault other : Option CollectError) → outcome n old log ≡ record { state = s; fault = fault } → outcome n old log ≡ record { state = t; fault = other }
       → IsOutcome n old log t other → IsOutcome n old log s fault
@@ -349,4 +408,4 @@ module _ (n : Network) (old : State) (lawful : IsLawful n) (valid : IsState old)
       by (Err cause) is =
           let first = first_refused n old log.records cause lawful is in
           let error : CollectError = record { line = first.1; cause = cause } in
-          outcome_as log s first.0 fault (Some error) h (outcome_refused log.records log.fault first.0 first.1 cause first.2) (inl first.2)
+          outcome_as log s first.0 fault (Some error) h (outcome_refused log.records log.fault first.0 first.1 cause first.2) (inl (in_words log.records first.0 first.1 cause first.2))

@@ -124,7 +124,7 @@ room false false n false e u t test h absent = below (nat_le 2048 n) refl test
     below false is k = grind (arith, nat_tests)
 
 -- a table stays one
-pub joined_valid : (sender i : ℕ) (s t : State) (e : Entry) → 1 ≤ e.metric → e.metric ≤ 16 → IsState s → i < s.interfaces → joined_at sender i s e (s.shows i e.prefix) ≡ Ok t → IsState t
+joined_valid : (sender i : ℕ) (s t : State) (e : Entry) → 1 ≤ e.metric → e.metric ≤ 16 → IsState s → i < s.interfaces → joined_at sender i s e (s.shows i e.prefix) ≡ Ok t → IsState t
 joined_valid sender i s t e least most valid lt h = subst IsState (sym is) (valid_with s i e.metric e.prefix (is_among e.prefix s.prefixes) least most valid refl (here (s.shows i e.prefix) refl h))
   where
     is : t ≡ with_metric s i e.prefix e.metric
@@ -351,7 +351,7 @@ record_first n r log = record {
   heard_split = λ j h. heard_log n r log h.0 j h.1 h.2;
 }
 
-log_then : (r : Result State CollectCause) (f : State → Result State CollectCause) (t : State) → and_then r f ≡ Ok t → (u : State) × (r ≡ Ok u) × (f u ≡ Ok t)
+pub log_then : (r : Result State CollectCause) (f : State → Result State CollectCause) (t : State) → and_then r f ≡ Ok t → (u : State) × (r ≡ Ok u) × (f u ≡ Ok t)
 log_then (Ok u) f t h = (u, refl, h)
 log_then (Err e) f t h = absurd (cc h)
 

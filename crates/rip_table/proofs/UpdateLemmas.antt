@@ -14,7 +14,7 @@ use Rattle.rip_table.specs.declared.error.CollectCause.TheVariants.{Table}
 use Rattle.rip_table.specs.declared.error.TableError.TheVariants.{Changed}
 use Rattle.rip_table.proofs.MakesLemmas.{either_list}
 use Rattle.rip_table.proofs.OneJoin.{differ_others, new_told}
-use Rattle.rip_table.proofs.RefusedLemmas.{outcome_is}
+use Rattle.rip_table.proofs.RefusedLemmas.{is_joined, outcome_is}
 use Rattle.rip_table.proofs.SaidLemmas.{join_made, makes_log, same_entries}
 
 only_item : (ps : List Block) (p : Block) → ((j k : ℕ) (q : Block) → slice_get ps j ≡ Some q → slice_get ps k ≡ Some q → j ≡ k) → ((k : ℕ) (q : Block) → slice_get ps k ≡ Some q → p ≡ q)
@@ -82,7 +82,7 @@ changed_metric n old s first second log rest i e f lawful valid fits records joi
       capture = second.capture;
       after = rest;
       split = records;
-      joined = joined;
+      joined = is_joined n old lawful valid fits (first ∷ []) s joined;
       refused = record {
         interface = i;
         front = [];

@@ -8,8 +8,8 @@ use Rattle.rip_plan.specs.Relations.{IsAt}
 use Rattle.rip_log.specs.Lines.{Capture}
 use Rattle.rip_log.specs.Logs.{Log, Numbered}
 use Rattle.rip_log.specs.declared.error.LogError.{LogError}
-use Rattle.rip_table.specs.State.{State}
-use Rattle.rip_table.specs.Joined.{joined_entries, joined_records, with_heard}
+use Rattle.rip_table.specs.State.{IsState, State}
+use Rattle.rip_table.specs.Joined.{joined_entries, with_heard}
 use Rattle.rip_table.specs.declared.error.TableError.{TableError}
 use Rattle.rip_table.specs.declared.error.TableError.TheVariants.{Changed, NextHop, TooManyPrefixes, Memory}
 use Rattle.rip_table.specs.declared.error.CollectCause.{CollectCause}
@@ -154,27 +154,35 @@ IsRefused n s c UnknownSender = IsUnknown n c
 IsRefused n s c (Table error) = HasBadEntry n s c error
 IsRefused n s c (OfLog error) = ⊥
 
--- the first record of a log that is refused is on this line, and this table is the join of those before it
+-- no record of a log is refused, where the table before it is the join of those before it
+abbrev pub AreAccepted : Network → State → List Numbered → Type 0
+AreAccepted n old log =
+    (before after : List Numbered) (r : Numbered) (s : State) (cause : CollectCause)
+    → log ≡ before ++ r ∷ after → IsJoin n old before s → IsState s → IsRefused n s r.capture cause → ⊥
+
+-- a log is joined into this table: it makes it, and none of its records is refused
+pub record IsJoined (n : Network) (old : State) (log : List Numbered) (new : State) : Type 0 where
+  pub join : IsJoin n old log new
+  pub state : IsState new
+  pub accepted : AreAccepted n old log
+
+-- the first record of a log that is refused is on this line, and those before it are joined into this table
 pub record IsFirstRefused (n : Network) (old : State) (log : List Numbered) (s : State) (line : ℕ) (cause : CollectCause) : Type 0 where
   pub before : List Numbered
   pub capture : Capture
   pub after : List Numbered
   pub split : log ≡ before ++ (record { line = line; capture = capture }) ∷ after
-  pub joined : joined_records n old before ≡ Ok s
+  pub joined : IsJoined n old before s
   pub refused : IsRefused n s capture cause
-
--- no record of a log is refused
-abbrev pub AreAccepted : Network → State → List Numbered → Type 0
-AreAccepted n old log = (s : State) (line : ℕ) (cause : CollectCause) → IsFirstRefused n old log s line cause → ⊥
 
 -- the records of a log are joined, and this is the log's own fault
 pub record IsFaultOf (n : Network) (old : State) (log : Log) (s : State) (error : CollectError) : Type 0 where
   pub fault : LogError
   pub has : log.fault ≡ Some fault
   pub is : error ≡ record { line = fault.line; cause = OfLog fault }
-  pub joined : joined_records n old log.records ≡ Ok s
+  pub joined : IsJoined n old log.records s
 
 -- what a log makes of a table, and what refuses the rest of the log
 abbrev pub IsOutcome : Network → State → Log → State → Option CollectError → Type 0
-IsOutcome n old log s None = (log.fault ≡ None) × (joined_records n old log.records ≡ Ok s)
+IsOutcome n old log s None = (log.fault ≡ None) × IsJoined n old log.records s
 IsOutcome n old log s (Some error) = IsFirstRefused n old log.records s error.line error.cause ⊎ IsFaultOf n old log s error

@@ -10,19 +10,17 @@ ghost use Rattle.rip_log.specs.Lines.{Capture};
 ghost use Rattle.rip_log.specs.Logs.{Log, Numbered};
 ghost use Rattle.rip_table.specs.State.{Fits, IsState, State};
 ghost use Rattle.rip_table.specs.Joined.{joined_capture, joined_entries, joined_records, outcome};
-ghost use Rattle.rip_table.specs.LogJoin.{AreAccepted, AreTaken, IsFirstRefused, IsJoin, IsListed, IsOutcome, IsResponse};
+ghost use Rattle.rip_table.specs.LogJoin.{AreTaken, IsFirstRefused, IsJoin, IsJoined, IsListed, IsOutcome, IsResponse};
 ghost use Rattle.rip_table.specs.declared.error.CollectCause.{CollectCause};
 ghost use Rattle.rip_table.specs.declared.error.CollectCause.TheVariants.{Table};
 ghost use Rattle.rip_table.specs.declared.error.TableError.TheVariants.{Changed};
 ghost use Rattle.rip_table.specs.declared.error.CollectError.{CollectError};
 
-/// The records that are joined make of a table what the log tells: metrics, interfaces that were
-/// heard, and prefixes in the order of their first appearance.
+/// A log is joined exactly where no record is refused, and then into the table that it makes: the
+/// metrics that it tells, the interfaces that were heard, and prefixes in the order of their first
+/// appearance.
 pub fn joined_logs()
-    ensures join { (n : Network) (old new : State) (log : List Numbered) → IsLawful n → IsState old → Fits n old → joined_records n old log ≡ Ok new → IsJoin n old log new }
-    ensures state { (n : Network) (old new : State) (log : List Numbered) → IsLawful n → IsState old → Fits n old → joined_records n old log ≡ Ok new → IsState new }
-    // a table that is their join, where none of them is refused
-    ensures only { (n : Network) (old new : State) (log : List Numbered) → IsLawful n → IsState old → Fits n old → IsState new → IsJoin n old log new → AreAccepted n old log → joined_records n old log ≡ Ok new }
+    ensures join { (n : Network) (old new : State) (log : List Numbered) → IsLawful n → IsState old → Fits n old → (joined_records n old log ≡ Ok new) ↔ IsJoined n old log new }
     ensures fits { (n : Network) (old new : State) (log : List Numbered) → Fits n old → joined_records n old log ≡ Ok new → Fits n new }
 {}
 
