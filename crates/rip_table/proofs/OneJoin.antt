@@ -4,10 +4,11 @@ use Rattle.std.specs.List.{slice_get}
 use Rattle.std.proofs.lemmas.Option.{slice_get_within}
 use mathlib.Core.Path.{fun_ext}
 use Rattle.rip_wire.specs.Prefix.{Block}
+use Rattle.rip_wire.specs.declared.entry.Entry.{Entry}
 use Rattle.rip_plan.specs.Network.{Network}
 use Rattle.rip_log.specs.Logs.{Numbered}
 use Rattle.rip_table.specs.State.{IsState, State}
-use Rattle.rip_table.specs.LogJoin.{AreInOrder, ComesBefore, IsJoin, IsListed, IsNamed, IsTold}
+use Rattle.rip_table.specs.LogJoin.{AreTaken, ComesBefore, HasEntry, IsJoin, IsNamed}
 use Rattle.rip_table.proofs.MakesLemmas.{either_list, front_at}
 
 abbrev Has : List Block → Block → Type 0
@@ -16,13 +17,19 @@ Has ps p = (k : ℕ) × (slice_get ps k ≡ Some p)
 abbrev Differ : List Block → Type 0
 Differ ps = (j k : ℕ) (p : Block) → slice_get ps j ≡ Some p → slice_get ps k ≡ Some p → j ≡ k
 
-module _ (n : Network) (log : List Numbered) where
+module _ (names : ℕ → ℕ → Block → Type 0) where
+  -- before what names a later one there is what names an earlier one
+  abbrev pub Ordered : List Block → Type 0
+  Ordered ps =
+      (a b : ℕ) (p q : Block) → a < b → slice_get ps a ≡ Some p → slice_get ps b ≡ Some q
+      → (l m : ℕ) → names l m q → (k j : ℕ) × names k j p × ComesBefore k j l m
+
   -- before each entry of q there is one of p
   abbrev Follows : Block → Block → Type 0
-  Follows p q = (l m : ℕ) → IsNamed n log l m q → (k j : ℕ) × IsNamed n log k j p × ComesBefore k j l m
+  Follows p q = (l m : ℕ) → names l m q → (k j : ℕ) × names k j p × ComesBefore k j l m
 
   abbrev IsEither : Block → Block → ℕ → ℕ → Type 0
-  IsEither p q k j = IsNamed n log k j p ⊎ IsNamed n log k j q
+  IsEither p q k j = names k j p ⊎ names k j q
 
   earlier : (p q : Block) → Follows p q → Follows q p → (k j : ℕ) → IsEither p q k j → (l m : ℕ) × IsEither p q l m × ComesBefore l m k j
   earlier p q f g k j (inl h) = let before = g k j h in (before.0, before.1, inr before.2, before.3)
@@ -42,7 +49,7 @@ module _ (n : Network) (log : List Numbered) where
   below p q f g zero k j lt h = omega (arith, lt)
   below p q f g (suc most) k j lt h = within p q f g k (λ l m less. below p q f g most l m (omega (arith, lt, less))) (suc j) j (omega arith) h
 
-  first_is : (x y : Block) (xs ys : List Block) → AreInOrder n log (x ∷ xs) → AreInOrder n log (y ∷ ys) → Has (x ∷ xs) y → Has (y ∷ ys) x → ((k j : ℕ) × IsNamed n log k j x) → x ≡ y
+  first_is : (x y : Block) (xs ys : List Block) → Ordered (x ∷ xs) → Ordered (y ∷ ys) → Has (x ∷ xs) y → Has (y ∷ ys) x → ((k j : ℕ) × names k j x) → x ≡ y
   first_is x y xs ys order_x order_y (zero, h) there named = cc h
   first_is x y xs ys order_x order_y (suc k, h) (zero, e) named = let same : y ≡ x = cc e in sym same
   first_is x y xs ys order_x order_y (suc k, h) (suc l, e) named =
@@ -56,8 +63,8 @@ module _ (n : Network) (log : List Numbered) where
   rest_has x y p xs ys same differ h (suc k, e) = (k, e)
 
   -- prefixes that are in order are one list
-  same_list : (xs ys : List Block) → AreInOrder n log xs → AreInOrder n log ys → Differ xs → Differ ys → ((p : Block) → Has xs p → Has ys p) → ((p : Block) → Has ys p → Has xs p)
-      → ((p : Block) → Has xs p → (k j : ℕ) × IsNamed n log k j p) → xs ≡ ys
+  same_list : (xs ys : List Block) → Ordered xs → Ordered ys → Differ xs → Differ ys → ((p : Block) → Has xs p → Has ys p) → ((p : Block) → Has ys p → Has xs p)
+      → ((p : Block) → Has xs p → (k j : ℕ) × names k j p) → xs ≡ ys
   same_list [] [] order_x order_y differ_x differ_y to from named = refl
   same_list [] (y ∷ ys) order_x order_y differ_x differ_y to from named = let h = from y (0, refl) in absurd (cc h.1)
   same_list (x ∷ xs) [] order_x order_y differ_x differ_y to from named = let h = to x (0, refl) in absurd (cc h.1)
@@ -77,6 +84,57 @@ back_at : (ps qs : List Block) (j : ℕ) (p : Block) → slice_get qs j ≡ Some
 back_at [] qs j p h = let same : 0 + j ≡ j = omega arith in ap (slice_get qs) same ∙ h
 back_at (x ∷ ps) qs j p h = let same : length (x ∷ ps) + j ≡ suc (length ps + j) = omega arith in ap (slice_get (x ∷ (ps ++ qs))) same ∙ back_at ps qs j p h
 
+-- a list of prefixes is this one and others, which are named, each once and in order
+pub record Lists (names : ℕ → ℕ → Block → Type 0) (base ps : List Block) : Type 0 where
+  pub others : List Block
+  pub prefixes : ps ≡ base ++ others
+  pub differ : Differ ps
+  pub order : Ordered names others
+  pub to : (p : Block) → Has ps p → Has base p ⊎ ((k j : ℕ) × names k j p)
+  pub from : (p : Block) (k j : ℕ) → names k j p → Has ps p
+
+module _ (names : ℕ → ℕ → Block → Type 0) (base : List Block) where
+  differ_in : (ps : List Block) (list : Lists names base ps) → Differ (base ++ list.others)
+  differ_in ps list j k p h e =
+      list.differ j k p (ap (λ (qs : List Block). slice_get qs j) list.prefixes ∙ h) (ap (λ (qs : List Block). slice_get qs k) list.prefixes ∙ e)
+
+  pub differ_others : (ps : List Block) (list : Lists names base ps) → Differ list.others
+  differ_others ps list j k p h e =
+      let same = differ_in ps list (length base + j) (length base + k) p (back_at base list.others j p h) (back_at base list.others k p e) in
+      omega (arith, same)
+
+  -- a new prefix was not in the list
+  new_there : (ps : List Block) (list : Lists names base ps) (p : Block) → Has list.others p → Has base p → ⊥
+  new_there ps list p h there =
+      let same = differ_in ps list there.0 (length base + h.0) p (front_at base list.others there.0 p there.1) (back_at base list.others h.0 p h.1) in
+      omega (arith, same, slice_get_within base there.0 p there.1)
+
+  -- a new prefix is named
+  pub new_named : (ps : List Block) (list : Lists names base ps) (p : Block) → Has list.others p → (k j : ℕ) × names k j p
+  new_named ps list p h =
+      let listed : Has ps p = (length base + h.0, ap (λ (qs : List Block). slice_get qs (length base + h.0)) list.prefixes ∙ back_at base list.others h.0 p h.1) in
+      elim (list.to p listed) [
+        | inl there ↦ absurd (new_there ps list p h there)
+        | inr named ↦ named
+      ]
+
+  new_both : (ps qs : List Block) (first : Lists names base ps) (second : Lists names base qs) (p : Block) → Has first.others p → Has second.others p
+  new_both ps qs first second p h =
+      let named = new_named ps first p h in
+      let listed = second.from p named.0 named.1 named.2 in
+      elim (either_list base second.others listed.0 p (ap (λ (rs : List Block). slice_get rs listed.0) (sym second.prefixes) ∙ listed.1)) [
+        | inl there ↦ absurd (new_there ps first p h (listed.0, there))
+        | inr e ↦ (e.0, e.2)
+      ]
+
+  pub one_list : (ps qs : List Block) → Lists names base ps → Lists names base qs → ps ≡ qs
+  one_list ps qs first second =
+      first.prefixes
+      ∙ ap (λ (rs : List Block). base ++ rs)
+        (same_list names first.others second.others first.order second.order (differ_others ps first) (differ_others qs second)
+        (new_both ps qs first second) (new_both qs ps second first) (new_named ps first))
+      ∙ sym second.prefixes
+
 same_option : (a b : Option ℕ) → ((x : ℕ) → a ≡ Some x → b ≡ Some x) → ((x : ℕ) → b ≡ Some x → a ≡ Some x) → a ≡ b
 same_option None None to from = refl
 same_option None (Some y) to from = from y refl
@@ -87,60 +145,61 @@ same_bool true b to from = sym (to refl)
 same_bool false true to from = from refl
 same_bool false false to from = refl
 
-module _ (n : Network) (old : State) (log : List Numbered) where
-  differ_in : (s : State) (join : IsJoin n old log s) → IsState s → Differ (old.prefixes ++ join.others)
-  differ_in s join valid j k p h e =
-      valid.differ j k p (ap (λ (ps : List Block). slice_get ps j) join.prefixes ∙ h) (ap (λ (ps : List Block). slice_get ps k) join.prefixes ∙ e)
+same_state : (s t : State) → s.interfaces ≡ t.interfaces → s.prefixes ≡ t.prefixes → s.shows ≡ t.shows → s.heard ≡ t.heard → s ≡ t
+same_state s t interfaces prefixes shows heard =
+    ap (λ (k : ℕ). record { interfaces = k; prefixes = s.prefixes; shows = s.shows; heard = s.heard }) interfaces
+    ∙ ap (λ (ps : List Block). record { interfaces = t.interfaces; prefixes = ps; shows = s.shows; heard = s.heard }) prefixes
+    ∙ ap (λ (f : ℕ → Block → Option ℕ). record { interfaces = t.interfaces; prefixes = t.prefixes; shows = f; heard = s.heard }) shows
+    ∙ ap (λ (f : ℕ → Bool). record { interfaces = t.interfaces; prefixes = t.prefixes; shows = t.shows; heard = f }) heard
 
-  pub differ_others : (s : State) (join : IsJoin n old log s) → IsState s → Differ join.others
-  differ_others s join valid j k p h e =
-      let same = differ_in s join valid (length old.prefixes + j) (length old.prefixes + k) p (back_at old.prefixes join.others j p h) (back_at old.prefixes join.others k p e) in
-      omega (arith, same)
+-- ---- of a log
 
-  -- a new prefix was not in the list
-  new_there : (s : State) (join : IsJoin n old log s) → IsState s → (p : Block) → Has join.others p → IsListed old p → ⊥
-  new_there s join valid p h there =
-      let same = differ_in s join valid there.0 (length old.prefixes + h.0) p (front_at old.prefixes join.others there.0 p there.1) (back_at old.prefixes join.others h.0 p h.1) in
-      omega (arith, same, slice_get_within old.prefixes there.0 p there.1)
+abbrev pub log_lists : (n : Network) (old s : State) (log : List Numbered) → IsState s → IsJoin n old log s → Lists (IsNamed n log) old.prefixes s.prefixes
+log_lists n old s log valid join = record {
+  others = join.others;
+  prefixes = join.prefixes;
+  differ = valid.differ;
+  order = join.order;
+  to = λ p h. elim ((join.listed p).0 h) [
+    | inl e ↦ inl e
+    | inr e ↦ let told = e.2 in inr (told.0, told.1, (e.0, e.1, told.2))
+  ];
+  from = λ p k j h. (join.listed p).1 (inr (h.0, h.1, (k, j, h.2)));
+}
 
-  -- the log tells of a new prefix
-  pub new_told : (s : State) (join : IsJoin n old log s) → IsState s → (p : Block) → Has join.others p → (i x : ℕ) × IsTold n log i p x
-  new_told s join valid p h =
-      let listed : IsListed s p = (length old.prefixes + h.0, ap (λ (ps : List Block). slice_get ps (length old.prefixes + h.0)) join.prefixes ∙ back_at old.prefixes join.others h.0 p h.1) in
-      elim ((join.listed p).0 listed) [
-        | inl there ↦ absurd (new_there s join valid p h there)
-        | inr told ↦ told
-      ]
+pub one_join : (n : Network) (old : State) (log : List Numbered) (s t : State) → IsState s → IsState t → IsJoin n old log s → IsJoin n old log t → s ≡ t
+one_join n old log s t valid_s valid_t first second =
+    same_state s t
+    (first.interfaces ∙ sym second.interfaces)
+    (one_list (IsNamed n log) old.prefixes s.prefixes t.prefixes (log_lists n old s log valid_s first) (log_lists n old t log valid_t second))
+    (fun_ext (λ i. fun_ext (λ p. same_option (s.shows i p) (t.shows i p) (λ x h. (second.shown i p x).1 ((first.shown i p x).0 h)) (λ x h. (first.shown i p x).1 ((second.shown i p x).0 h)))))
+    (fun_ext (λ i. same_bool (s.heard i) (t.heard i) (λ h. (second.heard i).1 ((first.heard i).0 h)) (λ h. (first.heard i).1 ((second.heard i).0 h))))
 
-  new_named : (s : State) (join : IsJoin n old log s) → IsState s → (p : Block) → Has join.others p → (k j : ℕ) × IsNamed n log k j p
-  new_named s join valid p h = let found = new_told s join valid p h in let told = found.2 in (told.0, told.1, (found.0, found.1, told.2))
+-- ---- of entries
 
-  new_both : (s t : State) (first : IsJoin n old log s) (second : IsJoin n old log t) → IsState s → (p : Block) → Has first.others p → Has second.others p
-  new_both s t first second valid p h =
-      let listed = (second.listed p).1 (inr (new_told s first valid p h)) in
-      elim (either_list old.prefixes second.others listed.0 p (ap (λ (ps : List Block). slice_get ps listed.0) (sym second.prefixes) ∙ listed.1)) [
-        | inl there ↦ absurd (new_there s first valid p h (listed.0, there))
-        | inr e ↦ (e.0, e.2)
-      ]
+abbrev entry_names : List Entry → ℕ → ℕ → Block → Type 0
+entry_names es k j p = (k ≡ 0) × ((x : ℕ) × HasEntry es j p x)
 
-  same_others : (s t : State) (first : IsJoin n old log s) (second : IsJoin n old log t) → IsState s → IsState t → first.others ≡ second.others
-  same_others s t first second valid_s valid_t =
-      same_list n log first.others second.others first.order second.order (differ_others s first valid_s) (differ_others t second valid_t)
-      (new_both s t first second valid_s) (new_both t s second first valid_t) (new_named s first valid_s)
+entry_lists : (i : ℕ) (old s : State) (es : List Entry) → IsState s → AreTaken i old es s → Lists (entry_names es) old.prefixes s.prefixes
+entry_lists i old s es valid taken = record {
+  others = taken.others;
+  prefixes = taken.prefixes;
+  differ = valid.differ;
+  order = λ a b p q lt e d l m h.
+      let entry = h.1 in
+      let first = taken.order a b p q lt e d m entry.0 entry.1 in
+      (0, first.0, (refl, (first.1, first.2)), inr (sym h.0, first.3));
+  to = λ p h. elim ((taken.listed p).0 h) [
+    | inl e ↦ inl e
+    | inr e ↦ inr (0, e.0, (refl, (e.1, e.2)))
+  ];
+  from = λ p k j h. let entry = h.1 in (taken.listed p).1 (inr (j, entry.0, entry.1));
+}
 
-  same_shows : (s t : State) → IsJoin n old log s → IsJoin n old log t → s.shows ≡ t.shows
-  same_shows s t first second = fun_ext (λ i. fun_ext (λ p. same_option (s.shows i p) (t.shows i p)
-      (λ x h. (second.shown i p x).1 ((first.shown i p x).0 h)) (λ x h. (first.shown i p x).1 ((second.shown i p x).0 h))))
-
-  same_heard : (s t : State) → IsJoin n old log s → IsJoin n old log t → s.heard ≡ t.heard
-  same_heard s t first second = fun_ext (λ i. same_bool (s.heard i) (t.heard i)
-      (λ h. (second.heard i).1 ((first.heard i).0 h)) (λ h. (first.heard i).1 ((second.heard i).0 h)))
-
-  pub one_join : (s t : State) → IsState s → IsState t → IsJoin n old log s → IsJoin n old log t → s ≡ t
-  one_join s t valid_s valid_t first second =
-      let prefixes : s.prefixes ≡ t.prefixes = first.prefixes ∙ ap (λ (ps : List Block). old.prefixes ++ ps) (same_others s t first second valid_s valid_t) ∙ sym second.prefixes in
-      let interfaces : s.interfaces ≡ t.interfaces = first.interfaces ∙ sym second.interfaces in
-      ap (λ (k : ℕ). record { interfaces = k; prefixes = s.prefixes; shows = s.shows; heard = s.heard }) interfaces
-      ∙ ap (λ (ps : List Block). record { interfaces = t.interfaces; prefixes = ps; shows = s.shows; heard = s.heard }) prefixes
-      ∙ ap (λ (f : ℕ → Block → Option ℕ). record { interfaces = t.interfaces; prefixes = t.prefixes; shows = f; heard = s.heard }) (same_shows s t first second)
-      ∙ ap (λ (f : ℕ → Bool). record { interfaces = t.interfaces; prefixes = t.prefixes; shows = t.shows; heard = f }) (same_heard s t first second)
+pub one_taken : (i : ℕ) (old : State) (es : List Entry) (s t : State) → IsState s → IsState t → AreTaken i old es s → AreTaken i old es t → s ≡ t
+one_taken i old es s t valid_s valid_t first second =
+    same_state s t
+    (first.interfaces ∙ sym second.interfaces)
+    (one_list (entry_names es) old.prefixes s.prefixes t.prefixes (entry_lists i old s es valid_s first) (entry_lists i old t es valid_t second))
+    (fun_ext (λ j. fun_ext (λ p. same_option (s.shows j p) (t.shows j p) (λ x h. (second.shown j p x).1 ((first.shown j p x).0 h)) (λ x h. (first.shown j p x).1 ((second.shown j p x).0 h)))))
+    (fun_ext (λ j. same_bool (s.heard j) (t.heard j) (λ h. (second.heard j).1 ((first.heard j).0 h)) (λ h. (first.heard j).1 ((second.heard j).0 h))))

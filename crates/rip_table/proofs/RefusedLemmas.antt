@@ -15,7 +15,7 @@ use Rattle.rip_log.specs.Logs.{Log, Numbered}
 use Rattle.rip_log.specs.declared.error.LogError.{LogError}
 use Rattle.rip_table.specs.State.{Fits, IsState, State, is_among}
 use Rattle.rip_table.specs.Joined.{Outcome, and_then, as_cause, interface_of, is_foreign, is_past, joined_at, joined_capture, joined_entries, joined_from, joined_message, joined_records, log_fault, outcome, outcome_of, with_heard, with_metric, with_record}
-use Rattle.rip_table.specs.LogJoin.{AreAccepted, HasBadEntry, IsBadEntry, IsElsewhere, IsFaultOf, IsFirstRefused, IsJoin, IsJoined, IsListed, IsOutcome, IsRefused, IsResponse, IsUnknown, KeepsMetric}
+use Rattle.rip_table.specs.LogJoin.{AreAccepted, AreGood, AreJoined, HasBadEntry, IsBadEntry, IsElsewhere, IsFaultOf, IsFirstRefused, IsJoin, IsJoined, IsListed, IsOutcome, IsRefused, IsResponse, IsUnknown, KeepsMetric}
 use Rattle.rip_table.specs.declared.error.TableError.{TableError}
 use Rattle.rip_table.specs.declared.error.TableError.TheVariants.{Changed, NextHop, TooManyPrefixes, Memory}
 use Rattle.rip_table.specs.declared.error.CollectCause.{CollectCause}
@@ -23,13 +23,14 @@ use Rattle.rip_table.specs.declared.error.CollectCause.TheVariants.{Log as OfLog
 use Rattle.rip_table.specs.declared.error.CollectError.{CollectError}
 use Rattle.rip_table.proofs.Lists.{is_among-item}
 use Rattle.rip_table.proofs.NumberLemmas.{true-false}
+use Rattle.rip_table.proofs.AfterLemmas.{then_split}
 use Rattle.rip_table.proofs.CheckLemmas.{heard_valid, joined-append}
 use Rattle.rip_table.proofs.FitLemmas.{Fits-joined}
 use Rattle.rip_table.proofs.FoundLemmas.{found-IsAt, IsAt-found}
 use Rattle.rip_table.proofs.JoinLemmas.{outcome_of-front}
 use Rattle.rip_table.proofs.MetricLemmas.{AreMetrics, front_metrics, read_metrics}
-use Rattle.rip_table.proofs.OneJoin.{one_join}
-use Rattle.rip_table.proofs.SaidLemmas.{fits_log, interface_below, item-is_among, join_made, log_then, makes_entries, makes_log}
+use Rattle.rip_table.proofs.OneJoin.{one_join, one_taken}
+use Rattle.rip_table.proofs.SaidLemmas.{fits_log, interface_below, item-is_among, join_made, log_then, makes_entries, makes_log, taken_made}
 
 -- ---- a route by another router
 
@@ -196,6 +197,42 @@ bad_entries sender i s u front rest e error metrics valid lt joined bad =
     ∙ ap (λ (r : Result State TableError). and_then r (λ t. joined_entries sender i t (e ∷ rest))) joined
     ∙ ap (λ (r : Result State TableError). and_then r (λ t. joined_entries sender i t rest)) (bad_at sender i u e error made.1 (omega (arith, lt, (made.0).interfaces)) bad)
 
+-- where entries are joined, so are those before one of them, and then that one
+front_taken : (sender i : ℕ) (s t : State) (front rest : List Entry) (e : Entry) → joined_entries sender i s (front ++ e ∷ rest) ≡ Ok t
+    → (u v : State) × (joined_entries sender i s front ≡ Ok u) × (joined_at sender i u e (u.shows i e.prefix) ≡ Ok v)
+front_taken sender i s t front rest e h =
+    let split = then_split (joined_entries sender i s front) (λ u. joined_entries sender i u (e ∷ rest)) t (sym (joined-append sender i s front (e ∷ rest)) ∙ h) in
+    let u = split.0 in
+    let next = then_split (joined_at sender i u e (u.shows i e.prefix)) (λ v. joined_entries sender i v rest) t split.2 in
+    (u, next.0, split.1, next.1)
+
+good_entries : (sender i : ℕ) (s t : State) (es : List Entry) → AreMetrics es → IsState s → i < s.interfaces → joined_entries sender i s es ≡ Ok t → AreGood sender i s es
+good_entries sender i s t es metrics valid lt h front rest e v error split taken state bad =
+    let before = front_taken sender i s t front rest e (ap (joined_entries sender i s) (sym split) ∙ h) in
+    let u = before.0 in
+    let made = makes_entries sender i s u front (front_metrics front (e ∷ rest) (subst AreMetrics split metrics)) valid lt before.2 in
+    let same = one_taken i s front u v made.1 state (taken_made i s u front made.0) taken in
+    let again : IsBadEntry sender i u e error = subst (λ (w : State). IsBadEntry sender i w e error) (sym same) bad in
+    let clash : ◌≡◌ {A = Result State TableError} (Ok before.1) (Err error) = sym before.3 ∙ bad_at sender i u e error made.1 (omega (arith, lt, (made.0).interfaces)) again in
+    cc clash
+
+pub entries_joined : (sender i : ℕ) (s t : State) (es : List Entry) → AreMetrics es → IsState s → i < s.interfaces → joined_entries sender i s es ≡ Ok t → AreJoined sender i s es t
+entries_joined sender i s t es metrics valid lt h =
+    let made = makes_entries sender i s t es metrics valid lt h in
+    record { taken = taken_made i s t es made.0; state = made.1; good = good_entries sender i s t es metrics valid lt h }
+
+pub joined_of_entries : (sender i : ℕ) (s t : State) (es : List Entry) → AreMetrics es → IsState s → i < s.interfaces → AreJoined sender i s es t → joined_entries sender i s es ≡ Ok t
+joined_of_entries sender i s t es metrics valid lt h = by (joined_entries sender i s es) refl
+  where
+    by : (r : Result State TableError) → joined_entries sender i s es ≡ r → joined_entries sender i s es ≡ Ok t
+    by (Ok u) is =
+        let made = makes_entries sender i s u es metrics valid lt is in
+        is ∙ ap (λ (v : State). Ok v) (one_taken i s es u t made.1 h.state (taken_made i s u es made.0) h.taken)
+    by (Err error) is =
+        let first = first_bad sender i s es error is in
+        let made = makes_entries sender i s first.state first.front (front_metrics first.front (first.entry ∷ first.rest) (subst AreMetrics first.split metrics)) valid lt first.joined in
+        absurd (h.good first.front first.rest first.entry first.state error first.split (taken_made i s first.state first.front made.0) made.1 first.bad)
+
 -- ---- a record
 
 from_request : (sender : ℕ) (s : State) (o : Option ℕ) (cause : CollectCause) {A : Type 0} → joined_from sender s request o ≡ Err cause → A
@@ -206,10 +243,11 @@ from_cause : (r : Result State TableError) (cause : CollectCause) → as_cause r
 from_cause (Ok u) cause h = absurd (cc h)
 from_cause (Err e) cause h = (e, refl, cc h)
 
-bad_entry : (n : Network) (s : State) (c : Capture) (i : ℕ) (es : List Entry) (error : TableError) → message_in c.datagram ≡ Ok (response es) → interface_of n c ≡ Some i
+bad_entry : (n : Network) (s : State) (c : Capture) (i : ℕ) (es : List Entry) (error : TableError) → IsState s → i < s.interfaces → message_in c.datagram ≡ Ok (response es) → interface_of n c ≡ Some i
     → joined_message c.sender i s (response es) ≡ Err error → HasBadEntry n s c error
-bad_entry n s c i es error says found h =
+bad_entry n s c i es error valid lt says found h =
     let first = first_bad c.sender i (with_heard s i) es error h in
+    let metrics = front_metrics first.front (first.entry ∷ first.rest) (subst AreMetrics first.split (read_metrics c.datagram es says)) in
     record {
       interface = i;
       front = first.front;
@@ -217,12 +255,12 @@ bad_entry n s c i es error says found h =
       rest = first.rest;
       response = record { from = found-IsAt n c.link c.sender i found; says = says ∙ ap (λ (ds : List Entry). Ok (response ds)) first.split };
       state = first.state;
-      joined = first.joined;
+      joined = entries_joined c.sender i (with_heard s i) first.state first.front metrics (heard_valid s i valid) lt first.joined;
       bad = first.bad;
     }
 
-pub refused_of : (n : Network) (s : State) (c : Capture) (cause : CollectCause) → IsLawful n → joined_capture n s c ≡ Err cause → IsRefused n s c cause
-refused_of n s c cause lawful h = by (message_in c.datagram) refl (interface_of n c) refl h
+pub refused_of : (n : Network) (s : State) (c : Capture) (cause : CollectCause) → IsLawful n → IsState s → Fits n s → joined_capture n s c ≡ Err cause → IsRefused n s c cause
+refused_of n s c cause lawful valid fits h = by (message_in c.datagram) refl (interface_of n c) refl h
   where
     by : (m : Result Message WireError) → message_in c.datagram ≡ m → (o : Option ℕ) → interface_of n c ≡ o → joined_from c.sender s (message_or_request m) o ≡ Err cause → IsRefused n s c cause
     by (Err e) is o found k = from_request c.sender s o cause k
@@ -236,7 +274,7 @@ refused_of n s c cause lawful h = by (message_in c.datagram) refl (interface_of 
         })
     by (Ok (response es)) is (Some i) found k =
         let split = from_cause (joined_message c.sender i s (response es)) cause k in
-        subst (IsRefused n s c) split.2 (bad_entry n s c i es split.0 is found split.1)
+        subst (IsRefused n s c) split.2 (bad_entry n s c i es split.0 valid (interface_below n s c.link c.sender i fits (found-IsAt n c.link c.sender i found)) is found split.1)
 
 pub refused_at : (n : Network) (s : State) (c : Capture) (cause : CollectCause) → IsLawful n → IsState s → Fits n s → IsRefused n s c cause → joined_capture n s c ≡ Err cause
 refused_at n s c (OfLog e) lawful valid fits h = absurd h
@@ -251,9 +289,11 @@ refused_at n s c (Table error) lawful valid fits h =
     let es = h.front ++ h.entry ∷ h.rest in
     let at = (h.response).from in
     let lt = interface_below n s c.link c.sender i fits at in
+    let metrics = read_metrics c.datagram es (h.response).says in
+    let joined = joined_of_entries c.sender i (with_heard s i) h.state h.front (front_metrics h.front (h.entry ∷ h.rest) metrics) (heard_valid s i valid) lt h.joined in
     ap (λ (m : Result Message WireError). joined_from c.sender s (message_or_request m) (interface_of n c)) (h.response).says
     ∙ ap (joined_from c.sender s (response es)) (IsAt-found n c.link c.sender i lawful at)
-    ∙ ap as_cause (bad_entries c.sender i (with_heard s i) h.state h.front h.rest h.entry error (read_metrics c.datagram es (h.response).says) (heard_valid s i valid) lt h.joined h.bad)
+    ∙ ap as_cause (bad_entries c.sender i (with_heard s i) h.state h.front h.rest h.entry error metrics (heard_valid s i valid) lt joined h.bad)
 
 -- ---- a log
 
@@ -264,7 +304,7 @@ pub record Refusal (n : Network) (old : State) (log : List Numbered) (s : State)
   pub after : List Numbered
   pub split : log ≡ before ++ (record { line = line; capture = capture }) ∷ after
   pub joined : joined_records n old before ≡ Ok s
-  pub refused : IsRefused n s capture cause
+  pub refused : joined_capture n s capture ≡ Err cause
 
 -- where a log is joined, so is what comes before one of its records, and then that record
 front_joined : (n : Network) (s t : State) (before after : List Numbered) (r : Numbered) → joined_records n s (before ++ r ∷ after) ≡ Ok t
@@ -275,9 +315,9 @@ front_joined n s t (q ∷ before) after r h =
     let later = front_joined n split.0 t before after r split.2 in
     (later.0, later.1, ap (λ (x : Result State CollectCause). and_then x (λ u. joined_records n u before)) split.1 ∙ later.2, later.3)
 
-first_refused : (n : Network) (s : State) (log : List Numbered) (cause : CollectCause) → IsLawful n → joined_records n s log ≡ Err cause → (t : State) × (line : ℕ) × Refusal n s log t line cause
-first_refused n s [] cause lawful h = absurd (cc h)
-first_refused n s (r ∷ log) cause lawful h = by (joined_capture n s r.capture) refl h (λ t k. first_refused n t log cause lawful k)
+first_refused : (n : Network) (s : State) (log : List Numbered) (cause : CollectCause) → joined_records n s log ≡ Err cause → (t : State) × (line : ℕ) × Refusal n s log t line cause
+first_refused n s [] cause h = absurd (cc h)
+first_refused n s (r ∷ log) cause h = by (joined_capture n s r.capture) refl h (λ t k. first_refused n t log cause k)
   where
     by : (x : Result State CollectCause) → joined_capture n s r.capture ≡ x → and_then x (λ t. joined_records n t log) ≡ Err cause
         → ((t : State) → joined_records n t log ≡ Err cause → (u : State) × (line : ℕ) × Refusal n t log u line cause)
@@ -290,7 +330,7 @@ first_refused n s (r ∷ log) cause lawful h = by (joined_capture n s r.capture)
           after = log;
           split = refl;
           joined = refl;
-          refused = refused_of n s r.capture cause lawful (is ∙ ap (λ (x : CollectCause). Err x) same);
+          refused = is ∙ ap (λ (x : CollectCause). Err x) same;
         })
     by (Ok t) is k later =
         let found = later t k in
@@ -329,6 +369,10 @@ module _ (n : Network) (old : State) (lawful : IsLawful n) (valid : IsState old)
   pub is_joined : (log : List Numbered) (s : State) → joined_records n old log ≡ Ok s → IsJoined n old log s
   is_joined log s h = let there = made log s h in record { join = there.0; state = there.1; accepted = accepted_in log s h }
 
+  -- a refusal after records that are joined
+  words : (before : List Numbered) (s : State) (c : Capture) (cause : CollectCause) → joined_records n old before ≡ Ok s → joined_capture n s c ≡ Err cause → IsRefused n s c cause
+  words before s c cause joined h = refused_of n s c cause lawful (made before s joined).1 (fits_log n old s before fits joined) h
+
   pub joined_is : (log : List Numbered) (s : State) → IsJoined n old log s → joined_records n old log ≡ Ok s
   joined_is log s h = by (joined_records n old log) refl
     where
@@ -337,34 +381,29 @@ module _ (n : Network) (old : State) (lawful : IsLawful n) (valid : IsState old)
           let there = made log t is in
           is ∙ ap (λ (u : State). Ok u) (one_join n old log t s there.1 h.state there.0 h.join)
       by (Err cause) is =
-          let found = first_refused n old log cause lawful is in
+          let found = first_refused n old log cause is in
           let first = found.2 in
           let before = made first.before found.0 first.joined in
-          absurd (h.accepted first.before first.after (record { line = found.1; capture = first.capture }) found.0 cause first.split before.0 before.1 first.refused)
+          absurd (h.accepted first.before first.after (record { line = found.1; capture = first.capture }) found.0 cause first.split before.0 before.1 (words first.before found.0 first.capture cause first.joined first.refused))
 
   in_words : (log : List Numbered) (s : State) (line : ℕ) (cause : CollectCause) → Refusal n old log s line cause → IsFirstRefused n old log s line cause
-  in_words log s line cause h = record { before = h.before; capture = h.capture; after = h.after; split = h.split; joined = is_joined h.before s h.joined; refused = h.refused }
+  in_words log s line cause h = record { before = h.before; capture = h.capture; after = h.after; split = h.split; joined = is_joined h.before s h.joined; refused = words h.before s h.capture cause h.joined h.refused }
 
   of_words : (log : List Numbered) (s : State) (line : ℕ) (cause : CollectCause) → IsFirstRefused n old log s line cause → Refusal n old log s line cause
-  of_words log s line cause h = record { before = h.before; capture = h.capture; after = h.after; split = h.split; joined = joined_is h.before s h.joined; refused = h.refused }
-
-  -- the record that is refused
-  refused_there : (log : List Numbered) (s : State) (line : ℕ) (cause : CollectCause) (h : Refusal n old log s line cause) → joined_capture n s h.capture ≡ Err cause
-  refused_there log s line cause h =
-      refused_at n s h.capture cause lawful (makes_log n old s h.before lawful valid fits h.joined).1 (fits_log n old s h.before fits h.joined) h.refused
+  of_words log s line cause h = record { before = h.before; capture = h.capture; after = h.after; split = h.split; joined = joined_is h.before s h.joined; refused = refused_at n s h.capture cause lawful (h.joined).state (fits_log n old s h.before fits (joined_is h.before s h.joined)) h.refused }
 
   records_refused : (log : List Numbered) (s : State) (line : ℕ) (cause : CollectCause) → Refusal n old log s line cause → joined_records n old log ≡ Err cause
   records_refused log s line cause h =
       let r : Numbered = record { line = line; capture = h.capture } in
       ap (joined_records n old) h.split
       ∙ records-append n old s h.before (r ∷ h.after) h.joined
-      ∙ ap (λ (x : Result State CollectCause). and_then x (λ t. joined_records n t h.after)) (refused_there log s line cause h)
+      ∙ ap (λ (x : Result State CollectCause). and_then x (λ t. joined_records n t h.after)) h.refused
 
   pub refused_is : (log : List Numbered) (s : State) (line : ℕ) (cause : CollectCause) → IsFirstRefused n old log s line cause → joined_records n old log ≡ Err cause
   refused_is log s line cause h = records_refused log s line cause (of_words log s line cause h)
 
   pub is_refused : (log : List Numbered) (cause : CollectCause) → joined_records n old log ≡ Err cause → (s : State) × (line : ℕ) × IsFirstRefused n old log s line cause
-  is_refused log cause h = let first = first_refused n old log cause lawful h in (first.0, first.1, in_words log first.0 first.1 cause first.2)
+  is_refused log cause h = let first = first_refused n old log cause h in (first.0, first.1, in_words log first.0 first.1 cause first.2)
 
   outcome_refused : (log : List Numbered) (fault : Option LogError) (s : State) (line : ℕ) (cause : CollectCause) → Refusal n old log s line cause
       → outcome_of n old log fault ≡ record { state = s; fault = Some (record { line = line; cause = cause }) }
@@ -372,7 +411,7 @@ module _ (n : Network) (old : State) (lawful : IsLawful n) (valid : IsState old)
       let r : Numbered = record { line = line; capture = h.capture } in
       ap (λ (rs : List Numbered). outcome_of n old rs fault) h.split
       ∙ outcome_of-front n old h.before (r ∷ h.after) fault s h.joined
-      ∙ ap (λ (x : Result State CollectCause). with_record s line x (λ t. outcome_of n t h.after fault)) (refused_there log s line cause h)
+      ∙ ap (λ (x : Result State CollectCause). with_record s line x (λ t. outcome_of n t h.after fault)) h.refused
 
   outcome_joined : (log : List Numbered) (fault : Option LogError) (s : State) → joined_records n old log ≡ Ok s → outcome_of n old log fault ≡ record { state = s; fault = log_fault fault }
   outcome_joined log fault s h = ap (λ (rs : List Numbered). outcome_of n old rs fault) (sym (append-nil log)) ∙ outcome_of-front n old log [] fault s h
@@ -406,6 +445,6 @@ module _ (n : Network) (old : State) (lawful : IsLawful n) (valid : IsState old)
       by : (x : Result State CollectCause) → joined_records n old log.records ≡ x → IsOutcome n old log s fault
       by (Ok t) is = outcome_as log s t fault (log_fault log.fault) h (outcome_joined log.records log.fault t is) (outcome_ok log t is)
       by (Err cause) is =
-          let first = first_refused n old log.records cause lawful is in
+          let first = first_refused n old log.records cause is in
           let error : CollectError = record { line = first.1; cause = cause } in
           outcome_as log s first.0 fault (Some error) h (outcome_refused log.records log.fault first.0 first.1 cause first.2) (inl (in_words log.records first.0 first.1 cause first.2))

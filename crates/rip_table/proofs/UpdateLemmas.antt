@@ -1,5 +1,5 @@
 -- Single updates: a new prefix, and a metric that changes.
-use Rattle.std.proofs.Common.{inl, inr, ◌⊎◌, ◌≡◌, ◌≢◌, ℕ, zero, suc, ◌+◌, true, List, [], ◌∷◌, ◌++◌, length, Option, Some, None, Result, Ok, Err, refl, sym, ap, ◌∙◌, arith, subst}
+use Rattle.std.proofs.Common.{inl, inr, ◌⊎◌, ◌≡◌, ◌≢◌, ℕ, zero, suc, ◌+◌, ◌<◌, true, List, [], ◌∷◌, ◌++◌, length, Option, Some, None, Result, Ok, Err, refl, sym, ap, ◌∙◌, arith, subst}
 use Rattle.std.specs.List.{slice_get}
 use Rattle.rip_wire.specs.Prefix.{Block}
 use Rattle.rip_wire.specs.declared.entry.Entry.{Entry}
@@ -9,13 +9,14 @@ use Rattle.rip_log.specs.Lines.{Capture}
 use Rattle.rip_log.specs.Logs.{Log, Numbered}
 use Rattle.rip_table.specs.State.{Fits, IsState, State}
 use Rattle.rip_table.specs.Joined.{joined_records, outcome, with_heard}
-use Rattle.rip_table.specs.LogJoin.{IsFirstRefused, IsJoin, IsListed, IsResponse, IsSaid, IsTold}
+use Rattle.rip_table.specs.LogJoin.{IsFirstRefused, IsJoin, IsListed, IsNamed, IsResponse, IsSaid, IsTold}
 use Rattle.rip_table.specs.declared.error.CollectCause.TheVariants.{Table}
 use Rattle.rip_table.specs.declared.error.TableError.TheVariants.{Changed}
+use Rattle.rip_table.proofs.CheckLemmas.{heard_valid}
 use Rattle.rip_table.proofs.MakesLemmas.{either_list}
-use Rattle.rip_table.proofs.OneJoin.{differ_others, new_told}
-use Rattle.rip_table.proofs.RefusedLemmas.{is_joined, outcome_is}
-use Rattle.rip_table.proofs.SaidLemmas.{join_made, makes_log, same_entries}
+use Rattle.rip_table.proofs.OneJoin.{differ_others, log_lists, new_named}
+use Rattle.rip_table.proofs.RefusedLemmas.{entries_joined, is_joined, outcome_is}
+use Rattle.rip_table.proofs.SaidLemmas.{fits_log, interface_below, join_made, makes_log, same_entries}
 
 only_item : (ps : List Block) (p : Block) → ((j k : ℕ) (q : Block) → slice_get ps j ≡ Some q → slice_get ps k ≡ Some q → j ≡ k) → ((k : ℕ) (q : Block) → slice_get ps k ≡ Some q → p ≡ q)
     → (k : ℕ) → slice_get ps k ≡ Some p → ps ≡ p ∷ []
@@ -60,16 +61,16 @@ new_prefix n old new r i e valid join response none = (
 
     all : (k : ℕ) (q : Block) → slice_get join.others k ≡ Some q → e.prefix ≡ q
     all k q at =
-        let found = new_told n old (r ∷ []) new join valid q (k, at) in
-        let there = found.2 in
-        said_one n r i found.0 there.0 there.1 found.1 q e response there.2
+        let found = new_named (IsNamed n (r ∷ [])) old.prefixes new.prefixes (log_lists n old new (r ∷ []) valid join) q (k, at) in
+        let named = found.2 in
+        said_one n r i named.0 found.0 found.1 named.1 q e response named.2
 
     others : join.others ≡ e.prefix ∷ []
     others =
         let listed = (join.listed e.prefix).1 (inr (i, e.metric, told)) in
         elim (either_list old.prefixes join.others listed.0 e.prefix (ap (λ (ps : List Block). slice_get ps listed.0) (sym join.prefixes) ∙ listed.1)) [
           | inl there ↦ absurd (none (listed.0, there))
-          | inr at ↦ only_item join.others e.prefix (differ_others n old (r ∷ []) new join valid) all at.0 at.2
+          | inr at ↦ only_item join.others e.prefix (differ_others (IsNamed n (r ∷ [])) old.prefixes new.prefixes (log_lists n old new (r ∷ []) valid join)) all at.0 at.2
         ]
 
 pub changed_metric : (n : Network) (old s : State) (first second : Numbered) (log : Log) (rest : List Numbered) (i : ℕ) (e f : Entry) → IsLawful n → IsState old → Fits n old
@@ -90,13 +91,16 @@ changed_metric n old s first second log rest i e f lawful valid fits records joi
         rest = [];
         response = again;
         state = with_heard s i;
-        joined = refl;
+        joined = entries_joined second.capture.sender i (with_heard s i) (with_heard s i) [] (λ k d at. cc at) (heard_valid s i (makes_log n old s (first ∷ []) lawful valid fits joined).1) lt refl;
         bad = record { prefix = refl; stands = ap (s.shows i) (sym same) ∙ shown; metric = refl; differ = differ };
       };
     }))
   where
     join : IsJoin n old (first ∷ []) s
     join = join_made n old s (first ∷ []) (makes_log n old s (first ∷ []) lawful valid fits joined).0
+
+    lt : i < s.interfaces
+    lt = interface_below n s first.capture.link first.capture.sender i (fits_log n old s (first ∷ []) fits joined) response.from
 
     shown : s.shows i e.prefix ≡ Some e.metric
     shown = (join.shown i e.prefix e.metric).1 (inr (first_told n first i e response []))

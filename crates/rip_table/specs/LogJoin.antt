@@ -9,7 +9,7 @@ use Rattle.rip_log.specs.Lines.{Capture}
 use Rattle.rip_log.specs.Logs.{Log, Numbered}
 use Rattle.rip_log.specs.declared.error.LogError.{LogError}
 use Rattle.rip_table.specs.State.{IsState, State}
-use Rattle.rip_table.specs.Joined.{joined_entries, with_heard}
+use Rattle.rip_table.specs.Joined.{with_heard}
 use Rattle.rip_table.specs.declared.error.TableError.{TableError}
 use Rattle.rip_table.specs.declared.error.TableError.TheVariants.{Changed, NextHop, TooManyPrefixes, Memory}
 use Rattle.rip_table.specs.declared.error.CollectCause.{CollectCause}
@@ -130,6 +130,18 @@ IsBadEntry sender i s e (NextHop p) = IsByAnother s i sender e p
 IsBadEntry sender i s e TooManyPrefixes = IsTooMany s i sender e
 IsBadEntry sender i s e Memory = ⊥
 
+-- no entry of these is bad, where the table before it is what those before it make
+abbrev pub AreGood : ℕ → ℕ → State → List Entry → Type 0
+AreGood sender i old entries =
+    (front rest : List Entry) (e : Entry) (s : State) (error : TableError)
+    → entries ≡ front ++ e ∷ rest → AreTaken i old front s → IsState s → IsBadEntry sender i s e error → ⊥
+
+-- entries of interface i are joined into this table: they make it, and none of them is bad
+pub record AreJoined (sender i : ℕ) (old : State) (entries : List Entry) (new : State) : Type 0 where
+  pub taken : AreTaken i old entries new
+  pub state : IsState new
+  pub good : AreGood sender i old entries
+
 -- the first bad entry of a response
 pub record HasBadEntry (n : Network) (s : State) (c : Capture) (error : TableError) : Type 0 where
   pub interface : ℕ
@@ -137,9 +149,9 @@ pub record HasBadEntry (n : Network) (s : State) (c : Capture) (error : TableErr
   pub entry : Entry
   pub rest : List Entry
   pub response : IsResponse n c interface (front ++ entry ∷ rest)
-  -- what the entries before it make of the table
+  -- the entries before it are joined into this table
   pub state : State
-  pub joined : joined_entries c.sender interface (with_heard s interface) front ≡ Ok state
+  pub joined : AreJoined c.sender interface (with_heard s interface) front state
   pub bad : IsBadEntry c.sender interface state entry error
 
 -- a response that no interface of the plan sent

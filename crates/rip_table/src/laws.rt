@@ -10,7 +10,7 @@ ghost use Rattle.rip_log.specs.Lines.{Capture};
 ghost use Rattle.rip_log.specs.Logs.{Log, Numbered};
 ghost use Rattle.rip_table.specs.State.{Fits, IsState, State};
 ghost use Rattle.rip_table.specs.Joined.{joined_capture, joined_entries, joined_records, outcome};
-ghost use Rattle.rip_table.specs.LogJoin.{AreTaken, IsFirstRefused, IsJoin, IsJoined, IsListed, IsOutcome, IsResponse};
+ghost use Rattle.rip_table.specs.LogJoin.{AreJoined, IsFirstRefused, IsJoin, IsJoined, IsListed, IsOutcome, IsResponse};
 ghost use Rattle.rip_table.specs.declared.error.CollectCause.{CollectCause};
 ghost use Rattle.rip_table.specs.declared.error.CollectCause.TheVariants.{Table};
 ghost use Rattle.rip_table.specs.declared.error.TableError.TheVariants.{Changed};
@@ -24,9 +24,10 @@ pub fn joined_logs()
     ensures fits { (n : Network) (old new : State) (log : List Numbered) → Fits n old → joined_records n old log ≡ Ok new → Fits n new }
 {}
 
-/// The first entries of a response that are joined make of a table what they say.
-pub fn joined_entries_are_taken()
-    ensures { (n : Network) (old new : State) (c : Capture) (i : ℕ) (front rest : List Entry) → IsState old → Fits n old → IsResponse n c i (front ++ rest) → joined_entries c.sender i old front ≡ Ok new → AreTaken i old front new }
+/// The first entries of a response are joined exactly where none of them is bad, and then into the
+/// table that they make.
+pub fn joined_responses()
+    ensures { (n : Network) (old new : State) (c : Capture) (i : ℕ) (front rest : List Entry) → IsState old → Fits n old → IsResponse n c i (front ++ rest) → (joined_entries c.sender i old front ≡ Ok new) ↔ AreJoined c.sender i old front new }
 {}
 
 /// What a log makes of a table is one table: two that are a join of the same are the same, the order
