@@ -1,5 +1,5 @@
 -- The interface that is found for a link and a sender.
-use Rattle.std.proofs.Common.{◌≡◌, ℕ, zero, suc, ◌+◌, ◌==◌, Bool, true, false, cond, ◌&&◌, List, [], ◌∷◌, Option, Some, None, refl, sym, ap, ◌∙◌, arith}
+use Rattle.std.proofs.Common.{◌≡◌, ℕ, zero, suc, ◌+◌, ◌==◌, Bool, true, false, cond, ◌&&◌, List, [], ◌∷◌, Option, Some, None, refl, ap, ◌∙◌, arith}
 use Rattle.std.specs.List.{slice_get, position_from}
 use Rattle.std.specs.Option.{option_and_then}
 use Rattle.std.specs.Str.{bytes_eq}
@@ -57,8 +57,7 @@ found-IsAt n name a i h =
     let link = placed (λ other. bytes_eq other name) n.links 0 split.0 split.1 in
     let interface = placed (is_at split.0 a) n.interfaces 0 i split.2 in
     let link_here : split.0 ≡ link.0 = omega (arith, link.2) in
-    let here : i ≡ interface.0 = omega (arith, interface.2) in
-    (
+    let here : i ≡ interface.0 = omega (arith, interface.2) in (
       split.0,
       ap (slice_get n.links) link_here ∙ link.3 ∙ ap (λ (other : List ℕ). Some other) (same_bytes link.1 name link.4),
       address_of n i split.0 a interface.1 (ap (slice_get n.interfaces) here ∙ interface.3) interface.4,
@@ -69,9 +68,9 @@ IsAt-found n name a i lawful at =
     let l = at.0 in
     let has = at.2 in
     let link : first_named name 0 n.links ≡ Some l =
-        found-only (λ other. bytes_eq other name) n.links l name at.1 (bytes_same name name refl)
-        (λ m other is same. lawful.link_names_differ m l name (is ∙ ap (λ (x : List ℕ). Some x) (same_bytes other name same)) at.1) in
+    found-only (λ other. bytes_eq other name) n.links l name at.1 (bytes_same name name refl)
+    (λ m other is same. lawful.link_names_differ m l name (is ∙ ap (λ (x : List ℕ). Some x) (same_bytes other name same)) at.1) in
     let interface : first_at l a 0 n.interfaces ≡ Some i =
-        found-only (is_at l a) n.interfaces i (record { router = has.router; link = l; address = a; cost = has.cost }) has.listed (at_itself has.router l a has.cost)
-        (λ j x is same. lawful.addresses_differ j i l a (address_of n j l a x is same) has) in
+    found-only (is_at l a) n.interfaces i (record { router = has.router; link = l; address = a; cost = has.cost }) has.listed (at_itself has.router l a has.cost)
+    (λ j x is same. lawful.addresses_differ j i l a (address_of n j l a x is same) has) in
     ap (option_and_then (λ m. first_at m a 0 n.interfaces)) link ∙ interface

@@ -1,10 +1,10 @@
 -- A table that is made of another by what was said, one after the other.
-use Rattle.std.proofs.Common.{inl, inr, ◌⊎◌, ◌≡◌, ℕ, zero, suc, ◌+◌, ◌<◌, Bool, true, false, ◌||◌, List, [], ◌∷◌, ◌++◌, length, Option, Some, None, refl, sym, ap, ◌∙◌, arith, subst, append_assoc, append-nil}
+use Rattle.std.proofs.Common.{inl, inr, ◌⊎◌, ◌≡◌, ℕ, zero, suc, ◌+◌, ◌<◌, Bool, true, false, ◌||◌, List, [], ◌∷◌, ◌++◌, length, Some, refl, sym, ap, ◌∙◌, arith, subst, append_assoc, append-nil}
 use Rattle.std.specs.List.{slice_get}
 use Rattle.std.proofs.lemmas.Option.{slice_get_within}
 use Rattle.rip_wire.specs.Prefix.{Block}
 use Rattle.rip_table.specs.State.{State, is_among}
-use Rattle.rip_table.proofs.Lists.{is_among-append, is_among-item}
+use Rattle.rip_table.proofs.Lists.{is_among-append}
 use Rattle.rip_table.proofs.NumberLemmas.{true-false}
 
 -- x says metric m of prefix p at interface i; and these interfaces are heard
@@ -152,9 +152,9 @@ module _ {X Y Z : Type 0}
   within_first : (a b : ℕ) (p q : Block) → a < b → slice_get h.others a ≡ Some p → slice_get h.others b ≡ Some q → (z : Z) (i m : ℕ) → all z i q m → Earlier p z
   within_first a b p q lt e d z i m says = elim (join.split z i q m says) [
     | inl x ↦
-      let y = h.order a b p q lt e d x.0 i m x.2 in
-      let named = y.1 in
-      subst (λ (w : Z). Earlier p w) x.1 (join.at_first y.0, (named.0, named.1, join.of_first y.0 named.0 p named.1 named.2), join.both_first y.0 x.0 y.2)
+        let y = h.order a b p q lt e d x.0 i m x.2 in
+        let named = y.1 in
+        subst (λ (w : Z). Earlier p w) x.1 (join.at_first y.0, (named.0, named.1, join.of_first y.0 named.0 p named.1 named.2), join.both_first y.0 x.0 y.2)
     | inr y ↦ first_then a p y.0 z e y.1
   ]
 
@@ -172,9 +172,9 @@ module _ {X Y Z : Type 0}
   within_later a b p q lt e d z i m says = elim (join.split z i q m says) [
     | inl x ↦ not_first b q x.0 i m d x.2
     | inr y ↦
-      let x = k.order a b p q lt e d y.0 i m y.2 in
-      let named = x.1 in
-      subst (λ (w : Z). Earlier p w) y.1 (join.at_then x.0, (named.0, named.1, join.of_then x.0 named.0 p named.1 named.2), join.both_then x.0 y.0 x.2)
+        let x = k.order a b p q lt e d y.0 i m y.2 in
+        let named = x.1 in
+        subst (λ (w : Z). Earlier p w) y.1 (join.at_then x.0, (named.0, named.1, join.of_then x.0 named.0 p named.1 named.2), join.both_then x.0 y.0 x.2)
   ]
 
   order : (a b : ℕ) (p q : Block) → a < b → slice_get others a ≡ Some p → slice_get others b ≡ Some q → (z : Z) (i m : ℕ) → all z i q m → Earlier p z

@@ -1,5 +1,5 @@
 -- A log makes one table of another: what was shown, who was heard and the prefixes with their order are determined.
-use Rattle.std.proofs.Common.{inl, inr, ◌⊎◌, ◌≡◌, ◌↔◌, ℕ, zero, suc, ◌+◌, ◌<◌, Bool, true, false, List, [], ◌∷◌, ◌++◌, length, Option, Some, None, refl, sym, ap, ◌∙◌, arith, subst}
+use Rattle.std.proofs.Common.{inl, inr, ◌⊎◌, ◌≡◌, ℕ, zero, suc, ◌+◌, ◌<◌, Bool, true, false, List, [], ◌∷◌, ◌++◌, length, Option, Some, None, refl, sym, ap, ◌∙◌, arith, subst}
 use Rattle.std.specs.List.{slice_get}
 use Rattle.std.proofs.lemmas.Option.{slice_get_within}
 use mathlib.Core.Path.{fun_ext}
@@ -71,13 +71,13 @@ module _ (names : ℕ → ℕ → Block → Type 0) where
   same_list (x ∷ xs) (y ∷ ys) order_x order_y differ_x differ_y to from named =
       let same = first_is x y xs ys order_x order_y (from y (0, refl)) (to x (0, refl)) (named x (0, refl)) in
       let rest = same_list xs ys
-          (λ a b p q lt h e. order_x (suc a) (suc b) p q (omega (arith, lt)) h e)
-          (λ a b p q lt h e. order_y (suc a) (suc b) p q (omega (arith, lt)) h e)
-          (λ j k p h e. let one = differ_x (suc j) (suc k) p h e in omega (arith, one))
-          (λ j k p h e. let one = differ_y (suc j) (suc k) p h e in omega (arith, one))
-          (λ p h. rest_has x y p xs ys same differ_x h (to p (suc h.0, h.1)))
-          (λ p h. rest_has y x p ys xs (sym same) differ_y h (from p (suc h.0, h.1)))
-          (λ p h. named p (suc h.0, h.1)) in
+      (λ a b p q lt h e. order_x (suc a) (suc b) p q (omega (arith, lt)) h e)
+      (λ a b p q lt h e. order_y (suc a) (suc b) p q (omega (arith, lt)) h e)
+      (λ j k p h e. let one = differ_x (suc j) (suc k) p h e in omega (arith, one))
+      (λ j k p h e. let one = differ_y (suc j) (suc k) p h e in omega (arith, one))
+      (λ p h. rest_has x y p xs ys same differ_x h (to p (suc h.0, h.1)))
+      (λ p h. rest_has y x p ys xs (sym same) differ_y h (from p (suc h.0, h.1)))
+      (λ p h. named p (suc h.0, h.1)) in
       ap (λ (z : Block). z ∷ xs) same ∙ ap (λ (zs : List Block). y ∷ zs) rest
 
 back_at : (ps qs : List Block) (j : ℕ) (p : Block) → slice_get qs j ≡ Some p → slice_get (ps ++ qs) (length ps + j) ≡ Some p
@@ -131,8 +131,8 @@ module _ (names : ℕ → ℕ → Block → Type 0) (base : List Block) where
   one_list ps qs first second =
       first.prefixes
       ∙ ap (λ (rs : List Block). base ++ rs)
-        (same_list names first.others second.others first.order second.order (differ_others ps first) (differ_others qs second)
-        (new_both ps qs first second) (new_both qs ps second first) (new_named ps first))
+      (same_list names first.others second.others first.order second.order (differ_others ps first) (differ_others qs second)
+      (new_both ps qs first second) (new_both qs ps second first) (new_named ps first))
       ∙ sym second.prefixes
 
 same_option : (a b : Option ℕ) → ((x : ℕ) → a ≡ Some x → b ≡ Some x) → ((x : ℕ) → b ≡ Some x → a ≡ Some x) → a ≡ b

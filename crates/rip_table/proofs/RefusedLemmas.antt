@@ -1,6 +1,5 @@
 -- What refuses a log.
-use Rattle.std.proofs.Common.{inl, inr, ◌⊎◌, ◌≡◌, ◌≢◌, ℕ, zero, suc, ◌+◌, ◌<◌, ◌≤◌, ◌==◌, Bool, true, false, cond, ◌&&◌, ◌||◌, not, nat_le, nat_lt, List, [], ◌∷◌, ◌++◌, length, Option, Some, None, Result, Ok, Err, refl, sym, ap, ◌∙◌, arith, subst, append-nil}
-use Rattle.std.specs.List.{slice_get}
+use Rattle.std.proofs.Common.{inl, inr, ◌≡◌, ◌≢◌, ℕ, ◌<◌, ◌≤◌, ◌==◌, Bool, true, false, cond, ◌&&◌, ◌||◌, not, nat_le, nat_lt, List, [], ◌∷◌, ◌++◌, length, Option, Some, None, Result, Ok, Err, refl, sym, ap, ◌∙◌, arith, subst, append-nil}
 use Rattle.std.proofs.lemmas.Bool.{eqb-true, eq-eqb}
 use Rattle.std.proofs.lemmas.Bool.Decides.{nat_tests}
 use Rattle.rip_wire.specs.Prefix.{Block}
@@ -9,13 +8,13 @@ use Rattle.rip_wire.specs.Datagram.{message_or_request}
 use Rattle.rip_wire.specs.declared.entry.Entry.{Entry}
 use Rattle.rip_wire.specs.declared.error.WireError.{WireError}
 use Rattle.rip_plan.specs.Network.{Network}
-use Rattle.rip_plan.specs.Relations.{IsAt, IsLawful}
+use Rattle.rip_plan.specs.Relations.{IsLawful}
 use Rattle.rip_log.specs.Lines.{Capture}
 use Rattle.rip_log.specs.Logs.{Log, Numbered}
 use Rattle.rip_log.specs.declared.error.LogError.{LogError}
 use Rattle.rip_table.specs.State.{Fits, IsState, State, is_among}
 use Rattle.rip_table.specs.Joined.{Outcome, and_then, as_cause, interface_of, is_foreign, is_past, joined_at, joined_capture, joined_entries, joined_from, joined_message, joined_records, log_fault, outcome, outcome_of, with_heard, with_metric, with_record}
-use Rattle.rip_table.specs.LogJoin.{AreAccepted, AreGood, AreJoined, HasBadEntry, IsBadEntry, IsElsewhere, IsFaultOf, IsFirstRefused, IsJoin, IsJoined, IsListed, IsOutcome, IsRefused, IsResponse, IsUnknown, KeepsMetric}
+use Rattle.rip_table.specs.LogJoin.{AreAccepted, AreGood, AreJoined, HasBadEntry, IsBadEntry, IsElsewhere, IsFirstRefused, IsJoin, IsJoined, IsListed, IsOutcome, IsRefused, KeepsMetric}
 use Rattle.rip_table.specs.declared.error.TableError.{TableError}
 use Rattle.rip_table.specs.declared.error.TableError.TheVariants.{Changed, NextHop, TooManyPrefixes, Memory}
 use Rattle.rip_table.specs.declared.error.CollectCause.{CollectCause}
@@ -25,7 +24,6 @@ use Rattle.rip_table.proofs.Lists.{is_among-item}
 use Rattle.rip_table.proofs.NumberLemmas.{true-false}
 use Rattle.rip_table.proofs.AfterLemmas.{then_split}
 use Rattle.rip_table.proofs.CheckLemmas.{heard_valid, joined-append}
-use Rattle.rip_table.proofs.FitLemmas.{Fits-joined}
 use Rattle.rip_table.proofs.FoundLemmas.{found-IsAt, IsAt-found}
 use Rattle.rip_table.proofs.JoinLemmas.{outcome_of-front}
 use Rattle.rip_table.proofs.MetricLemmas.{AreMetrics, front_metrics, read_metrics}
@@ -323,26 +321,32 @@ first_refused n s (r ∷ log) cause h = by (joined_capture n s r.capture) refl h
         → ((t : State) → joined_records n t log ≡ Err cause → (u : State) × (line : ℕ) × Refusal n t log u line cause)
         → (u : State) × (line : ℕ) × Refusal n s (r ∷ log) u line cause
     by (Err other) is k later =
-        let same : other ≡ cause = cc k in
-        (s, r.line, record {
-          before = [];
-          capture = r.capture;
-          after = log;
-          split = refl;
-          joined = refl;
-          refused = is ∙ ap (λ (x : CollectCause). Err x) same;
-        })
+        let same : other ≡ cause = cc k in (
+          s,
+          r.line,
+          record {
+            before = [];
+            capture = r.capture;
+            after = log;
+            split = refl;
+            joined = refl;
+            refused = is ∙ ap (λ (x : CollectCause). Err x) same;
+          },
+        )
     by (Ok t) is k later =
         let found = later t k in
-        let first = found.2 in
-        (found.0, found.1, record {
-          before = r ∷ first.before;
-          capture = first.capture;
-          after = first.after;
-          split = ap (λ (rs : List Numbered). r ∷ rs) first.split;
-          joined = ap (λ (x : Result State CollectCause). and_then x (λ u. joined_records n u first.before)) is ∙ first.joined;
-          refused = first.refused;
-        })
+        let first = found.2 in (
+          found.0,
+          found.1,
+          record {
+            before = r ∷ first.before;
+            capture = first.capture;
+            after = first.after;
+            split = ap (λ (rs : List Numbered). r ∷ rs) first.split;
+            joined = ap (λ (x : Result State CollectCause). and_then x (λ u. joined_records n u first.before)) is ∙ first.joined;
+            refused = first.refused;
+          },
+        )
 
 records-append : (n : Network) (s t : State) (before rest : List Numbered) → joined_records n s before ≡ Ok t → joined_records n s (before ++ rest) ≡ joined_records n t rest
 records-append n s t [] rest h = let same : s ≡ t = cc h in ap (λ (u : State). joined_records n u rest) same

@@ -1,5 +1,5 @@
 -- What entries, records and logs say is what their join makes.
-use Rattle.std.proofs.Common.{inl, inr, ◌⊎◌, ◌≡◌, ℕ, zero, suc, ◌+◌, ◌-◌, ◌/◌, ◌<◌, ◌≤◌, ◌==◌, Bool, true, false, cond, ◌&&◌, ◌||◌, not, nat_le, List, [], ◌∷◌, ◌++◌, length, Option, Some, None, Result, Ok, Err, refl, sym, ap, ◌∙◌, arith, subst, append-nil}
+use Rattle.std.proofs.Common.{inl, inr, ◌⊎◌, ◌≡◌, ℕ, zero, suc, ◌<◌, ◌≤◌, ◌==◌, Bool, true, false, cond, ◌&&◌, not, nat_le, List, [], ◌∷◌, ◌++◌, length, Option, Some, None, Result, Ok, Err, refl, sym, ap, ◌∙◌, arith, subst, append-nil}
 use Rattle.std.specs.List.{slice_get}
 use Rattle.std.proofs.lemmas.Option.{slice_get_within}
 use Rattle.std.proofs.lemmas.Bool.{eqb-true, eq-eqb}
@@ -9,23 +9,22 @@ use Rattle.rip_wire.specs.Message.{Message, request, response, message_in}
 use Rattle.rip_wire.specs.Datagram.{message_or_request}
 use Rattle.rip_wire.specs.declared.entry.Entry.{Entry}
 use Rattle.rip_wire.specs.declared.error.WireError.{WireError}
-use Rattle.rip_plan.specs.Network.{Network, found_at, number_of_prefix}
+use Rattle.rip_plan.specs.Network.{Network, number_of_prefix}
 use Rattle.rip_plan.specs.Passes.{same_prefix}
 use Rattle.rip_plan.specs.Relations.{IsAt, IsLawful}
 use Rattle.rip_log.specs.Lines.{Capture}
 use Rattle.rip_log.specs.Logs.{Numbered}
 use Rattle.rip_table.specs.State.{Fits, IsState, State, is_among}
-use Rattle.rip_table.specs.Joined.{and_then, as_cause, interface_of, is_foreign, is_past, joined_at, joined_capture, joined_entries, joined_from, joined_message, joined_records, message_of_capture, with_heard, with_metric}
-use Rattle.rip_table.specs.LogJoin.{AreTaken, ComesBefore, HasEntry, HasResponse, HasUpdate, IsJoin, IsListed, IsNamed, IsResponse, IsSaid, IsTold, KeepsMetric}
+use Rattle.rip_table.specs.Joined.{and_then, as_cause, interface_of, is_foreign, is_past, joined_at, joined_capture, joined_entries, joined_from, joined_message, joined_records, with_heard, with_metric}
+use Rattle.rip_table.specs.LogJoin.{AreTaken, ComesBefore, HasEntry, HasResponse, HasUpdate, IsJoin, IsListed, IsResponse, IsSaid, IsTold}
 use Rattle.rip_table.specs.declared.error.TableError.{TableError}
 use Rattle.rip_table.specs.declared.error.TableError.TheVariants.{Changed, NextHop, TooManyPrefixes}
 use Rattle.rip_table.specs.declared.error.CollectCause.{CollectCause}
-use Rattle.rip_table.specs.declared.error.CollectCause.TheVariants.{Table, UnknownSender}
-use Rattle.rip_table.proofs.Lists.{is_among-item, same-is, same-self}
+use Rattle.rip_table.proofs.Lists.{same-is, same-self}
 use Rattle.rip_table.proofs.NumberLemmas.{number-at, number-none, true-false}
 use Rattle.rip_table.proofs.FitLemmas.{Fits-joined}
 use Rattle.rip_table.proofs.FoundLemmas.{found-IsAt, IsAt-found}
-use Rattle.rip_table.proofs.AfterLemmas.{Listed, joined_is, new_among, then_split}
+use Rattle.rip_table.proofs.AfterLemmas.{joined_is, new_among, then_split}
 use Rattle.rip_table.proofs.CheckLemmas.{heard_valid, valid_with}
 use Rattle.rip_table.proofs.MetricLemmas.{AreMetrics, read_metrics}
 use Rattle.rip_table.proofs.MakesLemmas.{Joining, Makes, either_list, front_at, makes_as, makes_both, makes_nothing}
@@ -174,8 +173,7 @@ one_more i e es = record {
 pub makes_entries : (sender i : ℕ) (s t : State) (es : List Entry) → AreMetrics es → IsState s → i < s.interfaces → joined_entries sender i s es ≡ Ok t
     → Makes (says_entries i es) earlier nobody s t × IsState t
 makes_entries sender i s t [] metrics valid lt h =
-    let same : s ≡ t = cc h in
-    (
+    let same : s ≡ t = cc h in (
       subst (Makes (says_entries i []) earlier nobody s) same (makes_nothing (says_entries i []) earlier nobody s (λ x j p m says. cc (says.1).1) (λ j k. k)),
       subst IsState same valid,
     )
@@ -185,8 +183,7 @@ makes_entries sender i s t (e ∷ es) metrics valid lt h =
     let first = makes_entry sender i s u e valid lt split.1 in
     let bounds = metrics 0 e refl in
     let valid_here = joined_valid sender i s u e bounds.0 bounds.1 valid lt split.1 in
-    let then = makes_entries sender i u t es (λ k d at. metrics (suc k) d at) valid_here (omega (arith, lt, first.interfaces)) split.2 in
-    (
+    let then = makes_entries sender i u t es (λ k d at. metrics (suc k) d at) valid_here (omega (arith, lt, first.interfaces)) split.2 in (
       makes_both (says_one i e.prefix e.metric) (says_entries i es) (says_entries i (e ∷ es)) never earlier earlier nobody nobody nobody (one_more i e es) s u t first then.0,
       then.1,
     )
@@ -252,8 +249,7 @@ heard_first i es = record {
 makes_message : (sender i : ℕ) (s t : State) (es : List Entry) → AreMetrics es → IsState s → i < s.interfaces → joined_message sender i s (response es) ≡ Ok t
     → MakesState (says_entries i es) earlier (λ j. j ≡ i) s t
 makes_message sender i s t es metrics valid lt h =
-    let then = makes_entries sender i (with_heard s i) t es metrics (heard_valid s i valid) lt h in
-    (
+    let then = makes_entries sender i (with_heard s i) t es metrics (heard_valid s i valid) lt h in (
       makes_both silent (says_entries i es) (says_entries i es) no_order earlier earlier (λ j. j ≡ i) nobody (λ j. j ≡ i) (heard_first i es) s (with_heard s i) t (makes_heard s i) then.0,
       then.1,
     )
@@ -288,11 +284,11 @@ says_response : (n : Network) (s t : State) (c : Capture) (i : ℕ) (es : List E
     → MakesState (says_entries i es) earlier (λ j. j ≡ i) s t → MakesState (says_capture n c) earlier (hears_capture n c) s t
 says_response n s t c i es lawful says found made = (
   makes_as (says_entries i es) (says_capture n c) earlier (λ j. j ≡ i) (hears_capture n c) s t
-    (λ k j p m h. (es, response_of j h.0, h.1))
-    (λ k j p m h. (same_interface n c i j lawful found (h.1).from, subst (λ (fs : List Entry). HasEntry fs k p m) (same_entries c h.0 es (h.1).says says) h.2))
-    (λ j h. (es, response_of j h))
-    (λ j h. same_interface n c i j lawful found (h.1).from)
-    made.0,
+      (λ k j p m h. (es, response_of j h.0, h.1))
+      (λ k j p m h. (same_interface n c i j lawful found (h.1).from, subst (λ (fs : List Entry). HasEntry fs k p m) (same_entries c h.0 es (h.1).says says) h.2))
+      (λ j h. (es, response_of j h))
+      (λ j h. same_interface n c i j lawful found (h.1).from)
+      made.0,
   made.1,
 )
   where
@@ -365,8 +361,7 @@ makes_log n s t (r ∷ log) lawful valid fits h =
     let split = log_then (joined_capture n s r.capture) (λ u. joined_records n u log) t h in
     let u = split.0 in
     let first = makes_capture n s u r.capture lawful valid fits split.1 in
-    let then = makes_log n u t log lawful first.1 (Fits-joined n s u r.capture fits split.1) split.2 in
-    (
+    let then = makes_log n u t log lawful first.1 (Fits-joined n s u r.capture fits split.1) split.2 in (
       makes_both (says_capture n r.capture) (says_log n log) (says_log n (r ∷ log)) earlier before_log before_log (hears_capture n r.capture) (HasUpdate n log) (HasUpdate n (r ∷ log)) (record_first n r log) s u t first.0 then.0,
       then.1,
     )

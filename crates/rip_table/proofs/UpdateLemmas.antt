@@ -1,15 +1,14 @@
 -- Single updates: a new prefix, and a metric that changes.
-use Rattle.std.proofs.Common.{inl, inr, ◌⊎◌, ◌≡◌, ◌≢◌, ℕ, zero, suc, ◌+◌, ◌<◌, true, List, [], ◌∷◌, ◌++◌, length, Option, Some, None, Result, Ok, Err, refl, sym, ap, ◌∙◌, arith, subst}
+use Rattle.std.proofs.Common.{inl, inr, ◌≡◌, ◌≢◌, ℕ, zero, suc, ◌<◌, true, List, [], ◌∷◌, ◌++◌, Some, Ok, refl, sym, ap, ◌∙◌, arith, subst}
 use Rattle.std.specs.List.{slice_get}
 use Rattle.rip_wire.specs.Prefix.{Block}
 use Rattle.rip_wire.specs.declared.entry.Entry.{Entry}
 use Rattle.rip_plan.specs.Network.{Network}
 use Rattle.rip_plan.specs.Relations.{IsLawful}
-use Rattle.rip_log.specs.Lines.{Capture}
 use Rattle.rip_log.specs.Logs.{Log, Numbered}
 use Rattle.rip_table.specs.State.{Fits, IsState, State}
 use Rattle.rip_table.specs.Joined.{joined_records, outcome, with_heard}
-use Rattle.rip_table.specs.LogJoin.{IsFirstRefused, IsJoin, IsListed, IsNamed, IsResponse, IsSaid, IsTold}
+use Rattle.rip_table.specs.LogJoin.{IsJoin, IsListed, IsNamed, IsResponse, IsSaid, IsTold}
 use Rattle.rip_table.specs.declared.error.CollectCause.TheVariants.{Table}
 use Rattle.rip_table.specs.declared.error.TableError.TheVariants.{Changed}
 use Rattle.rip_table.proofs.CheckLemmas.{heard_valid}
