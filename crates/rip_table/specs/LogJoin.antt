@@ -53,6 +53,7 @@ ComesBefore k j l m = (k < l) ⊎ ((k ≡ l) × (j < m))
 
 -- ---- what stands in the table then
 
+-- the prefix is in the list of the table
 abbrev pub IsListed : State → Block → Type 0
 IsListed s p = (k : ℕ) × (slice_get s.prefixes k ≡ Some p)
 
@@ -81,7 +82,7 @@ AreInEntryOrder entries prefixes =
     (a b : ℕ) (p q : Block) → a < b → slice_get prefixes a ≡ Some p → slice_get prefixes b ≡ Some q
     → (m y : ℕ) → HasEntry entries m q y → (k x : ℕ) × HasEntry entries k p x × (k < m)
 
--- entries of interface i make this table of an old one
+-- entries of interface i make this table of an old one; they mark no interface
 pub record AreTaken (i : ℕ) (old : State) (entries : List Entry) (new : State) : Type 0 where
   pub interfaces : new.interfaces ≡ old.interfaces
   pub shown : (j : ℕ) (p : Block) (x : ℕ) → (new.shows j p ≡ Some x) ↔ ((old.shows j p ≡ Some x) ⊎ ((j ≡ i) × ((k : ℕ) × HasEntry entries k p x)))
@@ -110,12 +111,13 @@ pub record IsChange (s : State) (i : ℕ) (e : Entry) (p : Block) (old new : ℕ
   pub metric : new ≡ e.metric
   pub differ : old ≢ new
 
+-- an entry that changes nothing is a route below 16 by another router
 pub record IsByAnother (s : State) (i sender : ℕ) (e : Entry) (p : Block) : Type 0 where
   pub prefix : p ≡ e.prefix
   pub keeps : KeepsMetric s i e
   pub elsewhere : IsElsewhere sender e
 
--- an entry is of one prefix too many
+-- another entry is of one prefix too many: it is new, and there are 2,048
 pub record IsTooMany (s : State) (i sender : ℕ) (e : Entry) : Type 0 where
   pub keeps : KeepsMetric s i e
   pub here : IsElsewhere sender e → ⊥
