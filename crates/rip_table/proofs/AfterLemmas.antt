@@ -39,7 +39,7 @@ kept_among ps p q h = by (is_among p ps)
     by true = h
     by false = is_among-append q ps (p ∷ []) ∙ ap (λ (b : Bool). b || is_among q (p ∷ [])) h
 
-new_among : (ps : List Block) (p : Block) → is_among p (with_prefix p ps) ≡ true
+pub new_among : (ps : List Block) (p : Block) → is_among p (with_prefix p ps) ≡ true
 new_among ps p = by (is_among p ps) refl
   where
     by : (b : Bool) → is_among p ps ≡ b → is_among p (cond b ps (ps ++ p ∷ [])) ≡ true
@@ -65,7 +65,7 @@ same_with s i m p listed here =
         ap (λ (k : ℕ). s.shows k q) (eqb-true j i parts.0) ∙ ap (s.shows i) (same-is q p parts.1) ∙ here
     at j q false t = refl
 
-joined_is : (sender i : ℕ) (s u : State) (e : Entry) → Listed s i → (o : Option ℕ) → s.shows i e.prefix ≡ o → joined_at sender i s e o ≡ Ok u → u ≡ with_metric s i e.prefix e.metric
+pub joined_is : (sender i : ℕ) (s u : State) (e : Entry) → Listed s i → (o : Option ℕ) → s.shows i e.prefix ≡ o → joined_at sender i s e o ≡ Ok u → u ≡ with_metric s i e.prefix e.metric
 joined_is sender i s u e listed None is h = by (is_foreign sender e) (is_past s e.prefix) h
   where
     by : (f b : Bool) → cond f (Err (NextHop e.prefix)) (cond b (Err TooManyPrefixes) (Ok (with_metric s i e.prefix e.metric))) ≡ Ok u → u ≡ with_metric s i e.prefix e.metric

@@ -28,7 +28,7 @@ pub record Checked (sender i : ℕ) (s : State) (es : List Entry) (j count : ℕ
   pub among : (p : Block) → is_among p state.prefixes ≡ (is_among p s.prefixes || is_some (metric_among p (take j es)))
   pub count_is : length state.prefixes ≡ count
 
-heard_valid : (s : State) (i : ℕ) → IsState s → IsState (with_heard s i)
+pub heard_valid : (s : State) (i : ℕ) → IsState s → IsState (with_heard s i)
 heard_valid s i v = record { differ = v.differ; few = v.few; shown = λ j m p lt h. let shown = v.shown j m p lt h in record { least = shown.least; most = shown.most; listed = shown.listed } }
 
 pub Checked-start : (sender i : ℕ) (s : State) (es : List Entry) → IsState s → Checked sender i s es 0 (length s.prefixes)
@@ -97,7 +97,7 @@ shown_with s i m p ps low high valid kept there j k q lt false test h =
     let shown = valid.shown j k q lt h in
     (shown.least, shown.most, kept q shown.listed)
 
-valid_with : (s : State) (i m : ℕ) (p : Block) (b : Bool) → 1 ≤ m → m ≤ 16 → IsState s → is_among p s.prefixes ≡ b → (b ≡ false → length s.prefixes < 2048) → IsState (with_metric s i p m)
+pub valid_with : (s : State) (i m : ℕ) (p : Block) (b : Bool) → 1 ≤ m → m ≤ 16 → IsState s → is_among p s.prefixes ≡ b → (b ≡ false → length s.prefixes < 2048) → IsState (with_metric s i p m)
 valid_with s i m p true low high valid among room = record {
   differ = λ j k q h e. valid.differ j k q (h' j q h) (h' k q e);
   few = omega (arith, valid.few, ap length listed);

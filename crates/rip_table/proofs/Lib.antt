@@ -12,3 +12,10 @@ pub mod NewLemmas
 pub mod RowLemmas
 pub mod CellLemmas
 pub mod AfterLemmas
+pub mod FoundLemmas
+pub mod MakesLemmas
+pub mod MetricLemmas
+pub mod SaidLemmas
+pub mod RefusedLemmas
+pub mod OneJoin
+pub mod UpdateLemmas

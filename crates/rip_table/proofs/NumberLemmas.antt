@@ -21,13 +21,13 @@ true-false true h k = absurd (cc k)
 true-false false h k = absurd (cc h)
 
 -- the number is that of an item that passes
-placed : (test : Block → Bool) (ps : List Block) (n k : ℕ) → position_from test n ps ≡ Some k → (i : ℕ) × (p : Block) × (k ≡ n + i) × (slice_get ps i ≡ Some p) × (test p ≡ true)
+pub placed : {A : Type 0} (test : A → Bool) (ps : List A) (n k : ℕ) → position_from test n ps ≡ Some k → (i : ℕ) × (p : A) × (k ≡ n + i) × (slice_get ps i ≡ Some p) × (test p ≡ true)
 placed test [] n k h = absurd (cc h)
-placed test (q ∷ ps) n k h = by (test q) refl h (λ e. placed test ps (n + 1) k e)
+placed {A} test (q ∷ ps) n k h = by (test q) refl h (λ e. placed test ps (n + 1) k e)
   where
     by : (b : Bool) → test q ≡ b → cond b (Some n) (position_from test (n + 1) ps) ≡ Some k
-        → (position_from test (n + 1) ps ≡ Some k → (i : ℕ) × (p : Block) × (k ≡ n + 1 + i) × (slice_get ps i ≡ Some p) × (test p ≡ true))
-        → (i : ℕ) × (p : Block) × (k ≡ n + i) × (slice_get (q ∷ ps) i ≡ Some p) × (test p ≡ true)
+        → (position_from test (n + 1) ps ≡ Some k → (i : ℕ) × (p : A) × (k ≡ n + 1 + i) × (slice_get ps i ≡ Some p) × (test p ≡ true))
+        → (i : ℕ) × (p : A) × (k ≡ n + i) × (slice_get (q ∷ ps) i ≡ Some p) × (test p ≡ true)
     by true t e later = let same : n ≡ k = cc e in (0, q, omega (arith, same), refl, t)
     by false t e later =
         let found = later e in

@@ -4,3 +4,4 @@ pub mod Collects
 pub mod Numbers
 pub mod ListState
 pub mod Rows
+pub mod LogJoin

@@ -4,6 +4,7 @@
 mod error;
 mod grid;
 mod joining;
+pub mod laws;
 mod list;
 mod numbered;
 mod table;
