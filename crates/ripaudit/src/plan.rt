@@ -252,7 +252,7 @@ pub fn run_plan<K: Sink>(alloc: Global, plan: &[u8], out: &mut K) -> Result<Stat
     ensures text { IfOk result (λ status. (text : List ℕ) × PlanText plan.now (record { text = text; status = status }) × Appends (K.taken out.old) (K.taken out.new) text) }
     // The sink has failed, and a beginning of the text went out.
     ensures write { result ≡ Err RunError.Write → (K.broken out.new ≡ true) × ((w : Written) × PlanText plan.now w × Began (K.taken out.old) (K.taken out.new) w.text) }
-    // A growth was refused, and nothing went out.
+    // With Memory nothing went out.
     ensures memory { result ≡ Err RunError.Memory → (K.broken out.new ≡ K.broken out.old) × Keeps (K.taken out.old) (K.taken out.new) }
     ensures read { result ≡ Err RunError.Read → ⊥ }
     ensures marks { IsOk result → K.broken out.new ≡ K.broken out.old }

@@ -234,7 +234,7 @@ pub fn run_table<R: Source, K: Sink, S: BuildHasher + Drop>(
     ensures write { result.1 ≡ Err RunError.Write → (K.broken out.new ≡ true) × ((w : Written) × TableText plan.now (R.coming log) w × Began (K.taken out.old) (K.taken out.new) w.text) }
     // The source has failed, and nothing went out.
     ensures read { result.1 ≡ Err RunError.Read → (R.broken result.0 ≡ true) × Keeps (K.taken out.old) (K.taken out.new) }
-    // A growth was refused, and nothing went out.
+    // With Memory nothing went out.
     ensures memory { result.1 ≡ Err RunError.Memory → Keeps (K.taken out.old) (K.taken out.new) }
     // Every other answer leaves the marks of the devices as they were.
     ensures source { result.1 ≢ Err RunError.Read → R.broken result.0 ≡ R.broken log }
