@@ -8,3 +8,4 @@ pub mod Readings
 pub mod TableText
 pub mod Held
 pub mod Finished
+pub mod AuditText

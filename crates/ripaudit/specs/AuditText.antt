@@ -1,0 +1,102 @@
+-- What `audit` prints.
+use Rattle.std.specs.Prelude.{◌≡◌, ℕ, ◌==◌, nat_lt, Bool, true, false, if◌then◌else◌, List, [], ◌∷◌, ◌++◌, length, filter, codes, decimal, Option, None, Some, option_map, unwrap_or, slice_get}
+use Rattle.rip_wire.specs.Prefix.{prefix_text}
+use Rattle.rip_plan.specs.Answers.{first_fault}
+use Rattle.rip_plan.specs.Network.{Network, each_below, is_of}
+use Rattle.rip_plan.specs.PlanOf.{IsPlanOfText}
+use Rattle.rip_plan.specs.declared.error.PlanError.{PlanError}
+use Rattle.rip_log.specs.Logs.{log_in}
+use Rattle.rip_table.specs.Collects.{OutcomeKnown}
+use Rattle.rip_table.specs.State.{State, new_state}
+use Rattle.rip_table.specs.declared.error.CollectError.{CollectError}
+use Rattle.rip_check.specs.Audits.{HoldsAfter, IsNextUnsettled, ShowsRightTables, ShowsTables, TroubleIs}
+use Rattle.rip_check.specs.declared.verdict.Place2.{Place2}
+use Rattle.rip_check.specs.declared.verdict.Unclear.{Unclear}
+use Rattle.rip_check.specs.declared.verdict.Unclear.TheVariants.{NotHeard, TwoMetrics, Missing, TwoWays}
+use Rattle.rip_check.specs.declared.verdict.Verdict.{Verdict}
+use Rattle.rip_check.specs.declared.verdict.Verdict.TheVariants as verdicts
+use Rattle.rip_check.specs.declared.way.Way.{Way}
+use Rattle.rip_check.specs.declared.way.Way.TheVariants.{Unreachable, Here, Over}
+use Rattle.ripaudit.specs.PlanText.{name_of, refused_plan}
+use Rattle.ripaudit.specs.RefusalText.{refused_log}
+use Rattle.ripaudit.specs.Written.{Written, line}
+use Rattle.ripaudit.specs.declared.status.Status.TheVariants.{Settled, Unsettled, Unclear as IsUnclear}
+
+-- ---- Lines
+
+-- router r has one interface
+abbrev pub has_one_interface : Network → ℕ → Bool
+has_one_interface n r = length (filter (is_of r) n.interfaces) == 1
+
+-- how many routers are leaves
+abbrev pub leaves_of : Network → ℕ
+leaves_of n = length (filter (has_one_interface n) (each_below (length n.routers) (λ r. r)))
+
+-- `, 1 leaf`, where there are leaves
+abbrev pub leaf_part : ℕ → List ℕ
+leaf_part leaves = if nat_lt 0 leaves then codes ", " ++ decimal leaves ++ codes " leaf" else []
+
+-- `settled: 3 routers, 3 prefixes`
+unfoldable pub settled_line : Network → State → List ℕ
+settled_line n s = line (codes "settled: " ++ decimal (length n.routers) ++ codes " routers, " ++ decimal (length s.prefixes) ++ codes " prefixes" ++ leaf_part (leaves_of n))
+
+-- `router r1 prefix 10.2.0.0/16: `, by their numbers
+abbrev pub place_part : Network → State → ℕ → ℕ → List ℕ
+place_part n s r p = codes "router " ++ name_of n.routers r ++ codes " prefix " ++ unwrap_or (option_map prefix_text (slice_get s.prefixes p)) [] ++ codes ": "
+
+-- `metric 3, equation 2`, or of a leaf that cannot show it `leaf metric 3, equation 2`
+abbrev pub metric_part : Bool → ℕ → ℕ → List ℕ
+metric_part hidden metric equation = (if hidden then codes "leaf " else []) ++ codes "metric " ++ decimal metric ++ codes ", equation " ++ decimal equation
+
+-- `metric 2, link c does not give it`, where the metric is the equation's and the way does not give it
+abbrev pub way_part : Network → ℕ → Way → List ℕ
+way_part n metric (Over l) = codes "metric " ++ decimal metric ++ codes ", link " ++ name_of n.links l ++ codes " does not give it"
+way_part n metric Here = codes "metric " ++ decimal metric ++ codes ", no planned place gives it"
+way_part n metric Unreachable = codes "metric " ++ decimal metric ++ codes ", no planned place gives it"
+
+-- what fails at a place
+abbrev pub failure_part : Network → Place2 → List ℕ
+failure_part n f = if f.metric == f.equation then way_part n f.metric f.way else metric_part f.hidden f.metric f.equation
+
+unfoldable pub unsettled_line : Network → State → Place2 → List ℕ
+unsettled_line n s f = line (codes "unsettled: " ++ place_part n s f.router f.prefix ++ failure_part n f)
+
+-- `router r1 link a: not heard`, or a place and why its route can't be read
+abbrev pub trouble_part : Network → State → Unclear → List ℕ
+trouble_part n s (NotHeard r l) = codes "router " ++ name_of n.routers r ++ codes " link " ++ name_of n.links l ++ codes ": not heard"
+trouble_part n s (TwoMetrics r p) = place_part n s r p ++ codes "two metrics"
+trouble_part n s (Missing r p l) = place_part n s r p ++ codes "missing on " ++ name_of n.links l
+trouble_part n s (TwoWays r p) = place_part n s r p ++ codes "two ways"
+
+unfoldable pub unclear_line : Network → State → Unclear → List ℕ
+unclear_line n s trouble = line (codes "unclear: " ++ trouble_part n s trouble)
+
+-- ---- Texts
+
+-- one line for each place after the given one that can be read and does not hold, in order
+pub data FailureLines (n : Network) (s : State) : Option (ℕ × ℕ) → List ℕ → Type 0 where
+  no_more : (after : Option (ℕ × ℕ)) → HoldsAfter n s after → FailureLines n s after []
+  one_more : (after : Option (ℕ × ℕ)) (f : Place2) (rest : List ℕ) → IsNextUnsettled n s after f → FailureLines n s (Some (f.router, f.prefix)) rest → FailureLines n s after (unsettled_line n s f ++ rest)
+
+-- the verdict on a table, by what the table shows
+abbrev pub IsVerdictOn : Network → State → Verdict → Type 0
+IsVerdictOn n s verdicts.Settled = ShowsRightTables n s
+IsVerdictOn n s (verdicts.Unsettled f) = ShowsTables n s × IsNextUnsettled n s None f
+IsVerdictOn n s (verdicts.Unclear trouble) = TroubleIs n s trouble
+
+-- what is written of a table; all failing places where all are asked for
+pub data VerdictText (n : Network) (s : State) (all : Bool) : Written → Type 0 where
+  a_settled : IsVerdictOn n s verdicts.Settled → VerdictText n s all (record { text = settled_line n s; status = Settled })
+  an_unclear : (trouble : Unclear) → IsVerdictOn n s (verdicts.Unclear trouble) → VerdictText n s all (record { text = unclear_line n s trouble; status = IsUnclear })
+  an_unsettled : (f : Place2) → all ≡ false → IsVerdictOn n s (verdicts.Unsettled f) → VerdictText n s all (record { text = unsettled_line n s f; status = Unsettled })
+  each_unsettled : (f : Place2) (text : List ℕ) → all ≡ true → IsVerdictOn n s (verdicts.Unsettled f) → FailureLines n s None text → VerdictText n s all (record { text = text; status = Unsettled })
+
+-- what is written for a network and the text of a log, where it is told: what refused the log, or the verdict on its table
+pub data AuditOf (n : Network) (log : Option (List ℕ)) (all : Bool) : Written → Type 0 where
+  a_refusal : (s : State) (e : CollectError) → OutcomeKnown n (new_state n) (log_in log) s (Some e) → AuditOf n log all (refused_log e)
+  a_verdict : (s : State) (w : Written) → OutcomeKnown n (new_state n) (log_in log) s None → VerdictText n s all w → AuditOf n log all w
+
+-- the same for the bytes of a plan: their first fault, or what is written for the plan that their document is
+pub data AuditText (plan : List ℕ) (log : Option (List ℕ)) (all : Bool) : Written → Type 0 where
+  a_fault : (e : PlanError) → first_fault plan ≡ Some e → AuditText plan log all (refused_plan e)
+  of_plan : (n : Network) (w : Written) → first_fault plan ≡ None → IsPlanOfText plan n → AuditOf n log all w → AuditText plan log all w
