@@ -1,15 +1,15 @@
 -- What `audit` prints.
-use Rattle.std.specs.Prelude.{◌≡◌, ℕ, ◌==◌, nat_lt, Bool, true, false, if◌then◌else◌, List, [], ◌∷◌, ◌++◌, length, filter, codes, decimal, Option, None, Some, option_map, unwrap_or, slice_get}
+use Rattle.std.specs.Prelude.{◌≡◌, ◌↔◌, ℕ, ◌==◌, ◌<◌, nat_lt, Bool, true, false, if◌then◌else◌, List, [], ◌∷◌, ◌++◌, length, filter, codes, decimal, Option, None, Some, option_map, unwrap_or, slice_get}
 use Rattle.rip_wire.specs.Prefix.{prefix_text}
 use Rattle.rip_plan.specs.Answers.{first_fault}
-use Rattle.rip_plan.specs.Network.{Network, each_below, is_of}
+use Rattle.rip_plan.specs.Network.{Network, each_below, is_of, numbers_where}
 use Rattle.rip_plan.specs.PlanOf.{IsPlanOfText}
 use Rattle.rip_plan.specs.declared.error.PlanError.{PlanError}
 use Rattle.rip_log.specs.Logs.{log_in}
 use Rattle.rip_table.specs.Collects.{OutcomeKnown}
 use Rattle.rip_table.specs.State.{State, new_state}
 use Rattle.rip_table.specs.declared.error.CollectError.{CollectError}
-use Rattle.rip_check.specs.Audits.{HoldsAfter, IsNextUnsettled, ShowsRightTables, ShowsTables, TroubleIs}
+use Rattle.rip_check.specs.Audits.{HoldsAfter, IsNextUnsettled, PacketsArrive, ShowsRightTables, ShowsTables, TroubleIs}
 use Rattle.rip_check.specs.declared.verdict.Place2.{Place2}
 use Rattle.rip_check.specs.declared.verdict.Unclear.{Unclear}
 use Rattle.rip_check.specs.declared.verdict.Unclear.TheVariants.{NotHeard, TwoMetrics, Missing, TwoWays}
@@ -20,13 +20,14 @@ use Rattle.rip_check.specs.declared.way.Way.TheVariants.{Unreachable, Here, Over
 use Rattle.ripaudit.specs.PlanText.{name_of, refused_plan}
 use Rattle.ripaudit.specs.RefusalText.{refused_log}
 use Rattle.ripaudit.specs.Written.{Written, line}
+use Rattle.ripaudit.specs.declared.status.Status.{Status}
 use Rattle.ripaudit.specs.declared.status.Status.TheVariants.{Settled, Unsettled, Unclear as IsUnclear}
 
 -- ---- Lines
 
 -- router r has one interface
 abbrev pub has_one_interface : Network → ℕ → Bool
-has_one_interface n r = length (filter (is_of r) n.interfaces) == 1
+has_one_interface n r = length (numbers_where (is_of r) 0 n.interfaces) == 1
 
 -- how many routers are leaves
 abbrev pub leaves_of : Network → ℕ
@@ -48,35 +49,69 @@ place_part n s r p = codes "router " ++ name_of n.routers r ++ codes " prefix " 
 abbrev pub metric_part : Bool → ℕ → ℕ → List ℕ
 metric_part hidden metric equation = (if hidden then codes "leaf " else []) ++ codes "metric " ++ decimal metric ++ codes ", equation " ++ decimal equation
 
+-- `, link c does not give it`
+abbrev pub no_offer_part : Network → ℕ → List ℕ
+no_offer_part n l = codes ", link " ++ name_of n.links l ++ codes " does not give it"
+
+-- the way that does not give what is expected of it
+abbrev pub wrong_way_part : Network → Way → List ℕ
+wrong_way_part n (Over l) = no_offer_part n l
+wrong_way_part n Here = codes ", no planned place gives it"
+wrong_way_part n Unreachable = codes ", no planned place gives it"
+
 -- `metric 2, link c does not give it`, where the metric is the equation's and the way does not give it
 abbrev pub way_part : Network → ℕ → Way → List ℕ
-way_part n metric (Over l) = codes "metric " ++ decimal metric ++ codes ", link " ++ name_of n.links l ++ codes " does not give it"
-way_part n metric Here = codes "metric " ++ decimal metric ++ codes ", no planned place gives it"
-way_part n metric Unreachable = codes "metric " ++ decimal metric ++ codes ", no planned place gives it"
+way_part n metric way = codes "metric " ++ decimal metric ++ wrong_way_part n way
 
 -- what fails at a place
 abbrev pub failure_part : Network → Place2 → List ℕ
 failure_part n f = if f.metric == f.equation then way_part n f.metric f.way else metric_part f.hidden f.metric f.equation
 
+-- the link of a way is one of the plan
+abbrev pub IsKnownWay : Network → Way → Type 0
+IsKnownWay n (Over l) = l < length n.links
+IsKnownWay n Here = Unit {0}
+IsKnownWay n Unreachable = Unit {0}
+
+-- the router, the prefix and the link of a place are known
+pub record IsPlaceOf (n : Network) (s : State) (f : Place2) : Type 0 where
+  pub router : f.router < length n.routers
+  pub prefix : f.prefix < length s.prefixes
+  pub way : IsKnownWay n f.way
+
+-- `unsettled: router r1 prefix 10.2.0.0/16: metric 3, equation 2`
 unfoldable pub unsettled_line : Network → State → Place2 → List ℕ
 unsettled_line n s f = line (codes "unsettled: " ++ place_part n s f.router f.prefix ++ failure_part n f)
 
+-- `router r1 link a`, by their numbers
+abbrev pub interface_part : Network → ℕ → ℕ → List ℕ
+interface_part n r l = codes "router " ++ name_of n.routers r ++ codes " link " ++ name_of n.links l
+
 -- `router r1 link a: not heard`, or a place and why its route can't be read
 abbrev pub trouble_part : Network → State → Unclear → List ℕ
-trouble_part n s (NotHeard r l) = codes "router " ++ name_of n.routers r ++ codes " link " ++ name_of n.links l ++ codes ": not heard"
+trouble_part n s (NotHeard r l) = interface_part n r l ++ codes ": not heard"
 trouble_part n s (TwoMetrics r p) = place_part n s r p ++ codes "two metrics"
 trouble_part n s (Missing r p l) = place_part n s r p ++ codes "missing on " ++ name_of n.links l
 trouble_part n s (TwoWays r p) = place_part n s r p ++ codes "two ways"
 
+-- the router, the prefix and the link of a trouble are known
+abbrev pub IsTroubleOf : Network → State → Unclear → Type 0
+IsTroubleOf n s (NotHeard r l) = (r < length n.routers) × (l < length n.links)
+IsTroubleOf n s (TwoMetrics r p) = (r < length n.routers) × (p < length s.prefixes)
+IsTroubleOf n s (Missing r p l) = (r < length n.routers) × (p < length s.prefixes) × (l < length n.links)
+IsTroubleOf n s (TwoWays r p) = (r < length n.routers) × (p < length s.prefixes)
+
+-- `unclear: router r1 link a: not heard`
 unfoldable pub unclear_line : Network → State → Unclear → List ℕ
 unclear_line n s trouble = line (codes "unclear: " ++ trouble_part n s trouble)
 
 -- ---- Texts
 
--- one line for each place after the given one that can be read and does not hold, in order
-pub data FailureLines (n : Network) (s : State) : Option (ℕ × ℕ) → List ℕ → Type 0 where
-  no_more : (after : Option (ℕ × ℕ)) → HoldsAfter n s after → FailureLines n s after []
-  one_more : (after : Option (ℕ × ℕ)) (f : Place2) (rest : List ℕ) → IsNextUnsettled n s after f → FailureLines n s (Some (f.router, f.prefix)) rest → FailureLines n s after (unsettled_line n s f ++ rest)
+-- One line for each place after the given one that can be read and does not hold, in order. A text that is not whole may
+-- end after any of its lines.
+pub data FailureLines (n : Network) (s : State) (whole : Bool) : Option (ℕ × ℕ) → List ℕ → Type 0 where
+  no_more : (after : Option (ℕ × ℕ)) → (whole ≡ true → HoldsAfter n s after) → FailureLines n s whole after []
+  one_more : (after : Option (ℕ × ℕ)) (f : Place2) (rest : List ℕ) → IsNextUnsettled n s after f → FailureLines n s whole (Some (f.router, f.prefix)) rest → FailureLines n s whole after (unsettled_line n s f ++ rest)
 
 -- the verdict on a table, by what the table shows
 abbrev pub IsVerdictOn : Network → State → Verdict → Type 0
@@ -84,19 +119,50 @@ IsVerdictOn n s verdicts.Settled = ShowsRightTables n s
 IsVerdictOn n s (verdicts.Unsettled f) = ShowsTables n s × IsNextUnsettled n s None f
 IsVerdictOn n s (verdicts.Unclear trouble) = TroubleIs n s trouble
 
--- what is written of a table; all failing places where all are asked for
-pub data VerdictText (n : Network) (s : State) (all : Bool) : Written → Type 0 where
-  a_settled : IsVerdictOn n s verdicts.Settled → VerdictText n s all (record { text = settled_line n s; status = Settled })
-  an_unclear : (trouble : Unclear) → IsVerdictOn n s (verdicts.Unclear trouble) → VerdictText n s all (record { text = unclear_line n s trouble; status = IsUnclear })
-  an_unsettled : (f : Place2) → all ≡ false → IsVerdictOn n s (verdicts.Unsettled f) → VerdictText n s all (record { text = unsettled_line n s f; status = Unsettled })
-  each_unsettled : (f : Place2) (text : List ℕ) → all ≡ true → IsVerdictOn n s (verdicts.Unsettled f) → FailureLines n s None text → VerdictText n s all (record { text = text; status = Unsettled })
+-- the lines of an unsettled network: that of its first failing place, or those of all
+abbrev pub UnsettledLines : Network → State → Bool → Bool → Place2 → List ℕ → Type 0
+UnsettledLines n s true whole f text = FailureLines n s whole None text
+UnsettledLines n s false whole f text = text ≡ unsettled_line n s f
+
+-- what is written of a table
+pub data VerdictText (n : Network) (s : State) (all whole : Bool) : Written → Type 0 where
+  a_settled : IsVerdictOn n s verdicts.Settled → VerdictText n s all whole (record { text = settled_line n s; status = Settled })
+  an_unclear : (trouble : Unclear) → IsVerdictOn n s (verdicts.Unclear trouble) → VerdictText n s all whole (record { text = unclear_line n s trouble; status = IsUnclear })
+  an_unsettled : (f : Place2) (text : List ℕ) → IsVerdictOn n s (verdicts.Unsettled f) → UnsettledLines n s all whole f text → VerdictText n s all whole (record { text = text; status = Unsettled })
+
+-- the status of a verdict
+abbrev pub verdict_status : Verdict → Status
+verdict_status verdicts.Settled = Settled
+verdict_status (verdicts.Unsettled f) = Unsettled
+verdict_status (verdicts.Unclear trouble) = IsUnclear
 
 -- what is written for a network and the text of a log, where it is told: what refused the log, or the verdict on its table
-pub data AuditOf (n : Network) (log : Option (List ℕ)) (all : Bool) : Written → Type 0 where
-  a_refusal : (s : State) (e : CollectError) → OutcomeKnown n (new_state n) (log_in log) s (Some e) → AuditOf n log all (refused_log e)
-  a_verdict : (s : State) (w : Written) → OutcomeKnown n (new_state n) (log_in log) s None → VerdictText n s all w → AuditOf n log all w
+pub data AuditOf (n : Network) (log : Option (List ℕ)) (all whole : Bool) : Written → Type 0 where
+  a_refusal : (s : State) (e : CollectError) → OutcomeKnown n (new_state n) (log_in log) s (Some e) → AuditOf n log all whole (refused_log e)
+  a_verdict : (s : State) (w : Written) → OutcomeKnown n (new_state n) (log_in log) s None → VerdictText n s all whole w → AuditOf n log all whole w
 
 -- the same for the bytes of a plan: their first fault, or what is written for the plan that their document is
-pub data AuditText (plan : List ℕ) (log : Option (List ℕ)) (all : Bool) : Written → Type 0 where
-  a_fault : (e : PlanError) → first_fault plan ≡ Some e → AuditText plan log all (refused_plan e)
-  of_plan : (n : Network) (w : Written) → first_fault plan ≡ None → IsPlanOfText plan n → AuditOf n log all w → AuditText plan log all w
+pub data AuditText (plan : List ℕ) (log : Option (List ℕ)) (all whole : Bool) : Written → Type 0 where
+  a_fault : (e : PlanError) → first_fault plan ≡ Some e → AuditText plan log all whole (refused_plan e)
+  of_plan : (n : Network) (w : Written) → first_fault plan ≡ None → IsPlanOfText plan n → AuditOf n log all whole w → AuditText plan log all whole w
+
+-- ---- What the statuses mean
+
+-- what a verdict's status says of the table
+pub record IsJudged (n : Network) (s : State) (status : Status) : Type 0 where
+  pub settled : (status ≡ Settled) ↔ ShowsRightTables n s
+  pub arrive : status ≡ Settled → PacketsArrive n s
+  pub unsettled : (status ≡ Unsettled) ↔ (ShowsTables n s × ((f : Place2) × IsNextUnsettled n s None f))
+  pub unclear : (status ≡ IsUnclear) ↔ (ShowsTables n s → ⊥)
+
+-- the bytes of the log are told, and nothing in them is refused; s is the table of their records
+pub record IsTable (n : Network) (log : Option (List ℕ)) (s : State) : Type 0 where
+  pub bytes : List ℕ
+  pub told : log ≡ Some bytes
+  pub joined : OutcomeKnown n (new_state n) (log_in (Some bytes)) s None
+
+-- the same, with the bytes of a plan that has no fault and is n's
+pub record IsAudited (plan : List ℕ) (log : Option (List ℕ)) (n : Network) (s : State) : Type 0 where
+  pub faultless : first_fault plan ≡ None
+  pub plan_of : IsPlanOfText plan n
+  pub table : IsTable n log s

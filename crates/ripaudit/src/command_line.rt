@@ -1,11 +1,12 @@
 //! The words of the command line, and what they ask for.
 
+use crate::audit::run_audit;
 use crate::decode::run_decode;
 use crate::plan::run_plan;
 use crate::status::{RunError, Status, exit_code, fault_line};
 use crate::table::run_table;
 use clap::error::ErrorKind;
-use clap::{Arg, ArgMatches, Command, Error};
+use clap::{Arg, ArgAction, ArgMatches, Command, Error};
 use rip_log::{FromRead, IntoWrite};
 use std::alloc::Global;
 use std::collections::hash_map::RandomState;
@@ -24,6 +25,26 @@ fn plan_word<'a>(alloc: Global) -> Arg<'a> {
         .help("The file of the plan, a TOML document")
 }
 
+/// The word of a log's file.
+fn log_word<'a>(alloc: Global) -> Arg<'a> {
+    Arg::new(alloc, "LOG").help(
+        "The file of the log; standard input where it is left out",
+    )
+}
+
+/// The command `audit`, with its words and its help.
+fn audit_command<'a>(alloc: Global) -> Result<Command<'a>, Error> {
+    let all = Arg::new(alloc, "all").long("all").action(ArgAction::SetTrue).help(
+        "Name each place that does not hold, not only the first",
+    );
+    let audit = Command::new(alloc, "audit")
+        .about("Tells whether the routes that a log shows are right")
+        .arg(plan_word(alloc))?
+        .arg(log_word(alloc))?
+        .arg(all)?;
+    Ok(audit)
+}
+
 /// The commands, with their words and their help.
 fn commands<'a>(alloc: Global) -> Result<Command<'a>, Error> {
     let hex = Arg::new(alloc, "HEX").required(true).help(
@@ -35,17 +56,15 @@ fn commands<'a>(alloc: Global) -> Result<Command<'a>, Error> {
     let plan = Command::new(alloc, "plan")
         .about("Prints the parts of a plan")
         .arg(plan_word(alloc))?;
-    let log = Arg::new(alloc, "LOG").help(
-        "The file of the log; standard input where it is left out",
-    );
     let table = Command::new(alloc, "table")
         .about("Prints what each interface of a plan shows in a log")
         .arg(plan_word(alloc))?
-        .arg(log)?;
+        .arg(log_word(alloc))?;
     let ripaudit = Command::new(alloc, "ripaudit")
         .version("0.1.0")
         .about("Audits the routes of a RIP version 2 network")
         .subcommand_required(true)
+        .subcommand(audit_command(alloc)?)?
         .subcommand(table)?
         .subcommand(plan)?
         .subcommand(decode)?;
@@ -105,21 +124,37 @@ fn plan_file<R: Files + AllocGlobal + Print>(rt: &R, path: &str) -> Result<Statu
     }
 }
 
-/// Runs `table` on a log.
-fn table_from<R: AllocGlobal + Print, L: Read + Drop>(
+/// What is printed of a log.
+#[derive(Clone, Copy)]
+enum Report {
+    /// The verdict, with a line for each place that does not hold where all are asked for.
+    Audit { all: bool },
+    /// The table.
+    Table,
+}
+
+/// Runs `audit` or `table` on a log.
+fn report_from<R: AllocGlobal + Print, L: Read + Drop>(
     rt: &R,
+    report: Report,
     plan: &[u8],
     log: L,
     hasher: RandomState,
 ) -> Result<Status, RunError> {
+    let alloc = rt.alloc();
     let mut out = IntoWrite::new(io::writer(rt));
-    let (_, outcome) = run_table(rt.alloc(), plan, FromRead::new(log), &mut out, hasher);
+    let log = FromRead::new(log);
+    let (_, outcome) = match report {
+        Report::Audit { all } => run_audit(alloc, plan, log, &mut out, all, hasher),
+        Report::Table => run_table(alloc, plan, log, &mut out, hasher),
+    };
     outcome
 }
 
-/// Runs `table` on a file and on a log, which is standard input where no file is named.
-fn table_file<R: Files + AllocGlobal + RandomSource + Input + Print>(
+/// Runs `audit` or `table` on a file and on a log, which is standard input where no file is named.
+fn report_file<R: Files + AllocGlobal + RandomSource + Input + Print>(
     rt: &R,
+    report: Report,
     path: &str,
     log: Option<&str>,
 ) -> Result<Status, RunError> {
@@ -128,9 +163,9 @@ fn table_file<R: Files + AllocGlobal + RandomSource + Input + Print>(
         return Err(RunError::Read);
     };
     match log {
-        None => table_from(rt, plan.as_slice(), rt.reader(), hasher),
+        None => report_from(rt, report, plan.as_slice(), rt.reader(), hasher),
         Some(log) => match fs::open(rt, log) {
-            Ok(file) => table_from(rt, plan.as_slice(), file, hasher),
+            Ok(file) => report_from(rt, report, plan.as_slice(), file, hasher),
             Err(error) => Err(read_fault(&error)),
         },
     }
@@ -142,9 +177,15 @@ fn run_command<R: Files + AllocGlobal + RandomSource + Input + Print + Eprint>(
     matches: &ArgMatches<'_>,
 ) -> u8 {
     let outcome = match matches.subcommand() {
+        Some(("audit", words)) => words.get_str("PLAN").map(|path| {
+            let report = Report::Audit {
+                all: words.get_flag("all"),
+            };
+            report_file(rt, report, path, words.get_str("LOG"))
+        }),
         Some(("table", words)) => words
             .get_str("PLAN")
-            .map(|path| table_file(rt, path, words.get_str("LOG"))),
+            .map(|path| report_file(rt, Report::Table, path, words.get_str("LOG"))),
         Some(("plan", words)) => words.get_str("PLAN").map(|path| plan_file(rt, path)),
         Some(("decode", words)) => words
             .get_str("HEX")

@@ -1,0 +1,139 @@
+-- Verdicts and their statuses.
+use Rattle.std.proofs.Common.{◌≡◌, ◌⊎◌, ℕ, ◌<◌, Bool, true, false, List, [], Option, Some, None, Result, Ok, Err, length, refl, sym, ap, subst, ◌∙◌, is_err}
+use Rattle.std.specs.Prelude.{◌↔◌, IfOk, OnOk, OnErr}
+use Rattle.std.proofs.lemmas.Option.{same_Some}
+use Rattle.rip_plan.specs.Answers.{first_fault}
+use Rattle.rip_plan.specs.Network.{Network}
+use Rattle.rip_plan.specs.PlanOf.{IsPlanOfText, PlanOf}
+use Rattle.rip_plan.specs.declared.error.PlanCode.TheVariants.{Memory as OutOfMemory}
+use Rattle.rip_plan.specs.declared.error.PlanError.{PlanError}
+use Rattle.rip_plan.proofs.OnePlan.{one_plan}
+use Rattle.rip_log.specs.Logs.{log_in}
+use Rattle.rip_table.specs.Collects.{OutcomeKnown}
+use Rattle.rip_table.specs.Joined.{Outcome}
+use Rattle.rip_table.specs.declared.error.CollectError.{CollectError}
+use Rattle.rip_plan.specs.Relations.{IsLawful}
+use Rattle.rip_log.specs.declared.device.Failed.{Failed}
+use Rattle.rip_table.specs.State.{State, new_state}
+use Rattle.rip_check.specs.Audits.{IsNextUnsettled, PacketsArrive, ShowsRightTables, ShowsTables, TroubleIs}
+use Rattle.rip_check.specs.declared.verdict.Place2.{Place2}
+use Rattle.rip_check.specs.declared.verdict.Unclear.{Unclear}
+use Rattle.rip_check.specs.declared.verdict.Unclear.TheVariants.{NotHeard, TwoMetrics, Missing, TwoWays}
+use Rattle.rip_check.specs.declared.verdict.Verdict.{Verdict}
+use Rattle.rip_check.specs.declared.verdict.Verdict.TheVariants as verdicts
+use Rattle.ripaudit.specs.AuditText.{IsAudited, IsJudged, IsTable, IsTroubleOf, IsVerdictOn, UnsettledLines, VerdictText, a_settled, an_unclear, an_unsettled, settled_line, unclear_line, unsettled_line, verdict_status}
+use Rattle.ripaudit.specs.Finished.{finished}
+use Rattle.ripaudit.specs.Sent.{Sent, Began}
+use Rattle.ripaudit.specs.declared.status.Status.{Status}
+use Rattle.ripaudit.specs.declared.status.Status.TheVariants.{Refused, Settled, Unsettled, Unclear as IsUnclear}
+use Rattle.ripaudit.specs.declared.status.RunError.{RunError}
+
+-- what a trouble names is known
+pub known_trouble : (n : Network) (s : State) (trouble : Unclear) → IsLawful n → TroubleIs n s trouble → IsTroubleOf n s trouble
+known_trouble n s (NotHeard r l) lawful h = (lawful.router_known h.interface r l h.cost h.its, lawful.link_known h.interface r l h.cost h.its)
+known_trouble n s (TwoMetrics r p) lawful (heard, h) = (rw h.reason.0 h.first.router, rw h.reason.1 h.first.prefix)
+known_trouble n s (Missing r p l) lawful (heard, h) = (rw h.reason.0 h.first.router, rw h.reason.1 h.first.prefix, lawful.link_known h.reason.3.interface h.router l h.reason.3.cost h.reason.3.its)
+known_trouble n s (TwoWays r p) lawful (heard, h) = (rw h.reason.0 h.first.router, rw h.reason.1 h.first.prefix)
+
+-- what judging answers, of each verdict
+pub record Judges (n : Network) (s : State) (v : Verdict) : Type 0 where
+  pub settled : (v ≡ verdicts.Settled) ↔ ShowsRightTables n s
+  pub unsettled : (f : Place2) → (v ≡ verdicts.Unsettled f) ↔ (ShowsTables n s × IsNextUnsettled n s None f)
+  pub unclear : (trouble : Unclear) → (v ≡ verdicts.Unclear trouble) ↔ TroubleIs n s trouble
+  pub no_tables : ((trouble : Unclear) × (v ≡ verdicts.Unclear trouble)) ↔ (ShowsTables n s → ⊥)
+  pub arrive : v ≡ verdicts.Settled → PacketsArrive n s
+
+pub said : (n : Network) (s : State) (v : Verdict) → Judges n s v → IsVerdictOn n s v
+said n s verdicts.Settled j = j.settled.0 refl
+said n s (verdicts.Unsettled f) j = (j.unsettled f).0 refl
+said n s (verdicts.Unclear trouble) j = (j.unclear trouble).0 refl
+
+is_settled : (v : Verdict) → verdict_status v ≡ Settled → v ≡ verdicts.Settled
+is_settled verdicts.Settled h = refl
+is_settled (verdicts.Unsettled f) h = absurd (cc)
+is_settled (verdicts.Unclear trouble) h = absurd (cc)
+
+is_unsettled : (v : Verdict) → verdict_status v ≡ Unsettled → (f : Place2) × (v ≡ verdicts.Unsettled f)
+is_unsettled verdicts.Settled h = absurd (cc)
+is_unsettled (verdicts.Unsettled f) h = (f, refl)
+is_unsettled (verdicts.Unclear trouble) h = absurd (cc)
+
+is_unclear : (v : Verdict) → verdict_status v ≡ IsUnclear → (trouble : Unclear) × (v ≡ verdicts.Unclear trouble)
+is_unclear verdicts.Settled h = absurd (cc)
+is_unclear (verdicts.Unsettled f) h = absurd (cc)
+is_unclear (verdicts.Unclear trouble) h = (trouble, refl)
+
+pub judged : (n : Network) (s : State) (v : Verdict) → Judges n s v → IsJudged n s (verdict_status v)
+judged n s v j = record {
+  settled = (λ h. j.settled.0 (is_settled v h), λ h. ap verdict_status (j.settled.1 h));
+  arrive = λ h. j.arrive (is_settled v h);
+  unsettled = (
+    λ h. let found = is_unsettled v h in let both = (j.unsettled found.0).0 found.1 in (both.0, (found.0, both.1)),
+    λ h. ap verdict_status ((j.unsettled h.1.0).1 (h.0, h.1.1)),
+  );
+  unclear = (
+    λ h. j.no_tables.0 (is_unclear v h),
+    λ h. ap verdict_status (j.no_tables.1 h).1,
+  );
+}
+
+-- the end of a run that wrote a verdict
+pub ended_judged : (n : Network) (s : State) (status : Status) (r : Result (Unit {0}) Failed) (outcome : Result Status RunError) → outcome ≡ finished r status → IsJudged n s status → IfOk outcome (λ status. IsJudged n s status)
+ended_judged n s status (Ok done) outcome is h = rw is h
+ended_judged n s status (Err e) outcome is h = rw is tt
+
+-- what each verdict writes
+pub settled_told : (n : Network) (s : State) (all whole : Bool) (v : Verdict) → v ≡ verdicts.Settled → IsVerdictOn n s v → VerdictText n s all whole (record { text = settled_line n s; status = verdict_status v })
+settled_told n s all whole v e h = rw e (a_settled (rw e at h))
+
+pub unclear_told : (n : Network) (s : State) (all whole : Bool) (v : Verdict) (trouble : Unclear) → v ≡ verdicts.Unclear trouble → IsVerdictOn n s v → VerdictText n s all whole (record { text = unclear_line n s trouble; status = verdict_status v })
+unclear_told n s all whole v trouble e h = rw e (an_unclear trouble (rw e at h))
+
+pub unsettled_told : (n : Network) (s : State) (all whole : Bool) (v : Verdict) (f : Place2) (text : List ℕ) → v ≡ verdicts.Unsettled f → IsVerdictOn n s v → UnsettledLines n s all whole f text → VerdictText n s all whole (record { text = text; status = verdict_status v })
+unsettled_told n s all whole v f text e h lines = rw e (an_unsettled f text (rw e at h) lines)
+
+-- one text went out
+pub one_sent : (IsText : List ℕ → Type 0) (line text : List ℕ) (a b : Option (List ℕ)) (r : Result (Unit {0}) Failed) → text ≡ line → IsText line → OnOk r (Sent a b text []) → OnOk r ((t : List ℕ) × IsText t × Sent a b t [])
+one_sent IsText line text a b (Ok done) same told sent = (text, subst IsText (sym same) told, sent)
+one_sent IsText line text a b (Err e) same told sent = tt
+
+pub one_begun : (IsText : List ℕ → Type 0) (line text : List ℕ) (a b : Option (List ℕ)) (r : Result (Unit {0}) Failed) → text ≡ line → IsText line → OnErr r (Began a b text) → OnErr r ((t : List ℕ) × IsText t × Began a b t)
+one_begun IsText line text a b (Ok done) same told began = tt
+one_begun IsText line text a b (Err e) same told began = (text, subst IsText (sym same) told, began)
+
+pub ifok-map : {A E : Type 0} {P Q : A → Type 0} (r : Result A E) → ((x : A) → P x → Q x) → IfOk r P → IfOk r Q
+ifok-map (Ok x) f p = f x p
+ifok-map (Err e) f p = tt
+
+pub ifok : {A E : Type 0} {Q : A → Type 0} (r : Result A E) → ((x : A) → Q x) → IfOk r Q
+ifok (Ok x) f = f x
+ifok (Err e) f = tt
+
+-- the records of a log have one table, and one fault
+pub same_table : (n : Network) (log : Option (List ℕ)) (s t : State) (fault : Option CollectError) → OutcomeKnown n (new_state n) (log_in log) s fault → IsTable n log t → (s ≡ t) × (fault ≡ None)
+same_table n log s t fault known h =
+    let one = rw h.told at known in
+    let both = sym one ∙ h.joined in
+    (ap (λ (o : Outcome). o.state) both, ap (λ (o : Outcome). o.fault) both)
+
+pub same_plan : (bytes : List ℕ) (n m : Network) → IsPlanOfText bytes n → IsPlanOfText bytes m → n ≡ m
+same_plan bytes n m p q =
+    let one : p.document ≡ q.document = same_Some p.document q.document (sym p.reads ∙ q.reads) in
+    one_plan q.document n m (subst (λ d. PlanOf d n) one p.plan) q.plan
+
+-- the plan of the bytes is the one that was read
+pub of_read : (bytes : List ℕ) (log : Option (List ℕ)) (n m : Network) (s : State) (outcome : Result Status RunError) → IsPlanOfText bytes m
+    → ((t : State) → IsTable m log t → IfOk outcome (λ status. IsJudged m t status))
+    → IsAudited bytes log n s → IfOk outcome (λ status. IsJudged n s status)
+of_read bytes log n m s outcome is told h =
+    let same = same_plan bytes n m h.plan_of is in
+    subst (λ (k : Network). IfOk outcome (λ status. IsJudged k s status)) (sym same) (told s (subst (λ (k : Network). IsTable k log s) same h.table))
+
+-- the bytes of a plan that is refused have a fault
+pub of_refused : (bytes : List ℕ) (log : Option (List ℕ)) (n : Network) (s : State) (e : PlanError) (P : Type 0) (outcome : Result Status RunError) → ((e.code ≡ OutOfMemory → ⊥) → first_fault bytes ≡ Some e)
+    → IfOk outcome (λ status. (e.code ≡ OutOfMemory → ⊥) × (status ≡ Refused) × P) → IsAudited bytes log n s → IfOk outcome (λ status. IsJudged n s status)
+of_refused bytes log n s e P (Ok status) told h k = absurd (never (sym (told h.0) ∙ k.faultless))
+  where
+    never : ◌≡◌ {A = Option PlanError} (Some e) None → ⊥
+    never h = absurd (cc)
+of_refused bytes log n s e P (Err f) told h k = tt

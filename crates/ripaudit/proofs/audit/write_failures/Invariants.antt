@@ -1,0 +1,17 @@
+use Rattle.std.proofs.Common.{◌≡◌, ◌++◌, ℕ, List, length}
+use Rattle.rip_check.specs.Audits.{IsKnownPlace}
+use Rattle.ripaudit.specs.Held.{held}
+use Rattle.ripaudit.proofs.FailureLemmas.{SentSoFar, places_left}
+use Rattle.ripaudit.proofs.audit.write_failures.Given as goal
+
+abbrev pub invariant-places : goal.invariant-places
+invariant-places g l =
+    let s = g.T.MetricTable.state l.table in
+    record {
+      known : IsKnownPlace s l.after;
+      sent : SentSoFar l.plan s l.after (g.K.Sink.taken l.fn.out) (g.K.Sink.taken l.out) (held l.fn.page) (held l.page);
+      marks : g.K.Sink.broken l.out ≡ g.K.Sink.broken l.fn.out;
+    }
+
+abbrev pub decreases-places : goal.decreases-places
+decreases-places g l = places_left (length l.plan.routers) (length (g.T.MetricTable.state l.table).prefixes) l.after

@@ -1,0 +1,231 @@
+//! The command `audit`: whether the tables that a log shows are right.
+
+mod lines;
+
+ghost use Rattle.std.specs.Prelude.{◌≡◌, ◌≢◌, ◌↔◌, ◌++◌, ℕ, List, [], Err, IfOk, None, Ok, OnErr, OnOk, Option, Some, false, is_err, length, true};
+ghost use Rattle.std.specs.Io.KnownBytes.{Appends, Keeps};
+ghost use Rattle.rip_plan.specs.Answers.{first_fault};
+ghost use Rattle.rip_plan.specs.Network.{Network};
+ghost use Rattle.rip_plan.specs.declared.error.PlanError.{PlanError};
+ghost use Rattle.rip_table.specs.State.{Fits, State, new_state};
+ghost use Rattle.rip_check.specs.Audits.{IsNextUnsettled, PacketsArrive, ShowsRightTables, ShowsTables};
+ghost use Rattle.ripaudit.specs.AuditText.{AuditOf, AuditText, FailureLines, IsAudited, IsJudged, IsTable, IsVerdictOn, UnsettledLines, VerdictText, unsettled_line, verdict_status};
+ghost use Rattle.ripaudit.specs.Held.{held};
+ghost use Rattle.ripaudit.specs.Sent.{Began, Sent};
+ghost use Rattle.ripaudit.specs.Written.{Written};
+
+use crate::output::{Page, finish, write_all};
+use crate::plan::refuse_plan;
+use crate::reading::read_log;
+use crate::refusal::refusal_text;
+use crate::status::{RunError, Status};
+use lines::{settled_text, unclear_text, unsettled_text};
+use rip_check::{Place2, Verdict, judge, next_unsettled};
+use rip_log::{Failed, Sink, Source};
+use rip_plan::Plan;
+use rip_table::{GridTable, MetricTable};
+use std::alloc::Global;
+use std::hash::BuildHasher;
+
+/// Writes the lines of all places that do not hold.
+fn write_failures<T: MetricTable, K: Sink>(
+    page: &mut Page,
+    plan: &Plan,
+    table: &T,
+    out: &mut K,
+) -> Result<(), Failed>
+    requires { Fits plan.now (T.state table.now) }
+    ensures ok { OnOk result ((text : List ℕ) × FailureLines plan.now (T.state table.now) true None text × Sent (K.taken out.old) (K.taken out.new) (held page.old ++ text) (held page.new)) }
+    ensures err { OnErr result ((text : List ℕ) × FailureLines plan.now (T.state table.now) false None text × Began (K.taken out.old) (K.taken out.new) (held page.old ++ text)) }
+    ensures failed { is_err result ≡ true → K.broken out.new ≡ true }
+    ensures marks { is_err result ≡ false → K.broken out.new ≡ K.broken out.old }
+{
+    plan.lawful();
+    let mut after = None;
+    'places: while let Some(place) = next_unsettled(plan, table, after) {
+        page.write(out, unsettled_text(plan, table, &place).as_bytes())?;
+        after = Some((place.router, place.prefix));
+    }
+    Ok(())
+}
+
+/// Writes the lines of all places that do not hold, to the last byte.
+fn write_each<T: MetricTable, K: Sink>(plan: &Plan, table: &T, out: &mut K) -> Result<(), Failed>
+    requires { Fits plan.now (T.state table.now) }
+    ensures ok { OnOk result ((text : List ℕ) × FailureLines plan.now (T.state table.now) true None text × Sent (K.taken out.old) (K.taken out.new) text []) }
+    ensures err { OnErr result ((text : List ℕ) × FailureLines plan.now (T.state table.now) false None text × Began (K.taken out.old) (K.taken out.new) text) }
+    ensures failed { is_err result ≡ true → K.broken out.new ≡ true }
+    ensures marks { is_err result ≡ false → K.broken out.new ≡ K.broken out.old }
+{
+    let mut page = Page::new();
+    write_failures(&mut page, plan, table, out)?;
+    page.flush(out)
+}
+
+/// Writes the line of the first place that does not hold.
+fn write_first<T: MetricTable, K: Sink>(
+    plan: &Plan,
+    table: &T,
+    place: &Place2,
+    out: &mut K,
+) -> Result<(), Failed>
+    requires { IsNextUnsettled plan.now (T.state table.now) None place.now }
+    ensures ok { OnOk result (Sent (K.taken out.old) (K.taken out.new) (unsettled_line plan.now (T.state table.now) place.now) []) }
+    ensures err { OnErr result (Began (K.taken out.old) (K.taken out.new) (unsettled_line plan.now (T.state table.now) place.now)) }
+    ensures failed { is_err result ≡ true → K.broken out.new ≡ true }
+    ensures marks { is_err result ≡ false → K.broken out.new ≡ K.broken out.old }
+{
+    plan.lawful();
+    write_all(out, unsettled_text(plan, table, place).as_bytes())
+}
+
+/// Writes the lines of an unsettled network: that of its first place that does not hold, or of all.
+fn write_unsettled<T: MetricTable, K: Sink>(
+    plan: &Plan,
+    table: &T,
+    all: bool,
+    place: &Place2,
+    out: &mut K,
+) -> Result<(), Failed>
+    requires fits { Fits plan.now (T.state table.now) }
+    requires first { IsNextUnsettled plan.now (T.state table.now) None place.now }
+    ensures ok { OnOk result ((text : List ℕ) × UnsettledLines plan.now (T.state table.now) all true place.now text × Sent (K.taken out.old) (K.taken out.new) text []) }
+    ensures err { OnErr result ((text : List ℕ) × UnsettledLines plan.now (T.state table.now) all false place.now text × Began (K.taken out.old) (K.taken out.new) text) }
+    ensures failed { is_err result ≡ true → K.broken out.new ≡ true }
+    ensures marks { is_err result ≡ false → K.broken out.new ≡ K.broken out.old }
+{
+    if all {
+        write_each(plan, table, out)
+    } else {
+        write_first(plan, table, place, out)
+    }
+}
+
+/// The status of a verdict.
+fn status_of(verdict: &Verdict) -> Status
+    ensures { result ≡ verdict_status verdict.now }
+{
+    match verdict {
+        Verdict::Settled => Status::Settled,
+        Verdict::Unsettled(_) => Status::Unsettled,
+        Verdict::Unclear(_) => Status::Unclear,
+    }
+}
+
+/// Writes a verdict.
+fn write_verdict<T: MetricTable, K: Sink>(
+    plan: &Plan,
+    table: &T,
+    all: bool,
+    verdict: &Verdict,
+    out: &mut K,
+) -> Result<(), Failed>
+    requires fits { Fits plan.now (T.state table.now) }
+    requires verdict { IsVerdictOn plan.now (T.state table.now) verdict.now }
+    ensures ok { OnOk result ((text : List ℕ) × VerdictText plan.now (T.state table.now) all true (record { text = text; status = verdict_status verdict.now }) × Sent (K.taken out.old) (K.taken out.new) text []) }
+    ensures err { OnErr result ((text : List ℕ) × VerdictText plan.now (T.state table.now) all false (record { text = text; status = verdict_status verdict.now }) × Began (K.taken out.old) (K.taken out.new) text) }
+    ensures failed { is_err result ≡ true → K.broken out.new ≡ true }
+    ensures marks { is_err result ≡ false → K.broken out.new ≡ K.broken out.old }
+{
+    plan.lawful();
+    match verdict {
+        Verdict::Settled => write_all(out, settled_text(plan, table).as_bytes()),
+        Verdict::Unsettled(place) => write_unsettled(plan, table, all, place, out),
+        Verdict::Unclear(trouble) => {
+            write_all(out, unclear_text(plan, table, trouble).as_bytes())
+        }
+    }
+}
+
+/// Judges a table and writes the verdict.
+fn audit_table<T: MetricTable, K: Sink>(
+    plan: &Plan,
+    table: &T,
+    all: bool,
+    out: &mut K,
+) -> Result<Status, RunError>
+    requires { Fits plan.now (T.state table.now) }
+    ensures text { IfOk result (λ status. (text : List ℕ) × VerdictText plan.now (T.state table.now) all true (record { text = text; status = status }) × Appends (K.taken out.old) (K.taken out.new) text) }
+    ensures write { result ≡ Err RunError.Write → (K.broken out.new ≡ true) × ((w : Written) × VerdictText plan.now (T.state table.now) all false w × Began (K.taken out.old) (K.taken out.new) w.text) }
+    ensures sink { result ≢ Err RunError.Write → K.broken out.new ≡ K.broken out.old }
+    ensures read { result ≢ Err RunError.Read }
+    ensures memory { result ≢ Err RunError.Memory }
+    ensures judged { IfOk result (λ status. IsJudged plan.now (T.state table.now) status) }
+{
+    let verdict = judge(plan, table);
+    let wrote = write_verdict(plan, table, all, &verdict, out);
+    finish(wrote, status_of(&verdict))
+}
+
+/// Prints the verdict on a log, or what refuses the log. The table is new.
+fn audit_of<R: Source, K: Sink, T: MetricTable>(
+    alloc: Global,
+    plan: &Plan,
+    log: R,
+    out: &mut K,
+    all: bool,
+    table: &mut T,
+) -> (R, Result<Status, RunError>)
+    requires { T.state table.old ≡ new_state plan.now }
+    ensures text { IfOk result.1 (λ status. (text : List ℕ) × AuditOf plan.now (R.coming log) all true (record { text = text; status = status }) × Appends (K.taken out.old) (K.taken out.new) text) }
+    ensures write { result.1 ≡ Err RunError.Write → (K.broken out.new ≡ true) × ((w : Written) × AuditOf plan.now (R.coming log) all false w × Began (K.taken out.old) (K.taken out.new) w.text) }
+    ensures read { result.1 ≡ Err RunError.Read → (R.broken result.0 ≡ true) × Keeps (K.taken out.old) (K.taken out.new) }
+    ensures memory { result.1 ≡ Err RunError.Memory → Keeps (K.taken out.old) (K.taken out.new) }
+    ensures source { result.1 ≢ Err RunError.Read → R.broken result.0 ≡ R.broken log }
+    ensures sink { result.1 ≢ Err RunError.Write → K.broken out.new ≡ K.broken out.old }
+    ensures ended { IfOk result.1 (λ status. status ≢ Status.Refused → R.at_end result.0 ≡ true) }
+    ensures judged { (s : State) → IsTable plan.now (R.coming log) s → IfOk result.1 (λ status. IsJudged plan.now s status) }
+{
+    let (source, read) = read_log(alloc, plan, log, table);
+    match read {
+        Ok(None) => (source, audit_table(plan, table, all, out)),
+        Ok(Some(error)) => (
+            source,
+            finish(
+                write_all(out, refusal_text(error).as_bytes()),
+                Status::Refused,
+            ),
+        ),
+        Err(error) => (source, Err(error)),
+    }
+}
+
+/// Prints the verdict on a log for the plan that the bytes of a TOML document are, or what refuses the
+/// plan or the log. With `all` an unsettled network has one line for each place that does not hold. The
+/// source comes back. The hasher is for the prefixes, which strangers choose.
+pub fn run_audit<R: Source, K: Sink, S: BuildHasher + Drop>(
+    alloc: Global,
+    plan: &[u8],
+    log: R,
+    out: &mut K,
+    all: bool,
+    hasher: S,
+) -> (R, Result<Status, RunError>)
+    // Settled is answered exactly where the log shows tables that are right, and then packets arrive.
+    ensures headline { (n : Network) (s : State) → IsAudited plan.now (R.coming log) n s → IfOk result.1 (λ status. ((status ≡ Status.Settled) ↔ ShowsRightTables n s) × (status ≡ Status.Settled → PacketsArrive n s)) }
+    // The same of each verdict.
+    ensures judged { (n : Network) (s : State) → IsAudited plan.now (R.coming log) n s → IfOk result.1 (λ status. IsJudged n s status) }
+    // The whole text went out, and nothing else.
+    ensures text { IfOk result.1 (λ status. (text : List ℕ) × AuditText plan.now (R.coming log) all true (record { text = text; status = status }) × Appends (K.taken out.old) (K.taken out.new) text) }
+    // The sink has failed, and a beginning of the text went out.
+    ensures write { result.1 ≡ Err RunError.Write → (K.broken out.new ≡ true) × ((w : Written) × AuditText plan.now (R.coming log) all false w × Began (K.taken out.old) (K.taken out.new) w.text) }
+    // The source has failed, and nothing went out.
+    ensures read { result.1 ≡ Err RunError.Read → (R.broken result.0 ≡ true) × Keeps (K.taken out.old) (K.taken out.new) }
+    // A growth was refused, and nothing went out.
+    ensures memory { result.1 ≡ Err RunError.Memory → Keeps (K.taken out.old) (K.taken out.new) }
+    // Every other answer leaves the marks of the devices as they were.
+    ensures source { result.1 ≢ Err RunError.Read → R.broken result.0 ≡ R.broken log }
+    ensures sink { result.1 ≢ Err RunError.Write → K.broken out.new ≡ K.broken out.old }
+    // A verdict comes only where the source has come to its end.
+    ensures ended { IfOk result.1 (λ status. status ≢ Status.Refused → R.at_end result.0 ≡ true) }
+    ensures untouched { (e : PlanError) → first_fault plan.now ≡ Some e → result.0 ≡ log }
+{
+    let plan = match Plan::read(alloc, plan) {
+        Ok(plan) => plan,
+        Err(error) => return (log, refuse_plan(error, out)),
+    };
+    match GridTable::with_hasher(alloc, &plan, hasher) {
+        Ok(mut table) => audit_of(alloc, &plan, log, out, all, &mut table),
+        Err(_) => (log, Err(RunError::Memory)),
+    }
+}
