@@ -42,11 +42,10 @@ pub one_began : (n : Network) (s : State) (after : Option (ℕ × ℕ)) (f : Pla
 one_began n s after f a b c front held next so began =
     let line = unsettled_line n s f in
     let nothing : List ℕ = [] in
-    let last = one_more after f [] next (no_more (Some (f.router, f.prefix)) (never n s (Some (f.router, f.prefix)))) in
-    (
+    let last = one_more after f [] next (no_more (Some (f.router, f.prefix)) (never n s (Some (f.router, f.prefix)))) in (
       so.text ++ line,
       subst (λ (l : List ℕ). FailureLines n s false None (so.text ++ l)) (append-nil line) (so.goes_on false (line ++ []) last),
-      subst (λ (l : List ℕ). Began a c l) (append_assoc front so.text line) (Began-more a b c (front ++ so.text) held line so.sent began)
+      subst (λ (l : List ℕ). Began a c l) (append_assoc front so.text line) (Began-more a b c (front ++ so.text) held line so.sent began),
     )
 
 -- no more lines

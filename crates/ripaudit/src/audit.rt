@@ -229,3 +229,6 @@ pub fn run_audit<R: Source, K: Sink, S: BuildHasher + Drop>(
         Err(_) => (log, Err(RunError::Memory)),
     }
 }
+
+#[cfg(test)]
+mod tests;

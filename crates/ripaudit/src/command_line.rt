@@ -27,16 +27,15 @@ fn plan_word<'a>(alloc: Global) -> Arg<'a> {
 
 /// The word of a log's file.
 fn log_word<'a>(alloc: Global) -> Arg<'a> {
-    Arg::new(alloc, "LOG").help(
-        "The file of the log; standard input where it is left out",
-    )
+    Arg::new(alloc, "LOG").help("The file of the log; standard input where it is left out")
 }
 
 /// The command `audit`, with its words and its help.
 fn audit_command<'a>(alloc: Global) -> Result<Command<'a>, Error> {
-    let all = Arg::new(alloc, "all").long("all").action(ArgAction::SetTrue).help(
-        "Name each place that does not hold, not only the first",
-    );
+    let all = Arg::new(alloc, "all")
+        .long("all")
+        .action(ArgAction::SetTrue)
+        .help("Name each place that does not hold, not only the first");
     let audit = Command::new(alloc, "audit")
         .about("Tells whether the routes that a log shows are right")
         .arg(plan_word(alloc))?
@@ -183,9 +182,12 @@ fn run_command<R: Files + AllocGlobal + RandomSource + Input + Print + Eprint>(
             };
             report_file(rt, report, path, words.get_str("LOG"))
         }),
-        Some(("table", words)) => words
-            .get_str("PLAN")
-            .map(|path| report_file(rt, Report::Table, path, words.get_str("LOG"))),
+        Some(("table", words)) => words.get_str("PLAN").map(|path| report_file(
+            rt,
+            Report::Table,
+            path,
+            words.get_str("LOG"),
+        )),
         Some(("plan", words)) => words.get_str("PLAN").map(|path| plan_file(rt, path)),
         Some(("decode", words)) => words
             .get_str("HEX")

@@ -63,13 +63,7 @@ pub(crate) fn settled_text<T: MetricTable>(plan: &Plan, table: &T) -> Line
 }
 
 /// Adds a router and a prefix of the table, by their numbers.
-fn push_place<T: MetricTable>(
-    text: &mut Line,
-    plan: &Plan,
-    table: &T,
-    router: usize,
-    prefix: usize,
-)
+fn push_place<T: MetricTable>(text: &mut Line, plan: &Plan, table: &T, router: usize, prefix: usize)
     requires router { router < length plan.now.routers }
     requires prefix { prefix < length (T.state table.now).prefixes }
     requires room { length text.old + 67 ≤ 256 }
