@@ -207,11 +207,11 @@ pub fn run_audit<R: Source, K: Sink, S: BuildHasher + Drop>(
     ensures judged { (n : Network) (s : State) → IsAudited plan.now (R.coming log) n s → IfOk result.1 (λ status. IsJudged n s status) }
     // The whole text went out, and nothing else.
     ensures text { IfOk result.1 (λ status. (text : List ℕ) × AuditText plan.now (R.coming log) all true (record { text = text; status = status }) × Appends (K.taken out.old) (K.taken out.new) text) }
-    // The sink has failed, and a beginning of the text went out.
+    // The sink has failed, and a beginning of the text went out; with `all`, of some first lines of it.
     ensures write { result.1 ≡ Err RunError.Write → (K.broken out.new ≡ true) × ((w : Written) × AuditText plan.now (R.coming log) all false w × Began (K.taken out.old) (K.taken out.new) w.text) }
     // The source has failed, and nothing went out.
     ensures read { result.1 ≡ Err RunError.Read → (R.broken result.0 ≡ true) × Keeps (K.taken out.old) (K.taken out.new) }
-    // A growth was refused, and nothing went out.
+    // With Memory nothing went out.
     ensures memory { result.1 ≡ Err RunError.Memory → Keeps (K.taken out.old) (K.taken out.new) }
     // Every other answer leaves the marks of the devices as they were.
     ensures source { result.1 ≢ Err RunError.Read → R.broken result.0 ≡ R.broken log }
