@@ -1,6 +1,6 @@
 //! A plan, and what it answers.
 
-ghost use Rattle.std.specs.Prelude.{◌≡◌, ◌≢◌, ◌<◌, ◌↔◌, ◌⊎◌, ℕ, Contains, Decides, IfErr, IfOk, IfSome, None, Some, false, is_some, length, not, option_and_then, slice_get};
+ghost use Rattle.std.specs.Prelude.{◌≡◌, ◌≢◌, ◌==◌, ◌<◌, ◌↔◌, ◌⊎◌, ℕ, Contains, Decides, IfErr, IfOk, IfSome, None, Some, false, is_some, length, not, option_and_then, slice_get};
 ghost use Rattle.std.specs.List.Sorted.{IsStrictlyIncreasing};
 ghost use Rattle.rip_plan.specs.declared.error.PlanCode.TheVariants.{Memory};
 ghost use Rattle.rip_plan.specs.Answers.{IsAnswer, first_fault, out_of_memory};
@@ -244,6 +244,7 @@ impl Plan {
         requires { router < length self.now.routers }
         ensures one { Decides result ((i l c : ℕ) × IsLeaf self.now router i l c) }
         ensures more { Decides (not result) (HasTwoInterfaces self.now router) }
+        ensures count { result ≡ (length (numbers_where (is_of router) 0 self.now.interfaces) == 1) }
     {
         self.lawful();
         self.of_router(router).len() == 1

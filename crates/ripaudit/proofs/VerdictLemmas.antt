@@ -7,7 +7,6 @@ use Rattle.rip_plan.specs.Network.{Network}
 use Rattle.rip_plan.specs.PlanOf.{IsPlanOfText, PlanOf}
 use Rattle.rip_plan.specs.declared.error.PlanCode.TheVariants.{Memory as OutOfMemory}
 use Rattle.rip_plan.specs.declared.error.PlanError.{PlanError}
-use Rattle.rip_plan.proofs.OnePlan.{one_plan}
 use Rattle.rip_log.specs.Logs.{log_in}
 use Rattle.rip_table.specs.Collects.{OutcomeKnown}
 use Rattle.rip_table.specs.Joined.{Outcome}
@@ -83,14 +82,14 @@ ended_judged n s status (Ok done) outcome is h = rw is h
 ended_judged n s status (Err e) outcome is h = rw is tt
 
 -- what each verdict writes
-pub settled_told : (n : Network) (s : State) (all whole : Bool) (v : Verdict) → v ≡ verdicts.Settled → IsVerdictOn n s v → VerdictText n s all whole (record { text = settled_line n s; status = verdict_status v })
-settled_told n s all whole v e h = rw e (a_settled (rw e at h))
+pub settled_told : (n : Network) (s : State) (all : Bool) (v : Verdict) → v ≡ verdicts.Settled → IsVerdictOn n s v → VerdictText n s all (record { text = settled_line n s; status = verdict_status v })
+settled_told n s all v e h = rw e (a_settled (rw e at h))
 
-pub unclear_told : (n : Network) (s : State) (all whole : Bool) (v : Verdict) (trouble : Unclear) → v ≡ verdicts.Unclear trouble → IsVerdictOn n s v → VerdictText n s all whole (record { text = unclear_line n s trouble; status = verdict_status v })
-unclear_told n s all whole v trouble e h = rw e (an_unclear trouble (rw e at h))
+pub unclear_told : (n : Network) (s : State) (all : Bool) (v : Verdict) (trouble : Unclear) → v ≡ verdicts.Unclear trouble → IsVerdictOn n s v → VerdictText n s all (record { text = unclear_line n s trouble; status = verdict_status v })
+unclear_told n s all v trouble e h = rw e (an_unclear trouble (rw e at h))
 
-pub unsettled_told : (n : Network) (s : State) (all whole : Bool) (v : Verdict) (f : Place2) (text : List ℕ) → v ≡ verdicts.Unsettled f → IsVerdictOn n s v → UnsettledLines n s all whole f text → VerdictText n s all whole (record { text = text; status = verdict_status v })
-unsettled_told n s all whole v f text e h lines = rw e (an_unsettled f text (rw e at h) lines)
+pub unsettled_told : (n : Network) (s : State) (all : Bool) (v : Verdict) (f : Place2) (text : List ℕ) → v ≡ verdicts.Unsettled f → IsVerdictOn n s v → UnsettledLines n s all f text → VerdictText n s all (record { text = text; status = verdict_status v })
+unsettled_told n s all v f text e h lines = rw e (an_unsettled f text (rw e at h) lines)
 
 -- one text went out
 pub one_sent : (IsText : List ℕ → Type 0) (line text : List ℕ) (a b : Option (List ℕ)) (r : Result (Unit {0}) Failed) → text ≡ line → IsText line → OnOk r (Sent a b text []) → OnOk r ((t : List ℕ) × IsText t × Sent a b t [])
@@ -116,17 +115,21 @@ same_table n log s t fault known h =
     let both = sym one ∙ h.joined in
     (ap (λ (o : Outcome). o.state) both, ap (λ (o : Outcome). o.fault) both)
 
-pub same_plan : (bytes : List ℕ) (n m : Network) → IsPlanOfText bytes n → IsPlanOfText bytes m → n ≡ m
-same_plan bytes n m p q =
+-- the document of the bytes has one plan
+abbrev pub HasOnePlan : List ℕ → Type 0
+HasOnePlan bytes = (n m : Network) (q : IsPlanOfText bytes m) → PlanOf q.document n → PlanOf q.document m → n ≡ m
+
+pub same_plan : (bytes : List ℕ) (n m : Network) → HasOnePlan bytes → IsPlanOfText bytes n → IsPlanOfText bytes m → n ≡ m
+same_plan bytes n m one_plan p q =
     let one : p.document ≡ q.document = same_Some p.document q.document (sym p.reads ∙ q.reads) in
-    one_plan q.document n m (subst (λ d. PlanOf d n) one p.plan) q.plan
+    one_plan n m q (subst (λ d. PlanOf d n) one p.plan) q.plan
 
 -- the plan of the bytes is the one that was read
-pub of_read : (bytes : List ℕ) (log : Option (List ℕ)) (n m : Network) (s : State) (outcome : Result Status RunError) → IsPlanOfText bytes m
+pub of_read : (bytes : List ℕ) (log : Option (List ℕ)) (n m : Network) (s : State) (outcome : Result Status RunError) → HasOnePlan bytes → IsPlanOfText bytes m
     → ((t : State) → IsTable m log t → IfOk outcome (λ status. IsJudged m t status))
     → IsAudited bytes log n s → IfOk outcome (λ status. IsJudged n s status)
-of_read bytes log n m s outcome is told h =
-    let same = same_plan bytes n m h.plan_of is in
+of_read bytes log n m s outcome one_plan is told h =
+    let same = same_plan bytes n m one_plan h.plan_of is in
     subst (λ (k : Network). IfOk outcome (λ status. IsJudged k s status)) (sym same) (told s (subst (λ (k : Network). IsTable k log s) same h.table))
 
 -- the bytes of a plan that is refused have a fault

@@ -107,11 +107,10 @@ unclear_line n s trouble = line (codes "unclear: " ++ trouble_part n s trouble)
 
 -- ---- Texts
 
--- One line for each place after the given one that can be read and does not hold, in order. A text that is not whole may
--- end after any of its lines.
-pub data FailureLines (n : Network) (s : State) (whole : Bool) : Option (ℕ × ℕ) → List ℕ → Type 0 where
-  no_more : (after : Option (ℕ × ℕ)) → (whole ≡ true → HoldsAfter n s after) → FailureLines n s whole after []
-  one_more : (after : Option (ℕ × ℕ)) (f : Place2) (rest : List ℕ) → IsNextUnsettled n s after f → FailureLines n s whole (Some (f.router, f.prefix)) rest → FailureLines n s whole after (unsettled_line n s f ++ rest)
+-- one line for each place after the given one that can be read and does not hold, in order
+pub data FailureLines (n : Network) (s : State) : Option (ℕ × ℕ) → List ℕ → Type 0 where
+  no_more : (after : Option (ℕ × ℕ)) → HoldsAfter n s after → FailureLines n s after []
+  one_more : (after : Option (ℕ × ℕ)) (f : Place2) (rest : List ℕ) → IsNextUnsettled n s after f → FailureLines n s (Some (f.router, f.prefix)) rest → FailureLines n s after (unsettled_line n s f ++ rest)
 
 -- the verdict on a table, by what the table shows
 abbrev pub IsVerdictOn : Network → State → Verdict → Type 0
@@ -120,15 +119,15 @@ IsVerdictOn n s (verdicts.Unsettled f) = ShowsTables n s × IsNextUnsettled n s 
 IsVerdictOn n s (verdicts.Unclear trouble) = TroubleIs n s trouble
 
 -- the lines of an unsettled network: that of its first failing place, or those of all
-abbrev pub UnsettledLines : Network → State → Bool → Bool → Place2 → List ℕ → Type 0
-UnsettledLines n s true whole f text = FailureLines n s whole None text
-UnsettledLines n s false whole f text = text ≡ unsettled_line n s f
+abbrev pub UnsettledLines : Network → State → Bool → Place2 → List ℕ → Type 0
+UnsettledLines n s true f text = FailureLines n s None text
+UnsettledLines n s false f text = text ≡ unsettled_line n s f
 
 -- what is written of a table
-pub data VerdictText (n : Network) (s : State) (all whole : Bool) : Written → Type 0 where
-  a_settled : IsVerdictOn n s verdicts.Settled → VerdictText n s all whole (record { text = settled_line n s; status = Settled })
-  an_unclear : (trouble : Unclear) → IsVerdictOn n s (verdicts.Unclear trouble) → VerdictText n s all whole (record { text = unclear_line n s trouble; status = IsUnclear })
-  an_unsettled : (f : Place2) (text : List ℕ) → IsVerdictOn n s (verdicts.Unsettled f) → UnsettledLines n s all whole f text → VerdictText n s all whole (record { text = text; status = Unsettled })
+pub data VerdictText (n : Network) (s : State) (all : Bool) : Written → Type 0 where
+  a_settled : IsVerdictOn n s verdicts.Settled → VerdictText n s all (record { text = settled_line n s; status = Settled })
+  an_unclear : (trouble : Unclear) → IsVerdictOn n s (verdicts.Unclear trouble) → VerdictText n s all (record { text = unclear_line n s trouble; status = IsUnclear })
+  an_unsettled : (f : Place2) (text : List ℕ) → IsVerdictOn n s (verdicts.Unsettled f) → UnsettledLines n s all f text → VerdictText n s all (record { text = text; status = Unsettled })
 
 -- the status of a verdict
 abbrev pub verdict_status : Verdict → Status
@@ -137,14 +136,14 @@ verdict_status (verdicts.Unsettled f) = Unsettled
 verdict_status (verdicts.Unclear trouble) = IsUnclear
 
 -- what is written for a network and the text of a log, where it is told: what refused the log, or the verdict on its table
-pub data AuditOf (n : Network) (log : Option (List ℕ)) (all whole : Bool) : Written → Type 0 where
-  a_refusal : (s : State) (e : CollectError) → OutcomeKnown n (new_state n) (log_in log) s (Some e) → AuditOf n log all whole (refused_log e)
-  a_verdict : (s : State) (w : Written) → OutcomeKnown n (new_state n) (log_in log) s None → VerdictText n s all whole w → AuditOf n log all whole w
+pub data AuditOf (n : Network) (log : Option (List ℕ)) (all : Bool) : Written → Type 0 where
+  a_refusal : (s : State) (e : CollectError) → OutcomeKnown n (new_state n) (log_in log) s (Some e) → AuditOf n log all (refused_log e)
+  a_verdict : (s : State) (w : Written) → OutcomeKnown n (new_state n) (log_in log) s None → VerdictText n s all w → AuditOf n log all w
 
 -- the same for the bytes of a plan: their first fault, or what is written for the plan that their document is
-pub data AuditText (plan : List ℕ) (log : Option (List ℕ)) (all whole : Bool) : Written → Type 0 where
-  a_fault : (e : PlanError) → first_fault plan ≡ Some e → AuditText plan log all whole (refused_plan e)
-  of_plan : (n : Network) (w : Written) → first_fault plan ≡ None → IsPlanOfText plan n → AuditOf n log all whole w → AuditText plan log all whole w
+pub data AuditText (plan : List ℕ) (log : Option (List ℕ)) (all : Bool) : Written → Type 0 where
+  a_fault : (e : PlanError) → first_fault plan ≡ Some e → AuditText plan log all (refused_plan e)
+  of_plan : (n : Network) (w : Written) → first_fault plan ≡ None → IsPlanOfText plan n → AuditOf n log all w → AuditText plan log all w
 
 -- ---- What the statuses mean
 

@@ -23,11 +23,30 @@ use lines::{settled_text, unclear_text, unsettled_text};
 use rip_check::{Place2, Verdict, judge, next_unsettled};
 use rip_log::{Failed, Sink, Source};
 use rip_plan::Plan;
+use rip_plan::laws::one_plan;
 use rip_table::{GridTable, MetricTable};
 use std::alloc::Global;
 use std::hash::BuildHasher;
 
-/// Writes the lines of all places that do not hold.
+/// Adds bytes to a page, unless a write before has failed.
+fn write_after<K: Sink>(
+    before: Result<(), Failed>,
+    page: &mut Page,
+    out: &mut K,
+    bytes: &[u8],
+) -> Result<(), Failed>
+    ensures ok { OnOk result ((is_err before ≡ false) × Sent (K.taken out.old) (K.taken out.new) (held page.old ++ bytes.now) (held page.new)) }
+    ensures err { OnErr result ((is_err before ≡ true → K.taken out.new ≡ K.taken out.old) × (is_err before ≡ false → Began (K.taken out.old) (K.taken out.new) (held page.old ++ bytes.now))) }
+    ensures kept { is_err before ≡ true → (is_err result ≡ true) × (K.broken out.new ≡ K.broken out.old) }
+    ensures failed { is_err before ≡ false → is_err result ≡ true → K.broken out.new ≡ true }
+    ensures marks { is_err result ≡ false → K.broken out.new ≡ K.broken out.old }
+{
+    before?;
+    page.write(out, bytes)
+}
+
+/// Writes the lines of all places that do not hold. After a failed write the others are gone through
+/// unwritten, so that what went out is a beginning of the lines of all.
 fn write_failures<T: MetricTable, K: Sink>(
     page: &mut Page,
     plan: &Plan,
@@ -35,25 +54,27 @@ fn write_failures<T: MetricTable, K: Sink>(
     out: &mut K,
 ) -> Result<(), Failed>
     requires { Fits plan.now (T.state table.now) }
-    ensures ok { OnOk result ((text : List ℕ) × FailureLines plan.now (T.state table.now) true None text × Sent (K.taken out.old) (K.taken out.new) (held page.old ++ text) (held page.new)) }
-    ensures err { OnErr result ((text : List ℕ) × FailureLines plan.now (T.state table.now) false None text × Began (K.taken out.old) (K.taken out.new) (held page.old ++ text)) }
+    ensures ok { OnOk result ((text : List ℕ) × FailureLines plan.now (T.state table.now) None text × Sent (K.taken out.old) (K.taken out.new) (held page.old ++ text) (held page.new)) }
+    ensures err { OnErr result ((text : List ℕ) × FailureLines plan.now (T.state table.now) None text × Began (K.taken out.old) (K.taken out.new) (held page.old ++ text)) }
     ensures failed { is_err result ≡ true → K.broken out.new ≡ true }
     ensures marks { is_err result ≡ false → K.broken out.new ≡ K.broken out.old }
 {
     plan.lawful();
+    let mut wrote = Ok(());
     let mut after = None;
     'places: while let Some(place) = next_unsettled(plan, table, after) {
-        page.write(out, unsettled_text(plan, table, &place).as_bytes())?;
+        let line = unsettled_text(plan, table, &place);
+        wrote = write_after(wrote, page, out, line.as_bytes());
         after = Some((place.router, place.prefix));
     }
-    Ok(())
+    wrote
 }
 
 /// Writes the lines of all places that do not hold, to the last byte.
 fn write_each<T: MetricTable, K: Sink>(plan: &Plan, table: &T, out: &mut K) -> Result<(), Failed>
     requires { Fits plan.now (T.state table.now) }
-    ensures ok { OnOk result ((text : List ℕ) × FailureLines plan.now (T.state table.now) true None text × Sent (K.taken out.old) (K.taken out.new) text []) }
-    ensures err { OnErr result ((text : List ℕ) × FailureLines plan.now (T.state table.now) false None text × Began (K.taken out.old) (K.taken out.new) text) }
+    ensures ok { OnOk result ((text : List ℕ) × FailureLines plan.now (T.state table.now) None text × Sent (K.taken out.old) (K.taken out.new) text []) }
+    ensures err { OnErr result ((text : List ℕ) × FailureLines plan.now (T.state table.now) None text × Began (K.taken out.old) (K.taken out.new) text) }
     ensures failed { is_err result ≡ true → K.broken out.new ≡ true }
     ensures marks { is_err result ≡ false → K.broken out.new ≡ K.broken out.old }
 {
@@ -89,8 +110,8 @@ fn write_unsettled<T: MetricTable, K: Sink>(
 ) -> Result<(), Failed>
     requires fits { Fits plan.now (T.state table.now) }
     requires first { IsNextUnsettled plan.now (T.state table.now) None place.now }
-    ensures ok { OnOk result ((text : List ℕ) × UnsettledLines plan.now (T.state table.now) all true place.now text × Sent (K.taken out.old) (K.taken out.new) text []) }
-    ensures err { OnErr result ((text : List ℕ) × UnsettledLines plan.now (T.state table.now) all false place.now text × Began (K.taken out.old) (K.taken out.new) text) }
+    ensures ok { OnOk result ((text : List ℕ) × UnsettledLines plan.now (T.state table.now) all place.now text × Sent (K.taken out.old) (K.taken out.new) text []) }
+    ensures err { OnErr result ((text : List ℕ) × UnsettledLines plan.now (T.state table.now) all place.now text × Began (K.taken out.old) (K.taken out.new) text) }
     ensures failed { is_err result ≡ true → K.broken out.new ≡ true }
     ensures marks { is_err result ≡ false → K.broken out.new ≡ K.broken out.old }
 {
@@ -122,8 +143,8 @@ fn write_verdict<T: MetricTable, K: Sink>(
 ) -> Result<(), Failed>
     requires fits { Fits plan.now (T.state table.now) }
     requires verdict { IsVerdictOn plan.now (T.state table.now) verdict.now }
-    ensures ok { OnOk result ((text : List ℕ) × VerdictText plan.now (T.state table.now) all true (record { text = text; status = verdict_status verdict.now }) × Sent (K.taken out.old) (K.taken out.new) text []) }
-    ensures err { OnErr result ((text : List ℕ) × VerdictText plan.now (T.state table.now) all false (record { text = text; status = verdict_status verdict.now }) × Began (K.taken out.old) (K.taken out.new) text) }
+    ensures ok { OnOk result ((text : List ℕ) × VerdictText plan.now (T.state table.now) all (record { text = text; status = verdict_status verdict.now }) × Sent (K.taken out.old) (K.taken out.new) text []) }
+    ensures err { OnErr result ((text : List ℕ) × VerdictText plan.now (T.state table.now) all (record { text = text; status = verdict_status verdict.now }) × Began (K.taken out.old) (K.taken out.new) text) }
     ensures failed { is_err result ≡ true → K.broken out.new ≡ true }
     ensures marks { is_err result ≡ false → K.broken out.new ≡ K.broken out.old }
 {
@@ -145,8 +166,8 @@ fn audit_table<T: MetricTable, K: Sink>(
     out: &mut K,
 ) -> Result<Status, RunError>
     requires { Fits plan.now (T.state table.now) }
-    ensures text { IfOk result (λ status. (text : List ℕ) × VerdictText plan.now (T.state table.now) all true (record { text = text; status = status }) × Appends (K.taken out.old) (K.taken out.new) text) }
-    ensures write { result ≡ Err RunError.Write → (K.broken out.new ≡ true) × ((w : Written) × VerdictText plan.now (T.state table.now) all false w × Began (K.taken out.old) (K.taken out.new) w.text) }
+    ensures text { IfOk result (λ status. (text : List ℕ) × VerdictText plan.now (T.state table.now) all (record { text = text; status = status }) × Appends (K.taken out.old) (K.taken out.new) text) }
+    ensures write { result ≡ Err RunError.Write → (K.broken out.new ≡ true) × ((w : Written) × VerdictText plan.now (T.state table.now) all w × Began (K.taken out.old) (K.taken out.new) w.text) }
     ensures sink { result ≢ Err RunError.Write → K.broken out.new ≡ K.broken out.old }
     ensures read { result ≢ Err RunError.Read }
     ensures memory { result ≢ Err RunError.Memory }
@@ -167,8 +188,8 @@ fn audit_of<R: Source, K: Sink, T: MetricTable>(
     table: &mut T,
 ) -> (R, Result<Status, RunError>)
     requires { T.state table.old ≡ new_state plan.now }
-    ensures text { IfOk result.1 (λ status. (text : List ℕ) × AuditOf plan.now (R.coming log) all true (record { text = text; status = status }) × Appends (K.taken out.old) (K.taken out.new) text) }
-    ensures write { result.1 ≡ Err RunError.Write → (K.broken out.new ≡ true) × ((w : Written) × AuditOf plan.now (R.coming log) all false w × Began (K.taken out.old) (K.taken out.new) w.text) }
+    ensures text { IfOk result.1 (λ status. (text : List ℕ) × AuditOf plan.now (R.coming log) all (record { text = text; status = status }) × Appends (K.taken out.old) (K.taken out.new) text) }
+    ensures write { result.1 ≡ Err RunError.Write → (K.broken out.new ≡ true) × ((w : Written) × AuditOf plan.now (R.coming log) all w × Began (K.taken out.old) (K.taken out.new) w.text) }
     ensures read { result.1 ≡ Err RunError.Read → (R.broken result.0 ≡ true) × Keeps (K.taken out.old) (K.taken out.new) }
     ensures memory { result.1 ≡ Err RunError.Memory → Keeps (K.taken out.old) (K.taken out.new) }
     ensures source { result.1 ≢ Err RunError.Read → R.broken result.0 ≡ R.broken log }
@@ -206,9 +227,9 @@ pub fn run_audit<R: Source, K: Sink, S: BuildHasher + Drop>(
     // The same of each verdict.
     ensures judged { (n : Network) (s : State) → IsAudited plan.now (R.coming log) n s → IfOk result.1 (λ status. IsJudged n s status) }
     // The whole text went out, and nothing else.
-    ensures text { IfOk result.1 (λ status. (text : List ℕ) × AuditText plan.now (R.coming log) all true (record { text = text; status = status }) × Appends (K.taken out.old) (K.taken out.new) text) }
-    // The sink has failed, and a beginning of the text went out; with `all`, of some first lines of it.
-    ensures write { result.1 ≡ Err RunError.Write → (K.broken out.new ≡ true) × ((w : Written) × AuditText plan.now (R.coming log) all false w × Began (K.taken out.old) (K.taken out.new) w.text) }
+    ensures text { IfOk result.1 (λ status. (text : List ℕ) × AuditText plan.now (R.coming log) all (record { text = text; status = status }) × Appends (K.taken out.old) (K.taken out.new) text) }
+    // The sink has failed, and a beginning of the text went out.
+    ensures write { result.1 ≡ Err RunError.Write → (K.broken out.new ≡ true) × ((w : Written) × AuditText plan.now (R.coming log) all w × Began (K.taken out.old) (K.taken out.new) w.text) }
     // The source has failed, and nothing went out.
     ensures read { result.1 ≡ Err RunError.Read → (R.broken result.0 ≡ true) × Keeps (K.taken out.old) (K.taken out.new) }
     // With Memory nothing went out.
@@ -220,6 +241,7 @@ pub fn run_audit<R: Source, K: Sink, S: BuildHasher + Drop>(
     ensures ended { IfOk result.1 (λ status. status ≢ Status.Refused → R.at_end result.0 ≡ true) }
     ensures untouched { (e : PlanError) → first_fault plan.now ≡ Some e → result.0 ≡ log }
 {
+    one_plan();
     let plan = match Plan::read(alloc, plan) {
         Ok(plan) => plan,
         Err(error) => return (log, refuse_plan(error, out)),

@@ -11,14 +11,6 @@ use rip_plan::Plan;
 use rip_table::MetricTable;
 use rip_wire::Metric;
 
-/// Whether a router is a leaf, by the number of its interfaces.
-fn is_leaf(plan: &Plan, router: usize) -> bool
-    requires { router < length plan.now.routers }
-    ensures { result ≡ has_one_interface plan.now router }
-{
-    plan.leaf(router)
-}
-
 /// How many routers are leaves.
 fn leaves(plan: &Plan) -> usize
     ensures { result ≡ leaves_of plan.now }
@@ -26,7 +18,7 @@ fn leaves(plan: &Plan) -> usize
     plan.lawful();
     let mut leaves = 0;
     for router in 0..plan.routers() {
-        if is_leaf(plan, router) {
+        if plan.leaf(router) {
             leaves += 1;
         }
     }

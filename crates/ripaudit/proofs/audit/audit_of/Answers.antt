@@ -35,7 +35,7 @@ returns-in-Ok-Some-clause-text g c =
     let s = g.T.MetricTable.state c.read_log-source.new.table in
     let told = rw (c.in-Ok-Some.is, c.in-Ok-Some.field-0-is) at c.read_log-source.ensures.told in
     let line = c.as_bytes.ensures ∙ c.refusal_text.ensures in
-    finished_text (AuditOf n (g.R.Source.coming c.args.log) c.args.all true) (refused_log e) _ _ c.write_all.result c.finish.result (a_refusal s e told) c.finish.ensures (rw (← line) c.write_all.ensures.ok)
+    finished_text (AuditOf n (g.R.Source.coming c.args.log) c.args.all) (refused_log e) _ _ c.write_all.result c.finish.result (a_refusal s e told) c.finish.ensures (rw (← line) c.write_all.ensures.ok)
 
 pub returns-in-Ok-Some-clause-write : goal.returns-in-Ok-Some-clause-write
 returns-in-Ok-Some-clause-write g c =
@@ -44,7 +44,7 @@ returns-in-Ok-Some-clause-write g c =
     let s = g.T.MetricTable.state c.read_log-source.new.table in
     let told = rw (c.in-Ok-Some.is, c.in-Ok-Some.field-0-is) at c.read_log-source.ensures.told in
     let line = c.as_bytes.ensures ∙ c.refusal_text.ensures in
-    finished_wrote (AuditOf n (g.R.Source.coming c.args.log) c.args.all false) (refused_log e) _ _ _ c.write_all.result c.finish.result (a_refusal s e told) c.finish.ensures (rw (← line) c.write_all.ensures.err) c.write_all.ensures.failed
+    finished_wrote (AuditOf n (g.R.Source.coming c.args.log) c.args.all) (refused_log e) _ _ _ c.write_all.result c.finish.result (a_refusal s e told) c.finish.ensures (rw (← line) c.write_all.ensures.err) c.write_all.ensures.failed
 
 pub returns-in-Ok-Some-clause-judged : goal.returns-in-Ok-Some-clause-judged
 returns-in-Ok-Some-clause-judged g c =

@@ -17,14 +17,14 @@ use Rattle.ripaudit.proofs.audit.run_audit.Goals as goal
 
 -- what is written for the plan of the bytes is written for the bytes
 planned_text : (plan : List ℕ) (log : Option (List ℕ)) (all : Bool) (n : Network) (a b : Option (List ℕ)) (outcome : Result Status RunError) → first_fault plan ≡ None → IsPlanOfText plan n
-    → IfOk outcome (λ status. (text : List ℕ) × AuditOf n log all true (record { text = text; status = status }) × Appends a b text)
-    → IfOk outcome (λ status. (text : List ℕ) × AuditText plan log all true (record { text = text; status = status }) × Appends a b text)
+    → IfOk outcome (λ status. (text : List ℕ) × AuditOf n log all (record { text = text; status = status }) × Appends a b text)
+    → IfOk outcome (λ status. (text : List ℕ) × AuditText plan log all (record { text = text; status = status }) × Appends a b text)
 planned_text plan log all n a b (Ok status) none is h = (h.0, of_plan n (record { text = h.0; status = status }) none is h.1, h.2)
 planned_text plan log all n a b (Err e) none is h = tt
 
 planned_wrote : (plan : List ℕ) (log : Option (List ℕ)) (all : Bool) (n : Network) (a b : Option (List ℕ)) (broken : Bool) (outcome : Result Status RunError) → first_fault plan ≡ None → IsPlanOfText plan n
-    → (outcome ≡ Err Write → (broken ≡ true) × ((w : Written) × AuditOf n log all false w × Began a b w.text))
-    → outcome ≡ Err Write → (broken ≡ true) × ((w : Written) × AuditText plan log all false w × Began a b w.text)
+    → (outcome ≡ Err Write → (broken ≡ true) × ((w : Written) × AuditOf n log all w × Began a b w.text))
+    → outcome ≡ Err Write → (broken ≡ true) × ((w : Written) × AuditText plan log all w × Began a b w.text)
 planned_wrote plan log all n a b broken outcome none is wrote failed =
     let h = wrote failed in
     (h.0, (h.1.0, of_plan n h.1.0 none is h.1.1, h.1.2))
@@ -39,19 +39,19 @@ returns-in-Ok-with_hasher-clause-write g c =
 
 pub returns-in-Ok-with_hasher-clause-judged : goal.returns-in-Ok-with_hasher-clause-judged
 returns-in-Ok-with_hasher-clause-judged g c =
-    λ n s audited. of_read c.args.plan.now (g.R.Source.coming c.args.log) n c.in-Ok.plan s c.audit_of.result.1 c.in-Ok.ensures.plan c.audit_of.ensures.judged audited
+    λ n s audited. of_read c.args.plan.now (g.R.Source.coming c.args.log) n c.in-Ok.plan s c.audit_of.result.1 (λ n m q. c.one_plan.ensures q.document n m) c.in-Ok.ensures.plan c.audit_of.ensures.judged audited
 
 pub returns-in-Ok-with_hasher-clause-headline : goal.returns-in-Ok-with_hasher-clause-headline
 returns-in-Ok-with_hasher-clause-headline g c =
-    λ n s audited. ifok-map c.audit_of.result.1 (λ status h. (h.settled, h.arrive)) (of_read c.args.plan.now (g.R.Source.coming c.args.log) n c.in-Ok.plan s c.audit_of.result.1 c.in-Ok.ensures.plan c.audit_of.ensures.judged audited)
+    λ n s audited. ifok-map c.audit_of.result.1 (λ status h. (h.settled, h.arrive)) (of_read c.args.plan.now (g.R.Source.coming c.args.log) n c.in-Ok.plan s c.audit_of.result.1 (λ n m q. c.one_plan.ensures q.document n m) c.in-Ok.ensures.plan c.audit_of.ensures.judged audited)
 
 pub returns-in-Err-clause-text : goal.returns-in-Err-clause-text
 returns-in-Err-clause-text g c =
-    refused_text (AuditText c.args.plan.now (g.R.Source.coming c.args.log) c.args.all true) c.in-Err.error _ _ c.refuse_plan.result (λ other. a_fault c.in-Err.error (first_told c.args.plan.now c.in-Err.error c.in-Err.ensures.fault other)) c.refuse_plan.ensures.text
+    refused_text (AuditText c.args.plan.now (g.R.Source.coming c.args.log) c.args.all) c.in-Err.error _ _ c.refuse_plan.result (λ other. a_fault c.in-Err.error (first_told c.args.plan.now c.in-Err.error c.in-Err.ensures.fault other)) c.refuse_plan.ensures.text
 
 pub returns-in-Err-clause-write : goal.returns-in-Err-clause-write
 returns-in-Err-clause-write g c =
-    refused_wrote (AuditText c.args.plan.now (g.R.Source.coming c.args.log) c.args.all false) c.in-Err.error _ _ _ c.refuse_plan.result (λ other. a_fault c.in-Err.error (first_told c.args.plan.now c.in-Err.error c.in-Err.ensures.fault other)) c.refuse_plan.ensures.write
+    refused_wrote (AuditText c.args.plan.now (g.R.Source.coming c.args.log) c.args.all) c.in-Err.error _ _ _ c.refuse_plan.result (λ other. a_fault c.in-Err.error (first_told c.args.plan.now c.in-Err.error c.in-Err.ensures.fault other)) c.refuse_plan.ensures.write
 
 pub returns-in-Err-clause-judged : goal.returns-in-Err-clause-judged
 returns-in-Err-clause-judged g c =

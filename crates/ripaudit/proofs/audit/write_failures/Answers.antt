@@ -1,19 +1,13 @@
-use Rattle.std.proofs.Common.{◌≡◌, ◌++◌, ◌∙◌, List, ℕ, false, subst, refl}
+use Rattle.std.proofs.Common.{◌≡◌, ◌++◌, ◌∙◌, List, ℕ, Bool, true, false, is_err, subst, refl}
+use Rattle.std.specs.Prelude.{OnErr, OnOk}
 use Rattle.ripaudit.specs.Held.{held}
 use Rattle.ripaudit.specs.Sent.{Sent, Began}
-use Rattle.ripaudit.proofs.SentLemmas.{onerr}
-use Rattle.ripaudit.proofs.FailureLemmas.{all_lines, fewer, known_place, one_began, one_line}
+use Rattle.ripaudit.proofs.SentLemmas.{onerr-map, onok-map}
+use Rattle.ripaudit.proofs.FailureLemmas.{all_lines, fewer, known_place, one_line, still_failed, still_marked}
 use Rattle.ripaudit.proofs.audit.write_failures.Goals as goal
 
-pub unsettled_text-requires : goal.unsettled_text-requires
-unsettled_text-requires g c = known_place c.args.plan.now (g.T.MetricTable.state c.args.table.now) c.places.after c.in-Some.place c.lawful.ensures c.in-Some.ensures.some
-
-pub returns-in_err-write-clause-err : goal.returns-in_err-write-clause-err
-returns-in_err-write-clause-err g c =
-    let taken = g.K.Sink.taken in
-    let line = c.as_bytes.ensures ∙ c.unsettled_text.ensures in
-    let began = subst (λ (l : List ℕ). Began (taken c.places.out) (taken c.write.new.out) (held c.places.page ++ l)) line c.in_err-write.ensures.err in
-    onerr c.from_residual.result (one_began c.args.plan.now (g.T.MetricTable.state c.args.table.now) c.places.after c.in-Some.place (taken c.args.out.now) (taken c.places.out) (taken c.write.new.out) (held c.args.page.now) (held c.places.page) c.in-Some.ensures.some c.places.invariant.sent began)
+pub unsettled_text-line-requires : goal.unsettled_text-line-requires
+unsettled_text-line-requires g c = known_place c.args.plan.now (g.T.MetricTable.state c.args.table.now) c.places.after c.in-Some.place c.lawful.ensures c.in-Some.ensures.some
 
 pub places-smaller : goal.places-smaller
 places-smaller g c = fewer c.args.plan.now (g.T.MetricTable.state c.args.table.now) c.places.after c.in-Some.place c.places.invariant.known c.in-Some.ensures.some
@@ -21,15 +15,23 @@ places-smaller g c = fewer c.args.plan.now (g.T.MetricTable.state c.args.table.n
 pub places-preserved : goal.places-preserved
 places-preserved g c =
     let taken = g.K.Sink.taken in
-    let line = c.as_bytes.ensures ∙ c.unsettled_text.ensures in
-    let sent = subst (λ (l : List ℕ). Sent (taken c.places.out) (taken c.write.new.out) (held c.places.page ++ l) (held c.write.new.self)) line c.in_ok-write.ensures.ok in
+    let broken = g.K.Sink.broken in
+    let n = c.args.plan.now in
+    let s = g.T.MetricTable.state c.args.table.now in
+    let e = rw (c.as_bytes.ensures ∙ c.unsettled_text-line.ensures) at c.write_after-wrote.ensures in
     record {
       known = c.in-Some.ensures.some.first.prefix;
-      sent = one_line c.args.plan.now (g.T.MetricTable.state c.args.table.now) c.places.after c.in-Some.place (taken c.args.out.now) (taken c.places.out) (taken c.write.new.out) (held c.args.page.now) (held c.places.page) (held c.write.new.self) c.in-Some.ensures.some c.places.invariant.sent sent;
-      marks = c.in_ok-write.ensures.marks (refl {a = false}) ∙ c.places.invariant.marks;
+      lines = one_line n s c.places.after c.in-Some.place (taken c.args.out.now) (taken c.places.out) (taken c.write_after-wrote.new.out) (held c.args.page.now) (held c.places.page) (held c.write_after-wrote.new.page) c.places.wrote c.write_after-wrote.result c.in-Some.ensures.some c.places.invariant.lines e.ok e.err;
+      failed = still_failed c.places.wrote c.write_after-wrote.result (broken c.places.out) (broken c.write_after-wrote.new.out) c.places.invariant.failed e.kept e.failed;
+      marks = still_marked c.places.wrote c.write_after-wrote.result (broken c.args.out.now) (broken c.places.out) (broken c.write_after-wrote.new.out) c.places.invariant.marks e.kept e.marks;
     }
 
 pub returns-clause-ok : goal.returns-clause-ok
 returns-clause-ok g c =
-    let taken = g.K.Sink.taken in
-    all_lines c.args.plan.now (g.T.MetricTable.state c.args.table.now) c.places.after (taken c.args.out.now) (taken c.places.out) (held c.args.page.now) (held c.places.page) c.in_default.ensures.none c.places.invariant.sent
+    let lines = c.places.invariant.lines in
+    onok-map c.places.wrote (λ sent. (lines.text, all_lines c.args.plan.now (g.T.MetricTable.state c.args.table.now) c.places.after c.places.wrote (g.K.Sink.taken c.args.out.now) (g.K.Sink.taken c.places.out) (held c.args.page.now) (held c.places.page) c.in_default.ensures.none lines, sent)) lines.sent
+
+pub returns-clause-err : goal.returns-clause-err
+returns-clause-err g c =
+    let lines = c.places.invariant.lines in
+    onerr-map c.places.wrote (λ began. (lines.text, all_lines c.args.plan.now (g.T.MetricTable.state c.args.table.now) c.places.after c.places.wrote (g.K.Sink.taken c.args.out.now) (g.K.Sink.taken c.places.out) (held c.args.page.now) (held c.places.page) c.in_default.ensures.none lines, began)) lines.began

@@ -19,6 +19,7 @@ returns c =
         λ h. two_of_other n c.lawful.ensures r c.requires (λ e. not_one (length c.of_router.result.now) h (count ∙ e)),
         λ h. from_other (length c.of_router.result.now) (λ e. other_of_two n r h (sym count ∙ e)),
       );
+      count = ap (λ (k : ℕ). k == 1) count;
     }
   where
     is_one : (k : ℕ) → (k == 1) ≡ true → k ≡ 1
