@@ -1,41 +1,14 @@
 use crate::decode::run_decode;
+use crate::devices::Slow;
 use crate::status::{RunError, Status};
 use rip_log::IntoWrite;
 use rip_wire::{Address, Entry, Metric, Prefix, write_response};
 use std::alloc::{AllocError, Global};
 use std::fmt::Write as _;
-use std::io;
-use std::io::Write;
 use std::process::Abort;
 use std::test::Fail;
 
 const ONE_ENTRY: &str = "02020000000200000a030000ffff00000000000000000001";
-
-/// A writer that takes one byte a call, and fails once it has taken some.
-#[derive(Drop)]
-struct Slow {
-    taken: Vec<u8>,
-    most: usize,
-}
-
-impl Write for Slow {
-    fn write(&mut self, bytes: &[u8]) -> io::Result<usize> {
-        if self.taken.len() >= self.most {
-            return Err(io::Error::from(io::ErrorKind::Other));
-        }
-        match bytes {
-            [first, ..] => {
-                self.taken.push(*first)?;
-                Ok(1)
-            }
-            [] => Ok(0),
-        }
-    }
-
-    fn flush(&mut self) -> io::Result<()> {
-        Ok(())
-    }
-}
 
 fn expect_text(rt: &impl Abort, alloc: Global, word: &str, text: &str, status: Status) {
     let mut out = IntoWrite::new(Vec::new(alloc));
@@ -276,22 +249,16 @@ fn a_failing_sink(rt: HostRuntime) -> Result<(), Fail> {
     let alloc = rt.alloc();
     let text = "response 1\n10.3.0.0/16 tag 0 next 0.0.0.0 metric 1\n".as_bytes();
     for most in 0..text.len() {
-        let mut out = IntoWrite::new(Slow {
-            taken: Vec::new(alloc),
-            most,
-        });
+        let mut out = IntoWrite::new(Slow::new(alloc, most));
         assert_eq!(rt;
             run_decode(ONE_ENTRY, &mut out),
             Err(RunError::Write),
             "{most}"
         );
-        assert_eq!(rt; out.into_writer().taken.as_slice(), &text[..most]);
+        assert_eq!(rt; out.into_writer().taken(), &text[..most]);
     }
-    let mut out = IntoWrite::new(Slow {
-        taken: Vec::new(alloc),
-        most: text.len(),
-    });
+    let mut out = IntoWrite::new(Slow::new(alloc, text.len()));
     assert_eq!(rt; run_decode(ONE_ENTRY, &mut out), Ok(Status::Done));
-    assert_eq!(rt; out.into_writer().taken.as_slice(), text);
+    assert_eq!(rt; out.into_writer().taken(), text);
     Ok(())
 }

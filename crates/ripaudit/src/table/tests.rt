@@ -1,13 +1,12 @@
-use crate::captures::{entry, push_response, settled, settled_and};
+use crate::captures::{entry, full, push_line, push_response, settled, settled_and};
+use crate::devices::{Endless, Pieces, Slow};
 use crate::status::{RunError, Status};
 use crate::table::run_table;
 use crate::triangle::{TRIANGLE, changed};
 use rip_log::{FromRead, IntoWrite, Sink, Source};
-use rip_wire::{Address, Entry, Prefix};
+use rip_wire::Address;
 use std::alloc::{AllocError, Global};
 use std::hash::{BuildHasherDefault, FoldHasher};
-use std::io;
-use std::io::{Read, Write};
 use std::process::Abort;
 use std::test::Fail;
 
@@ -37,68 +36,6 @@ r3 b not heard
 r3 c not heard
 ";
 
-/// A reader of a text in pieces, which may fail in one of its calls.
-#[derive(Drop)]
-struct Pieces<'a> {
-    left: &'a [u8],
-    piece: usize,
-    calls: usize,
-    fails_at: usize,
-}
-
-impl Read for Pieces<'_> {
-    fn read(&mut self, buffer: &mut [u8]) -> io::Result<usize> {
-        self.calls = self.calls.wrapping_add(1);
-        if self.calls == self.fails_at {
-            return Err(io::Error::from(io::ErrorKind::Other));
-        }
-        let count = self.piece.min(self.left.len()).min(buffer.len());
-        let (now, later) = self.left.split_at(count);
-        self.left = later;
-        buffer[..count].copy_from_slice(now);
-        Ok(count)
-    }
-}
-
-/// A reader of one byte over and over, which never ends.
-#[derive(Drop)]
-struct Endless {
-    byte: u8,
-}
-
-impl Read for Endless {
-    fn read(&mut self, buffer: &mut [u8]) -> io::Result<usize> {
-        buffer.fill(self.byte);
-        Ok(buffer.len())
-    }
-}
-
-/// A writer that takes one byte a call, and fails once it has taken some.
-#[derive(Drop)]
-struct Slow {
-    taken: Vec<u8>,
-    most: usize,
-}
-
-impl Write for Slow {
-    fn write(&mut self, bytes: &[u8]) -> io::Result<usize> {
-        if self.taken.len() >= self.most {
-            return Err(io::Error::from(io::ErrorKind::Other));
-        }
-        match bytes {
-            [first, ..] => {
-                self.taken.push(*first)?;
-                Ok(1)
-            }
-            [] => Ok(0),
-        }
-    }
-
-    fn flush(&mut self) -> io::Result<()> {
-        Ok(())
-    }
-}
-
 /// Runs the command on a plan and the text of a log in pieces, and expects a text and a status.
 fn expect_pieces(
     rt: &impl Abort,
@@ -107,12 +44,7 @@ fn expect_pieces(
     (log, piece): (&[u8], usize),
     (text, status): (&str, Status),
 ) {
-    let source = FromRead::new(Pieces {
-        left: log,
-        piece,
-        calls: 0,
-        fails_at: 0,
-    });
+    let source = FromRead::new(Pieces::new(log, piece));
     let hasher = BuildHasherDefault::<FoldHasher>::default();
     let mut out = IntoWrite::new(Vec::new(alloc));
     let (source, outcome) = run_table(alloc, plan.as_bytes(), source, &mut out, hasher);
@@ -171,9 +103,14 @@ fn prints_who_was_not_heard(rt: HostRuntime) {
 fn prints_further_prefixes_after_the_planned(rt: HostRuntime) -> Result<(), Fail> {
     let alloc = rt.alloc();
     let mut log = String::new(alloc);
-    push_response(alloc, &mut log, "b 10.2.0.3", &[entry(&rt, (9, 16))])?;
-    let entries = [entry(&rt, (7, 2)), entry(&rt, (9, 3)), entry(&rt, (3, 1))];
-    push_response(alloc, &mut log, "c 10.3.0.1", &entries)?;
+    push_line(&rt, alloc, &mut log, "b 10.2.0.3", &[(9, 16)])?;
+    push_line(
+        &rt,
+        alloc,
+        &mut log,
+        "c 10.3.0.1",
+        &[(7, 2), (9, 3), (3, 1)],
+    )?;
     let text = "table: 6 interfaces, 5 prefixes
 r1 a not heard
 r1 c 10.3.0.0/16 1
@@ -191,11 +128,10 @@ r3 c not heard
 #[test]
 fn refuses_changed_metrics(rt: HostRuntime) -> Result<(), Fail> {
     let alloc = rt.alloc();
-    let log = settled_and(&rt, alloc, "c 10.3.0.1", &[entry(&rt, (2, 3))])?;
+    let log = settled_and(&rt, alloc, &[("c 10.3.0.1", &[(2, 3)])])?;
     let what = "table line 7: 1 Changed prefix 10.2.0.0/16 from 2 to 3";
     expect_refusal(&rt, alloc, log.as_bytes(), what)?;
-    let twice = [entry(&rt, (50, 16)), entry(&rt, (50, 4))];
-    let log = settled_and(&rt, alloc, "a 10.1.0.1", &twice)?;
+    let log = settled_and(&rt, alloc, &[("a 10.1.0.1", &[(50, 16), (50, 4)])])?;
     let what = "table line 7: 1 Changed prefix 10.50.0.0/16 from 16 to 4";
     expect_refusal(&rt, alloc, log.as_bytes(), what)?;
     Ok(())
@@ -205,7 +141,7 @@ fn refuses_changed_metrics(rt: HostRuntime) -> Result<(), Fail> {
 fn refuses_unknown_senders(rt: HostRuntime) -> Result<(), Fail> {
     let alloc = rt.alloc();
     let mut log = String::new(alloc);
-    push_response(alloc, &mut log, "a 10.1.0.9", &[entry(&rt, (3, 1))])?;
+    push_line(&rt, alloc, &mut log, "a 10.1.0.9", &[(3, 1)])?;
     expect_refusal(&rt, alloc, log.as_bytes(), "table line 1: 5 UnknownSender")?;
     // The triangle without the second interface of the third router.
     let plan = changed(
@@ -245,35 +181,17 @@ r3 c not heard
     Ok(())
 }
 
-/// The entry of 172.16.0.0/24 and so on, by its number, with metric 16.
-fn numbered(rt: &impl Abort, number: u32) -> Entry {
-    let network = Address::new(0xAC10_0000 | number.wrapping_shl(8));
-    let mut numbered = entry(rt, (0, 16));
-    numbered.prefix = Prefix::new(network, 24).expect(rt, "a prefix");
-    numbered
-}
-
 #[test]
 fn takes_at_most_2048_prefixes(rt: HostRuntime) -> Result<(), Fail> {
     let alloc = rt.alloc();
-    let mut log = settled(&rt, alloc)?;
-    let mut next = 0u32;
-    for line in 7..89u32 {
-        let count = if line == 88 { 20 } else { 25usize };
-        let mut entries = [entry(&rt, (0, 16)); 25];
-        for i in 0..count {
-            entries[i] = numbered(&rt, next);
-            next = next.wrapping_add(1);
-        }
-        push_response(alloc, &mut log, "a 10.1.0.1", &entries[..count])?;
-    }
-    let full = log.len();
-    push_response(alloc, &mut log, "a 10.1.0.1", &[entry(&rt, (100, 16))])?;
+    let mut log = full(&rt, alloc)?;
+    let end = log.len();
+    push_line(&rt, alloc, &mut log, "a 10.1.0.1", &[(100, 16)])?;
     let what = "table line 89: 3 TooManyPrefixes";
     expect_refusal(&rt, alloc, log.as_bytes(), what)?;
     let mut out = IntoWrite::new(Vec::new(alloc));
     let hasher = BuildHasherDefault::<FoldHasher>::default();
-    let source = FromRead::new(log.as_bytes().get(..full).expect(&rt, "a front"));
+    let source = FromRead::new(log.as_bytes().get(..end).expect(&rt, "a front"));
     let (_, outcome) = run_table(alloc, TRIANGLE.as_bytes(), source, &mut out, hasher);
     assert_eq!(rt; outcome, Ok(Status::Done));
     let printed = out.into_writer();
@@ -364,12 +282,7 @@ fn a_source_that_fails(rt: HostRuntime) -> Result<(), Fail> {
     let alloc = rt.alloc();
     let log = settled(&rt, alloc)?;
     for fails_at in 1..log.len().saturating_add(2) {
-        let source = FromRead::new(Pieces {
-            left: log.as_bytes(),
-            piece: 1,
-            calls: 0,
-            fails_at,
-        });
+        let source = FromRead::new(Pieces::failing(log.as_bytes(), fails_at));
         let hasher = BuildHasherDefault::<FoldHasher>::default();
         let mut out = IntoWrite::new(Vec::new(alloc));
         let (source, outcome) = run_table(alloc, TRIANGLE.as_bytes(), source, &mut out, hasher);
@@ -385,19 +298,13 @@ fn a_sink_that_fails(rt: HostRuntime) -> Result<(), Fail> {
     let alloc = rt.alloc();
     let log = settled(&rt, alloc)?;
     for most in 0..PRINTED.len() {
-        let mut out = IntoWrite::new(Slow {
-            taken: Vec::new(alloc),
-            most,
-        });
+        let mut out = IntoWrite::new(Slow::new(alloc, most));
         let hasher = BuildHasherDefault::<FoldHasher>::default();
         let source = FromRead::new(log.as_bytes());
         let (source, outcome) = run_table(alloc, TRIANGLE.as_bytes(), source, &mut out, hasher);
         assert_eq!(rt; outcome, Err(RunError::Write), "{most}");
         assert!(rt; out.failed() && !source.failed());
-        assert_eq!(rt;
-            out.into_writer().taken.as_slice(),
-            &PRINTED.as_bytes()[..most]
-        );
+        assert_eq!(rt; out.into_writer().taken(), &PRINTED.as_bytes()[..most]);
     }
     Ok(())
 }

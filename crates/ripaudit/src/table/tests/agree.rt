@@ -3,9 +3,10 @@
 ghost use Rattle.std.specs.Prelude.{◌≡◌};
 ghost use Rattle.rip_table.specs.State.{Fits};
 
-use crate::captures::{entry, push_response, settled, settled_and};
+use crate::captures::{push_line, settled, settled_and};
 use crate::table::write_table;
 use crate::triangle::TRIANGLE;
+use rip_check::judge;
 use rip_log::{FromRead, IntoWrite, LogReader};
 use rip_plan::Plan;
 use rip_table::{CollectError, GridTable, ListTable, MetricTable, collect};
@@ -40,7 +41,8 @@ fn text_of<T: MetricTable>(rt: &impl Abort, alloc: Global, plan: &Plan, table: &
     out.into_writer()
 }
 
-/// Expects that both tables take a log alike, or refuse it alike, and that they show the same then.
+/// Expects that both tables take a log alike, or refuse it alike, that they show the same then, and that
+/// the verdict on both is the same.
 fn expect_alike(rt: &impl Abort, alloc: Global, log: &[u8]) -> Result<(), Fail> {
     let Ok(plan) = Plan::read(alloc, TRIANGLE.as_bytes()) else {
         panic!(rt; "no plan");
@@ -55,6 +57,7 @@ fn expect_alike(rt: &impl Abort, alloc: Global, log: &[u8]) -> Result<(), Fail> 
         text.as_slice(),
         text_of(rt, alloc, &plan, &grid).as_slice()
     );
+    assert_eq!(rt; judge(&plan, &list), judge(&plan, &grid));
     Ok(())
 }
 
@@ -82,8 +85,7 @@ fn on_one_line_more(rt: HostRuntime) -> Result<(), Fail> {
         ("a 10.1.0.9", (3, 1), (2, 16)),
         ("z 10.1.0.1", (3, 1), (2, 16)),
     ] {
-        let entries = [entry(&rt, one), entry(&rt, other)];
-        let log = settled_and(&rt, rt.alloc(), sender, &entries)?;
+        let log = settled_and(&rt, rt.alloc(), &[(sender, &[one, other])])?;
         expect_alike(&rt, rt.alloc(), log.as_bytes())?;
     }
     Ok(())
@@ -92,12 +94,12 @@ fn on_one_line_more(rt: HostRuntime) -> Result<(), Fail> {
 #[test]
 fn on_many_prefixes(rt: HostRuntime) -> Result<(), Fail> {
     let mut log = settled(&rt, rt.alloc())?;
-    let mut entries = [entry(&rt, (0, 16)); 25];
+    let mut pairs = [(0u8, 16u32); 25];
     for x in 0..25u8 {
-        entries[usize::from(x)] = entry(&rt, (x.wrapping_add(100), 16));
+        pairs[usize::from(x)] = (x.wrapping_add(100), 16);
     }
-    push_response(rt.alloc(), &mut log, "a 10.1.0.1", &entries)?;
-    push_response(rt.alloc(), &mut log, "a 10.1.0.1", &[entry(&rt, (125, 16))])?;
+    push_line(&rt, rt.alloc(), &mut log, "a 10.1.0.1", &pairs)?;
+    push_line(&rt, rt.alloc(), &mut log, "a 10.1.0.1", &[(125, 16)])?;
     expect_alike(&rt, rt.alloc(), log.as_bytes())?;
     Ok(())
 }

@@ -1,0 +1,86 @@
+//! Limits, met and passed by one.
+
+use super::{SETTLED, expect_line};
+use crate::audit::run_audit;
+use crate::captures::{entry, full, push_line, settled};
+use crate::devices::Endless;
+use crate::status::Status;
+use crate::triangle::TRIANGLE;
+use rip_log::{FromRead, IntoWrite};
+use std::hash::{BuildHasherDefault, FoldHasher};
+use std::test::Fail;
+
+#[test]
+fn of_prefixes(rt: HostRuntime) -> Result<(), Fail> {
+    let alloc = rt.alloc();
+    let mut log = full(&rt, alloc)?;
+    let line = "settled: 3 routers, 2048 prefixes";
+    expect_line(&rt, alloc, TRIANGLE, log.as_bytes(), line)?;
+    push_line(&rt, alloc, &mut log, "a 10.1.0.1", &[(100, 16)])?;
+    let line = "refused: table line 89: 3 TooManyPrefixes";
+    expect_line(&rt, alloc, TRIANGLE, log.as_bytes(), line)?;
+    Ok(())
+}
+
+#[test]
+fn of_lines(rt: HostRuntime) -> Result<(), Fail> {
+    let alloc = rt.alloc();
+    let settled = settled(&rt, alloc)?;
+    let mut log = Vec::new(alloc);
+    log.extend_from_slice(settled.as_bytes())?;
+    log.resize(600 + 999_994, b'\n')?;
+    expect_line(&rt, alloc, TRIANGLE, log.as_slice(), SETTLED)?;
+    let line = "refused: log line 1000001: 8 TooManyLines";
+    for last in [b'\n', b'x'] {
+        log.resize(600 + 999_994, b'\n')?;
+        log.push(last)?;
+        expect_line(&rt, alloc, TRIANGLE, log.as_slice(), line)?;
+        log.truncate(600 + 999_994);
+    }
+    Ok(())
+}
+
+#[test]
+fn of_datagrams(rt: HostRuntime) -> Result<(), Fail> {
+    let alloc = rt.alloc();
+    for (digits, line) in [
+        (1009, "refused: log line 1: 5 Hex"),
+        (1010, "refused: log line 1: 6 LongDatagram"),
+    ] {
+        let mut log = Vec::new(alloc);
+        log.extend_from_slice(b"a 10.1.0.1 ")?;
+        log.resize(log.len().saturating_add(digits), b'0')?;
+        expect_line(&rt, alloc, TRIANGLE, log.as_slice(), line)?;
+    }
+    Ok(())
+}
+
+#[test]
+fn of_sources_that_never_end(rt: HostRuntime) {
+    for (byte, text) in [
+        (b'x', "refused: log line 1: 1 LongLine\n"),
+        (b'\n', "refused: log line 1000001: 8 TooManyLines\n"),
+    ] {
+        let hasher = BuildHasherDefault::<FoldHasher>::default();
+        let mut out = IntoWrite::new(Vec::new(rt.alloc()));
+        let source = FromRead::new(Endless { byte });
+        let plan = TRIANGLE.as_bytes();
+        let (_, outcome) = run_audit(rt.alloc(), plan, source, &mut out, false, hasher);
+        assert_eq!(rt; outcome, Ok(Status::Refused));
+        assert_eq!(rt; out.into_writer().as_slice(), text.as_bytes());
+    }
+}
+
+#[test]
+fn of_entries(rt: HostRuntime) -> Result<(), Fail> {
+    let alloc = rt.alloc();
+    let mut log = Vec::new(alloc);
+    log.extend_from_slice(b"a 10.1.0.1 02020000")?;
+    for x in 100..126u8 {
+        let entry = format!(in alloc; "000200000a{x:02x}0000ffff00000000000000000001")?;
+        log.extend_from_slice(entry.as_bytes())?;
+    }
+    let line = "refused: log line 1: 6 LongDatagram";
+    expect_line(&rt, alloc, TRIANGLE, log.as_slice(), line)?;
+    Ok(())
+}
