@@ -8,7 +8,7 @@ use Rattle.rip_log.specs.declared.error.LogError.{LogError}
 use Rattle.rip_log.specs.declared.error.LogCode.TheVariants as codes
 use Rattle.rip_table.specs.State.{State}
 use Rattle.rip_table.specs.Joined.{as_cause, interface_of, joined_from, joined_message, message_of_capture, Joins}
-use Rattle.rip_table.specs.Collects.{is_log_cause, is_read_cause}
+use Rattle.rip_table.specs.Collects.{IsAtLine, is_log_cause, is_read_cause}
 use Rattle.rip_table.specs.declared.error.CollectError.{CollectError}
 use Rattle.rip_table.specs.declared.error.TableError.{TableError}
 use Rattle.rip_table.specs.declared.error.CollectCause.{CollectCause}
@@ -39,6 +39,12 @@ pub unread-blame : (cause : CollectCause) → is_log_cause cause ≡ false → i
 unread-blame (OfLog error) h = cc h
 unread-blame (Table error) h = refl
 unread-blame UnknownSender h = refl
+
+-- what is not of the reader is told at the last of the lines behind it
+pub at_last : (behind line : ℕ) (cause : CollectCause) → is_log_cause cause ≡ false → line ≡ behind → IsAtLine behind line cause
+at_last behind line (OfLog error) h is = cc h
+at_last behind line (Table error) h is = is
+at_last behind line UnknownSender h is = is
 
 pub tell : {W J S O : Type 0} (P : Type 0) (b r : Bool) → Whether b W J → (W → S) → (J → O) → r ≡ false → Whether b S (Whether r P O)
 tell P true r w f g k = f w

@@ -1,5 +1,5 @@
 -- What `collect` answers and leaves.
-use Rattle.std.specs.Prelude.{◌≡◌, ℕ, ◌+◌, Bool, true, false, List, ◌∷◌, ◌++◌, Option, Some, None, is_ok, Result, Ok, Err}
+use Rattle.std.specs.Prelude.{◌≡◌, ℕ, ◌+◌, Bool, true, false, List, ◌∷◌, ◌++◌, Option, Some, None, is_ok, Result, Ok, Err, IfErr}
 use Rattle.rip_plan.specs.Network.{Network}
 use Rattle.rip_log.specs.Codes.{is_read}
 use Rattle.rip_log.specs.Leaves.{has_stopped, lines_behind, log_to_come, source_of}
@@ -60,6 +60,11 @@ abbrev pub reader_refused : Result (Unit {0}) CollectError → Bool
 reader_refused (Ok u) = false
 reader_refused (Err e) = is_log_cause e.cause
 
+-- an error of the reader is told at the line after those behind it, and every other at the last of those
+abbrev pub IsAtLine : ℕ → ℕ → CollectCause → Type 0
+IsAtLine behind line (OfLog e) = (line ≡ behind + 1) × (e.line ≡ behind + 1)
+IsAtLine behind line other = line ≡ behind
+
 -- what was joined, where bytes are told
 abbrev pub ToldOutcome : Network → State → Option Log → State → Option Log → Result (Unit {0}) CollectError → Type 0
 ToldOutcome n old log new left (Ok u) = OutcomeKnown n old log new None
@@ -72,6 +77,7 @@ pub record Collects {R : Type 0} (coming : R → Option (List ℕ)) (broken at_e
   -- a reader that had stopped changes nothing
   pub stopped : has_stopped before ≡ true → (new ≡ old) × (result ≡ Err (record { line = lines_behind before + 1; cause = OfLog (record { code = codes.Ended; line = lines_behind before + 1 }) }))
   pub refused : has_stopped before ≡ false → has_stopped after ≡ reader_refused result
+  pub here : IfErr result (λ e. IsAtLine (lines_behind after) e.line e.cause)
   pub fits : Fits n new
   -- an Ok only where the source has come to its end, Read only where it has failed
   pub ended : is_ok result ≡ true → at_end (source_of after) ≡ true

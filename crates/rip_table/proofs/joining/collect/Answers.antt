@@ -1,12 +1,12 @@
 use Rattle.std.proofs.Common.{◌≡◌, ◌∙◌, sym, refl, false, subst, Some}
-use Rattle.rip_log.specs.Leaves.{capture_of, line_of, log_to_come, has_stopped}
+use Rattle.rip_log.specs.Leaves.{capture_of, line_of, lines_behind, log_to_come, has_stopped}
 use Rattle.rip_log.specs.Reader.{reading_of}
 use Rattle.rip_table.specs.State.{State, Fits}
 use Rattle.rip_table.specs.Joined.{is_memory}
 use Rattle.rip_table.specs.Collects.{is_read_cause, StuckKnown, OutcomeKnown, PassedKnown}
 use Rattle.rip_table.proofs.JoinLemmas.{PassedKnown-more, told_bad, OutcomeKnown-none, OutcomeKnown-refused, StuckKnown-wants}
 use Rattle.rip_table.proofs.FitLemmas.{Fits-joined}
-use Rattle.rip_table.proofs.BlameLemmas.{Joins-blame, unread-blame, tell, runs, again}
+use Rattle.rip_table.proofs.BlameLemmas.{Joins-blame, unread-blame, at_last, tell, runs, again}
 use Rattle.rip_table.proofs.joining.collect.Goals as goal
 
 pub records-preserved : goal.records-preserved
@@ -54,6 +54,7 @@ returns-in-Err-join g c =
           unread;
       stopped = λ was. cc (was, was_run);
       refused = λ was. h.moves.stopped ∙ sym blame;
+      here = at_last (lines_behind after) c.in-Ok-Some.record.line cause blame h.onward.1;
       fits = subst (λ (s : State). Fits plan s) (sym joins.0) inv.fits;
       ended = λ fine. cc fine;
       failed = λ bad. cc (bad, unread);
@@ -69,6 +70,7 @@ returns-in-Ok-None g c =
       told = λ was. OutcomeKnown-none capture_of line_of _ _ _ _ _ _ (c.records.invariant.passed was) (h.gives run);
       stopped = λ was. cc (was, was_run);
       refused = λ was. h.moves.stopped;
+      here = tt;
       fits = c.records.invariant.fits;
       ended = λ fine. (h.over refl).1;
       failed = λ bad. cc bad;
@@ -83,6 +85,7 @@ returns-in-Err g c =
       told = λ was. told_bad capture_of line_of _ _ _ _ _ _ c.in-Err.error (inv.passed was) (h.gives (inv.running ∙ was));
       stopped = λ was. (inv.still was, again c.in-Err.error _ _ (h.ended (inv.running ∙ was)).0 (inv.here was));
       refused = λ was. h.moves.stopped;
+      here = (h.moves.here, h.moves.here);
       fits = inv.fits;
       ended = λ fine. cc fine;
       failed = λ bad. h.moves.failed bad;
