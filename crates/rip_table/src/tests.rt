@@ -13,6 +13,7 @@ use std::test::Fail;
 
 mod growths;
 mod limits;
+mod logs;
 
 /// Three interfaces on two links, and a prefix.
 const PLAN: &str = r#"version = 1
