@@ -5,3 +5,4 @@ pub mod Numbers
 pub mod ListState
 pub mod Rows
 pub mod LogJoin
+pub mod Examples

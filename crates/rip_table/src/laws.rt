@@ -16,6 +16,8 @@ ghost use Rattle.rip_table.specs.declared.error.CollectCause.TheVariants.{Table}
 ghost use Rattle.rip_table.specs.declared.error.TableError.TheVariants.{Changed};
 ghost use Rattle.rip_table.specs.declared.error.CollectError.{CollectError};
 
+pub mod examples;
+
 /// A log is joined exactly where no record is refused, and then into the table that it makes: the
 /// metrics that it tells, the interfaces that were heard, and prefixes in the order of their first
 /// appearance.
