@@ -19,3 +19,4 @@ pub mod SaidLemmas
 pub mod RefusedLemmas
 pub mod OneJoin
 pub mod UpdateLemmas
+pub mod OutcomeLemmas

@@ -41,6 +41,7 @@ pub fn collect<R: Source, T: MetricTable>(
     requires { Fits plan.now (T.state table.old) }
     ensures { Collects R.coming R.broken R.at_end plan.now (T.state table.old) (T.state table.new) (reading_of reader.old) (reading_of reader.new) result }
 {
+    plan.lawful();
     'records: loop {
         match reader.next() {
             Ok(Some(record)) => {

@@ -1,12 +1,15 @@
-use Rattle.std.proofs.Common.{◌≡◌, ◌∙◌, sym, refl, false, subst, Some}
+use Rattle.std.proofs.Common.{◌≡◌, ◌∙◌, sym, refl, false, subst, Some, Ok, Err}
 use Rattle.rip_log.specs.Leaves.{capture_of, line_of, lines_behind, log_to_come, has_stopped}
 use Rattle.rip_log.specs.Reader.{reading_of}
 use Rattle.rip_table.specs.State.{State, Fits}
 use Rattle.rip_table.specs.Joined.{is_memory}
-use Rattle.rip_table.specs.Collects.{is_read_cause, StuckKnown, OutcomeKnown, PassedKnown}
+use Rattle.rip_table.specs.Collects.{is_read_cause, StuckKnown, OutcomeKnown, PassedKnown, ToldOutcome}
+use Rattle.rip_table.specs.declared.error.CollectCause.TheVariants.{Log as OfLog}
+use Rattle.rip_table.specs.declared.error.CollectError.{CollectError}
 use Rattle.rip_table.proofs.JoinLemmas.{PassedKnown-more, told_bad, OutcomeKnown-none, OutcomeKnown-refused, StuckKnown-wants}
 use Rattle.rip_table.proofs.FitLemmas.{Fits-joined}
 use Rattle.rip_table.proofs.BlameLemmas.{Joins-blame, unread-blame, at_last, tell, runs, again}
+use Rattle.rip_table.proofs.OutcomeLemmas.{said_outcome}
 use Rattle.rip_table.proofs.joining.collect.Goals as goal
 
 pub records-preserved : goal.records-preserved
@@ -42,16 +45,20 @@ returns-in-Err-join g c =
     let joins = rw c.in-Err-join.is at c.join.ensures in
     let blame = Joins-blame plan (state c.records.table) entry (state c.join.new.table) cause joins in
     let unread = unread-blame cause blame in
+    let new = state c.join.new.table in
+    let error : CollectError = record { line = c.in-Ok-Some.record.line; cause = cause } in
+    let told : has_stopped (reading_of c.args.reader.now) ≡ false → ToldOutcome plan old log new (log_to_come coming after) (Err error) = λ was.
+    let passed = inv.passed was in
+    let gives = h.gives run in
+    tell (PassedKnown plan old log new (log_to_come coming after)) (is_memory cause) (is_read_cause cause) joins.1
+    (λ w. subst (λ (s : State). StuckKnown plan old log s (log_to_come coming after) c.in-Ok-Some.record.line) (sym joins.0)
+    (StuckKnown-wants capture_of line_of plan old log (state c.records.table) (log_to_come coming before) (log_to_come coming after) c.in-Ok-Some.record passed gives w))
+    (λ j. subst (λ (s : State). OutcomeKnown plan old log s (Some error)) (sym joins.0)
+    (OutcomeKnown-refused capture_of line_of plan old log (state c.records.table) (log_to_come coming before) (log_to_come coming after) c.in-Ok-Some.record cause passed gives j))
+    unread in
     record {
-      told = λ was.
-          let passed = inv.passed was in
-          let gives = h.gives run in
-          tell (PassedKnown plan old log (state c.join.new.table) (log_to_come coming after)) (is_memory cause) (is_read_cause cause) joins.1
-          (λ w. subst (λ (s : State). StuckKnown plan old log s (log_to_come coming after) c.in-Ok-Some.record.line) (sym joins.0)
-          (StuckKnown-wants capture_of line_of plan old log (state c.records.table) (log_to_come coming before) (log_to_come coming after) c.in-Ok-Some.record passed gives w))
-          (λ j. subst (λ (s : State). OutcomeKnown plan old log s (Some (record { line = c.in-Ok-Some.record.line; cause = cause }))) (sym joins.0)
-          (OutcomeKnown-refused capture_of line_of plan old log (state c.records.table) (log_to_come coming before) (log_to_come coming after) c.in-Ok-Some.record cause passed gives j))
-          unread;
+      told = told;
+      said = λ was. said_outcome plan old new log (log_to_come coming after) (Err error) c.lawful.ensures (g.T.MetricTable.is_state c.args.table.now) c.requires (told was);
       stopped = λ was. cc (was, was_run);
       refused = λ was. h.moves.stopped ∙ sym blame;
       here = at_last (lines_behind after) c.in-Ok-Some.record.line cause blame h.onward.1;
@@ -66,8 +73,15 @@ returns-in-Ok-None g c =
     let h = rw (c.in-Ok-None.is, c.in-Ok-None.field-0-is) at c.next.follows.holds-at-none in
     let run : has_stopped (reading_of c.records.reader) ≡ false = runs _ _ _ h.ended in
     let was_run : has_stopped (reading_of c.args.reader.now) ≡ false = sym c.records.invariant.running ∙ run in
+    let log = log_to_come g.R.Source.coming (reading_of c.args.reader.now) in
+    let left = log_to_come g.R.Source.coming (reading_of c.next.follows.lender-at-none) in
+    let old = g.T.MetricTable.state c.args.table.now in
+    let new = g.T.MetricTable.state c.records.table in
+    let told : has_stopped (reading_of c.args.reader.now) ≡ false → ToldOutcome c.args.plan.now old log new left (Ok tt) = λ was.
+    OutcomeKnown-none capture_of line_of _ _ _ _ _ _ (c.records.invariant.passed was) (h.gives run) in
     record {
-      told = λ was. OutcomeKnown-none capture_of line_of _ _ _ _ _ _ (c.records.invariant.passed was) (h.gives run);
+      told = told;
+      said = λ was. said_outcome c.args.plan.now old new log left (Ok tt) c.lawful.ensures (g.T.MetricTable.is_state c.args.table.now) c.requires (told was);
       stopped = λ was. cc (was, was_run);
       refused = λ was. h.moves.stopped;
       here = tt;
@@ -81,8 +95,16 @@ pub returns-in-Err : goal.returns-in-Err
 returns-in-Err g c =
     let h = rw c.in-Err.is at c.next.follows.holds-at-none in
     let inv = c.records.invariant in
+    let log = log_to_come g.R.Source.coming (reading_of c.args.reader.now) in
+    let left = log_to_come g.R.Source.coming (reading_of c.next.follows.lender-at-none) in
+    let old = g.T.MetricTable.state c.args.table.now in
+    let new = g.T.MetricTable.state c.records.table in
+    let error : CollectError = record { line = c.in-Err.error.line; cause = OfLog c.in-Err.error } in
+    let told : has_stopped (reading_of c.args.reader.now) ≡ false → ToldOutcome c.args.plan.now old log new left (Err error) = λ was.
+    told_bad capture_of line_of _ _ _ _ _ _ c.in-Err.error (inv.passed was) (h.gives (inv.running ∙ was)) in
     record {
-      told = λ was. told_bad capture_of line_of _ _ _ _ _ _ c.in-Err.error (inv.passed was) (h.gives (inv.running ∙ was));
+      told = told;
+      said = λ was. said_outcome c.args.plan.now old new log left (Err error) c.lawful.ensures (g.T.MetricTable.is_state c.args.table.now) c.requires (told was);
       stopped = λ was. (inv.still was, again c.in-Err.error _ _ (h.ended (inv.running ∙ was)).0 (inv.here was));
       refused = λ was. h.moves.stopped;
       here = (h.moves.here, h.moves.here);
