@@ -1,19 +1,19 @@
 -- What a verdict means, both ways.
-use Rattle.std.proofs.Common.{◌≡◌, ℕ, ◌<◌, ◌≤◌, ◌↔◌, List, [], ◌∷◌, length, refl, arith}
+use Rattle.std.proofs.Common.{◌≡◌, ℕ, ◌<◌, ◌↔◌, length, refl}
 use Rattle.rip_plan.specs.Network.{Network}
 use Rattle.rip_plan.specs.Relations.{IsLawful}
 use Rattle.rip_check.specs.Tables.{Tables, Showing, Shows}
 use Rattle.rip_check.specs.Laws.{RightTablesShown, PlacesSettled}
 use Rattle.rip_check.specs.Settled.{Holds}
-use Rattle.rip_check.specs.Walks.{IsWalk}
+use Rattle.rip_check.specs.Walks.{WalksArrive}
 use Rattle.rip_check.proofs.Reading.{one_route}
 use Rattle.rip_check.proofs.Judging.{places_are_settled, tables_are_right}
-use Rattle.rip_check.proofs.Walking.{walks_end, walks_go_on}
+use Rattle.rip_check.proofs.Walking.{walks_end, walks_end_there, walks_go_on}
 use Rattle.rip_check.specs.Captured.{IsInRange}
 use Rattle.rip_check.specs.declared.verdict.Unclear.{Unclear}
 use Rattle.rip_check.specs.declared.verdict.Verdict.{Verdict}
 use Rattle.rip_check.specs.declared.verdict.Verdict.TheVariants.{Settled, Unsettled, Unclear as IsUnclear}
-use Rattle.rip_check.specs.Verdicts.{TablesShown, IsVerdict, WalksArrive}
+use Rattle.rip_check.specs.Verdicts.{TablesShown, IsVerdict}
 use Rattle.rip_check.proofs.Single.{one_verdict, no_trouble}
 
 module _ (n : Network) (count : ℕ) (shown : Showing) (plan : IsLawful n) (range : IsInRange n shown) where
@@ -32,14 +32,14 @@ module _ (n : Network) (count : ℕ) (shown : Showing) (plan : IsLawful n) (rang
   no_tables (IsUnclear u) is = (λ h tables. no_trouble n count shown plan range u tables is, λ none. (u, refl))
 
   pub arrive : RightTablesShown n count shown → (T : Tables) → Shows n count shown T → WalksArrive n count shown T
-  arrive right T shows = record { short = short; go_on = walks_go_on n count shown T plan shows holds }
+  arrive right T shows = record {
+    short = walks_end n count shown T plan shows;
+    go_on = walks_go_on n count shown T plan shows holds;
+    there = walks_end_there n count shown T plan shows holds;
+  }
     where
       holds : (r p : ℕ) → r < length n.routers → p < count → Holds n shown r p (T r p)
       holds r p at known =
           let place = (places_are_settled n count shown plan right).places r p at known in
           let e : place.0 ≡ T r p = one_route n plan shown r p place.0 (T r p) at place.1 (shows.fits r p at known) in
           rw e at place.2
-
-      short : (p : ℕ) (walk : List ℕ) → p < count → IsWalk n shown T p walk → length walk ≤ 15
-      short p [] known walk = absurd walk
-      short p (r ∷ rest) known walk = omega (arith, walk.1, walks_end n count shown T plan shows p r rest known walk)

@@ -7,7 +7,8 @@ use Rattle.rip_check.specs.Laws.{PlacesSettled, RightTablesShown}
 use Rattle.rip_check.specs.Captured.{showing_of}
 use Rattle.rip_check.specs.Telling.{Tells}
 use Rattle.rip_check.specs.Firsts.{AreFine, IsFirstTrouble, IsReadable, IsReason}
-use Rattle.rip_check.specs.Verdicts.{IsEquation, IsFirstFailing, IsHidden, IsKnown, IsSound, TablesShown, WalksArrive}
+use Rattle.rip_check.specs.Verdicts.{IsEquation, IsFirstFailing, IsHidden, IsKnown, IsSound, TablesShown}
+use Rattle.rip_check.specs.Walks.{WalksArrive}
 use Rattle.rip_check.specs.declared.verdict.Place2.{Place2}
 use Rattle.rip_check.specs.declared.verdict.Unclear.{Unclear}
 
@@ -39,7 +40,7 @@ IsKnownPlace s after = IsKnown (length s.prefixes) after
 abbrev pub TroubleIs : Network → State → Unclear → Type 0
 TroubleIs n s unclear = IsFirstTrouble n (length s.prefixes) (showing_of s) unclear
 
--- whoever follows the tables that are shown arrives after at most fifteen routers
+-- whoever follows the tables that are shown arrives, after at most as many routers as the first one's metric, which are at most fifteen
 abbrev pub PacketsArrive : Network → State → Type 0
 PacketsArrive n s = (tables : Tables) → Shows n (length s.prefixes) (showing_of s) tables → WalksArrive n (length s.prefixes) (showing_of s) tables
 

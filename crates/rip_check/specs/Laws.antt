@@ -1,12 +1,11 @@
 -- The laws of settled tables, each as one statement.
-use Rattle.std.specs.Prelude.{◌≡◌, ℕ, ◌+◌, ◌≤◌, ◌<◌, ◌⊎◌, List, [], ◌∷◌, ◌++◌, length, map, IsTrue}
+use Rattle.std.specs.Prelude.{◌≡◌, ℕ, ◌+◌, ◌≤◌, ◌<◌, List, length, map, IsTrue}
 use Rattle.rip_plan.specs.Network.{Network}
-use Rattle.rip_plan.specs.Relations.{IsLawful, HasCost, IsInterface, IsNeighbour, IsDirect}
+use Rattle.rip_plan.specs.Relations.{IsLawful, HasCost, IsInterface, IsNeighbour}
 use Rattle.rip_check.specs.Paths.{Hop, IsPath}
 use Rattle.rip_check.specs.Tables.{Tables, Route, Showing, Shows, Fits}
-use Rattle.rip_check.specs.declared.way.Way.TheVariants.{Here}
 use Rattle.rip_check.specs.Settled.{Holds, HoldsAll, AllRight, GoesRight}
-use Rattle.rip_check.specs.Walks.{IsWalk, IsFalling}
+use Rattle.rip_check.specs.Walks.{EachCanGoOn, EachEndsThere, EachIsShort, IsFalling, IsWalk}
 
 -- a plan's network, what a log shows of it, and the tables that are shown
 pub record Case : Type 0 where
@@ -47,16 +46,15 @@ WalksFall k = (p : ℕ) (walk : List ℕ) → p < k.count → IsWalk k.net k.sho
 
 -- a walk has at most as many routers as its first router's metric, and at most fifteen
 abbrev pub WalksEnd : Case → Type 0
-WalksEnd k =
-    (p r : ℕ) (rest : List ℕ) → p < k.count → IsWalk k.net k.shown k.tables p (r ∷ rest) →
-    (length (r ∷ rest) ≤ (k.tables r p).metric) × (length (r ∷ rest) ≤ 15)
+WalksEnd k = EachIsShort k.net k.count k.shown k.tables
 
--- the last router of a walk has the prefix, or there is a router to go to
+-- a walk that has not arrived has a next router
 abbrev pub WalksGoOn : Case → Type 0
-WalksGoOn k =
-    (p z : ℕ) (before : List ℕ) → p < k.count → IsWalk k.net k.shown k.tables p (before ++ z ∷ []) →
-    (((k.tables z p).way ≡ Here) × IsDirect k.net z p (k.tables z p).metric)
-    ⊎ ((s : ℕ) × IsWalk k.net k.shown k.tables p (before ++ z ∷ s ∷ []))
+WalksGoOn k = EachCanGoOn k.net k.count k.shown k.tables
+
+-- where a walk has arrived, the router is on a link of the prefix, or owns it
+abbrev pub WalksEndThere : Case → Type 0
+WalksEndThere k = EachEndsThere k.net k.count k.shown k.tables
 
 -- no two routes fit what a router shows of a prefix
 abbrev pub OneRouteFits : Network → Showing → Type 0

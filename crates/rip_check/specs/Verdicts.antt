@@ -1,12 +1,10 @@
 -- Verdicts.
-use Rattle.std.specs.Prelude.{◌≡◌, ℕ, ◌≤◌, ◌<◌, ◌⊎◌, ◌↔◌, List, [], ◌∷◌, ◌++◌, length, Option, None, Some, IsTrue}
+use Rattle.std.specs.Prelude.{◌≡◌, ℕ, ◌≤◌, ◌<◌, ◌⊎◌, ◌↔◌, length, Option, None, Some, IsTrue}
 use Rattle.rip_plan.specs.Network.{Network}
-use Rattle.rip_plan.specs.Relations.{IsLeaf, IsDirect, Carries}
+use Rattle.rip_plan.specs.Relations.{IsLeaf, Carries}
 use Rattle.rip_check.specs.Tables.{Tables, Showing, Shows, Route, Fits, IsSilent}
 use Rattle.rip_check.specs.Settled.{IsChoice, Holds}
 use Rattle.rip_check.specs.Laws.{RightTablesShown}
-use Rattle.rip_check.specs.Walks.{IsWalk}
-use Rattle.rip_check.specs.declared.way.Way.TheVariants.{Here}
 use Rattle.rip_check.specs.Firsts.{IsFirst, IsFirstTrouble}
 use Rattle.rip_check.specs.declared.verdict.Place2.{Place2}
 use Rattle.rip_check.specs.declared.verdict.Verdict.{Verdict}
@@ -61,13 +59,6 @@ pub record IsRowFirst (n : Network) (count : ℕ) (shown : Showing) (r from : �
 abbrev pub IsKnown : ℕ → Option (ℕ × ℕ) → Type 0
 IsKnown count None = Unit {0}
 IsKnown count (Some a) = a.1 < count
-
--- a walk has at most fifteen routers; its last router has the prefix, or there is a router to go to
-pub record WalksArrive (n : Network) (count : ℕ) (shown : Showing) (T : Tables) : Type 0 where
-  pub short : (p : ℕ) (walk : List ℕ) → p < count → IsWalk n shown T p walk → length walk ≤ 15
-  pub go_on : (p z : ℕ) (before : List ℕ) → p < count → IsWalk n shown T p (before ++ z ∷ []) →
-      (((T z p).way ≡ Here) × IsDirect n z p (T z p).metric)
-      ⊎ ((s : ℕ) × IsWalk n shown T p (before ++ z ∷ s ∷ []))
 
 -- the first router below the bound whose place of this prefix fails
 pub record IsColumnFirst (n : Network) (shown : Showing) (p bound : ℕ) (failing : Place2) : Type 0 where

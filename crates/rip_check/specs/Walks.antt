@@ -1,8 +1,9 @@
 -- Walks: a packet that follows the tables.
-use Rattle.std.specs.Prelude.{◌≡◌, ℕ, ◌≤◌, ◌<◌, List, [], ◌∷◌, length}
+use Rattle.std.specs.Prelude.{◌≡◌, ℕ, ◌≤◌, ◌<◌, List, [], ◌∷◌, ◌++◌, length}
 use Rattle.rip_plan.specs.Network.{Network}
+use Rattle.rip_plan.specs.Relations.{IsDirect}
 use Rattle.rip_check.specs.Tables.{Tables, Showing, Offers}
-use Rattle.rip_check.specs.declared.way.Way.TheVariants.{Over}
+use Rattle.rip_check.specs.declared.way.Way.TheVariants.{Here, Over}
 
 -- a packet for p can go from r to s: r's route leads over a link, and s is any neighbour there that offers r's metric
 pub record GoesTo (n : Network) (shown : Showing) (T : Tables) (p r s : ℕ) : Type 0 where
@@ -25,3 +26,30 @@ abbrev pub IsFalling : List ℕ → Type 0
 IsFalling [] = Unit {0}
 IsFalling (x ∷ []) = 1 ≤ x
 IsFalling (x ∷ y ∷ rest) = (y < x) × IsFalling (y ∷ rest)
+
+-- a walk of prefix p that has come to router z has arrived: z's route is Here
+abbrev pub HasArrived : Tables → ℕ → ℕ → Type 0
+HasArrived T p z = (T z p).way ≡ Here
+
+-- a walk has at most as many routers as its first router's metric, and at most fifteen
+abbrev pub EachIsShort : Network → ℕ → Showing → Tables → Type 0
+EachIsShort n count shown T =
+    (p r : ℕ) (rest : List ℕ) → p < count → IsWalk n shown T p (r ∷ rest) →
+    (length (r ∷ rest) ≤ (T r p).metric) × (length (r ∷ rest) ≤ 15)
+
+-- a walk that has not arrived has a next router
+abbrev pub EachCanGoOn : Network → ℕ → Showing → Tables → Type 0
+EachCanGoOn n count shown T =
+    (p z : ℕ) (before : List ℕ) → p < count → IsWalk n shown T p (before ++ z ∷ []) → (HasArrived T p z → ⊥) →
+    (s : ℕ) × IsWalk n shown T p (before ++ z ∷ s ∷ [])
+
+-- where a walk has arrived, the router is on a link of the prefix, or owns it
+abbrev pub EachEndsThere : Network → ℕ → Showing → Tables → Type 0
+EachEndsThere n count shown T =
+    (p z : ℕ) (before : List ℕ) → p < count → IsWalk n shown T p (before ++ z ∷ []) → HasArrived T p z → IsDirect n z p (T z p).metric
+
+-- walks are short, go on until they have arrived, and arrive where the prefix is
+pub record WalksArrive (n : Network) (count : ℕ) (shown : Showing) (T : Tables) : Type 0 where
+  pub short : EachIsShort n count shown T
+  pub go_on : EachCanGoOn n count shown T
+  pub there : EachEndsThere n count shown T

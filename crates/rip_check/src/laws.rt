@@ -5,7 +5,7 @@ ghost use Rattle.std.specs.Prelude.{ℕ, ◌↔◌};
 ghost use Rattle.rip_plan.specs.Network.{Network};
 ghost use Rattle.rip_plan.specs.Relations.{IsLawful};
 ghost use Rattle.rip_check.specs.Tables.{Showing};
-ghost use Rattle.rip_check.specs.Laws.{OneIsShown, OneRouteFits, PlacesSettled, RightTablesShown, Case, IsSettled, HasRightTables, PoisonHidesNothing, MetricsAreReached, NoPathIsCheaper, WalksFall, WalksEnd, WalksGoOn};
+ghost use Rattle.rip_check.specs.Laws.{OneIsShown, OneRouteFits, PlacesSettled, RightTablesShown, Case, IsSettled, HasRightTables, PoisonHidesNothing, MetricsAreReached, NoPathIsCheaper, WalksFall, WalksEnd, WalksEndThere, WalksGoOn};
 
 pub mod examples;
 
@@ -51,4 +51,5 @@ pub fn walks_arrive()
     ensures fall { (k : Case) → WalksFall k }
     ensures end { (k : Case) → WalksEnd k }
     ensures go_on { (k : Case) → IsSettled k → WalksGoOn k }
+    ensures there { (k : Case) → IsSettled k → WalksEndThere k }
 {}

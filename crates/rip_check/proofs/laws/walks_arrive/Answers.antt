@@ -1,4 +1,4 @@
-use Rattle.rip_check.proofs.Walking.{walks_fall, walks_end, walks_go_on}
+use Rattle.rip_check.proofs.Walking.{walks_fall, walks_end, walks_end_there, walks_go_on}
 use Rattle.rip_check.proofs.laws.walks_arrive.Goals as goal
 
 pub returns-clause-fall : goal.returns-clause-fall
@@ -9,3 +9,6 @@ returns-clause-end c k = walks_end k.net k.count k.shown k.tables k.plan k.shows
 
 pub returns-clause-go_on : goal.returns-clause-go_on
 returns-clause-go_on c k settled = walks_go_on k.net k.count k.shown k.tables k.plan k.shows settled
+
+pub returns-clause-there : goal.returns-clause-there
+returns-clause-there c k settled = walks_end_there k.net k.count k.shown k.tables k.plan k.shows settled
