@@ -69,6 +69,12 @@ module _ (n : Network) (r : ℕ) (numbers : List ℕ) (exact : (i : ℕ) → Con
             rw e q
       ]
 
+  -- the same of what is said of interfaces alone
+  pub one_more_number : (Q : ℕ → Type 0) (k : ℕ) → k < length numbers → IsSoBefore (λ i l. Q i) k → Q (get_or numbers k 0) → IsSoBefore (λ i l. Q i) (k + 1)
+  one_more_number Q k lt before here =
+      let h = its_interface k lt in
+      each_more (λ i l. Q i) k (record { router = r; link = h.0; address = h.2.address; cost = h.1 }) h.2 before here
+
   -- each interface of the router is at a place
   pub at_place : (i l c : ℕ) → IsInterface n i r l c → (k : ℕ) × (k < length numbers) × (get_or numbers k 0 ≡ i)
   at_place i l c its =
@@ -99,7 +105,9 @@ module _ (n : Network) (r : ℕ) (numbers : List ℕ) (exact : (i : ℕ) → Con
   pub some_number : (i l c : ℕ) → IsLeaf n r i l c → 0 < length numbers
   some_number i l c leaf = let h = (exact i).1 (l, c, leaf.has) in omega (arith, h.1)
 
-  pub first_is_leaf : (i l c : ℕ) (own : Interface) → IsLeaf n r i l c → IsInterface n (get_or numbers 0 0) own.router own.link own.cost → IsLeaf n r (get_or numbers 0 0) own.link own.cost
+  pub first_is_leaf : (i l c : ℕ) (own : Interface) → IsLeaf n r i l c → IsInterface n (get_or numbers 0 0) own.router own.link own.cost →
+      (own.router ≡ r) × IsLeaf n r (get_or numbers 0 0) own.link own.cost
   first_is_leaf i l c own leaf is =
-      let has = its_own 0 own (some_number i l c leaf) is in
-      record { has = has; only = λ j k d its. leaf.only j k d its ∙ sym (leaf.only (get_or numbers 0 0) own.link own.cost has) }
+      let some = some_number i l c leaf in
+      let has = its_own 0 own some is in
+      (its_router 0 own some is, record { has = has; only = λ j k d its. leaf.only j k d its ∙ sym (leaf.only (get_or numbers 0 0) own.link own.cost has) })

@@ -8,7 +8,7 @@ ghost use Rattle.rip_check.specs.Firsts.{AreFine, IsFirstUnclear, IsFirstUnheard
 ghost use Rattle.rip_check.specs.TwoLeasts.{AreTwoLeast};
 ghost use Rattle.rip_check.specs.Verdicts.{IsColumnFirst, IsFirstFailing, IsRowFirst, IsSound, IsVerdict};
 
-use crate::links::{NOTHING, TwoLeast, fill};
+use crate::links::{MOST_LINKS, NOTHING, TwoLeast, fill};
 use crate::lookup::in_range;
 use crate::places::{failing, unclear_at};
 use crate::verdict::{Place2, Unclear, Verdict};
@@ -123,7 +123,7 @@ fn first_unsettled<T: MetricTable>(plan: &Plan, table: &T) -> Option<Place2>
     ensures none { IfNone result (AreFine plan.now (length (T.state table.now).prefixes) None (IsSound plan.now (showing_of (T.state table.now)))) }
 {
     plan.lawful();
-    let mut links = [NOTHING; 512];
+    let mut links = [NOTHING; MOST_LINKS];
     let mut bound = plan.routers();
     let mut best = None;
     for prefix in 0..table.prefix_count() {

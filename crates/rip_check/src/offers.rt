@@ -58,7 +58,9 @@ fn least_asked<T: MetricTable>(
 
 /// The least of `best` and of what the neighbours over a link offer, by the two least metrics there.
 fn least_told(own: Interface, two: TwoLeast, best: u32) -> u32
-    requires { best ≤ 16 }
+    requires most { best ≤ 16 }
+    requires least { two.least ≤ 16 }
+    requires next { two.next ≤ 16 }
     ensures at_most { result ≤ best }
     ensures least { (n : Network) (shown : Showing) (s p v : ℕ) → IsLawful n → HasCost n own.router own.link own.cost → IsTwoLeast n shown own.link p (length n.interfaces) two → Offers n shown own.router own.link s p v → result ≤ v }
     ensures chosen { (n : Network) (shown : Showing) (p : ℕ) → HasCost n own.router own.link own.cost → IsTwoLeast n shown own.link p (length n.interfaces) two → (result ≡ best) ⊎ ((s : ℕ) × Offers n shown own.router own.link s p result) }
@@ -68,10 +70,7 @@ fn least_told(own: Interface, two: TwoLeast, best: u32) -> u32
     } else {
         two.least
     };
-    if shown < best {
-        return (u32::from(own.cost) + shown).min(best);
-    }
-    best
+    (u32::from(own.cost) + shown).min(best)
 }
 
 /// The least of `best` and of what the neighbours over the link of an interface offer. The list has

@@ -1,6 +1,6 @@
 //! From what a router shows of a prefix to its route.
 
-ghost use Rattle.std.specs.Prelude.{◌≡◌, ◌≢◌, ℕ, ◌<◌, ◌≤◌, ◌⊎◌, Decides, IfErr, IfNone, IfOk, IfSome, IsTrue, None, Some, length};
+ghost use Rattle.std.specs.Prelude.{◌≡◌, ◌≢◌, ℕ, ◌<◌, ◌≤◌, ◌⊎◌, Decides, IfErr, IfNone, IfOk, IfSome, IsTrue, None, Some, false, length};
 ghost use Rattle.rip_plan.specs.Relations.{HasTwoInterfaces, IsLeaf};
 ghost use Rattle.rip_table.specs.State.{Fits as FitsPlan};
 ghost use Rattle.rip_check.specs.Captured.{showing_of};
@@ -15,23 +15,19 @@ use crate::lookup::{in_range, is_carried, shown_at};
 use crate::offers::best_over;
 use crate::verdict::Unclear;
 use crate::way::Way;
-use rip_plan::{Interface, Plan};
+use rip_plan::Plan;
 use rip_table::MetricTable;
 
-/// A metric with a way, as they can be read from what is shown.
+/// A router's route for a prefix, as it is read from what is shown.
 #[derive(Clone, Copy)]
-pub(crate) struct Told {
+pub(crate) struct Reading {
     pub metric: u32,
     pub way: Way,
+    pub hidden: bool,
 }
 
 /// The first metric below 16 that a router shows for a prefix, or 16.
-pub(crate) fn first_metric<T: MetricTable>(
-    plan: &Plan,
-    table: &T,
-    router: usize,
-    prefix: usize,
-) -> u32
+fn first_metric<T: MetricTable>(plan: &Plan, table: &T, router: usize, prefix: usize) -> u32
     requires fits { FitsPlan plan.now (T.state table.now) }
     requires router { router < length plan.now.routers }
     requires prefix { prefix < length (T.state table.now).prefixes }
@@ -41,7 +37,6 @@ pub(crate) fn first_metric<T: MetricTable>(
 {
     let numbers = plan.of_router(router);
     for i in numbers {
-        let own = plan.interface(*i);
         if let Some(metric) = shown_at(plan, table, *i, prefix) {
             if metric < 16 {
                 return metric;
@@ -96,17 +91,17 @@ fn may_show<T: MetricTable>(
     table: &T,
     link: usize,
     prefix: usize,
-    told: Told,
+    route: Reading,
     shown: Option<u32>,
 ) -> bool
     requires fits { FitsPlan plan.now (T.state table.now) }
     requires prefix { prefix < length (T.state table.now).prefixes }
-    ensures { Decides result (MayShow plan.now link prefix told.metric told.way shown) }
+    ensures { Decides result (MayShow plan.now link prefix route.metric route.way shown) }
 {
-    match told.way {
+    match route.way {
         Way::Unreachable => is_silent(shown),
         Way::Here => {
-            if is_shown(shown, told.metric) {
+            if is_shown(shown, route.metric) {
                 return true;
             }
             is_silent(shown) && is_carried(plan, table, link, prefix)
@@ -115,7 +110,7 @@ fn may_show<T: MetricTable>(
             if over == link {
                 return is_silent(shown) && shown.is_some();
             }
-            is_shown(shown, told.metric)
+            is_shown(shown, route.metric)
         }
     }
 }
@@ -126,18 +121,18 @@ fn is_as_told<T: MetricTable>(
     table: &T,
     router: usize,
     prefix: usize,
-    told: Told,
+    route: Reading,
 ) -> bool
     requires fits { FitsPlan plan.now (T.state table.now) }
     requires router { router < length plan.now.routers }
     requires prefix { prefix < length (T.state table.now).prefixes }
-    ensures { Decides result (IsAsTold plan.now (showing_of (T.state table.now)) router prefix told.metric told.way) }
+    ensures { Decides result (IsAsTold plan.now (showing_of (T.state table.now)) router prefix route.metric route.way) }
 {
     let numbers = plan.of_router(router);
     for i in numbers {
         let own = plan.interface(*i);
         let shown = shown_at(plan, table, *i, prefix);
-        let may = may_show(plan, table, own.link, prefix, told, shown);
+        let may = may_show(plan, table, own.link, prefix, route, shown);
         if !may {
             return false;
         }
@@ -146,17 +141,18 @@ fn is_as_told<T: MetricTable>(
 }
 
 /// The one metric and way that can be behind what a router with two interfaces shows, if there is one.
-pub(crate) fn read_route<T: MetricTable>(
+fn read_route<T: MetricTable>(
     plan: &Plan,
     table: &T,
     router: usize,
     prefix: usize,
-) -> Option<Told>
+) -> Option<Reading>
     requires fits { FitsPlan plan.now (T.state table.now) }
     requires router { router < length plan.now.routers }
     requires prefix { prefix < length (T.state table.now).prefixes }
     requires two { HasTwoInterfaces plan.now router }
     ensures most { IfSome result (λ t. t.metric ≤ 16) }
+    ensures shown { IfSome result (λ t. t.hidden ≡ false) }
     ensures some { IfSome result (λ t. Tells plan.now (showing_of (T.state table.now)) router prefix (record { metric = t.metric; way = t.way })) }
     ensures none { IfNone result ((t : TableRoute) → Tells plan.now (showing_of (T.state table.now)) router prefix t → ⊥) }
 {
@@ -171,9 +167,13 @@ pub(crate) fn read_route<T: MetricTable>(
             None => Way::Here,
         }
     };
-    let told = Told { metric, way };
-    let fits = is_as_told(plan, table, router, prefix, told);
-    if fits { Some(told) } else { None }
+    let route = Reading {
+        metric,
+        way,
+        hidden: false,
+    };
+    let fits = is_as_told(plan, table, router, prefix, route);
+    if fits { Some(route) } else { None }
 }
 
 /// Whether a router shows a metric below 16 that is not this one.
@@ -191,7 +191,6 @@ fn shows_another<T: MetricTable>(
 {
     let numbers = plan.of_router(router);
     for i in numbers {
-        let own = plan.interface(*i);
         if let Some(shown) = shown_at(plan, table, *i, prefix) {
             if shown < 16 && shown != metric {
                 return true;
@@ -247,14 +246,6 @@ fn reason<T: MetricTable>(plan: &Plan, table: &T, router: usize, prefix: usize) 
     }
 }
 
-/// A router's route for a prefix.
-#[derive(Clone, Copy)]
-pub(crate) struct Reading {
-    pub metric: u32,
-    pub way: Way,
-    pub hidden: bool,
-}
-
 /// What an interface shows, or 0.
 fn shown_or_0<T: MetricTable>(plan: &Plan, table: &T, interface: usize, prefix: usize) -> u32
     requires fits { FitsPlan plan.now (T.state table.now) }
@@ -270,27 +261,27 @@ fn shown_or_0<T: MetricTable>(plan: &Plan, table: &T, interface: usize, prefix: 
     }
 }
 
-/// The route of a router whose one interface this is.
+/// The route of a router with one interface.
 fn leaf_route<T: MetricTable>(
     plan: &Plan,
     table: &T,
     links: &[TwoLeast],
     router: usize,
     prefix: usize,
-    i: usize,
-    own: Interface,
 ) -> Reading
     requires fits { FitsPlan plan.now (T.state table.now) }
+    requires router { router < length plan.now.routers }
     requires prefix { prefix < length (T.state table.now).prefixes }
     requires links { AreTwoLeast plan.now (showing_of (T.state table.now)) prefix links.now }
-    requires mine { own.router ≡ router }
-    requires leaf { IsLeaf plan.now router i own.link own.cost }
+    requires leaf { (i l c : ℕ) × IsLeaf plan.now router i l c }
     ensures most { result.metric ≤ 16 }
     ensures fits { Fits plan.now (showing_of (T.state table.now)) router prefix (record { metric = result.metric; way = result.way }) }
     ensures hidden { Decides result.hidden (IsHidden plan.now (showing_of (T.state table.now)) router prefix) }
     ensures one { IsTrue result.hidden ⊎ ((u : TableRoute) → Tells plan.now (showing_of (T.state table.now)) router prefix u → u ≡ record { metric = result.metric; way = result.way }) }
 {
     plan.lawful();
+    let i = plan.of_router(router)[0];
+    let own = plan.interface(i);
     let shown = shown_or_0(plan, table, i, prefix);
     if 0 < shown && shown < 16 {
         return Reading {
@@ -349,15 +340,10 @@ pub(crate) fn read<T: MetricTable>(
     plan.lawful();
     in_range(plan, table);
     if plan.leaf(router) {
-        let i = plan.of_router(router)[0];
-        return Ok(leaf_route(plan, table, links, router, prefix, i, plan.interface(i)));
+        return Ok(leaf_route(plan, table, links, router, prefix));
     }
     match read_route(plan, table, router, prefix) {
-        Some(told) => Ok(Reading {
-            metric: told.metric,
-            way: told.way,
-            hidden: false,
-        }),
+        Some(route) => Ok(route),
         None => Err(reason(plan, table, router, prefix)),
     }
 }

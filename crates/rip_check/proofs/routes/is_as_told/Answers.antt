@@ -26,7 +26,7 @@ loop-i-preserved g c =
     let n = c.args.plan.now in
     let numbers = c.of_router-numbers.result.now in
     let cell = (showing_of (g.T.MetricTable.state c.args.table.now)).cell in
-    each_more n c.args.router numbers c.of_router-numbers.ensures.exact (λ j k. MayShow n k c.args.prefix c.args.told.metric c.args.told.way (cell j c.args.prefix)) c.loop-i.i-index
+    each_more n c.args.router numbers c.of_router-numbers.ensures.exact (λ j k. MayShow n k c.args.prefix c.args.route.metric c.args.route.way (cell j c.args.prefix)) c.loop-i.i-index
     c.interface-own.result c.interface-own.ensures.is c.loop-i.invariant
     (rw c.shown_at-shown.ensures.cell at (c.may_show-may.ensures.0 c.if-not-may.false))
 
@@ -34,7 +34,7 @@ pub returns : goal.returns
 returns g c =
     let n = c.args.plan.now in
     let cell = (showing_of (g.T.MetricTable.state c.args.table.now)).cell in (
-      λ t. every n c.args.router c.of_router-numbers.result.now c.of_router-numbers.ensures.exact (λ j k. MayShow n k c.args.prefix c.args.told.metric c.args.told.way (cell j c.args.prefix)) c.loop-i.i-index
+      λ t. every n c.args.router c.of_router-numbers.result.now c.of_router-numbers.ensures.exact (λ j k. MayShow n k c.args.prefix c.args.route.metric c.args.route.way (cell j c.args.prefix)) c.loop-i.i-index
           c.loop-i-test.false c.loop-i.invariant,
       λ all. refl,
     )

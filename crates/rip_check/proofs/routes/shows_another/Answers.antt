@@ -1,12 +1,9 @@
 use Rattle.std.proofs.Common.{◌≡◌, ℕ, ◌<◌, Some, get_or, refl, sym, ◌∙◌, arith}
 use Rattle.std.proofs.lemmas.Option.{same_Some}
 use Rattle.rip_check.specs.Captured.{showing_of}
-use Rattle.rip_check.proofs.Owned.{its_number, its_own, each_more, every}
+use Rattle.rip_check.proofs.Owned.{its_number, its_interface, one_more_number, every}
 use Rattle.rip_check.proofs.routes.shows_another.Goals as goal
 use Rattle.rip_check.proofs.routes.shows_another.Goals.{in-Some+else-shown-lt16, else-shown-lt16-via-then-shown-lt16+else-shown-metric, else-shown-lt16-via-else-shown-lt16, in_default}
-
-pub interface-own-requires : goal.interface-own-requires
-interface-own-requires g c = its_number c.args.plan.now c.args.router c.of_router-numbers.result.now c.of_router-numbers.ensures.exact c.loop-i.i-index c.loop-i-test.true
 
 pub shown_at-requires-clause-interface : goal.shown_at-requires-clause-interface
 shown_at-requires-clause-interface g c = its_number c.args.plan.now c.args.router c.of_router-numbers.result.now c.of_router-numbers.ensures.exact c.loop-i.i-index c.loop-i-test.true
@@ -14,12 +11,11 @@ shown_at-requires-clause-interface g c = its_number c.args.plan.now c.args.route
 pub returns-then-shown-metric : goal.returns-then-shown-metric
 returns-then-shown-metric g c =
     let numbers = c.of_router-numbers.result.now in
-    let own = c.interface-own.result in
-    let its = its_own c.args.plan.now c.args.router numbers c.of_router-numbers.ensures.exact c.loop-i.i-index own c.loop-i-test.true c.interface-own.ensures.is in (
+    let its = its_interface c.args.plan.now c.args.router numbers c.of_router-numbers.ensures.exact c.loop-i.i-index c.loop-i-test.true in (
       λ t. (
         get_or numbers c.loop-i.i-index 0,
         c.in-Some.shown,
-        record { link = own.link; cost = own.cost; its = its; shows = sym c.in-Some.ensures.cell; below = c.if-shown-lt16.true },
+        record { link = its.0; cost = its.1; its = its.2; shows = sym c.in-Some.ensures.cell; below = c.if-shown-lt16.true },
         c.if-shown-metric.true,
       ),
       λ h. refl,
@@ -28,8 +24,8 @@ returns-then-shown-metric g c =
 pub loop-i-preserved : goal.loop-i-preserved
 loop-i-preserved g c =
     let cell = (showing_of (g.T.MetricTable.state c.args.table.now)).cell in
-    each_more c.args.plan.now c.args.router c.of_router-numbers.result.now c.of_router-numbers.ensures.exact (λ j k. (v : ℕ) → cell j c.args.prefix ≡ Some v → v < 16 → v ≡ c.args.metric) c.loop-i.i-index
-    c.interface-own.result c.interface-own.ensures.is c.loop-i.invariant
+    one_more_number c.args.plan.now c.args.router c.of_router-numbers.result.now c.of_router-numbers.ensures.exact (λ j. (v : ℕ) → cell j c.args.prefix ≡ Some v → v < 16 → v ≡ c.args.metric) c.loop-i.i-index
+    c.loop-i-test.true c.loop-i.invariant
     (elim c.match-shown_at.branch [
       | in-Some+else-shown-lt16 w ↦ λ v e less.
           let is : v ≡ w.in-Some.shown = same_Some v w.in-Some.shown (sym e ∙ sym w.in-Some.ensures.cell) in
