@@ -1,0 +1,252 @@
+//! Plans and logs, and what is expected of them: over both tables.
+
+ghost use Rattle.std.specs.Prelude.{◌≡◌, ◌≤◌, ◌<◌, length};
+ghost use Rattle.rip_table.specs.State.{Fits};
+
+use crate::{Place2, Route, Unclear, Verdict, Way, equation, judge, next_unsettled, route};
+use rip_plan::Plan;
+use rip_table::{GridTable, ListTable, MetricTable, TableError};
+use rip_wire::{Address, Entry, Metric, Prefix, read, write_response};
+use std::alloc::{AllocError, Global};
+use std::hash::{BuildHasherDefault, FoldHasher};
+use std::process::Abort;
+
+/// A prefix and its metric.
+pub(super) type Said<'a> = (&'a str, u32);
+
+/// A response in a log: the link, the sender's address, and what it says.
+pub(super) type Line<'a> = (&'a str, &'a str, &'a [Said<'a>]);
+
+pub(super) type Grid = GridTable<BuildHasherDefault<FoldHasher>>;
+
+/// The text of these parts.
+pub(super) fn joined(alloc: Global, parts: &[&str]) -> Result<String, AllocError> {
+    let mut text = String::new(alloc);
+    for part in parts {
+        text.push_str(part)?;
+    }
+    Ok(text)
+}
+
+/// The plan whose text these parts are.
+pub(super) fn plan_of(rt: &impl Abort, alloc: Global, parts: &[&str]) -> Plan {
+    let Ok(text) = joined(alloc, parts) else {
+        panic!(rt; "no text");
+    };
+    match Plan::read(alloc, text.as_bytes()) {
+        Ok(plan) => plan,
+        Err(_) => panic!(rt; "no plan"),
+    }
+}
+
+pub(super) fn metric(rt: &impl Abort, number: u32) -> Metric {
+    Metric::new(number).expect(rt, "a metric")
+}
+
+pub(super) fn entry(rt: &impl Abort, (prefix, number): Said<'_>) -> Entry {
+    Entry {
+        tag: 0,
+        prefix: Prefix::parse(prefix).expect(rt, "a prefix"),
+        next_hop: Address::new(0),
+        metric: metric(rt, number),
+    }
+}
+
+/// Takes a response of an interface with these entries.
+pub(super) fn take<T: MetricTable>(
+    rt: &impl Abort,
+    plan: &Plan,
+    table: &mut T,
+    interface: usize,
+    entries: &[Entry],
+) -> Result<(), TableError>
+    requires fits { Fits plan.now (T.state table.old) }
+    requires some { 1 ≤ length entries.now }
+    requires few { length entries.now ≤ 25 }
+    ensures { Fits plan.now (T.state table.new) }
+{
+    let mut room = [0; 504];
+    let len = write_response(entries, &mut room);
+    let Ok(datagram) = read(&room[..len]) else {
+        panic!(rt; "no datagram");
+    };
+    assert!(rt; interface < plan.interfaces());
+    table.take(plan, interface, &datagram)
+}
+
+/// Takes a response that says this.
+pub(super) fn hear_said<T: MetricTable>(
+    rt: &impl Abort,
+    plan: &Plan,
+    table: &mut T,
+    interface: usize,
+    said: &[Said<'_>],
+) -> Result<(), TableError>
+    requires { Fits plan.now (T.state table.old) }
+    ensures { Fits plan.now (T.state table.new) }
+{
+    let mut entries = [entry(rt, ("0.0.0.0/0", 16)); 25];
+    let mut count = 0;
+    for one in said {
+        assert!(rt; count < 25);
+        entries[count] = entry(rt, *one);
+        count += 1;
+    }
+    assert!(rt; 0 < count && count <= 25);
+    take(rt, plan, table, interface, &entries[..count])
+}
+
+/// Takes the lines of a log.
+pub(super) fn hear<T: MetricTable>(
+    rt: &impl Abort,
+    plan: &Plan,
+    table: &mut T,
+    log: &[Line<'_>],
+) -> Result<(), TableError>
+    requires { Fits plan.now (T.state table.old) }
+    ensures { Fits plan.now (T.state table.new) }
+{
+    for (link, sender, said) in log {
+        let address = Address::parse(sender).expect(rt, "an address");
+        let interface = plan.find(link, address).expect(rt, "an interface");
+        hear_said(rt, plan, table, interface, said)?;
+    }
+    Ok(())
+}
+
+/// Takes the lines of several logs.
+pub(super) fn hear_all<T: MetricTable>(
+    rt: &impl Abort,
+    plan: &Plan,
+    table: &mut T,
+    logs: &[&[Line<'_>]],
+)
+    requires { Fits plan.now (T.state table.old) }
+    ensures { Fits plan.now (T.state table.new) }
+{
+    for log in logs {
+        assert_eq!(rt; hear(rt, plan, table, log), Ok(()));
+    }
+}
+
+pub(super) fn list_in(rt: &impl Abort, alloc: Global, plan: &Plan) -> ListTable
+    ensures { Fits plan.now (⟦<ListTable as MetricTable>⟧.state result) }
+{
+    match ListTable::new(alloc, plan) {
+        Ok(table) => table,
+        Err(_) => panic!(rt; "no table"),
+    }
+}
+
+pub(super) fn grid_in(rt: &impl Abort, alloc: Global, plan: &Plan) -> Grid
+    ensures { Fits plan.now (⟦<GridTable<BuildHasherDefault<FoldHasher>> as MetricTable>⟧.state result) }
+{
+    let hasher = BuildHasherDefault::<FoldHasher>::new();
+    match GridTable::with_hasher(alloc, plan, hasher) {
+        Ok(table) => table,
+        Err(_) => panic!(rt; "no table"),
+    }
+}
+
+/// Expects a verdict, and the first place that does not hold where every route can be read.
+pub(super) fn expect_on<T: MetricTable>(rt: &impl Abort, plan: &Plan, table: &T, verdict: &Verdict)
+    requires { Fits plan.now (T.state table.now) }
+{
+    assert_eq!(rt; judge(plan, table), *verdict);
+    let first = next_unsettled(plan, table, None);
+    match *verdict {
+        Verdict::Settled => assert_eq!(rt; first, None),
+        Verdict::Unsettled(place) => assert_eq!(rt; first, Some(place)),
+        Verdict::Unclear(_) => {}
+    }
+}
+
+/// Expects a verdict on what these logs say.
+pub(super) fn expect(
+    rt: &impl Abort,
+    alloc: Global,
+    plan: &Plan,
+    logs: &[&[Line<'_>]],
+    verdict: Verdict,
+) {
+    let mut list = list_in(rt, alloc, plan);
+    hear_all(rt, plan, &mut list, logs);
+    expect_on(rt, plan, &list, &verdict);
+    let mut grid = grid_in(rt, alloc, plan);
+    hear_all(rt, plan, &mut grid, logs);
+    expect_on(rt, plan, &grid, &verdict);
+}
+
+/// A place that fails: its router and prefix, its metric and the least choice, and its way.
+pub(super) fn failing(
+    rt: &impl Abort,
+    (router, prefix): (usize, usize),
+    (number, least): (u32, u32),
+    way: Way,
+) -> Place2 {
+    Place2 {
+        router,
+        prefix,
+        metric: metric(rt, number),
+        equation: metric(rt, least),
+        way,
+        hidden: false,
+    }
+}
+
+/// A router and a prefix, with the metric and the way of the route there, and whether it is hidden.
+pub(super) type Row = (usize, usize, u32, Way, bool);
+
+/// Expects a route at a place that holds.
+fn expect_route<T: MetricTable>(rt: &impl Abort, plan: &Plan, table: &T, row: Row)
+    requires { Fits plan.now (T.state table.now) }
+{
+    let (router, prefix, number, way, hidden) = row;
+    assert!(rt; router < plan.routers() && prefix < table.prefix_count());
+    let expected = Route {
+        metric: metric(rt, number),
+        way,
+        hidden,
+    };
+    assert_eq!(rt; route(plan, table, router, prefix), Ok(expected));
+    assert_eq!(rt; equation(plan, table, router, prefix).get(), number);
+}
+
+/// Expects routes, each at a place that holds.
+fn expect_routes_on<T: MetricTable>(rt: &impl Abort, plan: &Plan, table: &T, rows: &[Row])
+    requires { Fits plan.now (T.state table.now) }
+{
+    for row in rows {
+        expect_route(rt, plan, table, *row);
+    }
+}
+
+/// Expects routes of what these logs say, each at a place that holds.
+pub(super) fn expect_routes(
+    rt: &impl Abort,
+    alloc: Global,
+    plan: &Plan,
+    logs: &[&[Line<'_>]],
+    rows: &[Row],
+) {
+    let mut list = list_in(rt, alloc, plan);
+    hear_all(rt, plan, &mut list, logs);
+    expect_routes_on(rt, plan, &list, rows);
+    let mut grid = grid_in(rt, alloc, plan);
+    hear_all(rt, plan, &mut grid, logs);
+    expect_routes_on(rt, plan, &grid, rows);
+}
+
+/// Expects the next place after one that does not hold.
+pub(super) fn expect_next<T: MetricTable>(
+    rt: &impl Abort,
+    plan: &Plan,
+    table: &T,
+    after: (usize, usize),
+    next: Option<Place2>,
+)
+    requires { Fits plan.now (T.state table.now) }
+{
+    assert!(rt; after.1 < table.prefix_count());
+    assert_eq!(rt; next_unsettled(plan, table, Some(after)), next);
+}

@@ -1,0 +1,73 @@
+//! A link that costs its two routers differently.
+
+use super::networks::{Line, expect, expect_routes, failing, plan_of};
+use crate::{Verdict, Way};
+
+const SLOPE: &str = r#"version = 1
+
+[[link]]
+name = "p"
+prefixes = ["10.1.0.0/16"]
+
+[[link]]
+name = "m"
+prefixes = []
+
+[[link]]
+name = "q"
+prefixes = ["10.2.0.0/16"]
+
+[[router]]
+name = "x"
+
+[[router.interface]]
+link = "p"
+address = "10.1.0.1"
+
+[[router.interface]]
+link = "m"
+address = "192.168.0.1"
+cost = 5
+
+[[router]]
+name = "y"
+
+[[router.interface]]
+link = "m"
+address = "192.168.0.2"
+
+[[router.interface]]
+link = "q"
+address = "10.2.0.1"
+"#;
+
+const LOG: [Line<'static>; 4] = [
+    ("p", "10.1.0.1", &[("10.2.0.0/16", 6)]),
+    (
+        "m",
+        "192.168.0.1",
+        &[("10.1.0.0/16", 1), ("10.2.0.0/16", 16)],
+    ),
+    (
+        "m",
+        "192.168.0.2",
+        &[("10.2.0.0/16", 1), ("10.1.0.0/16", 16)],
+    ),
+    ("q", "10.2.0.1", &[("10.1.0.0/16", 2)]),
+];
+
+#[test]
+fn the_receivers_cost_counts(rt: HostRuntime) {
+    let alloc = rt.alloc();
+    let plan = plan_of(&rt, alloc, &[SLOPE]);
+    expect(&rt, alloc, &plan, &[&LOG], Verdict::Settled);
+    let rows = [
+        (0, 1, 6, Way::Over(1), false),
+        (1, 0, 2, Way::Over(1), false),
+    ];
+    expect_routes(&rt, alloc, &plan, &[&LOG], &rows);
+    let mut flat = LOG;
+    flat[0] = ("p", "10.1.0.1", &[("10.2.0.0/16", 2)]);
+    let place = failing(&rt, (0, 1), (2, 6), Way::Over(1));
+    expect(&rt, alloc, &plan, &[&flat], Verdict::Unsettled(place));
+}
