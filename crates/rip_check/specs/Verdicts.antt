@@ -1,5 +1,5 @@
 -- Verdicts.
-use Rattle.std.specs.Prelude.{◌≡◌, ℕ, ◌≤◌, ◌<◌, ◌⊎◌, ◌↔◌, length, Option, None, Some, IsTrue}
+use Rattle.std.specs.Prelude.{◌≡◌, ℕ, ◌≤◌, ◌<◌, ◌⊎◌, ◌↔◌, Option, None, Some, IsTrue}
 use Rattle.rip_plan.specs.Network.{Network}
 use Rattle.rip_plan.specs.Relations.{IsLeaf, Carries}
 use Rattle.rip_check.specs.Tables.{Tables, Showing, Shows, Route, Fits, IsSilent}
