@@ -1,5 +1,5 @@
 -- Verdicts and their statuses.
-use Rattle.std.proofs.Common.{◌≡◌, ◌⊎◌, ℕ, ◌<◌, Bool, true, false, List, [], Option, Some, None, Result, Ok, Err, length, refl, sym, ap, subst, ◌∙◌, is_err}
+use Rattle.std.proofs.Common.{◌≡◌, ℕ, Bool, List, [], Option, Some, None, Result, Ok, Err, refl, sym, ap, subst, ◌∙◌}
 use Rattle.std.specs.Prelude.{◌↔◌, IfOk, OnOk, OnErr}
 use Rattle.std.proofs.lemmas.Option.{same_Some}
 use Rattle.rip_plan.specs.Answers.{first_fault}
@@ -20,7 +20,7 @@ use Rattle.rip_check.specs.declared.verdict.Unclear.{Unclear}
 use Rattle.rip_check.specs.declared.verdict.Unclear.TheVariants.{NotHeard, TwoMetrics, Missing, TwoWays}
 use Rattle.rip_check.specs.declared.verdict.Verdict.{Verdict}
 use Rattle.rip_check.specs.declared.verdict.Verdict.TheVariants as verdicts
-use Rattle.ripaudit.specs.AuditText.{IsAudited, IsJudged, IsTable, IsTroubleOf, IsVerdictOn, UnsettledLines, VerdictText, a_settled, an_unclear, an_unsettled, settled_line, unclear_line, unsettled_line, verdict_status}
+use Rattle.ripaudit.specs.AuditText.{IsAudited, IsJudged, IsTable, IsTroubleOf, IsVerdictOn, UnsettledLines, VerdictText, a_settled, an_unclear, an_unsettled, settled_line, unclear_line, verdict_status}
 use Rattle.ripaudit.specs.Finished.{finished}
 use Rattle.ripaudit.specs.Sent.{Sent, Began}
 use Rattle.ripaudit.specs.declared.status.Status.{Status}

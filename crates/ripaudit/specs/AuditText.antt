@@ -1,5 +1,5 @@
 -- What `audit` prints.
-use Rattle.std.specs.Prelude.{◌≡◌, ◌↔◌, ℕ, ◌==◌, ◌<◌, nat_lt, Bool, true, false, if◌then◌else◌, List, [], ◌∷◌, ◌++◌, length, filter, codes, decimal, Option, None, Some, option_map, unwrap_or, slice_get}
+use Rattle.std.specs.Prelude.{◌≡◌, ◌↔◌, ℕ, ◌==◌, ◌<◌, nat_lt, Bool, true, false, if◌then◌else◌, List, [], ◌++◌, length, filter, codes, decimal, Option, None, Some, option_map, unwrap_or, slice_get}
 use Rattle.rip_wire.specs.Prefix.{prefix_text}
 use Rattle.rip_plan.specs.Answers.{first_fault}
 use Rattle.rip_plan.specs.Network.{Network, each_below, is_of, numbers_where}

@@ -1,12 +1,11 @@
-use Rattle.std.proofs.Common.{◌≡◌, ◌∙◌, ℕ, List, Option, Some, None, subst, true, false}
+use Rattle.std.proofs.Common.{◌≡◌, ◌∙◌, Option, Some, None, subst}
 use Rattle.ripaudit.specs.AuditText.{AuditOf, IsJudged, a_refusal, a_verdict}
 use Rattle.ripaudit.specs.RefusalText.{refused_log}
-use Rattle.ripaudit.specs.Written.{Written}
 use Rattle.rip_table.specs.State.{State}
 use Rattle.rip_table.specs.declared.error.CollectError.{CollectError}
 use Rattle.ripaudit.proofs.FinishLemmas.{finished_text, finished_wrote}
 use Rattle.std.specs.Prelude.{IfOk}
-use Rattle.ripaudit.proofs.VerdictLemmas.{ifok, ifok-map, same_table}
+use Rattle.ripaudit.proofs.VerdictLemmas.{ifok-map, same_table}
 use Rattle.ripaudit.proofs.audit.audit_of.Goals as goal
 
 pub returns-in-Ok-None-clause-text : goal.returns-in-Ok-None-clause-text

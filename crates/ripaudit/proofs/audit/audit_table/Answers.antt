@@ -1,4 +1,4 @@
-use Rattle.std.proofs.Common.{◌≡◌, subst, sym}
+use Rattle.std.proofs.Common.{subst, sym}
 use Rattle.ripaudit.specs.AuditText.{IsJudged}
 use Rattle.ripaudit.proofs.VerdictLemmas.{ended_judged, judged, said}
 use Rattle.ripaudit.proofs.audit.audit_table.Goals as goal

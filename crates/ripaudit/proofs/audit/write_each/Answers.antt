@@ -1,4 +1,4 @@
-use Rattle.std.proofs.Common.{◌≡◌, ◌++◌, [], List, ℕ, subst}
+use Rattle.std.proofs.Common.{◌++◌, List, ℕ, subst}
 use Rattle.ripaudit.specs.Held.{held}
 use Rattle.ripaudit.specs.Sent.{Sent}
 use Rattle.ripaudit.proofs.SentLemmas.{onerr-map, Began-all}

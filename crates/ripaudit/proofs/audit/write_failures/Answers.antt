@@ -1,7 +1,5 @@
-use Rattle.std.proofs.Common.{◌≡◌, ◌++◌, ◌∙◌, List, ℕ, Bool, true, false, is_err, subst, refl}
-use Rattle.std.specs.Prelude.{OnErr, OnOk}
+use Rattle.std.proofs.Common.{◌∙◌}
 use Rattle.ripaudit.specs.Held.{held}
-use Rattle.ripaudit.specs.Sent.{Sent, Began}
 use Rattle.ripaudit.proofs.SentLemmas.{onerr-map, onok-map}
 use Rattle.ripaudit.proofs.FailureLemmas.{all_lines, fewer, known_place, one_line, still_failed, still_marked}
 use Rattle.ripaudit.proofs.audit.write_failures.Goals as goal

@@ -1,4 +1,4 @@
-use Rattle.std.proofs.Common.{◌≡◌, ◌++◌, ℕ, List, length, is_err, true, false}
+use Rattle.std.proofs.Common.{◌≡◌, length, is_err, true, false}
 use Rattle.rip_check.specs.Audits.{IsKnownPlace}
 use Rattle.ripaudit.specs.Held.{held}
 use Rattle.ripaudit.proofs.FailureLemmas.{LinesSoFar, places_left}

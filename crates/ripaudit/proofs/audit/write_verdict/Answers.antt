@@ -1,4 +1,4 @@
-use Rattle.std.proofs.Common.{◌≡◌, ◌∙◌, List, ℕ, true, false}
+use Rattle.std.proofs.Common.{◌∙◌, List, ℕ}
 use Rattle.ripaudit.specs.AuditText.{VerdictText, settled_line, unclear_line, verdict_status}
 use Rattle.ripaudit.proofs.SentLemmas.{onerr-map, onok-map}
 use Rattle.ripaudit.proofs.VerdictLemmas.{known_trouble, one_begun, one_sent, settled_told, unclear_told, unsettled_told}

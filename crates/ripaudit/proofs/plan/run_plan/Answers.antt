@@ -1,4 +1,3 @@
-use Rattle.std.proofs.Common.{◌≡◌}
 use Rattle.ripaudit.specs.PlanText.{PlanText, a_fault, a_plan, shown_plan}
 use Rattle.ripaudit.proofs.FinishLemmas.{finished_text, finished_wrote, first_told, refused_text, refused_wrote}
 use Rattle.ripaudit.proofs.plan.run_plan.Goals as goal

@@ -1,4 +1,4 @@
-use Rattle.std.proofs.Common.{◌≡◌, ◌++◌, ◌∙◌, List, ℕ, ap, append_assoc, codes}
+use Rattle.std.proofs.Common.{◌++◌, ◌∙◌, List, ℕ, ap, append_assoc, codes}
 use Rattle.ripaudit.specs.AuditText.{interface_part, place_part}
 use Rattle.ripaudit.proofs.audit.lines.push_trouble.Goals as goal
 
