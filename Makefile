@@ -1,4 +1,4 @@
-# `make demo` prints a first datagram, `make test` proves and tests everything, `make install PREFIX=..` installs.
+# `make demo` audits a first network, `make test` proves and tests everything, `make install PREFIX=..` installs.
 PREFIX ?= /usr/local
 PROGRAM = crates/ripaudit/out/ripaudit
 
@@ -22,6 +22,8 @@ test:
 install: $(PROGRAM)
 	install -d $(DESTDIR)$(PREFIX)/bin
 	install $(PROGRAM) $(DESTDIR)$(PREFIX)/bin/ripaudit
+	install -d $(DESTDIR)$(PREFIX)/share/man/man1
+	install -m 644 docs/ripaudit.1 $(DESTDIR)$(PREFIX)/share/man/man1/ripaudit.1
 
 clean:
 	rm -rf out crates/*/out
