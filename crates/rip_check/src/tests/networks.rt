@@ -148,16 +148,46 @@ pub(super) fn grid_in(rt: &impl Abort, alloc: Global, plan: &Plan) -> Grid
     }
 }
 
-/// Expects a verdict, and the first place that does not hold where every route can be read.
+/// Expects that a place is the first that fails, and what it shows there.
+fn expect_place<T: MetricTable>(rt: &impl Abort, plan: &Plan, table: &T, place: &Place2)
+    requires { Fits plan.now (T.state table.now) }
+{
+    assert_eq!(rt; next_unsettled(plan, table, None), Some(*place));
+    let (router, prefix) = (place.router, place.prefix);
+    assert!(rt; router < plan.routers() && prefix < table.prefix_count());
+    let failed = Route {
+        metric: place.metric,
+        way: place.way,
+        hidden: place.hidden,
+    };
+    assert_eq!(rt; route(plan, table, router, prefix), Ok(failed));
+    assert_eq!(rt; equation(plan, table, router, prefix), place.equation);
+}
+
+/// Expects that no route can be read at the place of a trouble, where it has one.
+fn expect_trouble<T: MetricTable>(rt: &impl Abort, plan: &Plan, table: &T, trouble: &Unclear)
+    requires { Fits plan.now (T.state table.now) }
+{
+    match *trouble {
+        Unclear::NotHeard { .. } => {}
+        Unclear::TwoMetrics { router, prefix }
+        | Unclear::Missing { router, prefix, .. }
+        | Unclear::TwoWays { router, prefix } => {
+            assert!(rt; router < plan.routers() && prefix < table.prefix_count());
+            assert_eq!(rt; route(plan, table, router, prefix), Err(*trouble));
+        }
+    }
+}
+
+/// Expects a verdict, and what it says of its place.
 pub(super) fn expect_on<T: MetricTable>(rt: &impl Abort, plan: &Plan, table: &T, verdict: &Verdict)
     requires { Fits plan.now (T.state table.now) }
 {
     assert_eq!(rt; judge(plan, table), *verdict);
-    let first = next_unsettled(plan, table, None);
     match *verdict {
-        Verdict::Settled => assert_eq!(rt; first, None),
-        Verdict::Unsettled(place) => assert_eq!(rt; first, Some(place)),
-        Verdict::Unclear(_) => {}
+        Verdict::Settled => assert_eq!(rt; next_unsettled(plan, table, None), None),
+        Verdict::Unsettled(place) => expect_place(rt, plan, table, &place),
+        Verdict::Unclear(trouble) => expect_trouble(rt, plan, table, &trouble),
     }
 }
 

@@ -96,7 +96,7 @@ const PHANTOM: [Line<'static>; 6] = [
 ];
 
 /// The settled log with another line at a place.
-pub(super) fn settled_with(at: usize, line: Line<'static>) -> [Line<'static>; 6]
+fn settled_with(at: usize, line: Line<'static>) -> [Line<'static>; 6]
     requires { at < 6 }
 {
     let mut log = SETTLED;
