@@ -20,7 +20,7 @@ use Rattle.rip_check.specs.declared.verdict.Unclear.{Unclear}
 use Rattle.rip_check.specs.declared.verdict.Unclear.TheVariants.{NotHeard, TwoMetrics, Missing, TwoWays}
 use Rattle.rip_check.specs.declared.verdict.Verdict.{Verdict}
 use Rattle.rip_check.specs.declared.verdict.Verdict.TheVariants as verdicts
-use Rattle.ripaudit.specs.AuditText.{IsAudited, IsJudged, IsTable, IsTroubleOf, IsVerdictOn, UnsettledLines, VerdictText, a_settled, an_unclear, an_unsettled, settled_line, unclear_line, verdict_status}
+use Rattle.ripaudit.specs.AuditText.{IsAudited, IsJudged, IsTable, IsTold, IsTroubleOf, IsVerdictOn, UnsettledLines, VerdictText, a_settled, an_unclear, an_unsettled, settled_line, unclear_line, verdict_status}
 use Rattle.ripaudit.specs.Finished.{finished}
 use Rattle.ripaudit.specs.Sent.{Sent, Began}
 use Rattle.ripaudit.specs.declared.status.Status.{Status}
@@ -71,6 +71,10 @@ judged n s v j = record {
     λ h. ap verdict_status ((j.unsettled h.1.0).1 (h.0, h.1.1)),
   );
   unclear = (
+    λ h. let found = is_unclear v h in (found.0, (j.unclear found.0).0 found.1),
+    λ h. ap verdict_status ((j.unclear h.0).1 h.1),
+  );
+  no_tables = (
     λ h. j.no_tables.0 (is_unclear v h),
     λ h. ap verdict_status (j.no_tables.1 h).1,
   );
@@ -124,19 +128,27 @@ same_plan bytes n m one_plan p q =
     let one : p.document ≡ q.document = same_Some p.document q.document (sym p.reads ∙ q.reads) in
     one_plan n m q (subst (λ d. PlanOf d n) one p.plan) q.plan
 
--- the plan of the bytes is the one that was read
-pub of_read : (bytes : List ℕ) (log : Option (List ℕ)) (n m : Network) (s : State) (outcome : Result Status RunError) → HasOnePlan bytes → IsPlanOfText bytes m
-    → ((t : State) → IsTable m log t → IfOk outcome (λ status. IsJudged m t status))
-    → IsAudited bytes log n s → IfOk outcome (λ status. IsJudged n s status)
-of_read bytes log n m s outcome one_plan is told h =
+-- what is said of the plan that was read is said of every plan of the bytes
+pub of_read : (IsSaid : Network → State → Status → Type 0) (bytes : List ℕ) (log : Option (List ℕ)) (n m : Network) (s : State) (outcome : Result Status RunError) → HasOnePlan bytes → IsPlanOfText bytes m
+    → ((t : State) → IsTable m log t → IfOk outcome (IsSaid m t))
+    → IsAudited bytes log n s → IfOk outcome (IsSaid n s)
+of_read IsSaid bytes log n m s outcome one_plan is told h =
     let same = same_plan bytes n m one_plan h.plan_of is in
-    subst (λ (k : Network). IfOk outcome (λ status. IsJudged k s status)) (sym same) (told s (subst (λ (k : Network). IsTable k log s) same h.table))
+    subst (λ (k : Network). IfOk outcome (IsSaid k s)) (sym same) (told s (subst (λ (k : Network). IsTable k log s) same h.table))
 
 -- the bytes of a plan that is refused have a fault
-pub of_refused : (bytes : List ℕ) (log : Option (List ℕ)) (n : Network) (s : State) (e : PlanError) (P : Type 0) (outcome : Result Status RunError) → ((e.code ≡ OutOfMemory → ⊥) → first_fault bytes ≡ Some e)
-    → IfOk outcome (λ status. (e.code ≡ OutOfMemory → ⊥) × (status ≡ Refused) × P) → IsAudited bytes log n s → IfOk outcome (λ status. IsJudged n s status)
-of_refused bytes log n s e P (Ok status) told h k = absurd (never (sym (told h.0) ∙ k.faultless))
+pub of_refused : (IsSaid : Status → Type 0) (bytes : List ℕ) (log : Option (List ℕ)) (n : Network) (s : State) (e : PlanError) (P : Type 0) (outcome : Result Status RunError) → ((e.code ≡ OutOfMemory → ⊥) → first_fault bytes ≡ Some e)
+    → IfOk outcome (λ status. (e.code ≡ OutOfMemory → ⊥) × (status ≡ Refused) × P) → IsAudited bytes log n s → IfOk outcome IsSaid
+of_refused IsSaid bytes log n s e P (Ok status) told h k = absurd (never (sym (told h.0) ∙ k.faultless))
   where
     never : ◌≡◌ {A = Option PlanError} (Some e) None → ⊥
     never h = absurd (cc)
-of_refused bytes log n s e P (Err f) told h k = tt
+of_refused IsSaid bytes log n s e P (Err f) told h k = tt
+
+-- the headline, of what is judged and what is told
+abbrev pub IsHeadline : Network → State → Bool → Option (List ℕ) → Option (List ℕ) → Status → Type 0
+IsHeadline n s all a b status = ((status ≡ Settled) ↔ ShowsRightTables n s) × (status ≡ Settled → PacketsArrive n s) × IsTold n s all a b status
+
+pub headline : (n : Network) (s : State) (all : Bool) (a b : Option (List ℕ)) (outcome : Result Status RunError) → IfOk outcome (IsJudged n s) → IfOk outcome (IsTold n s all a b) → IfOk outcome (IsHeadline n s all a b)
+headline n s all a b (Ok status) j told = (j.settled, j.arrive, told)
+headline n s all a b (Err e) j told = tt

@@ -1,6 +1,7 @@
 -- What `audit` prints.
 use Rattle.std.specs.Prelude.{◌≡◌, ◌↔◌, ℕ, ◌==◌, ◌<◌, nat_lt, Bool, true, false, if◌then◌else◌, List, [], ◌++◌, length, filter, codes, decimal, Option, None, Some, option_map, unwrap_or, slice_get}
 use Rattle.rip_wire.specs.Prefix.{prefix_text}
+use Rattle.std.specs.Io.KnownBytes.{Appends}
 use Rattle.rip_plan.specs.Answers.{first_fault}
 use Rattle.rip_plan.specs.Network.{Network, each_below, is_of, numbers_where}
 use Rattle.rip_plan.specs.PlanOf.{IsPlanOfText}
@@ -152,7 +153,12 @@ pub record IsJudged (n : Network) (s : State) (status : Status) : Type 0 where
   pub settled : (status ≡ Settled) ↔ ShowsRightTables n s
   pub arrive : status ≡ Settled → PacketsArrive n s
   pub unsettled : (status ≡ Unsettled) ↔ (ShowsTables n s × ((f : Place2) × IsNextUnsettled n s None f))
-  pub unclear : (status ≡ IsUnclear) ↔ (ShowsTables n s → ⊥)
+  pub unclear : (status ≡ IsUnclear) ↔ ((trouble : Unclear) × TroubleIs n s trouble)
+  pub no_tables : (status ≡ IsUnclear) ↔ (ShowsTables n s → ⊥)
+
+-- the lines of the verdict on the table went out, which name its first place that fails or its first trouble, and nothing else
+abbrev pub IsTold : Network → State → Bool → Option (List ℕ) → Option (List ℕ) → Status → Type 0
+IsTold n s all old new status = (text : List ℕ) × VerdictText n s all (record { text = text; status = status }) × Appends old new text
 
 -- the bytes of the log are told, and nothing in them is refused; s is the table of their records
 pub record IsTable (n : Network) (log : Option (List ℕ)) (s : State) : Type 0 where

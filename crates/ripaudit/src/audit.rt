@@ -9,7 +9,7 @@ ghost use Rattle.rip_plan.specs.Network.{Network};
 ghost use Rattle.rip_plan.specs.declared.error.PlanError.{PlanError};
 ghost use Rattle.rip_table.specs.State.{Fits, State, new_state};
 ghost use Rattle.rip_check.specs.Audits.{IsNextUnsettled, PacketsArrive, ShowsRightTables, ShowsTables};
-ghost use Rattle.ripaudit.specs.AuditText.{AuditOf, AuditText, FailureLines, IsAudited, IsJudged, IsTable, IsVerdictOn, UnsettledLines, VerdictText, unsettled_line, verdict_status};
+ghost use Rattle.ripaudit.specs.AuditText.{AuditOf, AuditText, FailureLines, IsAudited, IsJudged, IsPlaceOf, IsTable, IsTold, IsVerdictOn, UnsettledLines, VerdictText, unsettled_line, verdict_status};
 ghost use Rattle.ripaudit.specs.Held.{held};
 ghost use Rattle.ripaudit.specs.Sent.{Began, Sent};
 ghost use Rattle.ripaudit.specs.Written.{Written};
@@ -28,21 +28,24 @@ use rip_table::{GridTable, MetricTable};
 use std::alloc::Global;
 use std::hash::BuildHasher;
 
-/// Adds bytes to a page, unless a write before has failed.
-fn write_after<K: Sink>(
+/// Adds the line of a place to a page, unless a write before has failed.
+fn write_failure<T: MetricTable, K: Sink>(
     before: Result<(), Failed>,
     page: &mut Page,
+    plan: &Plan,
+    table: &T,
+    place: &Place2,
     out: &mut K,
-    bytes: &[u8],
 ) -> Result<(), Failed>
-    ensures ok { OnOk result ((is_err before ≡ false) × Sent (K.taken out.old) (K.taken out.new) (held page.old ++ bytes.now) (held page.new)) }
-    ensures err { OnErr result ((is_err before ≡ true → K.taken out.new ≡ K.taken out.old) × (is_err before ≡ false → Began (K.taken out.old) (K.taken out.new) (held page.old ++ bytes.now))) }
+    requires { IsPlaceOf plan.now (T.state table.now) place.now }
+    ensures ok { OnOk result ((is_err before ≡ false) × Sent (K.taken out.old) (K.taken out.new) (held page.old ++ unsettled_line plan.now (T.state table.now) place.now) (held page.new)) }
+    ensures err { OnErr result ((is_err before ≡ true → K.taken out.new ≡ K.taken out.old) × (is_err before ≡ false → Began (K.taken out.old) (K.taken out.new) (held page.old ++ unsettled_line plan.now (T.state table.now) place.now))) }
     ensures kept { is_err before ≡ true → (is_err result ≡ true) × (K.broken out.new ≡ K.broken out.old) }
     ensures failed { is_err before ≡ false → is_err result ≡ true → K.broken out.new ≡ true }
     ensures marks { is_err result ≡ false → K.broken out.new ≡ K.broken out.old }
 {
     before?;
-    page.write(out, bytes)
+    page.write(out, unsettled_text(plan, table, place).as_bytes())
 }
 
 /// Writes the lines of all places that do not hold. After a failed write the others are gone through
@@ -63,8 +66,7 @@ fn write_failures<T: MetricTable, K: Sink>(
     let mut wrote = Ok(());
     let mut after = None;
     'places: while let Some(place) = next_unsettled(plan, table, after) {
-        let line = unsettled_text(plan, table, &place);
-        wrote = write_after(wrote, page, out, line.as_bytes());
+        wrote = write_failure(wrote, page, plan, table, &place, out);
         after = Some((place.router, place.prefix));
     }
     wrote
@@ -166,7 +168,7 @@ fn audit_table<T: MetricTable, K: Sink>(
     out: &mut K,
 ) -> Result<Status, RunError>
     requires { Fits plan.now (T.state table.now) }
-    ensures text { IfOk result (λ status. (text : List ℕ) × VerdictText plan.now (T.state table.now) all (record { text = text; status = status }) × Appends (K.taken out.old) (K.taken out.new) text) }
+    ensures text { IfOk result (IsTold plan.now (T.state table.now) all (K.taken out.old) (K.taken out.new)) }
     ensures write { result ≡ Err RunError.Write → (K.broken out.new ≡ true) × ((w : Written) × VerdictText plan.now (T.state table.now) all w × Began (K.taken out.old) (K.taken out.new) w.text) }
     ensures sink { result ≢ Err RunError.Write → K.broken out.new ≡ K.broken out.old }
     ensures read { result ≢ Err RunError.Read }
@@ -196,6 +198,7 @@ fn audit_of<R: Source, K: Sink, T: MetricTable>(
     ensures sink { result.1 ≢ Err RunError.Write → K.broken out.new ≡ K.broken out.old }
     ensures ended { IfOk result.1 (λ status. status ≢ Status.Refused → R.at_end result.0 ≡ true) }
     ensures judged { (s : State) → IsTable plan.now (R.coming log) s → IfOk result.1 (λ status. IsJudged plan.now s status) }
+    ensures told { (s : State) → IsTable plan.now (R.coming log) s → IfOk result.1 (IsTold plan.now s all (K.taken out.old) (K.taken out.new)) }
 {
     let (source, read) = read_log(alloc, plan, log, table);
     match read {
@@ -222,9 +225,10 @@ pub fn run_audit<R: Source, K: Sink, S: BuildHasher + Drop>(
     all: bool,
     hasher: S,
 ) -> (R, Result<Status, RunError>)
-    // Settled is answered exactly where the log shows tables that are right, and then packets arrive.
-    ensures headline { (n : Network) (s : State) → IsAudited plan.now (R.coming log) n s → IfOk result.1 (λ status. ((status ≡ Status.Settled) ↔ ShowsRightTables n s) × (status ≡ Status.Settled → PacketsArrive n s)) }
-    // The same of each verdict.
+    // Settled is answered exactly where the log shows tables that are right, and then packets arrive;
+    // otherwise the first place that does not hold is named, or the first trouble.
+    ensures headline { (n : Network) (s : State) → IsAudited plan.now (R.coming log) n s → IfOk result.1 (λ status. ((status ≡ Status.Settled) ↔ ShowsRightTables n s) × (status ≡ Status.Settled → PacketsArrive n s) × IsTold n s all (K.taken out.old) (K.taken out.new) status) }
+    // What each verdict is answered for.
     ensures judged { (n : Network) (s : State) → IsAudited plan.now (R.coming log) n s → IfOk result.1 (λ status. IsJudged n s status) }
     // The whole text went out, and nothing else.
     ensures text { IfOk result.1 (λ status. (text : List ℕ) × AuditText plan.now (R.coming log) all (record { text = text; status = status }) × Appends (K.taken out.old) (K.taken out.new) text) }

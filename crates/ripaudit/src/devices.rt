@@ -49,16 +49,35 @@ impl Read for Pieces<'_> {
     }
 }
 
-/// A reader of one byte over and over, which never ends.
+/// A reader that gives one byte, the same in each call, and never ends.
 #[derive(Drop)]
 pub(crate) struct Endless {
-    pub(crate) byte: u8,
+    byte: u8,
+    given: usize,
+}
+
+impl Endless {
+    /// A reader that gives this byte.
+    pub(crate) fn new(byte: u8) -> Endless {
+        Endless { byte, given: 0 }
+    }
+
+    /// How many bytes it has given.
+    pub(crate) fn given(&self) -> usize {
+        self.given
+    }
 }
 
 impl Read for Endless {
     fn read(&mut self, buffer: &mut [u8]) -> io::Result<usize> {
-        buffer.fill(self.byte);
-        Ok(buffer.len())
+        match buffer {
+            [first, ..] => {
+                *first = self.byte;
+                self.given = self.given.wrapping_add(1);
+                Ok(1)
+            }
+            [] => Ok(0),
+        }
     }
 }
 

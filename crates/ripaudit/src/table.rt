@@ -174,7 +174,11 @@ fn write_interfaces<T: MetricTable, K: Sink>(
 }
 
 /// Writes a table: its counts and its interfaces.
-fn write_table<T: MetricTable, K: Sink>(plan: &Plan, table: &T, out: &mut K) -> Result<(), Failed>
+pub(crate) fn write_table<T: MetricTable, K: Sink>(
+    plan: &Plan,
+    table: &T,
+    out: &mut K,
+) -> Result<(), Failed>
     requires { Fits plan.now (T.state table.now) }
     ensures ok { OnOk result (Sent (K.taken out.old) (K.taken out.new) (shown_table plan.now (T.state table.now)).text []) }
     ensures err { OnErr result (Began (K.taken out.old) (K.taken out.new) (shown_table plan.now (T.state table.now)).text) }

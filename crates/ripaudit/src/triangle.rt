@@ -1,6 +1,7 @@
 //! A network of three routers in a ring, with a prefix on each link.
 
 use std::alloc::{AllocError, Global};
+use std::process::Abort;
 
 pub(crate) const TRIANGLE: &str = r#"version = 1
 
@@ -51,12 +52,18 @@ address = "10.3.0.3"
 "#;
 
 /// The triangle with a part of its text replaced by another.
-pub(crate) fn changed(alloc: Global, old: &str, new: &str) -> Result<String, AllocError> {
+pub(crate) fn changed(
+    rt: &impl Abort,
+    alloc: Global,
+    old: &str,
+    new: &str,
+) -> Result<String, AllocError> {
+    let (front, back) = TRIANGLE
+        .split_once(old)
+        .expect(rt, "a part of the triangle");
     let mut text = String::new(alloc);
-    if let Some((front, back)) = TRIANGLE.split_once(old) {
-        text.push_str(front)?;
-        text.push_str(new)?;
-        text.push_str(back)?;
-    }
+    text.push_str(front)?;
+    text.push_str(new)?;
+    text.push_str(back)?;
     Ok(text)
 }

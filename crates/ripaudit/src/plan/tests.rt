@@ -1,9 +1,11 @@
+use crate::audit::run_audit;
 use crate::plan::run_plan;
 use crate::status::{RunError, Status};
 use crate::triangle::{TRIANGLE, changed};
-use rip_log::{IntoWrite, Sink};
+use rip_log::{FromRead, IntoWrite, Sink};
 use std::alloc::{AllocError, Global};
 use std::fmt::Write as _;
+use std::hash::{BuildHasherDefault, FoldHasher};
 use std::io;
 use std::process::Abort;
 use std::test::Fail;
@@ -30,6 +32,17 @@ fn expect_text(rt: &impl Abort, alloc: Global, plan: &str, text: &str, status: S
     assert_eq!(rt; out.into_writer().as_slice(), text.as_bytes());
 }
 
+/// Expects that a plan is refused so, by `plan` and by `audit`.
+fn expect_refusal(rt: &impl Abort, alloc: Global, plan: &str, text: &str) {
+    expect_text(rt, alloc, plan, text, Status::Refused);
+    let hasher = BuildHasherDefault::<FoldHasher>::default();
+    let mut out = IntoWrite::new(Vec::new(alloc));
+    let log = FromRead::new(b"x".as_slice());
+    let (_, outcome) = run_audit(alloc, plan.as_bytes(), log, &mut out, false, hasher);
+    assert_eq!(rt; outcome, Ok(Status::Refused), "{text}");
+    assert_eq!(rt; out.into_writer().as_slice(), text.as_bytes());
+}
+
 #[test]
 fn prints_the_triangle(rt: HostRuntime) {
     expect_text(&rt, rt.alloc(), TRIANGLE, PRINTED, Status::Done);
@@ -40,6 +53,7 @@ fn prints_own_prefixes(rt: HostRuntime) -> Result<(), Fail> {
     let alloc = rt.alloc();
     let own = "[[router.own]]\nprefix = \"0.0.0.0/0\"\n";
     let mut plan = changed(
+        &rt,
         alloc,
         "\n[[router]]\nname = \"r2\"",
         "[[router.own]]\nprefix = \"0.0.0.0/0\"\n[[router]]\nname = \"r2\"",
@@ -137,15 +151,9 @@ fn refuses_plans(rt: HostRuntime) -> Result<(), Fail> {
         ),
     ];
     for (old, new, fault) in rows {
-        let plan = changed(rt.alloc(), old, new)?;
+        let plan = changed(&rt, rt.alloc(), old, new)?;
         let line = format!(in rt.alloc(); "refused: plan {fault}\n")?;
-        expect_text(
-            &rt,
-            rt.alloc(),
-            plan.as_str(),
-            line.as_str(),
-            Status::Refused,
-        );
+        expect_refusal(&rt, rt.alloc(), plan.as_str(), line.as_str());
     }
     Ok(())
 }
@@ -153,19 +161,16 @@ fn refuses_plans(rt: HostRuntime) -> Result<(), Fail> {
 #[test]
 fn refuses_a_router_without_interfaces(rt: HostRuntime) -> Result<(), Fail> {
     let alloc = rt.alloc();
+    let interface = "\n[[router.interface]]\nlink = \"b\"\naddress = \"10.2.0.3\"";
+    let (front, _) = TRIANGLE.split_once(interface).expect(&rt, "an interface");
     let mut plan = String::new(alloc);
-    if let Some((front, _)) = TRIANGLE.split_once(
-        "\n[[router.interface]]\nlink = \"b\"\naddress = \"10.2.0.3\"",
-    ) {
-        plan.push_str(front)?;
-        plan.push_str("interface = []\n")?;
-    }
-    expect_text(
+    plan.push_str(front)?;
+    plan.push_str("interface = []\n")?;
+    expect_refusal(
         &rt,
         alloc,
         plan.as_str(),
         "refused: plan 14 NoInterface at router 3\n",
-        Status::Refused,
     );
     Ok(())
 }
@@ -194,7 +199,7 @@ fn accepts_plans(rt: HostRuntime) -> Result<(), Fail> {
         ),
     ];
     for (old, new) in rows {
-        let plan = changed(rt.alloc(), old, new)?;
+        let plan = changed(&rt, rt.alloc(), old, new)?;
         let mut out = IntoWrite::new(Vec::new(rt.alloc()));
         let outcome = run_plan(rt.alloc(), plan.as_bytes(), &mut out);
         assert_eq!(rt; outcome, Ok(Status::Done), "{new}");
@@ -219,7 +224,7 @@ fn limits_the_text(rt: HostRuntime) -> Result<(), Fail> {
     expect_text(&rt, rt.alloc(), full.as_str(), PRINTED, Status::Done);
     let over = padded(rt.alloc(), 1_048_577)?;
     let refused = "refused: plan 15 Limit at text\n";
-    expect_text(&rt, rt.alloc(), over.as_str(), refused, Status::Refused);
+    expect_refusal(&rt, rt.alloc(), over.as_str(), refused);
     Ok(())
 }
 
@@ -239,7 +244,7 @@ fn limits_links_and_routers(rt: HostRuntime) -> Result<(), Fail> {
         plan.push_str("version = 1\n")?;
         push_tables(&mut plan, "link", links, "prefixes = []\n")?;
         push_tables(&mut plan, "router", routers, "interface = []\n")?;
-        expect_text(&rt, rt.alloc(), plan.as_str(), refused, Status::Refused);
+        expect_refusal(&rt, rt.alloc(), plan.as_str(), refused);
     }
     Ok(())
 }
@@ -258,12 +263,11 @@ fn limits_interfaces(rt: HostRuntime) -> Result<(), Fail> {
             )?;
         }
     }
-    expect_text(
+    expect_refusal(
         &rt,
         rt.alloc(),
         plan.as_str(),
         "refused: plan 15 Limit at router 128 interface 9\n",
-        Status::Refused,
     );
     Ok(())
 }
@@ -276,12 +280,11 @@ fn limits_places(rt: HostRuntime) -> Result<(), Fail> {
         write!(plan, "\"10.{}.{}.0/24\",\n", n / 256, n % 256)?;
     }
     plan.push_str("]\n[[router]]\nname = \"r\"\ninterface = []\n")?;
-    expect_text(
+    expect_refusal(
         &rt,
         rt.alloc(),
         plan.as_str(),
         "refused: plan 15 Limit at link 1 prefix 1025\n",
-        Status::Refused,
     );
     Ok(())
 }

@@ -10,8 +10,6 @@ use std::hash::{BuildHasherDefault, FoldHasher};
 use std::process::Abort;
 use std::test::Fail;
 
-mod agree;
-
 const PRINTED: &str = "table: 6 interfaces, 3 prefixes
 r1 a 10.2.0.0/16 16
 r1 a 10.3.0.0/16 1
@@ -145,6 +143,7 @@ fn refuses_unknown_senders(rt: HostRuntime) -> Result<(), Fail> {
     expect_refusal(&rt, alloc, log.as_bytes(), "table line 1: 5 UnknownSender")?;
     // The triangle without the second interface of the third router.
     let plan = changed(
+        &rt,
         alloc,
         "\n[[router.interface]]\nlink = \"c\"\naddress = \"10.3.0.3\"\n",
         "",
@@ -260,7 +259,7 @@ fn refuses_logs_without_an_end(rt: HostRuntime) {
         let (_, outcome) = run_table(
             rt.alloc(),
             TRIANGLE.as_bytes(),
-            FromRead::new(Endless { byte }),
+            FromRead::new(Endless::new(byte)),
             &mut out,
             hasher,
         );
@@ -271,7 +270,7 @@ fn refuses_logs_without_an_end(rt: HostRuntime) {
 
 #[test]
 fn refuses_the_plan_before_the_log(rt: HostRuntime) -> Result<(), Fail> {
-    let plan = changed(rt.alloc(), "version = 1", "version = 2")?;
+    let plan = changed(&rt, rt.alloc(), "version = 1", "version = 2")?;
     let answer = ("refused: plan 2 Version at version\n", Status::Refused);
     expect_pieces(&rt, rt.alloc(), plan.as_str(), (b"x", 1), answer);
     Ok(())

@@ -4,7 +4,7 @@ use Rattle.std.specs.Io.KnownBytes.{Appends}
 use Rattle.rip_plan.specs.Answers.{first_fault}
 use Rattle.rip_plan.specs.Network.{Network}
 use Rattle.rip_plan.specs.PlanOf.{IsPlanOfText}
-use Rattle.ripaudit.specs.AuditText.{AuditOf, AuditText, a_fault, of_plan}
+use Rattle.ripaudit.specs.AuditText.{AuditOf, AuditText, IsJudged, IsTold, a_fault, of_plan}
 use Rattle.ripaudit.specs.PlanText.{refused_plan}
 use Rattle.ripaudit.specs.Sent.{Began}
 use Rattle.ripaudit.specs.Written.{Written}
@@ -12,7 +12,7 @@ use Rattle.ripaudit.specs.declared.status.Status.{Status}
 use Rattle.ripaudit.specs.declared.status.RunError.{RunError}
 use Rattle.ripaudit.specs.declared.status.RunError.TheVariants.{Write}
 use Rattle.ripaudit.proofs.FinishLemmas.{first_told, refused_text, refused_wrote}
-use Rattle.ripaudit.proofs.VerdictLemmas.{ifok-map, of_read, of_refused}
+use Rattle.ripaudit.proofs.VerdictLemmas.{IsHeadline, headline, of_read, of_refused}
 use Rattle.ripaudit.proofs.audit.run_audit.Goals as goal
 
 -- what is written for the plan of the bytes is written for the bytes
@@ -39,11 +39,18 @@ returns-in-Ok-with_hasher-clause-write g c =
 
 pub returns-in-Ok-with_hasher-clause-judged : goal.returns-in-Ok-with_hasher-clause-judged
 returns-in-Ok-with_hasher-clause-judged g c =
-    λ n s audited. of_read c.args.plan.now (g.R.Source.coming c.args.log) n c.in-Ok.plan s c.audit_of.result.1 (λ n m q. c.one_plan.ensures q.document n m) c.in-Ok.ensures.plan c.audit_of.ensures.judged audited
+    λ n s audited. of_read IsJudged c.args.plan.now (g.R.Source.coming c.args.log) n c.in-Ok.plan s c.audit_of.result.1 (λ n m q. c.one_plan.ensures q.document n m) c.in-Ok.ensures.plan c.audit_of.ensures.judged audited
 
 pub returns-in-Ok-with_hasher-clause-headline : goal.returns-in-Ok-with_hasher-clause-headline
 returns-in-Ok-with_hasher-clause-headline g c =
-    λ n s audited. ifok-map c.audit_of.result.1 (λ status h. (h.settled, h.arrive)) (of_read c.args.plan.now (g.R.Source.coming c.args.log) n c.in-Ok.plan s c.audit_of.result.1 (λ n m q. c.one_plan.ensures q.document n m) c.in-Ok.ensures.plan c.audit_of.ensures.judged audited)
+    let bytes = c.args.plan.now in
+    let log = g.R.Source.coming c.args.log in
+    let a = g.K.Sink.taken c.args.out.now in
+    let b = g.K.Sink.taken c.audit_of.new.out in
+    let all = c.args.all in
+    λ n s audited. headline n s all a b c.audit_of.result.1
+    (of_read IsJudged bytes log n c.in-Ok.plan s c.audit_of.result.1 (λ n m q. c.one_plan.ensures q.document n m) c.in-Ok.ensures.plan c.audit_of.ensures.judged audited)
+    (of_read (λ m t. IsTold m t all a b) bytes log n c.in-Ok.plan s c.audit_of.result.1 (λ n m q. c.one_plan.ensures q.document n m) c.in-Ok.ensures.plan c.audit_of.ensures.told audited)
 
 pub returns-in-Err-clause-text : goal.returns-in-Err-clause-text
 returns-in-Err-clause-text g c =
@@ -56,9 +63,11 @@ returns-in-Err-clause-write g c =
 pub returns-in-Err-clause-judged : goal.returns-in-Err-clause-judged
 returns-in-Err-clause-judged g c =
     let e = c.in-Err.error in
-    λ n s audited. of_refused c.args.plan.now (g.R.Source.coming c.args.log) n s e (Appends (g.K.Sink.taken c.args.out.now) (g.K.Sink.taken c.refuse_plan.new.out) (refused_plan e).text) c.refuse_plan.result (first_told c.args.plan.now e c.in-Err.ensures.fault) c.refuse_plan.ensures.text audited
+    λ n s audited. of_refused (IsJudged n s) c.args.plan.now (g.R.Source.coming c.args.log) n s e (Appends (g.K.Sink.taken c.args.out.now) (g.K.Sink.taken c.refuse_plan.new.out) (refused_plan e).text) c.refuse_plan.result (first_told c.args.plan.now e c.in-Err.ensures.fault) c.refuse_plan.ensures.text audited
 
 pub returns-in-Err-clause-headline : goal.returns-in-Err-clause-headline
 returns-in-Err-clause-headline g c =
     let e = c.in-Err.error in
-    λ n s audited. ifok-map c.refuse_plan.result (λ status h. (h.settled, h.arrive)) (of_refused c.args.plan.now (g.R.Source.coming c.args.log) n s e (Appends (g.K.Sink.taken c.args.out.now) (g.K.Sink.taken c.refuse_plan.new.out) (refused_plan e).text) c.refuse_plan.result (first_told c.args.plan.now e c.in-Err.ensures.fault) c.refuse_plan.ensures.text audited)
+    let a = g.K.Sink.taken c.args.out.now in
+    let b = g.K.Sink.taken c.refuse_plan.new.out in
+    λ n s audited. of_refused (IsHeadline n s c.args.all a b) c.args.plan.now (g.R.Source.coming c.args.log) n s e (Appends a b (refused_plan e).text) c.refuse_plan.result (first_told c.args.plan.now e c.in-Err.ensures.fault) c.refuse_plan.ensures.text audited

@@ -16,9 +16,10 @@ fn default_route(rt: &impl Abort, metric: u32) -> Entry {
 }
 
 /// The triangle with a default route at its first router, and at its last one at this cost.
-fn two_exits(alloc: Global, cost: u8) -> Result<String, AllocError> {
+fn two_exits(rt: &impl Abort, alloc: Global, cost: u8) -> Result<String, AllocError> {
     let router = "name = \"r1\"\n";
     let mut plan = changed(
+        rt,
         alloc,
         router,
         "name = \"r1\"\nown = [{ prefix = \"0.0.0.0/0\" }]\n",
@@ -38,7 +39,7 @@ fn of_a_default_route(rt: HostRuntime) -> Result<(), Fail> {
             "unsettled: router r3 prefix 0.0.0.0/0: metric 5, equation 2",
         ),
     ] {
-        let plan = two_exits(alloc, cost)?;
+        let plan = two_exits(&rt, alloc, cost)?;
         let mut log = settled(&rt, alloc)?;
         for (sender, metric) in [
             ("a 10.1.0.1", 1),

@@ -12,22 +12,23 @@ use std::hash::{BuildHasherDefault, FoldHasher};
 use std::process::Abort;
 use std::test::Fail;
 
-/// Runs the command over a log of one byte a pull that fails at this one, and answers how it ends, and
-/// whether the source has failed. Where it has, nothing went out.
-fn read_until(
+/// Runs the command over a log of one byte a pull that fails at this pull, and expects how it ends and what
+/// went out.
+fn expect_until(
     rt: &impl Abort,
     alloc: Global,
-    log: &[u8],
-    fails_at: usize,
-) -> (Result<Status, RunError>, bool) {
+    (log, fails_at): (&[u8], usize),
+    expected: Result<Status, RunError>,
+    text: &str,
+) {
     let hasher = BuildHasherDefault::<FoldHasher>::default();
     let mut out = IntoWrite::new(Vec::new(alloc));
     let source = FromRead::new(Pieces::failing(log, fails_at));
     let plan = TRIANGLE.as_bytes();
     let (source, outcome) = run_audit(alloc, plan, source, &mut out, false, hasher);
-    let failed = source.failed();
-    assert!(rt; !failed || out.into_writer().is_empty());
-    (outcome, failed)
+    assert_eq!(rt; outcome, expected, "{fails_at}");
+    assert_eq!(rt; source.failed(), expected.is_err());
+    assert_eq!(rt; out.into_writer().as_slice(), text.as_bytes());
 }
 
 #[test]
@@ -35,13 +36,15 @@ fn of_a_source(rt: HostRuntime) -> Result<(), Fail> {
     let alloc = rt.alloc();
     let log = settled(&rt, alloc)?;
     for fails_at in 1..602 {
-        let run = read_until(&rt, alloc, log.as_bytes(), fails_at);
-        assert_eq!(rt; run, (Err(RunError::Read), true), "{fails_at}");
+        let run = (log.as_bytes(), fails_at);
+        expect_until(&rt, alloc, run, Err(RunError::Read), "");
     }
-    let run = read_until(&rt, alloc, log.as_bytes(), 602);
-    assert_eq!(rt; run, (Ok(Status::Settled), false));
-    let run = read_until(&rt, alloc, b"a 10.1.0.1\n", 12);
-    assert_eq!(rt; run, (Ok(Status::Refused), false));
+    let text = "settled: 3 routers, 3 prefixes\n";
+    let run = (log.as_bytes(), 602);
+    expect_until(&rt, alloc, run, Ok(Status::Settled), text);
+    let text = "refused: log line 1: 2 Fields\n";
+    let run = (b"a 10.1.0.1\n".as_slice(), 12);
+    expect_until(&rt, alloc, run, Ok(Status::Refused), text);
     Ok(())
 }
 

@@ -62,7 +62,7 @@ fn show_their_own_prefixes(rt: HostRuntime) -> Result<(), Fail> {
 fn cannot_show_what_they_learned(rt: HostRuntime) -> Result<(), Fail> {
     let alloc = rt.alloc();
     let interface = "\n[[router.interface]]\nlink = \"c\"\naddress = \"10.3.0.3\"\n";
-    let plan = changed(alloc, interface, "")?;
+    let plan = changed(&rt, alloc, interface, "")?;
     let log = settled(&rt, alloc)?;
     let line = "refused: table line 6: 5 UnknownSender";
     expect_line(&rt, alloc, plan.as_str(), log.as_bytes(), line)?;

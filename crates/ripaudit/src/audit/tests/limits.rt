@@ -1,6 +1,6 @@
 //! Limits, met and passed by one.
 
-use super::{SETTLED, expect_line};
+use super::{expect_line, expect_text};
 use crate::audit::run_audit;
 use crate::captures::{entry, full, push_line, settled};
 use crate::devices::Endless;
@@ -29,12 +29,12 @@ fn of_lines(rt: HostRuntime) -> Result<(), Fail> {
     let mut log = Vec::new(alloc);
     log.extend_from_slice(settled.as_bytes())?;
     log.resize(600 + 999_994, b'\n')?;
-    expect_line(&rt, alloc, TRIANGLE, log.as_slice(), SETTLED)?;
-    let line = "refused: log line 1000001: 8 TooManyLines";
+    let text = "settled: 3 routers, 3 prefixes\n";
+    expect_text(&rt, alloc, TRIANGLE, (log.as_slice(), 4096), false, text);
     for last in [b'\n', b'x'] {
-        log.resize(600 + 999_994, b'\n')?;
         log.push(last)?;
-        expect_line(&rt, alloc, TRIANGLE, log.as_slice(), line)?;
+        let text = "refused: log line 1000001: 8 TooManyLines\n";
+        expect_text(&rt, alloc, TRIANGLE, (log.as_slice(), 4096), false, text);
         log.truncate(600 + 999_994);
     }
     Ok(())
@@ -57,15 +57,20 @@ fn of_datagrams(rt: HostRuntime) -> Result<(), Fail> {
 
 #[test]
 fn of_sources_that_never_end(rt: HostRuntime) {
-    for (byte, text) in [
-        (b'x', "refused: log line 1: 1 LongLine\n"),
-        (b'\n', "refused: log line 1000001: 8 TooManyLines\n"),
+    for (byte, given, text) in [
+        (b'x', 2049, "refused: log line 1: 1 LongLine\n"),
+        (
+            b'\n',
+            1_000_001,
+            "refused: log line 1000001: 8 TooManyLines\n",
+        ),
     ] {
         let hasher = BuildHasherDefault::<FoldHasher>::default();
         let mut out = IntoWrite::new(Vec::new(rt.alloc()));
-        let source = FromRead::new(Endless { byte });
+        let source = FromRead::new(Endless::new(byte));
         let plan = TRIANGLE.as_bytes();
-        let (_, outcome) = run_audit(rt.alloc(), plan, source, &mut out, false, hasher);
+        let (source, outcome) = run_audit(rt.alloc(), plan, source, &mut out, false, hasher);
+        assert_eq!(rt; source.into_reader().given(), given);
         assert_eq!(rt; outcome, Ok(Status::Refused));
         assert_eq!(rt; out.into_writer().as_slice(), text.as_bytes());
     }

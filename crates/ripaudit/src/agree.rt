@@ -43,8 +43,13 @@ fn text_of<T: MetricTable>(rt: &impl Abort, alloc: Global, plan: &Plan, table: &
 
 /// Expects that both tables take a log alike, or refuse it alike, that they show the same then, and that
 /// the verdict on both is the same.
-fn expect_alike(rt: &impl Abort, alloc: Global, log: &[u8]) -> Result<(), Fail> {
-    let Ok(plan) = Plan::read(alloc, TRIANGLE.as_bytes()) else {
+pub(crate) fn expect_alike(
+    rt: &impl Abort,
+    alloc: Global,
+    plan: &str,
+    log: &[u8],
+) -> Result<(), Fail> {
+    let Ok(plan) = Plan::read(alloc, plan.as_bytes()) else {
         panic!(rt; "no plan");
     };
     let mut list = ListTable::new(alloc, &plan)?;
@@ -66,7 +71,7 @@ fn on_the_settled_log(rt: HostRuntime) -> Result<(), Fail> {
     let log = settled(&rt, rt.alloc())?;
     for end in [0, 20, 99, 100, 101, 350, 598, 599, 600] {
         let front = log.as_bytes().get(..end).expect(&rt, "a front");
-        expect_alike(&rt, rt.alloc(), front)?;
+        expect_alike(&rt, rt.alloc(), TRIANGLE, front)?;
     }
     Ok(())
 }
@@ -86,7 +91,7 @@ fn on_one_line_more(rt: HostRuntime) -> Result<(), Fail> {
         ("z 10.1.0.1", (3, 1), (2, 16)),
     ] {
         let log = settled_and(&rt, rt.alloc(), &[(sender, &[one, other])])?;
-        expect_alike(&rt, rt.alloc(), log.as_bytes())?;
+        expect_alike(&rt, rt.alloc(), TRIANGLE, log.as_bytes())?;
     }
     Ok(())
 }
@@ -100,6 +105,6 @@ fn on_many_prefixes(rt: HostRuntime) -> Result<(), Fail> {
     }
     push_line(&rt, rt.alloc(), &mut log, "a 10.1.0.1", &pairs)?;
     push_line(&rt, rt.alloc(), &mut log, "a 10.1.0.1", &[(125, 16)])?;
-    expect_alike(&rt, rt.alloc(), log.as_bytes())?;
+    expect_alike(&rt, rt.alloc(), TRIANGLE, log.as_bytes())?;
     Ok(())
 }
