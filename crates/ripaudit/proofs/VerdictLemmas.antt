@@ -108,10 +108,6 @@ pub ifok-map : {A E : Type 0} {P Q : A → Type 0} (r : Result A E) → ((x : A)
 ifok-map (Ok x) f p = f x p
 ifok-map (Err e) f p = tt
 
-pub ifok : {A E : Type 0} {Q : A → Type 0} (r : Result A E) → ((x : A) → Q x) → IfOk r Q
-ifok (Ok x) f = f x
-ifok (Err e) f = tt
-
 -- the records of a log have one table, and one fault
 pub same_table : (n : Network) (log : Option (List ℕ)) (s t : State) (fault : Option CollectError) → OutcomeKnown n (new_state n) (log_in log) s fault → IsTable n log t → (s ≡ t) × (fault ≡ None)
 same_table n log s t fault known h =
