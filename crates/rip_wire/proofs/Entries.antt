@@ -58,6 +58,9 @@ read k b e h =
       next_hop = refl;
     })
 
+pub read_metric_bounds : (k : ℕ) (b : List ℕ) (e : Entry) → entry_at k b ≡ Ok e → (1 ≤ e.metric) × (e.metric ≤ 16)
+read_metric_bounds k b e h = let r = read k b e h in (r.metric.0, r.metric.1)
+
 -- an entry that is read is spelled by its twenty bytes
 pub spelled : (k : ℕ) (b : List ℕ) (e : Entry) → IsBytes b → k + 20 ≤ length b → entry_at k b ≡ Ok e → EntryBytes e (take 20 (drop k b))
 spelled k b e bytes room h =

@@ -88,10 +88,6 @@ head_four (x ∷ y ∷ z ∷ []) rest command len c d e f g = absurd (omega arit
 head_four (x ∷ y ∷ z ∷ w ∷ ws) rest command len c d e f g = rw (c, d, e, f, g) refl
 
 -- the kind that a message is of
-abbrev pub kind_of_message : Message → Kind
-kind_of_message request = Request
-kind_of_message (response es) = Response
-
 -- what is known where a message is read
 pub record IsReadMessage (b : List ℕ) (m : Message) : Type 0 where
   pub kind : Kind

@@ -1,11 +1,15 @@
 -- What the bytes of a datagram say of its message.
-use Rattle.std.proofs.Common.{◌≡◌, ◌≢◌, ℕ, ◌+◌, ◌*◌, ◌<◌, ◌≤◌, true, List, Result, Ok, Err, length, get_or, refl, sym, ap, ◌∙◌, arith, is_ok}
+use Rattle.std.proofs.Common.{◌≡◌, ◌≢◌, ℕ, ◌+◌, ◌*◌, ◌<◌, ◌≤◌, true, List, Some, Result, Ok, Err, length, get_or, refl, sym, ap, subst, ◌∙◌, arith, is_ok}
+use Rattle.std.specs.List.{slice_get}
+use Rattle.std.proofs.lemmas.Option.{same_Some, slice_get_within}
+use Rattle.rip_wire.specs.declared.entry.Entry.{Entry}
 use Rattle.rip_wire.specs.declared.error.WireError.{WireError}
 use Rattle.rip_wire.specs.declared.datagram.Kind.{Kind}
 use Rattle.rip_wire.specs.declared.datagram.Kind.TheVariants.{Request, Response}
 use Rattle.rip_wire.specs.Message.{Message, request, response, entries_at, kind_in, groups_in, message_of_kind, message_in}
 use Rattle.rip_wire.specs.Datagram.{kind_of, entries_of, message_or_request}
 use Rattle.rip_wire.proofs.Binds.{bind_ok, same_Ok}
+use Rattle.rip_wire.proofs.Entries.{read_metric_bounds}
 use Rattle.rip_wire.proofs.Messages.{command_of, headed, read_message}
 use Rattle.rip_wire.proofs.Walks.{HasEntry, entries_at-get, length-entries_at}
 
@@ -73,3 +77,12 @@ numbered b i h is lt =
     let header = es.header in
     let within : i < groups_in b = omega arith in
     record { room = omega arith; has = rw m.read (entries_at-get (groups_in b) 4 i b (entries_of m.message) es.entries within) }
+
+-- the metrics of a response
+pub metric_bounds : (b : List ℕ) (es : List Entry) → message_in b ≡ Ok (response es) → (i : ℕ) (e : Entry) → slice_get es i ≡ Some e → (1 ≤ e.metric) × (e.metric ≤ 16)
+metric_bounds b es h i e at =
+    let has = (has_entries b (response es) h refl).entries in
+    let lt : i < groups_in b = omega (arith, slice_get_within es i e at, length-entries_at (groups_in b) 4 b es has) in
+    let found = entries_at-get (groups_in b) 4 i b es has lt in
+    let same : found.entry ≡ e = same_Some found.entry e (sym found.here ∙ at) in
+    subst (λ (x : Entry). (1 ≤ x.metric) × (x.metric ≤ 16)) same (read_metric_bounds (4 + 20 * i) b found.entry found.read)

@@ -1,10 +1,12 @@
-//! Laws of the definitions alone: functions without a body, whose contracts hold of every list of
-//! entries, every text and every order.
+//! Laws of the definitions alone: functions that do nothing, whose contracts hold of all bytes, all
+//! lists of entries and all texts.
 
-ghost use Rattle.std.specs.Prelude.{◌≡◌, ◌≤◌, ◌<◌, ◌^◌, ◌↔◌, ℕ, List, [], ◌∷◌, Some, Ok, true, length, IsAscii};
+ghost use Rattle.std.specs.Prelude.{◌≡◌, ◌≤◌, ◌<◌, ◌^◌, ◌↔◌, ℕ, List, [], ◌∷◌, Some, Ok, Err, true, length, slice_get, IsAscii};
 ghost use Rattle.std.specs.List.{AllByRecursion};
 ghost use Rattle.rip_wire.specs.declared.entry.Entry.{Entry};
+ghost use Rattle.rip_wire.specs.declared.error.WireCode.{WireCode};
 ghost use Rattle.rip_wire.specs.Address.{address_in, address_text};
+ghost use Rattle.rip_wire.specs.Faults.{WireFault};
 ghost use Rattle.rip_wire.specs.Grammar.{EntryBytes, IsEntry, ResponseBytes};
 ghost use Rattle.rip_wire.specs.Message.{message_in, response};
 ghost use Rattle.rip_wire.specs.Name.{IsName};
@@ -30,6 +32,16 @@ pub fn one_reading()
 /// Reading what was written gives the entries again.
 pub fn reads_back()
     ensures { (entries : List Entry) (b : List ℕ) → ResponseBytes entries b → message_in b ≡ Ok (response entries) }
+{}
+
+/// Bytes are refused exactly by the first of their faults.
+pub fn first_faults()
+    ensures { (b : List ℕ) (code : WireCode) (at : ℕ) → (message_in b ≡ Err (record { code = code; at = at })) ↔ WireFault b code at }
+{}
+
+/// The metrics that are read are 1 to 16 (RFC 2453, section 4).
+pub fn metric_bounds()
+    ensures { (b : List ℕ) (entries : List Entry) → message_in b ≡ Ok (response entries) → (i : ℕ) (e : Entry) → slice_get entries i ≡ Some e → (1 ≤ e.metric) × (e.metric ≤ 16) }
 {}
 
 /// The address of a text is the one that is printed so, and its text is ASCII.

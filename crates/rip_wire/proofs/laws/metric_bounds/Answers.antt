@@ -1,0 +1,5 @@
+use Rattle.rip_wire.proofs.Views.{metric_bounds}
+use Rattle.rip_wire.proofs.laws.metric_bounds.Goals as goal
+
+pub returns : goal.returns
+returns c = metric_bounds
