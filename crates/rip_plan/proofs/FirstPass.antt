@@ -7,10 +7,9 @@ use Rattle.std.proofs.lemmas.Option.{cond_some, none-some}
 use Rattle.std.proofs.lemmas.Bool.Decides.{nat_tests}
 use Rattle.std.proofs.lemmas.List.Folds.{list_any-append}
 use Rattle.toml.specs.Data.{Data}
+use Rattle.rip_wire.specs.Address.{address_in}
 use Rattle.rip_wire.specs.Name.{IsName, is_name}
-use Rattle.rip_wire.specs.Prefix.{Block, IsBlock}
-use Rattle.rip_wire.proofs.Names.{is_name-gives}
-use Rattle.rip_wire.proofs.Parsing.{address_in-gives, prefix_in-gives}
+use Rattle.rip_wire.specs.Prefix.{Block, IsBlock, prefix_in}
 use Rattle.rip_plan.specs.declared.draft.DraftInterface.{DraftInterface}
 use Rattle.rip_plan.specs.declared.draft.DraftPlace.{DraftPlace}
 use Rattle.rip_plan.specs.declared.parts.Seat.{Seat}
@@ -21,6 +20,12 @@ use Rattle.rip_plan.specs.Draft.{Sketch, prefix_step, link_step, interface_step,
 use Rattle.rip_plan.proofs.Binds.{steps_keep}
 use Rattle.rip_plan.proofs.Items.{all_none, all_push, all_weaker, distinct_push}
 use Rattle.rip_plan.proofs.StepsTaken.{with_link, with_router, prefix_taken, link_taken, interface_taken, own_taken, router_taken}
+
+-- what is used of the laws of names, addresses and prefixes
+pub record TextLaws : Type 0 where
+  pub name : (text : List ℕ) → is_name text ≡ true → IsName text
+  pub address : (text : List ℕ) (a : ℕ) → address_in text ≡ Some a → a < 2 ^ 32
+  pub prefix : (text : List ℕ) (p : Block) → prefix_in text ≡ Some p → IsBlock p
 
 pub record IsFit (links routers : ℕ) (i : DraftInterface) : Type 0 where
   pub least : 1 ≤ i.interface.cost
@@ -111,8 +116,8 @@ record WhileLink (i : ℕ) (s : Sketch) : Type 0 where
   routers : s.routers ≡ []
   number : length s.links ≡ i
 
-prefix_keeps : (i j : ℕ) (d : Data) (s t : Sketch) → 1 ≤ i → WhileLink i s → prefix_step i j d s ≡ Ok t → WhileLink i t
-prefix_keeps i j d s t some while h =
+prefix_keeps : (laws : TextLaws) (i j : ℕ) (d : Data) (s t : Sketch) → 1 ≤ i → WhileLink i s → prefix_step i j d s ≡ Ok t → WhileLink i t
+prefix_keeps laws i j d s t some while h =
     let taken = prefix_taken i j d s t h in
     let kept = while.kept in
     let number : length s.links ≡ i = while.number in
@@ -127,7 +132,7 @@ prefix_keeps i j d s t some while h =
         interfaces = kept.interfaces;
         inside = all_none _ s.interfaces while.interfaces;
         places = all_push (IsFitPlace (length s.links) (length s.routers)) s.places added kept.places
-            (record { prefix = (prefix_in-gives taken.text taken.prefix taken.parsed).0; seat = omega arith });
+            (record { prefix = laws.prefix taken.text taken.prefix taken.parsed; seat = omega arith });
         few_interfaces = kept.few_interfaces;
         few_places = omega (arith, length-append s.places (added ∷ []));
       };
@@ -136,8 +141,8 @@ prefix_keeps i j d s t some while h =
       number = while.number;
     })
 
-pub link_keeps : (n : ℕ) (d : Data) (s t : Sketch) → BetweenLinks n s → link_step n d s ≡ Ok t → BetweenLinks (n + 1) t
-link_keeps n d s t now h =
+pub link_keeps : (laws : TextLaws) (n : ℕ) (d : Data) (s t : Sketch) → BetweenLinks n s → link_step n d s ≡ Ok t → BetweenLinks (n + 1) t
+link_keeps laws n d s t now h =
     let taken = link_taken n d s t h in
     let kept = now.kept in
     let next : length s.links + 1 ≡ n = now.next in
@@ -145,7 +150,7 @@ link_keeps n d s t now h =
     let more : length u.links ≡ length s.links + 1 = omega (arith, length-append s.links (taken.name ∷ [])) in
     let start : WhileLink n u = record {
       kept = record {
-        link_names = all_push IsName s.links taken.name kept.link_names (is_name-gives taken.name (is_named (is_name taken.name) taken.named));
+        link_names = all_push IsName s.links taken.name kept.link_names (laws.name taken.name (is_named (is_name taken.name) taken.named));
         links_differ = distinct_push bytes_eq s.links taken.name kept.links_differ taken.fresh;
         router_names = kept.router_names;
         routers_differ = kept.routers_differ;
@@ -160,7 +165,7 @@ link_keeps n d s t now h =
       routers = now.routers;
       number = more ∙ next;
     } in
-    let end = steps_keep (prefix_step n) (λ _ v. WhileLink n v) (λ j x v w k e. prefix_keeps n j x v w (omega arith) k e) 1 taken.prefixes u t start taken.others (1 + length taken.prefixes) refl in
+    let end = steps_keep (prefix_step n) (λ _ v. WhileLink n v) (λ j x v w k e. prefix_keeps laws n j x v w (omega arith) k e) 1 taken.prefixes u t start taken.others (1 + length taken.prefixes) refl in
     record { kept = end.kept; interfaces = end.interfaces; routers = end.routers; next = ap (λ k. k + 1) end.number }
 
 -- ---- routers
@@ -176,8 +181,8 @@ record WhileRouter (count r : ℕ) (s : Sketch) : Type 0 where
   links : length s.links ≡ count
   number : length s.routers ≡ r
 
-interface_keeps : (links r j : ℕ) (d : Data) (s t : Sketch) → 1 ≤ r → WhileRouter links r s → interface_step r j d s ≡ Ok t → WhileRouter links r t
-interface_keeps links r j d s t some while h =
+interface_keeps : (laws : TextLaws) (links r j : ℕ) (d : Data) (s t : Sketch) → 1 ≤ r → WhileRouter links r s → interface_step r j d s ≡ Ok t → WhileRouter links r t
+interface_keeps laws links r j d s t some while h =
     let taken = interface_taken r j d s t h in
     let kept = while.kept in
     let number : length s.routers ≡ r = while.number in
@@ -196,7 +201,7 @@ interface_keeps links r j d s t some while h =
               most = costs.1;
               link = number_below taken.name s.links taken.link taken.known;
               router = omega arith;
-              address = (address_in-gives taken.text taken.address taken.parsed).0;
+              address = laws.address taken.text taken.address taken.parsed;
             });
         inside = all_push (IsInsideOf s.places) s.interfaces added kept.inside taken.inside;
         places = kept.places;
@@ -207,8 +212,8 @@ interface_keeps links r j d s t some while h =
       number = while.number;
     })
 
-own_keeps : (links r j : ℕ) (d : Data) (s t : Sketch) → 1 ≤ r → WhileRouter links r s → own_step r j d s ≡ Ok t → WhileRouter links r t
-own_keeps links r j d s t some while h =
+own_keeps : (laws : TextLaws) (links r j : ℕ) (d : Data) (s t : Sketch) → 1 ≤ r → WhileRouter links r s → own_step r j d s ≡ Ok t → WhileRouter links r t
+own_keeps laws links r j d s t some while h =
     let taken = own_taken r j d s t h in
     let kept = while.kept in
     let number : length s.routers ≡ r = while.number in
@@ -225,7 +230,7 @@ own_keeps links r j d s t some while h =
         inside = all_weaker (IsInsideOf s.places) (IsInsideOf (s.places ++ added ∷ []))
             (λ i e. outside_same i.interface.link i.interface.address s.places taken.prefix (r - 1) taken.cost added.place e) s.interfaces kept.inside;
         places = all_push (IsFitPlace (length s.links) (length s.routers)) s.places added kept.places
-            (record { prefix = (prefix_in-gives taken.text taken.prefix taken.parsed).0; seat = (omega arith, costs.0, costs.1) });
+            (record { prefix = laws.prefix taken.text taken.prefix taken.parsed; seat = (omega arith, costs.0, costs.1) });
         few_interfaces = kept.few_interfaces;
         few_places = omega (arith, length-append s.places (added ∷ []));
       };
@@ -233,8 +238,8 @@ own_keeps links r j d s t some while h =
       number = while.number;
     })
 
-pub router_keeps : (links n : ℕ) (d : Data) (s t : Sketch) → BetweenRouters links n s → router_step n d s ≡ Ok t → BetweenRouters links (n + 1) t
-router_keeps links n d s t now h =
+pub router_keeps : (laws : TextLaws) (links n : ℕ) (d : Data) (s t : Sketch) → BetweenRouters links n s → router_step n d s ≡ Ok t → BetweenRouters links (n + 1) t
+router_keeps laws links n d s t now h =
     let taken = router_taken n d s t h in
     let kept = now.kept in
     let next : length s.routers + 1 ≡ n = now.next in
@@ -244,7 +249,7 @@ router_keeps links n d s t now h =
       kept = record {
         link_names = kept.link_names;
         links_differ = kept.links_differ;
-        router_names = all_push IsName s.routers taken.name kept.router_names (is_name-gives taken.name (is_named (is_name taken.name) taken.named));
+        router_names = all_push IsName s.routers taken.name kept.router_names (laws.name taken.name (is_named (is_name taken.name) taken.named));
         routers_differ = distinct_push bytes_eq s.routers taken.name kept.routers_differ taken.fresh;
         interfaces = all_weaker (IsFit (length s.links) (length s.routers)) (IsFit (length s.links) (length u.routers))
             (λ i p. record { least = p.least; most = p.most; link = p.link; router = omega (arith, p.router, more); address = p.address }) s.interfaces kept.interfaces;
@@ -258,6 +263,6 @@ router_keeps links n d s t now h =
       number = more ∙ next;
     } in
     let some : 1 ≤ n = omega arith in
-    let between = steps_keep (interface_step n) (λ _ v. WhileRouter links n v) (λ j x v w k e. interface_keeps links n j x v w some k e) 1 taken.interfaces u taken.between start taken.first (1 + length taken.interfaces) refl in
-    let end = steps_keep (own_step n) (λ _ v. WhileRouter links n v) (λ j x v w k e. own_keeps links n j x v w some k e) 1 taken.owns taken.between t between taken.second (1 + length taken.owns) refl in
+    let between = steps_keep (interface_step n) (λ _ v. WhileRouter links n v) (λ j x v w k e. interface_keeps laws links n j x v w some k e) 1 taken.interfaces u taken.between start taken.first (1 + length taken.interfaces) refl in
+    let end = steps_keep (own_step n) (λ _ v. WhileRouter links n v) (λ j x v w k e. own_keeps laws links n j x v w some k e) 1 taken.owns taken.between t between taken.second (1 + length taken.owns) refl in
     record { kept = end.kept; links = end.links; next = ap (λ k. k + 1) end.number }

@@ -23,7 +23,7 @@ use Rattle.rip_plan.specs.Relations.{IsPrefix, IsInterface, HasAddress, IsPlace,
 use Rattle.rip_plan.proofs.Binds.{steps_keep}
 use Rattle.rip_plan.proofs.Items.{both, or_false, all_at, any_at, any_finds, distinct_at, get_seen, see_got, get_some}
 use Rattle.rip_plan.proofs.StepsTaken.{DocumentTaken, text_taken}
-use Rattle.rip_plan.proofs.FirstPass.{Kept, IsFit, IsFitPlace, IsFitSeat, IsInsideOf, BetweenLinks, BetweenRouters, link_keeps, router_keeps}
+use Rattle.rip_plan.proofs.FirstPass.{TextLaws, Kept, IsFit, IsFitPlace, IsFitSeat, IsInsideOf, BetweenLinks, BetweenRouters, link_keeps, router_keeps}
 use Rattle.rip_plan.proofs.Numbering.{numbers, same_from, same_self}
 use Rattle.rip_plan.proofs.Tables.{chosen}
 use Rattle.rip_plan.proofs.Lookups.{name_same, on_seat}
@@ -204,19 +204,19 @@ some_of_root : (doc : Members) (f : List Data × List Data) → root_fields doc 
 unfolding root_fields
 some_of_root doc f h = some_of_both (items_at (codes_of "link") doc) (items_at (codes_of "router") doc) f (chosen (keys_pass is_root_key doc) _ f h)
 
-good_document : (doc : Members) (s : Sketch) → DocumentTaken doc s → Good s
+good_document : (laws : TextLaws) (doc : Members) (s : Sketch) → DocumentTaken doc s → Good s
 unfolding IsDistinct
-good_document doc s taken =
+good_document laws doc s taken =
     let nothing : BetweenLinks 1 empty = record {
       kept = record { link_names = tt; links_differ = tt; router_names = tt; routers_differ = tt; interfaces = tt; inside = tt; places = tt; few_interfaces = omega arith; few_places = omega arith };
       interfaces = refl;
       routers = refl;
       next = refl;
     } in
-    let links = steps_keep link_step BetweenLinks link_keeps 1 taken.links empty taken.between nothing taken.first (1 + length taken.links) refl in
+    let links = steps_keep link_step BetweenLinks (link_keeps laws) 1 taken.links empty taken.between nothing taken.first (1 + length taken.links) refl in
     let counted : length taken.between.links ≡ length taken.links = omega (arith, links.next) in
     let start : BetweenRouters (length taken.links) 1 taken.between = record { kept = links.kept; links = counted; next = ap (λ (names : List (List ℕ)). length names + 1) links.routers } in
-    let end = steps_keep router_step (BetweenRouters (length taken.links)) (router_keeps (length taken.links)) 1 taken.routers taken.between s start taken.second (1 + length taken.routers) refl in
+    let end = steps_keep router_step (BetweenRouters (length taken.links)) (router_keeps laws (length taken.links)) 1 taken.routers taken.between s start taken.second (1 + length taken.routers) refl in
     let routers : length s.routers ≡ length taken.routers = omega (arith, end.next) in
     let some = some_of_root doc (taken.links, taken.routers) taken.root in
     let few = or_false (nat_lt 512 (length taken.links)) (nat_lt 128 (length taken.routers)) taken.room in
@@ -229,5 +229,5 @@ good_document doc s taken =
       few_routers = grind (arith, nat_tests, routers, few.1);
     }
 
-pub lawful : (bytes : List ℕ) (s : Sketch) → sketch_of bytes ≡ Ok s → IsLawful (network_of_sketch s)
-lawful bytes s h = let taken = text_taken bytes s h in lawful_network s (good_document taken.document s taken.taken)
+pub lawful : (laws : TextLaws) (bytes : List ℕ) (s : Sketch) → sketch_of bytes ≡ Ok s → IsLawful (network_of_sketch s)
+lawful laws bytes s h = let taken = text_taken bytes s h in lawful_network s (good_document laws taken.document s taken.taken)

@@ -1,4 +1,5 @@
-//! Laws of the definitions alone: functions without a body, whose contracts hold of every document.
+//! Laws of the definitions alone: functions that do nothing, whose contracts hold of every
+//! document.
 
 ghost use Rattle.std.specs.Prelude.{◌≡◌};
 ghost use Rattle.toml.specs.Data.{Members};

@@ -16,7 +16,7 @@ use crate::index;
 use crate::numbers::{interfaces_of, with_numbers};
 use crate::parts::{Interface, Place};
 use crate::reading::read_draft;
-use rip_wire::{Address, Prefix};
+use rip_wire::{Address, Prefix, laws};
 use std::alloc::{AllocError, Global};
 use std::collections::BTreeMap;
 use std::marker::Model;
@@ -88,6 +88,9 @@ fn plan_of(alloc: Global, draft: Draft) -> Result<Plan, AllocError>
 fn read_plan(alloc: Global, bytes: &[u8]) -> Result<Plan, ReadError>
     ensures { Gives (λ plan. plan) result (network_in bytes.now) }
 {
+    laws::names();
+    laws::address_texts();
+    laws::prefix_texts();
     let draft = read_draft(alloc, bytes)?;
     Ok(plan_of(alloc, draft)?)
 }
