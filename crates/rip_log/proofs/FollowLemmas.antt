@@ -15,36 +15,11 @@ use Rattle.rip_log.specs.declared.error.LogCode.{LogCode}
 use Rattle.rip_log.specs.declared.error.LogCode.TheVariants.{LongLine, TooManyLines}
 use Rattle.rip_log.specs.declared.error.LogError.{LogError}
 use Rattle.rip_log.proofs.LineRelations.{AreLines-lines_of, lines_of-AreLines}
-use Rattle.rip_log.proofs.LogRelations.{onto_all, IsOutcome, FaultIn, outcome, log-before, log-fault, some-log, log_in-LogFault, LogFault-log_in}
-
-fault-of : (n : ℕ) (lines : List (List ℕ)) (e : LogError) → n ≤ 1000000 → (log_of n lines).fault ≡ Some e → FaultIn n lines (log_of n lines).records e
-fault-of n lines e few h = subst (λ (f : Option LogError). IsOutcome n lines (log_of n lines).records f) h (outcome n lines few)
-
-none-of : (n : ℕ) (lines : List (List ℕ)) → n ≤ 1000000 → (log_of n lines).fault ≡ None → AreRecords n lines (log_of n lines).records × (n + length lines ≤ 1000000)
-none-of n lines few h = subst (λ (f : Option LogError). IsOutcome n lines (log_of n lines).records f) h (outcome n lines few)
+use Rattle.rip_log.proofs.LogRelations.{Judges, onto_all, IsOutcome, FaultIn, outcome, log-before, log-fault, some-log, log_in-LogFault, LogFault-log_in}
 
 fault-place : (n : ℕ) (lines : List (List ℕ)) (e : LogError) (b : FaultIn n lines (log_of n lines).records e) → (n < e.line) × (e.line ≤ n + length lines)
 fault-place n lines e b =
     (omega (arith, b.number), omega (arith, b.number, ap length b.split, length-append b.before (b.bad ∷ b.after)))
-
--- a fault of the first lines is that of all
-fault-first : (n : ℕ) (lines more : List (List ℕ)) (e : LogError) → n ≤ 1000000 → (log_of n lines).fault ≡ Some e → log_of n (lines ++ more) ≡ log_of n lines
-fault-first n lines more e few h =
-    let b = fault-of n lines e few h in
-    ap (λ l. log_of n (l ++ more)) b.split
-    ∙ ap (log_of n) (append_assoc b.before (b.bad ∷ b.after) more)
-    ∙ log-fault n b.before b.bad (b.after ++ more) _ e b.are_records b.number b.fault
-    ∙ sym (log-fault n b.before b.bad b.after _ e b.are_records b.number b.fault)
-    ∙ sym (ap (log_of n) b.split)
-
--- a fault in the first lines is there whatever the others are
-whatever : (lines more others : List (List ℕ)) (e : LogError) (f : Option LogError) → (log_of 0 lines).fault ≡ f → (log_of 0 (lines ++ more)).fault ≡ Some e → e.line ≤ length lines
-    → log_of 0 (lines ++ others) ≡ log_of 0 (lines ++ more)
-whatever lines more others e None h told near =
-    let none = none-of 0 lines (omega arith) h in
-    let later : (log_of (0 + length lines) more).fault ≡ Some e = sym (ap (λ (l : Log). l.fault) (log-before 0 lines more _ none.1 none.0)) ∙ told in
-    absurd (omega (arith, near, (fault-place (0 + length lines) more e (fault-of (0 + length lines) more e none.1 later)).0))
-whatever lines more others e (Some f) h told near = fault-first 0 lines others f (omega arith) h ∙ sym (fault-first 0 lines more f (omega arith) h)
 
 -- the lines of a text that a line feed ends, and those that follow
 onto-front : (b : ℕ) (front more : List (List ℕ)) → front ≢ [] → onto b (front ++ more) ≡ onto b front ++ more
@@ -72,17 +47,6 @@ lines_of-after [] more = refl
 lines_of-after (b ∷ text) more =
     ap (λ (l : List (List ℕ)). cond (b == 10) ([] ∷ l) (onto b l)) (lines_of-after text more)
     ∙ first-with b (b == 10) (lines_of (text ++ (10 ∷ []))) (lines_of more) (some-line text [])
-
-pub LogFault-ended : (text more others : List ℕ) (lines : List (List ℕ)) (records : List Numbered) (line : ℕ) (code : LogCode) → AreLines (text ++ (10 ∷ [])) lines → line ≤ length lines
-    → LogFault (text ++ (10 ∷ more)) records line code → LogFault (text ++ (10 ∷ others)) records line code
-LogFault-ended text more others lines records line code are near is =
-    let e : LogError = record { line = line; code = code } in
-    let front = lines_of (text ++ (10 ∷ [])) in
-    let all : log_of 0 (front ++ lines_of more) ≡ record { records = records; fault = Some e } =
-    sym (ap (log_of 0) (lines_of-after text more)) ∙ some-log _ _ (log_in-LogFault (text ++ (10 ∷ more)) records e is) in
-    let within : line ≤ length front = omega (arith, near, ap length (lines_of-AreLines _ lines are)) in
-    let same = whatever front (lines_of more) (lines_of others) e (log_of 0 front).fault refl (ap (λ (l : Log). l.fault) all) within in
-    LogFault-log_in (text ++ (10 ∷ others)) records e (ap Some (ap (log_of 0) (lines_of-after text others) ∙ same ∙ all))
 
 -- a line of a text that goes on: the same line or a longer one, after the same lines
 record Longer (all : List (List ℕ)) (before : List (List ℕ)) (line : List ℕ) : Type 0 where
@@ -180,37 +144,74 @@ LogFault-at_once text more records line code which is =
       fault = fault-longer (length is.before) is.bad found.whole code which found.long is.fault;
     }
 
--- the records that were taken are those of the lines that were passed
-records-passed : (passed rest : List (List ℕ)) (taken : List Numbered) (f : Option LogError) → 0 + length passed ≤ 1000000 → (log_of 0 passed).fault ≡ f → log_of 0 (passed ++ rest) ≡ onto_all taken (log_of (0 + length passed) rest)
-    → AreRecords 0 passed taken
-records-passed passed rest taken None few h e =
-    let none = none-of 0 passed (omega arith) h in
-    let all = ap (λ (l : Log). l.records) (sym (log-before 0 passed rest _ none.1 none.0) ∙ e) in
-    subst (AreRecords 0 passed) (append_cancel_right (log_of 0 passed).records taken (log_of (0 + length passed) rest).records all) none.0
-records-passed passed rest taken (Some f) few h e =
-    let later : (log_of (0 + length passed) rest).fault ≡ Some f = sym (ap (λ (l : Log). l.fault) (sym (fault-first 0 passed rest f (omega arith) h) ∙ e)) ∙ h in
-    absurd (omega (arith, (fault-place 0 passed f (fault-of 0 passed f (omega arith) h)).1, (fault-place (0 + length passed) rest f (fault-of (0 + length passed) rest f few later)).0))
-
 read-same : (P Q : Type 0) (x : Bool) → x ≡ true → Whether x P Q → P
 read-same P Q true e w = w
 read-same P Q false e w = cc e
 
-pub IsTaken-read : (text left : List ℕ) (taken : List Numbered) (log rest : Log) (n : ℕ) (e : LogError) → log_in (Some text) ≡ Some log → IsTaken taken log rest → is_read e.code ≡ true
-    → Gives capture_of line_of (Some rest) (log_at n (Some left)) (Err e) → PassesLines (Some text) 0 (Some left) n → n ≤ 1000000 → LogCut text left taken (n + 1)
-IsTaken-read text left taken log rest n e told is failed gives passes few =
-    let same : log_of n (lines_of left) ≡ rest = some-log _ _ (read-same _ _ (is_read e.code) failed gives) in
-    let count : n ≡ 0 + length passes.0 = omega (arith, passes.2) in
-    let all : log_of 0 (passes.0 ++ lines_of left) ≡ onto_all taken (log_of (0 + length passes.0) (lines_of left)) =
-    sym (ap (log_of 0) passes.1)
-    ∙ some-log _ _ told
-    ∙ is
-    ∙ ap (onto_all taken) (sym same)
-    ∙ ap (λ (k : ℕ). onto_all taken (log_of k (lines_of left))) count in
-    record {
-      before = passes.0;
-      after = lines_of left;
-      are_lines = subst (AreLines text) passes.1 (AreLines-lines_of text);
-      to_come = AreLines-lines_of left;
-      are_records = records-passed passes.0 (lines_of left) taken (log_of 0 passes.0).fault (omega (arith, few, count)) refl all;
-      number = omega (arith, count);
-    }
+module _ (judges : Judges) where
+  fault-of : (n : ℕ) (lines : List (List ℕ)) (e : LogError) → n ≤ 1000000 → (log_of n lines).fault ≡ Some e → FaultIn n lines (log_of n lines).records e
+  fault-of n lines e few h = subst (λ (f : Option LogError). IsOutcome n lines (log_of n lines).records f) h (outcome judges n lines few)
+
+  none-of : (n : ℕ) (lines : List (List ℕ)) → n ≤ 1000000 → (log_of n lines).fault ≡ None → AreRecords n lines (log_of n lines).records × (n + length lines ≤ 1000000)
+  none-of n lines few h = subst (λ (f : Option LogError). IsOutcome n lines (log_of n lines).records f) h (outcome judges n lines few)
+
+  -- a fault of the first lines is that of all
+  fault-first : (n : ℕ) (lines more : List (List ℕ)) (e : LogError) → n ≤ 1000000 → (log_of n lines).fault ≡ Some e → log_of n (lines ++ more) ≡ log_of n lines
+  fault-first n lines more e few h =
+      let b = fault-of n lines e few h in
+      ap (λ l. log_of n (l ++ more)) b.split
+      ∙ ap (log_of n) (append_assoc b.before (b.bad ∷ b.after) more)
+      ∙ log-fault judges n b.before b.bad (b.after ++ more) _ e b.are_records b.number b.fault
+      ∙ sym (log-fault judges n b.before b.bad b.after _ e b.are_records b.number b.fault)
+      ∙ sym (ap (log_of n) b.split)
+
+  -- a fault in the first lines is there whatever the others are
+  whatever : (lines more others : List (List ℕ)) (e : LogError) (f : Option LogError) → (log_of 0 lines).fault ≡ f → (log_of 0 (lines ++ more)).fault ≡ Some e → e.line ≤ length lines
+      → log_of 0 (lines ++ others) ≡ log_of 0 (lines ++ more)
+  whatever lines more others e None h told near =
+      let none = none-of 0 lines (omega arith) h in
+      let later : (log_of (0 + length lines) more).fault ≡ Some e = sym (ap (λ (l : Log). l.fault) (log-before judges 0 lines more _ none.1 none.0)) ∙ told in
+      absurd (omega (arith, near, (fault-place (0 + length lines) more e (fault-of (0 + length lines) more e none.1 later)).0))
+  whatever lines more others e (Some f) h told near = fault-first 0 lines others f (omega arith) h ∙ sym (fault-first 0 lines more f (omega arith) h)
+
+  pub LogFault-ended : (text more others : List ℕ) (lines : List (List ℕ)) (records : List Numbered) (line : ℕ) (code : LogCode) → AreLines (text ++ (10 ∷ [])) lines → line ≤ length lines
+      → LogFault (text ++ (10 ∷ more)) records line code → LogFault (text ++ (10 ∷ others)) records line code
+  LogFault-ended text more others lines records line code are near is =
+      let e : LogError = record { line = line; code = code } in
+      let front = lines_of (text ++ (10 ∷ [])) in
+      let all : log_of 0 (front ++ lines_of more) ≡ record { records = records; fault = Some e } =
+      sym (ap (log_of 0) (lines_of-after text more)) ∙ some-log _ _ (log_in-LogFault judges (text ++ (10 ∷ more)) records e is) in
+      let within : line ≤ length front = omega (arith, near, ap length (lines_of-AreLines _ lines are)) in
+      let same = whatever front (lines_of more) (lines_of others) e (log_of 0 front).fault refl (ap (λ (l : Log). l.fault) all) within in
+      LogFault-log_in judges (text ++ (10 ∷ others)) records e (ap Some (ap (log_of 0) (lines_of-after text others) ∙ same ∙ all))
+
+  -- the records that were taken are those of the lines that were passed
+  records-passed : (passed rest : List (List ℕ)) (taken : List Numbered) (f : Option LogError) → 0 + length passed ≤ 1000000 → (log_of 0 passed).fault ≡ f → log_of 0 (passed ++ rest) ≡ onto_all taken (log_of (0 + length passed) rest)
+      → AreRecords 0 passed taken
+  records-passed passed rest taken None few h e =
+      let none = none-of 0 passed (omega arith) h in
+      let all = ap (λ (l : Log). l.records) (sym (log-before judges 0 passed rest _ none.1 none.0) ∙ e) in
+      subst (AreRecords 0 passed) (append_cancel_right (log_of 0 passed).records taken (log_of (0 + length passed) rest).records all) none.0
+  records-passed passed rest taken (Some f) few h e =
+      let later : (log_of (0 + length passed) rest).fault ≡ Some f = sym (ap (λ (l : Log). l.fault) (sym (fault-first 0 passed rest f (omega arith) h) ∙ e)) ∙ h in
+      absurd (omega (arith, (fault-place 0 passed f (fault-of 0 passed f (omega arith) h)).1, (fault-place (0 + length passed) rest f (fault-of (0 + length passed) rest f few later)).0))
+
+  pub IsTaken-read : (text left : List ℕ) (taken : List Numbered) (log rest : Log) (n : ℕ) (e : LogError) → log_in (Some text) ≡ Some log → IsTaken taken log rest → is_read e.code ≡ true
+      → Gives capture_of line_of (Some rest) (log_at n (Some left)) (Err e) → PassesLines (Some text) 0 (Some left) n → n ≤ 1000000 → LogCut text left taken (n + 1)
+  IsTaken-read text left taken log rest n e told is failed gives passes few =
+      let same : log_of n (lines_of left) ≡ rest = some-log _ _ (read-same _ _ (is_read e.code) failed gives) in
+      let count : n ≡ 0 + length passes.0 = omega (arith, passes.2) in
+      let all : log_of 0 (passes.0 ++ lines_of left) ≡ onto_all taken (log_of (0 + length passes.0) (lines_of left)) =
+      sym (ap (log_of 0) passes.1)
+      ∙ some-log _ _ told
+      ∙ is
+      ∙ ap (onto_all taken) (sym same)
+      ∙ ap (λ (k : ℕ). onto_all taken (log_of k (lines_of left))) count in
+      record {
+        before = passes.0;
+        after = lines_of left;
+        are_lines = subst (AreLines text) passes.1 (AreLines-lines_of text);
+        to_come = AreLines-lines_of left;
+        are_records = records-passed passes.0 (lines_of left) taken (log_of 0 passes.0).fault (omega (arith, few, count)) refl all;
+        number = omega (arith, count);
+      }

@@ -1,18 +1,15 @@
 -- What a line says is what is computed.
-use Rattle.std.proofs.Common.{◌≡◌, ◌≢◌, ◌≤◌, ◌<◌, ℕ, Bool, true, false, cond, List, [], ◌∷◌, length, Option, Some, None, Result, Ok, Err, refl, ap, subst, ◌∙◌, arith, eqb-true}
+use Rattle.std.proofs.Common.{◌≡◌, ◌≢◌, ◌≤◌, ◌<◌, ◌^◌, ◌↔◌, ℕ, Bool, true, false, cond, List, [], ◌∷◌, length, Option, Some, None, Result, Ok, Err, refl, ap, subst, ◌∙◌, arith, eqb-true}
 use Rattle.std.specs.Prelude.{nat_lt}
 use Rattle.std.specs.Io.BufRead.{strip_last}
 use Rattle.hex.specs.Hex.{decode_of}
 use Rattle.hex.specs.declared.error.FromHexError.{FromHexError}
-use Rattle.rip_wire.specs.Address.{address_in}
+use Rattle.rip_wire.specs.Address.{address_in, address_text}
 use Rattle.rip_wire.specs.Faults.{WireFault}
 use Rattle.rip_wire.specs.Message.{Message, message_in}
 use Rattle.rip_wire.specs.Name.{IsName, is_name}
 use Rattle.rip_wire.specs.declared.error.WireError.{WireError}
 use Rattle.rip_wire.specs.declared.error.WireCode.{WireCode}
-use Rattle.rip_wire.proofs.FaultLemmas.{wire_fault, wire_fault_told}
-use Rattle.rip_wire.proofs.Names.{is_name-gives, is_name-holds}
-use Rattle.rip_wire.proofs.Parsing.{address_in-gives, address_in-finds}
 use Rattle.rip_log.proofs.FieldRelations.{AreFields-fields_of, fields_of-AreFields, IsBare-strip_last, strip_last-IsBare}
 use Rattle.rip_log.specs.Fields.{fields_of, is_comment}
 use Rattle.rip_log.specs.Lines.{Capture, sized, bytes_of, checked, capture_in, with_sender, three_fields, said_by, unless_skipped, judge_short, judge}
@@ -21,6 +18,12 @@ use Rattle.rip_log.proofs.DigitLemmas.{sized-long}
 use Rattle.rip_log.proofs.JudgeLemmas.{judge-long, judge-short}
 use Rattle.rip_log.specs.declared.line.LineCode.{LineCode}
 use Rattle.rip_log.specs.declared.line.LineCode.TheVariants as codes
+
+-- the laws of names, of addresses and of the faults of bytes
+pub record WireLaws : Type 0 where
+  pub names : (text : List ℕ) → (is_name text ≡ true) ↔ IsName text
+  pub addresses : (text : List ℕ) (a : ℕ) → (address_in text ≡ Some a) ↔ ((a < 2 ^ 32) × (text ≡ address_text a))
+  pub faults : (b : List ℕ) (code : WireCode) (at : ℕ) → (message_in b ≡ Err (record { code = code; at = at })) ↔ WireFault b code at
 
 -- the fields that are computed are those of the line
 HasFields-line : (line : List ℕ) → length line ≤ 2048 → HasFields line (fields_of (strip_last 13 line))
@@ -46,62 +49,14 @@ comment-no : (first : List ℕ) (rest : List (List ℕ)) (x : Bool) → is_comme
 comment-no first rest true e says = absurd (says (says-yes first rest e))
 comment-no first rest false e says = refl
 
--- from the computed to the words
-no_fault : (bytes : List ℕ) (m : Message) → message_in bytes ≡ Ok m → (code : WireCode) (at : ℕ) → ¬ WireFault bytes code at
-no_fault bytes m e code at fault = cc (e, wire_fault_told bytes code at fault)
-
-says-checked : (line link digits bytes : List ℕ) (sender : ℕ) (r : Result Message WireError) → HasSender line link digits sender → decode_of digits ≡ Ok bytes → length bytes ≤ 504 → message_in bytes ≡ r
-    → IsJudged line (checked link sender bytes r)
-says-checked line link digits bytes sender (Ok m) front e few read = record { digits = digits; front = front; bytes = e; few = few; no_fault = no_fault bytes m read }
-says-checked line link digits bytes sender (Err f) front e few read = (link, digits, bytes, sender, front, e, few, wire_fault bytes f read)
-
 few-of : (bytes : List ℕ) → nat_lt 504 (length bytes) ≡ false → length bytes ≤ 504
 few-of bytes h = grind arith
 
 many-of : (bytes : List ℕ) → nat_lt 504 (length bytes) ≡ true → 504 < length bytes
 many-of bytes h = grind arith
 
-says-sized : (line link digits bytes : List ℕ) (sender : ℕ) (x : Bool) → HasSender line link digits sender → decode_of digits ≡ Ok bytes → nat_lt 504 (length bytes) ≡ x
-    → IsJudged line (capture_in link sender (cond x (Err codes.LongDatagram) (Ok bytes)))
-says-sized line link digits bytes sender true front e h = (link, digits, bytes, sender, front, e, many-of bytes h)
-says-sized line link digits bytes sender false front e h = says-checked line link digits bytes sender (message_in bytes) front e (few-of bytes h) refl
-
-says-digits : (line link digits : List ℕ) (sender : ℕ) (r : Result (List ℕ) FromHexError) → HasSender line link digits sender → decode_of digits ≡ r → IsJudged line (capture_in link sender (sized r))
-says-digits line link digits sender (Ok bytes) front e = says-sized line link digits bytes sender (nat_lt 504 (length bytes)) front e refl
-says-digits line link digits sender (Err f) front e = (link, digits, sender, front, λ bytes is. cc (e, is))
-
-says-sender : (line link sender digits : List ℕ) (o : Option ℕ) → HasThree line link sender digits → IsName link → address_in sender ≡ o → IsJudged line (with_sender link o digits)
-says-sender line link sender digits None three name e =
-    (link, sender, digits, three, name, λ address is. cc (e, address_in-finds sender address is.fits is.spelled))
-says-sender line link sender digits (Some a) three name e =
-    let found = address_in-gives sender a e in
-    says-digits line link digits a (decode_of digits) (record { sender = sender; three = three; name = name; is_sender = record { fits = found.0; spelled = found.1 } }) refl
-
-no-name : (link : List ℕ) → is_name link ≡ false → ¬ IsName link
-no-name link e is = cc (e, is_name-holds link is)
-
-says-three : (line link sender digits : List ℕ) (x : Bool) → HasThree line link sender digits → is_name link ≡ x
-    → IsJudged line (cond x (with_sender link (address_in sender) digits) (Err codes.LinkName))
-says-three line link sender digits true three e = says-sender line link sender digits (address_in sender) three (is_name-gives link e) refl
-says-three line link sender digits false three e = (link, sender, digits, three, no-name link e)
-
 others : (line : List ℕ) (fields : List (List ℕ)) → HasFields line fields → ¬ SaysNothing fields → length fields ≢ 3 → HasOthers line
 others line fields has says count = record { fields = fields; has_fields = has; says = says; count = count }
-
-says-said : (line : List ℕ) (fields : List (List ℕ)) → HasFields line fields → ¬ SaysNothing fields → IsJudged line (said_by fields)
-says-said line [] has says = absurd (says tt)
-says-said line (a ∷ []) has says = others line (a ∷ []) has says (λ e. omega (arith, e))
-says-said line (a ∷ b ∷ []) has says = others line (a ∷ b ∷ []) has says (λ e. omega (arith, e))
-says-said line (a ∷ b ∷ c ∷ []) has says = says-three line a b c (is_name a) (record { has_fields = has; says = says }) refl
-says-said line (a ∷ b ∷ c ∷ d ∷ more) has says = others line (a ∷ b ∷ c ∷ d ∷ more) has says (λ e. omega (arith, e))
-
-says-comment : (line first : List ℕ) (rest : List (List ℕ)) (x : Bool) → HasFields line (first ∷ rest) → is_comment (first ∷ rest) ≡ x → IsJudged line (cond x (Ok None) (said_by (first ∷ rest)))
-says-comment line first rest true has e = record { fields = first ∷ rest; has_fields = has; says_nothing = says-yes first rest e }
-says-comment line first rest false has e = says-said line (first ∷ rest) has (says-no first rest e)
-
-says-fields : (line : List ℕ) (fields : List (List ℕ)) → HasFields line fields → IsJudged line (unless_skipped fields)
-says-fields line [] has = record { fields = []; has_fields = has; says_nothing = tt }
-says-fields line (first ∷ rest) has = says-comment line first rest (is_comment (first ∷ rest)) has refl
 
 short-of : (line : List ℕ) → nat_lt 2048 (length line) ≡ false → length line ≤ 2048
 short-of line h = grind arith
@@ -109,17 +64,7 @@ short-of line h = grind arith
 long-of : (line : List ℕ) → nat_lt 2048 (length line) ≡ true → 2048 < length line
 long-of line h = grind arith
 
-says-line : (line : List ℕ) (x : Bool) → nat_lt 2048 (length line) ≡ x → IsJudged line (cond x (Err codes.LongLine) (judge_short line))
-says-line line true e = long-of line e
-says-line line false e = says-fields line (fields_of (strip_last 13 line)) (HasFields-line line (short-of line e))
-
-pub IsJudged-judge : (line : List ℕ) → IsJudged line (judge line)
-IsJudged-judge line = says-line line (nat_lt 2048 (length line)) refl
-
-pub judged-line : (line : List ℕ) (judged : Result (Option Capture) LineCode) → judge line ≡ judged → IsJudged line judged
-judged-line line judged e = subst (IsJudged line) e (IsJudged-judge line)
-
--- from the words to the computed
+-- what is computed of a line with these fields
 judge-fields : (line : List ℕ) (fields : List (List ℕ)) → HasFields line fields → judge line ≡ unless_skipped fields
 judge-fields line fields has = judge-short line has.short ∙ ap unless_skipped (fields-same line fields has)
 
@@ -142,25 +87,6 @@ judge-three : (line link sender digits : List ℕ) → HasThree line link sender
 judge-three line link sender digits three =
     judge-fields line (link ∷ sender ∷ digits ∷ []) three.has_fields ∙ said-fields (link ∷ sender ∷ digits ∷ []) three.says
 
-name-no : (link : List ℕ) (x : Bool) → is_name link ≡ x → ¬ IsName link → x ≡ false
-name-no link true e is = absurd (is (is_name-gives link e))
-name-no link false e is = refl
-
-address-no : (sender : List ℕ) (o : Option ℕ) → address_in sender ≡ o → ((address : ℕ) → ¬ IsSender sender address) → o ≡ None
-address-no sender None e none = refl
-address-no sender (Some a) e none =
-    let found = address_in-gives sender a e in
-    absurd (none a (record { fits = found.0; spelled = found.1 }))
-
-three-named : (link sender digits : List ℕ) → IsName link → three_fields link sender digits ≡ with_sender link (address_in sender) digits
-three-named link sender digits name = ap (λ (x : Bool). cond x (with_sender link (address_in sender) digits) (Err codes.LinkName)) (is_name-holds link name)
-
-judge-sender : (line link digits : List ℕ) (address : ℕ) → HasSender line link digits address → judge line ≡ capture_in link address (bytes_of digits)
-judge-sender line link digits address front =
-    judge-three line link front.sender digits front.three
-    ∙ three-named link front.sender digits front.name
-    ∙ ap (λ (o : Option ℕ). with_sender link o digits) (address_in-finds front.sender address front.is_sender.fits front.is_sender.spelled)
-
 sized-bad : (r : Result (List ℕ) FromHexError) → ((bytes : List ℕ) → r ≢ Ok bytes) → sized r ≡ Err codes.Hex
 sized-bad (Ok bytes) none = absurd (none bytes refl)
 sized-bad (Err f) none = refl
@@ -168,32 +94,111 @@ sized-bad (Err f) none = refl
 sized-few : (bytes : List ℕ) → length bytes ≤ 504 → sized (Ok bytes) ≡ Ok bytes
 sized-few bytes h = grind arith
 
-checked-none : (link bytes : List ℕ) (sender : ℕ) (r : Result Message WireError) → message_in bytes ≡ r → ((code : WireCode) (at : ℕ) → ¬ WireFault bytes code at)
-    → checked link sender bytes r ≡ Ok (Some (record { link = link; sender = sender; datagram = bytes }))
-checked-none link bytes sender (Ok m) e none = refl
-checked-none link bytes sender (Err f) e none = absurd (none f.code f.at (wire_fault bytes f e))
+module _ (laws : WireLaws) where
+  -- from the computed to the words
+  no_fault : (bytes : List ℕ) (m : Message) → message_in bytes ≡ Ok m → (code : WireCode) (at : ℕ) → ¬ WireFault bytes code at
+  no_fault bytes m e code at fault = cc (e, (laws.faults bytes code at).1 fault)
 
-judge-bytes : (line link digits bytes : List ℕ) (address : ℕ) → HasSender line link digits address → decode_of digits ≡ Ok bytes → length bytes ≤ 504 → judge line ≡ checked link address bytes (message_in bytes)
-judge-bytes line link digits bytes address front e few =
-    judge-sender line link digits address front ∙ ap (capture_in link address) (ap sized e ∙ sized-few bytes few)
+  says-checked : (line link digits bytes : List ℕ) (sender : ℕ) (r : Result Message WireError) → HasSender line link digits sender → decode_of digits ≡ Ok bytes → length bytes ≤ 504 → message_in bytes ≡ r
+      → IsJudged line (checked link sender bytes r)
+  says-checked line link digits bytes sender (Ok m) front e few read = record { digits = digits; front = front; bytes = e; few = few; no_fault = no_fault bytes m read }
+  says-checked line link digits bytes sender (Err f) front e few read = (link, digits, bytes, sender, front, e, few, (laws.faults bytes f.code f.at).0 read)
 
-bad-line : (line : List ℕ) (code : LineCode) → IsBad line code → judge line ≡ Err code
-bad-line line codes.LongLine bad = judge-long line bad
-bad-line line codes.Fields bad = judge-fields line bad.fields bad.has_fields ∙ said-fields bad.fields bad.says ∙ said-others bad.fields bad.count
-bad-line line codes.LinkName bad =
-    judge-three line bad.0 bad.1 bad.2 bad.3
-    ∙ ap (λ (x : Bool). cond x (with_sender bad.0 (address_in bad.1) bad.2) (Err codes.LinkName)) (name-no bad.0 (is_name bad.0) refl bad.4)
-bad-line line codes.Sender bad =
-    judge-three line bad.0 bad.1 bad.2 bad.3
-    ∙ three-named bad.0 bad.1 bad.2 bad.4
-    ∙ ap (λ (o : Option ℕ). with_sender bad.0 o bad.2) (address-no bad.1 (address_in bad.1) refl bad.5)
-bad-line line codes.Hex bad = judge-sender line bad.0 bad.1 bad.2 bad.3 ∙ ap (capture_in bad.0 bad.2) (sized-bad (decode_of bad.1) bad.4)
-bad-line line codes.LongDatagram bad = judge-sender line bad.0 bad.1 bad.3 bad.4 ∙ ap (capture_in bad.0 bad.3) (ap sized bad.5 ∙ sized-long bad.2 bad.6)
-bad-line line (codes.Wire f) bad = judge-bytes line bad.0 bad.1 bad.2 bad.3 bad.4 bad.5 bad.6 ∙ ap (checked bad.0 bad.3 bad.2) (wire_fault_told bad.2 f.code f.at bad.7)
+  says-sized : (line link digits bytes : List ℕ) (sender : ℕ) (x : Bool) → HasSender line link digits sender → decode_of digits ≡ Ok bytes → nat_lt 504 (length bytes) ≡ x
+      → IsJudged line (capture_in link sender (cond x (Err codes.LongDatagram) (Ok bytes)))
+  says-sized line link digits bytes sender true front e h = (link, digits, bytes, sender, front, e, many-of bytes h)
+  says-sized line link digits bytes sender false front e h = says-checked line link digits bytes sender (message_in bytes) front e (few-of bytes h) refl
 
-pub judge-IsJudged : (line : List ℕ) (r : Result (Option Capture) LineCode) → IsJudged line r → judge line ≡ r
-judge-IsJudged line (Ok None) skipped = judge-fields line skipped.fields skipped.has_fields ∙ skipped-fields skipped.fields skipped.says_nothing
-judge-IsJudged line (Ok (Some capture)) is =
-    judge-bytes line capture.link is.digits capture.datagram capture.sender is.front is.bytes is.few
-    ∙ checked-none capture.link capture.datagram capture.sender (message_in capture.datagram) refl is.no_fault
-judge-IsJudged line (Err code) bad = bad-line line code bad
+  says-digits : (line link digits : List ℕ) (sender : ℕ) (r : Result (List ℕ) FromHexError) → HasSender line link digits sender → decode_of digits ≡ r → IsJudged line (capture_in link sender (sized r))
+  says-digits line link digits sender (Ok bytes) front e = says-sized line link digits bytes sender (nat_lt 504 (length bytes)) front e refl
+  says-digits line link digits sender (Err f) front e = (link, digits, sender, front, λ bytes is. cc (e, is))
+
+  says-sender : (line link sender digits : List ℕ) (o : Option ℕ) → HasThree line link sender digits → IsName link → address_in sender ≡ o → IsJudged line (with_sender link o digits)
+  says-sender line link sender digits None three name e =
+      (link, sender, digits, three, name, λ address is. cc (e, (laws.addresses sender address).1 (is.fits, is.spelled)))
+  says-sender line link sender digits (Some a) three name e =
+      let found = (laws.addresses sender a).0 e in
+      says-digits line link digits a (decode_of digits) (record { sender = sender; three = three; name = name; is_sender = record { fits = found.0; spelled = found.1 } }) refl
+
+  no-name : (link : List ℕ) → is_name link ≡ false → ¬ IsName link
+  no-name link e is = cc (e, (laws.names link).1 is)
+
+  says-three : (line link sender digits : List ℕ) (x : Bool) → HasThree line link sender digits → is_name link ≡ x
+      → IsJudged line (cond x (with_sender link (address_in sender) digits) (Err codes.LinkName))
+  says-three line link sender digits true three e = says-sender line link sender digits (address_in sender) three ((laws.names link).0 e) refl
+  says-three line link sender digits false three e = (link, sender, digits, three, no-name link e)
+
+  says-said : (line : List ℕ) (fields : List (List ℕ)) → HasFields line fields → ¬ SaysNothing fields → IsJudged line (said_by fields)
+  says-said line [] has says = absurd (says tt)
+  says-said line (a ∷ []) has says = others line (a ∷ []) has says (λ e. omega (arith, e))
+  says-said line (a ∷ b ∷ []) has says = others line (a ∷ b ∷ []) has says (λ e. omega (arith, e))
+  says-said line (a ∷ b ∷ c ∷ []) has says = says-three line a b c (is_name a) (record { has_fields = has; says = says }) refl
+  says-said line (a ∷ b ∷ c ∷ d ∷ more) has says = others line (a ∷ b ∷ c ∷ d ∷ more) has says (λ e. omega (arith, e))
+
+  says-comment : (line first : List ℕ) (rest : List (List ℕ)) (x : Bool) → HasFields line (first ∷ rest) → is_comment (first ∷ rest) ≡ x → IsJudged line (cond x (Ok None) (said_by (first ∷ rest)))
+  says-comment line first rest true has e = record { fields = first ∷ rest; has_fields = has; says_nothing = says-yes first rest e }
+  says-comment line first rest false has e = says-said line (first ∷ rest) has (says-no first rest e)
+
+  says-fields : (line : List ℕ) (fields : List (List ℕ)) → HasFields line fields → IsJudged line (unless_skipped fields)
+  says-fields line [] has = record { fields = []; has_fields = has; says_nothing = tt }
+  says-fields line (first ∷ rest) has = says-comment line first rest (is_comment (first ∷ rest)) has refl
+
+  says-line : (line : List ℕ) (x : Bool) → nat_lt 2048 (length line) ≡ x → IsJudged line (cond x (Err codes.LongLine) (judge_short line))
+  says-line line true e = long-of line e
+  says-line line false e = says-fields line (fields_of (strip_last 13 line)) (HasFields-line line (short-of line e))
+
+  IsJudged-judge : (line : List ℕ) → IsJudged line (judge line)
+  IsJudged-judge line = says-line line (nat_lt 2048 (length line)) refl
+
+  pub judged-line : (line : List ℕ) (judged : Result (Option Capture) LineCode) → judge line ≡ judged → IsJudged line judged
+  judged-line line judged e = subst (IsJudged line) e (IsJudged-judge line)
+
+  -- from the words to the computed
+  name-no : (link : List ℕ) (x : Bool) → is_name link ≡ x → ¬ IsName link → x ≡ false
+  name-no link true e is = absurd (is ((laws.names link).0 e))
+  name-no link false e is = refl
+
+  address-no : (sender : List ℕ) (o : Option ℕ) → address_in sender ≡ o → ((address : ℕ) → ¬ IsSender sender address) → o ≡ None
+  address-no sender None e none = refl
+  address-no sender (Some a) e none =
+      let found = (laws.addresses sender a).0 e in
+      absurd (none a (record { fits = found.0; spelled = found.1 }))
+
+  three-named : (link sender digits : List ℕ) → IsName link → three_fields link sender digits ≡ with_sender link (address_in sender) digits
+  three-named link sender digits name = ap (λ (x : Bool). cond x (with_sender link (address_in sender) digits) (Err codes.LinkName)) ((laws.names link).1 name)
+
+  judge-sender : (line link digits : List ℕ) (address : ℕ) → HasSender line link digits address → judge line ≡ capture_in link address (bytes_of digits)
+  judge-sender line link digits address front =
+      judge-three line link front.sender digits front.three
+      ∙ three-named link front.sender digits front.name
+      ∙ ap (λ (o : Option ℕ). with_sender link o digits) ((laws.addresses front.sender address).1 (front.is_sender.fits, front.is_sender.spelled))
+
+  checked-none : (link bytes : List ℕ) (sender : ℕ) (r : Result Message WireError) → message_in bytes ≡ r → ((code : WireCode) (at : ℕ) → ¬ WireFault bytes code at)
+      → checked link sender bytes r ≡ Ok (Some (record { link = link; sender = sender; datagram = bytes }))
+  checked-none link bytes sender (Ok m) e none = refl
+  checked-none link bytes sender (Err f) e none = absurd (none f.code f.at ((laws.faults bytes f.code f.at).0 e))
+
+  judge-bytes : (line link digits bytes : List ℕ) (address : ℕ) → HasSender line link digits address → decode_of digits ≡ Ok bytes → length bytes ≤ 504 → judge line ≡ checked link address bytes (message_in bytes)
+  judge-bytes line link digits bytes address front e few =
+      judge-sender line link digits address front ∙ ap (capture_in link address) (ap sized e ∙ sized-few bytes few)
+
+  bad-line : (line : List ℕ) (code : LineCode) → IsBad line code → judge line ≡ Err code
+  bad-line line codes.LongLine bad = judge-long line bad
+  bad-line line codes.Fields bad = judge-fields line bad.fields bad.has_fields ∙ said-fields bad.fields bad.says ∙ said-others bad.fields bad.count
+  bad-line line codes.LinkName bad =
+      judge-three line bad.0 bad.1 bad.2 bad.3
+      ∙ ap (λ (x : Bool). cond x (with_sender bad.0 (address_in bad.1) bad.2) (Err codes.LinkName)) (name-no bad.0 (is_name bad.0) refl bad.4)
+  bad-line line codes.Sender bad =
+      judge-three line bad.0 bad.1 bad.2 bad.3
+      ∙ three-named bad.0 bad.1 bad.2 bad.4
+      ∙ ap (λ (o : Option ℕ). with_sender bad.0 o bad.2) (address-no bad.1 (address_in bad.1) refl bad.5)
+  bad-line line codes.Hex bad = judge-sender line bad.0 bad.1 bad.2 bad.3 ∙ ap (capture_in bad.0 bad.2) (sized-bad (decode_of bad.1) bad.4)
+  bad-line line codes.LongDatagram bad = judge-sender line bad.0 bad.1 bad.3 bad.4 ∙ ap (capture_in bad.0 bad.3) (ap sized bad.5 ∙ sized-long bad.2 bad.6)
+  bad-line line (codes.Wire f) bad = judge-bytes line bad.0 bad.1 bad.2 bad.3 bad.4 bad.5 bad.6 ∙ ap (checked bad.0 bad.3 bad.2) ((laws.faults bad.2 f.code f.at).1 bad.7)
+
+  pub judge-IsJudged : (line : List ℕ) (r : Result (Option Capture) LineCode) → IsJudged line r → judge line ≡ r
+  judge-IsJudged line (Ok None) skipped = judge-fields line skipped.fields skipped.has_fields ∙ skipped-fields skipped.fields skipped.says_nothing
+  judge-IsJudged line (Ok (Some capture)) is =
+      judge-bytes line capture.link is.digits capture.datagram capture.sender is.front is.bytes is.few
+      ∙ checked-none capture.link capture.datagram capture.sender (message_in capture.datagram) refl is.no_fault
+  judge-IsJudged line (Err code) bad = bad-line line code bad

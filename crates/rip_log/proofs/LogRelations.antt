@@ -1,5 +1,5 @@
 -- The log of a text is what the words of the format say.
-use Rattle.std.proofs.Common.{◌≡◌, ◌+◌, ◌≤◌, ◌<◌, ℕ, Bool, true, false, cond, List, [], ◌∷◌, ◌++◌, length, Option, Some, None, Result, Ok, Err, refl, sym, ap, ◌∙◌, arith, subst, inl, inr, append-nil, append_assoc, add-zero}
+use Rattle.std.proofs.Common.{◌≡◌, ◌↔◌, ◌+◌, ◌≤◌, ◌<◌, ℕ, Bool, true, false, cond, List, [], ◌∷◌, ◌++◌, length, Option, Some, None, Result, Ok, Err, refl, sym, ap, ◌∙◌, arith, subst, inl, inr, append-nil, append_assoc, add-zero}
 use Rattle.std.proofs.Math.Dec.{leb}
 use Rattle.rip_log.specs.Codes.{is_read}
 use Rattle.rip_log.specs.Leaves.{capture_of, line_of}
@@ -13,31 +13,11 @@ use Rattle.rip_log.specs.declared.error.LogCode.TheVariants.{TooManyLines}
 use Rattle.rip_log.specs.declared.error.LogError.{LogError}
 use Rattle.rip_log.specs.declared.reader.Record.{Record}
 use Rattle.rip_log.proofs.LogLemmas.{first-line, too-many}
-use Rattle.rip_log.proofs.JudgeRelations.{IsJudged-judge, judge-IsJudged}
 use Rattle.rip_log.proofs.LineRelations.{AreLines-lines_of, lines_of-AreLines}
 
 -- these records in front of a log
 abbrev pub onto_all : List Numbered → Log → Log
 onto_all records log = record { records = records ++ log.records; fault = log.fault }
-
--- lines whose records these are, in front of others
-pub log-before : (n : ℕ) (before rest : List (List ℕ)) (records : List Numbered) → n + length before ≤ 1000000 → AreRecords n before records
-    → log_of n (before ++ rest) ≡ onto_all records (log_of (n + length before) rest)
-log-before n [] rest records few are =
-    ap (λ (k : ℕ). log_of k rest) (sym (add-zero n)) ∙ ap (λ (l : List Numbered). onto_all l (log_of (n + 0) rest)) (sym are)
-log-before n (line ∷ before) rest [] few are =
-    first-line n line (before ++ rest) (Ok None) (omega arith) (judge-IsJudged line (Ok None) are.0)
-    ∙ log-before (n + 1) before rest [] (omega arith) are.1
-    ∙ ap (λ (k : ℕ). onto_all [] (log_of k rest)) (omega arith)
-log-before n (line ∷ before) rest (r ∷ records) few (inl are) =
-    first-line n line (before ++ rest) (Ok None) (omega arith) (judge-IsJudged line (Ok None) are.0)
-    ∙ log-before (n + 1) before rest (r ∷ records) (omega arith) are.1
-    ∙ ap (λ (k : ℕ). onto_all (r ∷ records) (log_of k rest)) (omega arith)
-log-before n (line ∷ before) rest (r ∷ records) few (inr are) =
-    first-line n line (before ++ rest) (Ok (Some r.capture)) (omega arith) (judge-IsJudged line (Ok (Some r.capture)) are.1)
-    ∙ ap (onto_log (record { line = n + 1; capture = r.capture })) (log-before (n + 1) before rest records (omega arith) are.2)
-    ∙ ap (λ (k : ℕ). onto_log (record { line = n + 1; capture = r.capture }) (onto_all records (log_of k rest))) (omega arith)
-    ∙ ap (λ (k : ℕ). onto_log (record { line = k; capture = r.capture }) (onto_all records (log_of (n + length (line ∷ before)) rest))) (sym are.0)
 
 -- a fault after lines that are good
 pub record FaultIn (n : ℕ) (lines : List (List ℕ)) (records : List Numbered) (e : LogError) : Type 0 where
@@ -92,70 +72,94 @@ lt-of n h = grind arith
 le-of : (n : ℕ) → leb 1000000 n ≡ true → 1000000 ≤ n
 le-of n h = grind arith
 
-outcome-first : (n : ℕ) (line : List ℕ) (lines : List (List ℕ)) (x : Bool) → n ≤ 1000000 → leb 1000000 n ≡ x → (n < 1000000 → IsOutcome (n + 1) lines (log_of (n + 1) lines).records (log_of (n + 1) lines).fault)
-    → let log = cond x (faulty_log (record { line = n + 1; code = TooManyLines })) (with_line (n + 1) (judge line) (log_of (n + 1) lines)) in IsOutcome n (line ∷ lines) log.records log.fault
-outcome-first n line lines true few e t =
-    let here : n + length {A = List ℕ} [] ≡ 1000000 = omega (arith, le-of n e) in
-    record { before = []; bad = line; after = lines; split = refl; are_records = refl; number = omega arith; fault = too_many here refl }
-outcome-first n line lines false few e t = outcome-line n line lines (log_of (n + 1) lines) (judge line) (lt-of n e) (IsJudged-judge line) (t (lt-of n e))
-
-pub outcome : (n : ℕ) (lines : List (List ℕ)) → n ≤ 1000000 → IsOutcome n lines (log_of n lines).records (log_of n lines).fault
-outcome n [] few = (refl, omega arith)
-outcome n (line ∷ lines) few = outcome-first n line lines (leb 1000000 n) few refl (λ h. outcome (n + 1) lines (omega arith))
-
 pub some-log : (a b : Log) → ◌≡◌ {A = Option Log} (Some a) (Some b) → a ≡ b
 some-log a b e = cc e
-
-pub log_in-LogText : (text : List ℕ) (records : List Numbered) → LogText text records → log_in (Some text) ≡ Some (record { records = records; fault = None })
-log_in-LogText text records is =
-    let lines = lines_of-AreLines text is.lines is.are_lines ∙ sym (append-nil is.lines) in
-    ap Some
-    (ap (log_of 0) lines
-    ∙ log-before 0 is.lines [] records (omega (arith, is.few)) is.are_records
-    ∙ ap (λ (l : List Numbered). record { records = l; fault = None }) (append-nil records))
-
-pub LogText-log_in : (text : List ℕ) (records : List Numbered) → log_in (Some text) ≡ Some (record { records = records; fault = None }) → LogText text records
-LogText-log_in text records e =
-    let told = subst (λ (log : Log). IsOutcome 0 (lines_of text) log.records log.fault) (some-log _ _ e) (outcome 0 (lines_of text) (omega arith)) in
-    record { lines = lines_of text; are_lines = AreLines-lines_of text; few = omega (arith, told.1); are_records = told.0 }
-
-fault-log : (n : ℕ) (line : List ℕ) (rest : List (List ℕ)) (code : LogCode) → IsFault n line code → log_of n (line ∷ rest) ≡ faulty_log (record { line = n + 1; code = code })
-fault-log n line rest code (too_many here what) = too-many n line rest (omega (arith, here)) ∙ ap (λ (c : LogCode). faulty_log (record { line = n + 1; code = c })) (sym what)
-fault-log n line rest code (bad few c is what) =
-    first-line n line rest (Err c) few (judge-IsJudged line (Err c) is) ∙ ap (λ (d : LogCode). faulty_log (record { line = n + 1; code = d })) (sym what)
 
 fault-few : (n : ℕ) (line : List ℕ) (code : LogCode) → IsFault n line code → n ≤ 1000000
 fault-few n line code (too_many here what) = omega (arith, here)
 fault-few n line code (bad few c is what) = omega (arith, few)
 
--- a fault after lines that are good ends the log
-pub log-fault : (n : ℕ) (before : List (List ℕ)) (line : List ℕ) (after : List (List ℕ)) (records : List Numbered) (e : LogError) → AreRecords n before records → e.line ≡ n + length before + 1
-    → IsFault (n + length before) line e.code → log_of n (before ++ line ∷ after) ≡ record { records = records; fault = Some e }
-log-fault n before line after records e are number fault =
-    log-before n before (line ∷ after) records (fault-few (n + length before) line e.code fault) are
-    ∙ ap (onto_all records) (fault-log (n + length before) line after e.code fault)
-    ∙ ap (λ (l : List Numbered). record { records = l; fault = Some (record { line = n + length before + 1; code = e.code }) }) (append-nil records)
-    ∙ ap (λ (k : ℕ). record { records = records; fault = Some (record { line = k; code = e.code }) }) (sym number)
+-- the law `judged_lines`
+abbrev pub Judges : Type 0
+Judges = (line : List ℕ) (judged : Result (Option Capture) LineCode) → (judge line ≡ judged) ↔ IsJudged line judged
 
-pub log_in-LogFault : (text : List ℕ) (records : List Numbered) (e : LogError) → LogFault text records e.line e.code → log_in (Some text) ≡ Some (record { records = records; fault = Some e })
-log_in-LogFault text records e is =
-    let here : IsFault (0 + length is.before) is.bad e.code = fault-moved (length is.before) (0 + length is.before) is.bad e.code (omega arith) is.fault in
-    ap Some
-    (ap (log_of 0) (lines_of-AreLines text (is.before ++ is.bad ∷ is.after) is.are_lines)
-    ∙ log-fault 0 is.before is.bad is.after records e is.are_records (is.number ∙ omega arith) here)
+module _ (judges : Judges) where
+  -- lines whose records these are, in front of others
+  pub log-before : (n : ℕ) (before rest : List (List ℕ)) (records : List Numbered) → n + length before ≤ 1000000 → AreRecords n before records
+      → log_of n (before ++ rest) ≡ onto_all records (log_of (n + length before) rest)
+  log-before n [] rest records few are =
+      ap (λ (k : ℕ). log_of k rest) (sym (add-zero n)) ∙ ap (λ (l : List Numbered). onto_all l (log_of (n + 0) rest)) (sym are)
+  log-before n (line ∷ before) rest [] few are =
+      first-line n line (before ++ rest) (Ok None) (omega arith) ((judges line (Ok None)).1 are.0)
+      ∙ log-before (n + 1) before rest [] (omega arith) are.1
+      ∙ ap (λ (k : ℕ). onto_all [] (log_of k rest)) (omega arith)
+  log-before n (line ∷ before) rest (r ∷ records) few (inl are) =
+      first-line n line (before ++ rest) (Ok None) (omega arith) ((judges line (Ok None)).1 are.0)
+      ∙ log-before (n + 1) before rest (r ∷ records) (omega arith) are.1
+      ∙ ap (λ (k : ℕ). onto_all (r ∷ records) (log_of k rest)) (omega arith)
+  log-before n (line ∷ before) rest (r ∷ records) few (inr are) =
+      first-line n line (before ++ rest) (Ok (Some r.capture)) (omega arith) ((judges line (Ok (Some r.capture))).1 are.1)
+      ∙ ap (onto_log (record { line = n + 1; capture = r.capture })) (log-before (n + 1) before rest records (omega arith) are.2)
+      ∙ ap (λ (k : ℕ). onto_log (record { line = n + 1; capture = r.capture }) (onto_all records (log_of k rest))) (omega arith)
+      ∙ ap (λ (k : ℕ). onto_log (record { line = k; capture = r.capture }) (onto_all records (log_of (n + length (line ∷ before)) rest))) (sym are.0)
 
-pub LogFault-log_in : (text : List ℕ) (records : List Numbered) (e : LogError) → log_in (Some text) ≡ Some (record { records = records; fault = Some e }) → LogFault text records e.line e.code
-LogFault-log_in text records e is =
-    let told = subst (λ (log : Log). IsOutcome 0 (lines_of text) log.records log.fault) (some-log _ _ is) (outcome 0 (lines_of text) (omega arith)) in
-    record {
-      before = told.before;
-      bad = told.bad;
-      after = told.after;
-      are_lines = subst (AreLines text) told.split (AreLines-lines_of text);
-      are_records = told.are_records;
-      number = told.number ∙ omega arith;
-      fault = fault-moved _ _ told.bad e.code (omega arith) told.fault;
-    }
+  outcome-first : (n : ℕ) (line : List ℕ) (lines : List (List ℕ)) (x : Bool) → n ≤ 1000000 → leb 1000000 n ≡ x → (n < 1000000 → IsOutcome (n + 1) lines (log_of (n + 1) lines).records (log_of (n + 1) lines).fault)
+      → let log = cond x (faulty_log (record { line = n + 1; code = TooManyLines })) (with_line (n + 1) (judge line) (log_of (n + 1) lines)) in IsOutcome n (line ∷ lines) log.records log.fault
+  outcome-first n line lines true few e t =
+      let here : n + length {A = List ℕ} [] ≡ 1000000 = omega (arith, le-of n e) in
+      record { before = []; bad = line; after = lines; split = refl; are_records = refl; number = omega arith; fault = too_many here refl }
+  outcome-first n line lines false few e t = outcome-line n line lines (log_of (n + 1) lines) (judge line) (lt-of n e) ((judges line (judge line)).0 refl) (t (lt-of n e))
+
+  pub outcome : (n : ℕ) (lines : List (List ℕ)) → n ≤ 1000000 → IsOutcome n lines (log_of n lines).records (log_of n lines).fault
+  outcome n [] few = (refl, omega arith)
+  outcome n (line ∷ lines) few = outcome-first n line lines (leb 1000000 n) few refl (λ h. outcome (n + 1) lines (omega arith))
+
+  pub log_in-LogText : (text : List ℕ) (records : List Numbered) → LogText text records → log_in (Some text) ≡ Some (record { records = records; fault = None })
+  log_in-LogText text records is =
+      let lines = lines_of-AreLines text is.lines is.are_lines ∙ sym (append-nil is.lines) in
+      ap Some
+      (ap (log_of 0) lines
+      ∙ log-before 0 is.lines [] records (omega (arith, is.few)) is.are_records
+      ∙ ap (λ (l : List Numbered). record { records = l; fault = None }) (append-nil records))
+
+  pub LogText-log_in : (text : List ℕ) (records : List Numbered) → log_in (Some text) ≡ Some (record { records = records; fault = None }) → LogText text records
+  LogText-log_in text records e =
+      let told = subst (λ (log : Log). IsOutcome 0 (lines_of text) log.records log.fault) (some-log _ _ e) (outcome 0 (lines_of text) (omega arith)) in
+      record { lines = lines_of text; are_lines = AreLines-lines_of text; few = omega (arith, told.1); are_records = told.0 }
+
+  fault-log : (n : ℕ) (line : List ℕ) (rest : List (List ℕ)) (code : LogCode) → IsFault n line code → log_of n (line ∷ rest) ≡ faulty_log (record { line = n + 1; code = code })
+  fault-log n line rest code (too_many here what) = too-many n line rest (omega (arith, here)) ∙ ap (λ (c : LogCode). faulty_log (record { line = n + 1; code = c })) (sym what)
+  fault-log n line rest code (bad few c is what) =
+      first-line n line rest (Err c) few ((judges line (Err c)).1 is) ∙ ap (λ (d : LogCode). faulty_log (record { line = n + 1; code = d })) (sym what)
+
+  -- a fault after lines that are good ends the log
+  pub log-fault : (n : ℕ) (before : List (List ℕ)) (line : List ℕ) (after : List (List ℕ)) (records : List Numbered) (e : LogError) → AreRecords n before records → e.line ≡ n + length before + 1
+      → IsFault (n + length before) line e.code → log_of n (before ++ line ∷ after) ≡ record { records = records; fault = Some e }
+  log-fault n before line after records e are number fault =
+      log-before n before (line ∷ after) records (fault-few (n + length before) line e.code fault) are
+      ∙ ap (onto_all records) (fault-log (n + length before) line after e.code fault)
+      ∙ ap (λ (l : List Numbered). record { records = l; fault = Some (record { line = n + length before + 1; code = e.code }) }) (append-nil records)
+      ∙ ap (λ (k : ℕ). record { records = records; fault = Some (record { line = k; code = e.code }) }) (sym number)
+
+  pub log_in-LogFault : (text : List ℕ) (records : List Numbered) (e : LogError) → LogFault text records e.line e.code → log_in (Some text) ≡ Some (record { records = records; fault = Some e })
+  log_in-LogFault text records e is =
+      let here : IsFault (0 + length is.before) is.bad e.code = fault-moved (length is.before) (0 + length is.before) is.bad e.code (omega arith) is.fault in
+      ap Some
+      (ap (log_of 0) (lines_of-AreLines text (is.before ++ is.bad ∷ is.after) is.are_lines)
+      ∙ log-fault 0 is.before is.bad is.after records e is.are_records (is.number ∙ omega arith) here)
+
+  pub LogFault-log_in : (text : List ℕ) (records : List Numbered) (e : LogError) → log_in (Some text) ≡ Some (record { records = records; fault = Some e }) → LogFault text records e.line e.code
+  LogFault-log_in text records e is =
+      let told = subst (λ (log : Log). IsOutcome 0 (lines_of text) log.records log.fault) (some-log _ _ is) (outcome 0 (lines_of text) (omega arith)) in
+      record {
+        before = told.before;
+        bad = told.bad;
+        after = told.after;
+        are_lines = subst (AreLines text) told.split (AreLines-lines_of text);
+        are_records = told.are_records;
+        number = told.number ∙ omega arith;
+        fault = fault-moved _ _ told.bad e.code (omega arith) told.fault;
+      }
 
 -- the records of a run
 pub IsTaken-more : (taken : List Numbered) (log rest : Log) (new : Option Log) (r : Record) → IsTaken taken log rest → Gives capture_of line_of (Some rest) new (Ok (Some r))

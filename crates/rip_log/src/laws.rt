@@ -1,4 +1,4 @@
-//! Laws of the definitions alone: functions without a body, whose contracts hold of every text and
+//! Laws of the definitions alone: functions that do nothing, whose contracts hold of every text and
 //! every log.
 
 ghost use Rattle.std.specs.Prelude.{◌≡◌, ◌⊎◌, ◌↔◌, ◌+◌, ◌≤◌, ℕ, List, [], ◌∷◌, ◌++◌, length, Option, Some, None, Result, Ok, Err, false, true};
@@ -14,25 +14,35 @@ ghost use Rattle.rip_log.specs.declared.error.LogError.{LogError};
 ghost use Rattle.rip_log.specs.declared.line.LineCode.{LineCode};
 ghost use Rattle.rip_log.specs.declared.reader.Record.{Record};
 
+use rip_wire::laws;
+
 /// What is computed of a line is what the words of the format say: it is skipped, or is a record, or
 /// is bad by the first of its faults.
 pub fn judged_lines()
     ensures { (line : List ℕ) (judged : Result (Option Capture) LineCode) → (judge line ≡ judged) ↔ IsJudged line judged }
-{}
+{
+    laws::names();
+    laws::address_texts();
+    laws::first_faults();
+}
 
 /// What a reader has to come at the front of a text is what the words of the format say: its
 /// records, and its first fault.
 pub fn log_texts()
     ensures text { (text : List ℕ) (records : List Numbered) → (log_in (Some text) ≡ Some (record { records = records; fault = None })) ↔ LogText text records }
     ensures fault { (text : List ℕ) (records : List Numbered) (e : LogError) → (log_in (Some text) ≡ Some (record { records = records; fault = Some e })) ↔ LogFault text records e.line e.code }
-{}
+{
+    judged_lines();
+}
 
 /// A line's fault is the same whatever follows the line, and that of a line that is too long, or one
 /// too many, whatever else follows.
 pub fn early_faults()
     ensures ended { (text more others : List ℕ) (lines : List (List ℕ)) (records : List Numbered) (line : ℕ) (code : LogCode) → AreLines (text ++ 10 ∷ []) lines → line ≤ length lines → LogFault (text ++ 10 ∷ more) records line code → LogFault (text ++ 10 ∷ others) records line code }
     ensures at_once { (text more : List ℕ) (records : List Numbered) (line : ℕ) (code : LogCode) → (code ≡ LogCode.LongLine) ⊎ (code ≡ LogCode.TooManyLines) → LogFault text records line code → LogFault (text ++ more) records line code }
-{}
+{
+    judged_lines();
+}
 
 /// The records of a whole run: from the front of a log each call adds its record to those that were
 /// taken, and at the end, or at a fault, these are all the log's records.
@@ -50,4 +60,6 @@ pub fn lines_of_runs()
     ensures none { (text : List ℕ) → PassesLines (Some text) 0 (Some text) 0 }
     ensures more { (text left new : Option (List ℕ)) (n behind after : ℕ) → PassesLines text n left behind → PassesLines left behind new after → PassesLines text n new after }
     ensures read { (text left : List ℕ) (taken : List Numbered) (log rest : Log) (n : ℕ) (e : LogError) → log_in (Some text) ≡ Some log → IsTaken taken log rest → is_read e.code ≡ true → Gives capture_of line_of (Some rest) (log_at n (Some left)) (Err e) → PassesLines (Some text) 0 (Some left) n → n ≤ 1000000 → LogCut text left taken (n + 1) }
-{}
+{
+    judged_lines();
+}

@@ -9,7 +9,7 @@ ghost use Rattle.rip_log.specs.Parts.{Tells};
 
 use crate::digits::decode;
 use crate::fields::{Fields, split};
-use rip_wire::{Address, WireError, is_name, read};
+use rip_wire::{Address, WireError, is_name, laws, read};
 
 /// What is wrong with a line, by itself. The first that holds is told.
 #[derive(Clone, Copy)]
@@ -48,6 +48,7 @@ fn without_return(line: &[u8]) -> &[u8]
 fn sender_of(field: &[u8]) -> Option<Address>
     ensures { result ≡ address_in field.now }
 {
+    laws::address_texts();
     match str::from_utf8(field) {
         Ok(text) => Address::parse(text),
         Err(_) => None,

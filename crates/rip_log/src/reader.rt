@@ -10,7 +10,7 @@ use crate::error::{LogCode, LogError};
 use crate::line::{Parts, judge_line};
 use crate::source::Source;
 use crate::window::{RawLine, Window};
-use rip_wire::{Address, Datagram, read};
+use rip_wire::{Address, Datagram, laws, read};
 use std::alloc::Global;
 
 /// The most lines of a log.
@@ -181,6 +181,7 @@ fn name_text(name: &[u8]) -> &str
     requires { is_name name.now ≡ true }
     ensures { result.now ≡ name.now }
 {
+    laws::names();
     match str::from_utf8(name) {
         Ok(text) => text,
         Err(_) => unreachable!(),

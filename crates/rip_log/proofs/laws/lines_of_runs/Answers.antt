@@ -10,4 +10,4 @@ pub returns-clause-more : goal.returns-clause-more
 returns-clause-more c = passes_trans
 
 pub returns-clause-read : goal.returns-clause-read
-returns-clause-read c = IsTaken-read
+returns-clause-read c = IsTaken-read c.judged_lines.ensures
