@@ -70,10 +70,6 @@ differ_with ps p differ absent j k q h e = elim (at_end ps p q j h) [
   | inr a ↦ elim (at_end ps p q k e) [ inl b ↦ listed_at ps p k absent (b ∙ ap (λ (x : Block). Some x) a.1) | inr b ↦ a.0 ∙ sym b.0 ]
 ]
 
--- the prefix is in the list, or there is room for it
-abbrev pub HasRoom : State → Block → Type 0
-HasRoom s p = (is_among p s.prefixes ≡ true) ⊎ ((is_among p s.prefixes ≡ false) × (length s.prefixes < 2048))
-
 longer : (ps : List Block) (p q : Block) → is_among q ps ≡ true → is_among q (ps ++ p ∷ []) ≡ true
 longer ps p q h = is_among-append q ps (p ∷ []) ∙ ap (λ (b : Bool). b || is_among q (p ∷ [])) h
 

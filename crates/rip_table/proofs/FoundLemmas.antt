@@ -4,10 +4,10 @@ use Rattle.std.specs.List.{slice_get, position_from}
 use Rattle.std.specs.Option.{option_and_then}
 use Rattle.std.specs.Str.{bytes_eq}
 use Rattle.std.proofs.lemmas.Bool.{eqb-true, eq-eqb}
+use Rattle.std.proofs.lemmas.Slice.Eq.{bytes_eq-Decides}
 use Rattle.rip_plan.specs.Network.{Network, first_at, first_named, found_at, is_at}
 use Rattle.rip_plan.specs.Relations.{HasAddress, IsAt, IsLawful}
 use Rattle.rip_plan.specs.declared.parts.Interface.{Interface}
-use Rattle.rip_wire.proofs.Parsing.{bytes_same, same_bytes}
 use Rattle.rip_table.proofs.NumberLemmas.{placed}
 
 both : (a b : Bool) → (a && b) ≡ true → (a ≡ true) × (b ≡ true)
@@ -59,7 +59,7 @@ found-IsAt n name a i h =
     let link_here : split.0 ≡ link.0 = omega (arith, link.2) in
     let here : i ≡ interface.0 = omega (arith, interface.2) in (
       split.0,
-      ap (slice_get n.links) link_here ∙ link.3 ∙ ap (λ (other : List ℕ). Some other) (same_bytes link.1 name link.4),
+      ap (slice_get n.links) link_here ∙ link.3 ∙ ap (λ (other : List ℕ). Some other) ((bytes_eq-Decides link.1 name).0 link.4),
       address_of n i split.0 a interface.1 (ap (slice_get n.interfaces) here ∙ interface.3) interface.4,
     )
 
@@ -68,8 +68,8 @@ IsAt-found n name a i lawful at =
     let l = at.0 in
     let has = at.2 in
     let link : first_named name 0 n.links ≡ Some l =
-    found-only (λ other. bytes_eq other name) n.links l name at.1 (bytes_same name name refl)
-    (λ m other is same. lawful.link_names_differ m l name (is ∙ ap (λ (x : List ℕ). Some x) (same_bytes other name same)) at.1) in
+    found-only (λ other. bytes_eq other name) n.links l name at.1 ((bytes_eq-Decides name name).1 refl)
+    (λ m other is same. lawful.link_names_differ m l name (is ∙ ap (λ (x : List ℕ). Some x) ((bytes_eq-Decides other name).0 same)) at.1) in
     let interface : first_at l a 0 n.interfaces ≡ Some i =
     found-only (is_at l a) n.interfaces i (record { router = has.router; link = l; address = a; cost = has.cost }) has.listed (at_itself has.router l a has.cost)
     (λ j x is same. lawful.addresses_differ j i l a (address_of n j l a x is same) has) in

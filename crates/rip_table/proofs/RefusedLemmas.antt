@@ -26,7 +26,7 @@ use Rattle.rip_table.proofs.Truth.{then-split}
 use Rattle.rip_table.proofs.CheckLemmas.{heard_valid, joined-append}
 use Rattle.rip_table.proofs.FoundLemmas.{found-IsAt, IsAt-found}
 use Rattle.rip_table.proofs.JoinLemmas.{outcome_of-front}
-use Rattle.rip_table.proofs.MetricLemmas.{AreMetrics, front_metrics, read_metrics}
+use Rattle.rip_table.proofs.MetricLemmas.{AreMetrics, MetricBounds, front_metrics}
 use Rattle.rip_table.proofs.OneJoin.{one_join, one_taken}
 use Rattle.rip_table.proofs.SaidLemmas.{fits_log, interface_below, item-is_among, join_made, log_then, makes_entries, makes_log, taken_made}
 
@@ -241,11 +241,11 @@ from_cause : (r : Result State TableError) (cause : CollectCause) → as_cause r
 from_cause (Ok u) cause h = absurd (cc h)
 from_cause (Err e) cause h = (e, refl, cc h)
 
-bad_entry : (n : Network) (s : State) (c : Capture) (i : ℕ) (es : List Entry) (error : TableError) → IsState s → i < s.interfaces → message_in c.datagram ≡ Ok (response es) → interface_of n c ≡ Some i
+bad_entry : (bounds : MetricBounds) (n : Network) (s : State) (c : Capture) (i : ℕ) (es : List Entry) (error : TableError) → IsState s → i < s.interfaces → message_in c.datagram ≡ Ok (response es) → interface_of n c ≡ Some i
     → joined_message c.sender i s (response es) ≡ Err error → HasBadEntry n s c error
-bad_entry n s c i es error valid lt says found h =
+bad_entry bounds n s c i es error valid lt says found h =
     let first = first_bad c.sender i (with_heard s i) es error h in
-    let metrics = front_metrics first.front (first.entry ∷ first.rest) (subst AreMetrics first.split (read_metrics c.datagram es says)) in
+    let metrics = front_metrics first.front (first.entry ∷ first.rest) (subst AreMetrics first.split (bounds c.datagram es says)) in
     record {
       interface = i;
       front = first.front;
@@ -257,8 +257,8 @@ bad_entry n s c i es error valid lt says found h =
       bad = first.bad;
     }
 
-pub refused_of : (n : Network) (s : State) (c : Capture) (cause : CollectCause) → IsLawful n → IsState s → Fits n s → joined_capture n s c ≡ Err cause → IsRefused n s c cause
-refused_of n s c cause lawful valid fits h = by (message_in c.datagram) refl (interface_of n c) refl h
+pub refused_of : (bounds : MetricBounds) (n : Network) (s : State) (c : Capture) (cause : CollectCause) → IsLawful n → IsState s → Fits n s → joined_capture n s c ≡ Err cause → IsRefused n s c cause
+refused_of bounds n s c cause lawful valid fits h = by (message_in c.datagram) refl (interface_of n c) refl h
   where
     by : (m : Result Message WireError) → message_in c.datagram ≡ m → (o : Option ℕ) → interface_of n c ≡ o → joined_from c.sender s (message_or_request m) o ≡ Err cause → IsRefused n s c cause
     by (Err e) is o found k = from_request c.sender s o cause k
@@ -272,22 +272,22 @@ refused_of n s c cause lawful valid fits h = by (message_in c.datagram) refl (in
         })
     by (Ok (response es)) is (Some i) found k =
         let split = from_cause (joined_message c.sender i s (response es)) cause k in
-        subst (IsRefused n s c) split.2 (bad_entry n s c i es split.0 valid (interface_below n s c.link c.sender i fits (found-IsAt n c.link c.sender i found)) is found split.1)
+        subst (IsRefused n s c) split.2 (bad_entry bounds n s c i es split.0 valid (interface_below n s c.link c.sender i fits (found-IsAt n c.link c.sender i found)) is found split.1)
 
-pub refused_at : (n : Network) (s : State) (c : Capture) (cause : CollectCause) → IsLawful n → IsState s → Fits n s → IsRefused n s c cause → joined_capture n s c ≡ Err cause
-refused_at n s c (OfLog e) lawful valid fits h = absurd h
-refused_at n s c UnknownSender lawful valid fits h =
+pub refused_at : (bounds : MetricBounds) (n : Network) (s : State) (c : Capture) (cause : CollectCause) → IsLawful n → IsState s → Fits n s → IsRefused n s c cause → joined_capture n s c ≡ Err cause
+refused_at bounds n s c (OfLog e) lawful valid fits h = absurd h
+refused_at bounds n s c UnknownSender lawful valid fits h =
     ap (λ (m : Result Message WireError). joined_from c.sender s (message_or_request m) (interface_of n c)) h.says ∙ by (interface_of n c) refl
   where
     by : (o : Option ℕ) → interface_of n c ≡ o → joined_from c.sender s (response h.entries) o ≡ Err UnknownSender
     by None found = refl
     by (Some i) found = absurd (h.nobody i (found-IsAt n c.link c.sender i found))
-refused_at n s c (Table error) lawful valid fits h =
+refused_at bounds n s c (Table error) lawful valid fits h =
     let i = h.interface in
     let es = h.front ++ h.entry ∷ h.rest in
     let at = (h.response).from in
     let lt = interface_below n s c.link c.sender i fits at in
-    let metrics = read_metrics c.datagram es (h.response).says in
+    let metrics = bounds c.datagram es (h.response).says in
     let joined = joined_of_entries c.sender i (with_heard s i) h.state h.front (front_metrics h.front (h.entry ∷ h.rest) metrics) (heard_valid s i valid) lt h.joined in
     ap (λ (m : Result Message WireError). joined_from c.sender s (message_or_request m) (interface_of n c)) (h.response).says
     ∙ ap (joined_from c.sender s (response es)) (IsAt-found n c.link c.sender i lawful at)
@@ -357,9 +357,9 @@ records-append n s t (r ∷ before) rest h = by (joined_capture n s r.capture) h
     by (Ok u) k later = later u k
     by (Err e) k later = absurd (cc k)
 
-module _ (n : Network) (old : State) (lawful : IsLawful n) (valid : IsState old) (fits : Fits n old) where
+module _ (bounds : MetricBounds) (n : Network) (old : State) (lawful : IsLawful n) (valid : IsState old) (fits : Fits n old) where
   made : (log : List Numbered) (s : State) → joined_records n old log ≡ Ok s → IsJoin n old log s × IsState s
-  made log s h = let m = makes_log n old s log lawful valid fits h in (join_made n old s log m.0, m.1)
+  made log s h = let m = makes_log bounds n old s log lawful valid fits h in (join_made n old s log m.0, m.1)
 
   accepted_in : (log : List Numbered) (s : State) → joined_records n old log ≡ Ok s → AreAccepted n old log
   accepted_in log s h before after r t cause split join state refused =
@@ -367,7 +367,7 @@ module _ (n : Network) (old : State) (lawful : IsLawful n) (valid : IsState old)
       let there = made before front.0 front.2 in
       let same = one_join n old before front.0 t there.1 state there.0 join in
       let again : IsRefused n front.0 r.capture cause = subst (λ (u : State). IsRefused n u r.capture cause) (sym same) refused in
-      let clash : ◌≡◌ {A = Result State CollectCause} (Ok front.1) (Err cause) = sym front.3 ∙ refused_at n front.0 r.capture cause lawful there.1 (fits_log n old front.0 before fits front.2) again in
+      let clash : ◌≡◌ {A = Result State CollectCause} (Ok front.1) (Err cause) = sym front.3 ∙ refused_at bounds n front.0 r.capture cause lawful there.1 (fits_log n old front.0 before fits front.2) again in
       cc clash
 
   pub is_joined : (log : List Numbered) (s : State) → joined_records n old log ≡ Ok s → IsJoined n old log s
@@ -375,7 +375,7 @@ module _ (n : Network) (old : State) (lawful : IsLawful n) (valid : IsState old)
 
   -- a refusal after records that are joined
   words : (before : List Numbered) (s : State) (c : Capture) (cause : CollectCause) → joined_records n old before ≡ Ok s → joined_capture n s c ≡ Err cause → IsRefused n s c cause
-  words before s c cause joined h = refused_of n s c cause lawful (made before s joined).1 (fits_log n old s before fits joined) h
+  words before s c cause joined h = refused_of bounds n s c cause lawful (made before s joined).1 (fits_log n old s before fits joined) h
 
   pub joined_is : (log : List Numbered) (s : State) → IsJoined n old log s → joined_records n old log ≡ Ok s
   joined_is log s h = by (joined_records n old log) refl
@@ -394,7 +394,7 @@ module _ (n : Network) (old : State) (lawful : IsLawful n) (valid : IsState old)
   in_words log s line cause h = record { before = h.before; capture = h.capture; after = h.after; split = h.split; joined = is_joined h.before s h.joined; refused = words h.before s h.capture cause h.joined h.refused }
 
   of_words : (log : List Numbered) (s : State) (line : ℕ) (cause : CollectCause) → IsFirstRefused n old log s line cause → Refusal n old log s line cause
-  of_words log s line cause h = record { before = h.before; capture = h.capture; after = h.after; split = h.split; joined = joined_is h.before s h.joined; refused = refused_at n s h.capture cause lawful (h.joined).state (fits_log n old s h.before fits (joined_is h.before s h.joined)) h.refused }
+  of_words log s line cause h = record { before = h.before; capture = h.capture; after = h.after; split = h.split; joined = joined_is h.before s h.joined; refused = refused_at bounds n s h.capture cause lawful (h.joined).state (fits_log n old s h.before fits (joined_is h.before s h.joined)) h.refused }
 
   records_refused : (log : List Numbered) (s : State) (line : ℕ) (cause : CollectCause) → Refusal n old log s line cause → joined_records n old log ≡ Err cause
   records_refused log s line cause h =

@@ -27,7 +27,7 @@ use Rattle.rip_table.proofs.FoundLemmas.{found-IsAt, IsAt-found}
 use Rattle.rip_table.proofs.AfterLemmas.{joined_is, new_among}
 use Rattle.rip_table.proofs.Truth.{then-split}
 use Rattle.rip_table.proofs.CheckLemmas.{heard_valid, valid_with}
-use Rattle.rip_table.proofs.MetricLemmas.{AreMetrics, read_metrics}
+use Rattle.rip_table.proofs.MetricLemmas.{AreMetrics, MetricBounds}
 use Rattle.rip_table.proofs.MakesLemmas.{Joining, Makes, either_list, front_at, makes_as, makes_both, makes_nothing}
 
 both : (a b : Bool) → (a && b) ≡ true → (a ≡ true) × (b ≡ true)
@@ -296,9 +296,9 @@ says_response n s t c i es lawful says found made = (
     response_of : (j : ℕ) → j ≡ i → IsResponse n c j es
     response_of j same = record { from = found-IsAt n c.link c.sender j (found ∙ ap (λ (k : ℕ). Some k) (sym same)); says = says }
 
-pub makes_capture : (n : Network) (s t : State) (c : Capture) → IsLawful n → IsState s → Fits n s → joined_capture n s c ≡ Ok t
+pub makes_capture : (bounds : MetricBounds) (n : Network) (s t : State) (c : Capture) → IsLawful n → IsState s → Fits n s → joined_capture n s c ≡ Ok t
     → MakesState (says_capture n c) earlier (hears_capture n c) s t
-makes_capture n s t c lawful valid fits h = by (message_in c.datagram) refl (interface_of n c) refl h
+makes_capture bounds n s t c lawful valid fits h = by (message_in c.datagram) refl (interface_of n c) refl h
   where
     by : (m : Result Message WireError) → message_in c.datagram ≡ m → (o : Option ℕ) → interface_of n c ≡ o → joined_from c.sender s (message_or_request m) o ≡ Ok t
         → MakesState (says_capture n c) earlier (hears_capture n c) s t
@@ -310,7 +310,7 @@ makes_capture n s t c lawful valid fits h = by (message_in c.datagram) refl (int
     by (Ok (response es)) is (Some i) found k =
         let lt = interface_below n s c.link c.sender i fits (found-IsAt n c.link c.sender i found) in
         says_response n s t c i es lawful is found
-        (makes_message c.sender i s t es (read_metrics c.datagram es is) valid lt (from_cause (joined_message c.sender i s (response es)) t k))
+        (makes_message c.sender i s t es (bounds c.datagram es is) valid lt (from_cause (joined_message c.sender i s (response es)) t k))
 
 -- ---- a log
 
@@ -352,17 +352,17 @@ pub log_then : (r : Result State CollectCause) (f : State → Result State Colle
 log_then (Ok u) f t h = (u, refl, h)
 log_then (Err e) f t h = absurd (cc h)
 
-pub makes_log : (n : Network) (s t : State) (log : List Numbered) → IsLawful n → IsState s → Fits n s → joined_records n s log ≡ Ok t
+pub makes_log : (bounds : MetricBounds) (n : Network) (s t : State) (log : List Numbered) → IsLawful n → IsState s → Fits n s → joined_records n s log ≡ Ok t
     → MakesState (says_log n log) before_log (HasUpdate n log) s t
-makes_log n s t [] lawful valid fits h =
+makes_log bounds n s t [] lawful valid fits h =
     let same : s ≡ t = cc h in
     subst (MakesState (says_log n []) before_log (HasUpdate n []) s) same
     (makes_nothing (says_log n []) before_log (HasUpdate n []) s (λ z j p m k. cc (k.1).1) (λ j k. cc (k.2).1), valid)
-makes_log n s t (r ∷ log) lawful valid fits h =
+makes_log bounds n s t (r ∷ log) lawful valid fits h =
     let split = log_then (joined_capture n s r.capture) (λ u. joined_records n u log) t h in
     let u = split.0 in
-    let first = makes_capture n s u r.capture lawful valid fits split.1 in
-    let then = makes_log n u t log lawful first.1 (Fits-joined n s u r.capture fits split.1) split.2 in (
+    let first = makes_capture bounds n s u r.capture lawful valid fits split.1 in
+    let then = makes_log bounds n u t log lawful first.1 (Fits-joined n s u r.capture fits split.1) split.2 in (
       makes_both (says_capture n r.capture) (says_log n log) (says_log n (r ∷ log)) earlier before_log before_log (hears_capture n r.capture) (HasUpdate n log) (HasUpdate n (r ∷ log)) (record_first n r log) s u t first.0 then.0,
       then.1,
     )

@@ -74,13 +74,13 @@ ToldOutcome n old log new left (Err e) =
     (Whether (is_read_cause e.cause) (PassedKnown n old log new left) (OutcomeKnown n old log new (Some e)))
 
 -- the same in the words of the subject, of a log that is told
-abbrev pub IsSaid : Network → State → Log → State → Result (Unit {0}) CollectError → Type 0
-IsSaid n old log new (Ok u) = IsOutcome n old log new None
-IsSaid n old log new (Err e) = is_memory e.cause ≡ false → is_read_cause e.cause ≡ false → IsOutcome n old log new (Some e)
+abbrev pub SaidOutcome : Network → State → Log → State → Result (Unit {0}) CollectError → Type 0
+SaidOutcome n old log new (Ok u) = IsOutcome n old log new None
+SaidOutcome n old log new (Err e) = is_memory e.cause ≡ false → is_read_cause e.cause ≡ false → IsOutcome n old log new (Some e)
 
 pub record Collects {R : Type 0} (coming : R → Option (List ℕ)) (broken at_end : R → Bool) (n : Network) (old new : State) (before after : Reading R) (result : Result (Unit {0}) CollectError) : Type 0 where
   pub told : has_stopped before ≡ false → ToldOutcome n old (log_to_come coming before) new (log_to_come coming after) result
-  pub said : has_stopped before ≡ false → (log : Log) → log_to_come coming before ≡ Some log → IsSaid n old log new result
+  pub said : has_stopped before ≡ false → (log : Log) → log_to_come coming before ≡ Some log → SaidOutcome n old log new result
   -- a reader that had stopped changes nothing
   pub stopped : has_stopped before ≡ true → (new ≡ old) × (result ≡ Err (record { line = lines_behind before + 1; cause = OfLog (record { code = codes.Ended; line = lines_behind before + 1 }) }))
   pub refused : has_stopped before ≡ false → has_stopped after ≡ reader_refused result

@@ -1,6 +1,5 @@
 //! The loop over the records of a log.
 
-ghost use Rattle.std.specs.Prelude.{◌≡◌};
 ghost use Rattle.rip_log.specs.Leaves.{capture_of};
 ghost use Rattle.rip_log.specs.Reader.{reading_of};
 ghost use Rattle.rip_table.specs.Collects.{Collects};
@@ -8,6 +7,7 @@ ghost use Rattle.rip_table.specs.Joined.{Joins};
 ghost use Rattle.rip_table.specs.State.{Fits};
 
 use crate::error::{CollectCause, CollectError};
+use crate::laws;
 use crate::table::MetricTable;
 use rip_log::{LogReader, Record, Source};
 use rip_plan::Plan;
@@ -42,6 +42,7 @@ pub fn collect<R: Source, T: MetricTable>(
     ensures { Collects R.coming R.broken R.at_end plan.now (T.state table.old) (T.state table.new) (reading_of reader.old) (reading_of reader.new) result }
 {
     plan.lawful();
+    laws::refused_logs();
     'records: loop {
         match reader.next() {
             Ok(Some(record)) => {

@@ -1,4 +1,4 @@
-//! Laws of the definitions alone: functions without a body, whose contracts hold of every plan and
+//! Laws of the definitions alone: functions that do nothing, whose contracts hold of every plan and
 //! every log.
 
 ghost use Rattle.std.specs.Prelude.{◌≡◌, ◌≢◌, ◌↔◌, ℕ, true, List, [], ◌∷◌, ◌++◌, Option, Some, Ok, Err};
@@ -16,6 +16,8 @@ ghost use Rattle.rip_table.specs.declared.error.CollectCause.TheVariants.{Table}
 ghost use Rattle.rip_table.specs.declared.error.TableError.TheVariants.{Changed};
 ghost use Rattle.rip_table.specs.declared.error.CollectError.{CollectError};
 
+use rip_wire::laws;
+
 pub mod examples;
 
 /// A log is joined exactly where no record is refused, and then into the table that it makes: the
@@ -24,13 +26,17 @@ pub mod examples;
 pub fn joined_logs()
     ensures join { (n : Network) (old new : State) (log : List Numbered) → IsLawful n → IsState old → Fits n old → (joined_records n old log ≡ Ok new) ↔ IsJoined n old log new }
     ensures fits { (n : Network) (old new : State) (log : List Numbered) → Fits n old → joined_records n old log ≡ Ok new → Fits n new }
-{}
+{
+    laws::metric_bounds();
+}
 
 /// The first entries of a response are joined exactly where none of them is bad, and then into the
 /// table that they make.
 pub fn joined_responses()
     ensures { (n : Network) (old new : State) (c : Capture) (i : ℕ) (front rest : List Entry) → IsState old → Fits n old → IsResponse n c i (front ++ rest) → (joined_entries c.sender i old front ≡ Ok new) ↔ AreJoined c.sender i old front new }
-{}
+{
+    laws::metric_bounds();
+}
 
 /// What a log makes of a table is one table: two that are a join of the same are the same, the order
 /// of their prefixes included.
@@ -43,7 +49,9 @@ pub fn one_join()
 pub fn refused_logs()
     ensures records { (n : Network) (old : State) (log : List Numbered) (cause : CollectCause) → IsLawful n → IsState old → Fits n old → (joined_records n old log ≡ Err cause) ↔ ((s : State) × (line : ℕ) × IsFirstRefused n old log s line cause) }
     ensures outcome { (n : Network) (old s : State) (log : Log) (fault : Option CollectError) → IsLawful n → IsState old → Fits n old → (outcome n old log ≡ record { state = s; fault = fault }) ↔ IsOutcome n old log s fault }
-{}
+{
+    laws::metric_bounds();
+}
 
 /// A request changes nothing, whoever sent it.
 pub fn kept_requests()
@@ -65,4 +73,6 @@ pub fn new_prefixes()
 /// line, whatever follows.
 pub fn changed_metrics()
     ensures { (n : Network) (old s : State) (first second : Numbered) (log : Log) (rest : List Numbered) (i : ℕ) (e f : Entry) → IsLawful n → IsState old → Fits n old → log.records ≡ first ∷ second ∷ rest → joined_records n old (first ∷ []) ≡ Ok s → IsResponse n first.capture i (e ∷ []) → IsResponse n second.capture i (f ∷ []) → e.prefix ≡ f.prefix → e.metric ≢ f.metric → outcome n old log ≡ record { state = s; fault = Some (record { line = second.line; cause = Table (Changed f.prefix e.metric f.metric) }) } }
-{}
+{
+    laws::metric_bounds();
+}

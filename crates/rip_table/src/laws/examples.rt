@@ -1,4 +1,4 @@
-//! A worked example: what the definitions say of two lines. A function without an effect, whose
+//! A worked example: what the definitions say of two lines. A function that does nothing, whose
 //! contract is a fact, like the laws.
 
 ghost use Rattle.std.specs.Prelude.{◌≡◌, Some};
@@ -12,6 +12,4 @@ ghost use Rattle.rip_table.specs.declared.error.TableError.TheVariants.{Changed}
 /// what line 1 gave.
 pub fn changed_metric()
     ensures { outcome one_router (new_state one_router) two_metrics ≡ record { state = one_metric; fault = Some (record { line = 2; cause = Table (Changed prefix 1 2) }) } }
-{
-    rip_wire::laws::names();
-}
+{}

@@ -58,7 +58,7 @@ returns-in-Err-join g c =
     unread in
     record {
       told = told;
-      said = λ was. said_outcome plan old new log (log_to_come coming after) (Err error) c.lawful.ensures (g.T.MetricTable.is_state c.args.table.now) c.requires (told was);
+      said = λ was. said_outcome c.refused_logs.ensures.outcome plan old new log (log_to_come coming after) (Err error) c.lawful.ensures (g.T.MetricTable.is_state c.args.table.now) c.requires (told was);
       stopped = λ was. cc (was, was_run);
       refused = λ was. h.moves.stopped ∙ sym blame;
       here = at_last (lines_behind after) c.in-Ok-Some.record.line cause blame h.onward.1;
@@ -81,7 +81,7 @@ returns-in-Ok-None g c =
     OutcomeKnown-none capture_of line_of _ _ _ _ _ _ (c.records.invariant.passed was) (h.gives run) in
     record {
       told = told;
-      said = λ was. said_outcome c.args.plan.now old new log left (Ok tt) c.lawful.ensures (g.T.MetricTable.is_state c.args.table.now) c.requires (told was);
+      said = λ was. said_outcome c.refused_logs.ensures.outcome c.args.plan.now old new log left (Ok tt) c.lawful.ensures (g.T.MetricTable.is_state c.args.table.now) c.requires (told was);
       stopped = λ was. cc (was, was_run);
       refused = λ was. h.moves.stopped;
       here = tt;
@@ -104,7 +104,7 @@ returns-in-Err g c =
     told_bad capture_of line_of _ _ _ _ _ _ c.in-Err.error (inv.passed was) (h.gives (inv.running ∙ was)) in
     record {
       told = told;
-      said = λ was. said_outcome c.args.plan.now old new log left (Err error) c.lawful.ensures (g.T.MetricTable.is_state c.args.table.now) c.requires (told was);
+      said = λ was. said_outcome c.refused_logs.ensures.outcome c.args.plan.now old new log left (Err error) c.lawful.ensures (g.T.MetricTable.is_state c.args.table.now) c.requires (told was);
       stopped = λ was. (inv.still was, again c.in-Err.error _ _ (h.ended (inv.running ∙ was)).0 (inv.here was));
       refused = λ was. h.moves.stopped;
       here = (h.moves.here, h.moves.here);

@@ -2,7 +2,7 @@ use Rattle.rip_table.proofs.RefusedLemmas.{is_outcome, is_refused, outcome_is, r
 use Rattle.rip_table.proofs.laws.refused_logs.Goals as goal
 
 pub returns-clause-records : goal.returns-clause-records
-returns-clause-records c n old log cause lawful valid fits = (is_refused n old lawful valid fits log cause, λ h. refused_is n old lawful valid fits log h.0 h.1 cause h.2)
+returns-clause-records c n old log cause lawful valid fits = (is_refused c.metric_bounds.ensures n old lawful valid fits log cause, λ h. refused_is c.metric_bounds.ensures n old lawful valid fits log h.0 h.1 cause h.2)
 
 pub returns-clause-outcome : goal.returns-clause-outcome
-returns-clause-outcome c n old s log fault lawful valid fits = (is_outcome n old lawful valid fits log s fault, outcome_is n old lawful valid fits log s fault)
+returns-clause-outcome c n old s log fault lawful valid fits = (is_outcome c.metric_bounds.ensures n old lawful valid fits log s fault, outcome_is c.metric_bounds.ensures n old lawful valid fits log s fault)
