@@ -1,7 +1,6 @@
 -- First places.
-use Rattle.std.proofs.Common.{◌≡◌, ℕ, ◌+◌, ◌<◌, ◌≤◌, ◌⊎◌, inl, inr, Option, None, Some, List, slice_get, refl, sym, ◌∙◌, arith, length}
+use Rattle.std.proofs.Common.{◌≡◌, ℕ, ◌+◌, ◌<◌, ◌≤◌, ◌⊎◌, inl, inr, Option, None, Some, refl, sym, arith, length}
 use Rattle.std.proofs.lemmas.Bool.{cases_lt}
-use Rattle.std.proofs.lemmas.Option.{same_Some}
 use Rattle.rip_plan.specs.Network.{Network}
 use Rattle.rip_check.specs.Firsts.{IsBefore, IsAfter, IsFirst, AreFine}
 
@@ -97,18 +96,3 @@ at_back (Some a) row from q start on = inr (sym start.0, omega (arith, start.1, 
 pub all_later : (after : Option (ℕ × ℕ)) (row from s q : ℕ) → StartsAt after row from → row < s → IsAfter after s q
 all_later None row from s q start less = tt
 all_later (Some a) row from s q start less = inl (omega (arith, start.0, less))
-
--- one more of a list's elements
-pub each_listed : {A : Type 0} (xs : List A) (i : ℕ) (own : A) (Q : ℕ → A → Type 0) → slice_get xs i ≡ Some own →
-    ((j : ℕ) (x : A) → j < i → slice_get xs j ≡ Some x → Q j x) → Q i own →
-    (j : ℕ) (x : A) → j < i + 1 → slice_get xs j ≡ Some x → Q j x
-each_listed {A} xs i own Q listed before here j x lt at =
-    elim (cases_lt j i) [
-      | inl less ↦ before j x less at
-      | inr not ↦
-          let e : j ≡ i = omega arith in
-          let at' : slice_get xs i ≡ Some x = rw e at at in
-          let same : own ≡ x = same_Some own x (sym listed ∙ at') in
-          let q : Q i x = rw same at here in
-          rw e q
-    ]

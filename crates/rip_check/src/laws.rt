@@ -1,4 +1,4 @@
-//! Laws of settled tables: functions without a body, whose contracts hold of every plan and every
+//! Laws of settled tables: functions that do nothing, whose contracts hold of every plan and every
 //! showing.
 
 ghost use Rattle.std.specs.Prelude.{ℕ, ◌↔◌};

@@ -24,9 +24,6 @@ Appends-both (Some xs) (Some ys) (Some zs) x y h k = k ∙ ap (λ (l : List ℕ)
 pub Sent-none : (t : Option (List ℕ)) (text : List ℕ) → Sent t t text text
 Sent-none t text = record { front = []; sent = Appends-none t; whole = refl }
 
-pub Sent-kept : (a b : Option (List ℕ)) (text : List ℕ) → Keeps a b → Sent a b text text
-Sent-kept a b text h = record { front = []; sent = Appends-kept a b h; whole = refl }
-
 -- a part of what was left went out
 pub Sent-on : (a b c : Option (List ℕ)) (text part rest left : List ℕ) → Sent a b text (part ++ rest) → Sent b c part left → Sent a c text (left ++ rest)
 Sent-on a b c text part rest left s t = record {

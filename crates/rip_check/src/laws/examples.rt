@@ -1,4 +1,4 @@
-//! Worked examples: what the definitions say of small networks. Functions without an effect, whose
+//! Worked examples: what the definitions say of small networks. Functions that do nothing, whose
 //! contracts are facts, like the laws.
 
 ghost use Rattle.std.specs.Prelude.{[], ◌∷◌};

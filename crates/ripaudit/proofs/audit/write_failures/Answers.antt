@@ -1,4 +1,3 @@
-use Rattle.std.proofs.Common.{◌∙◌}
 use Rattle.ripaudit.specs.Held.{held}
 use Rattle.ripaudit.proofs.SentLemmas.{onerr-map, onok-map}
 use Rattle.ripaudit.proofs.FailureLemmas.{all_lines, fewer, known_place, one_line, still_failed, still_marked}
