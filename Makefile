@@ -7,10 +7,10 @@ PROGRAM = crates/ripaudit/out/ripaudit
 demo: $(PROGRAM)
 	sh examples/demo
 
-# The first build proves the program and the libraries below it: some ten minutes. The prover's lines go to out/build.log.
+# The first build proves the program and the libraries below it: 15 minutes on four cores. The prover's lines go to out/build.log.
 $(PROGRAM): $(shell find crates -name out -prune -o -type f -print)
 	@mkdir -p out
-	@echo "building $(PROGRAM); a first build proves everything and takes some ten minutes (lines in out/build.log)"
+	@echo "building $(PROGRAM); a first build proves everything and takes 15 minutes on four cores (lines in out/build.log)"
 	@cd crates/ripaudit && rt run -- --version > ../../out/build.log 2>&1 || { tail -n 20 ../../out/build.log; exit 1; }
 	@touch $(PROGRAM)
 
