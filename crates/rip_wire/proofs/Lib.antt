@@ -1,7 +1,7 @@
 pub mod Masks
 pub mod Binds
 pub mod Numbers
-pub mod Entries
+pub mod Spellings
 pub mod Messages
 pub mod Walks
 pub mod Views
@@ -11,3 +11,4 @@ pub mod TextLemmas
 pub mod Writes
 pub mod Parsing
 pub mod Names
+pub mod Decimals

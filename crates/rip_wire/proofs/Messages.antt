@@ -14,7 +14,7 @@ use Rattle.rip_wire.specs.Message.{Message, request, response, ◌>>=◌, fault,
 use Rattle.rip_wire.specs.Whole.{IsWhole}
 use Rattle.rip_wire.proofs.Binds.{bind_ok, passed, same_Ok}
 use Rattle.rip_wire.proofs.Numbers.{IsBytes}
-use Rattle.rip_wire.proofs.Entries.{spelled_all, read_all_again, length-entries_bytes}
+use Rattle.rip_wire.proofs.Spellings.{spelled_all, read_all_again, length-entries_bytes}
 
 -- the command of a kind
 abbrev pub command_of : Kind → ℕ

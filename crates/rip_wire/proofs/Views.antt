@@ -8,8 +8,9 @@ use Rattle.rip_wire.specs.declared.datagram.Kind.{Kind}
 use Rattle.rip_wire.specs.declared.datagram.Kind.TheVariants.{Request, Response}
 use Rattle.rip_wire.specs.Message.{Message, request, response, entries_at, kind_in, groups_in, message_of_kind, message_in}
 use Rattle.rip_wire.specs.Datagram.{kind_of, entries_of, message_or_request}
+use Rattle.rip_wire.specs.Whole.{IsWhole}
 use Rattle.rip_wire.proofs.Binds.{bind_ok, same_Ok}
-use Rattle.rip_wire.proofs.Entries.{read_metric_bounds}
+use Rattle.rip_wire.proofs.Spellings.{read_metric_bounds}
 use Rattle.rip_wire.proofs.Messages.{command_of, headed, read_message}
 use Rattle.rip_wire.proofs.Walks.{HasEntry, entries_at-get, length-entries_at}
 
@@ -24,6 +25,14 @@ has_message b h = cases (message_in b) refl h
     cases : (r : Result Message WireError) → message_in b ≡ r → is_ok r ≡ true → HasMessage b
     cases (Ok m) e h = record { message = m; read = e }
     cases (Err f) e h = absurd (cc)
+
+-- what is readable has a header, and at most 504 bytes
+pub whole : (b : List ℕ) → is_ok (message_in b) ≡ true → IsWhole b
+whole b h =
+    let m = has_message b h in
+    let r = read_message b m.message m.read in
+    let head = headed b r.kind r.kind_is in
+    record { readable = h; header = head.header; few = head.few }
 
 -- the kind of a message, by the first byte
 kind_read : (b : List ℕ) (m : Message) → message_in b ≡ Ok m → get_or b 0 0 ≡ command_of (kind_of m)
@@ -63,6 +72,10 @@ groups_are_entries b h is =
     let m = has_message b h in
     let es = has_entries b m.message m.read (rw m.read at is) in
     rw m.read (sym (length-entries_at (groups_in b) 4 b (entries_of m.message) es.entries))
+
+-- the entries of a response are those that are read of its bytes
+pub entries_whole : (b : List ℕ) → is_ok (message_in b) ≡ true → kind_of (message_or_request (message_in b)) ≡ Response → entries_at (groups_in b) 4 b ≡ Ok (entries_of (message_or_request (message_in b)))
+entries_whole b h is = let m = has_message b h in rw m.read (has_entries b m.message m.read (rw m.read at is)).entries
 
 -- an entry of a response, by its number
 pub record IsNumbered (b : List ℕ) (i : ℕ) : Type 0 where

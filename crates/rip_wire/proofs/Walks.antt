@@ -1,6 +1,8 @@
 -- Reading entries one after the other, as a loop does.
-use Rattle.std.proofs.Common.{◌≡◌, ℕ, zero, suc, ◌+◌, ◌-◌, ◌*◌, ◌<◌, ◌≤◌, true, List, [], ◌∷◌, Some, Result, Ok, Err, length, refl, sym, ap, ◌∙◌, arith, is_ok}
+use Rattle.std.proofs.Common.{◌≡◌, ℕ, zero, suc, ◌+◌, ◌-◌, ◌*◌, ◌<◌, ◌≤◌, true, List, [], ◌∷◌, ◌++◌, Some, Result, Ok, Err, length, take, refl, sym, ap, ◌∙◌, arith, is_ok}
 use Rattle.std.specs.List.{slice_get}
+use Rattle.std.proofs.Math.Seq.{take-suc}
+use Rattle.std.proofs.lemmas.Option.{get_or_from_slice_get}
 use Rattle.rip_wire.specs.declared.entry.Entry.{Entry}
 use Rattle.rip_wire.specs.declared.error.WireError.{WireError}
 use Rattle.rip_wire.specs.Fields.{entry_place}
@@ -42,6 +44,14 @@ EndsAs-more count i b e all lt here so_far = record {
     goes_on (Ok es) h = refl
     goes_on (Err f) h = h
 
+-- an entry without a fault leaves the rest after it
+pub EndsAs-good : (count i : ℕ) (b : List ℕ) (all : Result (List Entry) WireError) → i < count → is_ok (entry_at (entry_place i) b) ≡ true → EndsAs (rest_of count i b) all → EndsAs (rest_of count (i + 1) b) all
+EndsAs-good count i b all lt good so_far = cases (entry_at (entry_place i) b) refl good
+  where
+    cases : (r : Result Entry WireError) → entry_at (entry_place i) b ≡ r → is_ok r ≡ true → EndsAs (rest_of count (i + 1) b) all
+    cases (Ok e) here g = EndsAs-more count i b e all lt here so_far
+    cases (Err f) here g = absurd (cc)
+
 -- a fault of an entry is that of all
 pub EndsAs-fault : (count i : ℕ) (b : List ℕ) (f : WireError) (all : Result (List Entry) WireError) → i < count → entry_at (entry_place i) b ≡ Err f → EndsAs (rest_of count i b) all → all ≡ Err f
 EndsAs-fault count i b f all lt here so_far = so_far.err f (unfolded count i b lt ∙ rw here refl)
@@ -82,3 +92,26 @@ length-entries_at (suc n) k b es h =
     let rest = bind_ok (entries_at n (k + 20) b) _ es first.2 in
     let others = length-entries_at n (k + 20) b rest.0 rest.1 in
     sym (ap length (same_Ok _ es rest.2)) ∙ ap suc others
+
+-- what has no fault is a list of entries
+pub all_entries : (r : Result (List Entry) WireError) → is_ok r ≡ true → (es : List Entry) × (r ≡ Ok es)
+all_entries (Ok es) h = (es, refl)
+all_entries (Err f) h = absurd (cc)
+
+-- each entry of those without a fault has none
+pub good_at : (n k i : ℕ) (b : List ℕ) → is_ok (entries_at n k b) ≡ true → i < n → is_ok (entry_at (k + 20 * i) b) ≡ true
+good_at n k i b h lt =
+    let all = all_entries (entries_at n k b) h in
+    let here = entries_at-get n k i b all.0 all.1 lt in
+    ap is_ok here.read
+
+-- the entries up to one, and it
+pub take-entry : (n k i : ℕ) (b : List ℕ) (es : List Entry) (e : Entry) → entries_at n k b ≡ Ok es → i < n → entry_at (k + 20 * i) b ≡ Ok e → take (i + 1) es ≡ take i es ++ e ∷ []
+take-entry n k i b es e h lt read =
+    let here = entries_at-get n k i b es h lt in
+    let same : here.entry ≡ e = same_Ok here.entry e (sym here.read ∙ read) in
+    let within : i < length es = omega (arith, lt, length-entries_at n k b es h) in
+    let one : i + 1 ≡ suc i = omega arith in
+    ap (λ (m : ℕ). take m es) one
+    ∙ take-suc es i e within
+    ∙ ap (λ (x : Entry). take i es ++ x ∷ []) (get_or_from_slice_get es i here.entry e here.here ∙ same)

@@ -7,3 +7,4 @@ pub mod Message
 pub mod Whole
 pub mod Datagram
 pub mod Name
+pub mod Decimal

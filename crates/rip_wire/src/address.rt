@@ -24,6 +24,9 @@ impl Model for Address {
 }
 
 impl Address {
+    /// 0.0.0.0, which as a next hop stands for the sender (RFC 2453, section 4.4).
+    pub(crate) const UNSPECIFIED: Address = Address { number: 0 };
+
     /// The address with this number, whose highest byte is the first of the four.
     pub const fn new(number: u32) -> Address
         ensures { result ≡ number }
@@ -45,11 +48,18 @@ impl Address {
         ensures value { result ≡ address_in text.now }
         ensures ascii { IsSome result → IsAscii text.now }
     {
-        let address = Address::new(read_address(text)?);
-        if address.encode(&mut [0; 15]) == text {
-            Some(address)
-        } else {
-            None
+        Address::parse_bytes(text.as_bytes())
+    }
+
+    /// The address whose text has these bytes.
+    pub fn parse_bytes(text: &[u8]) -> Option<Address>
+        ensures exact { (a : ℕ) → a < 2 ^ 32 → (result ≡ Some a) ↔ (text.now ≡ address_text a) }
+        ensures value { result ≡ address_in text.now }
+        ensures ascii { IsSome result → IsAscii text.now }
+    {
+        match read_address(text) {
+            Some(number) => Some(Address::new(number)),
+            None => None,
         }
     }
 

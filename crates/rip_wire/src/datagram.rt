@@ -1,10 +1,12 @@
 //! Datagrams.
 
-ghost use Rattle.std.specs.Prelude.{◌≡◌, ◌/◌, ◌<◌, ◌≤◌, length, slice_get};
+ghost use Rattle.std.specs.Prelude.{◌≡◌, ◌/◌, ◌<◌, ◌≤◌, is_ok, length, slice_get, true};
+ghost use Rattle.rip_wire.specs.Message.{message_in};
 ghost use Rattle.rip_wire.specs.Whole.{IsWhole};
 
 use crate::Entry;
-use crate::reading::read_entry;
+use crate::entries::{MOST_ENTRIES, read_entries};
+use crate::reading::good_entry;
 
 /// What a datagram is for (RFC 2453, section 3.6).
 #[derive(Clone, Copy, Debug, PartialEq, Eq)]
@@ -25,9 +27,10 @@ pub struct Datagram<'a> {
 impl<'a> Datagram<'a> {
     ghost use Rattle.rip_wire.specs.Datagram.{body_of, datagram_bytes, entries_of, kind_of, message_of};
 
-    /// The datagram of bytes in which there is no fault.
-    pub(crate) fn of_bytes(bytes: &'a [u8]) -> Datagram<'a>
-        requires { IsWhole bytes.now }
+    /// The datagram of bytes in which there is no fault, as of those that `read` took before. It
+    /// looks at none of them.
+    pub fn of_bytes(bytes: &'a [u8]) -> Datagram<'a>
+        requires { is_ok (message_in bytes.now) ≡ true }
         ensures { datagram_bytes result ≡ bytes.now }
     {
         Datagram { bytes }
@@ -66,9 +69,17 @@ impl<'a> Datagram<'a> {
         requires within { i < length (entries_of (message_of self.now)) }
         ensures { slice_get (entries_of (message_of self.now)) i ≡ Some result }
     {
-        match read_entry(self.bytes, 4 + 20 * i) {
-            Ok(entry) => entry,
-            Err(_) => unreachable!(),
-        }
+        good_entry(self.bytes, 4 + 20 * i)
+    }
+
+    /// Writes the entries of a response at the front of the room, in their order, and answers them.
+    pub fn entries<'r>(&self, room: &'r mut [Entry; MOST_ENTRIES]) -> &'r [Entry]
+        requires { kind_of (message_of self.now) ≡ Kind.Response }
+        ensures entries { result.now ≡ entries_of (message_of self.now) }
+        ensures few { length result.now ≤ 25 }
+    {
+        let count = self.len();
+        read_entries(self.bytes, count, room);
+        &room[..count]
     }
 }

@@ -14,3 +14,13 @@ pub struct Entry {
     /// The metric.
     pub metric: Metric,
 }
+
+impl Entry {
+    /// What room for entries may hold before it is filled. Which entry it is has no meaning.
+    pub const FILLER: Entry = Entry {
+        tag: 0,
+        prefix: Prefix::ALL,
+        next_hop: Address::UNSPECIFIED,
+        metric: Metric::INFINITY,
+    };
+}

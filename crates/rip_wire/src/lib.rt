@@ -4,6 +4,7 @@
 
 mod address;
 mod datagram;
+mod entries;
 mod entry;
 mod error;
 pub mod laws;
@@ -18,6 +19,7 @@ mod writing;
 
 pub use address::Address;
 pub use datagram::{Datagram, Kind};
+pub use entries::MOST_ENTRIES;
 pub use entry::Entry;
 pub use error::{WireCode, WireError};
 pub use metric::Metric;

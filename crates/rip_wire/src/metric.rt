@@ -24,6 +24,9 @@ impl Model for Metric {
 }
 
 impl Metric {
+    /// 16, which means that the destination is unreachable (RFC 2453, section 3.6).
+    pub(crate) const INFINITY: Metric = Metric { number: 16 };
+
     /// The metric with this number, unless it is below 1 or above 16.
     pub const fn new(number: u32) -> Option<Metric>
         ensures { SomeIff result ((1 ≤ number) × (number ≤ 16)) number }

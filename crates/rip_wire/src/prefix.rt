@@ -7,11 +7,12 @@ use crate::Address;
 use crate::text::{put_address, put_length, read_address};
 use std::cmp::Ordering;
 use std::fmt;
+use std::hash::{Hash, Hasher};
 use std::marker::Model;
 
 /// A network and the number of its fixed bits, as `10.3.0.0/16`. Prefixes are compared by the
 /// network, and then by the length.
-#[derive(Clone, Copy, Debug, PartialEq, Eq, Hash)]
+#[derive(Clone, Copy, Debug, PartialEq, Eq)]
 pub struct Prefix {
     network: Address,
     prefix_len: u8,
@@ -44,10 +45,19 @@ fn read_prefix(text: &str) -> Option<Prefix>
     ensures fits { IfSome result IsBlock }
 {
     let (network, length) = text.split_once('/')?;
-    Prefix::new(Address::new(read_address(network)?), length.parse().ok()?)
+    Prefix::new(
+        Address::new(read_address(network.as_bytes())?),
+        length.parse().ok()?,
+    )
 }
 
 impl Prefix {
+    /// All addresses, 0.0.0.0/0: the prefix of the default route.
+    pub(crate) const ALL: Prefix = Prefix {
+        network: Address::UNSPECIFIED,
+        prefix_len: 0,
+    };
+
     /// The prefix of a network and a length, unless the length is above 32 or a bit past it is set.
     pub fn new(network: Address, length: u8) -> Option<Prefix>
         ensures { SomeIff result (IsBlock (block network length)) (block network length) }
@@ -150,6 +160,23 @@ impl PartialOrd for Prefix {
 
     fn partial_cmp(&self, other: &Prefix) -> Option<Ordering> {
         Some(self.cmp(other))
+    }
+}
+
+impl Hash for Prefix {
+    ghost use Rattle.std.proofs.Common.{rules};
+    ghost use Rattle.std.specs.Cmp.Rules.{hashing};
+    ghost use Rattle.std.specs.Hash as fed;
+    ghost use Rattle.std.specs.Prelude.{◌+◌, ◌*◌};
+
+    ghost hash_input = { λ p. fed.u64 (p.network * 256 + p.prefix_len) };
+
+    ghost respects_eq = { Prim.search (hashing, rules) };
+
+    /// One word, so that a hasher has one write.
+    fn hash<H: Hasher>(&self, state: &mut H) {
+        let word = u64::from(self.network.get()) * 256 + u64::from(self.prefix_len);
+        word.hash(state);
     }
 }
 

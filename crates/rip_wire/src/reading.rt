@@ -1,6 +1,6 @@
 //! Reading datagrams.
 
-ghost use Rattle.std.specs.Prelude.{◌≡◌, ◌+◌, ◌<◌, ◌≤◌, ◌↔◌, ◌++◌, ℕ, List, length, is_ok, true, IfErr, IfOk, IfSome, IsErrOf, IsOkAnd, MatchResult, OnOk};
+ghost use Rattle.std.specs.Prelude.{◌≡◌, ◌+◌, ◌<◌, ◌≤◌, ◌↔◌, ◌++◌, ℕ, List, Ok, length, is_ok, false, true, IfErr, IfOk, IfSome, IsErrOf, IsOkAnd, MatchResult, OnOk};
 ghost use Rattle.rip_wire.specs.declared.entry.Entry.{Entry};
 ghost use Rattle.rip_wire.specs.declared.error.WireCode.{WireCode};
 ghost use Rattle.rip_wire.specs.Faults.{WireFault};
@@ -85,7 +85,7 @@ fn read_metric(at: usize, metric: u32) -> Result<Metric, WireError>
 
 /// The entry at a place, or its first fault.
 #[tactic(auto, unfolding(crate::specs::Message::entry_at))]
-pub(crate) fn read_entry(bytes: &[u8], at: usize) -> Result<Entry, WireError>
+fn read_entry(bytes: &[u8], at: usize) -> Result<Entry, WireError>
     requires room { at + 20 ≤ length bytes.now }
     requires few { length bytes.now ≤ 504 }
     ensures { result ≡ entry_at at bytes.now }
@@ -103,6 +103,60 @@ pub(crate) fn read_entry(bytes: &[u8], at: usize) -> Result<Entry, WireError>
         next_hop: Address::new(u32_at(bytes, at + 12)),
         metric,
     })
+}
+
+/// Whether the entry at a place has no fault.
+#[tactic(auto, unfolding(crate::specs::Message::entry_at))]
+fn is_entry(bytes: &[u8], at: usize) -> bool
+    requires room { at + 20 ≤ length bytes.now }
+    requires few { length bytes.now ≤ 504 }
+    ensures { result ≡ is_ok (entry_at at bytes.now) }
+{
+    let Some(length) = length_of_mask(u32_at(bytes, at + 8)) else {
+        return false;
+    };
+    let network = Address::new(u32_at(bytes, at + 4));
+    u16_at(bytes, at) == 2
+        && Prefix::new(network, length).is_some()
+        && Metric::new(u32_at(bytes, at + 16)).is_some()
+}
+
+/// The first fault of the entry at a place where it has one.
+fn entry_fault(bytes: &[u8], at: usize) -> WireError
+    requires room { at + 20 ≤ length bytes.now }
+    requires few { length bytes.now ≤ 504 }
+    requires bad { is_ok (entry_at at bytes.now) ≡ false }
+    ensures { entry_at at bytes.now ≡ Err result }
+{
+    match read_entry(bytes, at) {
+        Ok(_) => unreachable!(),
+        Err(error) => error,
+    }
+}
+
+/// The entry at a place where it has no fault.
+#[tactic(auto, unfolding(crate::specs::Message::entry_at))]
+pub(crate) fn good_entry(bytes: &[u8], at: usize) -> Entry
+    requires room { at + 20 ≤ length bytes.now }
+    requires few { length bytes.now ≤ 504 }
+    requires good { is_ok (entry_at at bytes.now) ≡ true }
+    ensures { entry_at at bytes.now ≡ Ok result }
+{
+    let Some(length) = length_of_mask(u32_at(bytes, at + 8)) else {
+        unreachable!()
+    };
+    let Some(prefix) = Prefix::new(Address::new(u32_at(bytes, at + 4)), length) else {
+        unreachable!()
+    };
+    let Some(metric) = Metric::new(u32_at(bytes, at + 16)) else {
+        unreachable!()
+    };
+    Entry {
+        tag: u16_at(bytes, at + 2),
+        prefix,
+        next_hop: Address::new(u32_at(bytes, at + 12)),
+        metric,
+    }
 }
 
 /// The kind of a datagram, by its header and its length.
@@ -138,7 +192,7 @@ fn read_kind(bytes: &[u8]) -> Result<Kind, WireError>
     Ok(Kind::Response)
 }
 
-/// Reads each entry, up to the first fault.
+/// Tests each entry, up to the first fault.
 fn check_entries(bytes: &[u8]) -> Result<(), WireError>
     requires header { 4 ≤ length bytes.now }
     requires few { length bytes.now ≤ 504 }
@@ -146,7 +200,9 @@ fn check_entries(bytes: &[u8]) -> Result<(), WireError>
 {
     let count = (bytes.len() - 4) / 20;
     for i in 0..count {
-        let _entry = read_entry(bytes, 4 + 20 * i)?;
+        if !is_entry(bytes, 4 + 20 * i) {
+            return Err(entry_fault(bytes, 4 + 20 * i));
+        }
     }
     Ok(())
 }

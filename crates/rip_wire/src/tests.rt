@@ -231,6 +231,7 @@ fn reads_what_was_written(rt: HostRuntime) {
     for i in 0..25 {
         assert_eq!(rt; datagram.entry(i), entries[i], "entry {i}");
     }
+    assert!(rt; datagram.entries(&mut [Entry::FILLER; 25]) == &entries[..]);
 }
 
 #[test]

@@ -1,4 +1,4 @@
-use Rattle.std.proofs.Common.{◌≡◌, Ok, Err, sym, ap, ◌∙◌, arith, Some}
+use Rattle.std.proofs.Common.{◌≡◌, Ok, sym, ap, ◌∙◌, arith, Some, refl}
 use Rattle.rip_wire.proofs.Views.{numbered}
 use Rattle.rip_wire.proofs.datagram.Datagram.entry.Goals as goal
 
@@ -8,17 +8,16 @@ overflow_mul-i c = let at = numbered c.args.self.now.bytes.now c.args.i c.args.s
 pub overflow_add-i : goal.overflow_add-i
 overflow_add-i c = let at = numbered c.args.self.now.bytes.now c.args.i c.args.self.now.whole.readable c.requires.response c.requires.within in let room = at.room in omega arith
 
-pub read_entry-requires-clause-room : goal.read_entry-requires-clause-room
-read_entry-requires-clause-room c = (numbered c.args.self.now.bytes.now c.args.i c.args.self.now.whole.readable c.requires.response c.requires.within).room
+pub good_entry-requires-clause-room : goal.good_entry-requires-clause-room
+good_entry-requires-clause-room c = (numbered c.args.self.now.bytes.now c.args.i c.args.self.now.whole.readable c.requires.response c.requires.within).room
 
-pub unreachable-requires : goal.unreachable-requires
-unreachable-requires c =
+pub good_entry-requires-clause-good : goal.good_entry-requires-clause-good
+good_entry-requires-clause-good c =
     let at = numbered c.args.self.now.bytes.now c.args.i c.args.self.now.whole.readable c.requires.response c.requires.within in
-    let clash : Ok at.has.entry ≡ Err c.in-Err.field-0 = sym at.has.read ∙ sym c.read_entry.ensures ∙ c.in-Err.is in
-    cc clash
+    rw at.has.read refl
 
 pub returns : goal.returns
 returns c =
     let at = numbered c.args.self.now.bytes.now c.args.i c.args.self.now.whole.readable c.requires.response c.requires.within in
-    let same : Ok at.has.entry ≡ Ok c.in-Ok.entry = sym at.has.read ∙ sym c.read_entry.ensures ∙ c.in-Ok.is in
+    let same : Ok at.has.entry ≡ Ok c.good_entry.result = sym at.has.read ∙ c.good_entry.ensures in
     at.has.here ∙ ap Some (cc same)

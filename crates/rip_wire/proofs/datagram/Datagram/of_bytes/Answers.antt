@@ -1,0 +1,5 @@
+use Rattle.rip_wire.proofs.Views.{whole}
+use Rattle.rip_wire.proofs.datagram.Datagram.of_bytes.Goals as goal
+
+pub invariant_of-result : goal.invariant_of-result
+invariant_of-result c = record { whole = whole c.args.bytes.now c.requires }
