@@ -4,7 +4,6 @@ pub mod HeldLemmas
 pub mod CutLemmas
 pub mod DigitLemmas
 pub mod JudgeLemmas
-pub mod TextLemmas
 pub mod StepLemmas
 pub mod LineRelations
 pub mod FieldRelations
@@ -13,3 +12,4 @@ pub mod LogRelations
 pub mod PassLemmas
 pub mod LogLemmas
 pub mod FollowLemmas
+pub mod PairLemmas

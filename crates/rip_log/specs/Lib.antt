@@ -8,6 +8,7 @@ pub mod Lines
 pub mod LogText
 pub mod Logs
 pub mod Marks
+pub mod Pairs
 pub mod Parts
 pub mod Places
 pub mod Reader

@@ -1,10 +1,11 @@
 //! Hex digits into room that is there.
 
-ghost use Rattle.std.specs.Prelude.{◌≡◌, ◌<◌, ◌≤◌, ◌↔◌, Ok, Err, length, take, MatchResult, IsTrue};
+ghost use Rattle.std.specs.Prelude.{◌≡◌, ◌/◌, ◌<◌, ◌≤◌, ◌↔◌, ℕ, List, Ok, Err, false, drop, length, take, MatchResult, IsTrue};
 ghost use Rattle.std.specs.List.{AllPass};
-ghost use Rattle.hex.specs.Hex.{is_hex_digit};
+ghost use Rattle.hex.specs.Hex.{decode_of, is_hex_digit};
 ghost use Rattle.rip_log.specs.Lines.{bytes_of};
 
+use crate::blocks::decode_blocks;
 use crate::line::LineCode;
 
 /// The most bytes of a datagram.
@@ -40,16 +41,34 @@ fn code_of_long(digits: &[u8]) -> LineCode
     }
 }
 
+/// Writes the bytes that hex digits of either case spell to the front of the room, and answers
+/// whether they spell any: there is an even number of them, and each is a digit. Where they do not,
+/// the front of the room may hold anything. The rest of the room stays as it is.
+pub fn decode_digits(digits: &[u8], room: &mut [u8]) -> bool
+    requires { length digits.now / 2 ≤ length room.old }
+    ensures bytes { IsTrue result →
+        decode_of digits.now ≡ Ok (take (length digits.now / 2) room.new) }
+    ensures none { result ≡ false → (bytes : List ℕ) → decode_of digits.now ≡ Ok bytes → ⊥ }
+    ensures size { length room.new ≡ length room.old }
+    ensures rest { drop (length digits.now / 2) room.new ≡ drop (length digits.now / 2) room.old }
+{
+    let front = &mut room[..digits.len() / 2];
+    decode_blocks(digits, front) || hex::decode_to_slice(digits, front).is_ok()
+}
+
 /// Writes the bytes of hex digits to the front of the room, and answers how many there are.
-pub fn decode(digits: &[u8], room: &mut [u8; 504]) -> Result<usize, LineCode>
+pub(crate) fn decode(digits: &[u8], room: &mut [u8; 504]) -> Result<usize, LineCode>
     ensures { MatchResult result (λ n. (n ≤ 504) × (bytes_of digits.now ≡ Ok (take n room.new))) (λ code. bytes_of digits.now ≡ Err code) }
 {
     if digits.len() > 2 * MOST_DATAGRAM_BYTES {
         return Err(code_of_long(digits));
     }
-    let count = digits.len() / 2;
-    match hex::decode_to_slice(digits, &mut room[..count]) {
-        Ok(()) => Ok(count),
-        Err(_) => Err(LineCode::Hex),
+    if decode_digits(digits, room) {
+        Ok(digits.len() / 2)
+    } else {
+        Err(LineCode::Hex)
     }
 }
+
+#[cfg(test)]
+mod tests;

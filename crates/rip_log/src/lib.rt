@@ -1,6 +1,7 @@
 //! Logs of captured datagrams: devices, and the reading of a log's lines.
 #![tactic(auto)]
 
+mod blocks;
 mod device;
 mod digits;
 mod error;
@@ -13,6 +14,7 @@ mod source;
 mod window;
 
 pub use device::Failed;
+pub use digits::decode_digits;
 pub use error::{LogCode, LogError};
 pub use reader::{LogReader, Record};
 pub use sink::{IntoWrite, Sink};

@@ -2,14 +2,13 @@
 
 ghost use Rattle.std.specs.Prelude.{◌≡◌, ◌≤◌, length, slice_range};
 ghost use Rattle.std.specs.Io.BufRead.{strip_last};
-ghost use Rattle.rip_wire.specs.Address.{address_in};
 ghost use Rattle.rip_log.specs.Fields.{Lies, fields_of};
 ghost use Rattle.rip_log.specs.Lines.{judge, three_fields, unless_skipped};
 ghost use Rattle.rip_log.specs.Parts.{Tells};
 
 use crate::digits::decode;
 use crate::fields::{Fields, split};
-use rip_wire::{Address, WireError, is_name, laws, read};
+use rip_wire::{Address, WireError, is_name, read};
 
 /// What is wrong with a line, by itself. The first that holds is told.
 #[derive(Clone, Copy)]
@@ -44,17 +43,6 @@ fn without_return(line: &[u8]) -> &[u8]
     }
 }
 
-/// The sender, if the field is an address.
-fn sender_of(field: &[u8]) -> Option<Address>
-    ensures { result ≡ address_in field.now }
-{
-    laws::address_texts();
-    match str::from_utf8(field) {
-        Ok(text) => Address::parse(text),
-        Err(_) => None,
-    }
-}
-
 /// Judges three fields of a line, and writes the datagram to the room.
 fn judge_fields(
     line: &[u8],
@@ -71,7 +59,7 @@ fn judge_fields(
     if !is_name(&line[link.0..link.1]) {
         return Err(LineCode::LinkName);
     }
-    let Some(address) = sender_of(&line[sender.0..sender.1]) else {
+    let Some(address) = Address::parse_bytes(&line[sender.0..sender.1]) else {
         return Err(LineCode::Sender);
     };
     let count = decode(&line[digits.0..digits.1], room)?;

@@ -10,7 +10,7 @@ use crate::error::{LogCode, LogError};
 use crate::line::{Parts, judge_line};
 use crate::source::Source;
 use crate::window::{RawLine, Window};
-use rip_wire::{Address, Datagram, laws, read};
+use rip_wire::{Address, Datagram, laws};
 use std::alloc::Global;
 
 /// The most lines of a log.
@@ -164,14 +164,11 @@ impl<R: Source> Reading<R> {
         ensures line { result.line ≡ lines_behind self.now }
     {
         let line = self.window.range(place.from, place.to);
-        match read(&self.room[..place.parts.count]) {
-            Ok(datagram) => Record {
-                line: self.progress.lines,
-                link: name_text(&line[place.parts.from..place.parts.to]),
-                datagram,
-                sender: place.parts.sender.get(),
-            },
-            Err(_) => unreachable!(),
+        Record {
+            line: self.progress.lines,
+            link: name_text(&line[place.parts.from..place.parts.to]),
+            datagram: Datagram::of_bytes(&self.room[..place.parts.count]),
+            sender: place.parts.sender.get(),
         }
     }
 }

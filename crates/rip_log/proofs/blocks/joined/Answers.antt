@@ -1,0 +1,12 @@
+use Rattle.std.proofs.Common.{◌<◌, ◌≢◌, length, arith, get_or-set_other, get_or-set_same, length-set, below_more, refl}
+use Rattle.rip_log.proofs.blocks.joined.Goals as goal
+
+pub bytes-preserved : goal.bytes-preserved
+bytes-preserved c =
+    let lt : c.bytes.i < length c.bytes.bytes = omega (arith, c.bytes.invariant.len) in
+    record {
+      len = rw length-set c.bytes.invariant.len;
+      each = below_more _ _
+          (λ k h. let ne : k ≢ c.bytes.i = omega arith in rw get_or-set_other (c.bytes.invariant.each k h))
+          (rw get_or-set_same refl);
+    }
