@@ -1,8 +1,11 @@
 -- f of each number below n.
-use Rattle.std.proofs.Common.{◌≡◌, ℕ, zero, suc, ◌<◌, List, [], ◌∷◌, length, map, get_or, refl, sym, ◌∙◌, ap, arith, length-append, inl, inr}
-use Rattle.std.proofs.lemmas.List.{get_or_append_left, get_or_push, get_or-map, length-map}
-use Rattle.std.proofs.lemmas.Bool.{cases_lt}
-use Rattle.rip_plan.specs.Network.{each_below}
+use Rattle.std.proofs.Common.{◌≡◌, ◌≢◌, ℕ, zero, suc, ◌+◌, ◌<◌, List, [], ◌∷◌, ◌++◌, length, map, take, Bool, true, false, cond, get_or, refl, sym, ◌∙◌, ap, arith, length-append, inl, inr}
+use Rattle.std.proofs.lemmas.List.{get_or_append_left, get_or_push, get_or-map, length-map, get_or-set_same, get_or-set_other, same_lists, map-set, take_more, length-take-le}
+use Rattle.std.proofs.Math.ListN.{set, length-set}
+use Rattle.std.specs.Prelude.{◌==◌}
+use Rattle.std.proofs.lemmas.Bool.{cases_lt, cases_eq}
+use Rattle.std.proofs.lemmas.Bool.Decides.{nat_tests}
+use Rattle.rip_plan.specs.Network.{each_below, numbers_where}
 
 pub length-each_below : {A : Type 0} (n : ℕ) (f : ℕ → A) → length (each_below n f) ≡ n
 length-each_below zero f = refl
@@ -28,3 +31,60 @@ pub kept_within : {V A : Type 0} (view : V → A) (vs : List V) (n : ℕ) (f : �
 kept_within view vs n f l kept below =
     let same : length vs ≡ n = sym (length-map vs view) ∙ ap length kept ∙ length-each_below n f in
     omega arith
+
+-- another value at one number
+pub each_below_set : {A : Type 0} (n : ℕ) (f g : ℕ → A) (l : ℕ) → l < n → ((k : ℕ) → k ≢ l → g k ≡ f k) → set (each_below n f) l (g l) ≡ each_below n g
+each_below_set {A} n f g l within others = same_lists (set (each_below n f) l (g l)) (each_below n g) count at
+  where
+    count : length (set (each_below n f) l (g l)) ≡ length (each_below n g)
+    count = length-set (each_below n f) l (g l) ∙ length-each_below n f ∙ sym (length-each_below n g)
+
+    at : (k : ℕ) (d : A) → k < length (set (each_below n f) l (g l)) → get_or (set (each_below n f) l (g l)) k d ≡ get_or (each_below n g) k d
+    at k d h =
+        let below : k < n = omega (arith, length-set (each_below n f) l (g l), length-each_below n f) in
+        elim (cases_eq k l) [
+          | inl e ↦ rw e (get_or-set_same (each_below n f) l (g l) d (omega (arith, length-each_below n f)) ∙ sym (each_below-at n g l d within))
+          | inr apart ↦ get_or-set_other (each_below n f) l k (g l) d apart ∙ each_below-at n f k d below ∙ sym (others k apart) ∙ sym (each_below-at n g k d below)
+        ]
+
+-- one more item
+pub numbers_where_push : {A : Type 0} (test : A → Bool) (n : ℕ) (xs : List A) (x : A) → numbers_where test n (xs ++ x ∷ []) ≡ cond (test x) (numbers_where test n xs ++ (n + length xs) ∷ []) (numbers_where test n xs)
+numbers_where_push test n [] x = let same : n + 0 ≡ n = omega arith in rw same refl
+numbers_where_push test n (y ∷ ys) x = by_tests (test y) (test x) refl refl (numbers_where_push test (n + 1) ys x)
+  where
+    by_tests : (a b : Bool) → test y ≡ a → test x ≡ b → numbers_where test (n + 1) (ys ++ x ∷ []) ≡ cond (test x) (numbers_where test (n + 1) ys ++ (n + 1 + length ys) ∷ []) (numbers_where test (n + 1) ys)
+        → numbers_where test n (y ∷ ys ++ x ∷ []) ≡ cond (test x) (numbers_where test n (y ∷ ys) ++ (n + length (y ∷ ys)) ∷ []) (numbers_where test n (y ∷ ys))
+    by_tests true true e f later = let same : n + 1 + length ys ≡ n + suc (length ys) = omega arith in rw (e, later, f, same) refl
+    by_tests true false e f later = rw (e, later, f) refl
+    by_tests false true e f later = let same : n + 1 + length ys ≡ n + suc (length ys) = omega arith in rw (e, later, f, same) refl
+    by_tests false false e f later = rw (e, later, f) refl
+
+-- the numbers of the items of each key, with one more item
+pub grouped_more : {A V : Type 0} (view : V → List ℕ) (vs : List V) (n : ℕ) (key : A → ℕ) (xs : List A) (i : ℕ) (x : A) (v w : V)
+    → map view vs ≡ each_below n (λ k. numbers_where (λ y. key y == k) 0 (take i xs)) → i < length xs → x ≡ get_or xs i x
+    → key x < n → v ≡ get_or vs (key x) v → view w ≡ view v ++ i ∷ []
+    → map view (set vs (key x) w) ≡ each_below n (λ k. numbers_where (λ y. key y == k) 0 (take (i + 1) xs))
+grouped_more {A} view vs n key xs i x v w kept within is below at pushed =
+    map-set view vs (key x) w ∙ ap (λ ls. set ls (key x) (view w)) kept ∙ ap (λ l. set (each_below n old) (key x) l) here ∙ each_below_set n old new (key x) below others
+  where
+    old : ℕ → List ℕ
+    old = λ k. numbers_where (λ y. key y == k) 0 (take i xs)
+
+    new : ℕ → List ℕ
+    new = λ k. numbers_where (λ y. key y == k) 0 (take (i + 1) xs)
+
+    more : (k : ℕ) → new k ≡ cond (key x == k) (old k ++ i ∷ []) (old k)
+    more k =
+        let test = λ (y : A). key y == k in
+        let count : 0 + length (take i xs) ≡ i = omega (arith, length-take-le i xs (omega arith)) in
+        let front : take (i + 1) xs ≡ take i xs ++ x ∷ [] = take_more xs i x within ∙ ap (λ y. take i xs ++ y ∷ []) (sym is) in
+        ap (numbers_where test 0) front ∙ numbers_where_push test 0 (take i xs) x ∙ ap (λ m. cond (key x == k) (old k ++ m ∷ []) (old k)) count
+
+    here : view w ≡ new (key x)
+    here =
+        let same : (key x == key x) ≡ true = grind (arith, nat_tests) in
+        let before : view v ≡ old (key x) = kept_at view vs n old (key x) v kept below at in
+        pushed ∙ ap (λ ls. ls ++ i ∷ []) before ∙ sym (more (key x) ∙ rw same refl)
+
+    others : (k : ℕ) → k ≢ key x → new k ≡ old k
+    others k apart = let off : (key x == k) ≡ false = grind (arith, nat_tests) in more k ∙ rw off refl

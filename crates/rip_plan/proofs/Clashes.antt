@@ -1,11 +1,11 @@
 -- The first item that clashes with an earlier one, as a loop finds it.
-use Rattle.std.proofs.Common.{◌≡◌, ℕ, suc, ◌+◌, ◌-◌, ◌<◌, List, [], ◌∷◌, ◌++◌, Bool, true, false, length, map, take, drop, get_or, Option, Some, None, refl, sym, ap, ◌∙◌, arith}
-use Rattle.std.specs.Prelude.{option_map}
+use Rattle.std.proofs.Common.{◌≡◌, ℕ, suc, ◌+◌, ◌-◌, ◌<◌, List, [], ◌∷◌, ◌++◌, Bool, true, false, cond, not, ◌&&◌, ◌||◌, length, map, take, drop, get_or, Option, Some, None, refl, sym, ap, ◌∙◌, arith}
+use Rattle.std.specs.Prelude.{option_map, filter}
 use Rattle.std.specs.List.{list_any}
 use Rattle.std.proofs.lemmas.List.{drop_more, take_more}
-use Rattle.rip_plan.specs.Passes.{Touching, do_meet, first_clash, first_bare, is_bare}
-use Rattle.rip_plan.specs.Touches.{touching_of}
-use Rattle.rip_plan.specs.declared.passes.Touch.{Touch}
+use Rattle.std.proofs.lemmas.List.Folds.{list_any_more}
+use Rattle.rip_plan.specs.Passes.{Touching, do_meet, first_clash, first_bare, is_bare, touching}
+use Rattle.rip_plan.specs.declared.draft.DraftPlace.{DraftPlace}
 use Rattle.rip_plan.specs.declared.draft.DraftInterface.{DraftInterface}
 
 module _ {A : Type 0} (clash : A → A → Bool) (xs : List A) (k : ℕ) (x : A) (lt : k < length xs) (is : x ≡ get_or xs k x) where
@@ -41,13 +41,64 @@ first_clash-map see clash earlier (x ∷ xs) = by_test (list_any (λ y. clash (s
     by_test true e later = rw (e, any_seen see (λ y. clash y (see x)) earlier, e) refl
     by_test false e later = rw (e, any_seen see (λ y. clash y (see x)) earlier, e, ← map_push see earlier x) later
 
--- the places that meet, seen by the routers that they touch
-pub meeting_seen : (ts : List Touch) (ps : List Touching) → map touching_of ts ≡ ps → option_map (λ t. t.place.place) (first_clash (λ t u. do_meet (touching_of t) (touching_of u)) [] ts) ≡ option_map (λ t. t.place.place) (first_clash do_meet [] ps)
-meeting_seen ts ps h = by_option (first_clash (λ t u. do_meet (touching_of t) (touching_of u)) [] ts) (first_clash do_meet [] ps) (first_clash-map touching_of do_meet [] ts ∙ ap (first_clash do_meet []) h)
+-- the places that meet, with the routers that they touch
+pub meeting_seen : (interfaces : List DraftInterface) (places : List DraftPlace) → option_map (λ p. p.place) (first_clash (λ p q. do_meet (touching interfaces p) (touching interfaces q)) [] places) ≡ option_map (λ t. t.place.place) (first_clash do_meet [] (map (touching interfaces) places))
+meeting_seen interfaces places = by_option (first_clash (λ p q. do_meet (touching interfaces p) (touching interfaces q)) [] places) (first_clash do_meet [] (map (touching interfaces) places)) (first_clash-map (touching interfaces) do_meet [] places)
   where
-    by_option : (o : Option Touch) (p : Option Touching) → option_map touching_of o ≡ p → option_map (λ t. t.place.place) o ≡ option_map (λ t. t.place.place) p
-    by_option None p h = rw (← h) refl
-    by_option (Some t) p h = rw (← h) refl
+    by_option : (o : Option DraftPlace) (t : Option Touching) → option_map (touching interfaces) o ≡ t → option_map (λ p. p.place) o ≡ option_map (λ t. t.place.place) t
+    by_option None t h = rw (← h) refl
+    by_option (Some p) t h = rw (← h) refl
+
+-- the items that pass, seen by a function
+pub any_listed : {A B : Type 0} (see : A → B) (test : A → Bool) (p : B → Bool) (xs : List A) → list_any p (map see (filter test xs)) ≡ list_any (λ x. test x && p (see x)) xs
+any_listed see test p [] = refl
+any_listed see test p (x ∷ xs) = by_test (test x) refl (any_listed see test p xs)
+  where
+    by_test : (t : Bool) → test x ≡ t → list_any p (map see (filter test xs)) ≡ list_any (λ y. test y && p (see y)) xs → list_any p (map see (filter test (x ∷ xs))) ≡ list_any (λ y. test y && p (see y)) (x ∷ xs)
+    by_test true e later = rw (e, later) refl
+    by_test false e later = rw (e, later) refl
+
+pub any_kept : {A B : Type 0} (see : A → B) (test : A → Bool) (xs : List A) → list_any test xs ≡ list_any (λ y. true) (map see (filter test xs))
+any_kept see test [] = refl
+any_kept see test (x ∷ xs) = by_test (test x) refl (any_kept see test xs)
+  where
+    by_test : (t : Bool) → test x ≡ t → list_any test xs ≡ list_any (λ y. true) (map see (filter test xs)) → list_any test (x ∷ xs) ≡ list_any (λ y. true) (map see (filter test (x ∷ xs)))
+    by_test true e later = rw e refl
+    by_test false e later = rw e later
+
+pub listed_push : {A B : Type 0} (see : A → B) (test : A → Bool) (xs : List A) (x : A) → map see (filter test (xs ++ x ∷ [])) ≡ cond (test x) (map see (filter test xs) ++ see x ∷ []) (map see (filter test xs))
+listed_push see test [] x = by_test (test x) refl
+  where
+    by_test : (t : Bool) → test x ≡ t → map see (filter test (x ∷ [])) ≡ cond (test x) (see x ∷ []) []
+    by_test true e = rw e refl
+    by_test false e = rw e refl
+listed_push see test (y ∷ ys) x = by_tests (test y) (test x) refl refl (listed_push see test ys x)
+  where
+    by_tests : (a b : Bool) → test y ≡ a → test x ≡ b → map see (filter test (ys ++ x ∷ [])) ≡ cond (test x) (map see (filter test ys) ++ see x ∷ []) (map see (filter test ys))
+        → map see (filter test (y ∷ ys ++ x ∷ [])) ≡ cond (test x) (map see (filter test (y ∷ ys)) ++ see x ∷ []) (map see (filter test (y ∷ ys)))
+    by_tests true true e f later = rw (e, later, f) refl
+    by_tests true false e f later = rw (e, later, f) refl
+    by_tests false true e f later = rw (e, later, f) refl
+    by_tests false false e f later = rw (e, later, f) refl
+
+-- a key that a set had already, or that is new
+pub not_added : (had is_new : Bool) → is_new ≡ not had → is_new ≡ false → had ≡ true
+not_added true b h e = refl
+not_added false b h e = absurd cc
+
+pub added : (had is_new : Bool) → is_new ≡ not had → is_new ≡ true → had ≡ false
+added true b h e = absurd cc
+added false b h e = refl
+
+or_turned : (a b : Bool) → cond a true b ≡ (b || a)
+or_turned true true = refl
+or_turned true false = refl
+or_turned false true = refl
+or_turned false false = refl
+
+-- one more item that a set was given
+pub seen_more : {A : Type 0} (test : A → Bool) (xs : List A) (k : ℕ) (x : A) → k < length xs → x ≡ get_or xs k x → cond (test x) true (list_any test (take k xs)) ≡ list_any test (take (k + 1) xs)
+seen_more test xs k x lt is = or_turned (test x) (list_any test (take k xs)) ∙ ap (λ y. list_any test (take k xs) || test y) is ∙ sym (list_any_more test xs k x lt)
 
 -- ---- the first router without an interface
 

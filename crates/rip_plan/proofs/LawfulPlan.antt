@@ -15,7 +15,8 @@ use Rattle.rip_plan.specs.declared.parts.Interface.{Interface}
 use Rattle.rip_plan.specs.declared.parts.Seat.{Seat}
 use Rattle.rip_plan.specs.declared.parts.Seat.TheVariants as seats
 use Rattle.rip_plan.specs.Fields.{some_items, root_fields, items_at, is_root_key, keys_pass, ◌&>◌}
-use Rattle.rip_plan.specs.Draft.{Sketch, link_step, router_step, is_on, is_outside, has_address}
+use Rattle.rip_plan.specs.Seats.{is_on}
+use Rattle.rip_plan.specs.Draft.{Sketch, link_step, router_step, is_outside, has_address}
 use Rattle.rip_plan.specs.Passes.{same_prefix, touched, touching, do_meet, is_same_link, have_common, are_twice, have_one_address}
 use Rattle.rip_plan.specs.PlanText.{empty, sketch_of}
 use Rattle.rip_plan.specs.Network.{network_of_sketch}

@@ -11,11 +11,12 @@ pub mod FirstPass
 pub mod Numbering
 pub mod SecondPasses
 pub mod LawfulPlan
-pub mod Costs
+pub mod Cells
 pub mod NumbersWhere
 pub mod Lookups
 pub mod Leaves
 pub mod PlanAnswers
+pub mod WithinPlan
 pub mod Matching
 pub mod EachOnce
 pub mod Tables

@@ -12,7 +12,7 @@ use Rattle.rip_plan.specs.declared.parts.Interface.{Interface}
 use Rattle.rip_plan.specs.declared.parts.Place.{Place}
 use Rattle.rip_plan.specs.declared.parts.Seat.{Seat}
 use Rattle.rip_plan.specs.declared.parts.Seat.TheVariants as seats
-use Rattle.rip_plan.specs.Draft as draft
+use Rattle.rip_plan.specs.Seats as seated
 use Rattle.rip_plan.specs.Passes.{same_prefix}
 use Rattle.rip_plan.specs.Network.{Network, number_of_prefix, first_named, first_at, is_at, found_at, is_on, is_of, numbers_where, is_carrying, first_carrying, cost_on, cost_at, direct_at}
 use Rattle.rip_plan.specs.Relations.{IsPrefix, IsInterface, HasAddress, IsAt, IsPlace, Carries, Touches, IsDirect, IsLawful}
@@ -174,14 +174,14 @@ direct_finds n laws r k c h = by_option (direct_at r k n.interfaces n.places) re
 
 -- ---- carriers
 
-pub on_seat : (l : ℕ) (seat : Seat) → draft.is_on l seat ≡ true → seat ≡ seats.Link l
+pub on_seat : (l : ℕ) (seat : Seat) → seated.is_on l seat ≡ true → seat ≡ seats.Link l
 on_seat l (seats.Link m) e = let same : m ≡ l = grind (arith, nat_tests) in ap seats.Link same
 on_seat l (seats.Own r c) e = absurd cc
 
 pub carrier_gives : (n : Network) (l k j : ℕ) → first_carrying l k 0 n.places ≡ Some j → Carries n l k
 carrier_gives n l k j h =
     let (q, at, passes) = at_first (is_carrying l k) n.places j h in
-    let tests = both (draft.is_on l q.seat) (q.prefix == k) passes in
+    let tests = both (seated.is_on l q.seat) (q.prefix == k) passes in
     let seat : q.seat ≡ seats.Link l = on_seat l q.seat tests.0 in
     let prefix : q.prefix ≡ k = grind (arith, nat_tests) in
     (j, record { listed = at ∙ ap (λ (m : Seat). Some (record q { seat = m })) seat ∙ ap (λ (m : ℕ). Some (record { prefix = m; seat = seats.Link l })) prefix })

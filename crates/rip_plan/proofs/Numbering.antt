@@ -1,7 +1,8 @@
 -- Prefixes have one number each, and each place has the number of its prefix.
-use Rattle.std.proofs.Common.{◌≡◌, ℕ, ◌+◌, ◌<◌, inl, inr, List, [], ◌∷◌, ◌++◌, length, length-append, append_assoc, Bool, true, false, Option, Some, None, refl, sym, ◌∙◌, ap, arith}
+use Rattle.std.proofs.Common.{◌≡◌, ℕ, ◌+◌, ◌<◌, inl, inr, List, [], ◌∷◌, ◌++◌, length, length-append, append_assoc, Bool, true, false, cond, suc, Option, Some, None, refl, sym, ◌∙◌, ap, arith}
 use Rattle.std.specs.Prelude.{slice_get, ◌==◌}
-use Rattle.std.specs.List.{IsDistinct, list_any}
+use Rattle.std.specs.List.{IsDistinct, list_any, position_from}
+use Rattle.std.specs.Option.{option_or}
 use Rattle.std.proofs.lemmas.Option.{none-some}
 use Rattle.std.proofs.lemmas.Bool.{cases_lt}
 use Rattle.std.proofs.lemmas.List.{append-nil}
@@ -104,3 +105,34 @@ numbers ds =
       each = λ k q h. absurd (none-some q h);
       used = λ p h. absurd (omega arith);
     })
+
+-- ---- a look-up of numbers, as prefixes come in
+
+pub position_push : {A : Type 0} (test : A → Bool) (n : ℕ) (xs : List A) (x : A) → position_from test n (xs ++ x ∷ []) ≡ option_or (position_from test n xs) (cond (test x) (Some (n + length xs)) None)
+position_push test n [] x = let same : n + 0 ≡ n = omega arith in rw same (by_test (test x))
+  where
+    by_test : (b : Bool) → cond b (Some n) None ≡ cond b (Some n) None
+    by_test b = refl
+position_push test n (y ∷ ys) x = by_test (test y) refl (position_push test (n + 1) ys x)
+  where
+    by_test : (b : Bool) → test y ≡ b → position_from test (n + 1) (ys ++ x ∷ []) ≡ option_or (position_from test (n + 1) ys) (cond (test x) (Some (n + 1 + length ys)) None)
+        → position_from test n (y ∷ ys ++ x ∷ []) ≡ option_or (position_from test n (y ∷ ys)) (cond (test x) (Some (n + length (y ∷ ys))) None)
+    by_test true e later = rw e refl
+    by_test false e later = let same : n + 1 + length ys ≡ n + suc (length ys) = omega arith in rw (e, later, same) refl
+
+pub or_nothing : {A : Type 0} (o : Option A) → option_or o None ≡ o
+or_nothing None = refl
+or_nothing (Some x) = refl
+
+-- a prefix that is new gets the next number
+pub new_number : (ps : List Block) (d p : Block) → number_of_prefix d ps ≡ None → cond (same_prefix d p) (Some (length ps)) (number_of_prefix p ps) ≡ number_of_prefix p (ps ++ d ∷ [])
+new_number ps d p new = by_test (same_prefix d p) refl
+  where
+    by_test : (b : Bool) → same_prefix d p ≡ b → cond (same_prefix d p) (Some (length ps)) (number_of_prefix p ps) ≡ number_of_prefix p (ps ++ d ∷ [])
+    by_test true e =
+        let one : d ≡ p = same_is d p e in
+        let here : number_of_prefix d (ps ++ d ∷ []) ≡ Some (length ps) = position_push (same_prefix d) 0 ps d ∙ rw (new, same_self d) (ap (λ (m : ℕ). Some m) (omega arith)) in
+        rw e (sym here ∙ ap (λ q. number_of_prefix q (ps ++ d ∷ [])) one)
+    by_test false e =
+        let off : same_prefix p d ≡ false = same_flips p d ∙ e in
+        rw e (sym (position_push (same_prefix p) 0 ps d ∙ rw off (or_nothing (number_of_prefix p ps))))

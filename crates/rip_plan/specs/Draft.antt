@@ -1,5 +1,5 @@
 -- What was read of a plan so far, and each step of the first pass over its places.
-use Rattle.std.specs.Prelude.{◌≡◌, ℕ, ◌-◌, ◌/◌, List, [], ◌∷◌, ◌++◌, length, map, Bool, false, ◌&&◌, not, ◌==◌, nat_le, Option, Result, Ok, Err, if◌then◌else◌, string_bytes, position}
+use Rattle.std.specs.Prelude.{◌≡◌, ℕ, ◌-◌, ◌/◌, List, [], ◌∷◌, ◌++◌, length, map, Bool, ◌&&◌, not, ◌==◌, nat_le, Option, Result, Ok, Err, if◌then◌else◌, string_bytes, position}
 use Rattle.std.specs.Str.{bytes_eq}
 use Rattle.std.specs.List.{list_any}
 use Rattle.toml.specs.Data.{Data, as_str, as_table}
@@ -16,6 +16,7 @@ use Rattle.rip_plan.specs.declared.draft.DraftInterface.{DraftInterface}
 use Rattle.rip_plan.specs.declared.draft.DraftPlace.{DraftPlace}
 use Rattle.rip_plan.specs.declared.parts.Seat.{Seat}
 use Rattle.rip_plan.specs.declared.parts.Seat.TheVariants as seats
+use Rattle.rip_plan.specs.Seats.{is_on}
 use Rattle.rip_plan.specs.Fault.{fault, ◌>>=◌, wanted, steps, Fails}
 use Rattle.rip_plan.specs.Fields.{◌&>◌, link_fields, interface_fields, own_fields, router_fields, cost_of}
 
@@ -58,11 +59,6 @@ link_step i d s =
     if not (is_name f.0) then Err (fault codes.Name (Link i))
     else if is_taken f.0 s.links then Err (fault codes.DuplicateName (Link i))
     else steps (prefix_step i) 1 f.1 (record s { links = s.links ++ f.0 ∷ [] }))
-
--- the seat is the link
-abbrev pub is_on : ℕ → Seat → Bool
-is_on l (seats.Link m) = m == l
-is_on l (seats.Own r c) = false
 
 -- the prefix contains the address
 abbrev pub has_address : Block → ℕ → Bool

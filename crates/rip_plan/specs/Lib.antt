@@ -1,5 +1,6 @@
 pub mod Fault
 pub mod Fields
+pub mod Seats
 pub mod Draft
 pub mod Passes
 pub mod PlanText
@@ -7,5 +8,6 @@ pub mod Touches
 pub mod Network
 pub mod Answers
 pub mod Relations
+pub mod Rows
 pub mod Indexed
 pub mod PlanOf

@@ -3,8 +3,6 @@ use Rattle.std.specs.Prelude.{ℕ, zero, suc, ◌+◌, Bool, if◌then◌else◌
 use Rattle.std.specs.List.{position_from}
 use Rattle.std.specs.Option.{option_or}
 use Rattle.std.specs.Str.{bytes_eq}
-use Rattle.std.specs.Ordering.{nat_cmp, ordering_then}
-use Rattle.std.specs.declared.cmp.Ordering.{Ordering}
 use Rattle.rip_wire.specs.Prefix.{Block}
 use Rattle.rip_plan.specs.declared.error.PlanError.{PlanError}
 use Rattle.rip_plan.specs.declared.parts.Interface.{Interface}
@@ -13,7 +11,7 @@ use Rattle.rip_plan.specs.declared.parts.Seat.{Seat}
 use Rattle.rip_plan.specs.declared.parts.Seat.TheVariants as seats
 use Rattle.rip_plan.specs.declared.draft.DraftPlace.{DraftPlace}
 use Rattle.rip_plan.specs.Fault.{◌>>=◌}
-use Rattle.rip_plan.specs.Draft as draft
+use Rattle.rip_plan.specs.Seats as seated
 use Rattle.rip_plan.specs.Draft.{Sketch}
 use Rattle.rip_plan.specs.Passes.{same_prefix}
 use Rattle.rip_plan.specs.PlanText.{sketch_of}
@@ -58,9 +56,9 @@ network_in bytes = sketch_of bytes >>= (λ s. Ok (network_of_sketch s))
 
 -- ---- Looking things up in a plan
 
--- the order of pairs, by the first and then by the second
-abbrev pub pair_cmp : ℕ × ℕ → ℕ × ℕ → Ordering
-pair_cmp p q = ordering_then (nat_cmp p.0 q.0) (nat_cmp p.1 q.1)
+-- both parts of two pairs are equal
+abbrev pub pair_eq : ℕ × ℕ → ℕ × ℕ → Bool
+pair_eq p q = p.0 == q.0 && p.1 == q.1
 
 -- the number of the first name that is these bytes, counted from n
 abbrev pub first_named : List ℕ → ℕ → List (List ℕ) → Option ℕ
@@ -88,13 +86,9 @@ abbrev pub numbers_where : {A : Type 0} → (A → Bool) → ℕ → List A → 
 numbers_where test n [] = []
 numbers_where test n (x ∷ xs) = if test x then n ∷ numbers_where test (n + 1) xs else numbers_where test (n + 1) xs
 
--- the order of prefixes, by the network and then by the length
-abbrev pub prefix_cmp : Block → Block → Ordering
-prefix_cmp p q = ordering_then (nat_cmp p.network q.network) (nat_cmp p.prefix_len q.prefix_len)
-
 -- the place is the link, with prefix k
 abbrev pub is_carrying : ℕ → ℕ → Place → Bool
-is_carrying l k q = draft.is_on l q.seat && q.prefix == k
+is_carrying l k q = seated.is_on l q.seat && q.prefix == k
 
 -- the number of the first place of prefix k on the link, counted from n
 abbrev pub first_carrying : ℕ → ℕ → ℕ → List Place → Option ℕ

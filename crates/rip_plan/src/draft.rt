@@ -1,8 +1,16 @@
 //! What was read of a plan so far, and the steps of the first pass over its places.
 
+ghost use Rattle.std.specs.Prelude.{◌≡◌, ℕ, [], List, filter, map, nat_eq, string_bytes};
+ghost use Rattle.std.specs.List.{position_from};
+ghost use Rattle.std.specs.Str.{bytes_eq};
+ghost use Rattle.std.specs.HashMap.{get, get_by_text};
+ghost use Rattle.std.specs.Option.{option_map_or};
+ghost use Rattle.rip_plan.specs.Seats.{is_on};
+
 use crate::error::At;
 use crate::parts::{Interface, Seat};
 use rip_wire::Prefix;
+use std::collections::HashMap;
 
 /// The most interfaces, and the most places of prefixes, of a plan.
 pub(crate) const MOST: usize = 1024;
@@ -22,13 +30,20 @@ pub(crate) struct DraftPlace {
     pub place: At,
 }
 
-/// What was read of a plan so far.
+/// What was read of a plan so far. Beside the links stand the numbers of their names and, by link,
+/// the prefixes on them.
 #[derive(Drop)]
 pub(crate) struct Draft {
     pub links: Vec<String>,
     pub routers: Vec<String>,
     pub interfaces: Vec<DraftInterface>,
     pub places: Vec<DraftPlace>,
+    pub numbers: HashMap<String, usize>,
+    pub blocks: HashMap<usize, Vec<Prefix>>,
+    ghost numbered: { (bytes : List ℕ) → get_by_text numbers bytes
+        ≡ position_from (λ name. bytes_eq name bytes) 0 (map string_bytes links.items) },
+    ghost blocked: { (l : ℕ) → option_map_or (λ v. v.items) (get nat_eq blocks l) []
+        ≡ map (λ p. p.prefix) (filter (λ p. is_on l p.seat) places.items) },
 }
 
 mod steps;

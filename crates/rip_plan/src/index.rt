@@ -1,38 +1,23 @@
 //! What a plan keeps beside its parts, to find them.
 
-ghost use Rattle.std.specs.Prelude.{◌≡◌, ◌==◌, ℕ, List, map, IfOk, string_bytes, if◌then◌else◌};
-ghost use Rattle.std.specs.Option.{option_or};
-ghost use Rattle.rip_wire.specs.Prefix.{Block};
-ghost use Rattle.std.specs.BTreeMap.{get, get_by_text};
-ghost use Rattle.rip_plan.specs.Network.{cost_at, cost_on, direct_at, each_below, first_at, first_carrying, first_named, is_of, is_on, number_of_prefix, numbers_where, pair_cmp, prefix_cmp};
+ghost use Rattle.std.specs.Prelude.{◌≡◌, ◌==◌, ◌+◌, ◌*◌, ◌<◌, ◌≤◌, ℕ, [], List, length, map, IfOk, string_bytes};
+ghost use Rattle.std.specs.List.{All};
+ghost use Rattle.std.specs.HashMap.{get};
+ghost use Rattle.rip_plan.specs.Network.{cost_at, each_below, first_at, is_of, is_on, numbers_where, pair_eq};
+ghost use Rattle.rip_plan.specs.Rows.{AreCosts, AreFlags, AreOnLinks, IsLinkBelow, IsOwnerBelow, IsOwnerWithin, WritesCosts, cost_among};
 
 use crate::parts::{Interface, Place, Seat};
-use rip_wire::Prefix;
 use std::alloc::{AllocError, Global};
-use std::collections::BTreeMap;
-
-/// The number of each name, of the first that has it.
-pub(crate) fn numbers_of_names(
-    alloc: Global,
-    names: &[String],
-) -> Result<BTreeMap<String, usize>, AllocError>
-    ensures { IfOk result (λ m. (bytes : List ℕ) → get_by_text m bytes ≡ first_named bytes 0 (map string_bytes names.now)) }
-{
-    let mut numbers = BTreeMap::new(alloc);
-    for i in (0..names.len()).rev() {
-        numbers.insert(names[i].clone()?, i)?;
-    }
-    Ok(numbers)
-}
+use std::collections::HashMap;
 
 /// The number of the interface at each link and address, of the first there.
 pub(crate) fn numbers_of_addresses(
     alloc: Global,
     interfaces: &[Interface],
-) -> Result<BTreeMap<(usize, u32), usize>, AllocError>
-    ensures { IfOk result (λ m. (l a : ℕ) → get pair_cmp m (l, a) ≡ first_at l a 0 interfaces.now) }
+) -> Result<HashMap<(usize, u32), usize>, AllocError>
+    ensures { IfOk result (λ m. (l a : ℕ) → get pair_eq m (l, a) ≡ first_at l a 0 interfaces.now) }
 {
-    let mut numbers = BTreeMap::new(alloc);
+    let mut numbers = HashMap::new(alloc);
     for i in (0..interfaces.len()).rev() {
         let interface = interfaces[i];
         numbers.insert((interface.link, interface.address.get()), i)?;
@@ -40,147 +25,152 @@ pub(crate) fn numbers_of_addresses(
     Ok(numbers)
 }
 
-/// The numbers of the interfaces on a link, ascending.
-fn numbers_on(
-    alloc: Global,
-    interfaces: &[Interface],
-    link: usize,
-) -> Result<Vec<usize>, AllocError>
-    ensures { IfOk result (λ v. v.items ≡ numbers_where (is_on link) 0 interfaces.now) }
+/// So many empty lists.
+fn empty_lists(alloc: Global, count: usize) -> Result<Vec<Vec<usize>>, AllocError>
+    ensures { IfOk result (λ v. map (λ w. w.items) v.items ≡ each_below count (λ _. [])) }
 {
-    let mut numbers = Vec::new(alloc);
-    for (i, interface) in interfaces.iter().enumerate() {
-        if interface.link == link {
-            numbers.push(i)?;
-        }
+    let mut lists = Vec::new(alloc);
+    for _ in 0..count {
+        lists.push(Vec::new(alloc))?;
     }
-    Ok(numbers)
+    Ok(lists)
 }
 
-/// The numbers of the interfaces on each link.
+/// The numbers of the interfaces on each link, ascending.
 pub(crate) fn all_on(
     alloc: Global,
     interfaces: &[Interface],
     links: usize,
 ) -> Result<Vec<Vec<usize>>, AllocError>
+    requires { All (λ i. i.link < links) interfaces.now }
     ensures { IfOk result (λ v. map (λ w. w.items) v.items ≡ each_below links (λ l. numbers_where (is_on l) 0 interfaces.now)) }
 {
-    let mut all = Vec::new(alloc);
-    for l in 0..links {
-        all.push(numbers_on(alloc, interfaces, l)?)?;
+    let mut all = empty_lists(alloc, links)?;
+    for i in 0..interfaces.len() {
+        let interface = interfaces[i];
+        all[interface.link].push(i)?;
     }
     Ok(all)
 }
 
-/// The numbers of the interfaces of a router, ascending.
-fn numbers_of(
-    alloc: Global,
-    interfaces: &[Interface],
-    router: usize,
-) -> Result<Vec<usize>, AllocError>
-    ensures { IfOk result (λ v. v.items ≡ numbers_where (is_of router) 0 interfaces.now) }
-{
-    let mut numbers = Vec::new(alloc);
-    for (i, interface) in interfaces.iter().enumerate() {
-        if interface.router == router {
-            numbers.push(i)?;
-        }
-    }
-    Ok(numbers)
-}
-
-/// The numbers of the interfaces of each router.
+/// The numbers of the interfaces of each router, ascending.
 pub(crate) fn all_of(
     alloc: Global,
     interfaces: &[Interface],
     routers: usize,
 ) -> Result<Vec<Vec<usize>>, AllocError>
+    requires { All (λ i. i.router < routers) interfaces.now }
     ensures { IfOk result (λ v. map (λ w. w.items) v.items ≡ each_below routers (λ r. numbers_where (is_of r) 0 interfaces.now)) }
 {
-    let mut all = Vec::new(alloc);
-    for r in 0..routers {
-        all.push(numbers_of(alloc, interfaces, r)?)?;
+    let mut all = empty_lists(alloc, routers)?;
+    for i in 0..interfaces.len() {
+        let interface = interfaces[i];
+        all[interface.router].push(i)?;
     }
     Ok(all)
 }
 
-/// The number of each prefix.
-pub(crate) fn numbers_of_prefixes(
-    alloc: Global,
-    prefixes: &[Prefix],
-) -> Result<BTreeMap<Prefix, usize>, AllocError>
-    ensures { IfOk result (λ m. (p : Block) → get prefix_cmp m p ≡ number_of_prefix p prefixes.now) }
-{
-    let mut numbers = BTreeMap::new(alloc);
-    for k in (0..prefixes.len()).rev() {
-        numbers.insert(prefixes[k], k)?;
-    }
-    Ok(numbers)
-}
-
-/// The number of the place of each prefix on a link, by link and prefix.
-pub(crate) fn numbers_of_carriers(
+/// Whether each link has each prefix: a flag for each prefix in a row for each link.
+pub(crate) fn carriers_of(
     alloc: Global,
     places: &[Place],
-) -> Result<BTreeMap<(usize, usize), usize>, AllocError>
-    ensures { IfOk result (λ m. (l k : ℕ) → get pair_cmp m (l, k) ≡ first_carrying l k 0 places.now) }
+    links: usize,
+    prefixes: usize,
+) -> Result<Vec<bool>, AllocError>
+    requires few_links { links ≤ 512 }
+    requires few_prefixes { prefixes ≤ 1024 }
+    requires prefixes { All (λ q. q.prefix < prefixes) places.now }
+    requires seats { All (λ q. IsLinkBelow links q.seat) places.now }
+    ensures room { IfOk result (λ v. length v.items ≡ links * prefixes) }
+    ensures flags { IfOk result (λ v. AreFlags prefixes places.now v.items) }
 {
-    let mut numbers = BTreeMap::new(alloc);
+    let mut carriers = vec![in alloc; false; links * prefixes]?;
     for i in (0..places.len()).rev() {
         let place = places[i];
         if let Seat::Link(link) = place.seat {
-            numbers.insert((link, place.prefix), i)?;
+            carriers[link * prefixes + place.prefix] = true;
         }
     }
-    Ok(numbers)
+    Ok(carriers)
 }
 
-/// Adds the cost at which each router on the link has the prefix.
-fn add_costs_on(
-    costs: &mut BTreeMap<(usize, usize), u8>,
+/// Writes the cost at which each router has the prefix by its first interface among the numbers. It
+/// goes backwards, so that the first one is written last.
+fn write_costs_on(
+    costs: &mut [u8],
     interfaces: &[Interface],
-    link: usize,
+    numbers: &[usize],
     prefix: usize,
-) -> Result<(), AllocError>
-    ensures { IfOk result (λ done. (r k : ℕ) → get pair_cmp costs.new (r, k) ≡ if prefix == k then option_or (cost_on r link interfaces.now) (get pair_cmp costs.old (r, k)) else get pair_cmp costs.old (r, k)) }
+    prefixes: usize,
+)
+    requires column { prefix < prefixes }
+    requires cells { All (λ i. i.router * prefixes + prefix < length costs.old) interfaces.now }
+    requires numbers { All (λ n. n < length interfaces.now) numbers.now }
+    ensures { WritesCosts prefixes prefix (λ r. cost_among r interfaces.now numbers.now) costs.old
+        costs.new }
 {
-    for i in (0..interfaces.len()).rev() {
-        let interface = interfaces[i];
-        if interface.link == link {
-            costs.insert((interface.router, prefix), interface.cost)?;
-        }
+    for j in (0..numbers.len()).rev() {
+        let interface = interfaces[numbers[j]];
+        costs[interface.router * prefixes + prefix] = interface.cost;
     }
-    Ok(())
 }
 
-/// Adds the cost at which each router has the prefix at the place.
-fn add_costs_at(
-    costs: &mut BTreeMap<(usize, usize), u8>,
+/// Writes the cost at which each router has the prefix at the place.
+fn write_costs_at(
+    costs: &mut [u8],
     interfaces: &[Interface],
+    on_link: &[Vec<usize>],
     place: Place,
-) -> Result<(), AllocError>
-    ensures { IfOk result (λ done. (r k : ℕ) → get pair_cmp costs.new (r, k) ≡ if place.prefix == k then option_or (cost_at r interfaces.now place.seat) (get pair_cmp costs.old (r, k)) else get pair_cmp costs.old (r, k)) }
+    prefixes: usize,
+)
+    requires column { place.prefix < prefixes }
+    requires cells { All (λ i. i.router * prefixes + place.prefix < length costs.old)
+        interfaces.now }
+    requires lists { AreOnLinks interfaces.now (map (λ w. w.items) on_link.now) }
+    requires link { IsLinkBelow (length on_link.now) place.seat }
+    requires owner { IsOwnerWithin prefixes place.prefix (length costs.old) place.seat }
+    ensures { WritesCosts prefixes place.prefix (λ r. cost_at r interfaces.now place.seat) costs.old
+        costs.new }
 {
     match place.seat {
-        Seat::Link(link) => add_costs_on(costs, interfaces, link, place.prefix),
-        Seat::Own { router, cost } => {
-            costs.insert((router, place.prefix), cost)?;
-            Ok(())
+        Seat::Link(link) => {
+            let numbers = on_link[link].as_slice();
+            write_costs_on(costs, interfaces, numbers, place.prefix, prefixes);
         }
+        Seat::Own { router, cost } => costs[router * prefixes + place.prefix] = cost,
     }
 }
 
-/// The cost at which each router has each prefix on its own link or as its own, by router and prefix.
-pub(crate) fn costs_of_places(
+/// The cost at which each router has each prefix on its own link or as its own, or 0: a byte for
+/// each prefix in a row for each router. It goes backwards, so that a prefix's first place is
+/// written last.
+pub(crate) fn costs_of(
     alloc: Global,
     interfaces: &[Interface],
+    on_link: &[Vec<usize>],
     places: &[Place],
-) -> Result<BTreeMap<(usize, usize), u8>, AllocError>
-    ensures { IfOk result (λ m. (r k : ℕ) → get pair_cmp m (r, k) ≡ direct_at r k interfaces.now places.now) }
+    routers: usize,
+    prefixes: usize,
+) -> Result<Vec<u8>, AllocError>
+    requires few_routers { routers ≤ 128 }
+    requires few_prefixes { prefixes ≤ 1024 }
+    requires routers { All (λ i. i.router < routers) interfaces.now }
+    requires lists { AreOnLinks interfaces.now (map (λ w. w.items) on_link.now) }
+    requires prefixes { All (λ q. q.prefix < prefixes) places.now }
+    requires links { All (λ q. IsLinkBelow (length on_link.now) q.seat) places.now }
+    requires owners { All (λ q. IsOwnerBelow routers q.seat) places.now }
+    ensures room { IfOk result (λ v. length v.items ≡ routers * prefixes) }
+    ensures costs { IfOk result (λ v. AreCosts prefixes interfaces.now places.now v.items) }
 {
-    let mut costs = BTreeMap::new(alloc);
+    let mut costs = vec![in alloc; 0u8; routers * prefixes]?;
     for i in (0..places.len()).rev() {
-        add_costs_at(&mut costs, interfaces, places[i])?;
+        write_costs_at(
+            costs.as_mut_slice(),
+            interfaces,
+            on_link,
+            places[i],
+            prefixes,
+        );
     }
     Ok(costs)
 }

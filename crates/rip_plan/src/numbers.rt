@@ -1,13 +1,16 @@
 //! The numbers of prefixes.
 
-ghost use Rattle.std.specs.Prelude.{◌≡◌, [], map, IfOk};
-ghost use Rattle.rip_plan.specs.Network as spec;
-ghost use Rattle.rip_plan.specs.Network.{numbered};
+ghost use Rattle.std.specs.Prelude.{◌≡◌, ◌≤◌, [], length, map, IfOk};
+ghost use Rattle.std.specs.HashMap.{get};
+ghost use Rattle.rip_wire.specs.Prefix.{Block};
+ghost use Rattle.rip_plan.specs.Passes.{same_prefix};
+ghost use Rattle.rip_plan.specs.Network.{number_of_prefix, numbered};
 
 use crate::draft::{DraftInterface, DraftPlace};
 use crate::parts::{Interface, Place};
 use rip_wire::Prefix;
 use std::alloc::{AllocError, Global};
+use std::collections::HashMap;
 
 /// The interfaces without their places in the text.
 pub(crate) fn interfaces_of(
@@ -19,40 +22,34 @@ pub(crate) fn interfaces_of(
     interfaces.iter().map(|i| i.interface).collect(alloc)
 }
 
-/// The number of a prefix among the prefixes.
-pub(crate) fn number_of_prefix(prefix: Prefix, prefixes: &[Prefix]) -> Option<usize>
-    ensures { result ≡ spec.number_of_prefix prefix prefixes.now }
-{
-    for (k, other) in prefixes.iter().enumerate() {
-        if prefix == *other {
-            return Some(k);
-        }
-    }
-    None
-}
-
-/// The prefixes, each once in the order of its first place, and the places with their numbers.
+/// The prefixes, each once in the order of its first place, their numbers, and the places with
+/// them.
 pub(crate) fn with_numbers(
     alloc: Global,
     places: &[DraftPlace],
-) -> Result<(Vec<Prefix>, Vec<Place>), AllocError>
-    ensures { IfOk result (λ r. (r.0.items, r.1.items) ≡ numbered [] [] places.now) }
+) -> Result<(Vec<Prefix>, HashMap<Prefix, usize>, Vec<Place>), AllocError>
+    ensures parts { IfOk result (λ r. (r.0.items, r.2.items) ≡ numbered [] [] places.now) }
+    ensures numbers { IfOk result (λ r. (p : Block) →
+        get same_prefix r.1 p ≡ number_of_prefix p r.0.items) }
+    ensures few { IfOk result (λ r. length r.0.items ≤ length places.now) }
 {
     let mut prefixes = Vec::new(alloc);
-    let mut numbers = Vec::new(alloc);
+    let mut numbers = HashMap::new(alloc);
+    let mut numbered = Vec::new(alloc);
     for place in places {
-        let prefix = match number_of_prefix(place.prefix, prefixes.as_slice()) {
-            Some(k) => k,
+        let prefix = match numbers.get(&place.prefix) {
+            Some(k) => *k,
             None => {
                 let k = prefixes.len();
                 prefixes.push(place.prefix)?;
+                numbers.insert(place.prefix, k)?;
                 k
             }
         };
-        numbers.push(Place {
+        numbered.push(Place {
             prefix,
             seat: place.seat,
         })?;
     }
-    Ok((prefixes, numbers))
+    Ok((prefixes, numbers, numbered))
 }

@@ -1,71 +1,49 @@
 //! The passes over what was read of a plan: what clashes with something earlier.
 
-ghost use Rattle.std.specs.Prelude.{◌≡◌, ◌==◌, ◌+◌, [], map, IfOk, option_map};
+ghost use Rattle.std.specs.Prelude.{◌≡◌, ◌==◌, ◌+◌, ℕ, [], ◌∷◌, ◌++◌, if◌then◌else◌, map, nat_eq, IfOk, option_map};
 ghost use Rattle.std.specs.List.{list_any};
+ghost use Rattle.rip_wire.specs.Prefix.{Block};
 ghost use Rattle.rip_plan.specs.Draft.{sketch};
 ghost use Rattle.rip_plan.specs.Fault.{Gives};
-ghost use Rattle.rip_plan.specs.Passes.{are_twice, do_meet, first_bare, first_clash, have_common, have_one_address, none_found, second_passes, touched, touching};
+ghost use Rattle.rip_plan.specs.Passes.{are_twice, do_meet, first_bare, first_clash, have_common, have_one_address, none_found, same_prefix, second_passes, touched, touching};
 ghost use Rattle.rip_plan.specs.Passes as spec;
-ghost use Rattle.rip_plan.specs.Touches.{touching_of};
+ghost use Rattle.rip_plan.specs.Touches.{listed, seats_meet, touched_by};
 
 use crate::draft::{Draft, DraftInterface, DraftPlace, wrong};
 use crate::error::{At, PlanCode, ReadError};
 use crate::parts::Seat;
+use rip_wire::Prefix;
 use std::alloc::{AllocError, Global};
+use std::collections::{HashMap, HashSet};
 
-/// A place of a prefix, and the routers that it touches.
-#[derive(Drop)]
-pub(crate) struct Touch {
-    place: DraftPlace,
-    routers: Vec<usize>,
-}
-
-/// The routers with an interface on a link.
-fn routers_on(
+/// The routers with an interface on each link that has any.
+fn routers_on_links(
     alloc: Global,
     interfaces: &[DraftInterface],
-    link: usize,
-) -> Result<Vec<usize>, AllocError>
-    ensures { IfOk result (λ v. v.items ≡ touched interfaces.now (Seat.Link link)) }
+) -> Result<HashMap<usize, Vec<usize>>, AllocError>
+    ensures { IfOk result (λ m. (l : ℕ) →
+        listed nat_eq m l ≡ touched interfaces.now (Seat.Link l)) }
 {
-    interfaces
-        .iter()
-        .filter(|i| i.interface.link == link)
-        .map(|i| i.interface.router)
-        .collect(alloc)
+    let mut routers = HashMap::new(alloc);
+    for i in 0..interfaces.len() {
+        let interface = interfaces[i].interface;
+        let on_link: &mut Vec<usize> = routers.entry(interface.link)?.or_default();
+        on_link.push(interface.router)?;
+    }
+    Ok(routers)
 }
 
 /// The routers that a seat touches.
-fn routers_touched(
-    alloc: Global,
-    interfaces: &[DraftInterface],
-    seat: Seat,
-) -> Result<Vec<usize>, AllocError>
-    ensures { IfOk result (λ v. v.items ≡ touched interfaces.now seat) }
+fn routers_touched<'a>(on_links: &'a HashMap<usize, Vec<usize>>, seat: &'a Seat) -> &'a [usize]
+    ensures { result.now ≡ touched_by on_links.now seat.now }
 {
     match seat {
-        Seat::Link(link) => routers_on(alloc, interfaces, link),
-        Seat::Own { router, .. } => Ok(vec![in alloc; router]?),
+        Seat::Link(link) => match on_links.get(link) {
+            Some(routers) => routers.as_slice(),
+            None => &[],
+        },
+        Seat::Own { router, .. } => std::slice::from_ref(router),
     }
-}
-
-/// Each place with the routers that it touches.
-fn touches_of(
-    alloc: Global,
-    interfaces: &[DraftInterface],
-    places: &[DraftPlace],
-) -> Result<Vec<Touch>, AllocError>
-    ensures { IfOk result (λ v. map touching_of v.items ≡ map (touching interfaces.now) places.now) }
-{
-    let mut touches = Vec::new(alloc);
-    for place in places {
-        let routers = routers_touched(alloc, interfaces, place.seat)?;
-        touches.push(Touch {
-            place: *place,
-            routers,
-        })?;
-    }
-    Ok(touches)
 }
 
 fn are_one_link(seat: Seat, other: Seat) -> bool
@@ -89,78 +67,113 @@ fn share_router(routers: &[usize], others: &[usize]) -> bool
     others.iter().any(|router| has_router(routers, *router))
 }
 
-fn meet(touch: &Touch, other: &Touch) -> bool
-    ensures { result ≡ do_meet (touching_of touch.now) (touching_of other.now) }
+/// Whether two places of one prefix meet at these seats.
+fn meet(on_links: &HashMap<usize, Vec<usize>>, seat: &Seat, other: &Seat) -> bool
+    ensures { result ≡ seats_meet (touched_by on_links.now) seat.now other.now }
 {
-    touch.place.prefix == other.place.prefix
-        && (are_one_link(touch.place.seat, other.place.seat)
-            || share_router(touch.routers.as_slice(), other.routers.as_slice()))
+    are_one_link(*seat, *other)
+        || share_router(
+            routers_touched(on_links, seat),
+            routers_touched(on_links, other),
+        )
 }
 
-fn meets_one_of(touch: &Touch, earlier: &[Touch]) -> bool
-    ensures { result ≡ list_any (λ t. do_meet (touching_of t) (touching_of touch.now)) earlier.now }
+fn meets_one_of(on_links: &HashMap<usize, Vec<usize>>, seat: &Seat, earlier: &[Seat]) -> bool
+    ensures { result ≡ list_any (λ other. seats_meet (touched_by on_links.now) other seat.now)
+        earlier.now }
 {
-    earlier.iter().any(|other| meet(other, touch))
+    earlier.iter().any(|other| meet(on_links, other, seat))
+}
+
+/// Whether a place meets one of those whose seats stand at its prefix.
+fn meets_earlier(
+    on_links: &HashMap<usize, Vec<usize>>,
+    place: &DraftPlace,
+    earlier: &HashMap<Prefix, Vec<Seat>>,
+) -> bool
+    ensures { result ≡ list_any (λ other. seats_meet (touched_by on_links.now) other place.now.seat)
+        (listed same_prefix earlier.now place.now.prefix) }
+{
+    match earlier.get(&place.prefix) {
+        Some(seats) => meets_one_of(on_links, &place.seat, seats.as_slice()),
+        None => false,
+    }
+}
+
+/// Adds the seat of a place to those at its prefix.
+fn add_seat(
+    alloc: Global,
+    earlier: &mut HashMap<Prefix, Vec<Seat>>,
+    place: DraftPlace,
+) -> Result<(), AllocError>
+    ensures { IfOk result (λ done. (b : Block) → listed same_prefix earlier.new b
+        ≡ (if same_prefix place.prefix b then listed same_prefix earlier.old b ++ place.seat ∷ []
+        else listed same_prefix earlier.old b)) }
+{
+    let mut seats = match earlier.remove(&place.prefix) {
+        Some(seats) => seats,
+        None => Vec::new(alloc),
+    };
+    seats.push(place.seat)?;
+    earlier.insert(place.prefix, seats)?;
+    Ok(())
 }
 
 /// The place in the text of the first place of a prefix that meets an earlier one.
-fn first_meeting(touches: &[Touch]) -> Option<At>
-    ensures { result ≡ option_map (λ t. t.place.place) (first_clash (λ t u. do_meet (touching_of t) (touching_of u)) [] touches.now) }
+fn first_duplicate(
+    alloc: Global,
+    interfaces: &[DraftInterface],
+    places: &[DraftPlace],
+) -> Result<Option<At>, AllocError>
+    ensures { IfOk result (λ found. found
+        ≡ option_map (λ t. t.place.place)
+        (first_clash do_meet [] (map (touching interfaces.now) places.now))) }
 {
-    for (k, touch) in touches.iter().enumerate() {
-        if meets_one_of(touch, &touches[..k]) {
-            return Some(touch.place.place);
+    let on_links = routers_on_links(alloc, interfaces)?;
+    let mut earlier = HashMap::new(alloc);
+    for k in 0..places.len() {
+        let place = places[k];
+        if meets_earlier(&on_links, &place, &earlier) {
+            return Ok(Some(place.place));
         }
+        add_seat(alloc, &mut earlier, place)?;
     }
-    None
-}
-
-fn are_on_one_link(one: &DraftInterface, other: &DraftInterface) -> bool
-    ensures { result ≡ are_twice one.now other.now }
-{
-    one.interface.router == other.interface.router && one.interface.link == other.interface.link
-}
-
-fn is_twice(one: &DraftInterface, earlier: &[DraftInterface]) -> bool
-    ensures { result ≡ list_any (λ i. are_twice i one.now) earlier.now }
-{
-    earlier.iter().any(|other| are_on_one_link(other, one))
+    Ok(None)
 }
 
 /// The place of the first interface whose router has an earlier one on the link.
-fn first_twice(interfaces: &[DraftInterface]) -> Option<At>
-    ensures { result ≡ option_map (λ i. i.place) (first_clash are_twice [] interfaces.now) }
+fn first_twice(alloc: Global, interfaces: &[DraftInterface]) -> Result<Option<At>, AllocError>
+    ensures { IfOk result (λ found. found
+        ≡ option_map (λ i. i.place) (first_clash are_twice [] interfaces.now)) }
 {
-    for (k, interface) in interfaces.iter().enumerate() {
-        if is_twice(interface, &interfaces[..k]) {
-            return Some(interface.place);
+    let mut seen = HashSet::new(alloc);
+    for k in 0..interfaces.len() {
+        let draft = interfaces[k];
+        let interface = draft.interface;
+        if !seen.insert((interface.router, interface.link))? {
+            return Ok(Some(draft.place));
         }
     }
-    None
-}
-
-fn have_same_address(one: &DraftInterface, other: &DraftInterface) -> bool
-    ensures { result ≡ have_one_address one.now other.now }
-{
-    one.interface.link == other.interface.link && one.interface.address == other.interface.address
-}
-
-fn has_taken_address(one: &DraftInterface, earlier: &[DraftInterface]) -> bool
-    ensures { result ≡ list_any (λ i. have_one_address i one.now) earlier.now }
-{
-    earlier.iter().any(|other| have_same_address(other, one))
+    Ok(None)
 }
 
 /// The place of the first interface whose address an earlier one on the link has.
-fn first_taken_address(interfaces: &[DraftInterface]) -> Option<At>
-    ensures { result ≡ option_map (λ i. i.place) (first_clash have_one_address [] interfaces.now) }
+fn first_taken_address(
+    alloc: Global,
+    interfaces: &[DraftInterface],
+) -> Result<Option<At>, AllocError>
+    ensures { IfOk result (λ found. found
+        ≡ option_map (λ i. i.place) (first_clash have_one_address [] interfaces.now)) }
 {
-    for (k, interface) in interfaces.iter().enumerate() {
-        if has_taken_address(interface, &interfaces[..k]) {
-            return Some(interface.place);
+    let mut seen = HashSet::new(alloc);
+    for k in 0..interfaces.len() {
+        let draft = interfaces[k];
+        let interface = draft.interface;
+        if !seen.insert((interface.link, interface.address.get()))? {
+            return Ok(Some(draft.place));
         }
     }
-    None
+    Ok(None)
 }
 
 fn has_interface(interfaces: &[DraftInterface], router: usize) -> bool
@@ -191,19 +204,6 @@ fn expect_none(code: PlanCode, found: Option<At>) -> Result<(), ReadError>
     }
 }
 
-/// The place of the first place of a prefix that meets an earlier one.
-#[tactic(auto, using(crate::proofs::Clashes::meeting_seen))]
-fn first_duplicate(
-    alloc: Global,
-    interfaces: &[DraftInterface],
-    places: &[DraftPlace],
-) -> Result<Option<At>, AllocError>
-    ensures { IfOk result (λ found. found ≡ option_map (λ t. t.place.place) (first_clash do_meet [] (map (touching interfaces.now) places.now))) }
-{
-    let touches = touches_of(alloc, interfaces, places)?;
-    Ok(first_meeting(touches.as_slice()))
-}
-
 /// Whether nothing in the draft clashes with something earlier.
 #[tactic(auto, unfolding(crate::specs::Passes::second_passes))]
 pub(crate) fn check_passes(alloc: Global, draft: &Draft) -> Result<(), ReadError>
@@ -212,8 +212,11 @@ pub(crate) fn check_passes(alloc: Global, draft: &Draft) -> Result<(), ReadError
     let interfaces = draft.interfaces.as_slice();
     let duplicate = first_duplicate(alloc, interfaces, draft.places.as_slice())?;
     expect_none(PlanCode::DuplicatePrefix, duplicate)?;
-    expect_none(PlanCode::TwiceOnLink, first_twice(interfaces))?;
-    expect_none(PlanCode::DuplicateAddress, first_taken_address(interfaces))?;
+    expect_none(PlanCode::TwiceOnLink, first_twice(alloc, interfaces)?)?;
+    expect_none(
+        PlanCode::DuplicateAddress,
+        first_taken_address(alloc, interfaces)?,
+    )?;
     let bare = first_without_interface(interfaces, draft.routers.len());
     expect_none(PlanCode::NoInterface, bare)
 }

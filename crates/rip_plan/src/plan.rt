@@ -18,7 +18,7 @@ use crate::parts::{Interface, Place};
 use crate::reading::read_draft;
 use rip_wire::{Address, Prefix, laws};
 use std::alloc::{AllocError, Global};
-use std::collections::BTreeMap;
+use std::collections::HashMap;
 use std::marker::Model;
 
 /// The plan of a RIP-2 network. Its numbers of links, routers, interfaces, prefixes and places start
@@ -31,15 +31,15 @@ pub struct Plan {
     prefixes: Vec<Prefix>,
     places: Vec<Place>,
     // Look-ups, so that no answer walks over the parts: the interfaces of each link and router, links
-    // by name, interfaces by link and address, prefixes, places by link and prefix, and direct costs
-    // by router and prefix.
+    // by name, interfaces by link and address, prefixes, and in rows one after another whether each
+    // link has each prefix and at which cost each router has it.
     on_link: Vec<Vec<usize>>,
     of_router: Vec<Vec<usize>>,
-    names: BTreeMap<String, usize>,
-    addresses: BTreeMap<(usize, u32), usize>,
-    numbers: BTreeMap<Prefix, usize>,
-    carriers: BTreeMap<(usize, usize), usize>,
-    costs: BTreeMap<(usize, usize), u8>,
+    names: HashMap<String, usize>,
+    addresses: HashMap<(usize, u32), usize>,
+    numbers: HashMap<Prefix, usize>,
+    carriers: Vec<bool>,
+    costs: Vec<u8>,
 }
 
 impl Model for Plan {
@@ -60,14 +60,19 @@ fn plan_of(alloc: Global, draft: Draft) -> Result<Plan, AllocError>
     ensures { IfOk result (λ plan. plan ≡ network_of_sketch (sketch draft)) }
 {
     let interfaces = interfaces_of(alloc, draft.interfaces.as_slice())?;
-    let (prefixes, places) = with_numbers(alloc, draft.places.as_slice())?;
+    let (prefixes, numbers, places) = with_numbers(alloc, draft.places.as_slice())?;
     let on_link = index::all_on(alloc, interfaces.as_slice(), draft.links.len())?;
     let of_router = index::all_of(alloc, interfaces.as_slice(), draft.routers.len())?;
-    let names = index::numbers_of_names(alloc, draft.links.as_slice())?;
     let addresses = index::numbers_of_addresses(alloc, interfaces.as_slice())?;
-    let numbers = index::numbers_of_prefixes(alloc, prefixes.as_slice())?;
-    let carriers = index::numbers_of_carriers(alloc, places.as_slice())?;
-    let costs = index::costs_of_places(alloc, interfaces.as_slice(), places.as_slice())?;
+    let carriers = index::carriers_of(alloc, places.as_slice(), draft.links.len(), prefixes.len())?;
+    let costs = index::costs_of(
+        alloc,
+        interfaces.as_slice(),
+        on_link.as_slice(),
+        places.as_slice(),
+        draft.routers.len(),
+        prefixes.len(),
+    )?;
     Ok(Plan {
         links: draft.links,
         routers: draft.routers,
@@ -76,7 +81,7 @@ fn plan_of(alloc: Global, draft: Draft) -> Result<Plan, AllocError>
         places,
         on_link,
         of_router,
-        names,
+        names: draft.numbers,
         addresses,
         numbers,
         carriers,
@@ -253,12 +258,34 @@ impl Plan {
         self.of_router(router).len() == 1
     }
 
+    /// The cost at which a router has the prefix of a number, by the look-ups.
+    fn cost_at(&self, router: usize, prefix: usize) -> Option<u8>
+        ensures { result ≡ direct_at router prefix self.now.interfaces self.now.places }
+    {
+        if self.routers.len() <= router || self.prefixes.len() <= prefix {
+            return None;
+        }
+        match self.costs[router * self.prefixes.len() + prefix] {
+            0 => None,
+            cost => Some(cost),
+        }
+    }
+
+    /// The cost at which a router has a prefix of the plan, both by their numbers: on a link of its
+    /// own, or as its own prefix. `None` also where the plan has no such number.
+    pub fn direct_cost(&self, router: usize, prefix: usize) -> Option<u8>
+        ensures { (c : ℕ) → (result ≡ Some c) ↔ IsDirect self.now router prefix c }
+    {
+        self.lawful();
+        self.cost_at(router, prefix)
+    }
+
     /// The cost at which a router has a prefix, by the look-ups.
-    fn cost_at(&self, router: usize, prefix: Prefix) -> Option<u8>
+    fn cost_of(&self, router: usize, prefix: Prefix) -> Option<u8>
         ensures { result ≡ option_and_then (λ k. direct_at router k self.now.interfaces self.now.places) (number_of_prefix prefix self.now.prefixes) }
     {
         let number = self.numbers.get(&prefix)?;
-        self.costs.get(&(router, *number)).copied()
+        self.cost_at(router, *number)
     }
 
     /// The cost at which a router has a prefix on a link of its own, or as its own prefix.
@@ -267,15 +294,33 @@ impl Plan {
         ensures unplanned { ((k : ℕ) → IsPrefix self.now k prefix → ⊥) → result ≡ None }
     {
         self.lawful();
-        self.cost_at(router, prefix)
+        self.cost_of(router, prefix)
+    }
+
+    /// Whether a link has the prefix of a number, by the look-ups.
+    fn is_carrier(&self, link: usize, prefix: usize) -> bool
+        ensures { result ≡ is_some (first_carrying link prefix 0 self.now.places) }
+    {
+        if self.links.len() <= link || self.prefixes.len() <= prefix {
+            return false;
+        }
+        self.carriers[link * self.prefixes.len() + prefix]
+    }
+
+    /// Whether a link is a place of a prefix of the plan, both by their numbers; `false` also where
+    /// the plan has no such number.
+    pub fn is_place(&self, link: usize, prefix: usize) -> bool
+        ensures { Decides result (Carries self.now link prefix) }
+    {
+        self.is_carrier(link, prefix)
     }
 
     /// Whether a link has a prefix, by the look-ups.
-    fn is_carrier(&self, link: usize, prefix: Prefix) -> bool
+    fn is_carrier_of(&self, link: usize, prefix: Prefix) -> bool
         ensures { result ≡ is_some (option_and_then (λ k. first_carrying link k 0 self.now.places) (number_of_prefix prefix self.now.prefixes)) }
     {
         match self.numbers.get(&prefix) {
-            Some(number) => self.carriers.contains_key(&(link, *number)),
+            Some(number) => self.is_carrier(link, *number),
             None => false,
         }
     }
@@ -286,6 +331,6 @@ impl Plan {
         ensures unplanned { ((k : ℕ) → IsPrefix self.now k prefix → ⊥) → result ≡ false }
     {
         self.lawful();
-        self.is_carrier(link, prefix)
+        self.is_carrier_of(link, prefix)
     }
 }

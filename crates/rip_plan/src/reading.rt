@@ -11,6 +11,7 @@ use crate::error::{At, PlanCode, ReadError};
 use crate::fields;
 use crate::passes::check_passes;
 use std::alloc::Global;
+use std::collections::HashMap;
 use toml::Table;
 
 /// The most bytes of a plan.
@@ -40,6 +41,8 @@ fn draft_of(alloc: Global, table: &Table) -> Result<Draft, ReadError>
         routers: Vec::new(alloc),
         interfaces: Vec::new(alloc),
         places: Vec::new(alloc),
+        numbers: HashMap::new(alloc),
+        blocks: HashMap::new(alloc),
     };
     add_links(&mut draft, alloc, links)?;
     add_routers(&mut draft, alloc, routers)?;

@@ -1,18 +1,20 @@
 //! The steps of the first pass over the places of a plan.
 
-ghost use Rattle.std.specs.Prelude.{◌≡◌, ◌&&◌, ◌≤◌, map, string_bytes};
+ghost use Rattle.std.specs.Prelude.{◌≡◌, ◌==◌, ◌≤◌, ◌++◌, ◌∷◌, ℕ, [], IfErr, IfOk, false, if◌then◌else◌, map, nat_eq, string_bytes};
 ghost use Rattle.std.specs.List.{list_any};
 ghost use Rattle.toml.specs.View.{view};
 ghost use Rattle.rip_plan.specs.Draft as spec;
-ghost use Rattle.rip_plan.specs.Draft.{Steps, has_address, interface_step, is_on, is_outside, is_taken, link_step, own_step, prefix_step, router_step, sketch, with_place};
+ghost use Rattle.rip_plan.specs.Draft.{Steps, has_address, interface_step, is_outside, is_taken, link_step, own_step, prefix_step, router_step, sketch, with_place};
 ghost use Rattle.rip_plan.specs.Fault.{steps};
+ghost use Rattle.rip_plan.specs.Touches.{listed};
 
 use crate::draft::{Draft, DraftInterface, DraftPlace, MOST};
 use crate::error::{At, PlanCode, PlanError, ReadError};
 use crate::fields;
 use crate::parts::{Interface, Seat};
 use rip_wire::{Address, Prefix, is_name};
-use std::alloc::Global;
+use std::alloc::{AllocError, Global};
+use std::collections::HashMap;
 use toml::Value;
 
 pub(crate) fn wrong(code: PlanCode, place: At) -> ReadError
@@ -27,25 +29,42 @@ fn is_name_taken(name: &str, names: &[String]) -> bool
     names.iter().any(|other| other.as_str() == name)
 }
 
-fn number_of(name: &str, names: &[String]) -> Option<usize>
-    ensures { result ≡ spec.number_of name.now (map string_bytes names.now) }
+/// The number of the link of a name.
+fn number_of(draft: &Draft, name: &str) -> Option<usize>
+    ensures { result ≡ spec.number_of name.now (sketch draft.now).links }
 {
-    names.iter().position(|other| other.as_str() == name)
+    draft.numbers.get(name).copied()
 }
 
-fn is_seat_on(seat: Seat, link: usize) -> bool
-    ensures { result ≡ is_on link seat }
+fn is_link_named(draft: &Draft, name: &str) -> bool
+    ensures { result ≡ is_taken name.now (sketch draft.now).links }
 {
-    match seat {
-        Seat::Link(other) => other == link,
-        Seat::Own { .. } => false,
+    number_of(draft, name).is_some()
+}
+
+/// Adds the name of a link that no earlier link has.
+fn add_link_name(draft: &mut Draft, alloc: Global, name: &str) -> Result<(), ReadError>
+    requires { is_taken name.now (sketch draft.old).links ≡ false }
+    ensures { Steps (sketch draft.old) (sketch draft.new) result (λ s.
+        Ok (record s { links = s.links ++ name.now ∷ [] })) }
+{
+    let key = String::from_str(alloc, name)?;
+    let kept = String::from_str(alloc, name)?;
+    // With room for the name nothing fails after its number is kept.
+    draft.links.reserve(1)?;
+    draft.numbers.insert(key, draft.links.len())?;
+    draft.links.push(kept)?;
+    Ok(())
+}
+
+/// Whether the link has prefixes, and none contains the address.
+fn is_out_of_link(draft: &Draft, link: usize, address: Address) -> bool
+    ensures { result ≡ is_outside link address (sketch draft.now).places }
+{
+    match draft.blocks.get(&link) {
+        Some(prefixes) => !prefixes.is_empty() && !has_address_in(address, prefixes.as_slice()),
+        None => false,
     }
-}
-
-fn has_prefix_on(link: usize, places: &[DraftPlace]) -> bool
-    ensures { result ≡ list_any (λ p. is_on link p.seat) places.now }
-{
-    places.iter().any(|p| is_seat_on(p.seat, link))
 }
 
 fn contains(prefix: Prefix, address: Address) -> bool
@@ -54,16 +73,27 @@ fn contains(prefix: Prefix, address: Address) -> bool
     prefix.contains(address)
 }
 
-fn has_address_on(link: usize, address: Address, places: &[DraftPlace]) -> bool
-    ensures { result ≡ list_any (λ p. is_on link p.seat && has_address p.prefix address) places.now }
+fn has_address_in(address: Address, blocks: &[Prefix]) -> bool
+    ensures { result ≡ list_any (λ b. has_address b address) blocks.now }
 {
-    places.iter().any(|p| is_seat_on(p.seat, link) && contains(p.prefix, address))
+    blocks.iter().any(|block| contains(*block, address))
 }
 
-fn is_out_of_link(link: usize, address: Address, places: &[DraftPlace]) -> bool
-    ensures { result ≡ is_outside link address places.now }
+/// Adds a prefix to those on a link.
+fn add_block(
+    blocks: &mut HashMap<usize, Vec<Prefix>>,
+    link: usize,
+    prefix: Prefix,
+) -> Result<(), AllocError>
+    ensures ok { IfOk result (λ done. (l : ℕ) → listed nat_eq blocks.new l
+        ≡ (if link == l then listed nat_eq blocks.old l ++ prefix ∷ []
+        else listed nat_eq blocks.old l)) }
+    ensures err { IfErr result (λ e. (l : ℕ) → listed nat_eq blocks.new l
+        ≡ listed nat_eq blocks.old l) }
 {
-    has_prefix_on(link, places) && !has_address_on(link, address, places)
+    let on_link: &mut Vec<Prefix> = blocks.entry(link)?.or_default();
+    on_link.push(prefix)?;
+    Ok(())
 }
 
 /// Adds a place of a prefix, unless there are as many as a plan may have.
@@ -72,6 +102,11 @@ fn add_place(draft: &mut Draft, place: At, prefix: Prefix, seat: Seat) -> Result
 {
     if MOST <= draft.places.len() {
         return Err(wrong(PlanCode::Limit, place));
+    }
+    // With room for the place nothing fails after its prefix is kept.
+    draft.places.reserve(1)?;
+    if let Seat::Link(link) = seat {
+        add_block(&mut draft.blocks, link, prefix)?;
     }
     draft.places.push(DraftPlace {
         prefix,
@@ -121,10 +156,10 @@ fn add_link(draft: &mut Draft, alloc: Global, i: usize, item: &Value) -> Result<
     if !is_name(name.as_bytes()) {
         return Err(wrong(PlanCode::Name, place));
     }
-    if is_name_taken(name, draft.links.as_slice()) {
+    if is_link_named(draft, name) {
         return Err(wrong(PlanCode::DuplicateName, place));
     }
-    draft.links.push(String::from_str(alloc, name)?)?;
+    add_link_name(draft, alloc, name)?;
     add_prefixes(draft, i, prefixes)
 }
 
@@ -146,10 +181,10 @@ fn add_interface(draft: &mut Draft, r: usize, j: usize, item: &Value) -> Result<
     let Some(cost) = fields::cost_of(given) else {
         return Err(wrong(PlanCode::Cost, place));
     };
-    let Some(link) = number_of(name, draft.links.as_slice()) else {
+    let Some(link) = number_of(draft, name) else {
         return Err(wrong(PlanCode::UnknownLink, place));
     };
-    if is_out_of_link(link, address, draft.places.as_slice()) {
+    if is_out_of_link(draft, link, address) {
         return Err(wrong(PlanCode::OutsidePrefix, place));
     }
     if MOST <= draft.interfaces.len() {

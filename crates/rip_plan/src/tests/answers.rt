@@ -50,6 +50,14 @@ fn several_places(rt: HostRuntime) -> Result<(), Fail> {
     assert_eq!(rt; plan.direct(1, prefix), Some(1));
     assert_eq!(rt; plan.direct(2, prefix), Some(5));
     assert_eq!(rt; plan.direct(0, plan.prefix(1)), None);
+    assert_eq!(rt; plan.direct_cost(2, 0), Some(5));
+    assert_eq!(rt; plan.direct_cost(0, 1), None);
+    assert_eq!(rt; plan.direct_cost(0, 3), None);
+    assert_eq!(rt; plan.direct_cost(3, 0), None);
+    assert!(rt; plan.is_place(0, 0));
+    assert!(rt; !plan.is_place(1, 0));
+    assert!(rt; !plan.is_place(3, 0));
+    assert!(rt; !plan.is_place(0, 3));
     assert!(rt; plan.carries(0, prefix));
     assert!(rt; !plan.carries(1, prefix));
     let unplanned = Prefix::parse("10.1.0.0/17").ok_or("a prefix")?;

@@ -1,7 +1,7 @@
 use Rattle.std.proofs.Common.{◌≡◌, ℕ, drop}
-use Rattle.std.specs.BTreeMap.{get}
-use Rattle.rip_plan.specs.Network.{first_at, pair_cmp}
+use Rattle.std.specs.HashMap.{get}
+use Rattle.rip_plan.specs.Network.{first_at, pair_eq}
 use Rattle.rip_plan.proofs.index.numbers_of_addresses.Given as goal
 
 abbrev pub invariant-loop-i : goal.invariant-loop-i
-invariant-loop-i l = (link address : ℕ) → get pair_cmp l.numbers (link, address) ≡ first_at link address l.i (drop l.i l.interfaces)
+invariant-loop-i l = (link address : ℕ) → get pair_eq l.numbers (link, address) ≡ first_at link address l.i (drop l.i l.interfaces)

@@ -6,6 +6,6 @@ pub returns : goal.returns
 returns c =
     let laws : IsLawful c.args.self.now = c.lawful.ensures in
     record {
-      planned = carries_planned c.args.self.now laws c.args.link c.args.prefix c.is_carrier.result c.is_carrier.ensures;
-      unplanned = carries_unplanned c.args.self.now c.args.link c.args.prefix c.is_carrier.result c.is_carrier.ensures;
+      planned = carries_planned c.args.self.now laws c.args.link c.args.prefix c.is_carrier_of.result c.is_carrier_of.ensures;
+      unplanned = carries_unplanned c.args.self.now c.args.link c.args.prefix c.is_carrier_of.result c.is_carrier_of.ensures;
     }

@@ -6,6 +6,6 @@ pub returns : goal.returns
 returns c =
     let laws : IsLawful c.args.self.now = c.lawful.ensures in
     record {
-      planned = direct_planned c.args.self.now laws c.args.router c.args.prefix c.cost_at.result c.cost_at.ensures;
-      unplanned = direct_unplanned c.args.self.now c.args.router c.args.prefix c.cost_at.result c.cost_at.ensures;
+      planned = direct_planned c.args.self.now laws c.args.router c.args.prefix c.cost_of.result c.cost_of.ensures;
+      unplanned = direct_unplanned c.args.self.now c.args.router c.args.prefix c.cost_of.result c.cost_of.ensures;
     }

@@ -1,0 +1,5 @@
+use Rattle.rip_plan.proofs.PlanAnswers.{carries_exact}
+use Rattle.rip_plan.proofs.plan.Plan.is_place.Goals as goal
+
+pub returns : goal.returns
+returns c = carries_exact c.args.self.now c.args.link c.args.prefix c.is_carrier.result c.is_carrier.ensures

@@ -1,0 +1,138 @@
+use Rattle.std.proofs.Common.{◌≡◌, ◌≤◌, ℕ, List, [], length, map, arith, refl, sym, ◌∙◌, ap, string_bytes, Vec, Global}
+use Rattle.std.proofs.lemmas.List.{length-map}
+use Rattle.rip_wire.specs.Prefix.{Block}
+use Rattle.rip_plan.specs.declared.draft.DraftInterface.{DraftInterface}
+use Rattle.rip_plan.specs.declared.draft.DraftPlace.{DraftPlace}
+use Rattle.rip_plan.specs.declared.parts.Interface.{Interface}
+use Rattle.rip_plan.specs.declared.parts.Place.{Place}
+use Rattle.rip_plan.specs.Draft.{sketch}
+use Rattle.rip_plan.specs.Network.{Network, each_below, first_at, is_of, is_on, network_of_sketch, numbered, numbers_where}
+use Rattle.rip_plan.specs.Rows.{AreCosts, AreFlags}
+use Rattle.rip_plan.proofs.Below.{length-each_below}
+use Rattle.rip_plan.proofs.Numbering.{numbers}
+use Rattle.rip_plan.proofs.WithinPlan.{interfaces_links, interfaces_routers, places_prefixes, places_links, places_owners}
+use Rattle.rip_plan.proofs.plan.plan_of.Goals as goal
+
+prefixes_are : (ps : List Block) (qs : List Place) (ds es : List DraftPlace) → (ps, qs) ≡ numbered [] [] ds → ds ≡ es → ps ≡ (numbered [] [] es).0
+prefixes_are ps qs ds es h e = ap (λ (p : List Block × List Place). p.0) h ∙ ap (λ d. (numbered [] [] d).0) e
+
+places_are : (ps : List Block) (qs : List Place) (ds es : List DraftPlace) → (ps, qs) ≡ numbered [] [] ds → ds ≡ es → qs ≡ (numbered [] [] es).1
+places_are ps qs ds es h e = ap (λ (p : List Block × List Place). p.1) h ∙ ap (λ d. (numbered [] [] d).1) e
+
+interfaces_are : (is : List Interface) (ds es : List DraftInterface) → is ≡ map (λ i. i.interface) ds → ds ≡ es → is ≡ map (λ i. i.interface) es
+interfaces_are is ds es h e = h ∙ ap (map (λ (i : DraftInterface). i.interface)) e
+
+few : (ps : List Block) (ds es : List DraftPlace) (k : ℕ) → length ps ≤ length ds → ds ≡ es → length (numbered [] [] es).1 ≤ 1024 → k ≡ length ps → k ≤ 1024
+few ps ds es k h e most is = omega (arith, ap length e, (numbers es).count)
+
+lists_are : (lists : List (List ℕ)) (count : ℕ) (f : ℕ → List ℕ) → lists ≡ each_below count f → lists ≡ each_below (length lists) f
+lists_are lists count f h = let same : length lists ≡ count = ap length h ∙ length-each_below count f in rw same h
+
+pub all_on-requires : goal.all_on-requires
+all_on-requires c =
+    let n : Network = network_of_sketch (sketch c.args.draft) in
+    let links : c.len.result ≡ length n.links = omega (arith, length-map c.args.draft.links.items string_bytes) in
+    let interfaces : c.as_slice-3.result.now ≡ n.interfaces = c.as_slice-3.ensures.value ∙ interfaces_are c.in_ok-interfaces.interfaces.items c.as_slice.result.now c.args.draft.interfaces.items c.in_ok-interfaces.ensures c.as_slice.ensures.value in
+    rw (links, interfaces) (interfaces_links n c.requires)
+
+pub all_of-requires : goal.all_of-requires
+all_of-requires c =
+    let n : Network = network_of_sketch (sketch c.args.draft) in
+    let routers : c.len-2.result ≡ length n.routers = omega (arith, length-map c.args.draft.routers.items string_bytes) in
+    let interfaces : c.as_slice-4.result.now ≡ n.interfaces = c.as_slice-4.ensures.value ∙ interfaces_are c.in_ok-interfaces.interfaces.items c.as_slice.result.now c.args.draft.interfaces.items c.in_ok-interfaces.ensures c.as_slice.ensures.value in
+    rw (routers, interfaces) (interfaces_routers n c.requires)
+
+pub carriers_of-requires-clause-few_prefixes : goal.carriers_of-requires-clause-few_prefixes
+carriers_of-requires-clause-few_prefixes c =
+    let n : Network = network_of_sketch (sketch c.args.draft) in
+    few c.in_ok-prefixes.prefixes.items c.as_slice-2.result.now c.args.draft.places.items c.len-4.result c.in_ok-prefixes.ensures.few c.as_slice-2.ensures.value c.requires.few_places (omega arith)
+
+pub carriers_of-requires-clause-prefixes : goal.carriers_of-requires-clause-prefixes
+carriers_of-requires-clause-prefixes c =
+    let n : Network = network_of_sketch (sketch c.args.draft) in
+    let blocks : c.in_ok-prefixes.prefixes.items ≡ n.prefixes = prefixes_are c.in_ok-prefixes.prefixes.items c.in_ok-prefixes.places.items c.as_slice-2.result.now c.args.draft.places.items c.in_ok-prefixes.ensures.parts c.as_slice-2.ensures.value in
+    let prefixes : c.len-4.result ≡ length n.prefixes = omega (arith, ap length blocks) in
+    let places : c.as_slice-6.result.now ≡ n.places = c.as_slice-6.ensures.value ∙ places_are c.in_ok-prefixes.prefixes.items c.in_ok-prefixes.places.items c.as_slice-2.result.now c.args.draft.places.items c.in_ok-prefixes.ensures.parts c.as_slice-2.ensures.value in
+    rw (prefixes, places) (places_prefixes n c.requires)
+
+pub carriers_of-requires-clause-seats : goal.carriers_of-requires-clause-seats
+carriers_of-requires-clause-seats c =
+    let n : Network = network_of_sketch (sketch c.args.draft) in
+    let links : c.len-3.result ≡ length n.links = omega (arith, length-map c.args.draft.links.items string_bytes) in
+    let places : c.as_slice-6.result.now ≡ n.places = c.as_slice-6.ensures.value ∙ places_are c.in_ok-prefixes.prefixes.items c.in_ok-prefixes.places.items c.as_slice-2.result.now c.args.draft.places.items c.in_ok-prefixes.ensures.parts c.as_slice-2.ensures.value in
+    rw (links, places) (places_links n c.requires)
+
+pub costs_of-requires-clause-few_prefixes : goal.costs_of-requires-clause-few_prefixes
+costs_of-requires-clause-few_prefixes c =
+    let n : Network = network_of_sketch (sketch c.args.draft) in
+    few c.in_ok-prefixes.prefixes.items c.as_slice-2.result.now c.args.draft.places.items c.len-6.result c.in_ok-prefixes.ensures.few c.as_slice-2.ensures.value c.requires.few_places (omega arith)
+
+pub costs_of-requires-clause-routers : goal.costs_of-requires-clause-routers
+costs_of-requires-clause-routers c =
+    let n : Network = network_of_sketch (sketch c.args.draft) in
+    let routers : c.len-5.result ≡ length n.routers = omega (arith, length-map c.args.draft.routers.items string_bytes) in
+    let interfaces : c.as_slice-7.result.now ≡ n.interfaces = c.as_slice-7.ensures.value ∙ interfaces_are c.in_ok-interfaces.interfaces.items c.as_slice.result.now c.args.draft.interfaces.items c.in_ok-interfaces.ensures c.as_slice.ensures.value in
+    rw (routers, interfaces) (interfaces_routers n c.requires)
+
+pub costs_of-requires-clause-lists : goal.costs_of-requires-clause-lists
+costs_of-requires-clause-lists c =
+    let items = λ (w : Vec ℕ Global). w.items in
+    let same : c.as_slice-3.result.now ≡ c.as_slice-7.result.now = c.as_slice-3.ensures.value ∙ sym c.as_slice-7.ensures.value in
+    lists_are (map items c.as_slice-8.result.now) c.len.result (λ l. numbers_where (is_on l) 0 c.as_slice-7.result.now)
+    (ap (map items) c.as_slice-8.ensures.value ∙ c.in_ok-on_link.ensures ∙ ap (λ is. each_below c.len.result (λ l. numbers_where (is_on l) 0 is)) same)
+
+pub costs_of-requires-clause-prefixes : goal.costs_of-requires-clause-prefixes
+costs_of-requires-clause-prefixes c =
+    let n : Network = network_of_sketch (sketch c.args.draft) in
+    let blocks : c.in_ok-prefixes.prefixes.items ≡ n.prefixes = prefixes_are c.in_ok-prefixes.prefixes.items c.in_ok-prefixes.places.items c.as_slice-2.result.now c.args.draft.places.items c.in_ok-prefixes.ensures.parts c.as_slice-2.ensures.value in
+    let prefixes : c.len-6.result ≡ length n.prefixes = omega (arith, ap length blocks) in
+    let places : c.as_slice-9.result.now ≡ n.places = c.as_slice-9.ensures.value ∙ places_are c.in_ok-prefixes.prefixes.items c.in_ok-prefixes.places.items c.as_slice-2.result.now c.args.draft.places.items c.in_ok-prefixes.ensures.parts c.as_slice-2.ensures.value in
+    rw (prefixes, places) (places_prefixes n c.requires)
+
+pub costs_of-requires-clause-links : goal.costs_of-requires-clause-links
+costs_of-requires-clause-links c =
+    let n : Network = network_of_sketch (sketch c.args.draft) in
+    let items = λ (w : Vec ℕ Global). w.items in
+    let lists : map items c.as_slice-8.result.now ≡ each_below c.len.result (λ l. numbers_where (is_on l) 0 c.as_slice-3.result.now) = ap (map items) c.as_slice-8.ensures.value ∙ c.in_ok-on_link.ensures in
+    let count : length (map items c.as_slice-8.result.now) ≡ c.len.result = ap length lists ∙ length-each_below c.len.result (λ l. numbers_where (is_on l) 0 c.as_slice-3.result.now) in
+    let links : length c.as_slice-8.result.now ≡ length n.links = omega (arith, length-map c.args.draft.links.items string_bytes, length-map c.as_slice-8.result.now items) in
+    let places : c.as_slice-9.result.now ≡ n.places = c.as_slice-9.ensures.value ∙ places_are c.in_ok-prefixes.prefixes.items c.in_ok-prefixes.places.items c.as_slice-2.result.now c.args.draft.places.items c.in_ok-prefixes.ensures.parts c.as_slice-2.ensures.value in
+    rw (links, places) (places_links n c.requires)
+
+pub costs_of-requires-clause-owners : goal.costs_of-requires-clause-owners
+costs_of-requires-clause-owners c =
+    let n : Network = network_of_sketch (sketch c.args.draft) in
+    let routers : c.len-5.result ≡ length n.routers = omega (arith, length-map c.args.draft.routers.items string_bytes) in
+    let places : c.as_slice-9.result.now ≡ n.places = c.as_slice-9.ensures.value ∙ places_are c.in_ok-prefixes.prefixes.items c.in_ok-prefixes.places.items c.as_slice-2.result.now c.args.draft.places.items c.in_ok-prefixes.ensures.parts c.as_slice-2.ensures.value in
+    rw (routers, places) (places_owners n c.requires)
+
+pub invariant_of-result : goal.invariant_of-result
+invariant_of-result c =
+    let n : Network = network_of_sketch (sketch c.args.draft) in
+    let interfaces : c.in_ok-interfaces.interfaces.items ≡ n.interfaces = interfaces_are c.in_ok-interfaces.interfaces.items c.as_slice.result.now c.args.draft.interfaces.items c.in_ok-interfaces.ensures c.as_slice.ensures.value in
+    let blocks : c.in_ok-prefixes.prefixes.items ≡ n.prefixes = prefixes_are c.in_ok-prefixes.prefixes.items c.in_ok-prefixes.places.items c.as_slice-2.result.now c.args.draft.places.items c.in_ok-prefixes.ensures.parts c.as_slice-2.ensures.value in
+    let places : c.in_ok-prefixes.places.items ≡ n.places = places_are c.in_ok-prefixes.prefixes.items c.in_ok-prefixes.places.items c.as_slice-2.result.now c.args.draft.places.items c.in_ok-prefixes.ensures.parts c.as_slice-2.ensures.value in
+    let links : c.len.result ≡ length c.args.draft.links.items = omega arith in
+    let links_3 : c.len-3.result ≡ length c.args.draft.links.items = omega (arith, c.len-3.ensures) in
+    let routers : c.len-2.result ≡ length c.args.draft.routers.items = omega (arith, c.len-2.ensures) in
+    let routers_5 : c.len-5.result ≡ length c.args.draft.routers.items = omega (arith, c.len-5.ensures) in
+    let prefixes_4 : c.len-4.result ≡ length c.in_ok-prefixes.prefixes.items = omega (arith, c.len-4.ensures) in
+    let prefixes_6 : c.len-6.result ≡ length c.in_ok-prefixes.prefixes.items = omega (arith, c.len-6.ensures) in
+    let flags : AreFlags c.len-4.result c.as_slice-6.result.now c.in_ok-carriers.carriers.items = c.in_ok-carriers.ensures.flags in
+    let costs : AreCosts c.len-6.result c.as_slice-7.result.now c.as_slice-9.result.now c.in_ok-costs.costs.items = c.in_ok-costs.ensures.costs in
+    record {
+      lawful = rw (interfaces, blocks, places) c.requires;
+      on_link = c.in_ok-on_link.ensures
+          ∙ ap (λ m. each_below m (λ l. numbers_where (is_on l) 0 c.as_slice-3.result.now)) links
+          ∙ ap (λ is. each_below (length c.args.draft.links.items) (λ l. numbers_where (is_on l) 0 is)) c.as_slice-3.ensures.value;
+      of_router = c.in_ok-of_router.ensures
+          ∙ ap (λ m. each_below m (λ r. numbers_where (is_of r) 0 c.as_slice-4.result.now)) routers
+          ∙ ap (λ is. each_below (length c.args.draft.routers.items) (λ r. numbers_where (is_of r) 0 is)) c.as_slice-4.ensures.value;
+      names = λ bs. c.args.draft.numbered bs;
+      numbers = λ p. c.in_ok-prefixes.ensures.numbers p;
+      carriers_room = c.in_ok-carriers.ensures.room ∙ rw (links_3, prefixes_4) refl;
+      carriers = rw (prefixes_4, c.as_slice-6.ensures.value) at flags;
+      costs_room = c.in_ok-costs.ensures.room ∙ rw (routers_5, prefixes_6) refl;
+      costs = rw (prefixes_6, c.as_slice-7.ensures.value, c.as_slice-9.ensures.value) at costs;
+      addresses = λ l a. c.in_ok-addresses.ensures l a ∙ ap (first_at l a 0) c.as_slice-5.ensures.value;
+    }
