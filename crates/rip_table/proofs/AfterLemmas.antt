@@ -1,22 +1,21 @@
 -- What the join of a response's entries is, part by part.
-use Rattle.std.proofs.Common.{◌≡◌, ℕ, ◌==◌, ◌<◌, Bool, true, false, cond, ◌&&◌, ◌||◌, not, List, [], ◌∷◌, ◌++◌, length, replicate, Option, Some, None, is_none, Ok, Err, refl, sym, ap, ◌∙◌, set}
+use Rattle.std.proofs.Common.{◌≡◌, ℕ, ◌==◌, ◌<◌, Bool, true, false, cond, ◌&&◌, ◌||◌, not, List, [], ◌∷◌, ◌++◌, length, replicate, Option, Some, None, Ok, Err, refl, sym, ap, subst, ◌∙◌, set}
 use Rattle.std.proofs.Math.ListN.{length-set}
 use Rattle.std.proofs.lemmas.Bool.{eqb-true}
 use mathlib.Core.Path.{fun_ext}
 use Rattle.rip_wire.specs.Prefix.{Block}
-use Rattle.rip_wire.specs.Message.{response}
 use Rattle.rip_wire.specs.declared.entry.Entry.{Entry}
 use Rattle.rip_plan.specs.Passes.{same_prefix}
 use Rattle.rip_table.specs.State.{IsState, State, is_among}
-use Rattle.rip_table.specs.Joined.{brings_pair, is_foreign, is_past, joined_at, joined_entries, with_heard, with_metric}
+use Rattle.rip_table.specs.Joined.{is_foreign, is_past, joined_at, joined_entries, with_heard, with_metric}
 use Rattle.rip_table.specs.ListState.{with_prefix}
-use Rattle.rip_table.specs.Numbers.{IsChecked}
-use Rattle.rip_table.specs.Rows.{LacksSome, Rows, cell, grid_state, heads, shown_after, with_row, with_rows}
+use Rattle.rip_table.specs.Numbers.{AreFaultless}
+use Rattle.rip_table.specs.Rows.{AreWritten, Rows, cell, grid_state, heads, shown_after, with_row, with_rows}
 use Rattle.rip_table.specs.declared.error.TableError.TheVariants.{Changed, NextHop, TooManyPrefixes}
 use Rattle.rip_table.proofs.Truth.{both-true, or-true, then-split}
 use Rattle.rip_table.proofs.Lists.{is_among-append, same-is, same-self}
-use Rattle.rip_table.proofs.NumberLemmas.{any-item, unlisted}
 use Rattle.rip_table.proofs.RowLemmas.{heads-append}
+use Rattle.rip_table.proofs.CheckLemmas.{heard_valid}
 use Rattle.rip_table.proofs.CellLemmas.{cells-with_rows}
 use Rattle.rip_table.proofs.TakingLemmas.{heard-with}
 
@@ -99,23 +98,28 @@ heads-with_rows w rows [] = refl
 heads-with_rows w rows (e ∷ es) = heads-with_rows w (with_row w rows e.prefix) es ∙ ap (λ (ps : List Block). prefixes_after ps es) (heads_with w rows e.prefix (is_among e.prefix (heads rows)))
 
 -- what was written to the grid is the join
-pub written-is : (a i w : ℕ) (heard : List Bool) (rows grown new : Rows) (es : List Entry) → i < length heard → IsState (grid_state heard rows)
-    → (checked : IsChecked a i (grid_state heard rows) es (Ok tt)) → grown ≡ with_rows w rows es → heads new ≡ heads grown → cell new ≡ shown_after (cell grown) i es
-    → grid_state (set heard i true) new ≡ checked.0
-written-is a i w heard rows grown new es lt valid checked grows names cells =
-    let s = with_heard (grid_state heard rows) i in
+pub written-is : (sender i w : ℕ) (heard : List Bool) (rows grown new : Rows) (es : List Entry) (t : State) → i < length heard → IsState (grid_state heard rows)
+    → joined_entries sender i (grid_state heard rows) es ≡ Ok t → grown ≡ with_rows w rows es → heads new ≡ heads grown → cell new ≡ shown_after (cell grown) i es
+    → grid_state heard new ≡ t
+written-is sender i w heard rows grown new es t lt valid joins grows names cells =
+    let s = grid_state heard rows in
     let prefixes : heads new ≡ prefixes_after (heads rows) es = names ∙ ap heads grows ∙ heads-with_rows w rows es in
     let shows : cell new ≡ shown_after (cell rows) i es = cells ∙ ap (λ (f : ℕ → Block → Option ℕ). shown_after f i es) (ap cell grows ∙ cells-with_rows w rows es) in
-    let after : checked.0 ≡ after_all s i es = joined-after a i s checked.0 es (λ p m h. (valid.shown i m p lt h).listed) checked.1 in
-    ap (λ (n : ℕ). record { interfaces = n; prefixes = heads new; shows = cell new; heard = (grid_state (set heard i true) new).heard }) (length-set heard i true)
-    ∙ ap (λ (ps : List Block). record { interfaces = length heard; prefixes = ps; shows = cell new; heard = (grid_state (set heard i true) new).heard }) prefixes
-    ∙ ap (λ (f : ℕ → Block → Option ℕ). record { interfaces = length heard; prefixes = prefixes_after (heads rows) es; shows = f; heard = (grid_state (set heard i true) new).heard }) shows
-    ∙ ap (λ (f : ℕ → Bool). record { interfaces = length heard; prefixes = prefixes_after (heads rows) es; shows = shown_after (cell rows) i es; heard = f }) (heard-with heard i lt)
+    let after : t ≡ after_all s i es = joined-after sender i s t es (λ p m h. (valid.shown i m p lt h).listed) joins in
+    ap (λ (ps : List Block). record { interfaces = length heard; prefixes = ps; shows = cell new; heard = s.heard }) prefixes
+    ∙ ap (λ (f : ℕ → Block → Option ℕ). record { interfaces = length heard; prefixes = prefixes_after (heads rows) es; shows = f; heard = s.heard }) shows
     ∙ sym after
 
--- a prefix without a row brings a pair
-pub lacks-brings : (i : ℕ) (s : State) (rows : Rows) (es : List Entry) → heads rows ≡ s.prefixes → IsState s → i < s.interfaces → LacksSome rows es → brings_pair i s (response es) ≡ true
-lacks-brings i s rows es names valid lt lacks =
-    let e = lacks.1 in
-    any-item (λ d. is_none (s.shows i d.prefix)) es lacks.0 e lacks.2
-    (ap is_none (unlisted s i e.prefix valid lt (ap (is_among e.prefix) (sym names) ∙ lacks.3)))
+-- marking an interface as heard
+pub grid_state-heard : (heard : List Bool) (rows : Rows) (i : ℕ) → i < length heard → grid_state (set heard i true) rows ≡ with_heard (grid_state heard rows) i
+grid_state-heard heard rows i lt =
+    ap (λ (n : ℕ). record { interfaces = n; prefixes = heads rows; shows = cell rows; heard = (grid_state (set heard i true) rows).heard }) (length-set heard i true)
+    ∙ ap (λ (f : ℕ → Bool). record { interfaces = length heard; prefixes = heads rows; shows = cell rows; heard = f }) (heard-with heard i lt)
+
+-- what was taken is the join of the entries
+pub taken-is : (sender i : ℕ) (heard : List Bool) (rows new : Rows) (es : List Entry) → i < length heard → IsState (grid_state heard rows)
+    → (checked : AreFaultless sender i (grid_state heard rows) es) → AreWritten i es rows new → grid_state (set heard i true) new ≡ checked.0
+taken-is sender i heard rows new es lt valid checked written =
+    let same = grid_state-heard heard rows i lt in
+    let within : i < length (set heard i true) = rw length-set lt in
+    written (set heard i true) sender checked.0 within (subst IsState (sym same) (heard_valid (grid_state heard rows) i valid)) (ap (λ (s : State). joined_entries sender i s es) same ∙ checked.1)

@@ -1,5 +1,5 @@
 -- Numbers of prefixes, and what entries say of a prefix.
-use Rattle.std.proofs.Common.{inl, inr, take, ◌≡◌, ℕ, zero, suc, ◌+◌, ◌<◌, Bool, true, false, cond, ◌||◌, List, [], ◌∷◌, ◌++◌, length, Option, Some, None, is_some, is_none, refl, sym, ap, ◌∙◌, arith}
+use Rattle.std.proofs.Common.{inl, inr, take, ◌≡◌, ℕ, zero, suc, ◌+◌, ◌<◌, Bool, true, false, cond, ◌||◌, not, List, [], ◌∷◌, ◌++◌, length, Option, Some, None, is_some, is_none, refl, sym, ap, ◌∙◌, arith}
 use Rattle.std.specs.List.{slice_get, slice_index_or, list_any, position_from}
 use Rattle.std.specs.Option.{option_or}
 use Rattle.std.proofs.lemmas.Option.{get_or_from_slice_get, slice_get_cases, slice_get_within}
@@ -13,7 +13,7 @@ use Rattle.rip_plan.specs.Network.{number_of_prefix}
 use Rattle.rip_plan.specs.Passes.{same_prefix}
 use Rattle.rip_table.specs.State.{IsState, State, is_among}
 use Rattle.rip_table.specs.Numbers.{AreNumbers, metric_among}
-use Rattle.rip_table.proofs.Truth.{or-true}
+use Rattle.rip_table.proofs.Truth.{or-false, or-true}
 use Rattle.rip_table.proofs.Lists.{same-is, is_among-item, take-more}
 
 pub true-false : {A : Type 0} (b : Bool) → b ≡ true → b ≡ false → A
@@ -119,26 +119,24 @@ any-item test (d ∷ es) zero e at h =
     ap (λ (b : Bool). b || list_any test es) (ap test is ∙ h)
 any-item test (d ∷ es) (suc j) e at h = ap (λ (b : Bool). test d || b) (any-item test es j e at h) ∙ or-true (test d)
 
--- one more entry that does not pass
-pub any-passed : (test : Entry → Bool) (es : List Entry) (j : ℕ) (e : Entry) → list_any test (take j es) ≡ false → slice_get es j ≡ Some e → test e ≡ false → list_any test (take (j + 1) es) ≡ false
-any-passed test es j e none at h =
-    ap (list_any test) (take-more es j e at)
-    ∙ list_any-append test (take j es) (e ∷ [])
-    ∙ ap (λ (b : Bool). b || (test e || false)) none
-    ∙ ap (λ (b : Bool). b || false) h
+-- whether one of the entries passes, with one more
+pub any-next : (test : Entry → Bool) (es : List Entry) (j : ℕ) (e : Entry) → slice_get es j ≡ Some e → (list_any test (take j es) || test e) ≡ list_any test (take (j + 1) es)
+any-next test es j e at =
+    ap (λ (b : Bool). list_any test (take j es) || b) (or-false (test e))
+    ∙ sym (list_any-append test (take j es) (e ∷ []))
+    ∙ ap (list_any test) (sym (take-more es j e at))
 
 -- a response is its entries
 pub response-is : (m : Message) → kind_of m ≡ Response → m ≡ response (entries_of m)
 response-is request h = absurd (cc h)
 response-is (response es) h = refl
 
-pub none-of : (o : Option ℕ) → is_some o ≡ false → is_none o ≡ true
-none-of None h = refl
-none-of (Some x) h = absurd (cc h)
-
-pub some-of : (o : Option ℕ) → is_some o ≡ true → is_none o ≡ false
-some-of None h = absurd (cc h)
-some-of (Some x) h = refl
+-- the test for nothing says what the test for something does not
+pub none-is : (o : Option ℕ) (b : Bool) → is_some o ≡ not b → b ≡ is_none o
+none-is None true h = refl
+none-is None false h = absurd (cc h)
+none-is (Some x) true h = absurd (cc h)
+none-is (Some x) false h = refl
 
 -- a prefix is in a list where it has a number
 pub number-is : (p : Block) (ps : List Block) → is_among p ps ≡ is_some (number_of_prefix p ps)

@@ -10,7 +10,7 @@ use Rattle.rip_plan.specs.Relations.{HasAddress}
 use Rattle.rip_plan.specs.declared.parts.Interface.{Interface}
 use Rattle.rip_table.specs.State.{State}
 use Rattle.rip_table.specs.Joined.{and_then, brings_pair, is_foreign, is_past, joined_at, joined_entries, joined_message, Takes, with_heard, with_metric}
-use Rattle.rip_table.specs.Numbers.{IsChecked}
+use Rattle.rip_table.specs.Numbers.{AreFaultless, IsChecked}
 use Rattle.rip_table.specs.declared.error.TableError.{TableError}
 use Rattle.rip_table.specs.declared.error.TableError.TheVariants.{Changed, NextHop, TooManyPrefixes, Memory}
 
@@ -52,17 +52,17 @@ refused a i s m es (NextHop p) is h = (refl, ap (joined_message a i s) is ∙ h)
 refused a i s m es TooManyPrefixes is h = (refl, ap (joined_message a i s) is ∙ h)
 
 -- a response without a bad entry that brings a pair may want memory
-pub wanting : (a i : ℕ) (s : State) (m : Message) (es : List Entry) (new : State) → m ≡ response es → IsChecked a i s es (Ok tt) → brings_pair i s m ≡ true → new ≡ s → Takes a i s m new (Err Memory)
+pub wanting : (a i : ℕ) (s : State) (m : Message) (es : List Entry) (new : State) → m ≡ response es → AreFaultless a i s es → brings_pair i s (response es) ≡ true → new ≡ s → Takes a i s m new (Err Memory)
 wanting a i s m es new is checked brings same = (
   same,
   record {
     good = ap (λ (x : Message). is_ok (joined_message a i s x)) is ∙ ap is_ok checked.1;
-    brings = brings;
+    brings = ap (brings_pair i s) is ∙ brings;
   },
 )
 
 -- a response without a bad entry is taken
-pub taken : (a i : ℕ) (s : State) (m : Message) (es : List Entry) (new : State) → m ≡ response es → (checked : IsChecked a i s es (Ok tt)) → new ≡ checked.0 → Takes a i s m new (Ok tt)
+pub taken : (a i : ℕ) (s : State) (m : Message) (es : List Entry) (new : State) → m ≡ response es → (checked : AreFaultless a i s es) → new ≡ checked.0 → Takes a i s m new (Ok tt)
 taken a i s m es new is checked same = ap (joined_message a i s) is ∙ checked.1 ∙ ap (λ (t : State). Ok t) (sym same)
 
 -- an interface has one address

@@ -2,11 +2,12 @@
 use Rattle.std.specs.Prelude.{◌≡◌, ℕ, ◌==◌, ◌+◌, ◌&&◌, nat_lt, Bool, not, is_none, if◌then◌else◌, List, [], ◌∷◌, Option, Some, None, Result, Ok, Err, slice_get}
 use Rattle.std.specs.Option.{option_or}
 use Rattle.rip_wire.specs.Prefix.{Block}
+use Rattle.rip_wire.specs.Message.{response}
 use Rattle.rip_wire.specs.declared.entry.Entry.{Entry}
 use Rattle.rip_plan.specs.Network.{number_of_prefix}
 use Rattle.rip_plan.specs.Passes.{same_prefix}
 use Rattle.rip_table.specs.State.{IsState, State}
-use Rattle.rip_table.specs.Joined.{is_foreign, joined_entries, with_heard}
+use Rattle.rip_table.specs.Joined.{brings_pair, is_foreign, joined_entries, with_heard}
 use Rattle.rip_table.specs.declared.error.TableError.{TableError}
 use Rattle.rip_table.specs.declared.error.TableError.TheVariants.{Changed, NextHop, TooManyPrefixes}
 
@@ -39,7 +40,11 @@ abbrev pub judged : ℕ → Entry → Option ℕ → ℕ → Result (Unit {0}) T
 judged sender e None count = judged_alone sender e count
 judged sender e (Some old) count = if not (old == e.metric) then Err (Changed e.prefix old e.metric) else judged_alone sender e count
 
--- the entries have no fault, and make a table of this one, or the first of them that is bad has this fault
-abbrev pub IsChecked : ℕ → ℕ → State → List Entry → Result (Unit {0}) TableError → Type 0
-IsChecked sender i s entries (Ok u) = (t : State) × (joined_entries sender i (with_heard s i) entries ≡ Ok t) × IsState t
+-- these entries have no fault, and make a table of this one
+abbrev pub AreFaultless : ℕ → ℕ → State → List Entry → Type 0
+AreFaultless sender i s entries = (t : State) × (joined_entries sender i (with_heard s i) entries ≡ Ok t) × IsState t
+
+-- the entries have no fault, and it is told whether one brings a pair, or the first of them that is bad has this fault
+abbrev pub IsChecked : ℕ → ℕ → State → List Entry → Result Bool TableError → Type 0
+IsChecked sender i s entries (Ok brings) = AreFaultless sender i s entries × (brings ≡ brings_pair i s (response entries))
 IsChecked sender i s entries (Err e) = joined_entries sender i (with_heard s i) entries ≡ Err e

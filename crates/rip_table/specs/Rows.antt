@@ -1,12 +1,13 @@
 -- What a table means that has a row of cells for each prefix, one cell for each interface.
-use Rattle.std.specs.Prelude.{◌≡◌, ℕ, zero, suc, Bool, false, if◌then◌else◌, ◌==◌, ◌&&◌, List, [], ◌∷◌, ◌++◌, length, map, replicate, All, Option, Some, None, slice_get, slice_set, slice_index_or}
+use Rattle.std.specs.Prelude.{◌≡◌, ℕ, zero, suc, Bool, false, if◌then◌else◌, ◌==◌, ◌&&◌, List, [], ◌∷◌, ◌++◌, length, map, replicate, All, Option, Some, None, Ok, ◌<◌, slice_get, slice_set, slice_index_or}
 use Rattle.std.specs.declared.vec.Vec.{Vec}
 use Rattle.std.specs.declared.alloc.Global.{Global}
 use Rattle.rip_wire.specs.Prefix.{Block}
 use Rattle.rip_wire.specs.declared.entry.Entry.{Entry}
 use Rattle.rip_plan.specs.Network.{number_of_prefix}
 use Rattle.rip_plan.specs.Passes.{same_prefix}
-use Rattle.rip_table.specs.State.{State, is_among}
+use Rattle.rip_table.specs.State.{IsState, State, is_among}
+use Rattle.rip_table.specs.Joined.{joined_entries}
 
 -- for each prefix what each interface showed of it
 abbrev pub Rows : Type 0
@@ -19,6 +20,10 @@ rows_of entries = map (λ e. (e.0, e.1.items)) entries
 -- the prefixes, in order
 abbrev pub heads : Rows → List Block
 heads rows = map (λ row. row.0) rows
+
+-- no prefix stands twice
+abbrev pub AreDifferent : List Block → Type 0
+AreDifferent prefixes = (j k : ℕ) (p : Block) → slice_get prefixes j ≡ Some p → slice_get prefixes k ≡ Some p → j ≡ k
 
 -- each row has so many cells
 abbrev pub IsGrid : ℕ → Rows → Type 0
@@ -61,9 +66,11 @@ shown_after shows i (e ∷ es) = shown_after (λ j q. if (j == i) && same_prefix
 abbrev pub ArePlaces : Rows → List Entry → List ℕ → Type 0
 ArePlaces rows entries places = (j : ℕ) (e : Entry) → slice_get entries j ≡ Some e → number_of_prefix e.prefix (heads rows) ≡ Some (slice_index_or places j 0)
 
--- some entry is of a prefix that has no row
-abbrev pub LacksSome : Rows → List Entry → Type 0
-LacksSome rows entries = (j : ℕ) × (e : Entry) × (slice_get entries j ≡ Some e) × (is_among e.prefix (heads rows) ≡ false)
+-- what the entries of interface i show was written, whose join is a table
+abbrev pub AreWritten : ℕ → List Entry → Rows → Rows → Type 0
+AreWritten i entries old new =
+    (heard : List Bool) (sender : ℕ) (t : State) → i < length heard → IsState (grid_state heard old)
+    → joined_entries sender i (grid_state heard old) entries ≡ Ok t → grid_state heard new ≡ t
 
 -- a row of empty cells for each prefix
 abbrev pub planned_rows : ℕ → List Block → Rows

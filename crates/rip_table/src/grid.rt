@@ -1,21 +1,25 @@
 //! The table that the program uses: a grid of cells, by prefix and interface.
 
-ghost use Rattle.std.specs.Prelude.{◌≡◌, IfOk, IfErr, length};
+ghost use Rattle.std.specs.Prelude.{◌≡◌, ◌<◌, IfOk, IfErr, length};
 ghost use Rattle.indexmap.specs.IndexMap.{index_map_len};
 ghost use Rattle.rip_wire.specs.Prefix.{Block};
 ghost use Rattle.rip_table.specs.State.{Fits, IsState, new_state};
 ghost use Rattle.rip_table.specs.Rows.{IsGrid, grid_state, planned_rows, rows_of};
 
 mod cell;
+mod numbers;
+mod order;
 mod rows;
 
-use self::rows::{Rows, add_planned, grow_or_keep, write};
+use self::numbers::find_numbers;
+use self::order::Order;
+use self::rows::{Rows, add_new, add_planned};
 use crate::error::TableError;
-use crate::numbered::{Numbered, check, numbers_of};
+use crate::numbered::{Numbered, check};
 use crate::table::{MetricTable, none_heard};
 use indexmap::IndexMap;
 use rip_plan::Plan;
-use rip_wire::{Datagram, Kind, Metric, Prefix};
+use rip_wire::{Datagram, Entry, Kind, MOST_ENTRIES, Metric, Prefix};
 use std::alloc::Global;
 use std::hash::BuildHasher;
 
@@ -25,8 +29,10 @@ pub struct GridTable<S: BuildHasher> {
     alloc: Global,
     rows: Rows<S>,
     heard: Vec<bool>,
+    orders: Vec<Order>,
     ghost valid: { IsState (grid_state heard.items (rows_of rows.entries)) },
     ghost grid: { IsGrid (length heard.items) (rows_of rows.entries) },
+    ghost some: { 0 < length orders.items },
 }
 
 impl<S: BuildHasher> Numbered for GridTable<S> {
@@ -36,10 +42,6 @@ impl<S: BuildHasher> Numbered for GridTable<S> {
 
     fn count(&self) -> usize {
         self.rows.len()
-    }
-
-    fn number(&self, prefix: Prefix) -> Option<usize> {
-        self.rows.get_index_of(&prefix)
     }
 
     fn metric_at(&self, interface: usize, k: usize) -> Option<Metric> {
@@ -81,12 +83,24 @@ impl<S: BuildHasher> MetricTable for GridTable<S> {
         if datagram.kind() == Kind::Request {
             return Ok(());
         }
-        let numbers = numbers_of(self, datagram);
-        let sender = plan.interface(interface).address;
-        check(self, &numbers, interface, sender, datagram)?;
+        let mut room = [Entry::FILLER; MOST_ENTRIES];
+        let entries = datagram.entries(&mut room);
+        let own = plan.interface(interface);
+        // There is an order for each router of the plan; of another plan's, any guesses as well.
+        let at = own.router % self.orders.len();
+        let mut numbers = [None; MOST_ENTRIES];
+        find_numbers(&self.rows, &mut self.orders[at], entries, &mut numbers);
+        let brings = check(self, &numbers, interface, own.address, entries)?;
         let width = self.heard.len();
-        let places = grow_or_keep(self.alloc, &mut self.rows, width, &numbers, datagram)?;
-        write(&mut self.rows, width, interface, &places, datagram);
+        add_new(
+            self.alloc,
+            &mut self.rows,
+            width,
+            interface,
+            &numbers,
+            entries,
+            brings,
+        )?;
         self.heard[interface] = true;
         Ok(())
     }
@@ -105,7 +119,13 @@ impl<S: BuildHasher + Drop> GridTable<S> {
         let heard = none_heard(alloc, plan.interfaces())?;
         let mut rows = IndexMap::with_hasher(alloc, hasher);
         add_planned(alloc, &mut rows, plan)?;
+        let orders = vec![in alloc; Order::new(); plan.routers()]?;
         plan.lawful();
-        Ok(GridTable { alloc, rows, heard })
+        Ok(GridTable {
+            alloc,
+            rows,
+            heard,
+            orders,
+        })
     }
 }

@@ -1,20 +1,21 @@
 //! The plain table: a list of what the interfaces showed.
 
 ghost use Rattle.std.specs.Prelude.{◌≡◌, ◌+◌, ◌≤◌, ◌<◌, if◌then◌else◌, List, [], ◌∷◌, ◌++◌, Bool, true, IfOk, IfErr, OnOk, OnErr, length, vec_len, vec_capacity};
-ghost use Rattle.rip_wire.specs.Datagram.{entries_of, kind_of, message_of};
+ghost use Rattle.rip_wire.specs.Message.{response};
 ghost use Rattle.rip_plan.specs.Network.{number_of_prefix};
 ghost use Rattle.rip_table.specs.State.{Fits, IsState, is_among, new_state};
-ghost use Rattle.rip_table.specs.Joined as joined;
+ghost use Rattle.rip_table.specs.Joined.{brings_pair};
 ghost use Rattle.rip_table.specs.ListState.{AreAdded, IsAdded, list_state, metric_in};
+ghost use Rattle.rip_table.specs.Numbers.{AreNumbers};
 
 mod shown;
 
 use self::shown::Shown;
 use crate::error::TableError;
-use crate::numbered::{MOST_ENTRIES, Numbered, brings_pair, check, numbers_of};
+use crate::numbered::{Numbered, Numbers, check};
 use crate::table::{MetricTable, none_heard};
 use rip_plan::Plan;
-use rip_wire::{Datagram, Entry, Kind, Metric, Prefix};
+use rip_wire::{Datagram, Entry, Kind, MOST_ENTRIES, Metric, Prefix};
 use std::alloc::{AllocError, Global};
 
 /// The plain table: a list of what the interfaces showed, in the order in which it came.
@@ -42,6 +43,19 @@ fn number_in(prefixes: &[Prefix], prefix: Prefix) -> Option<usize>
     ensures { result ≡ number_of_prefix prefix prefixes.now }
 {
     prefixes.iter().position(|listed| prefix == *listed)
+}
+
+/// The numbers of the prefixes of a response's entries.
+fn numbers_of(prefixes: &[Prefix], entries: &[Entry]) -> Numbers
+    requires { length entries.now ≤ 25 }
+    ensures { AreNumbers prefixes.now entries.now result }
+{
+    let mut numbers = [None; MOST_ENTRIES];
+    for j in 0..entries.len() {
+        let entry = entries[j];
+        numbers[j] = number_in(prefixes, entry.prefix);
+    }
+    numbers
 }
 
 /// The first metric of an interface and a prefix.
@@ -95,19 +109,15 @@ fn add(prefixes: &mut Vec<Prefix>, shown: &mut Vec<Shown>, item: Shown)
 }
 
 /// Adds what the entries of a response show. There is room for them.
-fn add_all(
-    prefixes: &mut Vec<Prefix>,
-    shown: &mut Vec<Shown>,
-    interface: usize,
-    datagram: &Datagram<'_>,
-)
-    requires response { kind_of (message_of datagram.now) ≡ Kind.Response }
+fn add_all(prefixes: &mut Vec<Prefix>, shown: &mut Vec<Shown>, interface: usize, entries: &[Entry])
+    requires few { length entries.now ≤ 25 }
     requires prefixes { vec_len prefixes.old + 25 ≤ vec_capacity prefixes.old }
     requires shown { vec_len shown.old + 25 ≤ vec_capacity shown.old }
-    ensures { AreAdded interface (entries_of (message_of datagram.now)) prefixes.old.items shown.old.items prefixes.new.items shown.new.items }
+    ensures { AreAdded interface entries.now prefixes.old.items shown.old.items prefixes.new.items
+        shown.new.items }
 {
-    for j in 0..datagram.len() {
-        let entry = datagram.entry(j);
+    for j in 0..entries.len() {
+        let entry = entries[j];
         let item = Shown {
             interface,
             prefix: entry.prefix,
@@ -122,12 +132,15 @@ fn add_new(
     prefixes: &mut Vec<Prefix>,
     shown: &mut Vec<Shown>,
     interface: usize,
-    datagram: &Datagram<'_>,
+    entries: &[Entry],
     brings: bool,
 ) -> Result<(), AllocError>
-    requires response { kind_of (message_of datagram.now) ≡ Kind.Response }
-    requires brings { (heard : List Bool) → brings ≡ joined.brings_pair interface (list_state heard prefixes.old.items shown.old.items) (message_of datagram.now) }
-    ensures ok { OnOk result (AreAdded interface (entries_of (message_of datagram.now)) prefixes.old.items shown.old.items prefixes.new.items shown.new.items) }
+    requires few { length entries.now ≤ 25 }
+    requires brings { (heard : List Bool) →
+        brings ≡ brings_pair interface (list_state heard prefixes.old.items shown.old.items)
+        (response entries.now) }
+    ensures ok { OnOk result (AreAdded interface entries.now prefixes.old.items shown.old.items
+        prefixes.new.items shown.new.items) }
     ensures prefixes { OnErr result (prefixes.new.items ≡ prefixes.old.items) }
     ensures shown { OnErr result (shown.new.items ≡ shown.old.items) }
     ensures wants { OnErr result (brings ≡ true) }
@@ -136,7 +149,7 @@ fn add_new(
         return Ok(());
     }
     make_room(prefixes, shown)?;
-    add_all(prefixes, shown, interface, datagram);
+    add_all(prefixes, shown, interface, entries);
     Ok(())
 }
 
@@ -147,10 +160,6 @@ impl Numbered for ListTable {
 
     fn count(&self) -> usize {
         self.prefixes.len()
-    }
-
-    fn number(&self, prefix: Prefix) -> Option<usize> {
-        number_in(self.prefixes.as_slice(), prefix)
     }
 
     fn metric_at(&self, interface: usize, k: usize) -> Option<Metric> {
@@ -192,15 +201,16 @@ impl MetricTable for ListTable {
         if datagram.kind() == Kind::Request {
             return Ok(());
         }
-        let numbers = numbers_of(self, datagram);
+        let mut room = [Entry::FILLER; MOST_ENTRIES];
+        let entries = datagram.entries(&mut room);
         let sender = plan.interface(interface).address;
-        check(self, &numbers, interface, sender, datagram)?;
-        let brings = brings_pair(self, &numbers, interface, datagram);
+        let numbers = numbers_of(self.prefixes.as_slice(), entries);
+        let brings = check(self, &numbers, interface, sender, entries)?;
         add_new(
             &mut self.prefixes,
             &mut self.shown,
             interface,
-            datagram,
+            entries,
             brings,
         )?;
         self.heard[interface] = true;

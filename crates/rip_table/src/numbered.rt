@@ -1,23 +1,18 @@
-//! What both tables do with a response before they change: they find the prefixes of its entries,
-//! and judge the entries.
+//! What both tables do with a response before they change: they judge its entries.
 
 ghost use Rattle.std.specs.Prelude.{◌≡◌, ℕ, ◌<◌, ◌≤◌, length, slice_get, take, Some};
-ghost use Rattle.rip_wire.specs.declared.entry.Entry.{Entry};
+ghost use Rattle.std.specs.Option.{option_or};
 ghost use Rattle.rip_wire.specs.Prefix.{Block};
-ghost use Rattle.rip_wire.specs.Datagram.{entries_of, kind_of, message_of};
+ghost use Rattle.rip_wire.specs.declared.entry.Entry.{Entry};
 ghost use Rattle.rip_plan.specs.Network.{number_of_prefix};
 ghost use Rattle.rip_table.specs.State.{IsState, State};
-ghost use Rattle.rip_table.specs.Joined as joined;
-ghost use Rattle.rip_table.specs.Numbers.{AreNumbers, IsChecked, counted, judged, known_metric, metric_among};
+ghost use Rattle.rip_table.specs.Numbers.{AreNumbers, IsChecked, counted, judged, metric_among};
 
 use crate::error::TableError;
-use rip_wire::{Address, Datagram, Entry, Kind, Metric, Prefix};
-
-/// The most entries of a datagram.
-pub(crate) const MOST_ENTRIES: usize = 25;
+use rip_wire::{Address, Entry, MOST_ENTRIES, Metric, Prefix};
 
 /// The most prefixes of a table.
-const MOST_PREFIXES: usize = 2_048;
+pub(crate) const MOST_PREFIXES: usize = 2_048;
 
 /// For each entry of a response the number, if any, of its prefix.
 pub(crate) type Numbers = [Option<usize>; MOST_ENTRIES];
@@ -34,27 +29,11 @@ pub(crate) trait Numbered {
     fn count(&self) -> usize
         ensures { result ≡ length (state self.now).prefixes };
 
-    /// The number of a prefix, if it is in the list.
-    fn number(&self, prefix: Prefix) -> Option<usize>
-        ensures { result ≡ number_of_prefix prefix (state self.now).prefixes };
-
     /// The metric, if any, that an interface showed for the prefix of a number.
     fn metric_at(&self, interface: usize, k: usize) -> Option<Metric>
         requires interface { interface < (state self.now).interfaces }
         requires prefix { k < length (state self.now).prefixes }
         ensures { (p : Block) → slice_get (state self.now).prefixes k ≡ Some p → result ≡ (state self.now).shows interface p };
-}
-
-/// The numbers of the prefixes of a response's entries.
-pub(crate) fn numbers_of<T: Numbered>(table: &T, datagram: &Datagram<'_>) -> Numbers
-    requires { kind_of (message_of datagram.now) ≡ Kind.Response }
-    ensures { AreNumbers (T.state table.now).prefixes (entries_of (message_of datagram.now)) result }
-{
-    let mut numbers = [None; MOST_ENTRIES];
-    for j in 0..datagram.len() {
-        numbers[j] = table.number(datagram.entry(j).prefix);
-    }
-    numbers
 }
 
 /// What an interface showed of the prefix of a number, if it has one.
@@ -69,14 +48,12 @@ fn shown<T: Numbered>(table: &T, interface: usize, number: Option<usize>) -> Opt
     }
 }
 
-/// The metric of the first of a response's first entries with this prefix.
-fn earlier(datagram: &Datagram<'_>, end: usize, prefix: Prefix) -> Option<Metric>
-    requires response { kind_of (message_of datagram.now) ≡ Kind.Response }
-    requires within { end ≤ length (entries_of (message_of datagram.now)) }
-    ensures { result ≡ metric_among prefix (take end (entries_of (message_of datagram.now))) }
+/// The metric of the first of these entries that has the prefix.
+fn earlier(entries: &[Entry], prefix: Prefix) -> Option<Metric>
+    ensures { result ≡ metric_among prefix entries.now }
 {
-    for j in 0..end {
-        let entry = datagram.entry(j);
+    for j in 0..entries.len() {
+        let entry = entries[j];
         if prefix == entry.prefix {
             return Some(entry.metric);
         }
@@ -84,24 +61,19 @@ fn earlier(datagram: &Datagram<'_>, end: usize, prefix: Prefix) -> Option<Metric
     None
 }
 
-/// What is known of the prefix of a response's entry: the metric that its interface showed, or that
-/// an entry before gives it. The prefix has this number in the list, if any.
-fn known<T: Numbered>(
-    table: &T,
-    interface: usize,
-    number: Option<usize>,
-    datagram: &Datagram<'_>,
-    j: usize,
-) -> Option<Metric>
-    requires response { kind_of (message_of datagram.now) ≡ Kind.Response }
-    requires interface { interface < (T.state table.now).interfaces }
-    requires number { (k : ℕ) → number ≡ Some k → k < length (T.state table.now).prefixes }
-    requires within { j < length (entries_of (message_of datagram.now)) }
-    ensures { (e : Entry) → slice_get (entries_of (message_of datagram.now)) j ≡ Some e → number ≡ number_of_prefix e.prefix (T.state table.now).prefixes → result ≡ known_metric (T.state table.now) interface (take j (entries_of (message_of datagram.now))) e.prefix }
+/// What is known of the prefix of an entry: the metric that its interface showed, if any, or that
+/// an entry before gives it.
+fn known(shown: Option<Metric>, entries: &[Entry], j: usize) -> Option<Metric>
+    requires { j < length entries.now }
+    ensures { (e : Entry) → slice_get entries.now j ≡ Some e →
+        result ≡ option_or shown (metric_among e.prefix (take j entries.now)) }
 {
-    match shown(table, interface, number) {
+    match shown {
         Some(metric) => Some(metric),
-        None => earlier(datagram, j, datagram.entry(j).prefix),
+        None => {
+            let entry = entries[j];
+            earlier(&entries[..j], entry.prefix)
+        }
     }
 }
 
@@ -150,46 +122,30 @@ fn judge(
     Ok(())
 }
 
-/// Judges the entries of a response, and answers the first fault.
+/// Judges the entries of a response, and answers the first fault; without one, whether some entry
+/// is of a prefix that the interface did not show.
 pub(crate) fn check<T: Numbered>(
     table: &T,
     numbers: &Numbers,
     interface: usize,
     sender: Address,
-    datagram: &Datagram<'_>,
-) -> Result<(), TableError>
-    requires response { kind_of (message_of datagram.now) ≡ Kind.Response }
+    entries: &[Entry],
+) -> Result<bool, TableError>
+    requires few { length entries.now ≤ 25 }
     requires interface { interface < (T.state table.now).interfaces }
-    requires numbers { AreNumbers (T.state table.now).prefixes (entries_of (message_of datagram.now)) numbers.now }
-    ensures { IsChecked sender interface (T.state table.now) (entries_of (message_of datagram.now)) result }
+    requires numbers { AreNumbers (T.state table.now).prefixes entries.now numbers.now }
+    ensures { IsChecked sender interface (T.state table.now) entries.now result }
 {
     let mut count = table.count();
-    for j in 0..datagram.len() {
-        let entry = datagram.entry(j);
+    let mut brings = false;
+    for j in 0..entries.len() {
+        let entry = entries[j];
         let number = numbers[j];
-        let before = known(table, interface, number, datagram, j);
-        count = count_with(count, number, before.is_some());
-        judge(&entry, sender, before, count)?;
+        let shown = shown(table, interface, number);
+        let known = known(shown, entries, j);
+        brings |= shown.is_none();
+        count = count_with(count, number, known.is_some());
+        judge(&entry, sender, known, count)?;
     }
-    Ok(())
-}
-
-/// Whether some entry of a response is of a prefix that the interface did not show.
-pub(crate) fn brings_pair<T: Numbered>(
-    table: &T,
-    numbers: &Numbers,
-    interface: usize,
-    datagram: &Datagram<'_>,
-) -> bool
-    requires response { kind_of (message_of datagram.now) ≡ Kind.Response }
-    requires interface { interface < (T.state table.now).interfaces }
-    requires numbers { AreNumbers (T.state table.now).prefixes (entries_of (message_of datagram.now)) numbers.now }
-    ensures { result ≡ joined.brings_pair interface (T.state table.now) (message_of datagram.now) }
-{
-    for j in 0..datagram.len() {
-        if shown(table, interface, numbers[j]).is_none() {
-            return true;
-        }
-    }
-    false
+    Ok(brings)
 }

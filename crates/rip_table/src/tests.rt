@@ -14,6 +14,7 @@ use std::test::Fail;
 mod growths;
 mod limits;
 mod logs;
+mod orders;
 
 /// Three interfaces on two links, and a prefix.
 const PLAN: &str = r#"version = 1

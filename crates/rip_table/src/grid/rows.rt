@@ -1,20 +1,20 @@
 //! Rows of cells, one for each prefix, in a hashed map that keeps their order.
 
-ghost use Rattle.std.specs.Prelude.{◌≡◌, ◌<◌, ◌≤◌, ℕ, [], ◌∷◌, false, length, Some, None, IfOk, IfErr, OnOk, OnErr, replicate, take};
+ghost use Rattle.std.specs.Prelude.{◌≡◌, ◌<◌, ◌≤◌, ℕ, Bool, List, [], length, true, Some, None, IfOk, IfErr, OnOk, OnErr, replicate, take};
 ghost use Rattle.indexmap.specs.IndexMap.{index_map_len};
-ghost use Rattle.rip_wire.specs.Datagram.{entries_of, kind_of, message_of};
 ghost use Rattle.rip_plan.specs.Network.{number_of_prefix};
-ghost use Rattle.rip_table.specs.State.{is_among};
 ghost use Rattle.rip_table.specs.declared.error.TableError.TheVariants.{Memory};
+ghost use Rattle.rip_wire.specs.Message.{response};
+ghost use Rattle.rip_table.specs.Joined.{brings_pair};
 ghost use Rattle.rip_table.specs.Numbers.{AreNumbers};
-ghost use Rattle.rip_table.specs.Rows.{ArePlaces, IsGrid, LacksSome, cell, heads, planned_rows, rows_of, shown_after, with_cell, with_row, with_rows};
+ghost use Rattle.rip_table.specs.Rows.{ArePlaces, AreWritten, IsGrid, cell, grid_state, heads, planned_rows, rows_of, shown_after, with_cell, with_row, with_rows};
 
 use super::cell::Cell;
 use crate::error::TableError;
-use crate::numbered::{MOST_ENTRIES, Numbers};
+use crate::numbered::Numbers;
 use indexmap::IndexMap;
 use rip_plan::Plan;
-use rip_wire::{Datagram, Kind, Prefix};
+use rip_wire::{Entry, MOST_ENTRIES, Prefix};
 use std::alloc::{AllocError, Global};
 use std::hash::BuildHasher;
 
@@ -22,7 +22,7 @@ use std::hash::BuildHasher;
 pub(crate) type Rows<S> = IndexMap<Prefix, Vec<Cell>, S>;
 
 /// The numbers of the rows of a response's entries.
-pub(crate) type Places = [usize; MOST_ENTRIES];
+type Places = [usize; MOST_ENTRIES];
 
 /// A row of empty cells.
 fn empty_row(alloc: Global, width: usize) -> Result<Vec<Cell>, AllocError>
@@ -45,7 +45,6 @@ fn row_at<S: BuildHasher>(
     ensures number { IfOk result (λ k. number_of_prefix prefix (heads (rows_of rows.new.entries)) ≡ Some k) }
     ensures memory { IfErr result (λ error. error ≡ Memory) }
     ensures err { OnErr result (rows.new.entries ≡ rows.old.entries) }
-    ensures absent { OnErr result (is_among prefix (heads (rows_of rows.old.entries)) ≡ false) }
 {
     if let Some(k) = number {
         return Ok(k);
@@ -66,42 +65,44 @@ fn grow<S: BuildHasher>(
     rows: &mut Rows<S>,
     width: usize,
     numbers: &Numbers,
-    datagram: &Datagram<'_>,
+    entries: &[Entry],
 ) -> Result<Places, TableError>
-    requires response { kind_of (message_of datagram.now) ≡ Kind.Response }
-    requires numbers { AreNumbers (heads (rows_of rows.old.entries)) (entries_of (message_of datagram.now)) numbers.now }
-    ensures ok { OnOk result (rows_of rows.new.entries ≡ with_rows width (rows_of rows.old.entries) (entries_of (message_of datagram.now))) }
-    ensures places { IfOk result (λ places. ArePlaces (rows_of rows.new.entries) (entries_of (message_of datagram.now)) places) }
+    requires few { length entries.now ≤ 25 }
+    requires numbers { AreNumbers (heads (rows_of rows.old.entries)) entries.now numbers.now }
+    ensures ok { OnOk result (rows_of rows.new.entries
+        ≡ with_rows width (rows_of rows.old.entries) entries.now) }
+    ensures places { IfOk result (λ places. ArePlaces (rows_of rows.new.entries) entries.now
+        places) }
     ensures front { take (index_map_len rows.old) (rows_of rows.new.entries) ≡ rows_of rows.old.entries }
-    ensures lacks { OnErr result (LacksSome (rows_of rows.old.entries) (entries_of (message_of datagram.now))) }
 {
     let mut places = [0; MOST_ENTRIES];
-    for j in 0..datagram.len() {
-        let prefix = datagram.entry(j).prefix;
-        places[j] = row_at(alloc, rows, width, numbers[j], prefix)?;
+    for j in 0..entries.len() {
+        let entry = entries[j];
+        places[j] = row_at(alloc, rows, width, numbers[j], entry.prefix)?;
     }
     Ok(places)
 }
 
 /// Adds rows for the prefixes that are new, and answers the numbers of all, or leaves the rows as
 /// they were.
-pub(crate) fn grow_or_keep<S: BuildHasher>(
+fn grow_or_keep<S: BuildHasher>(
     alloc: Global,
     rows: &mut Rows<S>,
     width: usize,
     numbers: &Numbers,
-    datagram: &Datagram<'_>,
+    entries: &[Entry],
 ) -> Result<Places, TableError>
-    requires response { kind_of (message_of datagram.now) ≡ Kind.Response }
-    requires numbers { AreNumbers (heads (rows_of rows.old.entries)) (entries_of (message_of datagram.now)) numbers.now }
-    ensures ok { OnOk result (rows_of rows.new.entries ≡ with_rows width (rows_of rows.old.entries) (entries_of (message_of datagram.now))) }
-    ensures places { IfOk result (λ places. ArePlaces (rows_of rows.new.entries) (entries_of (message_of datagram.now)) places) }
+    requires few { length entries.now ≤ 25 }
+    requires numbers { AreNumbers (heads (rows_of rows.old.entries)) entries.now numbers.now }
+    ensures ok { OnOk result (rows_of rows.new.entries
+        ≡ with_rows width (rows_of rows.old.entries) entries.now) }
+    ensures places { IfOk result (λ places. ArePlaces (rows_of rows.new.entries) entries.now
+        places) }
     ensures memory { IfErr result (λ error. error ≡ Memory) }
     ensures err { OnErr result (rows_of rows.new.entries ≡ rows_of rows.old.entries) }
-    ensures lacks { OnErr result (LacksSome (rows_of rows.old.entries) (entries_of (message_of datagram.now))) }
 {
     let was = rows.len();
-    match grow(alloc, rows, width, numbers, datagram) {
+    match grow(alloc, rows, width, numbers, entries) {
         Ok(places) => Ok(places),
         Err(_) => {
             rows.truncate(was);
@@ -128,24 +129,82 @@ fn set_cell<S: BuildHasher>(
 }
 
 /// Writes the metrics of a response's entries.
-pub(crate) fn write<S: BuildHasher>(
+fn write<S: BuildHasher>(
     rows: &mut Rows<S>,
     width: usize,
     interface: usize,
     places: &Places,
-    datagram: &Datagram<'_>,
+    entries: &[Entry],
 )
-    requires response { kind_of (message_of datagram.now) ≡ Kind.Response }
+    requires few { length entries.now ≤ 25 }
     requires grid { IsGrid width (rows_of rows.old.entries) }
     requires cell { interface < width }
-    requires places { ArePlaces (rows_of rows.old.entries) (entries_of (message_of datagram.now)) places.now }
+    requires places { ArePlaces (rows_of rows.old.entries) entries.now places.now }
     ensures heads { heads (rows_of rows.new.entries) ≡ heads (rows_of rows.old.entries) }
     ensures grid { IsGrid width (rows_of rows.new.entries) }
-    ensures cells { cell (rows_of rows.new.entries) ≡ shown_after (cell (rows_of rows.old.entries)) interface (entries_of (message_of datagram.now)) }
+    ensures cells { cell (rows_of rows.new.entries)
+        ≡ shown_after (cell (rows_of rows.old.entries)) interface entries.now }
 {
-    for j in 0..datagram.len() {
-        let metric = datagram.entry(j).metric;
-        set_cell(rows, places[j], width, interface, Cell::of(metric));
+    for j in 0..entries.len() {
+        let entry = entries[j];
+        set_cell(rows, places[j], width, interface, Cell::of(entry.metric));
+    }
+}
+
+/// Writes what the entries of a response show, or leaves the rows as they were.
+#[inline(never)]
+fn add<S: BuildHasher>(
+    alloc: Global,
+    rows: &mut Rows<S>,
+    width: usize,
+    interface: usize,
+    numbers: &Numbers,
+    entries: &[Entry],
+) -> Result<(), TableError>
+    requires few { length entries.now ≤ 25 }
+    requires grid { IsGrid width (rows_of rows.old.entries) }
+    requires cell { interface < width }
+    requires numbers { AreNumbers (heads (rows_of rows.old.entries)) entries.now numbers.now }
+    ensures ok { OnOk result (AreWritten interface entries.now (rows_of rows.old.entries)
+        (rows_of rows.new.entries)) }
+    ensures grid { IsGrid width (rows_of rows.new.entries) }
+    ensures memory { IfErr result (λ error. error ≡ Memory) }
+    ensures err { OnErr result (rows_of rows.new.entries ≡ rows_of rows.old.entries) }
+{
+    let places = grow_or_keep(alloc, rows, width, numbers, entries)?;
+    write(rows, width, interface, &places, entries);
+    Ok(())
+}
+
+/// Writes what the entries of a response show, where they bring any pair, or leaves the rows as
+/// they were.
+pub(crate) fn add_new<S: BuildHasher>(
+    alloc: Global,
+    rows: &mut Rows<S>,
+    width: usize,
+    interface: usize,
+    numbers: &Numbers,
+    entries: &[Entry],
+    brings: bool,
+) -> Result<(), TableError>
+    requires few { length entries.now ≤ 25 }
+    requires grid { IsGrid width (rows_of rows.old.entries) }
+    requires cell { interface < width }
+    requires numbers { AreNumbers (heads (rows_of rows.old.entries)) entries.now numbers.now }
+    requires brings { (heard : List Bool) →
+        brings ≡ brings_pair interface (grid_state heard (rows_of rows.old.entries))
+        (response entries.now) }
+    ensures ok { OnOk result (AreWritten interface entries.now (rows_of rows.old.entries)
+        (rows_of rows.new.entries)) }
+    ensures grid { IsGrid width (rows_of rows.new.entries) }
+    ensures memory { IfErr result (λ error. error ≡ Memory) }
+    ensures err { OnErr result (rows_of rows.new.entries ≡ rows_of rows.old.entries) }
+    ensures wants { OnErr result (brings ≡ true) }
+{
+    if brings {
+        add(alloc, rows, width, interface, numbers, entries)
+    } else {
+        Ok(())
     }
 }
 

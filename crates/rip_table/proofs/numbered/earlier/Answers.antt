@@ -1,10 +1,17 @@
-use Rattle.std.proofs.Common.{sym}
-use Rattle.rip_wire.specs.Datagram.{entries_of, message_of}
+use Rattle.std.proofs.Common.{sym, ap, ◌∙◌, arith, length, refl}
+use Rattle.std.proofs.lemmas.Option.{slice_get_read}
 use Rattle.rip_table.proofs.NumberLemmas.{metric_among-found, metric_among-passed}
+use Rattle.rip_table.specs.Numbers.{metric_among}
+use Rattle.rip_table.proofs.Lists.{take-end}
 use Rattle.rip_table.proofs.numbered.earlier.Goals as goal
 
 pub returns-then-eq : goal.returns-then-eq
-returns-then-eq c = sym (metric_among-found c.args.prefix (entries_of (message_of c.args.datagram.now)) c.loop-j.j c.args.end c.entry-entry.result c.loop-j.invariant c.entry-entry.ensures (sym c.if-eq.ensures) c.loop-j-test.true)
+returns-then-eq c =
+    let here = slice_get_read c.args.entries.now (length c.args.entries.now) c.loop-j.j c.index-entries-j.result refl c.loop-j-test.true c.index-entries-j.is in
+    let all = take-end c.args.entries.now (length c.args.entries.now) (omega arith) in
+    sym (ap (metric_among c.args.prefix) (sym all) ∙ metric_among-found c.args.prefix c.args.entries.now c.loop-j.j (length c.args.entries.now) c.index-entries-j.result c.loop-j.invariant here (sym c.if-eq.ensures) c.loop-j-test.true)
 
 pub loop-j-preserved : goal.loop-j-preserved
-loop-j-preserved c = metric_among-passed c.args.prefix (entries_of (message_of c.args.datagram.now)) c.loop-j.j c.entry-entry.result c.loop-j.invariant c.entry-entry.ensures (sym c.if-eq.ensures)
+loop-j-preserved c =
+    let here = slice_get_read c.args.entries.now (length c.args.entries.now) c.loop-j.j c.index-entries-j.result refl c.loop-j-test.true c.index-entries-j.is in
+    metric_among-passed c.args.prefix c.args.entries.now c.loop-j.j c.index-entries-j.result c.loop-j.invariant here (sym c.if-eq.ensures)

@@ -1,7 +1,6 @@
 use Rattle.std.proofs.Common.{◌≡◌, None, take}
-use Rattle.rip_wire.specs.Datagram.{entries_of, message_of}
 use Rattle.rip_table.specs.Numbers.{metric_among}
 use Rattle.rip_table.proofs.numbered.earlier.Given as goal
 
 abbrev pub invariant-loop-j : goal.invariant-loop-j
-invariant-loop-j l = metric_among l.prefix (take l.j (entries_of (message_of l.datagram))) ≡ None
+invariant-loop-j l = metric_among l.prefix (take l.j l.entries) ≡ None

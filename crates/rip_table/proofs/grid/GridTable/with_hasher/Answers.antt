@@ -6,18 +6,22 @@ use Rattle.rip_table.proofs.RowLemmas.{grid-planned, heads-planned}
 use Rattle.rip_table.proofs.CellLemmas.{cell-planned}
 use Rattle.rip_table.proofs.grid.GridTable.with_hasher.Goals as goal
 
-pub invariant_of-result : goal.invariant_of-result
-invariant_of-result g c =
+pub invariant_of-result-clause-valid : goal.invariant_of-result-clause-valid
+invariant_of-result-clause-valid g c =
+    let n = c.args.plan.now in
+    let w = length n.interfaces in
+    let rows = c.in_ok-add_planned.ensures.ok in
+    empty-is n c.lawful.ensures (grid_state c.in_ok-heard.heard.items (rows_of c.add_planned.new.rows.entries)) (ap heads rows ∙ heads-planned w n.prefixes)
+    (λ i p. ap (λ (r : Rows). cell r i p) rows ∙ cell-planned w n.prefixes i p)
+
+pub invariant_of-result-clause-grid : goal.invariant_of-result-clause-grid
+invariant_of-result-clause-grid g c =
     let n = c.args.plan.now in
     let w = length n.interfaces in
     let heard = c.in_ok-heard.heard.items in
     let rows = c.in_ok-add_planned.ensures.ok in
     let wide : length heard ≡ w = ap length c.in_ok-heard.ensures ∙ length-none c.interfaces.result ∙ c.interfaces.ensures in
-    record {
-      valid = empty-is n c.lawful.ensures (grid_state heard (rows_of c.add_planned.new.rows.entries)) (ap heads rows ∙ heads-planned w n.prefixes)
-          (λ i p. ap (λ (r : Rows). cell r i p) rows ∙ cell-planned w n.prefixes i p);
-      grid = subst (λ (v : ℕ). IsGrid v (rows_of c.add_planned.new.rows.entries)) (sym wide) (subst (IsGrid w) (sym rows) (grid-planned w n.prefixes));
-    }
+    subst (λ (v : ℕ). IsGrid v (rows_of c.add_planned.new.rows.entries)) (sym wide) (subst (IsGrid w) (sym rows) (grid-planned w n.prefixes))
 
 pub returns-clause-state : goal.returns-clause-state
 returns-clause-state g c =

@@ -2,31 +2,22 @@ use Rattle.std.proofs.Common.{◌≡◌, ◌∙◌, ◌<◌, ◌≤◌, ◌+◌,
 use Rattle.std.proofs.lemmas.Bool.{ltb-true, ltb-false}
 use Rattle.std.proofs.Math.ListN.{length-set}
 use Rattle.std.specs.List.{slice_get, slice_index_or}
-use Rattle.std.proofs.lemmas.Option.{slice_get_within}
+use Rattle.std.proofs.lemmas.Option.{slice_get_read, slice_get_within}
 use Rattle.rip_wire.specs.Prefix.{Block}
 use Rattle.rip_wire.specs.declared.entry.Entry.{Entry}
-use Rattle.rip_wire.specs.Datagram.{entries_of, message_of}
 use Rattle.rip_plan.specs.Network.{number_of_prefix}
-use Rattle.rip_table.specs.State.{is_among}
 use Rattle.rip_table.specs.Rows.{Rows, heads, rows_of, with_rows}
 use Rattle.rip_table.proofs.Lists.{drop-more}
 use Rattle.rip_table.proofs.NumberLemmas.{number-here}
-use Rattle.rip_table.proofs.RowLemmas.{kept-among, length-rows, on_err, was_absent, with_row-front, with_row-keeps, with_row-longer}
+use Rattle.rip_table.proofs.RowLemmas.{length-rows, with_row-front, with_row-keeps, with_row-longer}
 use Rattle.rip_table.proofs.grid.rows.grow.Goals as goal
 
 pub row_at-requires : goal.row_at-requires
 row_at-requires g c k h =
-    let es = entries_of (message_of c.args.datagram.now) in
-    c.loop-j.invariant.kept c.entry-prefix.result.prefix k
-    (sym (number-here (heads (rows_of c.args.rows.now.entries)) es c.args.numbers.now c.loop-j.j c.entry-prefix.result c.requires.numbers c.entry-prefix.ensures) ∙ h)
-
-pub returns-in_err-places-clause-lacks : goal.returns-in_err-places-clause-lacks
-returns-in_err-places-clause-lacks g c =
-    let old = heads (rows_of c.args.rows.now.entries) in
-    let now = heads (rows_of c.loop-j.rows.entries) in
-    let p = c.entry-prefix.result.prefix in
-    on_err c.from_residual.result
-    (c.loop-j.j, c.entry-prefix.result, c.entry-prefix.ensures, was_absent (is_among p old) (is_among p now) (kept-among old now p c.loop-j.invariant.kept) c.in_err-places.ensures.absent)
+    let es = c.args.entries.now in
+    let at = slice_get_read es (length es) c.loop-j.j c.index-entries-j.result refl c.loop-j-test.true c.index-entries-j.is in
+    c.loop-j.invariant.kept c.index-entries-j.result.prefix k
+    (sym (number-here (heads (rows_of c.args.rows.now.entries)) es c.args.numbers.now c.loop-j.j c.index-entries-j.result c.requires.numbers at) ∙ h)
 
 -- a place that was found stays, and the next is put after it
 placed : (now new : List Block) (es : List Entry) (places : List ℕ) (j x : ℕ) (e : Entry) → length places ≡ 25 → j < 25
@@ -49,26 +40,27 @@ placed now new es places j x e room few kept found at here k d lt is = by (nat_l
 
 pub loop-j-preserved : goal.loop-j-preserved
 loop-j-preserved g c =
-    let es = entries_of (message_of c.args.datagram.now) in
-    let p = c.entry-prefix.result.prefix in
+    let es = c.args.entries.now in
+    let at = slice_get_read es (length es) c.loop-j.j c.index-entries-j.result refl c.loop-j-test.true c.index-entries-j.is in
+    let p = c.index-entries-j.result.prefix in
     let inv = c.loop-j.invariant in
     let rows = rows_of c.loop-j.rows.entries in
     let step = c.in_ok-places.ensures.ok in
     let kept : (q : Block) (k : ℕ) → number_of_prefix q (heads rows) ≡ Some k → number_of_prefix q (heads (rows_of c.row_at.new.rows.entries)) ≡ Some k =
     λ q k h. ap (λ (r : Rows). number_of_prefix q (heads r)) step ∙ with_row-keeps c.args.width rows p q k h in
-    let here = drop-more es c.loop-j.j c.entry-prefix.result c.entry-prefix.ensures in
+    let here = drop-more es c.loop-j.j c.index-entries-j.result at in
     let few : length c.args.rows.now.entries ≤ length rows = omega (arith, inv.longer, length-rows c.loop-j.rows.entries) in
     record {
       told = ap (λ (r : Rows). with_rows c.args.width r (drop (c.loop-j.j + 1) es)) step ∙ ap (with_rows c.args.width rows) (sym here) ∙ inv.told;
       kept = λ q k h. kept q k (inv.kept q k h);
       room = length-set c.loop-j.places c.loop-j.j c.in_ok-places.field-0 ∙ inv.room;
-      places = placed (heads rows) (heads (rows_of c.row_at.new.rows.entries)) es c.loop-j.places c.loop-j.j c.in_ok-places.field-0 c.entry-prefix.result inv.room (omega (arith, c.loop-j-test.true, c.len-j-end.ensures.few))
-          kept inv.places c.entry-prefix.ensures c.in_ok-places.ensures.number;
+      places = placed (heads rows) (heads (rows_of c.row_at.new.rows.entries)) es c.loop-j.places c.loop-j.j c.in_ok-places.field-0 c.index-entries-j.result inv.room (omega (arith, c.loop-j-test.true, c.requires.few))
+          kept inv.places at c.in_ok-places.ensures.number;
       longer = omega (arith, few, with_row-longer c.args.width rows p, ap length step, length-rows c.row_at.new.rows.entries);
       front = ap (take (length c.args.rows.now.entries)) step ∙ with_row-front (length c.args.rows.now.entries) c.args.width rows p few ∙ inv.front;
     }
 
 pub returns-clause-places : goal.returns-clause-places
 returns-clause-places g c j e at =
-    let es = entries_of (message_of c.args.datagram.now) in
-    c.loop-j.invariant.places j e (omega (arith, slice_get_within es j e at, c.loop-j-test.false, c.len-j-end.ensures.entries c.requires.response)) at
+    let es = c.args.entries.now in
+    c.loop-j.invariant.places j e (omega (arith, slice_get_within es j e at, c.loop-j-test.false)) at

@@ -7,7 +7,7 @@ use Rattle.rip_plan.specs.Network.{number_of_prefix}
 use Rattle.rip_plan.specs.Passes.{same_prefix}
 use Rattle.rip_table.specs.Rows.{Rows, heads, rows_of}
 use Rattle.rip_table.proofs.NumberLemmas.{number-none, number-some}
-use Rattle.rip_table.proofs.RowLemmas.{Entries, heads-append, index-number, length-heads, length-rows, number-last, on_err, rows-append, with_row-new, with_row-old}
+use Rattle.rip_table.proofs.RowLemmas.{Entries, heads-append, index-number, length-heads, length-rows, number-last, rows-append, with_row-new, with_row-old}
 use Rattle.indexmap.proofs.CallerLemmas.{insert_entry-new}
 use Rattle.rip_table.proofs.grid.rows.row_at.Goals as goal
 
@@ -23,16 +23,6 @@ pub returns-in-Some-get_index_of-clause-ok : goal.returns-in-Some-get_index_of-c
 returns-in-Some-get_index_of-clause-ok g c =
     let rows = rows_of c.args.rows.now.entries in
     with_row-old c.args.width rows c.args.prefix (number-some c.args.prefix (heads rows) c.in-Some-get_index_of.k (sym (index-number c.args.prefix c.args.rows.now.entries) ∙ sym c.in-Some-get_index_of.ensures.index))
-
-pub returns-in_err-row-clause-absent : goal.returns-in_err-row-clause-absent
-returns-in_err-row-clause-absent g c =
-    let none = sym (index-number c.args.prefix c.args.rows.now.entries) ∙ sym c.in_default-get_index_of.ensures.index in
-    on_err c.from_residual.result (number-none c.args.prefix (heads (rows_of c.args.rows.now.entries)) none)
-
-pub returns-in_err-insert-clause-absent : goal.returns-in_err-insert-clause-absent
-returns-in_err-insert-clause-absent g c =
-    let none = sym (index-number c.args.prefix c.args.rows.now.entries) ∙ sym c.in_default-get_index_of.ensures.index in
-    on_err c.from_residual-in_err-insert.result (number-none c.args.prefix (heads (rows_of c.args.rows.now.entries)) none)
 
 absent_from : {X : Type 0} (o : Option X) → is_some o ≡ false → o ≡ None
 absent_from None h = refl

@@ -1,8 +1,7 @@
-use Rattle.std.proofs.Common.{◌≡◌, ◌∙◌, ◌+◌, ap, sym, subst, ℕ, Some, Option, drop, arith}
+use Rattle.std.proofs.Common.{◌≡◌, ◌∙◌, ◌+◌, ap, sym, subst, ℕ, Some, Option, drop, arith, length, refl}
 use Rattle.std.specs.List.{slice_index_or}
-use Rattle.std.proofs.lemmas.Option.{slice_get_within}
+use Rattle.std.proofs.lemmas.Option.{slice_get_read, slice_get_within}
 use Rattle.rip_wire.specs.Prefix.{Block}
-use Rattle.rip_wire.specs.Datagram.{entries_of, message_of}
 use Rattle.rip_plan.specs.Network.{number_of_prefix}
 use Rattle.rip_table.specs.Rows.{IsGrid, Rows, cell, heads, rows_of, shown_after, with_cell}
 use Rattle.rip_table.proofs.Lists.{drop-more}
@@ -14,19 +13,21 @@ use Rattle.rip_table.proofs.grid.rows.write.Goals as goal
 pub set_cell-requires-clause-row : goal.set_cell-requires-clause-row
 set_cell-requires-clause-row g c =
     let rows = rows_of c.loop-j.rows.entries in
-    let p = c.entry-metric.result.prefix in
-    let number : number_of_prefix p (heads rows) ≡ Some (slice_index_or c.args.places.now c.loop-j.j 0) = ap (number_of_prefix p) c.loop-j.invariant.heads ∙ c.requires.places c.loop-j.j c.entry-metric.result c.entry-metric.ensures in
+    let at = slice_get_read c.args.entries.now (length c.args.entries.now) c.loop-j.j c.index-entries-j.result refl c.loop-j-test.true c.index-entries-j.is in
+    let p = c.index-entries-j.result.prefix in
+    let number : number_of_prefix p (heads rows) ≡ Some (slice_index_or c.args.places.now c.loop-j.j 0) = ap (number_of_prefix p) c.loop-j.invariant.heads ∙ c.requires.places c.loop-j.j c.index-entries-j.result at in
     omega (arith, slice_get_within (heads rows) (slice_index_or c.args.places.now c.loop-j.j 0) p (number-at p (heads rows) (slice_index_or c.args.places.now c.loop-j.j 0) number), length-heads rows, length-rows c.loop-j.rows.entries)
 
 pub loop-j-preserved : goal.loop-j-preserved
 loop-j-preserved g c =
-    let es = entries_of (message_of c.args.datagram.now) in
+    let es = c.args.entries.now in
     let rows = rows_of c.loop-j.rows.entries in
     let k = slice_index_or c.args.places.now c.loop-j.j 0 in
-    let e = c.entry-metric.result in
+    let e = c.index-entries-j.result in
+    let at = slice_get_read es (length es) c.loop-j.j e refl c.loop-j-test.true c.index-entries-j.is in
     let i = c.args.interface in
     let inv = c.loop-j.invariant in
-    let number : number_of_prefix e.prefix (heads rows) ≡ Some k = ap (number_of_prefix e.prefix) inv.heads ∙ c.requires.places c.loop-j.j e c.entry-metric.ensures in
+    let number : number_of_prefix e.prefix (heads rows) ≡ Some k = ap (number_of_prefix e.prefix) inv.heads ∙ c.requires.places c.loop-j.j e at in
     let new : rows_of c.set_cell.new.rows.entries ≡ with_cell rows k i (Some e.metric) = c.set_cell.ensures ∙ ap (with_cell rows k i) c.of.ensures in
     record {
       heads = ap heads new ∙ heads-with_cell rows k i (Some e.metric) ∙ inv.heads;
@@ -34,6 +35,6 @@ loop-j-preserved g c =
       cells = ap (λ (r : Rows). shown_after (cell r) i (drop (c.loop-j.j + 1) es)) new
           ∙ ap (λ (f : ℕ → Block → Option ℕ). shown_after f i (drop (c.loop-j.j + 1) es)) (cells-with_cell c.args.width rows e.prefix k i e.metric number inv.grid c.requires.cell)
           ∙ shown_after-step (cell rows) i e (drop (c.loop-j.j + 1) es)
-          ∙ ap (shown_after (cell rows) i) (sym (drop-more es c.loop-j.j e c.entry-metric.ensures))
+          ∙ ap (shown_after (cell rows) i) (sym (drop-more es c.loop-j.j e at))
           ∙ inv.cells;
     }

@@ -1,5 +1,4 @@
 use Rattle.std.proofs.Common.{◌≡◌, drop}
-use Rattle.rip_wire.specs.Datagram.{entries_of, message_of}
 use Rattle.rip_table.specs.Rows.{IsGrid, cell, heads, rows_of, shown_after}
 use Rattle.rip_table.proofs.grid.rows.write.Given as goal
 
@@ -7,5 +6,5 @@ abbrev pub invariant-loop-j : goal.invariant-loop-j
 invariant-loop-j g l = record {
   heads : heads (rows_of l.rows.entries) ≡ heads (rows_of l.fn.rows.entries);
   grid : IsGrid l.width (rows_of l.rows.entries);
-  cells : shown_after (cell (rows_of l.rows.entries)) l.interface (drop l.j (entries_of (message_of l.datagram))) ≡ shown_after (cell (rows_of l.fn.rows.entries)) l.interface (entries_of (message_of l.datagram));
+  cells : shown_after (cell (rows_of l.rows.entries)) l.interface (drop l.j l.entries) ≡ shown_after (cell (rows_of l.fn.rows.entries)) l.interface l.entries;
 }

@@ -1,12 +1,12 @@
 use Rattle.std.proofs.Common.{◌≡◌, ◌<◌, ℕ, Some, length}
 use Rattle.std.specs.List.{slice_get}
 use Rattle.rip_wire.specs.declared.entry.Entry.{Entry}
-use Rattle.rip_wire.specs.Datagram.{entries_of, message_of}
 use Rattle.rip_plan.specs.Network.{number_of_prefix}
-use Rattle.rip_table.proofs.numbered.numbers_of.Given as goal
+use Rattle.rip_table.specs.Rows.{heads, rows_of}
+use Rattle.rip_table.proofs.grid.numbers.find_numbers.Given as goal
 
 abbrev pub invariant-loop-j : goal.invariant-loop-j
 invariant-loop-j g l = record {
   room : length l.numbers ≡ 25;
-  found : (k : ℕ) (e : Entry) → k < l.j → slice_get (entries_of (message_of l.datagram)) k ≡ Some e → slice_get l.numbers k ≡ Some (number_of_prefix e.prefix (g.T.Numbered.state l.table).prefixes);
+  found : (k : ℕ) (e : Entry) → k < l.j → slice_get l.entries k ≡ Some e → slice_get l.numbers k ≡ Some (number_of_prefix e.prefix (heads (rows_of l.rows.entries)));
 }
