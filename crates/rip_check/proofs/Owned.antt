@@ -21,7 +21,7 @@ pub within : (n : Network) (i r l c : ℕ) → IsInterface n i r l c → i < len
 within n i r l c at = slice_get_within n.interfaces i _ at.listed
 
 -- a later number of an ascending list is no less
-ascends : (xs : List ℕ) → IsStrictlyIncreasing xs → (j k : ℕ) → j ≤ k → k < length xs → get_or xs j 0 ≤ get_or xs k 0
+pub ascends : (xs : List ℕ) → IsStrictlyIncreasing xs → (j k : ℕ) → j ≤ k → k < length xs → get_or xs j 0 ≤ get_or xs k 0
 ascends xs up j zero le lt = let e : j ≡ 0 = omega arith in rw e (omega arith)
 ascends xs up j (suc k) le lt =
     elim (cases_lt k j) [
@@ -32,6 +32,9 @@ ascends xs up j (suc k) le lt =
           let step' : get_or xs k 0 < get_or xs (suc k) 0 = rw e at step in
           omega (arith, step', ascends xs up j k small (omega (arith, lt)))
     ]
+
+pub ascends_below : (xs : List ℕ) → IsStrictlyIncreasing xs → (j k : ℕ) → j < k → k < length xs → get_or xs j 0 < get_or xs k 0
+ascends_below xs up j k sooner lt = omega (arith, up j (omega (arith, sooner, lt)), ascends xs up (j + 1) k (omega (arith, sooner)) lt)
 
 module _ (n : Network) (r : ℕ) (numbers : List ℕ) (exact : (i : ℕ) → Contains numbers i ↔ ((l c : ℕ) × IsInterface n i r l c)) where
   -- the number at a place is an interface of the router
@@ -69,12 +72,6 @@ module _ (n : Network) (r : ℕ) (numbers : List ℕ) (exact : (i : ℕ) → Con
             rw e q
       ]
 
-  -- the same of what is said of interfaces alone
-  pub one_more_number : (Q : ℕ → Type 0) (k : ℕ) → k < length numbers → IsSoBefore (λ i l. Q i) k → Q (get_or numbers k 0) → IsSoBefore (λ i l. Q i) (k + 1)
-  one_more_number Q k lt before here =
-      let h = its_interface k lt in
-      each_more (λ i l. Q i) k (record { router = r; link = h.0; address = h.2.address; cost = h.1 }) h.2 before here
-
   -- each interface of the router is at a place
   pub at_place : (i l c : ℕ) → IsInterface n i r l c → (k : ℕ) × (k < length numbers) × (get_or numbers k 0 ≡ i)
   at_place i l c its =
@@ -100,6 +97,16 @@ module _ (n : Network) (r : ℕ) (numbers : List ℕ) (exact : (i : ℕ) → Con
       let its' : IsInterface n (get_or numbers h.0 0) r l c = rw h.2 its in
       let q : Q (get_or numbers h.0 0) l = all h.0 l c sooner its' in
       rw h.2 at q
+
+  -- each interface of the router before a bound that is no more than the one at place k is at a place before k
+  pub place_before : IsStrictlyIncreasing numbers → (k b : ℕ) → (k < length numbers → b ≤ get_or numbers k 0) → (i l c : ℕ) → IsInterface n i r l c → i < b →
+      (j : ℕ) × (j < k) × (get_or numbers j 0 ≡ i)
+  place_before ascending k b next i l c its less =
+      let h = at_place i l c its in
+      elim (cases_lt h.0 k) [
+        | inl sooner ↦ (h.0, sooner, h.2)
+        | inr late ↦ absurd (omega (arith, h.2, less, next (omega (arith, late, h.1)), ascends numbers ascending k h.0 late h.1))
+      ]
 
   -- a leaf's one interface is the first
   pub some_number : (i l c : ℕ) → IsLeaf n r i l c → 0 < length numbers

@@ -1,11 +1,8 @@
 -- First places, prefix by prefix.
-use Rattle.std.proofs.Common.{◌≡◌, ℕ, ◌+◌, ◌<◌, ◌≤◌, inl, inr, Option, None, Some, IfSome, IfNone, refl, arith, length}
+use Rattle.std.proofs.Common.{◌≡◌, ℕ, ◌+◌, ◌<◌, ◌≤◌, ◌⊎◌, inl, inr, None, arith, length}
 use Rattle.std.proofs.lemmas.Bool.{cases_lt}
 use Rattle.rip_plan.specs.Network.{Network}
-use Rattle.rip_check.specs.Tables.{Showing}
-use Rattle.rip_check.specs.Firsts.{IsBefore, IsAfter, IsFirst, AreFine}
-use Rattle.rip_check.specs.declared.verdict.Place2.{Place2}
-use Rattle.rip_check.specs.Verdicts.{IsSound, IsFirstFailing, IsColumnFirst}
+use Rattle.rip_check.specs.Firsts.{IsBefore, IsAfter, IsFirst, AreFine, IsFirstBelow, IsFirstPlace}
 
 module _ (n : Network) (p : ℕ) (Fine : ℕ → ℕ → Type 0) where
   -- a column with nothing new above the first place
@@ -57,48 +54,77 @@ module _ (n : Network) (p : ℕ) (Fine : ℕ → ℕ → Type 0) where
             rw e (column s known)
       ]
 
--- what is known after the columns before p
-pub record Known (n : Network) (shown : Showing) (p bound : ℕ) (best : Option Place2) : Type 0 where
-  pub most : bound ≤ length n.routers
-  pub some : IfSome best (λ f. (bound ≡ f.router) × IsFirstFailing n p shown None f)
-  pub none : IfNone best ((bound ≡ length n.routers) × AreFine n p None (IsSound n shown))
+-- the same of the numbers before k alone
+pub record IsFirstSoFar (bound k : ℕ) (Fine : ℕ → Type 0) (first : ℕ) : Type 0 where
+  pub most : first ≤ bound
+  pub before : (s : ℕ) → s < k → s < first → Fine s
+  pub fails : first < bound → (first < k) × (Fine first → ⊥)
 
--- a column in which nothing below the bound fails
-pub known_on : (n : Network) (shown : Showing) (p bound : ℕ) (best : Option Place2) → Known n shown p bound best → ((s : ℕ) → s < bound → IsSound n shown s p) →
-    Known n shown (p + 1) bound best
-known_on n shown p bound None k column =
-    record { most = k.most; some = tt; none = (k.none.0, fine_on n p (IsSound n shown) k.none.1 (λ s lt. column s (omega (arith, lt, k.none.0)))) }
-known_on n shown p bound (Some f) k column =
-    record {
-      most = k.most;
-      some = (
-        k.some.0,
-        record {
-          first = first_on n p (IsSound n shown) f.router f.prefix k.some.1.first (λ s lt. column s (omega (arith, lt, k.some.0)));
-          values = k.some.1.values;
-        },
-      );
-      none = tt;
-    }
+module _ (bound : ℕ) (Fine : ℕ → Type 0) where
+  pub none_so_far : IsFirstSoFar bound 0 Fine bound
+  none_so_far = record { most = omega arith; before = λ s lt less. absurd (omega (arith, lt)); fails = λ less. absurd (omega (arith, less)) }
 
--- a column in which one does
-pub known_better : (n : Network) (shown : Showing) (p bound : ℕ) (best : Option Place2) (f : Place2) → Known n shown p bound best → IsColumnFirst n shown p bound f →
-    Known n shown (p + 1) f.router (Some f)
-known_better n shown p bound best f k c =
-    let at : f.router < length n.routers = omega (arith, c.router, k.most) in
-    let fails : IsSound n shown f.router p → ⊥ =
-    λ sound. c.values.fails (rw c.prefix (sound (record { metric = f.metric; way = f.way }) (rw c.prefix at c.values.fits))) in
-    record {
-      most = omega (arith, at);
-      some = (refl, record { first = rw c.prefix (new_first n p (IsSound n shown) f.router at (rows best k) c.before fails); values = c.values });
-      none = tt;
-    }
-  where
-    rows : (b : Option Place2) → Known n shown p bound b → (s q : ℕ) → q < p → s ≤ f.router → IsSound n shown s q
-    rows None k s q lt le = k.none.1 s q (omega (arith, le, c.router, k.none.0)) lt tt
-    rows (Some g) k s q lt le = k.some.1.first.before s q lt tt (inl (omega (arith, le, c.router, k.some.0)))
+  -- one more number that is fine, or that comes after the first
+  pub so_far_on : (k first : ℕ) → IsFirstSoFar bound k Fine first → (k < first → Fine k) → IsFirstSoFar bound (k + 1) Fine first
+  so_far_on k first was here =
+      record {
+        most = was.most;
+        before = λ s lt less. elim (cases_lt s k) [
+          | inl sooner ↦ was.before s sooner less
+          | inr late ↦
+              let e : s ≡ k = omega arith in
+              rw e (here (omega (arith, e, less)))
+        ];
+        fails = λ less. (omega (arith, (was.fails less).0), (was.fails less).1);
+      }
 
-pub done_none : (n : Network) (shown : Showing) (p count bound : ℕ) (best : Option Place2) → Known n shown p bound best → count ≤ p →
-    IfNone best (AreFine n count None (IsSound n shown))
-done_none n shown p count bound None k end = λ s q known lt late. k.none.1 s q known (omega (arith, lt, end)) tt
-done_none n shown p count bound (Some f) k end = tt
+  -- one more number that is not fine
+  pub so_far_first : (k first : ℕ) → IsFirstSoFar bound k Fine first → k < first → (Fine k → ⊥) → IsFirstSoFar bound (k + 1) Fine k
+  so_far_first k first was less fails =
+      record { most = omega (arith, less, was.most); before = λ s lt sooner. was.before s sooner (omega (arith, sooner, less)); fails = λ below. (omega arith, fails) }
+
+  pub all_so_far : (k first : ℕ) → bound ≤ k → IsFirstSoFar bound k Fine first → IsFirstBelow bound Fine first
+  all_so_far k first past was =
+      record { most = was.most; before = λ s less. was.before s (omega (arith, less, was.most, past)) less; fails = λ less. (was.fails less).1 }
+
+-- before any prefix
+pub none_yet : (n : Network) (Fine : ℕ → ℕ → Type 0) (r q : ℕ) → r ≡ length n.routers → IsFirstPlace n 0 Fine r q
+none_yet n Fine r q e =
+    record { most = omega (arith, e); first = λ less. absurd (omega (arith, e, less)); fine = λ e' s k known lt late. absurd (omega (arith, lt)) }
+
+module _ (n : Network) (p : ℕ) (Fine : ℕ → ℕ → Type 0) (r q : ℕ) (was : IsFirstPlace n p Fine r q) where
+  -- one more prefix, with nothing new before the router
+  place_on : ((s : ℕ) → s < r → Fine s p) → IsFirstPlace n (p + 1) Fine r q
+  place_on column =
+      record {
+        most = was.most;
+        first = λ less. first_on n p Fine r q (was.first less) column;
+        fine = λ e. fine_on n p Fine (was.fine e) (λ s known. column s (omega (arith, known, e)));
+      }
+
+  rows : (s k : ℕ) → k < p → s < r → Fine s k
+  rows s k lt less =
+      elim (cases_lt r (length n.routers)) [
+        | inl known ↦ (was.first known).before s k lt tt (inl less)
+        | inr all ↦ was.fine (omega (arith, all, was.most)) s k (omega (arith, less, was.most)) lt tt
+      ]
+
+  -- one more prefix, with a place at a router before
+  place_before : (next : ℕ) → next < r → ((s : ℕ) → s < next → Fine s p) → (Fine next p → ⊥) → IsFirstPlace n (p + 1) Fine next p
+  place_before next less column fails =
+      record {
+        most = omega (arith, less, was.most);
+        first = λ known. new_first n p Fine next known (λ s k lt le. rows s k lt (omega (arith, le, less))) column fails;
+        fine = λ e. absurd (omega (arith, e, less, was.most));
+      }
+
+  pub place_next : (next k : ℕ) → IsFirstBelow r (λ s. Fine s p) next → ((next < r) × (k ≡ p)) ⊎ ((r ≤ next) × (k ≡ q)) → IsFirstPlace n (p + 1) Fine next k
+  place_next next k column (inl h) = rw h.1 (place_before next h.0 column.before (column.fails h.0))
+  place_next next k column (inr h) =
+      let e : next ≡ r = omega (arith, h.0, column.most) in
+      let before : (s : ℕ) → s < r → Fine s p = rw e at column.before in
+      rw e (rw h.1 (place_on before))
+
+  -- past the last prefix
+  pub all_places : (count : ℕ) → p ≡ count → IsFirstPlace n count Fine r q
+  all_places count e = rw e at was

@@ -1,5 +1,5 @@
 -- A place can be read exactly where a route fits.
-use Rattle.std.proofs.Common.{ℕ, ◌<◌, ◌⊎◌, inl, inr, None, sym, ◌∙◌, length}
+use Rattle.std.proofs.Common.{◌≡◌, ℕ, ◌<◌, ◌⊎◌, inl, inr, None, sym, ◌∙◌, length}
 use Rattle.rip_plan.specs.Network.{Network}
 use Rattle.rip_plan.specs.Relations.{IsLawful, IsLeaf, HasTwoInterfaces}
 use Rattle.rip_check.specs.Tables.{Showing, Route, Fits}
@@ -7,7 +7,8 @@ use Rattle.rip_check.proofs.Reading.{one_route, two_or_leaf, tables_of}
 use Rattle.rip_check.specs.Telling.{Tells}
 use Rattle.rip_check.specs.Captured.{IsInRange, IsHeard}
 use Rattle.rip_check.specs.Firsts.{IsReadable, AreFine}
-use Rattle.rip_check.specs.Verdicts.{TablesShown}
+use Rattle.rip_check.specs.Settled.{Holds}
+use Rattle.rip_check.specs.Verdicts.{IsSound, TablesShown}
 use Rattle.rip_check.proofs.Leaves.{leaf_route}
 
 pub two_not_leaf : (n : Network) (r i l c : ℕ) → HasTwoInterfaces n r → IsLeaf n r i l c → ⊥
@@ -53,3 +54,13 @@ module _ (n : Network) (plan : IsLawful n) (shown : Showing) (range : IsInRange 
   pub not_readable : (r p : ℕ) → HasTwoInterfaces n r → ((t : Route) → Tells n shown r p t → ⊥) → IsReadable n shown r p → ⊥
   not_readable r p two none (inl h) = none h.0 h.1
   not_readable r p two none (inr h) = two_not_leaf n r h.0 h.1 h.2 two h.3
+
+  -- where the one route that fits holds, each does
+  pub one_sound : (r p : ℕ) (t : Route) → r < length n.routers → Fits n shown r p t → Holds n shown r p t → IsSound n shown r p
+  one_sound r p t at fits holds = λ u fits'.
+      let e : t ≡ u = one_route n plan shown r p t u at fits fits' in
+      rw e at holds
+
+  -- and where it does not hold, not each does
+  pub one_fails : (r p : ℕ) (t : Route) → Fits n shown r p t → (Holds n shown r p t → ⊥) → IsSound n shown r p → ⊥
+  one_fails r p t fits fails sound = fails (sound t fits)

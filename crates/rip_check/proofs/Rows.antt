@@ -21,7 +21,7 @@ module _ (n : Network) (plan : IsLawful n) (shown : Showing) (r p : ℕ) (two : 
       speaks_case n plan shown two.0 two.1 r two.2 two.3 two.4 two.5 p m w two.6 two.7 two.8 fits small
       (told two.0 two.2 two.4 two.6) (told two.1 two.3 two.5 two.7)
 
-  metric_is : (t : Route) (m : ℕ) → Tells n shown r p t → m ≤ 16 → (m ≡ 16 → IsMute n shown r p) → (m < 16 → (1 ≤ m) × IsSpoken n shown r p m) → t.metric ≡ m
+  pub metric_is : (t : Route) (m : ℕ) → Tells n shown r p t → m ≤ 16 → (m ≡ 16 → IsMute n shown r p) → (m < 16 → (1 ≤ m) × IsSpoken n shown r p m) → t.metric ≡ m
   metric_is t m tells most mute spoken =
       elim (cases_lt m 16) [
         | inl small ↦
@@ -76,11 +76,6 @@ module _ (n : Network) (plan : IsLawful n) (shown : Showing) (r p : ℕ) (two : 
   way_is m w v fits told (inl h) = way_nowhere m v fits h.0 ∙ sym h.1
   way_is m w v fits told (inr (inl h)) = way_here m v fits h.0 told h.1 ∙ sym h.2
   way_is m w v fits told (inr (inr h)) = way_over m h.0 v fits h.1 told h.2 ∙ sym h.3
-
-  pub told_fits : (m : ℕ) (w : Way) → (m < 16 → 1 ≤ m) → IsTold m w → FitsWay n r p m w
-  told_fits m w least (inl h) = rw h.1 h.0
-  told_fits m w least (inr (inl h)) = rw h.2 (least h.0, h.0)
-  told_fits m w least (inr (inr h)) = let gap = h.2 in rw h.3 (least h.1, h.1, (gap.1, (gap.0, gap.2)), gap.4)
 
   pub no_other : (t : Route) (m : ℕ) (w : Way) → Tells n shown r p t → m ≤ 16 → (m ≡ 16 → IsMute n shown r p) → (m < 16 → (1 ≤ m) × IsSpoken n shown r p m) →
       IsTold m w → IsAsTold n shown r p m w

@@ -1,5 +1,5 @@
 -- Which routes can be read, why others can't, and which place is the first.
-use Rattle.std.specs.Prelude.{◌≡◌, ◌≢◌, ℕ, ◌<◌, ◌⊎◌, Option, None, Some, IsTrue, length}
+use Rattle.std.specs.Prelude.{◌≡◌, ◌≢◌, ℕ, ◌<◌, ◌≤◌, ◌⊎◌, Option, None, Some, IsTrue, length}
 use Rattle.rip_plan.specs.Network.{Network}
 use Rattle.rip_plan.specs.Relations.{IsInterface, IsLeaf}
 use Rattle.rip_check.specs.Tables.{Showing, Route}
@@ -28,6 +28,18 @@ pub record IsFirst (n : Network) (count : ℕ) (after : Option (ℕ × ℕ)) (Fi
 -- every place after the given one is fine
 abbrev pub AreFine : Network → ℕ → Option (ℕ × ℕ) → (ℕ → ℕ → Type 0) → Type 0
 AreFine n count after Fine = (r p : ℕ) → r < length n.routers → p < count → IsAfter after r p → Fine r p
+
+-- the first number below the bound that is not fine, or the bound where each is
+pub record IsFirstBelow (bound : ℕ) (Fine : ℕ → Type 0) (first : ℕ) : Type 0 where
+  pub most : first ≤ bound
+  pub before : (s : ℕ) → s < first → Fine s
+  pub fails : first < bound → Fine first → ⊥
+
+-- (r, p) is the first place that is not fine, or r is the number of routers where each place is fine
+pub record IsFirstPlace (n : Network) (count : ℕ) (Fine : ℕ → ℕ → Type 0) (r p : ℕ) : Type 0 where
+  pub most : r ≤ length n.routers
+  pub first : r < length n.routers → IsFirst n count None Fine r p
+  pub fine : r ≡ length n.routers → AreFine n count None Fine
 
 -- exactly one route fits what router r shows of prefix p, or the router has one interface
 abbrev pub IsReadable : Network → Showing → ℕ → ℕ → Type 0

@@ -6,6 +6,7 @@ use Rattle.rip_check.specs.Tables.{Tables, Showing, Shows, Route, Fits, IsSilent
 use Rattle.rip_check.specs.Settled.{IsChoice, Holds}
 use Rattle.rip_check.specs.Laws.{RightTablesShown}
 use Rattle.rip_check.specs.Firsts.{IsFirst, IsFirstTrouble}
+use Rattle.rip_check.specs.declared.routes.Reading.{Reading}
 use Rattle.rip_check.specs.declared.verdict.Place2.{Place2}
 use Rattle.rip_check.specs.declared.verdict.Verdict.{Verdict}
 use Rattle.rip_check.specs.declared.verdict.Verdict.TheVariants.{Settled, Unsettled, Unclear as IsUnclear}
@@ -60,9 +61,6 @@ abbrev pub IsKnown : ℕ → Option (ℕ × ℕ) → Type 0
 IsKnown count None = Unit {0}
 IsKnown count (Some a) = a.1 < count
 
--- the first router below the bound whose place of this prefix fails
-pub record IsColumnFirst (n : Network) (shown : Showing) (p bound : ℕ) (failing : Place2) : Type 0 where
-  pub router : failing.router < bound
-  pub prefix : failing.prefix ≡ p
-  pub before : (s : ℕ) → s < failing.router → IsSound n shown s p
-  pub values : IsFailing n shown failing
+-- the route that was read
+abbrev pub route_of : Reading → Route
+route_of t = record { metric = t.metric; way = t.way }

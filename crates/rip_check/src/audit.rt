@@ -4,13 +4,14 @@ ghost use Rattle.std.specs.Prelude.{◌≡◌, ◌↔◌, ℕ, ◌≤◌, ◌<�
 ghost use Rattle.rip_table.specs.State.{Fits as FitsPlan};
 ghost use Rattle.rip_check.specs.Audits.{EachPlaceHolds, HoldsAfter, IsKnownPlace, IsNextUnsettled, PacketsArrive, ShowsRightTables, ShowsTables, TroubleIs};
 ghost use Rattle.rip_check.specs.Captured.{IsHeard, showing_of};
-ghost use Rattle.rip_check.specs.Firsts.{AreFine, IsFirstUnclear, IsFirstUnheard, IsReadable};
+ghost use Rattle.rip_check.specs.Firsts.{IsFirstBelow, IsFirstPlace, IsFirstUnheard, IsReadable};
 ghost use Rattle.rip_check.specs.TwoLeasts.{AreTwoLeast};
-ghost use Rattle.rip_check.specs.Verdicts.{IsColumnFirst, IsFirstFailing, IsRowFirst, IsSound, IsVerdict};
+ghost use Rattle.rip_check.specs.Verdicts.{IsRowFirst, IsSound, IsVerdict};
 
 use crate::links::{MOST_LINKS, NOTHING, TwoLeast, fill};
 use crate::lookup::in_range;
-use crate::places::{failing, unclear_at};
+use crate::places::{failing, unmet};
+use crate::routes::{read, reason};
 use crate::verdict::{Place2, Unclear, Verdict};
 use rip_plan::{Interface, Plan};
 use rip_table::MetricTable;
@@ -29,23 +30,6 @@ fn first_unheard<T: MetricTable>(plan: &Plan, table: &T) -> Option<Interface>
     None
 }
 
-/// The first place that can't be read, with the reason.
-fn first_unclear<T: MetricTable>(plan: &Plan, table: &T) -> Option<Unclear>
-    requires { FitsPlan plan.now (T.state table.now) }
-    ensures some { IfSome result (λ u. IsFirstUnclear plan.now (length (T.state table.now).prefixes) (showing_of (T.state table.now)) u) }
-    ensures none { IfNone result (AreFine plan.now (length (T.state table.now).prefixes) None (IsReadable plan.now (showing_of (T.state table.now)))) }
-{
-    let count = table.prefix_count();
-    for router in 0..plan.routers() {
-        for prefix in 0..count {
-            if let Some(unclear) = unclear_at(plan, table, router, prefix) {
-                return Some(unclear);
-            }
-        }
-    }
-    None
-}
-
 /// The first place of a router, from a prefix on, that does not hold.
 fn first_in_row<T: MetricTable>(
     plan: &Plan,
@@ -59,7 +43,7 @@ fn first_in_row<T: MetricTable>(
     ensures none { IfNone result ((q : ℕ) → from ≤ q → q < length (T.state table.now).prefixes → IsSound plan.now (showing_of (T.state table.now)) router q) }
 {
     for prefix in from..table.prefix_count() {
-        if let Some(found) = failing(plan, table, &[], router, prefix) {
+        if let Some(found) = failing(plan, table, router, prefix) {
             return Some(found);
         }
     }
@@ -92,48 +76,104 @@ pub fn next_unsettled<T: MetricTable>(
     None
 }
 
-/// The first router before the bound whose place of this prefix does not hold.
-fn first_in_column<T: MetricTable>(
+/// Routers from which on places matter no more: those from `unclear` on need not be readable, and
+/// those from `failing` on need not hold.
+#[derive(Clone, Copy)]
+struct Bounds {
+    unclear: usize,
+    failing: usize,
+}
+
+/// The bounds after the places of one more prefix. Once a place can't be read, none needs to hold.
+fn narrow<T: MetricTable>(
     plan: &Plan,
     table: &T,
     links: &[TwoLeast],
     prefix: usize,
-    bound: usize,
-) -> Option<Place2>
+    bounds: Bounds,
+) -> Bounds
     requires fits { FitsPlan plan.now (T.state table.now) }
     requires prefix { prefix < length (T.state table.now).prefixes }
     requires links { AreTwoLeast plan.now (showing_of (T.state table.now)) prefix links.now }
-    requires bound { bound ≤ length plan.now.routers }
-    ensures some { IfSome result (λ f. IsColumnFirst plan.now (showing_of (T.state table.now)) prefix bound f) }
-    ensures none { IfNone result ((s : ℕ) → s < bound → IsSound plan.now (showing_of (T.state table.now)) s prefix) }
-{
-    for router in 0..bound {
-        if let Some(found) = failing(plan, table, links, router, prefix) {
-            return Some(found);
-        }
-    }
-    None
-}
-
-/// The first place that does not hold, by router and then by prefix. It goes prefix by prefix, so that
-/// the two least metrics of each link are found once for all routers.
-fn first_unsettled<T: MetricTable>(plan: &Plan, table: &T) -> Option<Place2>
-    requires { FitsPlan plan.now (T.state table.now) }
-    ensures some { IfSome result (λ f. IsFirstFailing plan.now (length (T.state table.now).prefixes) (showing_of (T.state table.now)) None f) }
-    ensures none { IfNone result (AreFine plan.now (length (T.state table.now).prefixes) None (IsSound plan.now (showing_of (T.state table.now)))) }
+    requires known { bounds.unclear ≤ length plan.now.routers }
+    requires order { bounds.failing ≤ bounds.unclear }
+    ensures order { result.failing ≤ result.unclear }
+    ensures unclear { IsFirstBelow bounds.unclear
+        (λ s. IsReadable plan.now (showing_of (T.state table.now)) s prefix) result.unclear }
+    ensures failing { result.unclear ≡ bounds.unclear →
+        IsFirstBelow bounds.failing
+        (λ s. IsSound plan.now (showing_of (T.state table.now)) s prefix) result.failing }
 {
     plan.lawful();
-    let mut links = [NOTHING; MOST_LINKS];
-    let mut bound = plan.routers();
-    let mut best = None;
-    for prefix in 0..table.prefix_count() {
-        fill(plan, table, prefix, &mut links);
-        if let Some(found) = first_in_column(plan, table, &links, prefix, bound) {
-            bound = found.router;
-            best = Some(found);
+    in_range(plan, table);
+    let mut failing = bounds.failing;
+    for router in 0..bounds.unclear {
+        match read(plan, table, links, router, prefix) {
+            None => {
+                return Bounds {
+                    unclear: router,
+                    failing: 0,
+                };
+            }
+            Some(route) => {
+                if router < failing && unmet(plan, table, links, router, prefix, route) != 0 {
+                    failing = router;
+                }
+            }
         }
     }
-    best
+    Bounds {
+        unclear: bounds.unclear,
+        failing,
+    }
+}
+
+/// The first place that can't be read and the first that does not hold, by router and then by
+/// prefix. The number of routers stands for the router of none.
+#[derive(Clone, Copy)]
+struct Firsts {
+    unclear: usize,
+    unclear_prefix: usize,
+    failing: usize,
+    failing_prefix: usize,
+}
+
+/// The first places. This goes prefix by prefix, so that the two least metrics of each link are
+/// found once for all routers.
+fn first_places<T: MetricTable>(plan: &Plan, table: &T) -> Firsts
+    requires { FitsPlan plan.now (T.state table.now) }
+    ensures unclear { IsFirstPlace plan.now (length (T.state table.now).prefixes)
+        (IsReadable plan.now (showing_of (T.state table.now))) result.unclear
+        result.unclear_prefix }
+    ensures failing { result.unclear ≡ length plan.now.routers →
+        IsFirstPlace plan.now (length (T.state table.now).prefixes)
+        (IsSound plan.now (showing_of (T.state table.now))) result.failing result.failing_prefix }
+{
+    plan.lawful();
+    let mut room = [NOTHING; MOST_LINKS];
+    let links = &mut room[..plan.links()];
+    let mut unclear = plan.routers();
+    let mut failing = plan.routers();
+    let mut unclear_prefix = 0;
+    let mut failing_prefix = 0;
+    for prefix in 0..table.prefix_count() {
+        fill(plan, table, prefix, links);
+        let next = narrow(plan, table, links, prefix, Bounds { unclear, failing });
+        if next.unclear < unclear {
+            unclear_prefix = prefix;
+        }
+        if next.failing < failing {
+            failing_prefix = prefix;
+        }
+        unclear = next.unclear;
+        failing = next.failing;
+    }
+    Firsts {
+        unclear,
+        unclear_prefix,
+        failing,
+        failing_prefix,
+    }
 }
 
 /// The verdict, by its definition.
@@ -149,13 +189,16 @@ fn decide<T: MetricTable>(plan: &Plan, table: &T) -> Verdict
             link: own.link,
         });
     }
-    if let Some(unclear) = first_unclear(plan, table) {
+    let first = first_places(plan, table);
+    if first.unclear < plan.routers() {
+        let unclear = reason(plan, table, first.unclear, first.unclear_prefix);
         return Verdict::Unclear(unclear);
     }
-    match first_unsettled(plan, table) {
-        Some(found) => Verdict::Unsettled(found),
-        None => Verdict::Settled,
+    if first.failing < plan.routers() {
+        let place = failing(plan, table, first.failing, first.failing_prefix);
+        return Verdict::Unsettled(place.unwrap());
     }
+    Verdict::Settled
 }
 
 /// The verdict on a table that fits a plan. Settled is answered exactly where the table shows tables

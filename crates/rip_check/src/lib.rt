@@ -8,11 +8,14 @@ mod lookup;
 mod offers;
 mod places;
 mod routes;
+mod surveys;
+mod unsettled;
 mod verdict;
 mod way;
 
 pub use audit::{judge, next_unsettled};
 pub use places::{equation, route};
+pub use unsettled::Unsettled;
 pub use verdict::{Place2, Route, Unclear, Verdict};
 pub use way::Way;
 

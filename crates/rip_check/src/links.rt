@@ -14,12 +14,13 @@ use rip_table::MetricTable;
 /// The most links of a plan.
 pub(crate) const MOST_LINKS: usize = 512;
 
-/// The least metric that is shown on a link, whose it is, and the least of the other routers'.
+/// The least metric that is shown on a link, whose it is, and the least of the other routers'. A
+/// plan has at most 128 routers, so that bytes serve.
 #[derive(Clone, Copy)]
 pub(crate) struct TwoLeast {
-    pub least: u32,
-    pub by: usize,
-    pub next: u32,
+    pub least: u8,
+    pub by: u8,
+    pub next: u8,
 }
 
 /// Of a link on which nothing is shown.
@@ -44,7 +45,7 @@ fn seen_at<T: MetricTable>(plan: &Plan, table: &T, interface: usize, prefix: usi
 }
 
 /// The same with one more interface of the link.
-fn with(two: TwoLeast, router: usize, metric: u32) -> TwoLeast
+fn with(two: TwoLeast, router: u8, metric: u8) -> TwoLeast
     ensures { (n : Network) (shown : Showing) (l p j : ℕ) → IsTwoLeast n shown l p j two → IsSeen n shown l p j router metric → IsTwoLeast n shown l p (j + 1) result }
 {
     if router == two.by {
@@ -72,7 +73,7 @@ fn with(two: TwoLeast, router: usize, metric: u32) -> TwoLeast
     }
 }
 
-/// Writes the two least metrics of each link for one prefix.
+/// Writes the two least metrics of each link for one prefix. 16 is there to begin with.
 pub(crate) fn fill<T: MetricTable>(plan: &Plan, table: &T, prefix: usize, links: &mut [TwoLeast])
     requires fits { FitsPlan plan.now (T.state table.now) }
     requires prefix { prefix < length (T.state table.now).prefixes }
@@ -87,6 +88,8 @@ pub(crate) fn fill<T: MetricTable>(plan: &Plan, table: &T, prefix: usize, links:
     for i in 0..plan.interfaces() {
         let own = plan.interface(i);
         let metric = seen_at(plan, table, i, prefix);
-        links[own.link] = with(links[own.link], own.router, metric);
+        if metric < 16 {
+            links[own.link] = with(links[own.link], own.router as u8, metric as u8);
+        }
     }
 }

@@ -1,7 +1,6 @@
 //! What a plan and a table say of a prefix by its number in the table.
 
-ghost use Rattle.std.specs.Prelude.{◌≡◌, ℕ, ◌<◌, ◌≤◌, ◌↔◌, Decides, IfSome, Some, length};
-ghost use Rattle.rip_plan.specs.Relations.{Carries, IsDirect};
+ghost use Rattle.std.specs.Prelude.{◌≡◌, ◌<◌, ◌≤◌, IfSome, length};
 ghost use Rattle.rip_table.specs.State.{Fits as FitsPlan};
 ghost use Rattle.rip_check.specs.Captured.{IsInRange, showing_of};
 
@@ -47,27 +46,23 @@ pub(crate) fn shown_at<T: MetricTable>(
     }
 }
 
-/// The cost at which a router has a prefix itself.
-pub(crate) fn direct_cost<T: MetricTable>(
+/// What an interface shows, or 0.
+pub(crate) fn shown_or_0<T: MetricTable>(
     plan: &Plan,
     table: &T,
-    router: usize,
+    interface: usize,
     prefix: usize,
-) -> Option<u8>
+) -> u32
     requires fits { FitsPlan plan.now (T.state table.now) }
+    requires interface { interface < length plan.now.interfaces }
     requires prefix { prefix < length (T.state table.now).prefixes }
-    ensures { (c : ℕ) → (result ≡ Some c) ↔ IsDirect plan.now router prefix c }
+    ensures most { result ≤ 16 }
+    ensures none { result ≡ 0 → (showing_of (T.state table.now)).cell interface prefix ≡ None }
+    ensures some { 1 ≤ result →
+        (showing_of (T.state table.now)).cell interface prefix ≡ Some result }
 {
-    plan.lawful();
-    plan.direct(router, table.prefix(prefix))
-}
-
-/// Whether a link is a place of a prefix.
-pub(crate) fn is_carried<T: MetricTable>(plan: &Plan, table: &T, link: usize, prefix: usize) -> bool
-    requires fits { FitsPlan plan.now (T.state table.now) }
-    requires prefix { prefix < length (T.state table.now).prefixes }
-    ensures { Decides result (Carries plan.now link prefix) }
-{
-    plan.lawful();
-    plan.carries(link, table.prefix(prefix))
+    match shown_at(plan, table, interface, prefix) {
+        Some(metric) => metric,
+        None => 0,
+    }
 }

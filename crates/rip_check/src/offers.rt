@@ -10,7 +10,7 @@ ghost use Rattle.rip_check.specs.Tables.{Offers, Showing};
 ghost use Rattle.rip_check.specs.TwoLeasts.{AreTwoLeast, IsTwoLeast};
 
 use crate::links::TwoLeast;
-use crate::lookup::{direct_cost, shown_at};
+use crate::lookup::shown_at;
 use rip_plan::{Interface, Plan};
 use rip_table::MetricTable;
 
@@ -65,12 +65,12 @@ fn least_told(own: Interface, two: TwoLeast, best: u32) -> u32
     ensures least { (n : Network) (shown : Showing) (s p v : ℕ) → IsLawful n → HasCost n own.router own.link own.cost → IsTwoLeast n shown own.link p (length n.interfaces) two → Offers n shown own.router own.link s p v → result ≤ v }
     ensures chosen { (n : Network) (shown : Showing) (p : ℕ) → HasCost n own.router own.link own.cost → IsTwoLeast n shown own.link p (length n.interfaces) two → (result ≡ best) ⊎ ((s : ℕ) × Offers n shown own.router own.link s p result) }
 {
-    let shown = if own.router == two.by {
+    let shown = if own.router == usize::from(two.by) {
         two.next
     } else {
         two.least
     };
-    (u32::from(own.cost) + shown).min(best)
+    (u32::from(own.cost) + u32::from(shown)).min(best)
 }
 
 /// The least of `best` and of what the neighbours over the link of an interface offer. The list has
@@ -102,15 +102,13 @@ pub(crate) fn best_over<T: MetricTable>(
 }
 
 /// The cost at which a router has a prefix itself, or 16.
-fn direct_or_16<T: MetricTable>(plan: &Plan, table: &T, router: usize, prefix: usize) -> u32
-    requires fits { FitsPlan plan.now (T.state table.now) }
-    requires prefix { prefix < length (T.state table.now).prefixes }
+fn direct_or_16(plan: &Plan, router: usize, prefix: usize) -> u32
     ensures most { result ≤ 16 }
     ensures chosen { (result ≡ 16) ⊎ IsDirect plan.now router prefix result }
     ensures least { (c : ℕ) → IsDirect plan.now router prefix c → result ≤ c }
 {
     plan.lawful();
-    match direct_cost(plan, table, router, prefix) {
+    match plan.direct_cost(router, prefix) {
         Some(cost) => u32::from(cost),
         None => 16,
     }
@@ -132,7 +130,7 @@ pub(crate) fn least_choice<T: MetricTable>(
     ensures chosen { IsChoice plan.now (showing_of (T.state table.now)) router prefix result }
     ensures least { (v : ℕ) → IsChoice plan.now (showing_of (T.state table.now)) router prefix v → result ≤ v }
 {
-    let mut best = direct_or_16(plan, table, router, prefix);
+    let mut best = direct_or_16(plan, router, prefix);
     let numbers = plan.of_router(router);
     for i in numbers {
         let own = plan.interface(*i);

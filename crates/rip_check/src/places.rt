@@ -5,16 +5,15 @@ ghost use Rattle.rip_plan.specs.Relations.{IsDirect};
 ghost use Rattle.rip_table.specs.State.{Fits as FitsPlan};
 ghost use Rattle.rip_check.specs.Audits.{CanRead, FitsShown, IsHiddenPlace, IsLeastChoice, IsOnlyRoute, ReasonIs};
 ghost use Rattle.rip_check.specs.Captured.{showing_of};
-ghost use Rattle.rip_check.specs.Firsts.{IsReadable, IsReason};
-ghost use Rattle.rip_check.specs.Settled.{IsChoice, IsGiven};
-ghost use Rattle.rip_check.specs.Tables.{FitsWay, Offers};
+ghost use Rattle.rip_check.specs.Settled.{Holds, IsChoice, IsGiven};
+ghost use Rattle.rip_check.specs.Tables.{Fits, FitsWay, Offers};
 ghost use Rattle.rip_check.specs.TwoLeasts.{AreTwoLeast};
-ghost use Rattle.rip_check.specs.Verdicts.{IsFailing, IsSound};
+ghost use Rattle.rip_check.specs.Verdicts.{IsEquation, IsFailing, IsSound, route_of};
 
 use crate::links::TwoLeast;
-use crate::lookup::{direct_cost, in_range, metric_of};
+use crate::lookup::{in_range, metric_of};
 use crate::offers::{best_over, least_choice};
-use crate::routes::read;
+use crate::routes::{Reading, read, reason};
 use crate::verdict::{Place2, Route, Unclear};
 use crate::way::Way;
 use rip_plan::Plan;
@@ -22,18 +21,10 @@ use rip_table::MetricTable;
 use rip_wire::Metric;
 
 /// Whether a router has a prefix itself at this cost.
-fn is_direct<T: MetricTable>(
-    plan: &Plan,
-    table: &T,
-    router: usize,
-    prefix: usize,
-    metric: u32,
-) -> bool
-    requires fits { FitsPlan plan.now (T.state table.now) }
-    requires prefix { prefix < length (T.state table.now).prefixes }
+fn is_direct(plan: &Plan, router: usize, prefix: usize, metric: u32) -> bool
     ensures { Decides result (IsDirect plan.now router prefix metric) }
 {
-    match direct_cost(plan, table, router, prefix) {
+    match plan.direct_cost(router, prefix) {
         Some(cost) => u32::from(cost) == metric,
         None => false,
     }
@@ -87,8 +78,64 @@ fn is_given<T: MetricTable>(
 {
     match way {
         Way::Unreachable => true,
-        Way::Here => is_direct(plan, table, router, prefix, metric),
+        Way::Here => is_direct(plan, router, prefix, metric),
         Way::Over(link) => is_offered(plan, table, links, router, prefix, metric, link),
+    }
+}
+
+/// What the equation of a place gives where the route that was read there fails, or 0 where it
+/// holds.
+pub(crate) fn unmet<T: MetricTable>(
+    plan: &Plan,
+    table: &T,
+    links: &[TwoLeast],
+    router: usize,
+    prefix: usize,
+    route: Reading,
+) -> u32
+    requires fits { FitsPlan plan.now (T.state table.now) }
+    requires router { router < length plan.now.routers }
+    requires prefix { prefix < length (T.state table.now).prefixes }
+    requires links { AreTwoLeast plan.now (showing_of (T.state table.now)) prefix links.now }
+    requires route { Fits plan.now (showing_of (T.state table.now)) router prefix (route_of route) }
+    ensures most { result ≤ 16 }
+    ensures holds { result ≡ 0 → Holds plan.now (showing_of (T.state table.now)) router prefix
+        (route_of route) }
+    ensures fails { 1 ≤ result → Holds plan.now (showing_of (T.state table.now)) router prefix
+        (route_of route) → ⊥ }
+    ensures equation { 1 ≤ result →
+        IsEquation plan.now (showing_of (T.state table.now)) router prefix result }
+{
+    plan.lawful();
+    let equation = least_choice(plan, table, links, router, prefix);
+    if route.metric == equation
+        && is_given(plan, table, links, router, prefix, route.metric, route.way)
+    {
+        return 0;
+    }
+    equation
+}
+
+/// A place with its values.
+pub(crate) fn place_of(router: usize, prefix: usize, route: Reading, equation: u32) -> Place2
+    requires metric { (1 ≤ route.metric) × (route.metric ≤ 16) }
+    requires equation { (1 ≤ equation) × (equation ≤ 16) }
+    ensures { result ≡ record {
+      router = router;
+      prefix = prefix;
+      metric = route.metric;
+      equation = equation;
+      way = route.way;
+      hidden = route.hidden;
+    } }
+{
+    Place2 {
+        router,
+        prefix,
+        metric: metric_of(route.metric),
+        equation: metric_of(equation),
+        way: route.way,
+        hidden: route.hidden,
     }
 }
 
@@ -96,61 +143,27 @@ fn is_given<T: MetricTable>(
 pub(crate) fn failing<T: MetricTable>(
     plan: &Plan,
     table: &T,
-    links: &[TwoLeast],
     router: usize,
     prefix: usize,
 ) -> Option<Place2>
     requires fits { FitsPlan plan.now (T.state table.now) }
     requires router { router < length plan.now.routers }
     requires prefix { prefix < length (T.state table.now).prefixes }
-    requires links { AreTwoLeast plan.now (showing_of (T.state table.now)) prefix links.now }
-    ensures some { IfSome result (λ f. (f.router ≡ router) × (f.prefix ≡ prefix) × IsFailing plan.now (showing_of (T.state table.now)) f) }
+    ensures some { IfSome result (λ f. (f.router ≡ router) × (f.prefix ≡ prefix)
+        × IsFailing plan.now (showing_of (T.state table.now)) f) }
     ensures none { IfNone result (IsSound plan.now (showing_of (T.state table.now)) router prefix) }
 {
     plan.lawful();
     in_range(plan, table);
-    match read(plan, table, links, router, prefix) {
-        Err(_) => None,
-        Ok(route) => {
-            let equation = least_choice(plan, table, links, router, prefix);
-            if route.metric == equation
-                && is_given(plan, table, links, router, prefix, route.metric, route.way)
-            {
+    match read(plan, table, &[], router, prefix) {
+        None => None,
+        Some(route) => {
+            let equation = unmet(plan, table, &[], router, prefix, route);
+            if equation == 0 {
                 return None;
             }
-            Some(Place2 {
-                router,
-                prefix,
-                metric: metric_of(route.metric),
-                equation: metric_of(equation),
-                way: route.way,
-                hidden: route.hidden,
-            })
+            Some(place_of(router, prefix, route, equation))
         }
-    }
-}
-
-/// Why no route can be read at a place. A leaf always has one.
-pub(crate) fn unclear_at<T: MetricTable>(
-    plan: &Plan,
-    table: &T,
-    router: usize,
-    prefix: usize,
-) -> Option<Unclear>
-    requires fits { FitsPlan plan.now (T.state table.now) }
-    requires router { router < length plan.now.routers }
-    requires prefix { prefix < length (T.state table.now).prefixes }
-    ensures some { IfSome result (λ u. (IsReadable plan.now (showing_of (T.state table.now)) router prefix → ⊥) × IsReason plan.now (showing_of (T.state table.now)) router prefix u) }
-    ensures none { IfNone result (IsReadable plan.now (showing_of (T.state table.now)) router prefix) }
-{
-    plan.lawful();
-    in_range(plan, table);
-    if plan.leaf(router) {
-        return None;
-    }
-    match read(plan, table, &[], router, prefix) {
-        Ok(_) => None,
-        Err(unclear) => Some(unclear),
     }
 }
 
@@ -174,8 +187,8 @@ pub fn route<T: MetricTable>(
     plan.lawful();
     in_range(plan, table);
     match read(plan, table, &[], router, prefix) {
-        Err(unclear) => Err(unclear),
-        Ok(route) => Ok(Route {
+        None => Err(reason(plan, table, router, prefix)),
+        Some(route) => Ok(Route {
             metric: metric_of(route.metric),
             way: route.way,
             hidden: route.hidden,

@@ -3,7 +3,9 @@
 ghost use Rattle.std.specs.Prelude.{◌≡◌, ◌≤◌, ◌<◌, length};
 ghost use Rattle.rip_table.specs.State.{Fits};
 
-use crate::{Place2, Route, Unclear, Verdict, Way, equation, judge, next_unsettled, route};
+use crate::{
+    Place2, Route, Unclear, Unsettled, Verdict, Way, equation, judge, next_unsettled, route,
+};
 use rip_plan::Plan;
 use rip_table::{GridTable, ListTable, MetricTable, TableError};
 use rip_wire::{Address, Entry, Metric, Prefix, read, write_response};
@@ -191,6 +193,24 @@ pub(super) fn expect_on<T: MetricTable>(rt: &impl Abort, plan: &Plan, table: &T,
     }
 }
 
+/// Expects from `Unsettled` the places of `next_unsettled`, from the start and after each place.
+fn expect_same_places<T: MetricTable>(rt: &impl Abort, alloc: Global, plan: &Plan, table: &T)
+    requires { Fits plan.now (T.state table.now) }
+{
+    let Ok(unsettled) = Unsettled::find(alloc, plan, table) else {
+        panic!(rt; "no memory");
+    };
+    let first = unsettled.next(plan, table, None);
+    assert_eq!(rt; first, next_unsettled(plan, table, None));
+    for router in 0..plan.routers() {
+        for prefix in 0..table.prefix_count() {
+            let after = Some((router, prefix));
+            let next = unsettled.next(plan, table, after);
+            assert_eq!(rt; next, next_unsettled(plan, table, after));
+        }
+    }
+}
+
 /// Expects a verdict on what these logs say.
 pub(super) fn expect(
     rt: &impl Abort,
@@ -202,9 +222,11 @@ pub(super) fn expect(
     let mut list = list_in(rt, alloc, plan);
     hear_all(rt, plan, &mut list, logs);
     expect_on(rt, plan, &list, &verdict);
+    expect_same_places(rt, alloc, plan, &list);
     let mut grid = grid_in(rt, alloc, plan);
     hear_all(rt, plan, &mut grid, logs);
     expect_on(rt, plan, &grid, &verdict);
+    expect_same_places(rt, alloc, plan, &grid);
 }
 
 /// A place that fails: its router and prefix, its metric and the least choice, and its way.

@@ -1,22 +1,45 @@
-use Rattle.std.proofs.Common.{length}
+use Rattle.std.proofs.Common.{◌≡◌, ◌<◌, length, arith}
+use Rattle.rip_check.specs.Captured.{showing_of}
+use Rattle.rip_check.specs.Firsts.{IsFirstUnclear}
 use Rattle.rip_check.proofs.Readable.{tables_shown}
 use Rattle.rip_check.proofs.Single.{trouble_from, sound_is_right}
-use Rattle.rip_check.specs.Captured.{showing_of}
 use Rattle.rip_check.proofs.audit.decide.Goals as goal
 
-pub returns-in-Some-first_unclear : goal.returns-in-Some-first_unclear
-returns-in-Some-first_unclear g c =
-    trouble_from c.args.plan.now (length (g.T.MetricTable.state c.args.table.now).prefixes) (showing_of (g.T.MetricTable.state c.args.table.now)) c.in-Some-first_unclear.unclear
-    c.in_default.ensures.none c.in-Some-first_unclear.ensures.some
+pub returns-then-first-routers : goal.returns-then-first-routers
+returns-then-first-routers g c =
+    let n = c.args.plan.now in
+    let count = length (g.T.MetricTable.state c.args.table.now).prefixes in
+    let shown = showing_of (g.T.MetricTable.state c.args.table.now) in
+    let first = c.first_places-first.result in
+    let is : IsFirstUnclear n count shown c.reason-unclear.result = record {
+      router = first.unclear;
+      prefix = first.unclear_prefix;
+      first = c.first_places-first.ensures.unclear.first (omega (arith, c.if-first-routers.true, c.routers.ensures));
+      reason = c.reason-unclear.ensures;
+    } in
+    trouble_from n count shown c.reason-unclear.result c.in_default.ensures.none is
 
-pub returns-in-Some-first_unsettled : goal.returns-in-Some-first_unsettled
-returns-in-Some-first_unsettled g c = (
-  tables_shown c.args.plan.now c.lawful.ensures (showing_of (g.T.MetricTable.state c.args.table.now)) c.in_range.ensures (length (g.T.MetricTable.state c.args.table.now).prefixes)
-      c.in_default.ensures.none c.in_default-first_unclear.ensures.none,
-  c.in-Some-first_unsettled.ensures.some,
-)
+pub returns-then-first-routers-2 : goal.returns-then-first-routers-2
+returns-then-first-routers-2 g c =
+    let n = c.args.plan.now in
+    let count = length (g.T.MetricTable.state c.args.table.now).prefixes in
+    let shown = showing_of (g.T.MetricTable.state c.args.table.now) in
+    let first = c.first_places-first.result in
+    let is = c.first_places-first.ensures in
+    let clear : first.unclear ≡ length n.routers = omega (arith, c.if-first-routers.false, c.routers.ensures, is.unclear.most) in
+    let known : first.failing < length n.routers = omega (arith, c.if-first-routers-2.true, c.routers-2.ensures) in
+    let place = rw c.unwrap.ensures at c.failing-place.ensures.some in (
+      tables_shown n c.lawful.ensures shown c.in_range.ensures count c.in_default.ensures.none (is.unclear.fine clear),
+      record { first = rw place.0 (rw place.1 ((is.failing clear).first known)); values = place.2 },
+    )
 
-pub returns-in-None : goal.returns-in-None
-returns-in-None g c =
-    sound_is_right c.args.plan.now (length (g.T.MetricTable.state c.args.table.now).prefixes) (showing_of (g.T.MetricTable.state c.args.table.now)) c.lawful.ensures c.in_range.ensures
-    c.in_default.ensures.none c.in_default-first_unclear.ensures.none c.in-None.ensures.none
+pub returns : goal.returns
+returns g c =
+    let n = c.args.plan.now in
+    let count = length (g.T.MetricTable.state c.args.table.now).prefixes in
+    let shown = showing_of (g.T.MetricTable.state c.args.table.now) in
+    let first = c.first_places-first.result in
+    let is = c.first_places-first.ensures in
+    let clear : first.unclear ≡ length n.routers = omega (arith, c.if-first-routers.false, c.routers.ensures, is.unclear.most) in
+    let sound : first.failing ≡ length n.routers = omega (arith, c.if-first-routers-2.false, c.routers-2.ensures, (is.failing clear).most) in
+    sound_is_right n count shown c.lawful.ensures c.in_range.ensures c.in_default.ensures.none (is.unclear.fine clear) ((is.failing clear).fine sound)

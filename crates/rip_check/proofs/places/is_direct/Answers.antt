@@ -4,7 +4,7 @@ use Rattle.rip_plan.specs.Relations.{IsDirect}
 use Rattle.rip_check.proofs.places.is_direct.Goals as goal
 
 pub returns-in-Some : goal.returns-in-Some
-returns-in-Some g c =
+returns-in-Some c =
     let m = c.args.metric in (
       λ t.
           let e : c.in-Some.cost ≡ m = sym c.from.ensures ∙ eqb-true c.from.result m t in
@@ -17,4 +17,4 @@ returns-in-Some g c =
     )
 
 pub returns-in-None : goal.returns-in-None
-returns-in-None g c = (λ t. cc t, λ d. cc ((c.in-None.ensures c.args.metric).1 d))
+returns-in-None c = (λ t. cc t, λ d. cc ((c.in-None.ensures c.args.metric).1 d))

@@ -1,32 +1,52 @@
-use Rattle.std.proofs.Common.{inr}
+use Rattle.std.proofs.Common.{inr, Option, None, Some, IfNone, IfSome, IsTrue, Decides, ◌≡◌, ◌⊎◌, ◌<◌, ℕ, false, length}
 use Rattle.std.proofs.lemmas.Bool.{not_from_false}
-use Rattle.rip_check.specs.Captured.{showing_of}
-use Rattle.rip_check.specs.Tables.{Route}
+use Rattle.rip_plan.specs.Network.{Network}
+use Rattle.rip_plan.specs.Relations.{IsLawful, HasTwoInterfaces}
+use Rattle.rip_check.specs.declared.routes.Reading.{Reading}
+use Rattle.rip_check.specs.Captured.{IsInRange, showing_of}
+use Rattle.rip_check.specs.Firsts.{IsReadable}
+use Rattle.rip_check.specs.Tables.{Fits, Route, Showing}
+use Rattle.rip_check.specs.Telling.{Tells}
+use Rattle.rip_check.specs.Verdicts.{IsHidden, route_of}
 use Rattle.rip_check.proofs.Reading.{one_route}
 use Rattle.rip_check.proofs.Readable.{two_fits, two_not_leaf, not_readable}
 use Rattle.rip_check.proofs.routes.read.Goals as goal
 
-pub returns-in-Some : goal.returns-in-Some
-returns-in-Some g c =
-    let n = c.args.plan.now in
-    let shown = showing_of (g.T.MetricTable.state c.args.table.now) in
-    let plan = c.lawful.ensures in
-    let range = c.in_range.ensures in
-    let two = c.leaf.ensures.more.0 (not_from_false _ c.if-leaf.false) in
-    let route = c.in-Some.route in
-    let t : Route = record { metric = route.metric; way = route.way } in
-    let fits = two_fits n plan shown range c.args.router c.args.prefix t two c.in-Some.ensures.some in
-    record {
-      most = c.in-Some.ensures.most;
-      fits = fits;
-      hidden = (λ h. cc (h, c.in-Some.ensures.shown), λ h. absurd (two_not_leaf n c.args.router h.0 h.1 h.2 two h.3));
-      one = inr (λ u tells. one_route n plan shown c.args.router c.args.prefix u t c.requires.router (two_fits n plan shown range c.args.router c.args.prefix u two tells) fits);
-      unclear = tt;
-    }
+module _ (n : Network) (plan : IsLawful n) (shown : Showing) (range : IsInRange n shown) (r p : ℕ) (two : HasTwoInterfaces n r) where
+  fitting : (o : Option Reading) → IfSome o (λ t. Tells n shown r p (route_of t)) → IfSome o (λ t. Fits n shown r p (route_of t))
+  fitting None h = tt
+  fitting (Some t) h = two_fits n plan shown range r p (route_of t) two h
 
-pub returns-in-None-clause-unclear : goal.returns-in-None-clause-unclear
-returns-in-None-clause-unclear g c = (
-  not_readable c.args.plan.now c.lawful.ensures (showing_of (g.T.MetricTable.state c.args.table.now)) c.in_range.ensures c.args.router c.args.prefix
-      (c.leaf.ensures.more.0 (not_from_false _ c.if-leaf.false)) c.in-None.ensures.none,
-  c.reason.ensures,
-)
+  not_hidden : (o : Option Reading) → IfSome o (λ t. t.hidden ≡ false) → IfSome o (λ t. Decides t.hidden (IsHidden n shown r p))
+  not_hidden None h = tt
+  not_hidden (Some t) h = (λ e. cc (e, h), λ is. absurd (two_not_leaf n r is.0 is.1 is.2 two is.3))
+
+  only : r < length n.routers → (o : Option Reading) → IfSome o (λ t. Tells n shown r p (route_of t)) →
+      IfSome o (λ t. IsTrue t.hidden ⊎ ((u : Route) → Tells n shown r p u → u ≡ route_of t))
+  only known None h = tt
+  only known (Some t) h =
+      inr (λ u tells. one_route n plan shown r p u (route_of t) known (two_fits n plan shown range r p u two tells) (two_fits n plan shown range r p (route_of t) two h))
+
+  unreadable : (o : Option Reading) → IfNone o ((t : Route) → Tells n shown r p t → ⊥) → IfNone o (IsReadable n shown r p → ⊥)
+  unreadable None h = not_readable n plan shown range r p two h
+  unreadable (Some t) h = tt
+
+pub returns-clause-fits : goal.returns-clause-fits
+returns-clause-fits g c =
+    fitting c.args.plan.now c.lawful.ensures (showing_of (g.T.MetricTable.state c.args.table.now)) c.in_range.ensures c.args.router c.args.prefix
+    (c.leaf.ensures.more.0 (not_from_false _ c.if-leaf.false)) c.read_route.result c.read_route.ensures.some
+
+pub returns-clause-hidden : goal.returns-clause-hidden
+returns-clause-hidden g c =
+    not_hidden c.args.plan.now c.lawful.ensures (showing_of (g.T.MetricTable.state c.args.table.now)) c.in_range.ensures c.args.router c.args.prefix
+    (c.leaf.ensures.more.0 (not_from_false _ c.if-leaf.false)) c.read_route.result c.read_route.ensures.shown
+
+pub returns-clause-one : goal.returns-clause-one
+returns-clause-one g c =
+    only c.args.plan.now c.lawful.ensures (showing_of (g.T.MetricTable.state c.args.table.now)) c.in_range.ensures c.args.router c.args.prefix
+    (c.leaf.ensures.more.0 (not_from_false _ c.if-leaf.false)) c.requires.router c.read_route.result c.read_route.ensures.some
+
+pub returns-clause-none : goal.returns-clause-none
+returns-clause-none g c =
+    unreadable c.args.plan.now c.lawful.ensures (showing_of (g.T.MetricTable.state c.args.table.now)) c.in_range.ensures c.args.router c.args.prefix
+    (c.leaf.ensures.more.0 (not_from_false _ c.if-leaf.false)) c.read_route.result c.read_route.ensures.none

@@ -1,0 +1,62 @@
+use Rattle.std.proofs.Common.{ℕ, ◌<◌, below_more, length, arith}
+use Rattle.rip_check.specs.Captured.{showing_of}
+use Rattle.rip_check.specs.Verdicts.{IsSound, route_of}
+use Rattle.rip_check.proofs.Readable.{fits_readable, one_sound, one_fails}
+use Rattle.rip_check.proofs.Picking.{none_so_far, so_far_on, so_far_first, all_so_far}
+use Rattle.rip_check.proofs.audit.narrow.Goals as goal
+use Rattle.rip_check.proofs.audit.narrow.Goals.{then-router-failing+then-unmet-ne0, else-router-failing, else-router-failing-via-then-router-failing+else-unmet-ne0, else-router-failing-via-else-router-failing}
+
+pub loop-router-init : goal.loop-router-init
+loop-router-init g c = record {
+  unclear = λ s lt. absurd (omega (arith, lt));
+  failing = none_so_far c.args.bounds.failing (λ s. IsSound c.args.plan.now (showing_of (g.T.MetricTable.state c.args.table.now)) s c.args.prefix);
+}
+
+pub returns-in-None-clause-unclear : goal.returns-in-None-clause-unclear
+returns-in-None-clause-unclear g c = record {
+  most = omega (arith, c.loop-router-test.true);
+  before = c.loop-router.invariant.unclear;
+  fails = λ less. c.in-None.ensures.none;
+}
+
+pub loop-router-preserved : goal.loop-router-preserved
+loop-router-preserved g c =
+    let n = c.args.plan.now in
+    let plan = c.lawful.ensures in
+    let shown = showing_of (g.T.MetricTable.state c.args.table.now) in
+    let range = c.in_range.ensures in
+    let r = c.loop-router.router in
+    let p = c.args.prefix in
+    let Fine : ℕ → Type 0 = λ s. IsSound n shown s p in
+    let known : r < length n.routers = omega (arith, c.loop-router-test.true, c.requires.known) in
+    let t = route_of c.in-Some.route in
+    let fits = c.in-Some.ensures.fits in
+    let was = c.loop-router.invariant.failing in
+    record {
+      unclear = below_more _ _ c.loop-router.invariant.unclear (fits_readable n plan shown range r p t known fits);
+      failing = elim c.if-router-failing.branch [
+        | then-router-failing+then-unmet-ne0 w ↦ rw w.failing-is (so_far_first c.args.bounds.failing Fine r c.loop-router.failing was w.if-router-failing.true
+            (one_fails n plan shown range r p t fits (w.unmet.ensures.fails (omega (arith, w.if-unmet-ne0.true)))))
+        | else-router-failing w ↦ rw w.failing-is (elim w.else-router-failing.branch [
+          | else-router-failing-via-then-router-failing+else-unmet-ne0 w' ↦ so_far_on c.args.bounds.failing Fine r c.loop-router.failing was
+              (λ less. one_sound n plan shown range r p t known fits (w'.unmet.ensures.holds w'.if-unmet-ne0.false))
+          | else-router-failing-via-else-router-failing w' ↦ so_far_on c.args.bounds.failing Fine r c.loop-router.failing was
+              (λ less. absurd (omega (arith, less, w'.if-router-failing.false)))
+        ])
+      ];
+    }
+
+pub returns-clause-order : goal.returns-clause-order
+returns-clause-order g c = omega (arith, c.loop-router.invariant.failing.most, c.requires.order)
+
+pub returns-clause-unclear : goal.returns-clause-unclear
+returns-clause-unclear g c = record {
+  most = omega arith;
+  before = λ s less. c.loop-router.invariant.unclear s (omega (arith, less, c.loop-router-test.false));
+  fails = λ less. absurd (omega (arith, less));
+}
+
+pub returns-clause-failing : goal.returns-clause-failing
+returns-clause-failing g c = λ e.
+    all_so_far c.args.bounds.failing (λ s. IsSound c.args.plan.now (showing_of (g.T.MetricTable.state c.args.table.now)) s c.args.prefix) c.loop-router.router c.loop-router.failing
+    (omega (arith, c.requires.order, c.loop-router-test.false)) c.loop-router.invariant.failing

@@ -1,0 +1,32 @@
+use Rattle.std.proofs.Common.{◌+◌, ◌*◌, ◌<◌, ◌∙◌, refl, length, arith}
+use Rattle.std.proofs.lemmas.Nat.{mul-add-lt}
+use Rattle.std.proofs.lemmas.Grind.{common_steps}
+use Rattle.rip_check.specs.Captured.{showing_of}
+use Rattle.rip_check.specs.Marks.{IsMark}
+use Rattle.rip_check.proofs.Marking.{one_more_mark, other_mark}
+use Rattle.rip_check.proofs.unsettled.mark_prefix.Goals as goal
+
+pub loop-router-init : goal.loop-router-init
+loop-router-init g c = record { marked = λ r lt. absurd (omega (arith, lt)); others = λ r q lt other. refl; size = refl }
+
+pub loop-router-preserved : goal.loop-router-preserved
+loop-router-preserved g c =
+    let n = c.args.plan.now in
+    let shown = showing_of (g.T.MetricTable.state c.args.table.now) in
+    let count = length (g.T.MetricTable.state c.args.table.now).prefixes in
+    let i = c.loop-router.router in
+    let p = c.args.prefix in
+    let is = c.loop-router.invariant in
+    let inside = mul-add-lt i count p (length n.routers) (omega (arith, c.loop-router-test.true, c.routers-router-end.ensures)) c.requires.prefix in
+    let at : i * count + p < length c.loop-router.marks = omega (arith, inside, is.size, c.requires.size) in
+    rw c.prefix_count-count.ensures (record {
+      marked = one_more_mark c.loop-router.marks count p c.requires.prefix (λ r v. IsMark n shown r p v) i c.mark_of.result at is.marked c.mark_of.ensures;
+      others = λ r q lt other. other_mark c.loop-router.marks count p i c.mark_of.result r q c.requires.prefix lt other ∙ is.others r q lt other;
+      size = grind (arith, common_steps, is.size);
+    })
+
+pub returns-clause-marked : goal.returns-clause-marked
+returns-clause-marked g c = λ r lt. c.loop-router.invariant.marked r (omega (arith, lt, c.loop-router-test.false, c.routers-router-end.ensures))
+
+pub returns-clause-others : goal.returns-clause-others
+returns-clause-others g c = c.loop-router.invariant.others
