@@ -1,9 +1,9 @@
 -- The first bytes of a word in hexadecimal digits.
-use Rattle.std.proofs.Common.{◌≡◌, ℕ, zero, suc, ◌+◌, ◌*◌, ◌/◌, ◌%◌, ◌<◌, ◌≤◌, min, List, [], ◌∷◌, Result, Ok, Err, length, take, refl, sym, ap, ◌∙◌, arith, MatchResult, ◌⊎◌, inl, inr}
+use Rattle.std.proofs.Common.{◌≡◌, ℕ, zero, suc, ◌+◌, ◌*◌, ◌/◌, ◌%◌, ◌<◌, ◌≤◌, min, List, [], ◌∷◌, Result, Ok, Err, length, take, refl, sym, ap, ◌∙◌, arith, ◌⊎◌, inl, inr}
 use Rattle.std.proofs.lemmas.List.{length-take, take_all}
-use Rattle.hex.specs.Hex.{decode_of, decode_sized, decode_pairs, pair_value}
+use Rattle.hex.specs.Hex.{decode_of, decode_pairs, pair_value}
 use Rattle.hex.specs.declared.error.FromHexError.{FromHexError}
-use Rattle.hex.proofs.HexLemmas.{decode_of-ok, decode_of-even, decode_sized-twice}
+use Rattle.hex.proofs.HexLemmas.{decode_of-ok, decode_of-even}
 
 infixl 10 ◌>>=◌
 abbrev ◌>>=◌ : {A B : Type 0} → Result A FromHexError → (A → Result B FromHexError) → Result B FromHexError
@@ -39,8 +39,8 @@ decode_pairs-take (suc n) i (x ∷ y ∷ s) b h =
 
 -- the bytes that are looked at, of a word that spells b
 pub record IsFront (s b : List ℕ) (n : ℕ) : Type 0 where
-  pub sized : decode_sized (take (2 * n) s) n ≡ Ok (take 505 b)
-  pub count : length (take 505 b) ≡ n
+  pub digits : length (take (2 * n) s) / 2 ≡ n
+  pub spells : decode_of (take (2 * n) s) ≡ Ok (take 505 b)
 
 pub front : (s b : List ℕ) → decode_of s ≡ Ok b → IsFront s b (min (length s / 2) 505)
 front s b h =
@@ -54,8 +54,8 @@ front s b h =
     let even_front : length (take (2 * min (length s / 2) 505) s) % 2 ≡ 0 = omega arith in
     let same : take (min (length s / 2) 505) b ≡ take 505 b = take-min b (min (length s / 2) 505) (omega arith) in
     record {
-      sized = decode_sized-twice (take (2 * n) s) n long ∙ decode_of-even (take (2 * n) s) even_front ∙ some ∙ ap Ok same;
-      count = omega (arith, length-take 505 b);
+      digits = omega (arith, long);
+      spells = decode_of-even (take (2 * n) s) even_front ∙ some ∙ ap Ok same;
     }
   where
     take-min : (b : List ℕ) (n : ℕ) → n ≡ min (length b) 505 → take n b ≡ take 505 b
@@ -68,9 +68,6 @@ front s b h =
         by_size (inl le) = take_all n b (omega arith) ∙ sym (take_all 505 b le)
         by_size (inr lt) = let all : n ≡ 505 = omega arith in ap (λ (k : ℕ). take k b) all
 
--- what decoding the first digits answers
-pub decoded : (r : Result (Unit {0}) FromHexError) (out s b : List ℕ) (n m : ℕ) → IsFront s b n → m ≡ n
-    → MatchResult (decode_sized (take (2 * n) s) m) (λ bytes. (r ≡ Ok tt) × (out ≡ bytes)) (λ e. r ≡ Err e) → (r ≡ Ok tt) × (out ≡ take 505 b)
-decoded r out s b n m f same h =
-    let sized : decode_sized (take (2 * n) s) m ≡ Ok (take 505 b) = ap (decode_sized (take (2 * n) s)) same ∙ f.sized in
-    rw sized at h
+-- two spellings of the first digits are equal
+pub front-is : (s b room : List ℕ) (n : ℕ) → IsFront s b n → decode_of (take (2 * n) s) ≡ Ok (take (length (take (2 * n) s) / 2) room) → take n room ≡ take 505 b
+front-is s b room n f h = ap (λ (k : ℕ). take k room) (sym f.digits) ∙ same_Ok _ _ (sym h ∙ f.spells)

@@ -5,3 +5,4 @@ pub mod FailureLemmas
 pub mod VerdictLemmas
 pub mod FinishLemmas
 pub mod DecodeLemmas
+pub mod TextLemmas

@@ -23,6 +23,7 @@ use Rattle.rip_check.specs.declared.verdict.Verdict.TheVariants as verdicts
 use Rattle.ripaudit.specs.AuditText.{IsAudited, IsJudged, IsTable, IsTold, IsTroubleOf, IsVerdictOn, UnsettledLines, VerdictText, a_settled, an_unclear, an_unsettled, settled_line, unclear_line, verdict_status}
 use Rattle.ripaudit.specs.Finished.{finished}
 use Rattle.ripaudit.specs.Sent.{Sent, Began}
+use Rattle.ripaudit.proofs.SentLemmas.{Sent-whole}
 use Rattle.ripaudit.specs.declared.status.Status.{Status}
 use Rattle.ripaudit.specs.declared.status.Status.TheVariants.{Refused, Settled, Unsettled, Unclear as IsUnclear}
 use Rattle.ripaudit.specs.declared.status.RunError.{RunError}
@@ -84,6 +85,12 @@ judged n s v j = record {
 pub ended_judged : (n : Network) (s : State) (status : Status) (r : Result (Unit {0}) Failed) (outcome : Result Status RunError) → outcome ≡ finished r status → IsJudged n s status → IfOk outcome (λ status. IsJudged n s status)
 ended_judged n s status (Ok done) outcome is h = rw is h
 ended_judged n s status (Err e) outcome is h = rw is tt
+
+-- a verdict that was written is told with its status
+pub written_told : (n : Network) (s : State) (all : Bool) (a b : Option (List ℕ)) (v : Verdict) (status : Status) (r : Result (Unit {0}) Failed) (outcome : Result Status RunError) → status ≡ verdict_status v
+    → outcome ≡ finished r status → OnOk r ((text : List ℕ) × VerdictText n s all (record { text = text; status = verdict_status v }) × Sent a b text []) → IfOk outcome (IsTold n s all a b)
+written_told n s all a b v status (Ok done) outcome same is sent = rw (is, same) (sent.0, sent.1, Sent-whole a b sent.0 sent.2)
+written_told n s all a b v status (Err e) outcome same is sent = rw is tt
 
 -- what each verdict writes
 pub settled_told : (n : Network) (s : State) (all : Bool) (v : Verdict) → v ≡ verdicts.Settled → IsVerdictOn n s v → VerdictText n s all (record { text = settled_line n s; status = verdict_status v })

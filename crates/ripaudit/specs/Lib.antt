@@ -9,3 +9,4 @@ pub mod TableText
 pub mod Held
 pub mod Finished
 pub mod AuditText
+pub mod Texts

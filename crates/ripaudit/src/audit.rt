@@ -2,13 +2,14 @@
 
 mod lines;
 
-ghost use Rattle.std.specs.Prelude.{◌≡◌, ◌≢◌, ◌↔◌, ◌++◌, ℕ, List, [], Err, IfOk, None, Ok, OnErr, OnOk, Option, Some, false, is_err, length, true};
+ghost use Rattle.std.specs.Prelude.{◌≡◌, ◌≢◌, ◌↔◌, ◌++◌, ℕ, List, [], Err, IfOk, IfSome, None, Ok, OnErr, OnOk, Option, Some, false, is_err, is_some, length, true};
 ghost use Rattle.std.specs.Io.KnownBytes.{Appends, Keeps};
 ghost use Rattle.rip_plan.specs.Answers.{first_fault};
 ghost use Rattle.rip_plan.specs.Network.{Network};
 ghost use Rattle.rip_plan.specs.declared.error.PlanError.{PlanError};
 ghost use Rattle.rip_table.specs.State.{Fits, State, new_state};
 ghost use Rattle.rip_check.specs.Audits.{IsNextUnsettled, PacketsArrive, ShowsRightTables, ShowsTables};
+ghost use Rattle.rip_check.specs.Marks.{AreUnsettled};
 ghost use Rattle.ripaudit.specs.AuditText.{AuditOf, AuditText, FailureLines, IsAudited, IsJudged, IsPlaceOf, IsTable, IsTold, IsVerdictOn, UnsettledLines, VerdictText, unsettled_line, verdict_status};
 ghost use Rattle.ripaudit.specs.Held.{held};
 ghost use Rattle.ripaudit.specs.Sent.{Began, Sent};
@@ -20,12 +21,12 @@ use crate::reading::read_log;
 use crate::refusal::refusal_text;
 use crate::status::{RunError, Status};
 use lines::{settled_text, unclear_text, unsettled_text};
-use rip_check::{Place2, Verdict, judge, next_unsettled};
+use rip_check::{Place2, Unsettled, Verdict, judge};
 use rip_log::{Failed, Sink, Source};
 use rip_plan::Plan;
 use rip_plan::laws::one_plan;
 use rip_table::{GridTable, MetricTable};
-use std::alloc::Global;
+use std::alloc::{AllocError, Global};
 use std::hash::BuildHasher;
 
 /// Adds the line of a place to a page, unless a write before has failed.
@@ -54,9 +55,11 @@ fn write_failures<T: MetricTable, K: Sink>(
     page: &mut Page,
     plan: &Plan,
     table: &T,
+    places: &Unsettled,
     out: &mut K,
 ) -> Result<(), Failed>
-    requires { Fits plan.now (T.state table.now) }
+    requires fits { Fits plan.now (T.state table.now) }
+    requires places { AreUnsettled plan.now (T.state table.now) places.now }
     ensures ok { OnOk result ((text : List ℕ) × FailureLines plan.now (T.state table.now) None text × Sent (K.taken out.old) (K.taken out.new) (held page.old ++ text) (held page.new)) }
     ensures err { OnErr result ((text : List ℕ) × FailureLines plan.now (T.state table.now) None text × Began (K.taken out.old) (K.taken out.new) (held page.old ++ text)) }
     ensures failed { is_err result ≡ true → K.broken out.new ≡ true }
@@ -65,7 +68,7 @@ fn write_failures<T: MetricTable, K: Sink>(
     plan.lawful();
     let mut wrote = Ok(());
     let mut after = None;
-    'places: while let Some(place) = next_unsettled(plan, table, after) {
+    'places: while let Some(place) = places.next(plan, table, after) {
         wrote = write_failure(wrote, page, plan, table, &place, out);
         after = Some((place.router, place.prefix));
     }
@@ -73,15 +76,21 @@ fn write_failures<T: MetricTable, K: Sink>(
 }
 
 /// Writes the lines of all places that do not hold, to the last byte.
-fn write_each<T: MetricTable, K: Sink>(plan: &Plan, table: &T, out: &mut K) -> Result<(), Failed>
-    requires { Fits plan.now (T.state table.now) }
+fn write_each<T: MetricTable, K: Sink>(
+    plan: &Plan,
+    table: &T,
+    places: &Unsettled,
+    out: &mut K,
+) -> Result<(), Failed>
+    requires fits { Fits plan.now (T.state table.now) }
+    requires places { AreUnsettled plan.now (T.state table.now) places.now }
     ensures ok { OnOk result ((text : List ℕ) × FailureLines plan.now (T.state table.now) None text × Sent (K.taken out.old) (K.taken out.new) text []) }
     ensures err { OnErr result ((text : List ℕ) × FailureLines plan.now (T.state table.now) None text × Began (K.taken out.old) (K.taken out.new) text) }
     ensures failed { is_err result ≡ true → K.broken out.new ≡ true }
     ensures marks { is_err result ≡ false → K.broken out.new ≡ K.broken out.old }
 {
     let mut page = Page::new();
-    write_failures(&mut page, plan, table, out)?;
+    write_failures(&mut page, plan, table, places, out)?;
     page.flush(out)
 }
 
@@ -102,25 +111,28 @@ fn write_first<T: MetricTable, K: Sink>(
     write_all(out, unsettled_text(plan, table, place).as_bytes())
 }
 
-/// Writes the lines of an unsettled network: that of its first place that does not hold, or of all.
+/// Writes the lines of an unsettled network: those of all places that do not hold, where they were
+/// found, or that of the first.
 fn write_unsettled<T: MetricTable, K: Sink>(
     plan: &Plan,
     table: &T,
     all: bool,
+    places: &Option<Unsettled>,
     place: &Place2,
     out: &mut K,
 ) -> Result<(), Failed>
     requires fits { Fits plan.now (T.state table.now) }
+    requires places { IfSome places.now (AreUnsettled plan.now (T.state table.now)) }
+    requires all { is_some places.now ≡ all }
     requires first { IsNextUnsettled plan.now (T.state table.now) None place.now }
     ensures ok { OnOk result ((text : List ℕ) × UnsettledLines plan.now (T.state table.now) all place.now text × Sent (K.taken out.old) (K.taken out.new) text []) }
     ensures err { OnErr result ((text : List ℕ) × UnsettledLines plan.now (T.state table.now) all place.now text × Began (K.taken out.old) (K.taken out.new) text) }
     ensures failed { is_err result ≡ true → K.broken out.new ≡ true }
     ensures marks { is_err result ≡ false → K.broken out.new ≡ K.broken out.old }
 {
-    if all {
-        write_each(plan, table, out)
-    } else {
-        write_first(plan, table, place, out)
+    match places {
+        Some(places) => write_each(plan, table, places, out),
+        None => write_first(plan, table, place, out),
     }
 }
 
@@ -140,10 +152,14 @@ fn write_verdict<T: MetricTable, K: Sink>(
     plan: &Plan,
     table: &T,
     all: bool,
+    places: &Option<Unsettled>,
     verdict: &Verdict,
     out: &mut K,
 ) -> Result<(), Failed>
     requires fits { Fits plan.now (T.state table.now) }
+    requires places { IfSome places.now (AreUnsettled plan.now (T.state table.now)) }
+    requires all { (place : Place2) → verdict.now ≡ Verdict.Unsettled place →
+        is_some places.now ≡ all }
     requires verdict { IsVerdictOn plan.now (T.state table.now) verdict.now }
     ensures ok { OnOk result ((text : List ℕ) × VerdictText plan.now (T.state table.now) all (record { text = text; status = verdict_status verdict.now }) × Sent (K.taken out.old) (K.taken out.new) text []) }
     ensures err { OnErr result ((text : List ℕ) × VerdictText plan.now (T.state table.now) all (record { text = text; status = verdict_status verdict.now }) × Began (K.taken out.old) (K.taken out.new) text) }
@@ -153,15 +169,39 @@ fn write_verdict<T: MetricTable, K: Sink>(
     plan.lawful();
     match verdict {
         Verdict::Settled => write_all(out, settled_text(plan, table).as_bytes()),
-        Verdict::Unsettled(place) => write_unsettled(plan, table, all, place, out),
+        Verdict::Unsettled(place) => write_unsettled(plan, table, all, places, place, out),
         Verdict::Unclear(trouble) => {
             write_all(out, unclear_text(plan, table, trouble).as_bytes())
         }
     }
 }
 
+/// The places that do not hold, where all of them are to be written: the verdict is Unsettled, and
+/// `all` is asked for.
+fn places_of<T: MetricTable>(
+    alloc: Global,
+    plan: &Plan,
+    table: &T,
+    all: bool,
+    verdict: &Verdict,
+) -> Result<Option<Unsettled>, AllocError>
+    requires { Fits plan.now (T.state table.now) }
+    ensures places { IfOk result (λ places.
+        IfSome places (AreUnsettled plan.now (T.state table.now))) }
+    ensures all { IfOk result (λ places. (place : Place2) → verdict.now ≡ Verdict.Unsettled place →
+        is_some places ≡ all) }
+    ensures memory { is_err result ≡ true →
+        (all ≡ true) × (verdict_status verdict.now ≡ Status.Unsettled) }
+{
+    match verdict {
+        Verdict::Unsettled(_) if all => Ok(Some(Unsettled::find(alloc, plan, table)?)),
+        _ => Ok(None),
+    }
+}
+
 /// Judges a table and writes the verdict.
 fn audit_table<T: MetricTable, K: Sink>(
+    alloc: Global,
     plan: &Plan,
     table: &T,
     all: bool,
@@ -172,12 +212,19 @@ fn audit_table<T: MetricTable, K: Sink>(
     ensures write { result ≡ Err RunError.Write → (K.broken out.new ≡ true) × ((w : Written) × VerdictText plan.now (T.state table.now) all w × Began (K.taken out.old) (K.taken out.new) w.text) }
     ensures sink { result ≢ Err RunError.Write → K.broken out.new ≡ K.broken out.old }
     ensures read { result ≢ Err RunError.Read }
-    ensures memory { result ≢ Err RunError.Memory }
+    ensures memory { result ≡ Err RunError.Memory → Keeps (K.taken out.old) (K.taken out.new) }
+    ensures wanted { result ≡ Err RunError.Memory →
+        (all ≡ true) × IsJudged plan.now (T.state table.now) Status.Unsettled }
     ensures judged { IfOk result (λ status. IsJudged plan.now (T.state table.now) status) }
 {
     let verdict = judge(plan, table);
-    let wrote = write_verdict(plan, table, all, &verdict, out);
-    finish(wrote, status_of(&verdict))
+    match places_of(alloc, plan, table, all, &verdict) {
+        Ok(places) => {
+            let wrote = write_verdict(plan, table, all, &places, &verdict, out);
+            finish(wrote, status_of(&verdict))
+        }
+        Err(_) => Err(RunError::Memory),
+    }
 }
 
 /// Prints the verdict on a log, or what refuses the log. The table is new.
@@ -202,7 +249,7 @@ fn audit_of<R: Source, K: Sink, T: MetricTable>(
 {
     let (source, read) = read_log(alloc, plan, log, table);
     match read {
-        Ok(None) => (source, audit_table(plan, table, all, out)),
+        Ok(None) => (source, audit_table(alloc, plan, table, all, out)),
         Ok(Some(error)) => (
             source,
             finish(

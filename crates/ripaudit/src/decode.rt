@@ -13,7 +13,7 @@ ghost use Rattle.ripaudit.specs.Written.{Written, line};
 use crate::line::Line;
 use crate::output::{Page, finish, write_all};
 use crate::status::{RunError, Status};
-use rip_log::{Failed, Sink};
+use rip_log::{Failed, Sink, decode_digits};
 use rip_wire::{Datagram, Entry, Kind, WireCode, WireError, read};
 
 /// How many bytes are looked at: one more than a datagram can have.
@@ -35,9 +35,10 @@ fn bytes_of_hex<'a>(word: &[u8], room: &'a mut [u8; ROOM]) -> Option<&'a [u8]>
         return None;
     }
     let count = (word.len() / 2).min(ROOM);
-    match hex::decode_to_slice(&word[..2 * count], &mut room[..count]) {
-        Ok(()) => Some(&room[..count]),
-        Err(_) => unreachable!(),
+    if decode_digits(&word[..2 * count], room) {
+        Some(&room[..count])
+    } else {
+        unreachable!()
     }
 }
 

@@ -58,7 +58,8 @@ impl Page {
     /// Adds bytes that there is room for.
     fn add(&mut self, bytes: &[u8])
         requires { self.old.used + length bytes.now ≤ 4096 }
-        ensures { held self.new ≡ held self.old ++ bytes.now }
+        ensures held { held self.new ≡ held self.old ++ bytes.now }
+        ensures used { self.new.used ≡ self.old.used + length bytes.now }
     {
         let end = self.used + bytes.len();
         self.bytes[self.used..end].copy_from_slice(bytes);
@@ -77,6 +78,31 @@ impl Page {
         let used = self.used;
         self.used = 0;
         write_all(out, &self.bytes[..used])
+    }
+
+    /// Adds a line of three parts, and sends what the page has no room for.
+    pub(crate) fn write_line<K: Sink>(
+        &mut self,
+        out: &mut K,
+        front: &[u8],
+        middle: &[u8],
+        end: &[u8],
+    ) -> Result<(), Failed>
+        requires { length front.now + length middle.now + length end.now ≤ 4096 }
+        ensures ok { OnOk result (Sent (K.taken out.old) (K.taken out.new)
+            (held self.old ++ (front.now ++ (middle.now ++ end.now))) (held self.new)) }
+        ensures err { OnErr result (Began (K.taken out.old) (K.taken out.new)
+            (held self.old ++ (front.now ++ (middle.now ++ end.now)))) }
+        ensures failed { is_err result ≡ true → K.broken out.new ≡ true }
+        ensures marks { is_err result ≡ false → K.broken out.new ≡ K.broken out.old }
+    {
+        if front.len() + middle.len() + end.len() > ROOM - self.used {
+            self.flush(out)?;
+        }
+        self.add(front);
+        self.add(middle);
+        self.add(end);
+        Ok(())
     }
 
     /// Adds bytes, and sends what the page has no room for.

@@ -1,15 +1,19 @@
 //! The command `table`: what the interfaces of a plan showed in a log.
 
-ghost use Rattle.std.specs.Prelude.{◌≡◌, ◌≢◌, ◌+◌, ◌≤◌, ◌<◌, ◌++◌, List, ℕ, [], Err, IfOk, Ok, OnErr, OnOk, Some, false, is_err, length, slice_get, true};
+ghost use Rattle.std.specs.Prelude.{◌≡◌, ◌≢◌, ◌+◌, ◌≤◌, ◌<◌, ◌++◌, List, ℕ, [], Err, IfOk, Ok, OnErr, OnOk, Some, false, is_err, length, slice_get, codes, true};
 ghost use Rattle.std.specs.Io.KnownBytes.{Appends, Keeps};
 ghost use Rattle.std.specs.List.{enumerate_from, flat_map};
 ghost use Rattle.rip_plan.specs.Answers.{first_fault};
 ghost use Rattle.rip_plan.specs.declared.error.PlanError.{PlanError};
 ghost use Rattle.rip_table.specs.State.{Fits, new_state};
-ghost use Rattle.ripaudit.specs.TableText.{TableOf, TableText, interface_lines, interface_name, metric_line, prefix_lines, shown_lines, shown_table, table_line, unheard_line};
+ghost use Rattle.ripaudit.specs.TableText.{TableOf, TableText, interface_lines, interface_name, prefix_lines, shown_lines, shown_table, table_line, unheard_line};
 ghost use Rattle.ripaudit.specs.Held.{held};
 ghost use Rattle.ripaudit.specs.Sent.{Began, Sent};
+ghost use Rattle.ripaudit.specs.Texts.{AreOfMetrics, AreTexts, text_of};
 ghost use Rattle.ripaudit.specs.Written.{Written};
+ghost use Rattle.rip_plan.specs.Network.{Network};
+ghost use Rattle.rip_plan.specs.declared.parts.Interface.{Interface};
+ghost use Rattle.rip_wire.specs.Prefix.{Block, prefix_text};
 
 use crate::line::Line;
 use crate::output::{Page, finish, write_all};
@@ -17,10 +21,11 @@ use crate::plan::{push_link, push_router, refuse_plan};
 use crate::reading::read_log;
 use crate::refusal::refusal_text;
 use crate::status::{RunError, Status};
+use crate::texts::{METRICS, Text, Texts};
 use rip_log::{Failed, Sink, Source};
 use rip_plan::{Interface, Plan};
 use rip_table::{GridTable, MetricTable};
-use rip_wire::{Metric, Prefix};
+use rip_wire::Metric;
 use std::alloc::Global;
 use std::hash::BuildHasher;
 
@@ -66,43 +71,48 @@ fn unheard_text(plan: &Plan, interface: Interface) -> Line
     text
 }
 
-/// The line of a prefix that an interface shows.
-#[tactic(auto, unfolding(crate::specs::TableText::metric_line))]
-fn metric_text(plan: &Plan, interface: Interface, prefix: Prefix, metric: Metric) -> Line
+/// An interface and a blank: what each of its lines begins with.
+fn front_text(plan: &Plan, interface: Interface) -> Line
     requires router { interface.router < length plan.now.routers }
     requires link { interface.link < length plan.now.links }
-    ensures { result ≡ metric_line plan.now interface prefix metric }
+    ensures text { result ≡ interface_name plan.now interface ++ codes " " }
+    ensures size { length result ≤ 66 }
 {
     let mut text = Line::new();
     push_interface(&mut text, plan, interface);
     text.push(" ");
-    text.push_prefix(prefix);
-    text.push(" ");
-    text.push_metric(metric);
-    text.end();
     text
 }
 
-/// Writes the line of a prefix, if the interface shows it.
+/// Writes the line of a prefix, if the interface shows it, by the texts of both.
 fn write_prefix<K: Sink>(
     page: &mut Page,
-    plan: &Plan,
-    interface: Interface,
-    prefix: Prefix,
+    front: &Line,
+    prefix: &Text,
+    metrics: &[Text; METRICS],
     metric: Option<Metric>,
     out: &mut K,
 ) -> Result<(), Failed>
-    requires router { interface.router < length plan.now.routers }
-    requires link { interface.link < length plan.now.links }
-    ensures ok { OnOk result (Sent (K.taken out.old) (K.taken out.new) (held page.old ++ prefix_lines plan.now interface prefix metric) (held page.new)) }
-    ensures err { OnErr result (Began (K.taken out.old) (K.taken out.new) (held page.old ++ prefix_lines plan.now interface prefix metric)) }
+    requires front { length front.now ≤ 66 }
+    requires metrics { AreOfMetrics metrics.now }
+    ensures ok { (n : Network) (i : Interface) (p : Block) →
+        front.now ≡ interface_name n i ++ codes " " →
+        text_of prefix.now ≡ prefix_text p ++ codes " " →
+        OnOk result (Sent (K.taken out.old) (K.taken out.new)
+        (held page.old ++ prefix_lines n i p metric) (held page.new)) }
+    ensures err { (n : Network) (i : Interface) (p : Block) →
+        front.now ≡ interface_name n i ++ codes " " →
+        text_of prefix.now ≡ prefix_text p ++ codes " " →
+        OnErr result (Began (K.taken out.old) (K.taken out.new)
+        (held page.old ++ prefix_lines n i p metric)) }
     ensures failed { is_err result ≡ true → K.broken out.new ≡ true }
     ensures marks { is_err result ≡ false → K.broken out.new ≡ K.broken out.old }
 {
-    match metric {
-        None => Ok(()),
-        Some(metric) => page.write(out, metric_text(plan, interface, prefix, metric).as_bytes()),
-    }
+    let Some(metric) = metric else {
+        return Ok(());
+    };
+    let end = &metrics[metric.get() as usize];
+    page.write_line(out, front.as_bytes(), prefix.as_bytes(), end.as_bytes())
 }
 
 /// Writes the lines of the prefixes that the interface of a number shows.
@@ -110,10 +120,12 @@ fn write_shown<T: MetricTable, K: Sink>(
     page: &mut Page,
     plan: &Plan,
     table: &T,
+    texts: &Texts,
     number: usize,
     interface: &Interface,
     out: &mut K,
 ) -> Result<(), Failed>
+    requires texts { AreTexts (T.state table.now).prefixes texts.now }
     requires number { number < (T.state table.now).interfaces }
     requires router { interface.now.router < length plan.now.routers }
     requires link { interface.now.link < length plan.now.links }
@@ -122,9 +134,17 @@ fn write_shown<T: MetricTable, K: Sink>(
     ensures failed { is_err result ≡ true → K.broken out.new ≡ true }
     ensures marks { is_err result ≡ false → K.broken out.new ≡ K.broken out.old }
 {
+    let front = front_text(plan, *interface);
     for k in 0..table.prefix_count() {
         let metric = table.metric(number, k);
-        write_prefix(page, plan, *interface, table.prefix(k), metric, out)?;
+        write_prefix(
+            page,
+            &front,
+            &texts.prefixes[k],
+            &texts.metrics,
+            metric,
+            out,
+        )?;
     }
     Ok(())
 }
@@ -134,10 +154,12 @@ fn write_interface<T: MetricTable, K: Sink>(
     page: &mut Page,
     plan: &Plan,
     table: &T,
+    texts: &Texts,
     number: usize,
     interface: Interface,
     out: &mut K,
 ) -> Result<(), Failed>
+    requires texts { AreTexts (T.state table.now).prefixes texts.now }
     requires number { number < (T.state table.now).interfaces }
     requires router { interface.router < length plan.now.routers }
     requires link { interface.link < length plan.now.links }
@@ -147,7 +169,7 @@ fn write_interface<T: MetricTable, K: Sink>(
     ensures marks { is_err result ≡ false → K.broken out.new ≡ K.broken out.old }
 {
     if table.heard(number) {
-        write_shown(page, plan, table, number, &interface, out)
+        write_shown(page, plan, table, texts, number, &interface, out)
     } else {
         page.write(out, unheard_text(plan, interface).as_bytes())
     }
@@ -158,9 +180,11 @@ fn write_interfaces<T: MetricTable, K: Sink>(
     page: &mut Page,
     plan: &Plan,
     table: &T,
+    texts: &Texts,
     out: &mut K,
 ) -> Result<(), Failed>
-    requires { Fits plan.now (T.state table.now) }
+    requires fits { Fits plan.now (T.state table.now) }
+    requires texts { AreTexts (T.state table.now).prefixes texts.now }
     ensures ok { OnOk result (Sent (K.taken out.old) (K.taken out.new) (held page.old ++ flat_map (interface_lines plan.now (T.state table.now)) (enumerate_from 0 plan.now.interfaces)) (held page.new)) }
     ensures err { OnErr result (Began (K.taken out.old) (K.taken out.new) (held page.old ++ flat_map (interface_lines plan.now (T.state table.now)) (enumerate_from 0 plan.now.interfaces))) }
     ensures failed { is_err result ≡ true → K.broken out.new ≡ true }
@@ -168,7 +192,7 @@ fn write_interfaces<T: MetricTable, K: Sink>(
 {
     plan.lawful();
     for i in 0..plan.interfaces() {
-        write_interface(page, plan, table, i, plan.interface(i), out)?;
+        write_interface(page, plan, table, texts, i, plan.interface(i), out)?;
     }
     Ok(())
 }
@@ -188,7 +212,8 @@ pub(crate) fn write_table<T: MetricTable, K: Sink>(
     let mut page = Page::new();
     let counts = counts_text(plan.interfaces(), table.prefix_count());
     page.write(out, counts.as_bytes())?;
-    write_interfaces(&mut page, plan, table, out)?;
+    let texts = Texts::of(table);
+    write_interfaces(&mut page, plan, table, &texts, out)?;
     page.flush(out)
 }
 

@@ -1,7 +1,6 @@
-use Rattle.std.proofs.Common.{◌≡◌, true, length, take, sym, ap, ◌∙◌, arith}
-use Rattle.std.proofs.lemmas.List.{length-take, take_at}
+use Rattle.std.proofs.Common.{◌≡◌, true, take, subst, sym, ◌∙◌}
 use Rattle.hex.proofs.HexLemmas.{decode_of-ok, decode_of-digits}
-use Rattle.ripaudit.proofs.HexLemmas.{front, decoded}
+use Rattle.ripaudit.proofs.HexLemmas.{IsFront, front, front-is}
 use Rattle.ripaudit.proofs.decode.bytes_of_hex.Goals as goal
 
 pub returns-then-not-is_hex : goal.returns-then-not-is_hex
@@ -14,19 +13,14 @@ pub unreachable-requires : goal.unreachable-requires
 unreachable-requires c =
     let hex = c.is_hex.ensures.0 c.if-not-is_hex.false in
     let b = decode_of-digits c.args.word.now hex.0 hex.1 in
-    let room = c.told-room in
-    let len : length (take c.min-count.result c.args.room.now) ≡ c.min-count.result = omega (arith, length-take c.min-count.result c.args.room.now) in
-    let f = front c.args.word.now b.0 b.1 in
-    let r = decoded c.decode_to_slice.result c.decode_to_slice.new.out c.args.word.now b.0 c.min-count.result _ (rw c.min-count.ensures f) len c.decode_to_slice.ensures.value in
-    cc (sym c.in-Err.is ∙ r.0)
+    let n = c.min-count.result in
+    let f : IsFront c.args.word.now b.0 n = subst (IsFront c.args.word.now b.0) (sym c.min-count.ensures) (front c.args.word.now b.0 b.1) in
+    c.decode_digits.ensures.none c.if-decode_digits.false (take 505 b.0) f.spells
 
 pub returns : goal.returns
 returns c =
     let hex = c.is_hex.ensures.0 c.if-not-is_hex.false in
     let b = decode_of-digits c.args.word.now hex.0 hex.1 in
-    let room = c.told-room in
-    let len : length (take c.min-count.result c.args.room.now) ≡ c.min-count.result = omega (arith, length-take c.min-count.result c.args.room.now) in
-    let f = front c.args.word.now b.0 b.1 in
-    let r = decoded c.decode_to_slice.result c.decode_to_slice.new.out c.args.word.now b.0 c.min-count.result _ (rw c.min-count.ensures f) len c.decode_to_slice.ensures.value in
-    let count : length c.decode_to_slice.new.out ≡ c.min-count.result = ap length r.1 ∙ f.count ∙ sym c.min-count.ensures in
-    (b.0, b.1, take_at c.decode_to_slice.new.out _ c.min-count.result count ∙ r.1)
+    let n = c.min-count.result in
+    let f : IsFront c.args.word.now b.0 n = subst (IsFront c.args.word.now b.0) (sym c.min-count.ensures) (front c.args.word.now b.0 b.1) in
+    (b.0, b.1, front-is c.args.word.now b.0 c.decode_digits.new.room n f (c.decode_digits.ensures.bytes c.if-decode_digits.true))
