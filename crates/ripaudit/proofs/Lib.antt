@@ -4,5 +4,6 @@ pub mod LineLemmas
 pub mod FailureLemmas
 pub mod VerdictLemmas
 pub mod FinishLemmas
+pub mod ReportLemmas
 pub mod DecodeLemmas
 pub mod TextLemmas

@@ -1,9 +1,10 @@
 -- Texts that go out in parts.
-use Rattle.std.proofs.Common.{◌≡◌, ℕ, List, [], ◌++◌, Option, Some, None, take, drop, Result, Ok, Err, Bool, true, false, refl, sym, ap, ◌∙◌, append_assoc, append-nil}
+use Rattle.std.proofs.Common.{◌≡◌, ℕ, List, [], ◌++◌, Option, Some, None, take, drop, Result, Ok, Err, Bool, true, false, is_err, refl, sym, ap, subst, ◌∙◌, append_assoc, append-nil}
 use Rattle.std.specs.Io.KnownBytes.{Appends, Keeps}
 use Rattle.std.specs.Prelude.{OnErr, OnOk}
 use Rattle.std.proofs.lemmas.List.{take-append-drop}
-use Rattle.ripaudit.specs.Sent.{Sent, Began}
+use Rattle.rip_log.specs.declared.device.Failed.{Failed}
+use Rattle.ripaudit.specs.Sent.{Sent, Began, Writes}
 
 pub Appends-none : (t : Option (List ℕ)) → Appends t t []
 Appends-none None = tt
@@ -100,3 +101,52 @@ Sent-more a b c text held more left s t = Sent-then a b c (text ++ more) (held +
 
 pub Began-more : (a b c : Option (List ℕ)) (text held more : List ℕ) → Sent a b text held → Began b c (held ++ more) → Began a c (text ++ more)
 Began-more a b c text held more s t = Began-all a b c (text ++ more) (held ++ more) (Sent-front a b text held more s) t
+
+-- ---- A call that writes, after one that did not fail
+
+-- a call that failed wrote a beginning of its text, and of every longer one
+pub Writes-fails : {K : Type 0} (taken : K → Option (List ℕ)) (broken : K → Bool) (a b : K) (e : Failed) (r : Result (Unit {0}) Failed) (text left rest : List ℕ) → is_err r ≡ true → Writes taken broken a b (Err e) text left → Writes taken broken a b r text rest
+Writes-fails taken broken a b e (Ok done) text left rest fails w = absurd (cc)
+Writes-fails taken broken a b e (Err f) text left rest fails w = record {
+  ok = tt;
+  err = w.err;
+  failed = λ h. w.failed refl;
+  marks = λ h. absurd (cc);
+}
+
+pub Writes-cut : {K : Type 0} (taken : K → Option (List ℕ)) (broken : K → Bool) (a b : K) (e : Failed) (r : Result (Unit {0}) Failed) (text more left rest : List ℕ) → is_err r ≡ true → Writes taken broken a b (Err e) text left → Writes taken broken a b r (text ++ more) rest
+Writes-cut taken broken a b e r text more left rest fails w = Writes-fails taken broken a b e r (text ++ more) left rest fails (record {
+  ok = tt;
+  err = Began-front (taken a) (taken b) text more w.err;
+  failed = w.failed;
+  marks = w.marks;
+})
+
+-- the same text by another name
+pub Writes-same : {K : Type 0} (taken : K → Option (List ℕ)) (broken : K → Bool) (a b : K) (r : Result (Unit {0}) Failed) (text line left : List ℕ) → text ≡ line → Writes taken broken a b r text left → Writes taken broken a b r line left
+Writes-same taken broken a b r text line left same w = subst (λ (l : List ℕ). Writes taken broken a b r l left) same w
+
+-- what was held, and more, is written next
+pub Writes-more : {K : Type 0} (taken : K → Option (List ℕ)) (broken : K → Bool) (a b c : K) (done : Unit {0}) (r : Result (Unit {0}) Failed) (text held more left : List ℕ) → Writes taken broken a b (Ok done) text held
+    → Writes taken broken b c r (held ++ more) left → Writes taken broken a c r (text ++ more) left
+Writes-more taken broken a b c done r text held more left w v = record {
+  ok = onok-map r (Sent-more (taken a) (taken b) (taken c) text held more left w.ok) v.ok;
+  err = onerr-map r (Began-more (taken a) (taken b) (taken c) text held more w.ok) v.err;
+  failed = v.failed;
+  marks = λ h. v.marks h ∙ w.marks refl;
+}
+
+-- what was held is written, and nothing more
+pub Writes-held : {K : Type 0} (taken : K → Option (List ℕ)) (broken : K → Bool) (a b c : K) (done : Unit {0}) (r : Result (Unit {0}) Failed) (text held left : List ℕ) → Writes taken broken a b (Ok done) text held
+    → Writes taken broken b c r held left → Writes taken broken a c r text left
+Writes-held taken broken a b c done r text held left w v = record {
+  ok = onok-map r (Sent-then (taken a) (taken b) (taken c) text held left w.ok) v.ok;
+  err = onerr-map r (Began-all (taken a) (taken b) (taken c) text held w.ok) v.err;
+  failed = v.failed;
+  marks = λ h. v.marks h ∙ w.marks refl;
+}
+
+-- the same where nothing is held afterwards
+pub Writes-more-held : {K : Type 0} (taken : K → Option (List ℕ)) (broken : K → Bool) (a b c : K) (done : Unit {0}) (r : Result (Unit {0}) Failed) (text more held left : List ℕ) → left ≡ [] → Writes taken broken a b (Ok done) text held
+    → Writes taken broken b c r (held ++ more) [] → Writes taken broken a c r (text ++ more) left
+Writes-more-held taken broken a b c done r text more held left none w v = subst (λ (l : List ℕ). Writes taken broken a c r (text ++ more) l) (sym none) (Writes-more taken broken a b c done r text held more [] w v)

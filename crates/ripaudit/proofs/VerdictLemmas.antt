@@ -1,16 +1,7 @@
 -- Verdicts and their statuses.
 use Rattle.std.proofs.Common.{◌≡◌, ℕ, Bool, List, [], Option, Some, None, Result, Ok, Err, refl, sym, ap, subst, ◌∙◌}
 use Rattle.std.specs.Prelude.{◌↔◌, IfOk, OnOk, OnErr}
-use Rattle.std.proofs.lemmas.Option.{same_Some}
-use Rattle.rip_plan.specs.Answers.{first_fault}
 use Rattle.rip_plan.specs.Network.{Network}
-use Rattle.rip_plan.specs.PlanOf.{IsPlanOfText, PlanOf}
-use Rattle.rip_plan.specs.declared.error.PlanCode.TheVariants.{Memory as OutOfMemory}
-use Rattle.rip_plan.specs.declared.error.PlanError.{PlanError}
-use Rattle.rip_log.specs.Logs.{log_in}
-use Rattle.rip_table.specs.Collects.{OutcomeKnown}
-use Rattle.rip_table.specs.Joined.{Outcome}
-use Rattle.rip_table.specs.declared.error.CollectError.{CollectError}
 use Rattle.rip_plan.specs.Relations.{IsLawful}
 use Rattle.rip_log.specs.declared.device.Failed.{Failed}
 use Rattle.rip_table.specs.State.{State, new_state}
@@ -20,7 +11,7 @@ use Rattle.rip_check.specs.declared.verdict.Unclear.{Unclear}
 use Rattle.rip_check.specs.declared.verdict.Unclear.TheVariants.{NotHeard, TwoMetrics, Missing, TwoWays}
 use Rattle.rip_check.specs.declared.verdict.Verdict.{Verdict}
 use Rattle.rip_check.specs.declared.verdict.Verdict.TheVariants as verdicts
-use Rattle.ripaudit.specs.AuditText.{IsAudited, IsJudged, IsTable, IsTold, IsTroubleOf, IsVerdictOn, UnsettledLines, VerdictText, a_settled, an_unclear, an_unsettled, settled_line, unclear_line, verdict_status}
+use Rattle.ripaudit.specs.AuditText.{IsJudged, IsTold, IsTroubleOf, IsVerdictOn, UnsettledLines, VerdictText, a_settled, an_unclear, an_unsettled, settled_line, unclear_line, verdict_status}
 use Rattle.ripaudit.specs.Finished.{finished}
 use Rattle.ripaudit.specs.Sent.{Sent, Began}
 use Rattle.ripaudit.proofs.SentLemmas.{Sent-whole}
@@ -86,12 +77,6 @@ pub ended_judged : (n : Network) (s : State) (status : Status) (r : Result (Unit
 ended_judged n s status (Ok done) outcome is h = rw is h
 ended_judged n s status (Err e) outcome is h = rw is tt
 
--- a verdict that was written is told with its status
-pub written_told : (n : Network) (s : State) (all : Bool) (a b : Option (List ℕ)) (v : Verdict) (status : Status) (r : Result (Unit {0}) Failed) (outcome : Result Status RunError) → status ≡ verdict_status v
-    → outcome ≡ finished r status → OnOk r ((text : List ℕ) × VerdictText n s all (record { text = text; status = verdict_status v }) × Sent a b text []) → IfOk outcome (IsTold n s all a b)
-written_told n s all a b v status (Ok done) outcome same is sent = rw (is, same) (sent.0, sent.1, Sent-whole a b sent.0 sent.2)
-written_told n s all a b v status (Err e) outcome same is sent = rw is tt
-
 -- what each verdict writes
 pub settled_told : (n : Network) (s : State) (all : Bool) (v : Verdict) → v ≡ verdicts.Settled → IsVerdictOn n s v → VerdictText n s all (record { text = settled_line n s; status = verdict_status v })
 settled_told n s all v e h = rw e (a_settled (rw e at h))
@@ -102,51 +87,9 @@ unclear_told n s all v trouble e h = rw e (an_unclear trouble (rw e at h))
 pub unsettled_told : (n : Network) (s : State) (all : Bool) (v : Verdict) (f : Place2) (text : List ℕ) → v ≡ verdicts.Unsettled f → IsVerdictOn n s v → UnsettledLines n s all f text → VerdictText n s all (record { text = text; status = verdict_status v })
 unsettled_told n s all v f text e h lines = rw e (an_unsettled f text (rw e at h) lines)
 
--- one text went out
-pub one_sent : (IsText : List ℕ → Type 0) (line text : List ℕ) (a b : Option (List ℕ)) (r : Result (Unit {0}) Failed) → text ≡ line → IsText line → OnOk r (Sent a b text []) → OnOk r ((t : List ℕ) × IsText t × Sent a b t [])
-one_sent IsText line text a b (Ok done) same told sent = (text, subst IsText (sym same) told, sent)
-one_sent IsText line text a b (Err e) same told sent = tt
-
-pub one_begun : (IsText : List ℕ → Type 0) (line text : List ℕ) (a b : Option (List ℕ)) (r : Result (Unit {0}) Failed) → text ≡ line → IsText line → OnErr r (Began a b text) → OnErr r ((t : List ℕ) × IsText t × Began a b t)
-one_begun IsText line text a b (Ok done) same told began = tt
-one_begun IsText line text a b (Err e) same told began = (text, subst IsText (sym same) told, began)
-
 pub ifok-map : {A E : Type 0} {P Q : A → Type 0} (r : Result A E) → ((x : A) → P x → Q x) → IfOk r P → IfOk r Q
 ifok-map (Ok x) f p = f x p
 ifok-map (Err e) f p = tt
-
--- the records of a log have one table, and one fault
-pub same_table : (n : Network) (log : Option (List ℕ)) (s t : State) (fault : Option CollectError) → OutcomeKnown n (new_state n) (log_in log) s fault → IsTable n log t → (s ≡ t) × (fault ≡ None)
-same_table n log s t fault known h =
-    let one = rw h.told at known in
-    let both = sym one ∙ h.joined in
-    (ap (λ (o : Outcome). o.state) both, ap (λ (o : Outcome). o.fault) both)
-
--- the document of the bytes has one plan
-abbrev pub HasOnePlan : List ℕ → Type 0
-HasOnePlan bytes = (n m : Network) (q : IsPlanOfText bytes m) → PlanOf q.document n → PlanOf q.document m → n ≡ m
-
-pub same_plan : (bytes : List ℕ) (n m : Network) → HasOnePlan bytes → IsPlanOfText bytes n → IsPlanOfText bytes m → n ≡ m
-same_plan bytes n m one_plan p q =
-    let one : p.document ≡ q.document = same_Some p.document q.document (sym p.reads ∙ q.reads) in
-    one_plan n m q (subst (λ d. PlanOf d n) one p.plan) q.plan
-
--- what is said of the plan that was read is said of every plan of the bytes
-pub of_read : (IsSaid : Network → State → Status → Type 0) (bytes : List ℕ) (log : Option (List ℕ)) (n m : Network) (s : State) (outcome : Result Status RunError) → HasOnePlan bytes → IsPlanOfText bytes m
-    → ((t : State) → IsTable m log t → IfOk outcome (IsSaid m t))
-    → IsAudited bytes log n s → IfOk outcome (IsSaid n s)
-of_read IsSaid bytes log n m s outcome one_plan is told h =
-    let same = same_plan bytes n m one_plan h.plan_of is in
-    subst (λ (k : Network). IfOk outcome (IsSaid k s)) (sym same) (told s (subst (λ (k : Network). IsTable k log s) same h.table))
-
--- the bytes of a plan that is refused have a fault
-pub of_refused : (IsSaid : Status → Type 0) (bytes : List ℕ) (log : Option (List ℕ)) (n : Network) (s : State) (e : PlanError) (P : Type 0) (outcome : Result Status RunError) → ((e.code ≡ OutOfMemory → ⊥) → first_fault bytes ≡ Some e)
-    → IfOk outcome (λ status. (e.code ≡ OutOfMemory → ⊥) × (status ≡ Refused) × P) → IsAudited bytes log n s → IfOk outcome IsSaid
-of_refused IsSaid bytes log n s e P (Ok status) told h k = absurd (never (sym (told h.0) ∙ k.faultless))
-  where
-    never : ◌≡◌ {A = Option PlanError} (Some e) None → ⊥
-    never h = absurd (cc)
-of_refused IsSaid bytes log n s e P (Err f) told h k = tt
 
 -- the headline, of what is judged and what is told
 abbrev pub IsHeadline : Network → State → Bool → Option (List ℕ) → Option (List ℕ) → Status → Type 0

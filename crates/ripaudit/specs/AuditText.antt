@@ -1,15 +1,8 @@
 -- What `audit` prints.
 use Rattle.std.specs.Prelude.{◌≡◌, ◌↔◌, ℕ, ◌==◌, ◌<◌, nat_lt, Bool, true, false, if◌then◌else◌, List, [], ◌++◌, length, filter, codes, decimal, Option, None, Some, option_map, unwrap_or, slice_get}
 use Rattle.rip_wire.specs.Prefix.{prefix_text}
-use Rattle.std.specs.Io.KnownBytes.{Appends}
-use Rattle.rip_plan.specs.Answers.{first_fault}
 use Rattle.rip_plan.specs.Network.{Network, each_below, is_of, numbers_where}
-use Rattle.rip_plan.specs.PlanOf.{IsPlanOfText}
-use Rattle.rip_plan.specs.declared.error.PlanError.{PlanError}
-use Rattle.rip_log.specs.Logs.{log_in}
-use Rattle.rip_table.specs.Collects.{OutcomeKnown}
-use Rattle.rip_table.specs.State.{State, new_state}
-use Rattle.rip_table.specs.declared.error.CollectError.{CollectError}
+use Rattle.rip_table.specs.State.{State}
 use Rattle.rip_check.specs.Audits.{HoldsAfter, IsNextUnsettled, PacketsArrive, ShowsRightTables, ShowsTables, TroubleIs}
 use Rattle.rip_check.specs.declared.verdict.Place2.{Place2}
 use Rattle.rip_check.specs.declared.verdict.Unclear.{Unclear}
@@ -18,8 +11,9 @@ use Rattle.rip_check.specs.declared.verdict.Verdict.{Verdict}
 use Rattle.rip_check.specs.declared.verdict.Verdict.TheVariants as verdicts
 use Rattle.rip_check.specs.declared.way.Way.{Way}
 use Rattle.rip_check.specs.declared.way.Way.TheVariants.{Unreachable, Here, Over}
-use Rattle.ripaudit.specs.PlanText.{name_of, refused_plan}
-use Rattle.ripaudit.specs.RefusalText.{refused_log}
+use Rattle.ripaudit.specs.Names.{name_of}
+use Rattle.ripaudit.specs.ReportText.{ReportText}
+use Rattle.ripaudit.specs.Sent.{WentOut}
 use Rattle.ripaudit.specs.Written.{Written, line}
 use Rattle.ripaudit.specs.declared.status.Status.{Status}
 use Rattle.ripaudit.specs.declared.status.Status.TheVariants.{Settled, Unsettled, Unclear as IsUnclear}
@@ -136,15 +130,10 @@ verdict_status verdicts.Settled = Settled
 verdict_status (verdicts.Unsettled f) = Unsettled
 verdict_status (verdicts.Unclear trouble) = IsUnclear
 
--- what is written for a network and the text of a log, where it is told: what refused the log, or the verdict on its table
-pub data AuditOf (n : Network) (log : Option (List ℕ)) (all : Bool) : Written → Type 0 where
-  a_refusal : (s : State) (e : CollectError) → OutcomeKnown n (new_state n) (log_in log) s (Some e) → AuditOf n log all (refused_log e)
-  a_verdict : (s : State) (w : Written) → OutcomeKnown n (new_state n) (log_in log) s None → VerdictText n s all w → AuditOf n log all w
-
--- the same for the bytes of a plan: their first fault, or what is written for the plan that their document is
-pub data AuditText (plan : List ℕ) (log : Option (List ℕ)) (all : Bool) : Written → Type 0 where
-  a_fault : (e : PlanError) → first_fault plan ≡ Some e → AuditText plan log all (refused_plan e)
-  of_plan : (n : Network) (w : Written) → first_fault plan ≡ None → IsPlanOfText plan n → AuditOf n log all w → AuditText plan log all w
+-- what is written for the bytes of a plan and the text of a log, where it is told: what refuses them,
+-- or the verdict on the table of the log's records
+abbrev pub AuditText : List ℕ → Option (List ℕ) → Bool → Written → Type 0
+AuditText plan log all = ReportText (λ n s. VerdictText n s all) plan log
 
 -- ---- What the statuses mean
 
@@ -158,16 +147,4 @@ pub record IsJudged (n : Network) (s : State) (status : Status) : Type 0 where
 
 -- the lines of the verdict on the table went out, which name its first place that fails or its first trouble, and nothing else
 abbrev pub IsTold : Network → State → Bool → Option (List ℕ) → Option (List ℕ) → Status → Type 0
-IsTold n s all old new status = (text : List ℕ) × VerdictText n s all (record { text = text; status = status }) × Appends old new text
-
--- the bytes of the log are told, and nothing in them is refused; s is the table of their records
-pub record IsTable (n : Network) (log : Option (List ℕ)) (s : State) : Type 0 where
-  pub bytes : List ℕ
-  pub told : log ≡ Some bytes
-  pub joined : OutcomeKnown n (new_state n) (log_in (Some bytes)) s None
-
--- the same, with the bytes of a plan that has no fault and is n's
-pub record IsAudited (plan : List ℕ) (log : Option (List ℕ)) (n : Network) (s : State) : Type 0 where
-  pub faultless : first_fault plan ≡ None
-  pub plan_of : IsPlanOfText plan n
-  pub table : IsTable n log s
+IsTold n s all = WentOut (VerdictText n s all)

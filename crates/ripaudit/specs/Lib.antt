@@ -1,10 +1,12 @@
-pub mod Sent
 pub mod Statuses
 pub mod Written
+pub mod Sent
+pub mod Names
 pub mod DecodeText
 pub mod PlanText
 pub mod RefusalText
 pub mod Readings
+pub mod ReportText
 pub mod TableText
 pub mod Held
 pub mod Finished

@@ -15,6 +15,7 @@ use Rattle.rip_plan.specs.declared.parts.Interface.{Interface}
 use Rattle.rip_plan.specs.declared.parts.Place.{Place}
 use Rattle.rip_plan.specs.declared.parts.Seat.{Seat}
 use Rattle.rip_plan.specs.declared.parts.Seat.TheVariants as seats
+use Rattle.ripaudit.specs.Names.{name_of, numbered}
 use Rattle.ripaudit.specs.Written.{Written, line}
 use Rattle.ripaudit.specs.declared.status.Status.TheVariants.{Done, Refused}
 
@@ -37,10 +38,6 @@ plan_code_text NoInterface = codes "14 NoInterface"
 plan_code_text Limit = codes "15 Limit"
 plan_code_text Memory = codes "16 Memory"
 
--- a word and a number
-abbrev pub numbered : List ℕ → ℕ → List ℕ
-numbered word n = word ++ decimal n
-
 -- a place in a plan's text, as `router 1 interface 2`
 abbrev pub at_text : At → List ℕ
 at_text places.Text = codes "text"
@@ -53,10 +50,6 @@ at_text (places.RouterOwn i j) = numbered (codes "router ") i ++ numbered (codes
 
 abbrev pub refused_plan : PlanError → Written
 refused_plan e = record { text = line (codes "refused: plan " ++ plan_code_text e.code ++ codes " at " ++ at_text e.place); status = Refused }
-
--- the name of a number, which is below their count in a plan
-abbrev pub name_of : List (List ℕ) → ℕ → List ℕ
-name_of names k = unwrap_or (slice_get names k) []
 
 -- the text of the prefix of a number, which is below their count in a plan
 abbrev pub prefix_of : Network → ℕ → List ℕ

@@ -9,7 +9,7 @@ use Rattle.rip_table.specs.declared.error.CollectError.{CollectError}
 use Rattle.rip_table.specs.declared.error.TableError.{TableError}
 use Rattle.rip_table.specs.declared.error.TableError.TheVariants as table
 use Rattle.ripaudit.specs.DecodeText.{wire_fault_text}
-use Rattle.ripaudit.specs.PlanText.{numbered}
+use Rattle.ripaudit.specs.Names.{numbered}
 use Rattle.ripaudit.specs.Written.{Written, line}
 use Rattle.ripaudit.specs.declared.status.Status.TheVariants.{Refused}
 

@@ -2,17 +2,11 @@
 use Rattle.std.specs.Prelude.{◌≡◌, ℕ, if◌then◌else◌, List, [], ◌++◌, length, codes, decimal, Option, None, Some}
 use Rattle.std.specs.List.{enumerate_from, flat_map}
 use Rattle.rip_wire.specs.Prefix.{Block, prefix_text}
-use Rattle.rip_plan.specs.Answers.{first_fault}
 use Rattle.rip_plan.specs.Network.{Network}
-use Rattle.rip_plan.specs.PlanOf.{IsPlanOfText}
-use Rattle.rip_plan.specs.declared.error.PlanError.{PlanError}
 use Rattle.rip_plan.specs.declared.parts.Interface.{Interface}
-use Rattle.rip_log.specs.Logs.{log_in}
-use Rattle.rip_table.specs.Collects.{OutcomeKnown}
-use Rattle.rip_table.specs.State.{State, new_state}
-use Rattle.rip_table.specs.declared.error.CollectError.{CollectError}
-use Rattle.ripaudit.specs.PlanText.{name_of, refused_plan}
-use Rattle.ripaudit.specs.RefusalText.{refused_log}
+use Rattle.rip_table.specs.State.{State}
+use Rattle.ripaudit.specs.Names.{name_of}
+use Rattle.ripaudit.specs.ReportText.{ReportText}
 use Rattle.ripaudit.specs.Written.{Written, line}
 use Rattle.ripaudit.specs.declared.status.Status.TheVariants.{Done}
 
@@ -49,12 +43,7 @@ interface_lines n s at = if s.heard at.0 then shown_lines n s at.0 at.1 else unh
 abbrev pub shown_table : Network → State → Written
 shown_table n s = record { text = table_line (length n.interfaces) (length s.prefixes) ++ flat_map (interface_lines n s) (enumerate_from 0 n.interfaces); status = Done }
 
--- what is written for a network and the text of a log, where it is told: what refused the log, or the table of its records
-pub data TableOf (n : Network) (log : Option (List ℕ)) : Written → Type 0 where
-  a_refusal : (s : State) (e : CollectError) → OutcomeKnown n (new_state n) (log_in log) s (Some e) → TableOf n log (refused_log e)
-  a_table : (s : State) → OutcomeKnown n (new_state n) (log_in log) s None → TableOf n log (shown_table n s)
-
--- the same for the bytes of a plan: their first fault, or what is written for the plan that their document is
-pub data TableText (plan : List ℕ) (log : Option (List ℕ)) : Written → Type 0 where
-  a_fault : (e : PlanError) → first_fault plan ≡ Some e → TableText plan log (refused_plan e)
-  of_plan : (n : Network) (w : Written) → first_fault plan ≡ None → IsPlanOfText plan n → TableOf n log w → TableText plan log w
+-- what is written for the bytes of a plan and the text of a log, where it is told: what refuses them,
+-- or the table of the log's records
+abbrev pub TableText : List ℕ → Option (List ℕ) → Written → Type 0
+TableText plan log = ReportText (λ n s w. w ≡ shown_table n s) plan log

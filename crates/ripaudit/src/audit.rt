@@ -2,30 +2,27 @@
 
 mod lines;
 
-ghost use Rattle.std.specs.Prelude.{◌≡◌, ◌≢◌, ◌↔◌, ◌++◌, ℕ, List, [], Err, IfOk, IfSome, None, Ok, OnErr, OnOk, Option, Some, false, is_err, is_some, length, true};
-ghost use Rattle.std.specs.Io.KnownBytes.{Appends, Keeps};
+ghost use Rattle.std.specs.Prelude.{◌≡◌, ◌≢◌, ◌↔◌, ◌++◌, ℕ, List, [], Err, IfOk, IfSome, None, Some, false, is_err, is_some, true};
+ghost use Rattle.std.specs.Io.KnownBytes.{Keeps};
 ghost use Rattle.rip_plan.specs.Answers.{first_fault};
 ghost use Rattle.rip_plan.specs.Network.{Network};
 ghost use Rattle.rip_plan.specs.declared.error.PlanError.{PlanError};
-ghost use Rattle.rip_table.specs.State.{Fits, State, new_state};
-ghost use Rattle.rip_check.specs.Audits.{IsNextUnsettled, PacketsArrive, ShowsRightTables, ShowsTables};
+ghost use Rattle.rip_table.specs.State.{Fits, State};
+ghost use Rattle.rip_check.specs.Audits.{IsNextUnsettled, PacketsArrive, ShowsRightTables};
 ghost use Rattle.rip_check.specs.Marks.{AreUnsettled};
-ghost use Rattle.ripaudit.specs.AuditText.{AuditOf, AuditText, FailureLines, IsAudited, IsJudged, IsPlaceOf, IsTable, IsTold, IsVerdictOn, UnsettledLines, VerdictText, unsettled_line, verdict_status};
+ghost use Rattle.ripaudit.specs.AuditText.{AuditText, FailureLines, IsJudged, IsPlaceOf, IsTold, IsVerdictOn, UnsettledLines, VerdictText, unsettled_line, verdict_status};
 ghost use Rattle.ripaudit.specs.Held.{held};
-ghost use Rattle.ripaudit.specs.Sent.{Began, Sent};
-ghost use Rattle.ripaudit.specs.Written.{Written};
+ghost use Rattle.ripaudit.specs.ReportText.{IsAccepted};
+ghost use Rattle.ripaudit.specs.Sent.{BeginningOut, WentOut, Writes};
 
 use crate::output::{Page, finish, write_all};
-use crate::plan::refuse_plan;
-use crate::reading::read_log;
-use crate::refusal::refusal_text;
+use crate::report::{Report, run_report};
 use crate::status::{RunError, Status};
 use lines::{settled_text, unclear_text, unsettled_text};
 use rip_check::{Place2, Unsettled, Verdict, judge};
 use rip_log::{Failed, Sink, Source};
 use rip_plan::Plan;
-use rip_plan::laws::one_plan;
-use rip_table::{GridTable, MetricTable};
+use rip_table::MetricTable;
 use std::alloc::{AllocError, Global};
 use std::hash::BuildHasher;
 
@@ -39,11 +36,11 @@ fn write_failure<T: MetricTable, K: Sink>(
     out: &mut K,
 ) -> Result<(), Failed>
     requires { IsPlaceOf plan.now (T.state table.now) place.now }
-    ensures ok { OnOk result ((is_err before ≡ false) × Sent (K.taken out.old) (K.taken out.new) (held page.old ++ unsettled_line plan.now (T.state table.now) place.now) (held page.new)) }
-    ensures err { OnErr result ((is_err before ≡ true → K.taken out.new ≡ K.taken out.old) × (is_err before ≡ false → Began (K.taken out.old) (K.taken out.new) (held page.old ++ unsettled_line plan.now (T.state table.now) place.now))) }
-    ensures kept { is_err before ≡ true → (is_err result ≡ true) × (K.broken out.new ≡ K.broken out.old) }
-    ensures failed { is_err before ≡ false → is_err result ≡ true → K.broken out.new ≡ true }
-    ensures marks { is_err result ≡ false → K.broken out.new ≡ K.broken out.old }
+    ensures writes { is_err before ≡ false →
+        Writes K.taken K.broken out.old out.new result
+        (held page.old ++ unsettled_line plan.now (T.state table.now) place.now) (held page.new) }
+    ensures kept { is_err before ≡ true → (is_err result ≡ true)
+        × (K.taken out.new ≡ K.taken out.old) × (K.broken out.new ≡ K.broken out.old) }
 {
     before?;
     page.write(out, unsettled_text(plan, table, place).as_bytes())
@@ -60,10 +57,8 @@ fn write_failures<T: MetricTable, K: Sink>(
 ) -> Result<(), Failed>
     requires fits { Fits plan.now (T.state table.now) }
     requires places { AreUnsettled plan.now (T.state table.now) places.now }
-    ensures ok { OnOk result ((text : List ℕ) × FailureLines plan.now (T.state table.now) None text × Sent (K.taken out.old) (K.taken out.new) (held page.old ++ text) (held page.new)) }
-    ensures err { OnErr result ((text : List ℕ) × FailureLines plan.now (T.state table.now) None text × Began (K.taken out.old) (K.taken out.new) (held page.old ++ text)) }
-    ensures failed { is_err result ≡ true → K.broken out.new ≡ true }
-    ensures marks { is_err result ≡ false → K.broken out.new ≡ K.broken out.old }
+    ensures { (text : List ℕ) × FailureLines plan.now (T.state table.now) None text
+        × Writes K.taken K.broken out.old out.new result (held page.old ++ text) (held page.new) }
 {
     plan.lawful();
     let mut wrote = Ok(());
@@ -84,10 +79,8 @@ fn write_each<T: MetricTable, K: Sink>(
 ) -> Result<(), Failed>
     requires fits { Fits plan.now (T.state table.now) }
     requires places { AreUnsettled plan.now (T.state table.now) places.now }
-    ensures ok { OnOk result ((text : List ℕ) × FailureLines plan.now (T.state table.now) None text × Sent (K.taken out.old) (K.taken out.new) text []) }
-    ensures err { OnErr result ((text : List ℕ) × FailureLines plan.now (T.state table.now) None text × Began (K.taken out.old) (K.taken out.new) text) }
-    ensures failed { is_err result ≡ true → K.broken out.new ≡ true }
-    ensures marks { is_err result ≡ false → K.broken out.new ≡ K.broken out.old }
+    ensures { (text : List ℕ) × FailureLines plan.now (T.state table.now) None text
+        × Writes K.taken K.broken out.old out.new result text [] }
 {
     let mut page = Page::new();
     write_failures(&mut page, plan, table, places, out)?;
@@ -102,10 +95,8 @@ fn write_first<T: MetricTable, K: Sink>(
     out: &mut K,
 ) -> Result<(), Failed>
     requires { IsNextUnsettled plan.now (T.state table.now) None place.now }
-    ensures ok { OnOk result (Sent (K.taken out.old) (K.taken out.new) (unsettled_line plan.now (T.state table.now) place.now) []) }
-    ensures err { OnErr result (Began (K.taken out.old) (K.taken out.new) (unsettled_line plan.now (T.state table.now) place.now)) }
-    ensures failed { is_err result ≡ true → K.broken out.new ≡ true }
-    ensures marks { is_err result ≡ false → K.broken out.new ≡ K.broken out.old }
+    ensures { Writes K.taken K.broken out.old out.new result
+        (unsettled_line plan.now (T.state table.now) place.now) [] }
 {
     plan.lawful();
     write_all(out, unsettled_text(plan, table, place).as_bytes())
@@ -125,10 +116,8 @@ fn write_unsettled<T: MetricTable, K: Sink>(
     requires places { IfSome places.now (AreUnsettled plan.now (T.state table.now)) }
     requires all { is_some places.now ≡ all }
     requires first { IsNextUnsettled plan.now (T.state table.now) None place.now }
-    ensures ok { OnOk result ((text : List ℕ) × UnsettledLines plan.now (T.state table.now) all place.now text × Sent (K.taken out.old) (K.taken out.new) text []) }
-    ensures err { OnErr result ((text : List ℕ) × UnsettledLines plan.now (T.state table.now) all place.now text × Began (K.taken out.old) (K.taken out.new) text) }
-    ensures failed { is_err result ≡ true → K.broken out.new ≡ true }
-    ensures marks { is_err result ≡ false → K.broken out.new ≡ K.broken out.old }
+    ensures { (text : List ℕ) × UnsettledLines plan.now (T.state table.now) all place.now text
+        × Writes K.taken K.broken out.old out.new result text [] }
 {
     match places {
         Some(places) => write_each(plan, table, places, out),
@@ -161,10 +150,9 @@ fn write_verdict<T: MetricTable, K: Sink>(
     requires all { (place : Place2) → verdict.now ≡ Verdict.Unsettled place →
         is_some places.now ≡ all }
     requires verdict { IsVerdictOn plan.now (T.state table.now) verdict.now }
-    ensures ok { OnOk result ((text : List ℕ) × VerdictText plan.now (T.state table.now) all (record { text = text; status = verdict_status verdict.now }) × Sent (K.taken out.old) (K.taken out.new) text []) }
-    ensures err { OnErr result ((text : List ℕ) × VerdictText plan.now (T.state table.now) all (record { text = text; status = verdict_status verdict.now }) × Began (K.taken out.old) (K.taken out.new) text) }
-    ensures failed { is_err result ≡ true → K.broken out.new ≡ true }
-    ensures marks { is_err result ≡ false → K.broken out.new ≡ K.broken out.old }
+    ensures { (text : List ℕ) × VerdictText plan.now (T.state table.now) all
+        (record { text = text; status = verdict_status verdict.now })
+        × Writes K.taken K.broken out.old out.new result text [] }
 {
     plan.lawful();
     match verdict {
@@ -208,14 +196,16 @@ fn audit_table<T: MetricTable, K: Sink>(
     out: &mut K,
 ) -> Result<Status, RunError>
     requires { Fits plan.now (T.state table.now) }
-    ensures text { IfOk result (IsTold plan.now (T.state table.now) all (K.taken out.old) (K.taken out.new)) }
-    ensures write { result ≡ Err RunError.Write → (K.broken out.new ≡ true) × ((w : Written) × VerdictText plan.now (T.state table.now) all w × Began (K.taken out.old) (K.taken out.new) w.text) }
+    ensures text { IfOk result
+        (IsTold plan.now (T.state table.now) all (K.taken out.old) (K.taken out.new)) }
+    ensures write { result ≡ Err RunError.Write → (K.broken out.new ≡ true) × BeginningOut
+        (VerdictText plan.now (T.state table.now) all) (K.taken out.old) (K.taken out.new) }
     ensures sink { result ≢ Err RunError.Write → K.broken out.new ≡ K.broken out.old }
     ensures read { result ≢ Err RunError.Read }
     ensures memory { result ≡ Err RunError.Memory → Keeps (K.taken out.old) (K.taken out.new) }
     ensures wanted { result ≡ Err RunError.Memory →
         (all ≡ true) × IsJudged plan.now (T.state table.now) Status.Unsettled }
-    ensures judged { IfOk result (λ status. IsJudged plan.now (T.state table.now) status) }
+    ensures judged { IfOk result (IsJudged plan.now (T.state table.now)) }
 {
     let verdict = judge(plan, table);
     match places_of(alloc, plan, table, all, &verdict) {
@@ -227,37 +217,25 @@ fn audit_table<T: MetricTable, K: Sink>(
     }
 }
 
-/// Prints the verdict on a log, or what refuses the log. The table is new.
-fn audit_of<R: Source, K: Sink, T: MetricTable>(
-    alloc: Global,
-    plan: &Plan,
-    log: R,
-    out: &mut K,
+/// The command `audit`, for the first place that does not hold or for all.
+#[derive(Clone, Copy)]
+struct Audit {
     all: bool,
-    table: &mut T,
-) -> (R, Result<Status, RunError>)
-    requires { T.state table.old ≡ new_state plan.now }
-    ensures text { IfOk result.1 (λ status. (text : List ℕ) × AuditOf plan.now (R.coming log) all (record { text = text; status = status }) × Appends (K.taken out.old) (K.taken out.new) text) }
-    ensures write { result.1 ≡ Err RunError.Write → (K.broken out.new ≡ true) × ((w : Written) × AuditOf plan.now (R.coming log) all w × Began (K.taken out.old) (K.taken out.new) w.text) }
-    ensures read { result.1 ≡ Err RunError.Read → (R.broken result.0 ≡ true) × Keeps (K.taken out.old) (K.taken out.new) }
-    ensures memory { result.1 ≡ Err RunError.Memory → Keeps (K.taken out.old) (K.taken out.new) }
-    ensures source { result.1 ≢ Err RunError.Read → R.broken result.0 ≡ R.broken log }
-    ensures sink { result.1 ≢ Err RunError.Write → K.broken out.new ≡ K.broken out.old }
-    ensures ended { IfOk result.1 (λ status. status ≢ Status.Refused → R.at_end result.0 ≡ true) }
-    ensures judged { (s : State) → IsTable plan.now (R.coming log) s → IfOk result.1 (λ status. IsJudged plan.now s status) }
-    ensures told { (s : State) → IsTable plan.now (R.coming log) s → IfOk result.1 (IsTold plan.now s all (K.taken out.old) (K.taken out.new)) }
-{
-    let (source, read) = read_log(alloc, plan, log, table);
-    match read {
-        Ok(None) => (source, audit_table(alloc, plan, table, all, out)),
-        Ok(Some(error)) => (
-            source,
-            finish(
-                write_all(out, refusal_text(error).as_bytes()),
-                Status::Refused,
-            ),
-        ),
-        Err(error) => (source, Err(error)),
+}
+
+impl Report for Audit {
+    ghost is_text = { λ audit n s. VerdictText n s audit.all };
+
+    ghost means = { λ audit n s. IsJudged n s };
+
+    fn write<T: MetricTable, K: Sink>(
+        &self,
+        alloc: Global,
+        plan: &Plan,
+        table: &T,
+        out: &mut K,
+    ) -> Result<Status, RunError> {
+        audit_table(alloc, plan, table, self.all, out)
     }
 }
 
@@ -274,33 +252,33 @@ pub fn run_audit<R: Source, K: Sink, S: BuildHasher + Drop>(
 ) -> (R, Result<Status, RunError>)
     // Settled is answered exactly where the log shows tables that are right, and then packets arrive;
     // otherwise the first place that does not hold is named, or the first trouble.
-    ensures headline { (n : Network) (s : State) → IsAudited plan.now (R.coming log) n s → IfOk result.1 (λ status. ((status ≡ Status.Settled) ↔ ShowsRightTables n s) × (status ≡ Status.Settled → PacketsArrive n s) × IsTold n s all (K.taken out.old) (K.taken out.new) status) }
+    ensures headline { (n : Network) (s : State) → IsAccepted plan.now (R.coming log) n s →
+        IfOk result.1 (λ status. ((status ≡ Status.Settled) ↔ ShowsRightTables n s)
+        × (status ≡ Status.Settled → PacketsArrive n s)
+        × IsTold n s all (K.taken out.old) (K.taken out.new) status) }
     // What each verdict is answered for.
-    ensures judged { (n : Network) (s : State) → IsAudited plan.now (R.coming log) n s → IfOk result.1 (λ status. IsJudged n s status) }
+    ensures judged { (n : Network) (s : State) → IsAccepted plan.now (R.coming log) n s →
+        IfOk result.1 (IsJudged n s) }
     // The whole text went out, and nothing else.
-    ensures text { IfOk result.1 (λ status. (text : List ℕ) × AuditText plan.now (R.coming log) all (record { text = text; status = status }) × Appends (K.taken out.old) (K.taken out.new) text) }
+    ensures text { IfOk result.1 (WentOut (AuditText plan.now (R.coming log) all)
+        (K.taken out.old) (K.taken out.new)) }
     // The sink has failed, and a beginning of the text went out.
-    ensures write { result.1 ≡ Err RunError.Write → (K.broken out.new ≡ true) × ((w : Written) × AuditText plan.now (R.coming log) all w × Began (K.taken out.old) (K.taken out.new) w.text) }
+    ensures write { result.1 ≡ Err RunError.Write → (K.broken out.new ≡ true)
+        × BeginningOut (AuditText plan.now (R.coming log) all) (K.taken out.old) (K.taken out.new) }
     // The source has failed, and nothing went out.
-    ensures read { result.1 ≡ Err RunError.Read → (R.broken result.0 ≡ true) × Keeps (K.taken out.old) (K.taken out.new) }
+    ensures read { result.1 ≡ Err RunError.Read →
+        (R.broken result.0 ≡ true) × Keeps (K.taken out.old) (K.taken out.new) }
     // With Memory nothing went out.
     ensures memory { result.1 ≡ Err RunError.Memory → Keeps (K.taken out.old) (K.taken out.new) }
     // Every other answer leaves the marks of the devices as they were.
     ensures source { result.1 ≢ Err RunError.Read → R.broken result.0 ≡ R.broken log }
     ensures sink { result.1 ≢ Err RunError.Write → K.broken out.new ≡ K.broken out.old }
     // A verdict comes only where the source has come to its end.
-    ensures ended { IfOk result.1 (λ status. status ≢ Status.Refused → R.at_end result.0 ≡ true) }
+    ensures ended { IfOk result.1 (λ status.
+        status ≢ Status.Refused → R.at_end result.0 ≡ true) }
     ensures untouched { (e : PlanError) → first_fault plan.now ≡ Some e → result.0 ≡ log }
 {
-    one_plan();
-    let plan = match Plan::read(alloc, plan) {
-        Ok(plan) => plan,
-        Err(error) => return (log, refuse_plan(error, out)),
-    };
-    match GridTable::with_hasher(alloc, &plan, hasher) {
-        Ok(mut table) => audit_of(alloc, &plan, log, out, all, &mut table),
-        Err(_) => (log, Err(RunError::Memory)),
-    }
+    run_report(alloc, &Audit { all }, plan, log, out, hasher)
 }
 
 #[cfg(test)]

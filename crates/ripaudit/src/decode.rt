@@ -1,14 +1,13 @@
 //! The command `decode`: one datagram in hexadecimal digits.
 
-ghost use Rattle.std.specs.Prelude.{◌≡◌, ◌+◌, ◌≤◌, ◌%◌, ◌↔◌, ◌++◌, ℕ, List, Ok, [], decimal, false, is_err, length, take, true, IfErr, IfOk, IsOk, IsTrue, MatchOption, OnErr, OnOk};
-ghost use Rattle.std.specs.Io.KnownBytes.{Appends};
+ghost use Rattle.std.specs.Prelude.{◌≡◌, ◌+◌, ◌≤◌, ◌%◌, ◌↔◌, ◌++◌, ℕ, List, Ok, [], decimal, length, take, true, IfErr, IfOk, IsOk, IsTrue, MatchOption};
 ghost use Rattle.std.specs.List.{AllPass};
 ghost use Rattle.hex.specs.Hex.{decode_of, is_hex_digit};
 ghost use Rattle.rip_wire.specs.Datagram.{datagram_bytes, entries_of, kind_of, message_of};
 ghost use Rattle.ripaudit.specs.DecodeText.{DecodeText, entry_line, entry_lines, refused_wire, shown, shown_response, wire_code_text, wire_fault_text};
 ghost use Rattle.ripaudit.specs.Held.{held};
-ghost use Rattle.ripaudit.specs.Sent.{Began, Sent};
-ghost use Rattle.ripaudit.specs.Written.{Written, line};
+ghost use Rattle.ripaudit.specs.Sent.{BeginningOut, WentOut, Writes};
+ghost use Rattle.ripaudit.specs.Written.{line};
 
 use crate::line::Line;
 use crate::output::{Page, finish, write_all};
@@ -29,7 +28,9 @@ fn is_hex(word: &[u8]) -> bool
 /// The bytes that a word spells in hexadecimal digits, or the first 505 of them. There are none
 /// where the number of digits is odd, or where a byte is no digit.
 fn bytes_of_hex<'a>(word: &[u8], room: &'a mut [u8; ROOM]) -> Option<&'a [u8]>
-    ensures { MatchOption result ((bytes : List ℕ) → decode_of word.now ≡ Ok bytes → ⊥) (λ front. (bytes : List ℕ) × (decode_of word.now ≡ Ok bytes) × (front.now ≡ take 505 bytes)) }
+    ensures { MatchOption result ((bytes : List ℕ) → decode_of word.now ≡ Ok bytes → ⊥)
+        (λ front. (bytes : List ℕ) × (decode_of word.now ≡ Ok bytes)
+        × (front.now ≡ take 505 bytes)) }
 {
     if !is_hex(word) {
         return None;
@@ -122,10 +123,8 @@ fn write_entries<K: Sink>(
     out: &mut K,
 ) -> Result<(), Failed>
     requires { kind_of (message_of datagram.now) ≡ Kind.Response }
-    ensures ok { OnOk result (Sent (K.taken out.old) (K.taken out.new) (held page.old ++ entry_lines (entries_of (message_of datagram.now))) (held page.new)) }
-    ensures err { OnErr result (Began (K.taken out.old) (K.taken out.new) (held page.old ++ entry_lines (entries_of (message_of datagram.now)))) }
-    ensures failed { is_err result ≡ true → K.broken out.new ≡ true }
-    ensures marks { is_err result ≡ false → K.broken out.new ≡ K.broken out.old }
+    ensures { Writes K.taken K.broken out.old out.new result
+        (held page.old ++ entry_lines (entries_of (message_of datagram.now))) (held page.new) }
 {
     for i in 0..datagram.len() {
         page.write(out, entry_text(datagram.entry(i)).as_bytes())?;
@@ -136,10 +135,8 @@ fn write_entries<K: Sink>(
 /// Writes a response: its line, and the lines of its entries.
 fn write_response_text<K: Sink>(datagram: &Datagram<'_>, out: &mut K) -> Result<(), Failed>
     requires { kind_of (message_of datagram.now) ≡ Kind.Response }
-    ensures ok { OnOk result (Sent (K.taken out.old) (K.taken out.new) (shown_response (entries_of (message_of datagram.now))).text []) }
-    ensures err { OnErr result (Began (K.taken out.old) (K.taken out.new) (shown_response (entries_of (message_of datagram.now))).text) }
-    ensures failed { is_err result ≡ true → K.broken out.new ≡ true }
-    ensures marks { is_err result ≡ false → K.broken out.new ≡ K.broken out.old }
+    ensures { Writes K.taken K.broken out.old out.new result
+        (shown_response (entries_of (message_of datagram.now))).text [] }
 {
     let mut page = Page::new();
     page.write(out, kind_text("response ", datagram.len()).as_bytes())?;
@@ -149,10 +146,8 @@ fn write_response_text<K: Sink>(datagram: &Datagram<'_>, out: &mut K) -> Result<
 
 /// Writes a datagram: its kind and its number of entries, and the entries of a response.
 fn write_datagram<K: Sink>(datagram: &Datagram<'_>, out: &mut K) -> Result<(), Failed>
-    ensures ok { OnOk result (Sent (K.taken out.old) (K.taken out.new) (shown (datagram_bytes datagram.now) (message_of datagram.now)).text []) }
-    ensures err { OnErr result (Began (K.taken out.old) (K.taken out.new) (shown (datagram_bytes datagram.now) (message_of datagram.now)).text) }
-    ensures failed { is_err result ≡ true → K.broken out.new ≡ true }
-    ensures marks { is_err result ≡ false → K.broken out.new ≡ K.broken out.old }
+    ensures { Writes K.taken K.broken out.old out.new result
+        (shown (datagram_bytes datagram.now) (message_of datagram.now)).text [] }
 {
     match datagram.kind() {
         Kind::Request => write_all(out, kind_text("request ", datagram.len()).as_bytes()),
@@ -164,9 +159,10 @@ fn write_datagram<K: Sink>(datagram: &Datagram<'_>, out: &mut K) -> Result<(), F
 /// with it. A word of any length is judged. It takes no memory.
 pub fn run_decode<K: Sink>(hex: &str, out: &mut K) -> Result<Status, RunError>
     // The whole text went out, and nothing else.
-    ensures text { IfOk result (λ status. (text : List ℕ) × DecodeText hex.now (record { text = text; status = status }) × Appends (K.taken out.old) (K.taken out.new) text) }
+    ensures text { IfOk result (WentOut (DecodeText hex.now) (K.taken out.old) (K.taken out.new)) }
     // The sink has failed, and a beginning of the text went out.
-    ensures write { IfErr result (λ e. (e ≡ RunError.Write) × (K.broken out.new ≡ true) × ((w : Written) × DecodeText hex.now w × Began (K.taken out.old) (K.taken out.new) w.text)) }
+    ensures write { IfErr result (λ e. (e ≡ RunError.Write) × (K.broken out.new ≡ true)
+        × BeginningOut (DecodeText hex.now) (K.taken out.old) (K.taken out.new)) }
     ensures marks { IsOk result → K.broken out.new ≡ K.broken out.old }
 {
     let mut room = [0; ROOM];

@@ -3,6 +3,7 @@
 ghost use Rattle.std.specs.Prelude.{◌≡◌, ◌+◌, ◌^◌, ◌<◌, ◌≤◌, ◌∷◌, ◌++◌, [], decimal, length};
 ghost use Rattle.rip_wire.specs.Address.{address_text};
 ghost use Rattle.rip_wire.specs.Prefix.{prefix_text};
+ghost use Rattle.ripaudit.specs.Names.{numbered};
 
 use itoa::Buffer;
 use rip_wire::{Address, Metric, Prefix};
@@ -64,6 +65,17 @@ impl Line {
         ensures size { length self.new ≤ length self.old + 20 }
     {
         self.push(Buffer::new().format(number));
+    }
+
+    /// Adds a word and a number.
+    pub(crate) fn push_numbered(&mut self, word: &str, number: usize)
+        requires short { length word.now ≤ 16 }
+        requires room { length self.old + 36 ≤ 256 }
+        ensures text { self.new ≡ self.old ++ numbered word.now number }
+        ensures size { length self.new ≤ length self.old + 36 }
+    {
+        self.push(word);
+        self.push_number(number as u64);
     }
 
     /// Adds a metric.

@@ -1,18 +1,15 @@
 //! Writing text to a sink.
 
-ghost use Rattle.std.specs.Prelude.{◌≡◌, ◌+◌, ◌≤◌, ◌++◌, [], false, true, OnErr, OnOk, is_err, length};
+ghost use Rattle.std.specs.Prelude.{◌≡◌, ◌+◌, ◌≤◌, ◌++◌, [], length};
 ghost use Rattle.ripaudit.specs.Finished.{finished};
-ghost use Rattle.ripaudit.specs.Sent.{Began, Sent};
+ghost use Rattle.ripaudit.specs.Sent.{Writes};
 
 use crate::status::{RunError, Status};
 use rip_log::{Failed, Sink};
 
 /// Writes all bytes. Where the sink fails, a beginning of them is out.
 pub(crate) fn write_all<K: Sink>(out: &mut K, bytes: &[u8]) -> Result<(), Failed>
-    ensures ok { OnOk result (Sent (K.taken out.old) (K.taken out.new) bytes.now []) }
-    ensures err { OnErr result (Began (K.taken out.old) (K.taken out.new) bytes.now) }
-    ensures failed { is_err result ≡ true → K.broken out.new ≡ true }
-    ensures marks { is_err result ≡ false → K.broken out.new ≡ K.broken out.old }
+    ensures { Writes K.taken K.broken out.old out.new result bytes.now [] }
 {
     let mut at = 0;
     'pieces: while at < bytes.len() {
@@ -68,12 +65,9 @@ impl Page {
 
     /// Sends what the page holds.
     pub(crate) fn flush<K: Sink>(&mut self, out: &mut K) -> Result<(), Failed>
-        ensures ok { OnOk result (Sent (K.taken out.old) (K.taken out.new) (held self.old) []) }
+        ensures writes { Writes K.taken K.broken out.old out.new result (held self.old) [] }
         ensures empty { held self.new ≡ [] }
         ensures room { self.new.used ≡ 0 }
-        ensures err { OnErr result (Began (K.taken out.old) (K.taken out.new) (held self.old)) }
-        ensures failed { is_err result ≡ true → K.broken out.new ≡ true }
-        ensures marks { is_err result ≡ false → K.broken out.new ≡ K.broken out.old }
     {
         let used = self.used;
         self.used = 0;
@@ -89,12 +83,8 @@ impl Page {
         end: &[u8],
     ) -> Result<(), Failed>
         requires { length front.now + length middle.now + length end.now ≤ 4096 }
-        ensures ok { OnOk result (Sent (K.taken out.old) (K.taken out.new)
-            (held self.old ++ (front.now ++ (middle.now ++ end.now))) (held self.new)) }
-        ensures err { OnErr result (Began (K.taken out.old) (K.taken out.new)
-            (held self.old ++ (front.now ++ (middle.now ++ end.now)))) }
-        ensures failed { is_err result ≡ true → K.broken out.new ≡ true }
-        ensures marks { is_err result ≡ false → K.broken out.new ≡ K.broken out.old }
+        ensures { Writes K.taken K.broken out.old out.new result
+            (held self.old ++ (front.now ++ (middle.now ++ end.now))) (held self.new) }
     {
         if front.len() + middle.len() + end.len() > ROOM - self.used {
             self.flush(out)?;
@@ -107,10 +97,8 @@ impl Page {
 
     /// Adds bytes, and sends what the page has no room for.
     pub(crate) fn write<K: Sink>(&mut self, out: &mut K, bytes: &[u8]) -> Result<(), Failed>
-        ensures ok { OnOk result (Sent (K.taken out.old) (K.taken out.new) (held self.old ++ bytes.now) (held self.new)) }
-        ensures err { OnErr result (Began (K.taken out.old) (K.taken out.new) (held self.old ++ bytes.now)) }
-        ensures failed { is_err result ≡ true → K.broken out.new ≡ true }
-        ensures marks { is_err result ≡ false → K.broken out.new ≡ K.broken out.old }
+        ensures { Writes K.taken K.broken out.old out.new result
+            (held self.old ++ bytes.now) (held self.new) }
     {
         if bytes.len() > ROOM - self.used {
             self.flush(out)?;

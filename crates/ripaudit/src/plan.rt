@@ -1,14 +1,14 @@
 //! The command `plan`: the parts of a plan.
 
-ghost use Rattle.std.specs.Prelude.{◌≡◌, ◌≢◌, ◌+◌, ◌≤◌, ◌<◌, ◌++◌, ℕ, List, [], Err, IfOk, IsOk, OnErr, OnOk, Some, false, is_err, length, slice_get, true};
-ghost use Rattle.std.specs.Io.KnownBytes.{Appends, Keeps};
+ghost use Rattle.std.specs.Prelude.{◌≡◌, ◌≢◌, ◌+◌, ◌≤◌, ◌<◌, ◌↔◌, ◌++◌, [], Err, IfOk, IsOk, length, true};
+ghost use Rattle.std.specs.Io.KnownBytes.{Keeps};
 ghost use Rattle.std.specs.List.{flat_map};
-ghost use Rattle.ripaudit.specs.PlanText.{IsSeat, PlanText, at_text, counts_line, interface_line, name_of, numbered, place_line, plan_code_text, refused_plan, seat_text, shown_plan};
+ghost use Rattle.ripaudit.specs.PlanText.{IsSeat, PlanText, at_text, counts_line, interface_line, place_line, plan_code_text, refused_plan, seat_text, shown_plan};
 ghost use Rattle.ripaudit.specs.Held.{held};
-ghost use Rattle.ripaudit.specs.Sent.{Began, Sent};
-ghost use Rattle.ripaudit.specs.Written.{Written};
+ghost use Rattle.ripaudit.specs.Sent.{BeginningOut, WentOut, Writes};
 
 use crate::line::Line;
+use crate::names::{push_link, push_router};
 use crate::output::{Page, finish, write_all};
 use crate::status::{RunError, Status};
 use rip_log::{Failed, Sink};
@@ -40,17 +40,6 @@ fn code_text(code: PlanCode) -> &'static str
     }
 }
 
-/// Adds a word and a number.
-pub(crate) fn push_numbered(text: &mut Line, word: &str, number: usize)
-    requires short { length word.now ≤ 16 }
-    requires room { length text.old + 36 ≤ 256 }
-    ensures text { text.new ≡ text.old ++ numbered word.now number }
-    ensures size { length text.new ≤ length text.old + 36 }
-{
-    text.push(word);
-    text.push_number(number as u64);
-}
-
 /// Adds a place in a plan's text.
 fn push_at(text: &mut Line, place: At)
     requires { length text.old + 72 ≤ 256 }
@@ -60,19 +49,19 @@ fn push_at(text: &mut Line, place: At)
     match place {
         At::Text => text.push("text"),
         At::Version => text.push("version"),
-        At::Link(i) => push_numbered(text, "link ", i),
+        At::Link(i) => text.push_numbered("link ", i),
         At::LinkPrefix(i, j) => {
-            push_numbered(text, "link ", i);
-            push_numbered(text, " prefix ", j);
+            text.push_numbered("link ", i);
+            text.push_numbered(" prefix ", j);
         }
-        At::Router(i) => push_numbered(text, "router ", i),
+        At::Router(i) => text.push_numbered("router ", i),
         At::RouterInterface(i, j) => {
-            push_numbered(text, "router ", i);
-            push_numbered(text, " interface ", j);
+            text.push_numbered("router ", i);
+            text.push_numbered(" interface ", j);
         }
         At::RouterOwn(i, j) => {
-            push_numbered(text, "router ", i);
-            push_numbered(text, " own ", j);
+            text.push_numbered("router ", i);
+            text.push_numbered(" own ", j);
         }
     }
 }
@@ -109,28 +98,6 @@ fn counts_text(plan: &Plan) -> Line
     text
 }
 
-/// Adds the name of a router.
-pub(crate) fn push_router(text: &mut Line, plan: &Plan, router: usize)
-    requires known { router < length plan.now.routers }
-    requires room { length text.old + 32 ≤ 256 }
-    ensures text { text.new ≡ text.old ++ name_of plan.now.routers router }
-    ensures size { length text.new ≤ length text.old + 32 }
-{
-    plan.lawful();
-    text.push(plan.router_name(router));
-}
-
-/// Adds the name of a link.
-pub(crate) fn push_link(text: &mut Line, plan: &Plan, link: usize)
-    requires known { link < length plan.now.links }
-    requires room { length text.old + 32 ≤ 256 }
-    ensures text { text.new ≡ text.old ++ name_of plan.now.links link }
-    ensures size { length text.new ≤ length text.old + 32 }
-{
-    plan.lawful();
-    text.push(plan.link_name(link));
-}
-
 /// The line of an interface.
 #[tactic(auto, unfolding(crate::specs::PlanText::interface_line))]
 fn interface_text(plan: &Plan, interface: Interface) -> Line
@@ -153,10 +120,8 @@ fn interface_text(plan: &Plan, interface: Interface) -> Line
 
 /// Writes the lines of the interfaces.
 fn write_interfaces<K: Sink>(page: &mut Page, plan: &Plan, out: &mut K) -> Result<(), Failed>
-    ensures ok { OnOk result (Sent (K.taken out.old) (K.taken out.new) (held page.old ++ flat_map (interface_line plan.now) plan.now.interfaces) (held page.new)) }
-    ensures err { OnErr result (Began (K.taken out.old) (K.taken out.new) (held page.old ++ flat_map (interface_line plan.now) plan.now.interfaces)) }
-    ensures failed { is_err result ≡ true → K.broken out.new ≡ true }
-    ensures marks { is_err result ≡ false → K.broken out.new ≡ K.broken out.old }
+    ensures { Writes K.taken K.broken out.old out.new result
+        (held page.old ++ flat_map (interface_line plan.now) plan.now.interfaces) (held page.new) }
 {
     plan.lawful();
     for i in 0..plan.interfaces() {
@@ -203,10 +168,8 @@ fn place_text(plan: &Plan, place: Place) -> Line
 
 /// Writes the lines of the places.
 fn write_places<K: Sink>(page: &mut Page, plan: &Plan, out: &mut K) -> Result<(), Failed>
-    ensures ok { OnOk result (Sent (K.taken out.old) (K.taken out.new) (held page.old ++ flat_map (place_line plan.now) plan.now.places) (held page.new)) }
-    ensures err { OnErr result (Began (K.taken out.old) (K.taken out.new) (held page.old ++ flat_map (place_line plan.now) plan.now.places)) }
-    ensures failed { is_err result ≡ true → K.broken out.new ≡ true }
-    ensures marks { is_err result ≡ false → K.broken out.new ≡ K.broken out.old }
+    ensures { Writes K.taken K.broken out.old out.new result
+        (held page.old ++ flat_map (place_line plan.now) plan.now.places) (held page.new) }
 {
     plan.lawful();
     for k in 0..plan.places() {
@@ -217,10 +180,7 @@ fn write_places<K: Sink>(page: &mut Page, plan: &Plan, out: &mut K) -> Result<()
 
 /// Writes a plan: its counts, its interfaces and its places.
 fn write_plan<K: Sink>(plan: &Plan, out: &mut K) -> Result<(), Failed>
-    ensures ok { OnOk result (Sent (K.taken out.old) (K.taken out.new) (shown_plan plan.now).text []) }
-    ensures err { OnErr result (Began (K.taken out.old) (K.taken out.new) (shown_plan plan.now).text) }
-    ensures failed { is_err result ≡ true → K.broken out.new ≡ true }
-    ensures marks { is_err result ≡ false → K.broken out.new ≡ K.broken out.old }
+    ensures { Writes K.taken K.broken out.old out.new result (shown_plan plan.now).text [] }
 {
     let mut page = Page::new();
     page.write(out, counts_text(plan).as_bytes())?;
@@ -231,9 +191,12 @@ fn write_plan<K: Sink>(plan: &Plan, out: &mut K) -> Result<(), Failed>
 
 /// Ends a run whose plan is refused, or for whose plan there is no memory.
 pub(crate) fn refuse_plan<K: Sink>(error: PlanError, out: &mut K) -> Result<Status, RunError>
-    ensures text { IfOk result (λ status. (error.code ≢ PlanCode.Memory) × (status ≡ Status.Refused) × Appends (K.taken out.old) (K.taken out.new) (refused_plan error).text) }
-    ensures write { result ≡ Err RunError.Write → (error.code ≢ PlanCode.Memory) × (K.broken out.new ≡ true) × Began (K.taken out.old) (K.taken out.new) (refused_plan error).text }
-    ensures memory { result ≡ Err RunError.Memory → (error.code ≡ PlanCode.Memory) × Keeps (K.taken out.old) (K.taken out.new) }
+    ensures text { IfOk result
+        (WentOut (λ w. w ≡ refused_plan error) (K.taken out.old) (K.taken out.new)) }
+    ensures write { result ≡ Err RunError.Write → (K.broken out.new ≡ true)
+        × BeginningOut (λ w. w ≡ refused_plan error) (K.taken out.old) (K.taken out.new) }
+    ensures wanted { (result ≡ Err RunError.Memory) ↔ (error.code ≡ PlanCode.Memory) }
+    ensures memory { result ≡ Err RunError.Memory → Keeps (K.taken out.old) (K.taken out.new) }
     ensures read { result ≢ Err RunError.Read }
     ensures sink { result ≢ Err RunError.Write → K.broken out.new ≡ K.broken out.old }
 {
@@ -249,11 +212,13 @@ pub(crate) fn refuse_plan<K: Sink>(error: PlanError, out: &mut K) -> Result<Stat
 /// Prints the plan that the bytes of a TOML document are, or their first fault.
 pub fn run_plan<K: Sink>(alloc: Global, plan: &[u8], out: &mut K) -> Result<Status, RunError>
     // The whole text went out, and nothing else.
-    ensures text { IfOk result (λ status. (text : List ℕ) × PlanText plan.now (record { text = text; status = status }) × Appends (K.taken out.old) (K.taken out.new) text) }
+    ensures text { IfOk result (WentOut (PlanText plan.now) (K.taken out.old) (K.taken out.new)) }
     // The sink has failed, and a beginning of the text went out.
-    ensures write { result ≡ Err RunError.Write → (K.broken out.new ≡ true) × ((w : Written) × PlanText plan.now w × Began (K.taken out.old) (K.taken out.new) w.text) }
+    ensures write { result ≡ Err RunError.Write → (K.broken out.new ≡ true)
+        × BeginningOut (PlanText plan.now) (K.taken out.old) (K.taken out.new) }
     // With Memory nothing went out.
-    ensures memory { result ≡ Err RunError.Memory → (K.broken out.new ≡ K.broken out.old) × Keeps (K.taken out.old) (K.taken out.new) }
+    ensures memory { result ≡ Err RunError.Memory →
+        (K.broken out.new ≡ K.broken out.old) × Keeps (K.taken out.old) (K.taken out.new) }
     ensures read { result ≡ Err RunError.Read → ⊥ }
     ensures marks { IsOk result → K.broken out.new ≡ K.broken out.old }
 {

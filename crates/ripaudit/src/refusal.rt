@@ -5,7 +5,6 @@ ghost use Rattle.ripaudit.specs.RefusalText.{at_line, cause_text, change_text, l
 
 use crate::decode::push_wire_fault;
 use crate::line::Line;
-use crate::plan::push_numbered;
 use rip_log::LogCode;
 use rip_table::{CollectCause, CollectError, TableError};
 use rip_wire::{Metric, Prefix};
@@ -86,7 +85,7 @@ fn push_line(text: &mut Line, word: &str, line: u32)
     ensures text { text.new ≡ text.old ++ at_line word.now line }
     ensures size { length text.new ≤ length text.old + 40 }
 {
-    push_numbered(text, word, line as usize);
+    text.push_numbered(word, line as usize);
     text.push(": ");
 }
 

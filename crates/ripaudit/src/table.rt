@@ -1,30 +1,28 @@
 //! The command `table`: what the interfaces of a plan showed in a log.
 
-ghost use Rattle.std.specs.Prelude.{◌≡◌, ◌≢◌, ◌+◌, ◌≤◌, ◌<◌, ◌++◌, List, ℕ, [], Err, IfOk, Ok, OnErr, OnOk, Some, false, is_err, length, slice_get, codes, true};
-ghost use Rattle.std.specs.Io.KnownBytes.{Appends, Keeps};
+ghost use Rattle.std.specs.Prelude.{◌≡◌, ◌≢◌, ◌+◌, ◌≤◌, ◌<◌, ◌++◌, [], Err, IfOk, Ok, Some, length, codes, true};
+ghost use Rattle.std.specs.Io.KnownBytes.{Keeps};
 ghost use Rattle.std.specs.List.{enumerate_from, flat_map};
 ghost use Rattle.rip_plan.specs.Answers.{first_fault};
 ghost use Rattle.rip_plan.specs.declared.error.PlanError.{PlanError};
-ghost use Rattle.rip_table.specs.State.{Fits, new_state};
-ghost use Rattle.ripaudit.specs.TableText.{TableOf, TableText, interface_lines, interface_name, prefix_lines, shown_lines, shown_table, table_line, unheard_line};
+ghost use Rattle.rip_table.specs.State.{Fits};
+ghost use Rattle.ripaudit.specs.TableText.{TableText, interface_lines, interface_name, prefix_lines, shown_lines, shown_table, table_line, unheard_line};
 ghost use Rattle.ripaudit.specs.Held.{held};
-ghost use Rattle.ripaudit.specs.Sent.{Began, Sent};
+ghost use Rattle.ripaudit.specs.Sent.{BeginningOut, WentOut, Writes};
 ghost use Rattle.ripaudit.specs.Texts.{AreOfMetrics, AreTexts, text_of};
-ghost use Rattle.ripaudit.specs.Written.{Written};
 ghost use Rattle.rip_plan.specs.Network.{Network};
 ghost use Rattle.rip_plan.specs.declared.parts.Interface.{Interface};
 ghost use Rattle.rip_wire.specs.Prefix.{Block, prefix_text};
 
 use crate::line::Line;
-use crate::output::{Page, finish, write_all};
-use crate::plan::{push_link, push_router, refuse_plan};
-use crate::reading::read_log;
-use crate::refusal::refusal_text;
+use crate::names::{push_link, push_router};
+use crate::output::{Page, finish};
+use crate::report::{Report, run_report};
 use crate::status::{RunError, Status};
 use crate::texts::{METRICS, Text, Texts};
 use rip_log::{Failed, Sink, Source};
 use rip_plan::{Interface, Plan};
-use rip_table::{GridTable, MetricTable};
+use rip_table::MetricTable;
 use rip_wire::Metric;
 use std::alloc::Global;
 use std::hash::BuildHasher;
@@ -95,18 +93,11 @@ fn write_prefix<K: Sink>(
 ) -> Result<(), Failed>
     requires front { length front.now ≤ 66 }
     requires metrics { AreOfMetrics metrics.now }
-    ensures ok { (n : Network) (i : Interface) (p : Block) →
+    ensures { (n : Network) (i : Interface) (p : Block) →
         front.now ≡ interface_name n i ++ codes " " →
         text_of prefix.now ≡ prefix_text p ++ codes " " →
-        OnOk result (Sent (K.taken out.old) (K.taken out.new)
-        (held page.old ++ prefix_lines n i p metric) (held page.new)) }
-    ensures err { (n : Network) (i : Interface) (p : Block) →
-        front.now ≡ interface_name n i ++ codes " " →
-        text_of prefix.now ≡ prefix_text p ++ codes " " →
-        OnErr result (Began (K.taken out.old) (K.taken out.new)
-        (held page.old ++ prefix_lines n i p metric)) }
-    ensures failed { is_err result ≡ true → K.broken out.new ≡ true }
-    ensures marks { is_err result ≡ false → K.broken out.new ≡ K.broken out.old }
+        Writes K.taken K.broken out.old out.new result
+        (held page.old ++ prefix_lines n i p metric) (held page.new) }
 {
     let Some(metric) = metric else {
         return Ok(());
@@ -129,10 +120,9 @@ fn write_shown<T: MetricTable, K: Sink>(
     requires number { number < (T.state table.now).interfaces }
     requires router { interface.now.router < length plan.now.routers }
     requires link { interface.now.link < length plan.now.links }
-    ensures ok { OnOk result (Sent (K.taken out.old) (K.taken out.new) (held page.old ++ shown_lines plan.now (T.state table.now) number interface.now) (held page.new)) }
-    ensures err { OnErr result (Began (K.taken out.old) (K.taken out.new) (held page.old ++ shown_lines plan.now (T.state table.now) number interface.now)) }
-    ensures failed { is_err result ≡ true → K.broken out.new ≡ true }
-    ensures marks { is_err result ≡ false → K.broken out.new ≡ K.broken out.old }
+    ensures { Writes K.taken K.broken out.old out.new result
+        (held page.old ++ shown_lines plan.now (T.state table.now) number interface.now)
+        (held page.new) }
 {
     let front = front_text(plan, *interface);
     for k in 0..table.prefix_count() {
@@ -163,10 +153,9 @@ fn write_interface<T: MetricTable, K: Sink>(
     requires number { number < (T.state table.now).interfaces }
     requires router { interface.router < length plan.now.routers }
     requires link { interface.link < length plan.now.links }
-    ensures ok { OnOk result (Sent (K.taken out.old) (K.taken out.new) (held page.old ++ interface_lines plan.now (T.state table.now) (number, interface)) (held page.new)) }
-    ensures err { OnErr result (Began (K.taken out.old) (K.taken out.new) (held page.old ++ interface_lines plan.now (T.state table.now) (number, interface))) }
-    ensures failed { is_err result ≡ true → K.broken out.new ≡ true }
-    ensures marks { is_err result ≡ false → K.broken out.new ≡ K.broken out.old }
+    ensures { Writes K.taken K.broken out.old out.new result
+        (held page.old ++ interface_lines plan.now (T.state table.now) (number, interface))
+        (held page.new) }
 {
     if table.heard(number) {
         write_shown(page, plan, table, texts, number, &interface, out)
@@ -185,10 +174,9 @@ fn write_interfaces<T: MetricTable, K: Sink>(
 ) -> Result<(), Failed>
     requires fits { Fits plan.now (T.state table.now) }
     requires texts { AreTexts (T.state table.now).prefixes texts.now }
-    ensures ok { OnOk result (Sent (K.taken out.old) (K.taken out.new) (held page.old ++ flat_map (interface_lines plan.now (T.state table.now)) (enumerate_from 0 plan.now.interfaces)) (held page.new)) }
-    ensures err { OnErr result (Began (K.taken out.old) (K.taken out.new) (held page.old ++ flat_map (interface_lines plan.now (T.state table.now)) (enumerate_from 0 plan.now.interfaces))) }
-    ensures failed { is_err result ≡ true → K.broken out.new ≡ true }
-    ensures marks { is_err result ≡ false → K.broken out.new ≡ K.broken out.old }
+    ensures { Writes K.taken K.broken out.old out.new result
+        (held page.old ++ flat_map (interface_lines plan.now (T.state table.now))
+        (enumerate_from 0 plan.now.interfaces)) (held page.new) }
 {
     plan.lawful();
     for i in 0..plan.interfaces() {
@@ -204,10 +192,8 @@ pub(crate) fn write_table<T: MetricTable, K: Sink>(
     out: &mut K,
 ) -> Result<(), Failed>
     requires { Fits plan.now (T.state table.now) }
-    ensures ok { OnOk result (Sent (K.taken out.old) (K.taken out.new) (shown_table plan.now (T.state table.now)).text []) }
-    ensures err { OnErr result (Began (K.taken out.old) (K.taken out.new) (shown_table plan.now (T.state table.now)).text) }
-    ensures failed { is_err result ≡ true → K.broken out.new ≡ true }
-    ensures marks { is_err result ≡ false → K.broken out.new ≡ K.broken out.old }
+    ensures { Writes K.taken K.broken out.old out.new result
+        (shown_table plan.now (T.state table.now)).text [] }
 {
     let mut page = Page::new();
     let counts = counts_text(plan.interfaces(), table.prefix_count());
@@ -217,34 +203,25 @@ pub(crate) fn write_table<T: MetricTable, K: Sink>(
     page.flush(out)
 }
 
-/// Prints the table of a log, or what refuses the log. The table is new.
-fn table_of<R: Source, K: Sink, T: MetricTable>(
-    alloc: Global,
-    plan: &Plan,
-    log: R,
-    out: &mut K,
-    table: &mut T,
-) -> (R, Result<Status, RunError>)
-    requires { T.state table.old ≡ new_state plan.now }
-    ensures text { IfOk result.1 (λ status. (text : List ℕ) × TableOf plan.now (R.coming log) (record { text = text; status = status }) × Appends (K.taken out.old) (K.taken out.new) text) }
-    ensures write { result.1 ≡ Err RunError.Write → (K.broken out.new ≡ true) × ((w : Written) × TableOf plan.now (R.coming log) w × Began (K.taken out.old) (K.taken out.new) w.text) }
-    ensures read { result.1 ≡ Err RunError.Read → (R.broken result.0 ≡ true) × Keeps (K.taken out.old) (K.taken out.new) }
-    ensures memory { result.1 ≡ Err RunError.Memory → Keeps (K.taken out.old) (K.taken out.new) }
-    ensures source { result.1 ≢ Err RunError.Read → R.broken result.0 ≡ R.broken log }
-    ensures sink { result.1 ≢ Err RunError.Write → K.broken out.new ≡ K.broken out.old }
-    ensures ended { result.1 ≡ Ok Status.Done → R.at_end result.0 ≡ true }
-{
-    let (source, read) = read_log(alloc, plan, log, table);
-    match read {
-        Ok(None) => (source, finish(write_table(plan, table, out), Status::Done)),
-        Ok(Some(error)) => (
-            source,
-            finish(
-                write_all(out, refusal_text(error).as_bytes()),
-                Status::Refused,
-            ),
-        ),
-        Err(error) => (source, Err(error)),
+/// The command `table`.
+#[derive(Clone, Copy)]
+struct Table;
+
+impl Report for Table {
+    ghost use Rattle.ripaudit.specs.declared.status.Status.{Status};
+
+    ghost is_text = { λ _ n s w. w ≡ shown_table n s };
+
+    ghost means = { λ _ n s status. status ≡ Status.Done };
+
+    fn write<T: MetricTable, K: Sink>(
+        &self,
+        _: Global,
+        plan: &Plan,
+        table: &T,
+        out: &mut K,
+    ) -> Result<Status, RunError> {
+        finish(write_table(plan, table, out), Status::Done)
     }
 }
 
@@ -258,11 +235,14 @@ pub fn run_table<R: Source, K: Sink, S: BuildHasher + Drop>(
     hasher: S,
 ) -> (R, Result<Status, RunError>)
     // The whole text went out, and nothing else.
-    ensures text { IfOk result.1 (λ status. (text : List ℕ) × TableText plan.now (R.coming log) (record { text = text; status = status }) × Appends (K.taken out.old) (K.taken out.new) text) }
+    ensures text { IfOk result.1 (WentOut (TableText plan.now (R.coming log))
+        (K.taken out.old) (K.taken out.new)) }
     // The sink has failed, and a beginning of the text went out.
-    ensures write { result.1 ≡ Err RunError.Write → (K.broken out.new ≡ true) × ((w : Written) × TableText plan.now (R.coming log) w × Began (K.taken out.old) (K.taken out.new) w.text) }
+    ensures write { result.1 ≡ Err RunError.Write → (K.broken out.new ≡ true)
+        × BeginningOut (TableText plan.now (R.coming log)) (K.taken out.old) (K.taken out.new) }
     // The source has failed, and nothing went out.
-    ensures read { result.1 ≡ Err RunError.Read → (R.broken result.0 ≡ true) × Keeps (K.taken out.old) (K.taken out.new) }
+    ensures read { result.1 ≡ Err RunError.Read →
+        (R.broken result.0 ≡ true) × Keeps (K.taken out.old) (K.taken out.new) }
     // With Memory nothing went out.
     ensures memory { result.1 ≡ Err RunError.Memory → Keeps (K.taken out.old) (K.taken out.new) }
     // Every other answer leaves the marks of the devices as they were.
@@ -272,14 +252,7 @@ pub fn run_table<R: Source, K: Sink, S: BuildHasher + Drop>(
     ensures ended { result.1 ≡ Ok Status.Done → R.at_end result.0 ≡ true }
     ensures untouched { (e : PlanError) → first_fault plan.now ≡ Some e → result.0 ≡ log }
 {
-    let plan = match Plan::read(alloc, plan) {
-        Ok(plan) => plan,
-        Err(error) => return (log, refuse_plan(error, out)),
-    };
-    match GridTable::with_hasher(alloc, &plan, hasher) {
-        Ok(mut table) => table_of(alloc, &plan, log, out, &mut table),
-        Err(_) => (log, Err(RunError::Memory)),
-    }
+    run_report(alloc, &Table, plan, log, out, hasher)
 }
 
 #[cfg(test)]

@@ -1,6 +1,8 @@
-use Rattle.std.proofs.Common.{refl, subst, sym}
-use Rattle.ripaudit.specs.AuditText.{IsJudged}
-use Rattle.ripaudit.proofs.VerdictLemmas.{ended_judged, judged, said, written_told}
+use Rattle.std.proofs.Common.{◌∙◌, ap, refl, subst, sym}
+use Rattle.ripaudit.specs.AuditText.{IsJudged, VerdictText, verdict_status}
+use Rattle.ripaudit.specs.Finished.{finished}
+use Rattle.ripaudit.proofs.FinishLemmas.{finished_sink, finished_text, finished_wrote}
+use Rattle.ripaudit.proofs.VerdictLemmas.{ended_judged, judged, said}
 use Rattle.ripaudit.proofs.audit.audit_table.Goals as goal
 
 pub write_verdict-wrote-requires-clause-verdict : goal.write_verdict-wrote-requires-clause-verdict
@@ -18,8 +20,20 @@ returns-in-Ok-clause-judged g c =
 
 pub returns-in-Ok-clause-text : goal.returns-in-Ok-clause-text
 returns-in-Ok-clause-text g c =
-    let taken = g.K.Sink.taken in
-    written_told c.args.plan.now (g.T.MetricTable.state c.args.table.now) c.args.all (taken c.args.out.now) (taken c.write_verdict-wrote.new.out) c.judge-verdict.result c.status_of.result c.write_verdict-wrote.result c.finish.result c.status_of.ensures c.finish.ensures c.write_verdict-wrote.ensures.ok
+    let n = c.args.plan.now in
+    let s = g.T.MetricTable.state c.args.table.now in
+    let wrote = c.write_verdict-wrote.ensures in
+    finished_text (VerdictText n s c.args.all) (record { text = wrote.0; status = verdict_status c.judge-verdict.result }) g.K.Sink.taken g.K.Sink.broken c.args.out.now c.write_verdict-wrote.new.out c.write_verdict-wrote.result c.finish.result wrote.1 (c.finish.ensures ∙ ap (finished c.write_verdict-wrote.result) c.status_of.ensures) wrote.2
+
+pub returns-in-Ok-clause-write : goal.returns-in-Ok-clause-write
+returns-in-Ok-clause-write g c =
+    let n = c.args.plan.now in
+    let s = g.T.MetricTable.state c.args.table.now in
+    let wrote = c.write_verdict-wrote.ensures in
+    finished_wrote (VerdictText n s c.args.all) (record { text = wrote.0; status = verdict_status c.judge-verdict.result }) g.K.Sink.taken g.K.Sink.broken c.args.out.now c.write_verdict-wrote.new.out c.write_verdict-wrote.result c.finish.result wrote.1 (c.finish.ensures ∙ ap (finished c.write_verdict-wrote.result) c.status_of.ensures) wrote.2
+
+pub returns-in-Ok-clause-sink : goal.returns-in-Ok-clause-sink
+returns-in-Ok-clause-sink g c = finished_sink g.K.Sink.taken g.K.Sink.broken c.args.out.now c.write_verdict-wrote.new.out c.write_verdict-wrote.ensures.0 c.status_of.result c.write_verdict-wrote.result c.finish.result c.finish.ensures c.write_verdict-wrote.ensures.2
 
 pub returns-in-Err-clause-wanted : goal.returns-in-Err-clause-wanted
 returns-in-Err-clause-wanted g c _ =

@@ -1,4 +1,4 @@
-use Rattle.std.proofs.Common.{◌≡◌, length, is_err, true, false}
+use Rattle.std.proofs.Common.{length}
 use Rattle.rip_check.specs.Audits.{IsKnownPlace}
 use Rattle.ripaudit.specs.Held.{held}
 use Rattle.ripaudit.proofs.FailureLemmas.{LinesSoFar, places_left}
@@ -9,9 +9,7 @@ invariant-places g l =
     let s = g.T.MetricTable.state l.table in
     record {
       known : IsKnownPlace s l.after;
-      lines : LinesSoFar l.plan s l.after l.wrote (g.K.Sink.taken l.fn.out) (g.K.Sink.taken l.out) (held l.fn.page) (held l.page);
-      failed : is_err l.wrote ≡ true → g.K.Sink.broken l.out ≡ true;
-      marks : is_err l.wrote ≡ false → g.K.Sink.broken l.out ≡ g.K.Sink.broken l.fn.out;
+      lines : LinesSoFar g.K.Sink.taken g.K.Sink.broken l.plan s l.after l.wrote l.fn.out l.out (held l.fn.page) (held l.page);
     }
 
 abbrev pub decreases-places : goal.decreases-places

@@ -1,12 +1,14 @@
-use Rattle.std.proofs.Common.{◌≡◌, ◌++◌, drop}
+use Rattle.std.proofs.Common.{◌++◌, Ok, drop}
+use Rattle.std.specs.List.{flat_map}
 use Rattle.rip_wire.specs.Datagram.{entries_of, message_of}
-use Rattle.ripaudit.specs.DecodeText.{entry_lines}
+use Rattle.ripaudit.specs.DecodeText.{entry_line, entry_lines}
 use Rattle.ripaudit.specs.Held.{held}
-use Rattle.ripaudit.specs.Sent.{Sent}
+use Rattle.ripaudit.specs.Sent.{Writes}
 use Rattle.ripaudit.proofs.decode.write_entries.Given as goal
 
 abbrev pub invariant-loop-i : goal.invariant-loop-i
-invariant-loop-i g l = record {
-  sent : Sent (g.K.Sink.taken l.fn.out) (g.K.Sink.taken l.out) (held l.fn.page ++ entry_lines (entries_of (message_of l.datagram))) (held l.page ++ entry_lines (drop l.i (entries_of (message_of l.datagram))));
-  marks : g.K.Sink.broken l.out ≡ g.K.Sink.broken l.fn.out;
-}
+invariant-loop-i g l =
+    let es = entries_of (message_of l.datagram) in
+    record {
+      wrote : Writes g.K.Sink.taken g.K.Sink.broken l.fn.out l.out (Ok tt) (held l.fn.page ++ entry_lines es) (held l.page ++ flat_map entry_line (drop l.i es));
+    }

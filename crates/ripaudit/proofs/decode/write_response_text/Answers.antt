@@ -1,53 +1,37 @@
-use Rattle.std.proofs.Common.{◌≡◌, ◌++◌, [], List, ℕ, length, decimal, codes, subst, ◌∙◌, refl}
+use Rattle.std.proofs.Common.{◌++◌, ◌∙◌, ℕ, Ok, length, decimal, codes, ap}
 use Rattle.rip_wire.specs.Datagram.{entries_of, message_of}
 use Rattle.ripaudit.specs.DecodeText.{entry_lines, shown_response}
-use Rattle.ripaudit.specs.Written.{line}
 use Rattle.ripaudit.specs.Held.{held}
-use Rattle.ripaudit.specs.Sent.{Sent, Began}
-use Rattle.ripaudit.proofs.SentLemmas.{onerr, onerr-map, onok-map, Sent-front, Began-front, Sent-then, Sent-all, Began-all}
+use Rattle.ripaudit.specs.Written.{line}
+use Rattle.ripaudit.proofs.SentLemmas.{Writes-cut, Writes-fails, Writes-held, Writes-more, Writes-same}
+use Rattle.ripaudit.proofs.LineLemmas.{first_line}
 use Rattle.ripaudit.proofs.decode.write_response_text.Goals as goal
 
--- the first line, by what the page was given
-first : (n m : ℕ) (page text : List ℕ) → page ≡ [] → text ≡ line (codes "response " ++ decimal n) → n ≡ m → page ++ text ≡ line (codes "response " ++ decimal m)
-first n m page text none is same = rw (none, is, same) refl
-
-pub returns-in_err-write-clause-err : goal.returns-in_err-write-clause-err
-returns-in_err-write-clause-err g c =
-    let taken = g.K.Sink.taken in
+pub returns-in_err-write : goal.returns-in_err-write
+returns-in_err-write g c =
     let es = entries_of (message_of c.args.datagram.now) in
-    let head = first c.len.result (length es) (held c.new-page.result) c.as_bytes.result.now c.new-page.ensures (c.as_bytes.ensures ∙ c.kind_text.ensures) (c.len.ensures.entries c.requires) in
-    let began = subst (Began (taken c.args.out.now) (taken c.write.new.out)) head c.in_err-write.ensures.err in
-    onerr c.from_residual.result (Began-front (taken c.args.out.now) (taken c.write.new.out) (line (codes "response " ++ decimal (length es))) (entry_lines es) began)
+    let count = line (codes "response " ++ decimal (length es)) in
+    let is = c.as_bytes.ensures ∙ c.kind_text.ensures ∙ ap (λ (k : ℕ). line (codes "response " ++ decimal k)) (c.len.ensures.entries c.requires) in
+    let head = first_line (held c.new-page.result) _ count c.new-page.ensures is in
+    let wrote = Writes-same g.K.Sink.taken g.K.Sink.broken c.args.out.now c.write.new.out _ _ count _ head c.in_err-write.ensures in
+    Writes-cut g.K.Sink.taken g.K.Sink.broken c.args.out.now c.write.new.out _ c.from_residual.result count (entry_lines es) _ _ c.from_residual.ensures.0 wrote
 
-pub returns-in_err-write_entries-clause-err : goal.returns-in_err-write_entries-clause-err
-returns-in_err-write_entries-clause-err g c =
-    let taken = g.K.Sink.taken in
+pub returns-in_err-write_entries : goal.returns-in_err-write_entries
+returns-in_err-write_entries g c =
     let es = entries_of (message_of c.args.datagram.now) in
-    let head = first c.len.result (length es) (held c.new-page.result) c.as_bytes.result.now c.new-page.ensures (c.as_bytes.ensures ∙ c.kind_text.ensures) (c.len.ensures.entries c.requires) in
-    let sent = subst (λ (l : List ℕ). Sent (taken c.args.out.now) (taken c.write.new.out) l (held c.write.new.self)) head c.in_ok-write.ensures.ok in
-    onerr c.from_residual-in_err-write_entries.result
-    (Began-all (taken c.args.out.now) (taken c.write.new.out) (taken c.write_entries.new.out) (shown_response es).text (held c.write.new.self ++ entry_lines es)
-    (Sent-front (taken c.args.out.now) (taken c.write.new.out) (line (codes "response " ++ decimal (length es))) (held c.write.new.self) (entry_lines es) sent)
-    c.in_err-write_entries.ensures.err)
+    let count = line (codes "response " ++ decimal (length es)) in
+    let is = c.as_bytes.ensures ∙ c.kind_text.ensures ∙ ap (λ (k : ℕ). line (codes "response " ++ decimal k)) (c.len.ensures.entries c.requires) in
+    let head = first_line (held c.new-page.result) _ count c.new-page.ensures is in
+    let wrote = Writes-same g.K.Sink.taken g.K.Sink.broken c.args.out.now c.write.new.out (Ok c.in_ok-write.field-0) _ count _ head c.in_ok-write.ensures in
+    Writes-fails g.K.Sink.taken g.K.Sink.broken c.args.out.now c.write_entries.new.out _ c.from_residual-in_err-write_entries.result (shown_response es).text _ _ c.from_residual-in_err-write_entries.ensures.0
+    (Writes-more g.K.Sink.taken g.K.Sink.broken c.args.out.now c.write.new.out c.write_entries.new.out _ _ count (held c.write.new.self) (entry_lines es) _ wrote c.in_err-write_entries.ensures)
 
-pub returns-clause-ok : goal.returns-clause-ok
-returns-clause-ok g c =
-    let taken = g.K.Sink.taken in
+pub returns : goal.returns
+returns g c =
     let es = entries_of (message_of c.args.datagram.now) in
-    let head = first c.len.result (length es) (held c.new-page.result) c.as_bytes.result.now c.new-page.ensures (c.as_bytes.ensures ∙ c.kind_text.ensures) (c.len.ensures.entries c.requires) in
-    let sent = subst (λ (l : List ℕ). Sent (taken c.args.out.now) (taken c.write.new.out) l (held c.write.new.self)) head c.in_ok-write.ensures.ok in
-    let before = Sent-then (taken c.args.out.now) (taken c.write.new.out) (taken c.write_entries.new.out) (shown_response es).text (held c.write.new.self ++ entry_lines es) (held c.write_entries.new.page)
-    (Sent-front (taken c.args.out.now) (taken c.write.new.out) (line (codes "response " ++ decimal (length es))) (held c.write.new.self) (entry_lines es) sent)
-    c.in_ok-write_entries.ensures.ok in
-    onok-map c.flush.result (Sent-all (taken c.args.out.now) (taken c.write_entries.new.out) (taken c.flush.new.out) (shown_response es).text (held c.write_entries.new.page) before) c.flush.ensures.ok
-
-pub returns-clause-err : goal.returns-clause-err
-returns-clause-err g c =
-    let taken = g.K.Sink.taken in
-    let es = entries_of (message_of c.args.datagram.now) in
-    let head = first c.len.result (length es) (held c.new-page.result) c.as_bytes.result.now c.new-page.ensures (c.as_bytes.ensures ∙ c.kind_text.ensures) (c.len.ensures.entries c.requires) in
-    let sent = subst (λ (l : List ℕ). Sent (taken c.args.out.now) (taken c.write.new.out) l (held c.write.new.self)) head c.in_ok-write.ensures.ok in
-    let before = Sent-then (taken c.args.out.now) (taken c.write.new.out) (taken c.write_entries.new.out) (shown_response es).text (held c.write.new.self ++ entry_lines es) (held c.write_entries.new.page)
-    (Sent-front (taken c.args.out.now) (taken c.write.new.out) (line (codes "response " ++ decimal (length es))) (held c.write.new.self) (entry_lines es) sent)
-    c.in_ok-write_entries.ensures.ok in
-    onerr-map c.flush.result (Began-all (taken c.args.out.now) (taken c.write_entries.new.out) (taken c.flush.new.out) (shown_response es).text (held c.write_entries.new.page) before) c.flush.ensures.err
+    let count = line (codes "response " ++ decimal (length es)) in
+    let is = c.as_bytes.ensures ∙ c.kind_text.ensures ∙ ap (λ (k : ℕ). line (codes "response " ++ decimal k)) (c.len.ensures.entries c.requires) in
+    let head = first_line (held c.new-page.result) _ count c.new-page.ensures is in
+    let wrote = Writes-same g.K.Sink.taken g.K.Sink.broken c.args.out.now c.write.new.out (Ok c.in_ok-write.field-0) _ count _ head c.in_ok-write.ensures in
+    let more = Writes-more g.K.Sink.taken g.K.Sink.broken c.args.out.now c.write.new.out c.write_entries.new.out _ (Ok c.in_ok-write_entries.field-0) count (held c.write.new.self) (entry_lines es) (held c.write_entries.new.page) wrote c.in_ok-write_entries.ensures in
+    Writes-held g.K.Sink.taken g.K.Sink.broken c.args.out.now c.write_entries.new.out c.flush.new.out _ c.flush.result (shown_response es).text (held c.write_entries.new.page) _ more c.flush.ensures.writes

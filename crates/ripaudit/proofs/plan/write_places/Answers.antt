@@ -1,4 +1,4 @@
-use Rattle.std.proofs.Common.{◌≤◌, ◌++◌, List, ℕ, length, subst, ◌∙◌, arith, refl}
+use Rattle.std.proofs.Common.{ℕ, ◌≤◌, ◌++◌, Ok, length, ap, ◌∙◌, arith}
 use Rattle.std.specs.List.{flat_map}
 use Rattle.rip_plan.specs.Network.{Network}
 use Rattle.rip_plan.specs.Relations.{IsLawful, IsPlace}
@@ -6,9 +6,8 @@ use Rattle.rip_plan.specs.declared.parts.Seat.{Seat}
 use Rattle.rip_plan.specs.declared.parts.Seat.TheVariants.{Link, Own}
 use Rattle.ripaudit.specs.PlanText.{IsSeat, place_line}
 use Rattle.ripaudit.specs.Held.{held}
-use Rattle.ripaudit.specs.Sent.{Sent, Began}
-use Rattle.ripaudit.proofs.SentLemmas.{onerr}
-use Rattle.ripaudit.proofs.LineLemmas.{Sent-line, Began-line, Sent-lines}
+use Rattle.ripaudit.proofs.SentLemmas.{Writes-fails, Writes-same}
+use Rattle.ripaudit.proofs.LineLemmas.{Writes-line, Writes-lines}
 use Rattle.ripaudit.proofs.plan.write_places.Goals as goal
 
 -- a place of a plan is on a link of it, or with a router of it
@@ -25,28 +24,29 @@ place_text-requires-clause-seat g c = known c.args.plan.now c.loop-k.k c.place.r
 pub loop-k-preserved : goal.loop-k-preserved
 loop-k-preserved g c =
     let taken = g.K.Sink.taken in
+    let broken = g.K.Sink.broken in
     let n = c.args.plan.now in
     let text = held c.args.page.now ++ flat_map (place_line n) n.places in
-    let line = c.as_bytes.ensures ∙ c.place_text.ensures in
-    let wrote = subst (λ (l : List ℕ). Sent (taken c.loop-k.out) (taken c.write.new.out) (held c.loop-k.page ++ l) (held c.write.new.self)) line c.in_ok-write.ensures.ok in
+    let line = ap (λ l. held c.loop-k.page ++ l) (c.as_bytes.ensures ∙ c.place_text.ensures) in
+    let wrote = Writes-same taken broken c.loop-k.out c.write.new.out (Ok c.in_ok-write.field-0) _ _ (held c.write.new.self) line c.in_ok-write.ensures in
     record {
-      sent = Sent-line (place_line n) (taken c.args.out.now) (taken c.loop-k.out) (taken c.write.new.out) text (held c.loop-k.page) (held c.write.new.self) n.places c.loop-k.k c.place.result c.place.ensures.listed c.loop-k.invariant.sent wrote;
-      marks = c.in_ok-write.ensures.marks refl ∙ c.loop-k.invariant.marks;
+      wrote = Writes-line (place_line n) taken broken c.args.out.now c.loop-k.out c.write.new.out tt (Ok tt) text (held c.loop-k.page) (held c.write.new.self) n.places c.loop-k.k c.place.result c.place.ensures.listed c.loop-k.invariant.wrote wrote;
     }
 
-pub returns-in_err-write-clause-err : goal.returns-in_err-write-clause-err
-returns-in_err-write-clause-err g c =
+pub returns-in_err-write : goal.returns-in_err-write
+returns-in_err-write g c =
     let taken = g.K.Sink.taken in
+    let broken = g.K.Sink.broken in
     let n = c.args.plan.now in
     let text = held c.args.page.now ++ flat_map (place_line n) n.places in
-    let line = c.as_bytes.ensures ∙ c.place_text.ensures in
-    let wrote = subst (λ (l : List ℕ). Began (taken c.loop-k.out) (taken c.write.new.out) (held c.loop-k.page ++ l)) line c.in_err-write.ensures.err in
-    onerr c.from_residual.result (Began-line (place_line n) (taken c.args.out.now) (taken c.loop-k.out) (taken c.write.new.out) text (held c.loop-k.page) n.places c.loop-k.k c.place.result c.place.ensures.listed c.loop-k.invariant.sent wrote)
+    let line = ap (λ l. held c.loop-k.page ++ l) (c.as_bytes.ensures ∙ c.place_text.ensures) in
+    let wrote = Writes-same taken broken c.loop-k.out c.write.new.out _ _ _ (held c.write.new.self) line c.in_err-write.ensures in
+    Writes-fails taken broken c.args.out.now c.write.new.out _ c.from_residual.result text _ _ c.from_residual.ensures.0
+    (Writes-line (place_line n) taken broken c.args.out.now c.loop-k.out c.write.new.out tt _ text (held c.loop-k.page) (held c.write.new.self) n.places c.loop-k.k c.place.result c.place.ensures.listed c.loop-k.invariant.wrote wrote)
 
-pub returns-clause-ok : goal.returns-clause-ok
-returns-clause-ok g c =
-    let taken = g.K.Sink.taken in
+pub returns : goal.returns
+returns g c =
     let n = c.args.plan.now in
     let text = held c.args.page.now ++ flat_map (place_line n) n.places in
     let count : length n.places ≤ c.loop-k.k = let all = c.places-k-end.ensures in omega (arith, c.loop-k-test.false) in
-    Sent-lines (place_line n) (taken c.args.out.now) (taken c.loop-k.out) text (held c.loop-k.page) n.places c.loop-k.k count c.loop-k.invariant.sent
+    Writes-lines (place_line n) g.K.Sink.taken g.K.Sink.broken c.args.out.now c.loop-k.out tt text (held c.loop-k.page) n.places c.loop-k.k count c.loop-k.invariant.wrote

@@ -1,5 +1,5 @@
 use Rattle.std.proofs.Common.{◌++◌, ◌∙◌, List, ℕ, ap, append_assoc, codes}
-use Rattle.ripaudit.specs.PlanText.{name_of}
+use Rattle.ripaudit.specs.Names.{name_of}
 use Rattle.ripaudit.proofs.audit.lines.push_no_offer.Goals as goal
 
 pub returns-clause-text : goal.returns-clause-text

@@ -1,17 +1,11 @@
-use Rattle.std.proofs.Common.{◌++◌, []}
+use Rattle.std.proofs.Common.{[], ◌++◌}
 use Rattle.ripaudit.specs.Held.{held}
-use Rattle.ripaudit.proofs.SentLemmas.{Sent-none, Sent-on, Began-on, Began-all, onerr, onerr-map}
+use Rattle.ripaudit.proofs.SentLemmas.{Writes-cut, Writes-more-held}
 use Rattle.ripaudit.proofs.output.Page.write.Goals as goal
 
-pub returns-in_err-flush-clause-err : goal.returns-in_err-flush-clause-err
-returns-in_err-flush-clause-err g c =
-    onerr _ (Began-on (g.K.Sink.taken c.args.out.now) (g.K.Sink.taken c.args.out.now) (g.K.Sink.taken c.flush.new.out) (held c.args.self.now ++ c.args.bytes.now) (held c.args.self.now) c.args.bytes.now (Sent-none _ _) c.in_err-flush.ensures.err)
+pub returns-in_err-flush : goal.returns-in_err-flush
+returns-in_err-flush g c = Writes-cut g.K.Sink.taken g.K.Sink.broken c.args.out.now c.flush.new.out _ c.from_residual.result (held c.args.self.now) c.args.bytes.now _ _ c.from_residual.ensures.0 c.in_err-flush.ensures.writes
 
-pub returns-then-bytes-gt-ROOM-clause-err : goal.returns-then-bytes-gt-ROOM-clause-err
-returns-then-bytes-gt-ROOM-clause-err g c =
-    let taken = g.K.Sink.taken in
-    let all = held c.args.self.now ++ c.args.bytes.now in
-    onerr-map c.write_all.result
-    (Began-all (taken c.args.out.now) (taken c.flush.new.out) (taken c.write_all.new.out) all c.args.bytes.now
-    (Sent-on (taken c.args.out.now) (taken c.args.out.now) (taken c.flush.new.out) all (held c.args.self.now) c.args.bytes.now [] (Sent-none _ _) c.in_ok-flush.ensures.ok))
-    c.write_all.ensures.err
+pub returns-then-bytes-gt-ROOM : goal.returns-then-bytes-gt-ROOM
+returns-then-bytes-gt-ROOM g c =
+    Writes-more-held g.K.Sink.taken g.K.Sink.broken c.args.out.now c.flush.new.out c.write_all.new.out _ c.write_all.result (held c.args.self.now) c.args.bytes.now [] (held c.flush.new.self) c.in_ok-flush.ensures.empty c.in_ok-flush.ensures.writes c.write_all.ensures
