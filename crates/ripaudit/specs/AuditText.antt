@@ -34,15 +34,21 @@ leaf_part leaves = if nat_lt 0 leaves then codes ", " ++ decimal leaves ++ codes
 
 -- `settled: 3 routers, 3 prefixes`
 unfoldable pub settled_line : Network → State → List ℕ
-settled_line n s = line (codes "settled: " ++ decimal (length n.routers) ++ codes " routers, " ++ decimal (length s.prefixes) ++ codes " prefixes" ++ leaf_part (leaves_of n))
+settled_line n s =
+    line (codes "settled: " ++ decimal (length n.routers) ++ codes " routers, "
+    ++ decimal (length s.prefixes) ++ codes " prefixes" ++ leaf_part (leaves_of n))
 
 -- `router r1 prefix 10.2.0.0/16: `, by their numbers
 abbrev pub place_part : Network → State → ℕ → ℕ → List ℕ
-place_part n s r p = codes "router " ++ name_of n.routers r ++ codes " prefix " ++ unwrap_or (option_map prefix_text (slice_get s.prefixes p)) [] ++ codes ": "
+place_part n s r p =
+    codes "router " ++ name_of n.routers r ++ codes " prefix "
+    ++ unwrap_or (option_map prefix_text (slice_get s.prefixes p)) [] ++ codes ": "
 
 -- `metric 3, equation 2`, or of a leaf that cannot show it `leaf metric 3, equation 2`
 abbrev pub metric_part : Bool → ℕ → ℕ → List ℕ
-metric_part hidden metric equation = (if hidden then codes "leaf " else []) ++ codes "metric " ++ decimal metric ++ codes ", equation " ++ decimal equation
+metric_part hidden metric equation =
+    (if hidden then codes "leaf " else []) ++ codes "metric " ++ decimal metric
+    ++ codes ", equation " ++ decimal equation
 
 -- `, link c does not give it`
 abbrev pub no_offer_part : Network → ℕ → List ℕ
@@ -54,13 +60,15 @@ wrong_way_part n (Over l) = no_offer_part n l
 wrong_way_part n Here = codes ", no planned place gives it"
 wrong_way_part n Unreachable = codes ", no planned place gives it"
 
--- `metric 2, link c does not give it`, where the metric is the equation's and the way does not give it
+-- `metric 2, link c does not give it`, where the metric is the equation's but the way gives another
 abbrev pub way_part : Network → ℕ → Way → List ℕ
 way_part n metric way = codes "metric " ++ decimal metric ++ wrong_way_part n way
 
 -- what fails at a place
 abbrev pub failure_part : Network → Place2 → List ℕ
-failure_part n f = if f.metric == f.equation then way_part n f.metric f.way else metric_part f.hidden f.metric f.equation
+failure_part n f =
+    if f.metric == f.equation then way_part n f.metric f.way
+    else metric_part f.hidden f.metric f.equation
 
 -- the link of a way is one of the plan
 abbrev pub IsKnownWay : Network → Way → Type 0
@@ -76,7 +84,8 @@ pub record IsPlaceOf (n : Network) (s : State) (f : Place2) : Type 0 where
 
 -- `unsettled: router r1 prefix 10.2.0.0/16: metric 3, equation 2`
 unfoldable pub unsettled_line : Network → State → Place2 → List ℕ
-unsettled_line n s f = line (codes "unsettled: " ++ place_part n s f.router f.prefix ++ failure_part n f)
+unsettled_line n s f =
+    line (codes "unsettled: " ++ place_part n s f.router f.prefix ++ failure_part n f)
 
 -- `router r1 link a`, by their numbers
 abbrev pub interface_part : Network → ℕ → ℕ → List ℕ
@@ -93,7 +102,8 @@ trouble_part n s (TwoWays r p) = place_part n s r p ++ codes "two ways"
 abbrev pub IsTroubleOf : Network → State → Unclear → Type 0
 IsTroubleOf n s (NotHeard r l) = (r < length n.routers) × (l < length n.links)
 IsTroubleOf n s (TwoMetrics r p) = (r < length n.routers) × (p < length s.prefixes)
-IsTroubleOf n s (Missing r p l) = (r < length n.routers) × (p < length s.prefixes) × (l < length n.links)
+IsTroubleOf n s (Missing r p l) =
+    (r < length n.routers) × (p < length s.prefixes) × (l < length n.links)
 IsTroubleOf n s (TwoWays r p) = (r < length n.routers) × (p < length s.prefixes)
 
 -- `unclear: router r1 link a: not heard`
@@ -105,7 +115,9 @@ unclear_line n s trouble = line (codes "unclear: " ++ trouble_part n s trouble)
 -- one line for each place after the given one that can be read and does not hold, in order
 pub data FailureLines (n : Network) (s : State) : Option (ℕ × ℕ) → List ℕ → Type 0 where
   no_more : (after : Option (ℕ × ℕ)) → HoldsAfter n s after → FailureLines n s after []
-  one_more : (after : Option (ℕ × ℕ)) (f : Place2) (rest : List ℕ) → IsNextUnsettled n s after f → FailureLines n s (Some (f.router, f.prefix)) rest → FailureLines n s after (unsettled_line n s f ++ rest)
+  one_more : (after : Option (ℕ × ℕ)) (f : Place2) (rest : List ℕ) → IsNextUnsettled n s after f
+      → FailureLines n s (Some (f.router, f.prefix)) rest
+      → FailureLines n s after (unsettled_line n s f ++ rest)
 
 -- the verdict on a table, by what the table shows
 abbrev pub IsVerdictOn : Network → State → Verdict → Type 0
@@ -120,9 +132,13 @@ UnsettledLines n s false f text = text ≡ unsettled_line n s f
 
 -- what is written of a table
 pub data VerdictText (n : Network) (s : State) (all : Bool) : Written → Type 0 where
-  a_settled : IsVerdictOn n s verdicts.Settled → VerdictText n s all (record { text = settled_line n s; status = Settled })
-  an_unclear : (trouble : Unclear) → IsVerdictOn n s (verdicts.Unclear trouble) → VerdictText n s all (record { text = unclear_line n s trouble; status = IsUnclear })
-  an_unsettled : (f : Place2) (text : List ℕ) → IsVerdictOn n s (verdicts.Unsettled f) → UnsettledLines n s all f text → VerdictText n s all (record { text = text; status = Unsettled })
+  a_settled : IsVerdictOn n s verdicts.Settled
+      → VerdictText n s all (record { text = settled_line n s; status = Settled })
+  an_unclear : (trouble : Unclear) → IsVerdictOn n s (verdicts.Unclear trouble)
+      → VerdictText n s all (record { text = unclear_line n s trouble; status = IsUnclear })
+  an_unsettled : (f : Place2) (text : List ℕ) → IsVerdictOn n s (verdicts.Unsettled f)
+      → UnsettledLines n s all f text
+      → VerdictText n s all (record { text = text; status = Unsettled })
 
 -- the status of a verdict
 abbrev pub verdict_status : Verdict → Status
@@ -130,8 +146,8 @@ verdict_status verdicts.Settled = Settled
 verdict_status (verdicts.Unsettled f) = Unsettled
 verdict_status (verdicts.Unclear trouble) = IsUnclear
 
--- what is written for the bytes of a plan and the text of a log, where it is told: what refuses them,
--- or the verdict on the table of the log's records
+-- what is written for the bytes of a plan and the text of a log, where it is told: what refuses
+-- them, or the verdict on the table of the log's records
 abbrev pub AuditText : List ℕ → Option (List ℕ) → Bool → Written → Type 0
 AuditText plan log all = ReportText (λ n s. VerdictText n s all) plan log
 
@@ -141,10 +157,12 @@ AuditText plan log all = ReportText (λ n s. VerdictText n s all) plan log
 pub record IsJudged (n : Network) (s : State) (status : Status) : Type 0 where
   pub settled : (status ≡ Settled) ↔ ShowsRightTables n s
   pub arrive : status ≡ Settled → PacketsArrive n s
-  pub unsettled : (status ≡ Unsettled) ↔ (ShowsTables n s × ((f : Place2) × IsNextUnsettled n s None f))
+  pub unsettled : (status ≡ Unsettled)
+      ↔ (ShowsTables n s × ((f : Place2) × IsNextUnsettled n s None f))
   pub unclear : (status ≡ IsUnclear) ↔ ((trouble : Unclear) × TroubleIs n s trouble)
   pub no_tables : (status ≡ IsUnclear) ↔ (ShowsTables n s → ⊥)
 
--- the lines of the verdict on the table went out, which name its first place that fails or its first trouble, and nothing else
+-- the lines of the verdict on the table went out, which name its first place that fails or its
+-- first trouble, and nothing else
 abbrev pub IsTold : Network → State → Bool → Option (List ℕ) → Option (List ℕ) → Status → Type 0
 IsTold n s all = WentOut (VerdictText n s all)

@@ -32,7 +32,8 @@ wire_code_text Metric = codes "13 Metric"
 -- the line of an entry, as `10.3.0.0/16 tag 0 next 0.0.0.0 metric 1`
 unfoldable pub entry_line : Entry → List ℕ
 entry_line e =
-    line (prefix_text e.prefix ++ codes " tag " ++ decimal e.tag ++ codes " next " ++ address_text e.next_hop ++ codes " metric " ++ decimal e.metric)
+    line (prefix_text e.prefix ++ codes " tag " ++ decimal e.tag ++ codes " next "
+        ++ address_text e.next_hop ++ codes " metric " ++ decimal e.metric)
 
 -- one line for each entry
 abbrev pub entry_lines : List Entry → List ℕ
@@ -46,25 +47,33 @@ abbrev pub wire_fault_text : WireCode → ℕ → List ℕ
 wire_fault_text code at = wire_code_text code ++ codes " at " ++ decimal at
 
 abbrev pub refused_wire : WireCode → ℕ → Written
-refused_wire code at = record { text = line (codes "refused: wire " ++ wire_fault_text code at); status = Refused }
+refused_wire code at =
+    record { text = line (codes "refused: wire " ++ wire_fault_text code at); status = Refused }
 
 -- a request, with the number of twenties after its header
 abbrev pub shown_request : List ℕ → Written
-shown_request b = record { text = line (codes "request " ++ decimal ((length b - 4) / 20)); status = Done }
+shown_request b =
+    record { text = line (codes "request " ++ decimal ((length b - 4) / 20)); status = Done }
 
 -- a response, with the number of its entries, and their lines
 abbrev pub shown_response : List Entry → Written
-shown_response es = record { text = line (codes "response " ++ decimal (length es)) ++ entry_lines es; status = Done }
+shown_response es = record {
+  text = line (codes "response " ++ decimal (length es)) ++ entry_lines es;
+  status = Done;
+}
 
 -- what is written for the bytes of a datagram and what they say
 abbrev pub shown : List ℕ → Message → Written
 shown b request = shown_request b
 shown b (response es) = shown_response es
 
--- what is written for a word: it spells no bytes in hexadecimal digits, or bytes that are no datagram, or a request,
--- or a response
+-- what is written for a word: it spells no bytes in hexadecimal digits, or bytes that are no
+-- datagram, or a request, or a response
 pub data DecodeText (word : List ℕ) : Written → Type 0 where
   no_hex : ((b : List ℕ) → decode_of word ≡ Ok b → ⊥) → DecodeText word refused_hex
-  no_datagram : (b : List ℕ) (code : WireCode) (at : ℕ) → decode_of word ≡ Ok b → WireFault b code at → DecodeText word (refused_wire code at)
-  a_request : (b : List ℕ) → decode_of word ≡ Ok b → RequestBytes b → DecodeText word (shown_request b)
-  a_response : (b : List ℕ) (es : List Entry) → decode_of word ≡ Ok b → ResponseBytes es b → DecodeText word (shown_response es)
+  no_datagram : (b : List ℕ) (code : WireCode) (at : ℕ) → decode_of word ≡ Ok b
+      → WireFault b code at → DecodeText word (refused_wire code at)
+  a_request : (b : List ℕ) → decode_of word ≡ Ok b → RequestBytes b
+      → DecodeText word (shown_request b)
+  a_response : (b : List ℕ) (es : List Entry) → decode_of word ≡ Ok b → ResponseBytes es b
+      → DecodeText word (shown_response es)

@@ -45,11 +45,15 @@ at_text places.Version = codes "version"
 at_text (places.Link i) = numbered (codes "link ") i
 at_text (places.LinkPrefix i j) = numbered (codes "link ") i ++ numbered (codes " prefix ") j
 at_text (places.Router i) = numbered (codes "router ") i
-at_text (places.RouterInterface i j) = numbered (codes "router ") i ++ numbered (codes " interface ") j
+at_text (places.RouterInterface i j) =
+    numbered (codes "router ") i ++ numbered (codes " interface ") j
 at_text (places.RouterOwn i j) = numbered (codes "router ") i ++ numbered (codes " own ") j
 
 abbrev pub refused_plan : PlanError → Written
-refused_plan e = record { text = line (codes "refused: plan " ++ plan_code_text e.code ++ codes " at " ++ at_text e.place); status = Refused }
+refused_plan e = record {
+  text = line (codes "refused: plan " ++ plan_code_text e.code ++ codes " at " ++ at_text e.place);
+  status = Refused;
+}
 
 -- the text of the prefix of a number, which is below their count in a plan
 abbrev pub prefix_of : Network → ℕ → List ℕ
@@ -58,12 +62,16 @@ prefix_of n k = unwrap_or (option_map prefix_text (slice_get n.prefixes k)) []
 -- `plan: 3 routers, 3 links, 6 interfaces, 3 prefixes`
 unfoldable pub counts_line : Network → List ℕ
 counts_line n =
-    line (codes "plan: " ++ decimal (length n.routers) ++ codes " routers, " ++ decimal (length n.links) ++ codes " links, " ++ decimal (length n.interfaces) ++ codes " interfaces, " ++ decimal (length n.prefixes) ++ codes " prefixes")
+    line (codes "plan: " ++ decimal (length n.routers) ++ codes " routers, "
+        ++ decimal (length n.links) ++ codes " links, "
+        ++ decimal (length n.interfaces) ++ codes " interfaces, "
+        ++ decimal (length n.prefixes) ++ codes " prefixes")
 
 -- `interface r1 a 10.1.0.1 cost 1`
 unfoldable pub interface_line : Network → Interface → List ℕ
 interface_line n i =
-    line (codes "interface " ++ name_of n.routers i.router ++ codes " " ++ name_of n.links i.link ++ codes " " ++ address_text i.address ++ codes " cost " ++ decimal i.cost)
+    line (codes "interface " ++ name_of n.routers i.router ++ codes " " ++ name_of n.links i.link
+        ++ codes " " ++ address_text i.address ++ codes " cost " ++ decimal i.cost)
 
 -- the link, or the router, is one of the plan
 abbrev pub IsSeat : Network → Seat → Type 0
@@ -80,9 +88,14 @@ place_line n p = line (codes "prefix " ++ prefix_of n p.prefix ++ seat_text n p.
 
 -- a plan: its counts, its interfaces and its places
 abbrev pub shown_plan : Network → Written
-shown_plan n = record { text = (counts_line n ++ flat_map (interface_line n) n.interfaces) ++ flat_map (place_line n) n.places; status = Done }
+shown_plan n = record {
+  text = (counts_line n ++ flat_map (interface_line n) n.interfaces)
+      ++ flat_map (place_line n) n.places;
+  status = Done;
+}
 
 -- what is written for the bytes of a plan: their first fault, or the plan that their document is
 pub data PlanText (bytes : List ℕ) : Written → Type 0 where
   a_fault : (e : PlanError) → first_fault bytes ≡ Some e → PlanText bytes (refused_plan e)
-  a_plan : (n : Network) → first_fault bytes ≡ None → IsPlanOfText bytes n → PlanText bytes (shown_plan n)
+  a_plan : (n : Network) → first_fault bytes ≡ None → IsPlanOfText bytes n
+      → PlanText bytes (shown_plan n)

@@ -37,7 +37,8 @@ change_text old new = codes " from " ++ decimal old ++ codes " to " ++ decimal n
 
 -- the number and the word of what a table refuses, as `1 Changed prefix 10.2.0.0/16 from 2 to 3`
 unfoldable pub table_error_text : TableError → List ℕ
-table_error_text (table.Changed p old new) = codes "1 Changed" ++ prefix_part p ++ change_text old new
+table_error_text (table.Changed p old new) =
+    codes "1 Changed" ++ prefix_part p ++ change_text old new
 table_error_text (table.NextHop p) = codes "2 NextHop" ++ prefix_part p
 table_error_text table.TooManyPrefixes = codes "3 TooManyPrefixes"
 table_error_text table.Memory = codes "4 Memory"
@@ -53,4 +54,5 @@ cause_text n (Table e) = at_line (codes "table line ") n ++ table_error_text e
 cause_text n UnknownSender = at_line (codes "table line ") n ++ codes "5 UnknownSender"
 
 abbrev pub refused_log : CollectError → Written
-refused_log e = record { text = line (codes "refused: " ++ cause_text e.line e.cause); status = Refused }
+refused_log e =
+    record { text = line (codes "refused: " ++ cause_text e.line e.cause); status = Refused }

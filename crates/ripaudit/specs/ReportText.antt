@@ -12,18 +12,29 @@ use Rattle.ripaudit.specs.PlanText.{refused_plan}
 use Rattle.ripaudit.specs.RefusalText.{refused_log}
 use Rattle.ripaudit.specs.Written.{Written}
 
--- what is written for a network and the text of a log, where it is told: what refused the log, or one
--- of the texts that a command has for the table of its records
-pub data ReportOf (IsText : State → Written → Type 0) (n : Network) (log : Option (List ℕ)) : Written → Type 0 where
-  a_refusal : (s : State) (e : CollectError) → OutcomeKnown n (new_state n) (log_in log) s (Some e)
+-- what is written for a network and the text of a log, where it is told: what refused the log, or
+-- one of the texts that a command has for the table of its records
+pub data ReportOf
+    (IsText : State → Written → Type 0)
+    (n : Network)
+    (log : Option (List ℕ))
+    : Written → Type 0 where
+  a_refusal : (s : State) (e : CollectError)
+      → OutcomeKnown n (new_state n) (log_in log) s (Some e)
       → ReportOf IsText n log (refused_log e)
-  of_table : (s : State) (w : Written) → OutcomeKnown n (new_state n) (log_in log) s None
+  of_table : (s : State) (w : Written)
+      → OutcomeKnown n (new_state n) (log_in log) s None
       → IsText s w → ReportOf IsText n log w
 
 -- the same for the bytes of a plan: their first fault, or what is written for the plan that their
 -- document is
-pub data ReportText (IsText : Network → State → Written → Type 0) (plan : List ℕ) (log : Option (List ℕ)) : Written → Type 0 where
-  a_fault : (e : PlanError) → first_fault plan ≡ Some e → ReportText IsText plan log (refused_plan e)
+pub data ReportText
+    (IsText : Network → State → Written → Type 0)
+    (plan : List ℕ)
+    (log : Option (List ℕ))
+    : Written → Type 0 where
+  a_fault : (e : PlanError) → first_fault plan ≡ Some e
+      → ReportText IsText plan log (refused_plan e)
   of_plan : (n : Network) (w : Written) → first_fault plan ≡ None → IsPlanOfText plan n
       → ReportOf (IsText n) n log w → ReportText IsText plan log w
 
@@ -34,7 +45,12 @@ pub record IsTable (n : Network) (log : Option (List ℕ)) (s : State) : Type 0 
   pub joined : OutcomeKnown n (new_state n) (log_in (Some bytes)) s None
 
 -- the same, with the bytes of a plan that has no fault and is n's
-pub record IsAccepted (plan : List ℕ) (log : Option (List ℕ)) (n : Network) (s : State) : Type 0 where
+pub record IsAccepted
+    (plan : List ℕ)
+    (log : Option (List ℕ))
+    (n : Network)
+    (s : State)
+    : Type 0 where
   pub faultless : first_fault plan ≡ None
   pub plan_of : IsPlanOfText plan n
   pub table : IsTable n log s

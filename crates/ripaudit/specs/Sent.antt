@@ -18,7 +18,14 @@ pub record Began (old new : Option (List ℕ)) (text : List ℕ) : Type 0 where
 
 -- what a call leaves that writes a text: all but `left` went out; or the sink has failed, and a
 -- beginning went out
-pub record Writes {K : Type 0} (taken : K → Option (List ℕ)) (broken : K → Bool) (old new : K) (result : Result (Unit {0}) Failed) (text left : List ℕ) : Type 0 where
+pub record Writes
+    {K : Type 0}
+    (taken : K → Option (List ℕ))
+    (broken : K → Bool)
+    (old new : K)
+    (result : Result (Unit {0}) Failed)
+    (text left : List ℕ)
+    : Type 0 where
   pub ok : OnOk result (Sent (taken old) (taken new) text left)
   pub err : OnErr result (Began (taken old) (taken new) text)
   pub failed : is_err result ≡ true → broken new ≡ true

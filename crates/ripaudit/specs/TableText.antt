@@ -12,7 +12,9 @@ use Rattle.ripaudit.specs.declared.status.Status.TheVariants.{Done}
 
 -- `table: 6 interfaces, 3 prefixes`
 unfoldable pub table_line : ℕ → ℕ → List ℕ
-table_line interfaces prefixes = line (codes "table: " ++ decimal interfaces ++ codes " interfaces, " ++ decimal prefixes ++ codes " prefixes")
+table_line interfaces prefixes =
+    line (codes "table: " ++ decimal interfaces ++ codes " interfaces, "
+        ++ decimal prefixes ++ codes " prefixes")
 
 -- an interface by its router and its link, as `r1 a`
 abbrev pub interface_name : Network → Interface → List ℕ
@@ -24,7 +26,8 @@ unheard_line n i = line (interface_name n i ++ codes " not heard")
 
 -- `r1 a 10.2.0.0/16 16`
 unfoldable pub metric_line : Network → Interface → Block → ℕ → List ℕ
-metric_line n i p m = line (interface_name n i ++ codes " " ++ prefix_text p ++ codes " " ++ decimal m)
+metric_line n i p m =
+    line (interface_name n i ++ codes " " ++ prefix_text p ++ codes " " ++ decimal m)
 
 -- the line of a prefix, if the interface shows it
 abbrev pub prefix_lines : Network → Interface → Block → Option ℕ → List ℕ
@@ -41,9 +44,13 @@ interface_lines n s at = if s.heard at.0 then shown_lines n s at.0 at.1 else unh
 
 -- a table: its counts, and its interfaces in the order of the plan
 abbrev pub shown_table : Network → State → Written
-shown_table n s = record { text = table_line (length n.interfaces) (length s.prefixes) ++ flat_map (interface_lines n s) (enumerate_from 0 n.interfaces); status = Done }
+shown_table n s = record {
+  text = table_line (length n.interfaces) (length s.prefixes)
+      ++ flat_map (interface_lines n s) (enumerate_from 0 n.interfaces);
+  status = Done;
+}
 
--- what is written for the bytes of a plan and the text of a log, where it is told: what refuses them,
--- or the table of the log's records
+-- what is written for the bytes of a plan and the text of a log, where it is told: what refuses
+-- them, or the table of the log's records
 abbrev pub TableText : List ℕ → Option (List ℕ) → Written → Type 0
 TableText plan log = ReportText (λ n s w. w ≡ shown_table n s) plan log

@@ -14,7 +14,9 @@ IsText texts k text = (t : Text) × (slice_get texts k ≡ Some t) × (text_of t
 
 -- for each prefix its text and a blank
 abbrev pub AreOfPrefixes : List Block → List Text → Type 0
-AreOfPrefixes prefixes texts = (k : ℕ) (p : Block) → slice_get prefixes k ≡ Some p → IsText texts k (prefix_text p ++ codes " ")
+AreOfPrefixes prefixes texts =
+    (k : ℕ) (p : Block) → slice_get prefixes k ≡ Some p
+    → IsText texts k (prefix_text p ++ codes " ")
 
 -- for each metric its number and the end of the line
 abbrev pub AreOfMetrics : List Text → Type 0

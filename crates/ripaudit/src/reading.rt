@@ -40,7 +40,8 @@ pub(crate) fn read_log<R: Source, T: MetricTable>(
     table: &mut T,
 ) -> (R, Result<Option<CollectError>, RunError>)
     requires { T.state table.old ≡ new_state plan.now }
-    ensures told { IfOk result.1 (λ fault. OutcomeKnown plan.now (new_state plan.now) (log_in (R.coming log)) (T.state table.new) fault) }
+    ensures told { IfOk result.1 (OutcomeKnown plan.now (new_state plan.now)
+        (log_in (R.coming log)) (T.state table.new)) }
     ensures fits { Fits plan.now (T.state table.new) }
     ensures read { result.1 ≡ Err RunError.Read → R.broken result.0 ≡ true }
     ensures write { result.1 ≢ Err RunError.Write }
