@@ -2,10 +2,10 @@
 use Rattle.std.proofs.Common.{◌≡◌, ℕ, ◌<◌, ◌⊎◌, inl, inr, None, sym, ◌∙◌, length}
 use Rattle.rip_plan.specs.Network.{Network}
 use Rattle.rip_plan.specs.Relations.{IsLawful, IsLeaf, HasTwoInterfaces}
-use Rattle.rip_check.specs.Tables.{Showing, Route, Fits}
+use Rattle.rip_check.specs.Tables.{Showing, Route, Fits, IsHeard}
 use Rattle.rip_check.proofs.Reading.{one_route, two_or_leaf, tables_of}
 use Rattle.rip_check.specs.Telling.{Tells}
-use Rattle.rip_check.specs.Captured.{IsInRange, IsHeard}
+use Rattle.rip_check.specs.Captured.{IsInRange}
 use Rattle.rip_check.specs.Firsts.{IsReadable, AreFine}
 use Rattle.rip_check.specs.Settled.{Holds}
 use Rattle.rip_check.specs.Verdicts.{IsSound, TablesShown}

@@ -1,14 +1,14 @@
--- Whatever route is behind what a router shows, it is the one that its first metric and its first gap tell.
+-- Whatever route is behind what a router shows, it is the one that its first metric and its first silent tell.
 use Rattle.std.proofs.Common.{◌≡◌, ℕ, ◌<◌, ◌≤◌, ◌⊎◌, inl, inr, Option, Some, unwrap_or, refl, sym, ◌∙◌, ap, arith}
 use Rattle.std.proofs.lemmas.Bool.{cases_lt}
 use Rattle.rip_plan.specs.Network.{Network}
 use Rattle.rip_plan.specs.Relations.{IsLawful, HasTwoInterfaces}
 use Rattle.rip_check.specs.declared.way.Way.{Way}
 use Rattle.rip_check.specs.declared.way.Way.TheVariants.{Unreachable, Here, Over}
-use Rattle.rip_check.specs.Tables.{Showing, Route, FitsWay, MayShow, IsSilent}
+use Rattle.rip_check.specs.Tables.{Showing, Route, FitsWay, MayShow, IsSilent, IsAsTold}
 use Rattle.rip_check.proofs.Shown.{some_is, shown_below, metric_most}
 use Rattle.rip_check.proofs.Reading.{speaks_case}
-use Rattle.rip_check.specs.Telling.{Tells, IsMute, IsSpoken, IsGap, IsAsTold}
+use Rattle.rip_check.specs.Telling.{Tells, IsMute, IsSpoken, IsSilentLink}
 
 -- what is below 16 is no silence
 pub not_silent : (x : Option ℕ) (m : ℕ) → x ≡ Some m → (m ≡ 16 → ⊥) → IsSilent x → ⊥
@@ -40,7 +40,7 @@ module _ (n : Network) (plan : IsLawful n) (shown : Showing) (r p : ℕ) (two : 
             ]
       ]
 
-  way_here : (m : ℕ) (w : Way) → FitsWay n r p m w → m < 16 → IsAsTold n shown r p m w → ((l : ℕ) → IsGap n shown r p l → ⊥) → w ≡ Here
+  way_here : (m : ℕ) (w : Way) → FitsWay n r p m w → m < 16 → IsAsTold n shown r p m w → ((l : ℕ) → IsSilentLink n shown r p l → ⊥) → w ≡ Here
   way_here m Unreachable fits small told none = absurd (omega (arith, fits, small))
   way_here m Here fits small told none = refl
   way_here m (Over k) fits small told none =
@@ -51,26 +51,26 @@ module _ (n : Network) (plan : IsLawful n) (shown : Showing) (r p : ℕ) (two : 
       go (inl h) = absurd (none k (fits.2.1.0, fits.2.0, fits.2.1.1, inr h.1, fits.3))
       go (inr h) = absurd (h.0 refl)
 
-  way_over : (m l : ℕ) (w : Way) → FitsWay n r p m w → m < 16 → IsAsTold n shown r p m w → IsGap n shown r p l → w ≡ Over l
-  way_over m l w fits small told gap = go w fits (told gap.0 l gap.1 gap.2)
+  way_over : (m l : ℕ) (w : Way) → FitsWay n r p m w → m < 16 → IsAsTold n shown r p m w → IsSilentLink n shown r p l → w ≡ Over l
+  way_over m l w fits small told silent = go w fits (told silent.0 l silent.1 silent.2)
     where
-      go : (w : Way) → FitsWay n r p m w → MayShow n l p m w (shown.cell gap.0 p) → w ≡ Over l
+      go : (w : Way) → FitsWay n r p m w → MayShow n l p m w (shown.cell silent.0 p) → w ≡ Over l
       go Unreachable f h = absurd (omega (arith, f, small))
-      go Here f (inl e) = absurd (not_silent (shown.cell gap.0 p) m e (λ is. omega (arith, is, small)) gap.3)
-      go Here f (inr h) = absurd (gap.4 h.0)
+      go Here f (inl e) = absurd (not_silent (shown.cell silent.0 p) m e (λ is. omega (arith, is, small)) silent.3)
+      go Here f (inr h) = absurd (silent.4 h.0)
       go (Over k) f (inl h) = ap Over h.0
-      go (Over k) f (inr h) = absurd (not_silent (shown.cell gap.0 p) m h.1 (λ is. omega (arith, is, small)) gap.3)
+      go (Over k) f (inr h) = absurd (not_silent (shown.cell silent.0 p) m h.1 (λ is. omega (arith, is, small)) silent.3)
 
   way_nowhere : (m : ℕ) (w : Way) → FitsWay n r p m w → m ≡ 16 → w ≡ Unreachable
   way_nowhere m Unreachable fits e = refl
   way_nowhere m Here fits e = absurd (omega (arith, fits, e))
   way_nowhere m (Over l) fits e = absurd (omega (arith, fits.1, e))
 
-  -- the way that the first metric and the first gap tell
+  -- the way that the first metric and the first silent tell
   abbrev pub IsTold : ℕ → Way → Type 0
   IsTold m w =
       ((m ≡ 16) × (w ≡ Unreachable))
-      ⊎ (((m < 16) × ((l : ℕ) → IsGap n shown r p l → ⊥) × (w ≡ Here)) ⊎ ((l : ℕ) × (m < 16) × IsGap n shown r p l × (w ≡ Over l)))
+      ⊎ (((m < 16) × ((l : ℕ) → IsSilentLink n shown r p l → ⊥) × (w ≡ Here)) ⊎ ((l : ℕ) × (m < 16) × IsSilentLink n shown r p l × (w ≡ Over l)))
 
   way_is : (m : ℕ) (w v : Way) → FitsWay n r p m v → IsAsTold n shown r p m v → IsTold m w → v ≡ w
   way_is m w v fits told (inl h) = way_nowhere m v fits h.0 ∙ sym h.1

@@ -3,11 +3,11 @@ use Rattle.std.proofs.Common.{◌≡◌, ℕ, ◌⊎◌, ◌↔◌, inl, inr, Op
 use Rattle.std.proofs.lemmas.Bool.{cases_lt}
 use Rattle.rip_plan.specs.Network.{Network}
 use Rattle.rip_plan.specs.Relations.{IsLawful, IsInterface}
-use Rattle.rip_check.specs.Tables.{Showing, Route, Fits}
+use Rattle.rip_check.specs.Tables.{Showing, Route, Fits, IsHeard}
 use Rattle.rip_check.specs.Laws.{RightTablesShown}
 use Rattle.rip_check.proofs.Reading.{one_route}
 use Rattle.rip_check.proofs.Judging.{places_are_settled, tables_are_right}
-use Rattle.rip_check.specs.Captured.{IsInRange, IsHeard}
+use Rattle.rip_check.specs.Captured.{IsInRange}
 use Rattle.rip_check.specs.declared.verdict.Unclear.{Unclear}
 use Rattle.rip_check.specs.declared.verdict.Unclear.TheVariants.{NotHeard, TwoMetrics, Missing, TwoWays}
 use Rattle.rip_check.specs.declared.verdict.Place2.{Place2}

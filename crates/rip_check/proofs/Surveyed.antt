@@ -8,7 +8,7 @@ use Rattle.rip_check.specs.declared.surveys.Survey.{Survey}
 use Rattle.rip_check.specs.declared.way.Way.TheVariants.{Unreachable, Here, Over}
 use Rattle.rip_check.specs.Captured.{IsInRange}
 use Rattle.rip_check.specs.Tables.{Showing, Route, IsSilent}
-use Rattle.rip_check.specs.Telling.{Tells, IsMute, IsGap}
+use Rattle.rip_check.specs.Telling.{Tells, IsMute, IsSilentLink}
 use Rattle.rip_check.specs.Firsts.{IsShownBelow}
 use Rattle.rip_check.specs.Surveys.{IsSurvey}
 use Rattle.rip_check.proofs.Owned.{within}
@@ -58,7 +58,7 @@ module _ (n : Network) (shown : Showing) (r p : ℕ) (found : Survey) (is : IsSu
     small : (found.metric ≡ 16 → ⊥) → found.metric < 16
     small off = omega (arith, off, is.speech.most)
 
-    pub here : found.another ≡ false → (found.metric ≡ 16 → ⊥) → found.gap ≡ None → Tells n shown r p (record { metric = found.metric; way = Here })
+    pub here : found.another ≡ false → (found.metric ≡ 16 → ⊥) → found.silent ≡ None → Tells n shown r p (record { metric = found.metric; way = Here })
     here off some none =
         record {
           way_fits = ((is.speech.spoken (small some)).0, small some);
@@ -68,33 +68,33 @@ module _ (n : Network) (shown : Showing) (r p : ℕ) (found : Survey) (is : IsSu
           ];
         }
 
-    gap_at : (l : ℕ) → found.gap ≡ Some l → IsGap n shown r p l
-    gap_at l e = let h = is.silence.some l e in (h.0, h.1, h.3, h.4, h.5)
+    silent_at : (l : ℕ) → found.silent ≡ Some l → IsSilentLink n shown r p l
+    silent_at l e = let h = is.silence.some l e in (h.0, h.1, h.3, h.4, h.5)
 
-    pub over : found.another ≡ false → (found.metric ≡ 16 → ⊥) → (l : ℕ) → found.gap ≡ Some l → found.blocked ≡ false →
+    pub over : found.another ≡ false → (found.metric ≡ 16 → ⊥) → (l : ℕ) → found.silent ≡ Some l → found.blocked ≡ false →
         Tells n shown r p (record { metric = found.metric; way = Over l })
     over off some l e free =
-        let gap = gap_at l e in
+        let silent = silent_at l e in
         record {
-          way_fits = ((is.speech.spoken (small some)).0, small some, (gap.1, (gap.0, gap.2)), gap.4);
+          way_fits = ((is.speech.spoken (small some)).0, small some, (silent.1, (silent.0, silent.2)), silent.4);
           as_told = λ i k c its. elim (cell_is off i k c its) [
             | inl silent ↦
                 let h = is.silence.alone free i k c (within n i r k c its) its silent in
                 inl (same_Some l k (sym e ∙ h.0), h.1)
-            | inr shows ↦ inr (λ same. other gap i k c its shows same, shows)
+            | inr shows ↦ inr (λ same. other silent i k c its shows same, shows)
           ];
         }
       where
-        other : IsGap n shown r p l → (i k c : ℕ) → IsInterface n i r k c → shown.cell i p ≡ Some found.metric → l ≡ k → ⊥
-        other gap i k c its shows same =
+        other : IsSilentLink n shown r p l → (i k c : ℕ) → IsInterface n i r k c → shown.cell i p ≡ Some found.metric → l ≡ k → ⊥
+        other silent i k c its shows same =
             let its' : IsInterface n i r l c = rw same its in
-            let number = plan.one_on_link i gap.0 r l c gap.1 its' gap.2 in
-            let quiet : IsSilent (shown.cell i p) = rw number gap.3 in
+            let number = plan.one_on_link i silent.0 r l c silent.1 its' silent.2 in
+            let quiet : IsSilent (shown.cell i p) = rw number silent.3 in
             below_not_silent (shown.cell i p) found.metric shows (small some) quiet
 
-    -- where no route over the gap may show this, none fits
-    pub no_way : (found.metric ≡ 16 → ⊥) → (l : ℕ) → found.gap ≡ Some l → found.blocked ≡ true → (t : Route) → Tells n shown r p t → ⊥
+    -- where no route over the silent may show this, none fits
+    pub no_way : (found.metric ≡ 16 → ⊥) → (l : ℕ) → found.silent ≡ Some l → found.blocked ≡ true → (t : Route) → Tells n shown r p t → ⊥
     no_way some l e on t tells =
-        let gap = gap_at l e in
-        is.silence.no_route on found.metric l (small some) gap.4 (inr e)
-        (no_other n plan shown r p two t found.metric (Over l) tells is.speech.most mute is.speech.spoken (inr (inr (l, small some, gap, refl))))
+        let silent = silent_at l e in
+        is.silence.no_route on found.metric l (small some) silent.4 (inr e)
+        (no_other n plan shown r p two t found.metric (Over l) tells is.speech.most mute is.speech.spoken (inr (inr (l, small some, silent, refl))))

@@ -5,8 +5,8 @@ use Rattle.std.proofs.lemmas.Option.{same_Some}
 use Rattle.rip_plan.specs.Network.{Network}
 use Rattle.rip_plan.specs.Relations.{IsLawful, IsInterface, Carries}
 use Rattle.rip_check.specs.declared.way.Way.TheVariants.{Over}
-use Rattle.rip_check.specs.Tables.{Showing, IsSilent, MayShow}
-use Rattle.rip_check.specs.Telling.{IsAsTold}
+use Rattle.rip_check.specs.Tables.{Showing, IsSilent, MayShow, IsAsTold}
+use Rattle.rip_check.specs.Telling.{}
 use Rattle.rip_check.specs.Firsts.{IsShownBelow}
 use Rattle.rip_check.specs.declared.surveys.Survey.{Survey}
 use Rattle.rip_check.specs.Surveys.{IsSpeech, IsSilence, IsSurvey}
@@ -81,13 +81,13 @@ module _ (n : Network) (shown : Showing) (r p i l c : ℕ) (its : IsInterface n 
           one = λ t. cc t;
         }
 
-    pub no_silence : (gap : Option ℕ) (blocked : Bool) → IsSilence n shown r p i gap blocked → IsSilence n shown r p (i + 1) gap blocked
-    no_silence gap blocked was =
+    pub no_silence : (silent : Option ℕ) (blocked : Bool) → IsSilence n shown r p i silent blocked → IsSilence n shown r p (i + 1) silent blocked
+    no_silence silent blocked was =
         record {
           some = λ k e. let h = was.some k e in (h.0, h.1, omega (arith, h.2), h.3, h.4, h.5);
           none = λ e. split (λ j k. IsSilent (shown.cell j p) → Carries n k p) (was.none e) (λ silent. absurd (here_not_silent silent));
           no_route = was.no_route;
-          alone = λ e. split (λ j k. IsSilent (shown.cell j p) → (gap ≡ Some k) × (shown.cell j p ≡ Some 16)) (was.alone e) (λ silent. absurd (here_not_silent silent));
+          alone = λ e. split (λ j k. IsSilent (shown.cell j p) → (silent ≡ Some k) × (shown.cell j p ≡ Some 16)) (was.alone e) (λ silent. absurd (here_not_silent silent));
         }
 
   -- ---- the interface is silent
@@ -107,17 +107,17 @@ module _ (n : Network) (shown : Showing) (r p i l c : ℕ) (its : IsInterface n 
     over_here m k less (inl h) = h
     over_here m k less (inr h) = absurd (below_not_silent (shown.cell i p) m h.1 less silent)
 
-    -- the first gap
-    pub first_gap : (off : Carries n l p → ⊥) (blocked : Bool) → IsSilence n shown r p i None blocked →
+    -- the first silent
+    pub first_silent_link : (off : Carries n l p → ⊥) (blocked : Bool) → IsSilence n shown r p i None blocked →
         (next : Bool) → (next ≡ true → (blocked ≡ true) ⊎ (shown.cell i p ≡ None)) → (next ≡ false → (blocked ≡ false) × (shown.cell i p ≡ Some 16)) →
         IsSilence n shown r p (i + 1) (Some l) next
-    first_gap off blocked was next on off' =
+    first_silent_link off blocked was next on off' =
         record {
           some = λ k e.
               let same : k ≡ l = same_Some k l (sym e) in
               rw same (i, c, omega arith, its, silent, off);
           none = λ e. cc e;
-          no_route = λ t m k less away gap told. no_route_here (on t) m k less away (is_gap k gap) told;
+          no_route = λ t m k less away silent told. no_route_here (on t) m k less away (is_gap k silent) told;
           alone = λ t.
               let h = off' t in
               split (λ j k. IsSilent (shown.cell j p) → (Some l ≡ Some k) × (shown.cell j p ≡ Some 16))
@@ -134,9 +134,9 @@ module _ (n : Network) (shown : Showing) (r p i l c : ℕ) (its : IsInterface n 
             let h = over_here m k less (told i l c its) in
             cc (none, h.1)
 
-    -- a silence beside the gap
-    pub more_silence : IsLawful n → (gap : Option ℕ) (blocked : Bool) → IsSilence n shown r p i gap blocked → ((gap ≡ None → ⊥) ⊎ Carries n l p) → IsSilence n shown r p (i + 1) gap true
-    more_silence plan gap blocked was beside =
+    -- a silence beside the silent
+    pub more_silence : IsLawful n → (silent : Option ℕ) (blocked : Bool) → IsSilence n shown r p i silent blocked → ((silent ≡ None → ⊥) ⊎ Carries n l p) → IsSilence n shown r p (i + 1) silent true
+    more_silence plan silent blocked was beside =
         record {
           some = λ k e. let h = was.some k e in (h.0, h.1, omega (arith, h.2), h.3, h.4, h.5);
           none = λ e. split (λ j k. IsSilent (shown.cell j p) → Carries n k p) (was.none e) (λ quiet. carried beside e);
@@ -144,7 +144,7 @@ module _ (n : Network) (shown : Showing) (r p i l c : ℕ) (its : IsInterface n 
           alone = λ t. cc t;
         }
       where
-        carried : (gap ≡ None → ⊥) ⊎ Carries n l p → gap ≡ None → Carries n l p
+        carried : (silent ≡ None → ⊥) ⊎ Carries n l p → silent ≡ None → Carries n l p
         carried (inl some) e = absurd (some e)
         carried (inr on) e = on
 
@@ -153,14 +153,14 @@ module _ (n : Network) (shown : Showing) (r p i l c : ℕ) (its : IsInterface n 
             let at' : IsInterface n j r l d = rw same at at in
             omega (arith, sooner, plan.one_on_link j i r l d c at' its)
 
-        away' : (gap ≡ None → ⊥) ⊎ Carries n l p → (m k : ℕ) → m < 16 → (Carries n k p → ⊥) → (gap ≡ None) ⊎ (gap ≡ Some k) → k ≡ l → ⊥
+        away' : (silent ≡ None → ⊥) ⊎ Carries n l p → (m k : ℕ) → m < 16 → (Carries n k p → ⊥) → (silent ≡ None) ⊎ (silent ≡ Some k) → k ≡ l → ⊥
         away' (inr on) m k less away at same = away (rw same on)
         away' (inl some) m k less away (inl none) same = some none
         away' (inl some) m k less away (inr is) same = let h = was.some k is in apart h.0 k h.1 h.2 h.3 same
 
 -- before the first interface, and up to the next one
 module _ (n : Network) (shown : Showing) (r p : ℕ) where
-  pub nothing_yet : IsSurvey n shown r p 0 (record { metric = 16; another = false; gap = None; blocked = false })
+  pub nothing_yet : IsSurvey n shown r p 0 (record { metric = 16; another = false; silent = None; blocked = false })
   nothing_yet =
       record {
         speech = record {

@@ -12,7 +12,8 @@ use Rattle.rip_check.specs.Walks.{WalksArrive}
 use Rattle.rip_check.specs.declared.verdict.Place2.{Place2}
 use Rattle.rip_check.specs.declared.verdict.Unclear.{Unclear}
 
--- the table shows tables that are right: each metric the least cost of a path, or 16, each way the beginning of such a path
+-- the table shows tables that are right: each metric the least cost of a path, or 16, each way the
+-- beginning of such a path
 abbrev pub ShowsRightTables : Network → State → Type 0
 ShowsRightTables n s = RightTablesShown n (length s.prefixes) (showing_of s)
 
@@ -24,7 +25,8 @@ EachPlaceHolds n s = PlacesSettled n (length s.prefixes) (showing_of s)
 abbrev pub ShowsTables : Network → State → Type 0
 ShowsTables n s = TablesShown n (length s.prefixes) (showing_of s)
 
--- the first place after the given one, if one is given, that can be read and does not hold, with its values
+-- the first place after the given one, if one is given, that can be read and does not hold, with
+-- its values
 abbrev pub IsNextUnsettled : Network → State → Option (ℕ × ℕ) → Place2 → Type 0
 IsNextUnsettled n s after place = IsFirstFailing n (length s.prefixes) (showing_of s) after place
 
@@ -40,9 +42,12 @@ IsKnownPlace s after = IsKnown (length s.prefixes) after
 abbrev pub TroubleIs : Network → State → Unclear → Type 0
 TroubleIs n s unclear = IsFirstTrouble n (length s.prefixes) (showing_of s) unclear
 
--- whoever follows the tables that are shown arrives, after at most as many routers as the first one's metric, which are at most fifteen
+-- whoever follows the tables that are shown arrives, after at most as many routers as the first
+-- one's metric, which are at most fifteen
 abbrev pub PacketsArrive : Network → State → Type 0
-PacketsArrive n s = (tables : Tables) → Shows n (length s.prefixes) (showing_of s) tables → WalksArrive n (length s.prefixes) (showing_of s) tables
+PacketsArrive n s =
+    (tables : Tables) → Shows n (length s.prefixes) (showing_of s) tables
+    → WalksArrive n (length s.prefixes) (showing_of s) tables
 
 -- exactly one route fits what router r shows of prefix p, or r is a leaf
 abbrev pub CanRead : Network → State → ℕ → ℕ → Type 0

@@ -35,13 +35,15 @@ route m w = record { metric = m; way = w }
 -- what is shown, with a row of prefixes for each interface; every interface was heard
 abbrev pub showing : List (List (Option ℕ)) → Showing
 showing rows = record {
-  cell = λ i p. option_and_then (λ row. option_and_then (λ shown. shown) (slice_get row p)) (slice_get rows i);
+  cell = λ i p. option_and_then
+      (λ row. option_and_then (λ shown. shown) (slice_get row p)) (slice_get rows i);
   is_heard = λ i. true;
 }
 
 -- tables, with a row of prefixes for each router
 abbrev pub tables : List (List Route) → Tables
-tables rows r p = unwrap_or (option_and_then (λ row. slice_get row p) (slice_get rows r)) (route 16 Unreachable)
+tables rows r p =
+    unwrap_or (option_and_then (λ row. slice_get row p) (slice_get rows r)) (route 16 Unreachable)
 
 -- ---- What is said of them
 
@@ -52,8 +54,11 @@ pub record IsSettledNetwork (n : Network) (count : ℕ) (shown : Showing) (T : T
   pub holds : HoldsAll n count shown T
   pub right : AllRight n count T
 
--- the plan keeps its laws and the log shows the tables, but some place does not hold, and the tables are not right
-pub record IsUnsettledNetwork (n : Network) (count : ℕ) (shown : Showing) (T : Tables) : Type 0 where
+-- the plan keeps its laws and the log shows the tables, but some place does not hold, and the
+-- tables are not right
+pub record IsUnsettledNetwork
+    (n : Network) (count : ℕ) (shown : Showing) (T : Tables)
+    : Type 0 where
   pub lawful : IsLawful n
   pub shows : Shows n count shown T
   pub fails : HoldsAll n count shown T → ⊥
@@ -87,7 +92,8 @@ triangle_tables = tables (
     ∷ (route 2 (Over 2) ∷ route 1 Here ∷ route 1 Here ∷ []) ∷ []
     )
 
--- ---- The same with a fourth prefix that nobody has: each router has it from the next one, round in a circle
+-- ---- The same with a fourth prefix that nobody has: each router has it from the next one, round
+-- in a circle
 
 abbrev pub phantom_shown : Showing
 phantom_shown = showing (
@@ -116,7 +122,8 @@ nowhere_shown = showing (
 abbrev pub two_exits : Network
 two_exits = record triangle {
   prefixes = ten 1 ∷ ten 2 ∷ ten 3 ∷ block 0 0 ∷ [];
-  places = place 0 (Link 0) ∷ place 1 (Link 1) ∷ place 2 (Link 2) ∷ place 3 (Own 0 1) ∷ place 3 (Own 2 1) ∷ [];
+  places = place 0 (Link 0) ∷ place 1 (Link 1) ∷ place 2 (Link 2)
+      ∷ place 3 (Own 0 1) ∷ place 3 (Own 2 1) ∷ [];
 }
 
 abbrev pub two_exits_shown : Showing
@@ -133,7 +140,8 @@ two_exits_tables = tables (
     ∷ (route 2 (Over 2) ∷ route 1 Here ∷ route 1 Here ∷ route 1 Here ∷ []) ∷ []
     )
 
--- ---- A leaf: the triangle, and a fourth router on link b alone, which can show nothing that it learned
+-- ---- A leaf: the triangle, and a fourth router on link b alone, which can show nothing that it
+-- learned
 
 abbrev pub with_leaf : Network
 with_leaf = record triangle {
@@ -172,10 +180,13 @@ slope = record {
 
 -- the first router has the second prefix for m
 abbrev pub slope_shown : ℕ → Showing
-slope_shown m = showing ((None ∷ Some m ∷ []) ∷ (Some 1 ∷ Some 16 ∷ []) ∷ (Some 16 ∷ Some 1 ∷ []) ∷ (Some 2 ∷ None ∷ []) ∷ [])
+slope_shown m =
+    showing ((None ∷ Some m ∷ []) ∷ (Some 1 ∷ Some 16 ∷ [])
+    ∷ (Some 16 ∷ Some 1 ∷ []) ∷ (Some 2 ∷ None ∷ []) ∷ [])
 
 abbrev pub slope_tables : ℕ → Tables
-slope_tables m = tables ((route 1 Here ∷ route m (Over 1) ∷ []) ∷ (route 2 (Over 1) ∷ route 1 Here ∷ []) ∷ [])
+slope_tables m =
+    tables ((route 1 Here ∷ route m (Over 1) ∷ []) ∷ (route 2 (Over 1) ∷ route 1 Here ∷ []) ∷ [])
 
 -- ---- Chains: n routers in a row, the first of which has a prefix
 
@@ -185,7 +196,9 @@ numbered_name letter n = letter ∷ (48 + n / 10) ∷ (48 + n % 10) ∷ []
 
 abbrev pub chain_interfaces : ℕ → List Interface
 chain_interfaces zero = []
-chain_interfaces (suc n) = chain_interfaces n ++ interface n n (octets 192 168 n 2) 1 ∷ interface n (n + 1) (octets 192 168 (n + 1) 1) 1 ∷ []
+chain_interfaces (suc n) =
+    chain_interfaces n
+    ++ interface n n (octets 192 168 n 2) 1 ∷ interface n (n + 1) (octets 192 168 (n + 1) 1) 1 ∷ []
 
 abbrev pub chain : ℕ → Network
 chain n = record {
@@ -199,13 +212,16 @@ chain n = record {
 -- the first shows its metric on both links; the others show theirs ahead, and 16 behind
 abbrev pub chain_rows : ℕ → List (List (Option ℕ))
 chain_rows zero = []
-chain_rows (suc n) = chain_rows n ++ (Some (if n == 0 then 1 else 16) ∷ []) ∷ (Some (min 16 (n + 1)) ∷ []) ∷ []
+chain_rows (suc n) =
+    chain_rows n ++ (Some (if n == 0 then 1 else 16) ∷ []) ∷ (Some (min 16 (n + 1)) ∷ []) ∷ []
 
 abbrev pub chain_shown : ℕ → Showing
 chain_shown n = showing (chain_rows n)
 
 abbrev pub chain_route : ℕ → Route
-chain_route r = if r == 0 then route 1 Here else if nat_lt r 15 then route (r + 1) (Over r) else route 16 Unreachable
+chain_route r =
+    if r == 0 then route 1 Here else if nat_lt r 15 then route (r + 1) (Over r)
+    else route 16 Unreachable
 
 abbrev pub chain_tables : Tables
 chain_tables r p = chain_route r

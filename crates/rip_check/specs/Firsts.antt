@@ -2,9 +2,8 @@
 use Rattle.std.specs.Prelude.{◌≡◌, ◌≢◌, ℕ, ◌<◌, ◌≤◌, ◌⊎◌, Option, None, Some, IsTrue, length}
 use Rattle.rip_plan.specs.Network.{Network}
 use Rattle.rip_plan.specs.Relations.{IsInterface, IsLeaf}
-use Rattle.rip_check.specs.Tables.{Showing, Route}
+use Rattle.rip_check.specs.Tables.{IsHeard, Showing, Route}
 use Rattle.rip_check.specs.Telling.{Tells}
-use Rattle.rip_check.specs.Captured.{IsHeard}
 use Rattle.rip_check.specs.declared.verdict.Unclear.{Unclear}
 use Rattle.rip_check.specs.declared.verdict.Unclear.TheVariants.{NotHeard, TwoMetrics, Missing, TwoWays}
 
@@ -18,7 +17,8 @@ IsAfter None r p = Unit {0}
 IsAfter (Some a) r p = IsBefore a.0 a.1 r p
 
 -- (r, p) is the first place after the given one that is not fine
-pub record IsFirst (n : Network) (count : ℕ) (after : Option (ℕ × ℕ)) (Fine : ℕ → ℕ → Type 0) (r p : ℕ) : Type 0 where
+pub record IsFirst (n : Network) (count : ℕ) (after : Option (ℕ × ℕ)) (Fine : ℕ → ℕ
+    → Type 0) (r p : ℕ) : Type 0 where
   pub router : r < length n.routers
   pub prefix : p < count
   pub behind : IsAfter after r p
@@ -27,7 +27,8 @@ pub record IsFirst (n : Network) (count : ℕ) (after : Option (ℕ × ℕ)) (Fi
 
 -- every place after the given one is fine
 abbrev pub AreFine : Network → ℕ → Option (ℕ × ℕ) → (ℕ → ℕ → Type 0) → Type 0
-AreFine n count after Fine = (r p : ℕ) → r < length n.routers → p < count → IsAfter after r p → Fine r p
+AreFine n count after Fine =
+    (r p : ℕ) → r < length n.routers → p < count → IsAfter after r p → Fine r p
 
 -- the first number below the bound that is not fine, or the bound where each is
 pub record IsFirstBelow (bound : ℕ) (Fine : ℕ → Type 0) (first : ℕ) : Type 0 where
@@ -35,7 +36,8 @@ pub record IsFirstBelow (bound : ℕ) (Fine : ℕ → Type 0) (first : ℕ) : Ty
   pub before : (s : ℕ) → s < first → Fine s
   pub fails : first < bound → Fine first → ⊥
 
--- (r, p) is the first place that is not fine, or r is the number of routers where each place is fine
+-- (r, p) is the first place that is not fine, or r is the number of routers where each place is
+-- fine
 pub record IsFirstPlace (n : Network) (count : ℕ) (Fine : ℕ → ℕ → Type 0) (r p : ℕ) : Type 0 where
   pub most : r ≤ length n.routers
   pub first : r < length n.routers → IsFirst n count None Fine r p
@@ -57,7 +59,8 @@ pub record IsShownBelow (n : Network) (shown : Showing) (r p i m : ℕ) : Type 0
 
 -- two interfaces of the router show different metrics below 16
 abbrev pub ShowsTwo : Network → Showing → ℕ → ℕ → Type 0
-ShowsTwo n shown r p = (i j m v : ℕ) × IsShownBelow n shown r p i m × IsShownBelow n shown r p j v × (m ≢ v)
+ShowsTwo n shown r p =
+    (i j m v : ℕ) × IsShownBelow n shown r p i m × IsShownBelow n shown r p j v × (m ≢ v)
 
 -- the first interface of the router that shows nothing is on this link
 pub record IsFirstGap (n : Network) (shown : Showing) (r p l : ℕ) : Type 0 where
@@ -75,8 +78,10 @@ ShowsEach n shown r p = (i l c : ℕ) → IsInterface n i r l c → shown.cell i
 abbrev pub IsReason : Network → Showing → ℕ → ℕ → Unclear → Type 0
 IsReason n shown r p (NotHeard s l) = ⊥
 IsReason n shown r p (TwoMetrics s q) = (s ≡ r) × (q ≡ p) × ShowsTwo n shown r p
-IsReason n shown r p (Missing s q l) = (s ≡ r) × (q ≡ p) × (ShowsTwo n shown r p → ⊥) × IsFirstGap n shown r p l
-IsReason n shown r p (TwoWays s q) = (s ≡ r) × (q ≡ p) × (ShowsTwo n shown r p → ⊥) × ShowsEach n shown r p
+IsReason n shown r p (Missing s q l) =
+    (s ≡ r) × (q ≡ p) × (ShowsTwo n shown r p → ⊥) × IsFirstGap n shown r p l
+IsReason n shown r p (TwoWays s q) =
+    (s ≡ r) × (q ≡ p) × (ShowsTwo n shown r p → ⊥) × ShowsEach n shown r p
 
 -- the first interface that was not heard is router r's on link l
 pub record IsFirstUnheard (n : Network) (shown : Showing) (r l : ℕ) : Type 0 where
@@ -87,7 +92,9 @@ pub record IsFirstUnheard (n : Network) (shown : Showing) (r l : ℕ) : Type 0 w
   pub before : (j s k d : ℕ) → j < interface → IsInterface n j s k d → IsTrue (shown.is_heard j)
 
 -- the place of a trouble is the first that can't be read, with its reason
-pub record IsFirstUnclear (n : Network) (count : ℕ) (shown : Showing) (unclear : Unclear) : Type 0 where
+pub record IsFirstUnclear
+    (n : Network) (count : ℕ) (shown : Showing) (unclear : Unclear)
+    : Type 0 where
   pub router : ℕ
   pub prefix : ℕ
   pub first : IsFirst n count None (IsReadable n shown) router prefix
@@ -96,6 +103,9 @@ pub record IsFirstUnclear (n : Network) (count : ℕ) (shown : Showing) (unclear
 -- the first trouble: an interface not heard, else a place that can't be read
 abbrev pub IsFirstTrouble : Network → ℕ → Showing → Unclear → Type 0
 IsFirstTrouble n count shown (NotHeard r l) = IsFirstUnheard n shown r l
-IsFirstTrouble n count shown (TwoMetrics r p) = IsHeard n shown × IsFirstUnclear n count shown (TwoMetrics r p)
-IsFirstTrouble n count shown (Missing r p l) = IsHeard n shown × IsFirstUnclear n count shown (Missing r p l)
-IsFirstTrouble n count shown (TwoWays r p) = IsHeard n shown × IsFirstUnclear n count shown (TwoWays r p)
+IsFirstTrouble n count shown (TwoMetrics r p) =
+    IsHeard n shown × IsFirstUnclear n count shown (TwoMetrics r p)
+IsFirstTrouble n count shown (Missing r p l) =
+    IsHeard n shown × IsFirstUnclear n count shown (Missing r p l)
+IsFirstTrouble n count shown (TwoWays r p) =
+    IsHeard n shown × IsFirstUnclear n count shown (TwoWays r p)

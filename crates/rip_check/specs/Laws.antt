@@ -1,9 +1,9 @@
 -- The laws of settled tables, each as one statement.
-use Rattle.std.specs.Prelude.{◌≡◌, ℕ, ◌+◌, ◌≤◌, ◌<◌, List, length, map, IsTrue}
+use Rattle.std.specs.Prelude.{◌≡◌, ℕ, ◌+◌, ◌≤◌, ◌<◌, List, length, map}
 use Rattle.rip_plan.specs.Network.{Network}
-use Rattle.rip_plan.specs.Relations.{IsLawful, HasCost, IsInterface, IsNeighbour}
+use Rattle.rip_plan.specs.Relations.{IsLawful, HasCost, IsNeighbour}
 use Rattle.rip_check.specs.Paths.{Hop, IsPath}
-use Rattle.rip_check.specs.Tables.{Tables, Route, Showing, Shows, Fits}
+use Rattle.rip_check.specs.Tables.{Tables, Route, Showing, Shows, Fits, IsHeard}
 use Rattle.rip_check.specs.Settled.{Holds, HoldsAll, AllRight, GoesRight}
 use Rattle.rip_check.specs.Walks.{EachCanGoOn, EachEndsThere, EachIsShort, IsFalling, IsWalk}
 
@@ -33,16 +33,19 @@ PoisonHidesNothing k =
 abbrev pub MetricsAreReached : Case → Type 0
 MetricsAreReached k =
     (r p : ℕ) → r < length k.net.routers → p < k.count → (k.tables r p).metric < 16 →
-    GoesRight k.net p r (k.tables r p).metric (k.tables r p).way × ((hops : List Hop) × IsPath k.net p r hops (k.tables r p).metric)
+    GoesRight k.net p r (k.tables r p).metric (k.tables r p).way
+    × ((hops : List Hop) × IsPath k.net p r hops (k.tables r p).metric)
 
 -- no path costs less than the metric
 abbrev pub NoPathIsCheaper : Case → Type 0
 NoPathIsCheaper k =
-    (r p : ℕ) (hops : List Hop) (v : ℕ) → r < length k.net.routers → p < k.count → IsPath k.net p r hops v → (k.tables r p).metric ≤ v
+    (r p : ℕ) (hops : List Hop) (v : ℕ) → r < length k.net.routers → p < k.count
+    → IsPath k.net p r hops v → (k.tables r p).metric ≤ v
 
 -- along a walk metrics fall and stay at least 1
 abbrev pub WalksFall : Case → Type 0
-WalksFall k = (p : ℕ) (walk : List ℕ) → p < k.count → IsWalk k.net k.shown k.tables p walk → IsFalling (map (λ r. (k.tables r p).metric) walk)
+WalksFall k = (p : ℕ) (walk : List ℕ) → p < k.count → IsWalk k.net k.shown k.tables p walk
+    → IsFalling (map (λ r. (k.tables r p).metric) walk)
 
 -- a walk has at most as many routers as its first router's metric, and at most fifteen
 abbrev pub WalksEnd : Case → Type 0
@@ -58,17 +61,20 @@ WalksEndThere k = EachEndsThere k.net k.count k.shown k.tables
 
 -- no two routes fit what a router shows of a prefix
 abbrev pub OneRouteFits : Network → Showing → Type 0
-OneRouteFits n shown = (r p : ℕ) (t u : Route) → r < length n.routers → Fits n shown r p t → Fits n shown r p u → t ≡ u
+OneRouteFits n shown =
+    (r p : ℕ) (t u : Route) → r < length n.routers → Fits n shown r p t → Fits n shown r p u → t ≡ u
 
 -- two sets of tables that are shown are one
 abbrev pub OneIsShown : Network → ℕ → Showing → Type 0
 OneIsShown n count shown =
-    (T U : Tables) → Shows n count shown T → Shows n count shown U → (r p : ℕ) → r < length n.routers → p < count → T r p ≡ U r p
+    (T U : Tables) → Shows n count shown T → Shows n count shown U → (r p : ℕ)
+    → r < length n.routers → p < count → T r p ≡ U r p
 
 -- every interface was heard, and at each place a route fits and its equation holds
 pub record PlacesSettled (n : Network) (count : ℕ) (shown : Showing) : Type 0 where
-  pub heard : (i r l c : ℕ) → IsInterface n i r l c → IsTrue (shown.is_heard i)
-  pub places : (r p : ℕ) → r < length n.routers → p < count → (t : Route) × Fits n shown r p t × Holds n shown r p t
+  pub heard : IsHeard n shown
+  pub places : (r p : ℕ) → r < length n.routers → p < count → (t : Route) × Fits n shown r p t
+      × Holds n shown r p t
 
 -- the showing is of tables that are right
 abbrev pub RightTablesShown : Network → ℕ → Showing → Type 0

@@ -24,4 +24,5 @@ pub record IsMark (n : Network) (shown : Showing) (r p mark : ℕ) : Type 0 wher
 -- these are the places of this plan and this table that do not hold
 pub record AreUnsettled (n : Network) (s : State) (unsettled : Unsettled) : Type 0 where
   pub size : length unsettled.marks.items ≡ length n.routers * length s.prefixes
-  pub marks : (r p : ℕ) → r < length n.routers → p < length s.prefixes → IsMark n (showing_of s) r p (slice_index unsettled.marks.items (r * length s.prefixes + p))
+  pub marks : (r p : ℕ) → r < length n.routers → p < length s.prefixes
+      → IsMark n (showing_of s) r p (slice_index unsettled.marks.items (r * length s.prefixes + p))

@@ -5,7 +5,8 @@ use Rattle.rip_check.specs.declared.way.Way.TheVariants.{Unreachable, Here, Over
 use Rattle.rip_plan.specs.Network.{Network}
 use Rattle.rip_plan.specs.Relations.{IsInterface, HasCost, IsNeighbour, IsDirect, IsOn, IsLeaf, Carries}
 
--- a router's route for a prefix: 16 where it has none (RFC 2453, 3.6), and the way that a packet goes
+-- a router's route for a prefix: 16 where it has none (RFC 2453, 3.6), and the way that a packet
+-- goes
 pub record Route : Type 0 where
   pub metric : ℕ
   pub way : Way
@@ -14,12 +15,14 @@ pub record Route : Type 0 where
 abbrev pub Tables : Type 0
 Tables = ℕ → ℕ → Route
 
--- what a log shows: the metric, if any, of each interface for each prefix, and which interfaces were heard
+-- what a log shows: the metric, if any, of each interface for each prefix, and which interfaces
+-- were heard
 pub record Showing : Type 0 where
   pub cell : ℕ → ℕ → Option ℕ
   pub is_heard : ℕ → Bool
 
--- the metric and the way go together; a router never goes over a link of the prefix, where its route is its own
+-- the metric and the way go together; a router never goes over a link of the prefix, where its
+-- route is its own
 abbrev pub FitsWay : Network → ℕ → ℕ → ℕ → Way → Type 0
 FitsWay n r p m Unreachable = m ≡ 16
 FitsWay n r p m Here = (1 ≤ m) × (m < 16)
@@ -29,15 +32,22 @@ FitsWay n r p m (Over l) = (1 ≤ m) × (m < 16) × IsOn n r l × (Carries n l p
 abbrev pub IsSilent : Option ℕ → Type 0
 IsSilent x = (x ≡ None) ⊎ (x ≡ Some 16)
 
--- What a router with this metric and way may show of prefix p on link l: split horizon with poisoned reverse
--- (RFC 2453, 3.4.3), by link. On a link of the prefix a direct route may be held back or poisoned.
+-- What a router with this metric and way may show of prefix p on link l: split horizon with
+-- poisoned reverse (RFC 2453, 3.4.3), by link. On a link of the prefix a direct route may be held
+-- back or poisoned.
 abbrev pub MayShow : Network → ℕ → ℕ → ℕ → Way → Option ℕ → Type 0
 MayShow n l p m Unreachable x = IsSilent x
 MayShow n l p m Here x = (x ≡ Some m) ⊎ (Carries n l p × IsSilent x)
 MayShow n l p m (Over k) x = ((k ≡ l) × (x ≡ Some 16)) ⊎ ((k ≢ l) × (x ≡ Some m))
 
--- Router r hears v from its neighbour s over link l: what the link costs r and what s shows there, 16 where it shows
--- nothing or the sum is greater (RFC 2453, 3.9.2).
+-- the metric and the way could be behind what router r shows of prefix p on each link
+abbrev pub IsAsTold : Network → Showing → ℕ → ℕ → ℕ → Way → Type 0
+IsAsTold n shown r p m w =
+    (i l c : ℕ) → IsInterface n i r l c → MayShow n l p m w (shown.cell i p)
+
+-- Neighbour s offers router r the metric v over link l: the cost of the interface on which the
+-- datagram comes in, and what s shows there, or 16 where it shows nothing or the sum is greater
+-- (RFC 2453, 3.9.2).
 pub record Offers (n : Network) (shown : Showing) (r l s p v : ℕ) : Type 0 where
   pub neighbour : IsNeighbour n r l s
   pub cost : ℕ
@@ -53,19 +63,29 @@ pub record IsLeastOffer (n : Network) (shown : Showing) (r p h : ℕ) : Type 0 w
   pub most : h ≤ 16
   pub least : (l s v : ℕ) → Offers n shown r l s p v → h ≤ v
 
--- the route of a leaf whose one interface is i, on link l, where it cannot show it: its own prefix, or what it learned
-pub record IsHiddenRoute (n : Network) (shown : Showing) (r i l p : ℕ) (route : Route) : Type 0 where
-  pub carried : Carries n l p → IsSilent (shown.cell i p) → (route.way ≡ Here) × IsDirect n r p route.metric
+-- the route of a leaf whose one interface is i, on link l, where it cannot show it: its own prefix,
+-- or what it learned
+pub record IsHiddenRoute
+    (n : Network) (shown : Showing) (r i l p : ℕ) (route : Route)
+    : Type 0 where
+  pub carried : Carries n l p → IsSilent (shown.cell i p) → (route.way ≡ Here)
+      × IsDirect n r p route.metric
   pub learned : (Carries n l p → ⊥) → shown.cell i p ≡ Some 16 →
-      IsLeastOffer n shown r p route.metric × (route.metric < 16 → route.way ≡ Over l) × (route.metric ≡ 16 → route.way ≡ Unreachable)
+      IsLeastOffer n shown r p route.metric × (route.metric < 16 → route.way ≡ Over l)
+      × (route.metric ≡ 16 → route.way ≡ Unreachable)
 
 -- the route fits all that router r shows of prefix p
 pub record Fits (n : Network) (shown : Showing) (r p : ℕ) (route : Route) : Type 0 where
   pub way_fits : FitsWay n r p route.metric route.way
-  pub as_told : (i l c : ℕ) → IsInterface n i r l c → MayShow n l p route.metric route.way (shown.cell i p)
+  pub as_told : IsAsTold n shown r p route.metric route.way
   pub hidden : (i l c : ℕ) → IsLeaf n r i l c → IsHiddenRoute n shown r i l p route
 
--- the log shows these tables, for the prefixes below the count: those of the plan, and then others that it names
+-- each interface was heard
+abbrev pub IsHeard : Network → Showing → Type 0
+IsHeard n shown = (i r l c : ℕ) → IsInterface n i r l c → IsTrue (shown.is_heard i)
+
+-- the log shows these tables, for the prefixes below the count: those of the plan, and then others
+-- that it names
 pub record Shows (n : Network) (count : ℕ) (shown : Showing) (T : Tables) : Type 0 where
-  pub heard : (i r l c : ℕ) → IsInterface n i r l c → IsTrue (shown.is_heard i)
+  pub heard : IsHeard n shown
   pub fits : (r p : ℕ) → r < length n.routers → p < count → Fits n shown r p (T r p)

@@ -11,8 +11,11 @@ pub record IsSeen (n : Network) (shown : Showing) (l p j s v : ℕ) : Type 0 whe
   pub its : IsInterface n j s l cost
   pub value : v ≡ unwrap_or (shown.cell j p) 16
 
--- of the interfaces on the link before the bound: the least that one shows, whose it is, and the least of the other routers'
-pub record IsTwoLeast (n : Network) (shown : Showing) (l p bound : ℕ) (two : TwoLeast) : Type 0 where
+-- of the interfaces on the link before the bound: the least that one shows, whose it is, and the
+-- least of the other routers'
+pub record IsTwoLeast
+    (n : Network) (shown : Showing) (l p bound : ℕ) (two : TwoLeast)
+    : Type 0 where
   pub most : two.next ≤ 16
   pub order : two.least ≤ two.next
   pub least_is : (two.least ≡ 16) ⊎ ((j : ℕ) × IsSeen n shown l p j two.by two.least)
@@ -22,7 +25,8 @@ pub record IsTwoLeast (n : Network) (shown : Showing) (l p bound : ℕ) (two : T
 
 -- each element of the list is of the link of its place
 abbrev pub AreTwoLeastBefore : Network → Showing → ℕ → ℕ → List TwoLeast → Type 0
-AreTwoLeastBefore n shown p bound links = (l : ℕ) (two : TwoLeast) → slice_get links l ≡ Some two → IsTwoLeast n shown l p bound two
+AreTwoLeastBefore n shown p bound links =
+    (l : ℕ) (two : TwoLeast) → slice_get links l ≡ Some two → IsTwoLeast n shown l p bound two
 
 abbrev pub AreTwoLeast : Network → Showing → ℕ → List TwoLeast → Type 0
 AreTwoLeast n shown p links = AreTwoLeastBefore n shown p (length n.interfaces) links

@@ -5,7 +5,8 @@ use Rattle.rip_plan.specs.Relations.{IsDirect}
 use Rattle.rip_check.specs.Tables.{Tables, Showing, Offers}
 use Rattle.rip_check.specs.declared.way.Way.TheVariants.{Here, Over}
 
--- a packet for p can go from r to s: r's route leads over a link, and s is any neighbour there that offers r's metric
+-- a packet for p can go from r to s: r's route leads over a link, and s is any neighbour there that
+-- offers r's metric
 pub record GoesTo (n : Network) (shown : Showing) (T : Tables) (p r s : ℕ) : Type 0 where
   pub link : ℕ
   pub way : (T r p).way ≡ Over link
@@ -19,7 +20,8 @@ EachGoesOn n shown T p r (s ∷ rest) = GoesTo n shown T p r s × EachGoesOn n s
 -- the walk has a router, the first has a metric below 16, and each goes to the next
 abbrev pub IsWalk : Network → Showing → Tables → ℕ → List ℕ → Type 0
 IsWalk n shown T p [] = ⊥
-IsWalk n shown T p (r ∷ rest) = (r < length n.routers) × ((T r p).metric < 16) × EachGoesOn n shown T p r rest
+IsWalk n shown T p (r ∷ rest) =
+    (r < length n.routers) × ((T r p).metric < 16) × EachGoesOn n shown T p r rest
 
 -- each number is below the one before it, and the last is at least 1
 abbrev pub IsFalling : List ℕ → Type 0
@@ -40,13 +42,15 @@ EachIsShort n count shown T =
 -- a walk that has not arrived has a next router
 abbrev pub EachCanGoOn : Network → ℕ → Showing → Tables → Type 0
 EachCanGoOn n count shown T =
-    (p z : ℕ) (before : List ℕ) → p < count → IsWalk n shown T p (before ++ z ∷ []) → (HasArrived T p z → ⊥) →
+    (p z : ℕ) (before : List ℕ) → p < count → IsWalk n shown T p (before ++ z ∷ [])
+    → (HasArrived T p z → ⊥) →
     (s : ℕ) × IsWalk n shown T p (before ++ z ∷ s ∷ [])
 
 -- where a walk has arrived, the router is on a link of the prefix, or owns it
 abbrev pub EachEndsThere : Network → ℕ → Showing → Tables → Type 0
 EachEndsThere n count shown T =
-    (p z : ℕ) (before : List ℕ) → p < count → IsWalk n shown T p (before ++ z ∷ []) → HasArrived T p z → IsDirect n z p (T z p).metric
+    (p z : ℕ) (before : List ℕ) → p < count → IsWalk n shown T p (before ++ z ∷ [])
+    → HasArrived T p z → IsDirect n z p (T z p).metric
 
 -- walks are short, go on until they have arrived, and arrive where the prefix is
 pub record WalksArrive (n : Network) (count : ℕ) (shown : Showing) (T : Tables) : Type 0 where

@@ -3,7 +3,8 @@
 ghost use Rattle.std.specs.Prelude.{◌≡◌, ◌↔◌, ℕ, ◌≤◌, ◌<◌, IfNone, IfSome, None, length};
 ghost use Rattle.rip_table.specs.State.{Fits as FitsPlan};
 ghost use Rattle.rip_check.specs.Audits.{EachPlaceHolds, HoldsAfter, IsKnownPlace, IsNextUnsettled, PacketsArrive, ShowsRightTables, ShowsTables, TroubleIs};
-ghost use Rattle.rip_check.specs.Captured.{IsHeard, showing_of};
+ghost use Rattle.rip_check.specs.Tables.{IsHeard};
+ghost use Rattle.rip_check.specs.Captured.{showing_of};
 ghost use Rattle.rip_check.specs.Firsts.{IsFirstBelow, IsFirstPlace, IsFirstUnheard, IsReadable};
 ghost use Rattle.rip_check.specs.TwoLeasts.{AreTwoLeast};
 ghost use Rattle.rip_check.specs.Verdicts.{IsRowFirst, IsSound, IsVerdict};
@@ -19,7 +20,8 @@ use rip_table::MetricTable;
 /// The first interface that was not heard.
 fn first_unheard<T: MetricTable>(plan: &Plan, table: &T) -> Option<Interface>
     requires { FitsPlan plan.now (T.state table.now) }
-    ensures some { IfSome result (λ x. IsFirstUnheard plan.now (showing_of (T.state table.now)) x.router x.link) }
+    ensures some { IfSome result (λ x.
+        IsFirstUnheard plan.now (showing_of (T.state table.now)) x.router x.link) }
     ensures none { IfNone result (IsHeard plan.now (showing_of (T.state table.now))) }
 {
     for i in 0..plan.interfaces() {
@@ -39,8 +41,10 @@ fn first_in_row<T: MetricTable>(
 ) -> Option<Place2>
     requires fits { FitsPlan plan.now (T.state table.now) }
     requires router { router < length plan.now.routers }
-    ensures some { IfSome result (λ f. IsRowFirst plan.now (length (T.state table.now).prefixes) (showing_of (T.state table.now)) router from f) }
-    ensures none { IfNone result ((q : ℕ) → from ≤ q → q < length (T.state table.now).prefixes → IsSound plan.now (showing_of (T.state table.now)) router q) }
+    ensures some { IfSome result (IsRowFirst plan.now
+        (length (T.state table.now).prefixes) (showing_of (T.state table.now)) router from) }
+    ensures none { IfNone result ((q : ℕ) → from ≤ q → q < length (T.state table.now).prefixes →
+        IsSound plan.now (showing_of (T.state table.now)) router q) }
 {
     for prefix in from..table.prefix_count() {
         if let Some(found) = failing(plan, table, router, prefix) {
@@ -59,7 +63,8 @@ pub fn next_unsettled<T: MetricTable>(
 ) -> Option<Place2>
     requires fits { FitsPlan plan.now (T.state table.now) }
     requires known { IsKnownPlace (T.state table.now) after }
-    ensures some { IfSome result (λ place. IsNextUnsettled plan.now (T.state table.now) after place) }
+    ensures some { IfSome result (λ place.
+        IsNextUnsettled plan.now (T.state table.now) after place) }
     ensures none { IfNone result (HoldsAfter plan.now (T.state table.now) after) }
 {
     let (row, start) = match after {
@@ -179,7 +184,8 @@ fn first_places<T: MetricTable>(plan: &Plan, table: &T) -> Firsts
 /// The verdict, by its definition.
 fn decide<T: MetricTable>(plan: &Plan, table: &T) -> Verdict
     requires { FitsPlan plan.now (T.state table.now) }
-    ensures { IsVerdict plan.now (length (T.state table.now).prefixes) (showing_of (T.state table.now)) result }
+    ensures { IsVerdict plan.now
+        (length (T.state table.now).prefixes) (showing_of (T.state table.now)) result }
 {
     plan.lawful();
     in_range(plan, table);
@@ -208,9 +214,14 @@ pub fn judge<T: MetricTable>(plan: &Plan, table: &T) -> Verdict
     requires { FitsPlan plan.now (T.state table.now) }
     ensures settled { (result ≡ Verdict.Settled) ↔ ShowsRightTables plan.now (T.state table.now) }
     ensures places { (result ≡ Verdict.Settled) ↔ EachPlaceHolds plan.now (T.state table.now) }
-    ensures unsettled { (place : Place2) → (result ≡ Verdict.Unsettled place) ↔ (ShowsTables plan.now (T.state table.now) × IsNextUnsettled plan.now (T.state table.now) None place) }
-    ensures unclear { (trouble : Unclear) → (result ≡ Verdict.Unclear trouble) ↔ TroubleIs plan.now (T.state table.now) trouble }
-    ensures no_tables { ((trouble : Unclear) × (result ≡ Verdict.Unclear trouble)) ↔ (ShowsTables plan.now (T.state table.now) → ⊥) }
+    ensures unsettled { (place : Place2) →
+        (result ≡ Verdict.Unsettled place)
+        ↔ (ShowsTables plan.now (T.state table.now)
+        × IsNextUnsettled plan.now (T.state table.now) None place) }
+    ensures unclear { (trouble : Unclear) →
+        (result ≡ Verdict.Unclear trouble) ↔ TroubleIs plan.now (T.state table.now) trouble }
+    ensures no_tables { ((trouble : Unclear) × (result ≡ Verdict.Unclear trouble))
+        ↔ (ShowsTables plan.now (T.state table.now) → ⊥) }
     ensures arrive { result ≡ Verdict.Settled → PacketsArrive plan.now (T.state table.now) }
 {
     plan.lawful();

@@ -36,13 +36,15 @@ pub fn settled_is_right()
 /// sets of tables.
 pub fn one_set_of_tables()
     ensures route { (n : Network) (shown : Showing) → IsLawful n → OneRouteFits n shown }
-    ensures tables { (n : Network) (count : ℕ) (shown : Showing) → IsLawful n → OneIsShown n count shown }
+    ensures tables { (n : Network) (count : ℕ) (shown : Showing) → IsLawful n →
+        OneIsShown n count shown }
 {}
 
 /// Every interface was heard and each place has a route that fits and holds exactly where the log
 /// shows tables that are right.
 pub fn settled_places()
-    ensures { (n : Network) (count : ℕ) (shown : Showing) → IsLawful n → PlacesSettled n count shown ↔ RightTablesShown n count shown }
+    ensures { (n : Network) (count : ℕ) (shown : Showing) → IsLawful n →
+        PlacesSettled n count shown ↔ RightTablesShown n count shown }
 {}
 
 /// A packet that follows the tables comes nearer with each router, and arrives after at most fifteen:

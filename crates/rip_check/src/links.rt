@@ -46,7 +46,8 @@ fn seen_at<T: MetricTable>(plan: &Plan, table: &T, interface: usize, prefix: usi
 
 /// The same with one more interface of the link.
 fn with(two: TwoLeast, router: u8, metric: u8) -> TwoLeast
-    ensures { (n : Network) (shown : Showing) (l p j : ℕ) → IsTwoLeast n shown l p j two → IsSeen n shown l p j router metric → IsTwoLeast n shown l p (j + 1) result }
+    ensures { (n : Network) (shown : Showing) (l p j : ℕ) → IsTwoLeast n shown l p j two →
+        IsSeen n shown l p j router metric → IsTwoLeast n shown l p (j + 1) result }
 {
     if router == two.by {
         return TwoLeast {

@@ -38,8 +38,11 @@ fn least_asked<T: MetricTable>(
     requires prefix { prefix < length (T.state table.now).prefixes }
     requires own { HasCost plan.now own.router own.link own.cost }
     ensures at_most { result ≤ best }
-    ensures least { (s v : ℕ) → Offers plan.now (showing_of (T.state table.now)) own.router own.link s prefix v → result ≤ v }
-    ensures chosen { (result ≡ best) ⊎ ((s : ℕ) × Offers plan.now (showing_of (T.state table.now)) own.router own.link s prefix result) }
+    ensures least { (s v : ℕ) →
+        Offers plan.now (showing_of (T.state table.now)) own.router own.link s prefix v →
+        result ≤ v }
+    ensures chosen { (result ≡ best) ⊎ ((s : ℕ)
+        × Offers plan.now (showing_of (T.state table.now)) own.router own.link s prefix result) }
 {
     plan.lawful();
     let mut least = best;
@@ -62,8 +65,14 @@ fn least_told(own: Interface, two: TwoLeast, best: u32) -> u32
     requires least { two.least ≤ 16 }
     requires next { two.next ≤ 16 }
     ensures at_most { result ≤ best }
-    ensures least { (n : Network) (shown : Showing) (s p v : ℕ) → IsLawful n → HasCost n own.router own.link own.cost → IsTwoLeast n shown own.link p (length n.interfaces) two → Offers n shown own.router own.link s p v → result ≤ v }
-    ensures chosen { (n : Network) (shown : Showing) (p : ℕ) → HasCost n own.router own.link own.cost → IsTwoLeast n shown own.link p (length n.interfaces) two → (result ≡ best) ⊎ ((s : ℕ) × Offers n shown own.router own.link s p result) }
+    ensures least { (n : Network) (shown : Showing) (s p v : ℕ) → IsLawful n →
+        HasCost n own.router own.link own.cost →
+        IsTwoLeast n shown own.link p (length n.interfaces) two →
+        Offers n shown own.router own.link s p v → result ≤ v }
+    ensures chosen { (n : Network) (shown : Showing) (p : ℕ) →
+        HasCost n own.router own.link own.cost →
+        IsTwoLeast n shown own.link p (length n.interfaces) two →
+        (result ≡ best) ⊎ ((s : ℕ) × Offers n shown own.router own.link s p result) }
 {
     let shown = if own.router == usize::from(two.by) {
         two.next
@@ -90,8 +99,11 @@ pub(crate) fn best_over<T: MetricTable>(
     requires own { HasCost plan.now own.router own.link own.cost }
     requires best { best ≤ 16 }
     ensures at_most { result ≤ best }
-    ensures least { (s v : ℕ) → Offers plan.now (showing_of (T.state table.now)) own.router own.link s prefix v → result ≤ v }
-    ensures chosen { (result ≡ best) ⊎ ((s : ℕ) × Offers plan.now (showing_of (T.state table.now)) own.router own.link s prefix result) }
+    ensures least { (s v : ℕ) →
+        Offers plan.now (showing_of (T.state table.now)) own.router own.link s prefix v →
+        result ≤ v }
+    ensures chosen { (result ≡ best) ⊎ ((s : ℕ)
+        × Offers plan.now (showing_of (T.state table.now)) own.router own.link s prefix result) }
 {
     plan.lawful();
     if own.link < links.len() {
@@ -128,7 +140,8 @@ pub(crate) fn least_choice<T: MetricTable>(
     requires links { AreTwoLeast plan.now (showing_of (T.state table.now)) prefix links.now }
     ensures most { result ≤ 16 }
     ensures chosen { IsChoice plan.now (showing_of (T.state table.now)) router prefix result }
-    ensures least { (v : ℕ) → IsChoice plan.now (showing_of (T.state table.now)) router prefix v → result ≤ v }
+    ensures least { (v : ℕ) → IsChoice plan.now (showing_of (T.state table.now)) router prefix v →
+        result ≤ v }
 {
     let mut best = direct_or_16(plan, router, prefix);
     let numbers = plan.of_router(router);

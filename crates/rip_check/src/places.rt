@@ -45,8 +45,10 @@ fn is_offered<T: MetricTable>(
     requires prefix { prefix < length (T.state table.now).prefixes }
     requires links { AreTwoLeast plan.now (showing_of (T.state table.now)) prefix links.now }
     requires small { metric < 16 }
-    requires least { (v : ℕ) → IsChoice plan.now (showing_of (T.state table.now)) router prefix v → metric ≤ v }
-    ensures { Decides result ((s : ℕ) × Offers plan.now (showing_of (T.state table.now)) router link s prefix metric) }
+    requires least { (v : ℕ) → IsChoice plan.now (showing_of (T.state table.now)) router prefix v →
+        metric ≤ v }
+    ensures { Decides result ((s : ℕ)
+        × Offers plan.now (showing_of (T.state table.now)) router link s prefix metric) }
 {
     let numbers = plan.of_router(router);
     for i in numbers {
@@ -73,8 +75,10 @@ fn is_given<T: MetricTable>(
     requires prefix { prefix < length (T.state table.now).prefixes }
     requires links { AreTwoLeast plan.now (showing_of (T.state table.now)) prefix links.now }
     requires way { FitsWay plan.now router prefix metric way }
-    requires least { (v : ℕ) → IsChoice plan.now (showing_of (T.state table.now)) router prefix v → metric ≤ v }
-    ensures { Decides result (IsGiven plan.now (showing_of (T.state table.now)) router prefix metric way) }
+    requires least { (v : ℕ) → IsChoice plan.now (showing_of (T.state table.now)) router prefix v →
+        metric ≤ v }
+    ensures { Decides result
+        (IsGiven plan.now (showing_of (T.state table.now)) router prefix metric way) }
 {
     match way {
         Way::Unreachable => true,
@@ -179,10 +183,15 @@ pub fn route<T: MetricTable>(
     requires router { router < length plan.now.routers }
     requires prefix { prefix < length (T.state table.now).prefixes }
     ensures exact { IsTrue (is_ok result) ↔ CanRead plan.now (T.state table.now) router prefix }
-    ensures fits { IfOk result (λ t. FitsShown plan.now (T.state table.now) router prefix (record { metric = t.metric; way = t.way })) }
-    ensures one { IfOk result (λ t. IsTrue t.hidden ⊎ IsOnlyRoute plan.now (T.state table.now) router prefix (record { metric = t.metric; way = t.way })) }
-    ensures hidden { IfOk result (λ t. Decides t.hidden (IsHiddenPlace plan.now (T.state table.now) router prefix)) }
-    ensures unclear { IfErr result (λ trouble. ReasonIs plan.now (T.state table.now) router prefix trouble) }
+    ensures fits { IfOk result (λ t. FitsShown plan.now (T.state table.now) router prefix
+        (record { metric = t.metric; way = t.way })) }
+    ensures one { IfOk result (λ t. IsTrue t.hidden
+        ⊎ IsOnlyRoute plan.now (T.state table.now) router prefix
+        (record { metric = t.metric; way = t.way })) }
+    ensures hidden { IfOk result (λ t. Decides t.hidden
+        (IsHiddenPlace plan.now (T.state table.now) router prefix)) }
+    ensures unclear { IfErr result (λ trouble.
+        ReasonIs plan.now (T.state table.now) router prefix trouble) }
 {
     plan.lawful();
     in_range(plan, table);

@@ -5,8 +5,8 @@ ghost use Rattle.rip_plan.specs.Relations.{HasTwoInterfaces, IsLeaf};
 ghost use Rattle.rip_table.specs.State.{Fits as FitsPlan};
 ghost use Rattle.rip_check.specs.Captured.{showing_of};
 ghost use Rattle.rip_check.specs.Firsts.{IsFirstGap, IsReadable, IsReason, IsShownBelow, ShowsEach};
-ghost use Rattle.rip_check.specs.Tables.{Fits, IsSilent, MayShow, Route as TableRoute};
-ghost use Rattle.rip_check.specs.Telling.{IsAsTold, IsGap, IsMute, IsSpoken, Tells};
+ghost use Rattle.rip_check.specs.Tables.{Fits, IsSilent, MayShow, Route as TableRoute, IsAsTold};
+ghost use Rattle.rip_check.specs.Telling.{IsSilentLink, IsMute, IsSpoken, Tells};
 ghost use Rattle.rip_check.specs.TwoLeasts.{AreTwoLeast};
 ghost use Rattle.rip_check.specs.Verdicts.{IsHidden};
 
@@ -40,8 +40,10 @@ fn read_route<T: MetricTable>(
     requires two { HasTwoInterfaces plan.now router }
     ensures most { IfSome result (λ t. t.metric ≤ 16) }
     ensures shown { IfSome result (λ t. t.hidden ≡ false) }
-    ensures some { IfSome result (λ t. Tells plan.now (showing_of (T.state table.now)) router prefix (record { metric = t.metric; way = t.way })) }
-    ensures none { IfNone result ((t : TableRoute) → Tells plan.now (showing_of (T.state table.now)) router prefix t → ⊥) }
+    ensures some { IfSome result (λ t. Tells plan.now (showing_of (T.state table.now)) router prefix
+        (record { metric = t.metric; way = t.way })) }
+    ensures none { IfNone result ((t : TableRoute) →
+        Tells plan.now (showing_of (T.state table.now)) router prefix t → ⊥) }
 {
     plan.lawful();
     in_range(plan, table);
@@ -56,7 +58,7 @@ fn read_route<T: MetricTable>(
             hidden: false,
         });
     }
-    let way = match found.gap {
+    let way = match found.silent {
         None => Way::Here,
         Some(link) => {
             if found.blocked {
@@ -73,17 +75,14 @@ fn read_route<T: MetricTable>(
 }
 
 /// The link of a router's first interface that shows nothing.
-fn first_silent<T: MetricTable>(
-    plan: &Plan,
-    table: &T,
-    router: usize,
-    prefix: usize,
-) -> Option<usize>
+fn first_gap<T: MetricTable>(plan: &Plan, table: &T, router: usize, prefix: usize) -> Option<usize>
     requires fits { FitsPlan plan.now (T.state table.now) }
     requires router { router < length plan.now.routers }
     requires prefix { prefix < length (T.state table.now).prefixes }
-    ensures some { IfSome result (λ l. IsFirstGap plan.now (showing_of (T.state table.now)) router prefix l) }
-    ensures none { IfNone result (ShowsEach plan.now (showing_of (T.state table.now)) router prefix) }
+    ensures some { IfSome result (λ l.
+        IsFirstGap plan.now (showing_of (T.state table.now)) router prefix l) }
+    ensures none { IfNone result
+        (ShowsEach plan.now (showing_of (T.state table.now)) router prefix) }
 {
     let numbers = plan.of_router(router);
     for i in numbers {
@@ -112,7 +111,7 @@ pub(crate) fn reason<T: MetricTable>(
     if found.another {
         return Unclear::TwoMetrics { router, prefix };
     }
-    match first_silent(plan, table, router, prefix) {
+    match first_gap(plan, table, router, prefix) {
         Some(link) => Unclear::Missing {
             router,
             prefix,
@@ -136,9 +135,13 @@ fn leaf_route<T: MetricTable>(
     requires links { AreTwoLeast plan.now (showing_of (T.state table.now)) prefix links.now }
     requires leaf { (i l c : ℕ) × IsLeaf plan.now router i l c }
     ensures most { result.metric ≤ 16 }
-    ensures fits { Fits plan.now (showing_of (T.state table.now)) router prefix (record { metric = result.metric; way = result.way }) }
-    ensures hidden { Decides result.hidden (IsHidden plan.now (showing_of (T.state table.now)) router prefix) }
-    ensures one { IsTrue result.hidden ⊎ ((u : TableRoute) → Tells plan.now (showing_of (T.state table.now)) router prefix u → u ≡ record { metric = result.metric; way = result.way }) }
+    ensures fits { Fits plan.now (showing_of (T.state table.now)) router prefix
+        (record { metric = result.metric; way = result.way }) }
+    ensures hidden { Decides result.hidden
+        (IsHidden plan.now (showing_of (T.state table.now)) router prefix) }
+    ensures one { IsTrue result.hidden
+        ⊎ ((u : TableRoute) → Tells plan.now (showing_of (T.state table.now)) router prefix u →
+        u ≡ record { metric = result.metric; way = result.way }) }
 {
     plan.lawful();
     let i = plan.of_router(router)[0];

@@ -20,8 +20,8 @@ pub(crate) struct Survey {
     pub another: bool,
     /// The link of the first interface that shows nothing or 16 and whose link does not carry the
     /// prefix.
-    pub gap: Option<usize>,
-    /// Whether no route over the gap may show this.
+    pub silent: Option<usize>,
+    /// Whether no route over that link may show this.
     pub blocked: bool,
 }
 
@@ -48,14 +48,14 @@ fn with_shown(plan: &Plan, found: Survey, link: usize, prefix: usize, shown: u32
             ..found
         };
     }
-    if found.gap.is_some() || plan.is_place(link, prefix) {
+    if found.silent.is_some() || plan.is_place(link, prefix) {
         return Survey {
             blocked: true,
             ..found
         };
     }
     Survey {
-        gap: Some(link),
+        silent: Some(link),
         blocked: found.blocked || shown == 0,
         ..found
     }
@@ -77,7 +77,7 @@ pub(crate) fn survey_of<T: MetricTable>(
     let mut found = Survey {
         metric: 16,
         another: false,
-        gap: None,
+        silent: None,
         blocked: false,
     };
     let numbers = plan.of_router(router);

@@ -1,22 +1,22 @@
 -- Verdicts and their statuses.
-use Rattle.std.proofs.Common.{◌≡◌, ℕ, Bool, List, [], Option, Some, None, Result, Ok, Err, refl, sym, ap, subst, ◌∙◌}
-use Rattle.std.specs.Prelude.{◌↔◌, IfOk, OnOk, OnErr}
+use Rattle.std.proofs.Common.{◌≡◌, ℕ, Bool, List, Option, None, Result, Ok, Err, length, refl, ap}
+use Rattle.std.specs.Prelude.{◌↔◌, IfOk}
 use Rattle.rip_plan.specs.Network.{Network}
 use Rattle.rip_plan.specs.Relations.{IsLawful}
 use Rattle.rip_log.specs.declared.device.Failed.{Failed}
-use Rattle.rip_table.specs.State.{State, new_state}
+use Rattle.rip_table.specs.State.{State}
 use Rattle.rip_check.specs.Audits.{IsNextUnsettled, PacketsArrive, ShowsRightTables, ShowsTables, TroubleIs}
+use Rattle.rip_check.specs.Captured.{showing_of}
+use Rattle.rip_check.specs.Verdicts.{IsVerdict}
 use Rattle.rip_check.specs.declared.verdict.Place2.{Place2}
 use Rattle.rip_check.specs.declared.verdict.Unclear.{Unclear}
 use Rattle.rip_check.specs.declared.verdict.Unclear.TheVariants.{NotHeard, TwoMetrics, Missing, TwoWays}
 use Rattle.rip_check.specs.declared.verdict.Verdict.{Verdict}
 use Rattle.rip_check.specs.declared.verdict.Verdict.TheVariants as verdicts
-use Rattle.ripaudit.specs.AuditText.{IsJudged, IsTold, IsTroubleOf, IsVerdictOn, UnsettledLines, VerdictText, a_settled, an_unclear, an_unsettled, settled_line, unclear_line, verdict_status}
+use Rattle.ripaudit.specs.AuditText.{IsJudged, IsTold, IsTroubleOf, UnsettledLines, VerdictText, a_settled, an_unclear, an_unsettled, settled_line, unclear_line, verdict_status}
 use Rattle.ripaudit.specs.Finished.{finished}
-use Rattle.ripaudit.specs.Sent.{Sent, Began}
-use Rattle.ripaudit.proofs.SentLemmas.{Sent-whole}
 use Rattle.ripaudit.specs.declared.status.Status.{Status}
-use Rattle.ripaudit.specs.declared.status.Status.TheVariants.{Refused, Settled, Unsettled, Unclear as IsUnclear}
+use Rattle.ripaudit.specs.declared.status.Status.TheVariants.{Settled, Unsettled, Unclear as IsUnclear}
 use Rattle.ripaudit.specs.declared.status.RunError.{RunError}
 
 -- what a trouble names is known
@@ -34,7 +34,7 @@ pub record Judges (n : Network) (s : State) (v : Verdict) : Type 0 where
   pub no_tables : ((trouble : Unclear) × (v ≡ verdicts.Unclear trouble)) ↔ (ShowsTables n s → ⊥)
   pub arrive : v ≡ verdicts.Settled → PacketsArrive n s
 
-pub said : (n : Network) (s : State) (v : Verdict) → Judges n s v → IsVerdictOn n s v
+pub said : (n : Network) (s : State) (v : Verdict) → Judges n s v → IsVerdict n (length s.prefixes) (showing_of s) v
 said n s verdicts.Settled j = j.settled.0 refl
 said n s (verdicts.Unsettled f) j = (j.unsettled f).0 refl
 said n s (verdicts.Unclear trouble) j = (j.unclear trouble).0 refl
@@ -78,14 +78,14 @@ ended_judged n s status (Ok done) outcome is h = rw is h
 ended_judged n s status (Err e) outcome is h = rw is tt
 
 -- what each verdict writes
-pub settled_told : (n : Network) (s : State) (all : Bool) (v : Verdict) → v ≡ verdicts.Settled → IsVerdictOn n s v → VerdictText n s all (record { text = settled_line n s; status = verdict_status v })
+pub settled_told : (n : Network) (s : State) (all : Bool) (v : Verdict) → v ≡ verdicts.Settled → IsVerdict n (length s.prefixes) (showing_of s) v → VerdictText n s all (record { text = settled_line n s; status = verdict_status v })
 settled_told n s all v e h = rw e (a_settled (rw e at h))
 
-pub unclear_told : (n : Network) (s : State) (all : Bool) (v : Verdict) (trouble : Unclear) → v ≡ verdicts.Unclear trouble → IsVerdictOn n s v → VerdictText n s all (record { text = unclear_line n s trouble; status = verdict_status v })
+pub unclear_told : (n : Network) (s : State) (all : Bool) (v : Verdict) (trouble : Unclear) → v ≡ verdicts.Unclear trouble → IsVerdict n (length s.prefixes) (showing_of s) v → VerdictText n s all (record { text = unclear_line n s trouble; status = verdict_status v })
 unclear_told n s all v trouble e h = rw e (an_unclear trouble (rw e at h))
 
-pub unsettled_told : (n : Network) (s : State) (all : Bool) (v : Verdict) (f : Place2) (text : List ℕ) → v ≡ verdicts.Unsettled f → IsVerdictOn n s v → UnsettledLines n s all f text → VerdictText n s all (record { text = text; status = verdict_status v })
-unsettled_told n s all v f text e h lines = rw e (an_unsettled f text (rw e at h) lines)
+pub unsettled_told : (n : Network) (s : State) (all : Bool) (v : Verdict) (f : Place2) (text : List ℕ) → v ≡ verdicts.Unsettled f → IsVerdict n (length s.prefixes) (showing_of s) v → UnsettledLines n s all f text → VerdictText n s all (record { text = text; status = verdict_status v })
+unsettled_told n s all v f text e h lines = let both = rw e at h in rw e (an_unsettled f text both.0 both.1 lines)
 
 pub ifok-map : {A E : Type 0} {P Q : A → Type 0} (r : Result A E) → ((x : A) → P x → Q x) → IfOk r P → IfOk r Q
 ifok-map (Ok x) f p = f x p

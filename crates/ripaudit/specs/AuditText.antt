@@ -119,12 +119,6 @@ pub data FailureLines (n : Network) (s : State) : Option (ℕ × ℕ) → List �
       → FailureLines n s (Some (f.router, f.prefix)) rest
       → FailureLines n s after (unsettled_line n s f ++ rest)
 
--- the verdict on a table, by what the table shows
-abbrev pub IsVerdictOn : Network → State → Verdict → Type 0
-IsVerdictOn n s verdicts.Settled = ShowsRightTables n s
-IsVerdictOn n s (verdicts.Unsettled f) = ShowsTables n s × IsNextUnsettled n s None f
-IsVerdictOn n s (verdicts.Unclear trouble) = TroubleIs n s trouble
-
 -- the lines of an unsettled network: that of its first failing place, or those of all
 abbrev pub UnsettledLines : Network → State → Bool → Place2 → List ℕ → Type 0
 UnsettledLines n s true f text = FailureLines n s None text
@@ -132,11 +126,11 @@ UnsettledLines n s false f text = text ≡ unsettled_line n s f
 
 -- what is written of a table
 pub data VerdictText (n : Network) (s : State) (all : Bool) : Written → Type 0 where
-  a_settled : IsVerdictOn n s verdicts.Settled
+  a_settled : ShowsRightTables n s
       → VerdictText n s all (record { text = settled_line n s; status = Settled })
-  an_unclear : (trouble : Unclear) → IsVerdictOn n s (verdicts.Unclear trouble)
+  an_unclear : (trouble : Unclear) → TroubleIs n s trouble
       → VerdictText n s all (record { text = unclear_line n s trouble; status = IsUnclear })
-  an_unsettled : (f : Place2) (text : List ℕ) → IsVerdictOn n s (verdicts.Unsettled f)
+  an_unsettled : (f : Place2) (text : List ℕ) → ShowsTables n s → IsNextUnsettled n s None f
       → UnsettledLines n s all f text
       → VerdictText n s all (record { text = text; status = Unsettled })
 

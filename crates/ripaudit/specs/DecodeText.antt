@@ -33,7 +33,7 @@ wire_code_text Metric = codes "13 Metric"
 unfoldable pub entry_line : Entry → List ℕ
 entry_line e =
     line (prefix_text e.prefix ++ codes " tag " ++ decimal e.tag ++ codes " next "
-        ++ address_text e.next_hop ++ codes " metric " ++ decimal e.metric)
+    ++ address_text e.next_hop ++ codes " metric " ++ decimal e.metric)
 
 -- one line for each entry
 abbrev pub entry_lines : List Entry → List ℕ

@@ -63,15 +63,15 @@ prefix_of n k = unwrap_or (option_map prefix_text (slice_get n.prefixes k)) []
 unfoldable pub counts_line : Network → List ℕ
 counts_line n =
     line (codes "plan: " ++ decimal (length n.routers) ++ codes " routers, "
-        ++ decimal (length n.links) ++ codes " links, "
-        ++ decimal (length n.interfaces) ++ codes " interfaces, "
-        ++ decimal (length n.prefixes) ++ codes " prefixes")
+    ++ decimal (length n.links) ++ codes " links, "
+    ++ decimal (length n.interfaces) ++ codes " interfaces, "
+    ++ decimal (length n.prefixes) ++ codes " prefixes")
 
 -- `interface r1 a 10.1.0.1 cost 1`
 unfoldable pub interface_line : Network → Interface → List ℕ
 interface_line n i =
     line (codes "interface " ++ name_of n.routers i.router ++ codes " " ++ name_of n.links i.link
-        ++ codes " " ++ address_text i.address ++ codes " cost " ++ decimal i.cost)
+    ++ codes " " ++ address_text i.address ++ codes " cost " ++ decimal i.cost)
 
 -- the link, or the router, is one of the plan
 abbrev pub IsSeat : Network → Seat → Type 0

@@ -14,7 +14,7 @@ use Rattle.ripaudit.specs.declared.status.Status.TheVariants.{Done}
 unfoldable pub table_line : ℕ → ℕ → List ℕ
 table_line interfaces prefixes =
     line (codes "table: " ++ decimal interfaces ++ codes " interfaces, "
-        ++ decimal prefixes ++ codes " prefixes")
+    ++ decimal prefixes ++ codes " prefixes")
 
 -- an interface by its router and its link, as `r1 a`
 abbrev pub interface_name : Network → Interface → List ℕ

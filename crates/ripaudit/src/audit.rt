@@ -2,15 +2,17 @@
 
 mod lines;
 
-ghost use Rattle.std.specs.Prelude.{◌≡◌, ◌≢◌, ◌↔◌, ◌++◌, ℕ, List, [], Err, IfOk, IfSome, None, Some, false, is_err, is_some, true};
+ghost use Rattle.std.specs.Prelude.{◌≡◌, ◌≢◌, ◌↔◌, ◌++◌, ℕ, List, [], Err, IfOk, IfSome, None, Some, false, is_err, is_some, true, length};
 ghost use Rattle.std.specs.Io.KnownBytes.{Keeps};
 ghost use Rattle.rip_plan.specs.Answers.{first_fault};
 ghost use Rattle.rip_plan.specs.Network.{Network};
 ghost use Rattle.rip_plan.specs.declared.error.PlanError.{PlanError};
 ghost use Rattle.rip_table.specs.State.{Fits, State};
 ghost use Rattle.rip_check.specs.Audits.{IsNextUnsettled, PacketsArrive, ShowsRightTables};
+ghost use Rattle.rip_check.specs.Captured.{showing_of};
 ghost use Rattle.rip_check.specs.Marks.{AreUnsettled};
-ghost use Rattle.ripaudit.specs.AuditText.{AuditText, FailureLines, IsJudged, IsPlaceOf, IsTold, IsVerdictOn, UnsettledLines, VerdictText, unsettled_line, verdict_status};
+ghost use Rattle.rip_check.specs.Verdicts.{IsVerdict};
+ghost use Rattle.ripaudit.specs.AuditText.{AuditText, FailureLines, IsJudged, IsPlaceOf, IsTold, UnsettledLines, VerdictText, unsettled_line, verdict_status};
 ghost use Rattle.ripaudit.specs.Held.{held};
 ghost use Rattle.ripaudit.specs.ReportText.{IsAccepted};
 ghost use Rattle.ripaudit.specs.Sent.{BeginningOut, WentOut, Writes};
@@ -149,7 +151,8 @@ fn write_verdict<T: MetricTable, K: Sink>(
     requires places { IfSome places.now (AreUnsettled plan.now (T.state table.now)) }
     requires all { (place : Place2) → verdict.now ≡ Verdict.Unsettled place →
         is_some places.now ≡ all }
-    requires verdict { IsVerdictOn plan.now (T.state table.now) verdict.now }
+    requires verdict { IsVerdict plan.now
+        (length (T.state table.now).prefixes) (showing_of (T.state table.now)) verdict.now }
     ensures { (text : List ℕ) × VerdictText plan.now (T.state table.now) all
         (record { text = text; status = verdict_status verdict.now })
         × Writes K.taken K.broken out.old out.new result text [] }

@@ -1,4 +1,4 @@
-use Rattle.std.proofs.Common.{[], ◌++◌}
+use Rattle.std.proofs.Common.{[]}
 use Rattle.ripaudit.specs.Held.{held}
 use Rattle.ripaudit.proofs.SentLemmas.{Writes-cut, Writes-more-held}
 use Rattle.ripaudit.proofs.output.Page.write.Goals as goal

@@ -1,7 +1,7 @@
 use Rattle.std.proofs.Common.{◌≡◌, None, get_or, sym}
 use Rattle.rip_check.specs.Captured.{showing_of}
 use Rattle.rip_check.proofs.Owned.{its_number, its_own, each_more, every, all_before}
-use Rattle.rip_check.proofs.routes.first_silent.Goals as goal
+use Rattle.rip_check.proofs.routes.first_gap.Goals as goal
 
 pub interface-own-requires : goal.interface-own-requires
 interface-own-requires g c = its_number c.args.plan.now c.args.router c.of_router-numbers.result.now c.of_router-numbers.ensures.exact c.loop-i.i-index c.loop-i-test.true
