@@ -8,8 +8,8 @@ use Rattle.rip_wire.specs.declared.error.WireCode.TheVariants.{Short, Command, V
 use Rattle.rip_wire.specs.declared.datagram.Kind.{Kind}
 use Rattle.rip_wire.specs.declared.datagram.Kind.TheVariants.{Request, Response}
 use Rattle.rip_wire.specs.Prefix.{size_of, mask_of}
-use Rattle.rip_wire.specs.Fields.{number_at, entry_place}
-use Rattle.rip_wire.specs.Faults.{IsFieldPlace, IsFault, rank, WireFault}
+use Rattle.rip_wire.specs.Fields.{number_at, entry_offset}
+use Rattle.rip_wire.specs.Faults.{IsFieldAt, IsFault, rank, WireFault}
 use Rattle.rip_wire.specs.Message.{Message, request, response, ◌>>=◌, prefix_of, metric_of, entry_at, entries_at, bits_of_mask, kind_in, groups_in, message_of_kind, message_in}
 use Rattle.rip_wire.proofs.Masks.{bits_of_mask-mask_of, bits_of_mask-Some, no_mask}
 use Rattle.rip_wire.proofs.Messages.{headed}
@@ -66,36 +66,36 @@ record IsEntryFault (b : List ℕ) (i : ℕ) (e : WireError) : Type 0 where
   low : 7 + 6 * i ≤ rank e.code e.at
   high : rank e.code e.at < 13 + 6 * i
 
-place : (b : List ℕ) (i offset : ℕ) → get_or b 0 0 ≡ 2 → i < groups_in b → IsFieldPlace b offset (entry_place i + offset)
-place b i offset two within = record { response = two; entry = i; within = within; place = refl }
+field_at : (b : List ℕ) (i into : ℕ) → get_or b 0 0 ≡ 2 → i < groups_in b → IsFieldAt b into (entry_offset i + into)
+field_at b i into two within = record { response = two; entry = i; within = within; offset = refl }
 
-prefix_fails : (b : List ℕ) (i : ℕ) → get_or b 0 0 ≡ 2 → i < groups_in b → Fails (IsEntryFault b i) (prefix_of (entry_place i) (number_at 4 (entry_place i + 4) b) (bits_of_mask (number_at 4 (entry_place i + 8) b)))
-prefix_fails b i two within = by_bits (bits_of_mask (number_at 4 (entry_place i + 8) b)) refl
+prefix_fails : (b : List ℕ) (i : ℕ) → get_or b 0 0 ≡ 2 → i < groups_in b → Fails (IsEntryFault b i) (prefix_of (entry_offset i) (number_at 4 (entry_offset i + 4) b) (bits_of_mask (number_at 4 (entry_offset i + 8) b)))
+prefix_fails b i two within = by_bits (bits_of_mask (number_at 4 (entry_offset i + 8) b)) refl
   where
-    by_bits : (o : Option ℕ) → bits_of_mask (number_at 4 (entry_place i + 8) b) ≡ o → Fails (IsEntryFault b i) (prefix_of (entry_place i) (number_at 4 (entry_place i + 4) b) o)
-    by_bits None h = fails_at (IsEntryFault b i) _ (record { fault = (place b i 8 two within, no_mask (number_at 4 (entry_place i + 8) b) h); low = omega arith; high = omega arith })
+    by_bits : (o : Option ℕ) → bits_of_mask (number_at 4 (entry_offset i + 8) b) ≡ o → Fails (IsEntryFault b i) (prefix_of (entry_offset i) (number_at 4 (entry_offset i + 4) b) o)
+    by_bits None h = fails_at (IsEntryFault b i) _ (record { fault = (field_at b i 8 two within, no_mask (number_at 4 (entry_offset i + 8) b) h); low = omega arith; high = omega arith })
     by_bits (Some bits) h =
-        let mask = bits_of_mask-Some (number_at 4 (entry_place i + 8) b) bits h in
-        let address : number_at 4 (entry_place i + 4) b ≡ number_at 4 (entry_place i + 8 - 4) b = ap (λ (k : ℕ). number_at 4 k b) (omega arith) in
-        let cover : number_at 4 (entry_place i + 8) b ≡ number_at 4 (entry_place i + 4 + 4) b = ap (λ (k : ℕ). number_at 4 k b) (omega arith) in
-        fails_test (IsEntryFault b i) (eqb bits 0 && not (eqb (number_at 4 (entry_place i + 4) b) 0)) _ _
-        (λ t. let none : bits ≡ 0 = grind (arith, nat_tests) in let set : number_at 4 (entry_place i + 4) b ≢ 0 = grind (arith, nat_tests) in
-        record { fault = (place b i 8 two within, mask.1 ∙ ap mask_of none, λ z. set (address ∙ z)); low = omega arith; high = omega arith }) (λ t1.
-        fails_test (IsEntryFault b i) (not (eqb (number_at 4 (entry_place i + 4) b % size_of bits) 0)) _ _
-        (λ t. record { fault = (place b i 4 two within, record { prefix_len = bits; few = mask.0; covers = sym cover ∙ mask.1; bits = grind (arith, nat_tests) }); low = omega arith; high = omega arith }) (λ t2.
+        let mask = bits_of_mask-Some (number_at 4 (entry_offset i + 8) b) bits h in
+        let address : number_at 4 (entry_offset i + 4) b ≡ number_at 4 (entry_offset i + 8 - 4) b = ap (λ (k : ℕ). number_at 4 k b) (omega arith) in
+        let cover : number_at 4 (entry_offset i + 8) b ≡ number_at 4 (entry_offset i + 4 + 4) b = ap (λ (k : ℕ). number_at 4 k b) (omega arith) in
+        fails_test (IsEntryFault b i) (eqb bits 0 && not (eqb (number_at 4 (entry_offset i + 4) b) 0)) _ _
+        (λ t. let none : bits ≡ 0 = grind (arith, nat_tests) in let set : number_at 4 (entry_offset i + 4) b ≢ 0 = grind (arith, nat_tests) in
+        record { fault = (field_at b i 8 two within, mask.1 ∙ ap mask_of none, λ z. set (address ∙ z)); low = omega arith; high = omega arith }) (λ t1.
+        fails_test (IsEntryFault b i) (not (eqb (number_at 4 (entry_offset i + 4) b % size_of bits) 0)) _ _
+        (λ t. record { fault = (field_at b i 4 two within, record { prefix_len = bits; few = mask.0; covers = sym cover ∙ mask.1; bits = grind (arith, nat_tests) }); low = omega arith; high = omega arith }) (λ t2.
         fails_not (IsEntryFault b i) _))
 
-entry_fails : (b : List ℕ) (i : ℕ) → get_or b 0 0 ≡ 2 → i < groups_in b → Fails (IsEntryFault b i) (entry_at (entry_place i) b)
+entry_fails : (b : List ℕ) (i : ℕ) → get_or b 0 0 ≡ 2 → i < groups_in b → Fails (IsEntryFault b i) (entry_at (entry_offset i) b)
 unfolding entry_at
 entry_fails b i two within =
     let P = IsEntryFault b i in
-    let k = entry_place i in
-    let here : IsFieldPlace b 0 k = record { response = two; entry = i; within = within; place = omega arith } in
+    let k = entry_offset i in
+    let here : IsFieldAt b 0 k = record { response = two; entry = i; within = within; offset = omega arith } in
     fails_test P (eqb (number_at 2 k b) 0xFFFF) _ _ (λ t. record { fault = (here, eqb-true _ _ t); low = omega arith; high = omega arith }) (λ t1.
     fails_test P (not (eqb (number_at 2 k b) 2)) _ _ (λ t. record { fault = (here, grind (arith, nat_tests)); low = omega arith; high = omega arith }) (λ t2.
     fails_bind P (prefix_of k (number_at 4 (k + 4) b) (bits_of_mask (number_at 4 (k + 8) b))) _ (prefix_fails b i two within) (λ p is_p.
     fails_bind P (metric_of k (number_at 4 (k + 16) b)) _
-    (fails_test P (eqb (number_at 4 (k + 16) b) 0 || ltb 16 (number_at 4 (k + 16) b)) _ _ (λ t. record { fault = (place b i 16 two within, beyond (number_at 4 (k + 16) b) t); low = omega arith; high = omega arith }) (λ t3. fails_not P _))
+    (fails_test P (eqb (number_at 4 (k + 16) b) 0 || ltb 16 (number_at 4 (k + 16) b)) _ _ (λ t. record { fault = (field_at b i 16 two within, beyond (number_at 4 (k + 16) b) t); low = omega arith; high = omega arith }) (λ t3. fails_not P _))
     (λ m is_m. fails_not P _))))
   where
     beyond : (m : ℕ) → (eqb m 0 || ltb 16 m) ≡ true → (m < 1) ⊎ (16 < m)
@@ -178,12 +178,12 @@ tells_kind b NoMask at h low = absurd (omega arith)
 tells_kind b HostBits at h low = absurd (omega arith)
 tells_kind b Metric at h low = absurd (omega arith)
 
-tells_metric : (b : List ℕ) (at : ℕ) → IsFault b Metric at → (f : IsFieldPlace b 16 at) → Tells (entry_at (entry_place f.entry) b) Metric at
+tells_metric : (b : List ℕ) (at : ℕ) → IsFault b Metric at → (f : IsFieldAt b 16 at) → Tells (entry_at (entry_offset f.entry) b) Metric at
 unfolding entry_at
 tells_metric b at h f =
     let i = f.entry in
-    let k = entry_place i in
-    let here = f.place in
+    let k = entry_offset i in
+    let here = f.offset in
     let two = f.response in
     let within = f.within in
     let value : number_at 4 at b ≡ number_at 4 (k + 16) b = ap (λ (n : ℕ). number_at 4 n b) here in
@@ -198,68 +198,68 @@ tells_metric b at h f =
     beyond m (inl x) = grind (arith, nat_tests)
     beyond m (inr x) = grind (arith, nat_tests)
 
-    prefix_low : (k i address : ℕ) (o : Option ℕ) → k ≡ entry_place i → Fails (λ e. rank e.code e.at < 12 + 6 * i) (prefix_of k address o)
+    prefix_low : (k i address : ℕ) (o : Option ℕ) → k ≡ entry_offset i → Fails (λ e. rank e.code e.at < 12 + 6 * i) (prefix_of k address o)
     prefix_low k i address None h = fails_at (λ e. rank e.code e.at < 12 + 6 * i) _ (omega arith)
     prefix_low k i address (Some bits) h =
         fails_test (λ e. rank e.code e.at < 12 + 6 * i) (eqb bits 0 && not (eqb address 0)) _ _ (λ t. omega arith) (λ t1.
         fails_test (λ e. rank e.code e.at < 12 + 6 * i) (not (eqb (address % size_of bits) 0)) _ _ (λ t. omega arith) (λ t2.
         fails_not (λ e. rank e.code e.at < 12 + 6 * i) _))
 
-tells_authentication : (b : List ℕ) (at : ℕ) → IsFault b Authentication at → (f : IsFieldPlace b 0 at) → Tells (entry_at (entry_place f.entry) b) Authentication at
+tells_authentication : (b : List ℕ) (at : ℕ) → IsFault b Authentication at → (f : IsFieldAt b 0 at) → Tells (entry_at (entry_offset f.entry) b) Authentication at
 unfolding entry_at
 tells_authentication b at h f =
-    let k = entry_place f.entry in
-    let here : at ≡ k = let place = f.place in omega arith in
+    let k = entry_offset f.entry in
+    let here : at ≡ k = let offset = f.offset in omega arith in
     let value : number_at 2 k b ≡ 0xFFFF = ap (λ (n : ℕ). number_at 2 n b) (sym here) ∙ h.1 in
     tells_here (eqb (number_at 2 k b) 0xFFFF) Authentication at _ _ (eq-eqb _ _ value) here
 
-tells_family : (b : List ℕ) (at : ℕ) → IsFault b Family at → (f : IsFieldPlace b 0 at) → Tells (entry_at (entry_place f.entry) b) Family at
+tells_family : (b : List ℕ) (at : ℕ) → IsFault b Family at → (f : IsFieldAt b 0 at) → Tells (entry_at (entry_offset f.entry) b) Family at
 unfolding entry_at
 tells_family b at h f =
-    let k = entry_place f.entry in
-    let here : at ≡ k = let place = f.place in omega arith in
+    let k = entry_offset f.entry in
+    let here : at ≡ k = let offset = f.offset in omega arith in
     let other : number_at 2 k b ≢ 2 = λ e. h.1 (ap (λ (n : ℕ). number_at 2 n b) here ∙ e) in
     tells_later (eqb (number_at 2 k b) 0xFFFF) _ _ Family at (omega arith) (λ t1.
     tells_here (not (eqb (number_at 2 k b) 2)) Family at _ _ (grind (arith, nat_tests)) here)
 
 -- where the family is right, a fault of the prefix is told
 tells_in_prefix : (b : List ℕ) (i : ℕ) (code : WireCode) (at : ℕ) → 8 + 6 * i < rank code at
-    → Tells (prefix_of (entry_place i) (number_at 4 (entry_place i + 4) b) (bits_of_mask (number_at 4 (entry_place i + 8) b))) code at → Tells (entry_at (entry_place i) b) code at
+    → Tells (prefix_of (entry_offset i) (number_at 4 (entry_offset i + 4) b) (bits_of_mask (number_at 4 (entry_offset i + 8) b))) code at → Tells (entry_at (entry_offset i) b) code at
 unfolding entry_at
 tells_in_prefix b i code at more h =
-    let k = entry_place i in
+    let k = entry_offset i in
     tells_later (eqb (number_at 2 k b) 0xFFFF) _ _ code at (omega arith) (λ t1.
     tells_later (not (eqb (number_at 2 k b) 2)) _ _ code at (omega arith) (λ t2.
     tells_bind (prefix_of k (number_at 4 (k + 4) b) (bits_of_mask (number_at 4 (k + 8) b))) _ code at h))
 
-tells_mask : (b : List ℕ) (at : ℕ) → IsFault b Mask at → (f : IsFieldPlace b 8 at) → Tells (entry_at (entry_place f.entry) b) Mask at
+tells_mask : (b : List ℕ) (at : ℕ) → IsFault b Mask at → (f : IsFieldAt b 8 at) → Tells (entry_at (entry_offset f.entry) b) Mask at
 tells_mask b at h f =
     let i = f.entry in
-    let here = f.place in
-    tells_in_prefix b i Mask at (omega arith) (by_bits (bits_of_mask (number_at 4 (entry_place i + 8) b)) refl)
+    let here = f.offset in
+    tells_in_prefix b i Mask at (omega arith) (by_bits (bits_of_mask (number_at 4 (entry_offset i + 8) b)) refl)
   where
-    by_bits : (o : Option ℕ) → bits_of_mask (number_at 4 (entry_place f.entry + 8) b) ≡ o → Tells (prefix_of (entry_place f.entry) (number_at 4 (entry_place f.entry + 4) b) o) Mask at
-    by_bits None e = tells_this Mask at (entry_place f.entry + 8) f.place
+    by_bits : (o : Option ℕ) → bits_of_mask (number_at 4 (entry_offset f.entry + 8) b) ≡ o → Tells (prefix_of (entry_offset f.entry) (number_at 4 (entry_offset f.entry + 4) b) o) Mask at
+    by_bits None e = tells_this Mask at (entry_offset f.entry + 8) f.offset
     by_bits (Some bits) e =
-        let mask = bits_of_mask-Some (number_at 4 (entry_place f.entry + 8) b) bits e in
-        absurd (h.1 (bits, mask.0, ap (λ (n : ℕ). number_at 4 n b) f.place ∙ mask.1))
+        let mask = bits_of_mask-Some (number_at 4 (entry_offset f.entry + 8) b) bits e in
+        absurd (h.1 (bits, mask.0, ap (λ (n : ℕ). number_at 4 n b) f.offset ∙ mask.1))
 
-tells_no_mask : (b : List ℕ) (at : ℕ) → IsFault b NoMask at → (f : IsFieldPlace b 8 at) → Tells (entry_at (entry_place f.entry) b) NoMask at
+tells_no_mask : (b : List ℕ) (at : ℕ) → IsFault b NoMask at → (f : IsFieldAt b 8 at) → Tells (entry_at (entry_offset f.entry) b) NoMask at
 tells_no_mask b at h f =
     let i = f.entry in
-    let here = f.place in
-    let k = entry_place i in
+    let here = f.offset in
+    let k = entry_offset i in
     let mask : number_at 4 (k + 8) b ≡ 0 = ap (λ (n : ℕ). number_at 4 n b) (sym here) ∙ h.1 in
     let address : number_at 4 (k + 4) b ≢ 0 = λ e. h.2 (ap (λ (n : ℕ). number_at 4 n b) (omega arith) ∙ e) in
     let bits : bits_of_mask (number_at 4 (k + 8) b) ≡ Some 0 = ap bits_of_mask mask ∙ bits_of_mask-mask_of 0 (omega arith) in
     tells_in_prefix b i NoMask at (omega arith)
     (rw bits (tells_here (eqb 0 0 && not (eqb (number_at 4 (k + 4) b) 0)) NoMask at (k + 8) _ (grind (arith, nat_tests)) here))
 
-tells_host_bits : (b : List ℕ) (at : ℕ) → IsFault b HostBits at → (f : IsFieldPlace b 4 at) → Tells (entry_at (entry_place f.entry) b) HostBits at
+tells_host_bits : (b : List ℕ) (at : ℕ) → IsFault b HostBits at → (f : IsFieldAt b 4 at) → Tells (entry_at (entry_offset f.entry) b) HostBits at
 tells_host_bits b at h f =
     let i = f.entry in
-    let here = f.place in
-    let k = entry_place i in
+    let here = f.offset in
+    let k = entry_offset i in
     let hosts = h.1 in
     let mask : number_at 4 (k + 8) b ≡ mask_of hosts.prefix_len = ap (λ (n : ℕ). number_at 4 n b) (omega arith) ∙ hosts.covers in
     let bits : bits_of_mask (number_at 4 (k + 8) b) ≡ Some hosts.prefix_len = ap bits_of_mask mask ∙ bits_of_mask-mask_of hosts.prefix_len hosts.few in
@@ -270,26 +270,26 @@ tells_host_bits b at h f =
     tells_here (not (eqb (number_at 4 (k + 4) b % size_of hosts.prefix_len) 0)) HostBits at (k + 4) _ (grind (arith, nat_tests)) here)))
 
 -- a fault that entry i tells is told by those up to it
-tells_entries : (n j i : ℕ) (b : List ℕ) (code : WireCode) (at : ℕ) → get_or b 0 0 ≡ 2 → j ≤ i → i < j + n → i < groups_in b → 7 + 6 * i ≤ rank code at → Tells (entry_at (entry_place i) b) code at → Tells (entries_at n (entry_place j) b) code at
+tells_entries : (n j i : ℕ) (b : List ℕ) (code : WireCode) (at : ℕ) → get_or b 0 0 ≡ 2 → j ≤ i → i < j + n → i < groups_in b → 7 + 6 * i ≤ rank code at → Tells (entry_at (entry_offset i) b) code at → Tells (entries_at n (entry_offset j) b) code at
 unfolding entries_at
 tells_entries zero j i b code at two from to within low h = absurd (omega arith)
 tells_entries (suc n) j i b code at two from to within low h =
-    by_place (place_cases j i from) (λ less. tells_entries n (j + 1) i b code at two (omega arith) (omega arith) within low h)
+    by_order (order_cases j i from) (λ less. tells_entries n (j + 1) i b code at two (omega arith) (omega arith) within low h)
   where
-    place_cases : (j i : ℕ) → j ≤ i → (j ≡ i) ⊎ (j < i)
-    place_cases j i le = grind arith
+    order_cases : (j i : ℕ) → j ≤ i → (j ≡ i) ⊎ (j < i)
+    order_cases j i le = grind arith
 
-    next : entry_place j + 20 ≡ entry_place (j + 1)
+    next : entry_offset j + 20 ≡ entry_offset (j + 1)
     next = omega arith
 
-    by_place : (j ≡ i) ⊎ (j < i) → (j < i → Tells (entries_at n (entry_place (j + 1)) b) code at) → Tells (entry_at (entry_place j) b >>= λ e. entries_at n (entry_place j + 20) b >>= λ es. Ok (e ∷ es)) code at
-    by_place (inl same) later = tells_bind (entry_at (entry_place j) b) _ code at (rw same h)
-    by_place (inr less) later =
-        tells_or (entry_at (entry_place j) b) _ code at (λ e is. let f = entry_fails b j two (omega arith) e is in let high = f.high in omega arith) (λ e is.
-        tells_bind (entries_at n (entry_place j + 20) b) _ code at (rw next (later less)))
+    by_order : (j ≡ i) ⊎ (j < i) → (j < i → Tells (entries_at n (entry_offset (j + 1)) b) code at) → Tells (entry_at (entry_offset j) b >>= λ e. entries_at n (entry_offset j + 20) b >>= λ es. Ok (e ∷ es)) code at
+    by_order (inl same) later = tells_bind (entry_at (entry_offset j) b) _ code at (rw same h)
+    by_order (inr less) later =
+        tells_or (entry_at (entry_offset j) b) _ code at (λ e is. let f = entry_fails b j two (omega arith) e is in let high = f.high in omega arith) (λ e is.
+        tells_bind (entries_at n (entry_offset j + 20) b) _ code at (rw next (later less)))
 
 -- a fault of an entry
-tells_entry : (b : List ℕ) (code : WireCode) (at offset : ℕ) (f : IsFieldPlace b offset at) → 7 + 6 * f.entry ≤ rank code at → Tells (entry_at (entry_place f.entry) b) code at → Tells (message_in b) code at
+tells_entry : (b : List ℕ) (code : WireCode) (at into : ℕ) (f : IsFieldAt b into at) → 7 + 6 * f.entry ≤ rank code at → Tells (entry_at (entry_offset f.entry) b) code at → Tells (message_in b) code at
 unfolding message_in
 tells_entry b code at offset f low h =
     tells_or (kind_in b) (message_of_kind b) code at (λ e is. let head = (kind_fails b e is).low in omega arith) by_kind
@@ -308,22 +308,22 @@ tells b Zero at h = tells_bind (kind_in b) (message_of_kind b) Zero at (tells_ki
 tells b Ragged at h = tells_bind (kind_in b) (message_of_kind b) Ragged at (tells_kind b Ragged at h (omega arith))
 tells b Empty at h = tells_bind (kind_in b) (message_of_kind b) Empty at (tells_kind b Empty at h (omega arith))
 tells b TooMany at h = tells_bind (kind_in b) (message_of_kind b) TooMany at (tells_kind b TooMany at h (omega arith))
-tells b Authentication at h = tells_entry b Authentication at 0 h.0 (let place = h.0.place in omega arith) (tells_authentication b at h h.0)
-tells b Family at h = tells_entry b Family at 0 h.0 (let place = h.0.place in omega arith) (tells_family b at h h.0)
-tells b Mask at h = tells_entry b Mask at 8 h.0 (let place = h.0.place in omega arith) (tells_mask b at h h.0)
-tells b NoMask at h = tells_entry b NoMask at 8 h.0 (let place = h.0.place in omega arith) (tells_no_mask b at h h.0)
-tells b HostBits at h = tells_entry b HostBits at 4 h.0 (let place = h.0.place in omega arith) (tells_host_bits b at h h.0)
-tells b Metric at h = tells_entry b Metric at 16 h.0 (let place = h.0.place in omega arith) (tells_metric b at h h.0)
+tells b Authentication at h = tells_entry b Authentication at 0 h.0 (let offset = h.0.offset in omega arith) (tells_authentication b at h h.0)
+tells b Family at h = tells_entry b Family at 0 h.0 (let offset = h.0.offset in omega arith) (tells_family b at h h.0)
+tells b Mask at h = tells_entry b Mask at 8 h.0 (let offset = h.0.offset in omega arith) (tells_mask b at h h.0)
+tells b NoMask at h = tells_entry b NoMask at 8 h.0 (let offset = h.0.offset in omega arith) (tells_no_mask b at h h.0)
+tells b HostBits at h = tells_entry b HostBits at 4 h.0 (let offset = h.0.offset in omega arith) (tells_host_bits b at h h.0)
+tells b Metric at h = tells_entry b Metric at 16 h.0 (let offset = h.0.offset in omega arith) (tells_metric b at h h.0)
 
 -- ---- The fault that is told is the first
 
-entries_fail : (n j : ℕ) (b : List ℕ) → get_or b 0 0 ≡ 2 → j + n ≤ groups_in b → Fails (λ e. IsFault b e.code e.at) (entries_at n (entry_place j) b)
+entries_fail : (n j : ℕ) (b : List ℕ) → get_or b 0 0 ≡ 2 → j + n ≤ groups_in b → Fails (λ e. IsFault b e.code e.at) (entries_at n (entry_offset j) b)
 unfolding entries_at
 entries_fail zero j b two within = fails_not (λ e. IsFault b e.code e.at) []
 entries_fail (suc n) j b two within =
-    let next : entry_place j + 20 ≡ entry_place (j + 1) = omega arith in
-    fails_bind (λ e. IsFault b e.code e.at) (entry_at (entry_place j) b) _ (λ e is. (entry_fails b j two (omega arith) e is).fault) (λ e is.
-    fails_bind (λ e. IsFault b e.code e.at) (entries_at n (entry_place j + 20) b) _ (rw next (entries_fail n (j + 1) b two (omega arith))) (λ es is_es.
+    let next : entry_offset j + 20 ≡ entry_offset (j + 1) = omega arith in
+    fails_bind (λ e. IsFault b e.code e.at) (entry_at (entry_offset j) b) _ (λ e is. (entry_fails b j two (omega arith) e is).fault) (λ e is.
+    fails_bind (λ e. IsFault b e.code e.at) (entries_at n (entry_offset j + 20) b) _ (rw next (entries_fail n (j + 1) b two (omega arith))) (λ es is_es.
     fails_not (λ e. IsFault b e.code e.at) _))
 
 message_fails : (b : List ℕ) → Fails (λ e. IsFault b e.code e.at) (message_in b)
@@ -343,10 +343,10 @@ same_error d e h = cc
 pub wire_fault : (b : List ℕ) (e : WireError) → message_in b ≡ Err e → WireFault b e.code e.at
 wire_fault b e h = record {
   fault = message_fails b e h;
-  first = λ other place is.
-      let t = tells b other place is in
+  first = λ other there is.
+      let t = tells b other there is in
       let same = same_error t.told e (sym t.is ∙ h) in
-      subst (λ (d : WireError). ((other ≡ d.code) × (place ≡ d.at)) ⊎ (rank d.code d.at < rank other place)) same t.before;
+      subst (λ (d : WireError). ((other ≡ d.code) × (there ≡ d.at)) ⊎ (rank d.code d.at < rank other there)) same t.before;
 }
 
 -- the first fault is told

@@ -5,7 +5,7 @@ use Rattle.std.proofs.Math.Seq.{take-suc}
 use Rattle.std.proofs.lemmas.Option.{get_or_from_slice_get}
 use Rattle.rip_wire.specs.declared.entry.Entry.{Entry}
 use Rattle.rip_wire.specs.declared.error.WireError.{WireError}
-use Rattle.rip_wire.specs.Fields.{entry_place}
+use Rattle.rip_wire.specs.Fields.{entry_offset}
 use Rattle.rip_wire.specs.Message.{◌>>=◌, entry_at, entries_at}
 use Rattle.rip_wire.proofs.Binds.{bind_ok, same_Ok}
 
@@ -16,22 +16,22 @@ pub record EndsAs (rest all : Result (List Entry) WireError) : Type 0 where
 
 -- the rest from entry i on
 abbrev pub rest_of : ℕ → ℕ → List ℕ → Result (List Entry) WireError
-rest_of count i b = entries_at (count - i) (entry_place i) b
+rest_of count i b = entries_at (count - i) (entry_offset i) b
 
 pub EndsAs-first : (count : ℕ) (b : List ℕ) → EndsAs (rest_of count 0 b) (entries_at count 4 b)
 EndsAs-first count b =
     let all : rest_of count 0 b ≡ entries_at count 4 b = let left : count - 0 ≡ count = omega arith in rw left refl in
     record { ok = λ h. rw all at h; err = λ e h. sym all ∙ h }
 
-unfolded : (count i : ℕ) (b : List ℕ) → i < count → rest_of count i b ≡ (entry_at (entry_place i) b >>= λ e. rest_of count (i + 1) b >>= λ es. Ok (e ∷ es))
+unfolded : (count i : ℕ) (b : List ℕ) → i < count → rest_of count i b ≡ (entry_at (entry_offset i) b >>= λ e. rest_of count (i + 1) b >>= λ es. Ok (e ∷ es))
 unfolding entries_at
 unfolded count i b lt =
     let left : count - i ≡ suc (count - (i + 1)) = omega arith in
-    let next : entry_place i + 20 ≡ entry_place (i + 1) = omega arith in
+    let next : entry_offset i + 20 ≡ entry_offset (i + 1) = omega arith in
     rw (left, next) refl
 
 -- an entry that is read leaves the rest after it
-pub EndsAs-more : (count i : ℕ) (b : List ℕ) (e : Entry) (all : Result (List Entry) WireError) → i < count → entry_at (entry_place i) b ≡ Ok e → EndsAs (rest_of count i b) all → EndsAs (rest_of count (i + 1) b) all
+pub EndsAs-more : (count i : ℕ) (b : List ℕ) (e : Entry) (all : Result (List Entry) WireError) → i < count → entry_at (entry_offset i) b ≡ Ok e → EndsAs (rest_of count i b) all → EndsAs (rest_of count (i + 1) b) all
 EndsAs-more count i b e all lt here so_far = record {
   ok = λ h. so_far.ok (rw joined (goes_on (rest_of count (i + 1) b) h));
   err = λ f h. so_far.err f (joined ∙ rw h refl);
@@ -45,15 +45,15 @@ EndsAs-more count i b e all lt here so_far = record {
     goes_on (Err f) h = h
 
 -- an entry without a fault leaves the rest after it
-pub EndsAs-good : (count i : ℕ) (b : List ℕ) (all : Result (List Entry) WireError) → i < count → is_ok (entry_at (entry_place i) b) ≡ true → EndsAs (rest_of count i b) all → EndsAs (rest_of count (i + 1) b) all
-EndsAs-good count i b all lt good so_far = cases (entry_at (entry_place i) b) refl good
+pub EndsAs-good : (count i : ℕ) (b : List ℕ) (all : Result (List Entry) WireError) → i < count → is_ok (entry_at (entry_offset i) b) ≡ true → EndsAs (rest_of count i b) all → EndsAs (rest_of count (i + 1) b) all
+EndsAs-good count i b all lt good so_far = cases (entry_at (entry_offset i) b) refl good
   where
-    cases : (r : Result Entry WireError) → entry_at (entry_place i) b ≡ r → is_ok r ≡ true → EndsAs (rest_of count (i + 1) b) all
+    cases : (r : Result Entry WireError) → entry_at (entry_offset i) b ≡ r → is_ok r ≡ true → EndsAs (rest_of count (i + 1) b) all
     cases (Ok e) here g = EndsAs-more count i b e all lt here so_far
     cases (Err f) here g = absurd (cc)
 
 -- a fault of an entry is that of all
-pub EndsAs-fault : (count i : ℕ) (b : List ℕ) (f : WireError) (all : Result (List Entry) WireError) → i < count → entry_at (entry_place i) b ≡ Err f → EndsAs (rest_of count i b) all → all ≡ Err f
+pub EndsAs-fault : (count i : ℕ) (b : List ℕ) (f : WireError) (all : Result (List Entry) WireError) → i < count → entry_at (entry_offset i) b ≡ Err f → EndsAs (rest_of count i b) all → all ≡ Err f
 EndsAs-fault count i b f all lt here so_far = so_far.err f (unfolded count i b lt ∙ rw here refl)
 
 -- after the last entry all are read

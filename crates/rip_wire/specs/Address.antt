@@ -4,7 +4,10 @@ use Rattle.std.specs.Prelude.{ℕ, zero, suc, ◌/◌, ◌%◌, ◌^◌, if◌th
 -- four decimal numbers with dots between them, the highest byte first
 abbrev pub address_text : ℕ → List ℕ
 address_text a =
-    decimal (a / 2 ^ 24) ++ (codes "." ++ (decimal (a / 2 ^ 16 % 256) ++ (codes "." ++ (decimal (a / 2 ^ 8 % 256) ++ (codes "." ++ decimal (a % 256))))))
+    decimal (a / 2 ^ 24)
+    ++ (codes "." ++ (decimal (a / 2 ^ 16 % 256)
+    ++ (codes "." ++ (decimal (a / 2 ^ 8 % 256)
+    ++ (codes "." ++ decimal (a % 256))))))
 
 -- the address below n that has this text
 unfoldable pub address_below : ℕ → List ℕ → Option ℕ

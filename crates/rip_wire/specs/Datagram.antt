@@ -5,6 +5,7 @@ use Rattle.rip_wire.specs.declared.datagram.Kind.{Kind}
 use Rattle.rip_wire.specs.declared.datagram.Kind.TheVariants.{Request, Response}
 use Rattle.rip_wire.specs.declared.entry.Entry.{Entry}
 use Rattle.rip_wire.specs.declared.error.WireError.{WireError}
+use Rattle.rip_wire.specs.declared.limits.TheConstants.{HEADER_LEN}
 use Rattle.rip_wire.specs.Message.{Message, request, response, message_in}
 
 -- the bytes of the datagram, its header with them
@@ -13,7 +14,7 @@ datagram_bytes d = d.bytes.now
 
 -- the bytes after the header
 abbrev pub body_of : Datagram → List ℕ
-body_of d = drop 4 (datagram_bytes d)
+body_of d = drop HEADER_LEN (datagram_bytes d)
 
 abbrev pub message_or_request : Result Message WireError → Message
 message_or_request (Ok message) = message

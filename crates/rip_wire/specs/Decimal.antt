@@ -9,7 +9,8 @@ digit_of (b ∷ bytes) = if nat_le 48 b && nat_le b 57 then Some (b - 48, bytes)
 -- a number of two digits, or of three with the next one, which is at most 255
 abbrev pub with_third : ℕ → List ℕ → Option (ℕ × List ℕ) → Option (ℕ × List ℕ)
 with_third two more None = Some (two, more)
-with_third two more (Some x) = if nat_lt 255 (10 * two + x.0) then None else Some (10 * two + x.0, x.1)
+with_third two more (Some x) =
+    if nat_lt 255 (10 * two + x.0) then None else Some (10 * two + x.0, x.1)
 
 -- a digit, or a number that begins with it
 abbrev pub with_second : ℕ → List ℕ → Option (ℕ × List ℕ) → Option (ℕ × List ℕ)

@@ -1,4 +1,5 @@
--- What a datagram says, read from left to right: its message, or its first fault (RFC 2453, sections 3.6 and 4).
+-- What a datagram says, read from left to right: its message, or its first fault (RFC 2453,
+-- sections 3.6 and 4).
 use Rattle.std.specs.Prelude.{ℕ, zero, suc, ◌+◌, ◌-◌, ◌/◌, ◌%◌, ◌==◌, nat_lt, if◌then◌else◌, ◌||◌, ◌&&◌, not, List, [], ◌∷◌, length, slice_index, Option, Some, None, Result, Ok, Err}
 use Rattle.std.specs.List.{find}
 use Rattle.rip_wire.specs.declared.entry.Entry.{Entry}
@@ -7,6 +8,7 @@ use Rattle.rip_wire.specs.declared.error.WireCode.{WireCode}
 use Rattle.rip_wire.specs.declared.error.WireCode.TheVariants.{Short, Command, Version, Zero, Ragged, Empty, TooMany, Authentication, Family, Mask, NoMask, HostBits, Metric}
 use Rattle.rip_wire.specs.declared.datagram.Kind.{Kind}
 use Rattle.rip_wire.specs.declared.datagram.Kind.TheVariants.{Request, Response}
+use Rattle.rip_wire.specs.declared.limits.TheConstants.{HEADER_LEN, ENTRY_LEN, MOST_BYTES}
 use Rattle.rip_wire.specs.Prefix.{Block, block, size_of, mask_of}
 use Rattle.rip_wire.specs.Fields.{number_at}
 
@@ -20,13 +22,17 @@ abbrev pub fault : {X : Type 0} → WireCode → ℕ → Result X WireError
 fault code at = Err (record { code = code; at = at })
 
 infixl 10 ◌>>=◌
-abbrev pub ◌>>=◌ : {X Y : Type 0} → Result X WireError → (X → Result Y WireError) → Result Y WireError
+abbrev pub ◌>>=◌ : {X Y : Type 0} →
+    Result X WireError → (X → Result Y WireError) → Result Y WireError
 (Ok x) >>= f = f x
 (Err e) >>= f = Err e
 
 -- every number of fixed bits
 unfoldable pub prefix_lens : List ℕ
-prefix_lens = 0 ∷ 1 ∷ 2 ∷ 3 ∷ 4 ∷ 5 ∷ 6 ∷ 7 ∷ 8 ∷ 9 ∷ 10 ∷ 11 ∷ 12 ∷ 13 ∷ 14 ∷ 15 ∷ 16 ∷ 17 ∷ 18 ∷ 19 ∷ 20 ∷ 21 ∷ 22 ∷ 23 ∷ 24 ∷ 25 ∷ 26 ∷ 27 ∷ 28 ∷ 29 ∷ 30 ∷ 31 ∷ 32 ∷ []
+prefix_lens =
+    0 ∷ 1 ∷ 2 ∷ 3 ∷ 4 ∷ 5 ∷ 6 ∷ 7 ∷ 8 ∷ 9 ∷ 10 ∷ 11 ∷ 12 ∷ 13 ∷ 14 ∷ 15
+    ∷ 16 ∷ 17 ∷ 18 ∷ 19 ∷ 20 ∷ 21 ∷ 22 ∷ 23 ∷ 24 ∷ 25 ∷ 26 ∷ 27 ∷ 28 ∷ 29 ∷ 30 ∷ 31
+    ∷ 32 ∷ []
 
 -- how many bits a mask fixes, where it is a mask
 unfoldable pub bits_of_mask : ℕ → Option ℕ
@@ -37,7 +43,8 @@ abbrev pub prefix_of : ℕ → ℕ → Option ℕ → Result Block WireError
 prefix_of k address None = fault Mask (k + 8)
 prefix_of k address (Some prefix_len) =
     if (prefix_len == 0) && not (address == 0) then fault NoMask (k + 8) else
-    (if not (address % size_of prefix_len == 0) then fault HostBits (k + 4) else Ok (block address prefix_len))
+    (if not (address % size_of prefix_len == 0) then fault HostBits (k + 4) else
+    Ok (block address prefix_len))
 
 -- the metric of the entry at k
 abbrev pub metric_of : ℕ → ℕ → Result ℕ WireError
@@ -50,32 +57,37 @@ entry_at k b =
     (if not (number_at 2 k b == 2) then fault Family k else
     (prefix_of k (number_at 4 (k + 4) b) (bits_of_mask (number_at 4 (k + 8) b)) >>= λ prefix.
     metric_of k (number_at 4 (k + 16) b) >>= λ metric.
-    Ok (record { tag = number_at 2 (k + 2) b; prefix = prefix; next_hop = number_at 4 (k + 12) b; metric = metric })))
+    Ok (record {
+      tag = number_at 2 (k + 2) b;
+      prefix = prefix;
+      next_hop = number_at 4 (k + 12) b;
+      metric = metric;
+    })))
 
 -- n entries from k on
 unfoldable pub entries_at : ℕ → ℕ → List ℕ → Result (List Entry) WireError
 entries_at zero k b = Ok []
-entries_at (suc n) k b = entry_at k b >>= λ e. entries_at n (k + 20) b >>= λ es. Ok (e ∷ es)
+entries_at (suc n) k b = entry_at k b >>= λ e. entries_at n (k + ENTRY_LEN) b >>= λ es. Ok (e ∷ es)
 
 -- the kind of a datagram, by its header and its length
 unfoldable pub kind_in : List ℕ → Result Kind WireError
 kind_in b =
-    if nat_lt (length b) 4 then fault Short (length b) else
+    if nat_lt (length b) HEADER_LEN then fault Short (length b) else
     (if not ((slice_index b 0 == 1) || (slice_index b 0 == 2)) then fault Command 0 else
     (if not (slice_index b 1 == 2) then fault Version 1 else
     (if not ((slice_index b 2 == 0) && (slice_index b 3 == 0)) then fault Zero 2 else
-    (if nat_lt 504 (length b) then fault TooMany 504 else
-    (if not ((length b - 4) % 20 == 0) then fault Ragged (length b) else
+    (if nat_lt MOST_BYTES (length b) then fault TooMany MOST_BYTES else
+    (if not ((length b - HEADER_LEN) % ENTRY_LEN == 0) then fault Ragged (length b) else
     (if slice_index b 0 == 1 then Ok Request else
-    (if length b == 4 then fault Empty 4 else Ok Response)))))))
+    (if length b == HEADER_LEN then fault Empty HEADER_LEN else Ok Response)))))))
 
--- how many twenties stand after the header
+-- how many times the bytes of an entry stand after the header
 abbrev pub groups_in : List ℕ → ℕ
-groups_in b = (length b - 4) / 20
+groups_in b = (length b - HEADER_LEN) / ENTRY_LEN
 
 abbrev pub message_of_kind : List ℕ → Kind → Result Message WireError
 message_of_kind b Request = Ok request
-message_of_kind b Response = entries_at (groups_in b) 4 b >>= λ es. Ok (response es)
+message_of_kind b Response = entries_at (groups_in b) HEADER_LEN b >>= λ es. Ok (response es)
 
 -- the message of a datagram
 unfoldable pub message_in : List ℕ → Result Message WireError

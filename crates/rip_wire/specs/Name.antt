@@ -6,7 +6,8 @@ use Rattle.std.specs.List.{list_all}
 
 -- a letter, a digit, `-`, `_` or `.`
 abbrev pub IsNameByte : ℕ → Type 0
-IsNameByte c = IsInRange 65 90 c ⊎ IsInRange 97 122 c ⊎ IsInRange 48 57 c ⊎ (c ≡ 45) ⊎ (c ≡ 95) ⊎ (c ≡ 46)
+IsNameByte c =
+    IsInRange 65 90 c ⊎ IsInRange 97 122 c ⊎ IsInRange 48 57 c ⊎ (c ≡ 45) ⊎ (c ≡ 95) ⊎ (c ≡ 46)
 
 -- 1 to 32 of these bytes
 pub record IsName (text : List ℕ) : Type 0 where

@@ -39,8 +39,11 @@ prefix_text p = address_text p.network ++ (codes "/" ++ decimal p.prefix_len)
 unfoldable pub prefix_below : ℕ → ℕ → List ℕ → Option Block
 prefix_below zero network text = None
 prefix_below (suc n) network text =
-    if (network % size_of n == 0) && bytes_eq (prefix_text (block network n)) text then Some (block network n) else prefix_below n network text
+    if (network % size_of n == 0) && bytes_eq (prefix_text (block network n)) text
+    then Some (block network n) else prefix_below n network text
 
 -- the prefix that has this text: the network is the address before the slash
 unfoldable pub prefix_in : List ℕ → Option Block
-prefix_in text = option_and_then (λ network. prefix_below 33 network text) (address_in (before_first (λ c. c == 47) text))
+prefix_in text =
+    option_and_then (λ network. prefix_below 33 network text)
+    (address_in (before_first (λ c. c == 47) text))

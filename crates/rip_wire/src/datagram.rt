@@ -5,7 +5,8 @@ ghost use Rattle.rip_wire.specs.Message.{message_in};
 ghost use Rattle.rip_wire.specs.Whole.{IsWhole};
 
 use crate::Entry;
-use crate::entries::{MOST_ENTRIES, read_entries};
+use crate::entries::read_entries;
+use crate::limits::{ENTRY_LEN, HEADER_LEN, MOST_ENTRIES};
 use crate::reading::good_entry;
 
 /// What a datagram is for (RFC 2453, section 3.6).
@@ -49,18 +50,19 @@ impl<'a> Datagram<'a> {
 
     /// How many entries it has, at most 25. A request may have none.
     pub fn len(&self) -> usize
-        ensures groups { result ≡ length (body_of self.now) / 20 }
-        ensures entries { kind_of (message_of self.now) ≡ Kind.Response → result ≡ length (entries_of (message_of self.now)) }
-        ensures few { result ≤ 25 }
+        ensures groups { result ≡ length (body_of self.now) / ENTRY_LEN }
+        ensures entries { kind_of (message_of self.now) ≡ Kind.Response →
+            result ≡ length (entries_of (message_of self.now)) }
+        ensures few { result ≤ MOST_ENTRIES }
     {
-        (self.bytes.len() - 4) / 20
+        (self.bytes.len() - HEADER_LEN) / ENTRY_LEN
     }
 
     /// The bytes after the header.
     pub fn body(&self) -> &'a [u8]
         ensures { result.now ≡ body_of self.now }
     {
-        &self.bytes[4..]
+        &self.bytes[HEADER_LEN..]
     }
 
     /// An entry of a response, by its number from 0 on.
@@ -69,14 +71,14 @@ impl<'a> Datagram<'a> {
         requires within { i < length (entries_of (message_of self.now)) }
         ensures { slice_get (entries_of (message_of self.now)) i ≡ Some result }
     {
-        good_entry(self.bytes, 4 + 20 * i)
+        good_entry(self.bytes, HEADER_LEN + ENTRY_LEN * i)
     }
 
     /// Writes the entries of a response at the front of the room, in their order, and answers them.
     pub fn entries<'r>(&self, room: &'r mut [Entry; MOST_ENTRIES]) -> &'r [Entry]
         requires { kind_of (message_of self.now) ≡ Kind.Response }
         ensures entries { result.now ≡ entries_of (message_of self.now) }
-        ensures few { length result.now ≤ 25 }
+        ensures few { length result.now ≤ MOST_ENTRIES }
     {
         let count = self.len();
         read_entries(self.bytes, count, room);

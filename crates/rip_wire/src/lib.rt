@@ -8,6 +8,7 @@ mod entries;
 mod entry;
 mod error;
 pub mod laws;
+mod limits;
 mod metric;
 mod name;
 mod prefix;
@@ -19,9 +20,9 @@ mod writing;
 
 pub use address::Address;
 pub use datagram::{Datagram, Kind};
-pub use entries::MOST_ENTRIES;
 pub use entry::Entry;
 pub use error::{WireCode, WireError};
+pub use limits::{ENTRY_LEN, HEADER_LEN, MOST_BYTES, MOST_ENTRIES};
 pub use metric::Metric;
 pub use name::is_name;
 pub use prefix::Prefix;

@@ -154,9 +154,11 @@ impl PartialOrd for Prefix {
     ghost use Rattle.std.specs.Cmp.Rules.{comparing};
     ghost use Rattle.std.specs.Ordering.{as_partial_cmp, nat_cmp, on, then_cmp};
 
-    ghost partial_cmp = { as_partial_cmp (then_cmp (on (λ p. p.network) nat_cmp) (on (λ p. p.prefix_len) nat_cmp)) };
+    ghost partial_cmp = { as_partial_cmp
+        (then_cmp (on (λ p. p.network) nat_cmp) (on (λ p. p.prefix_len) nat_cmp)) };
 
-    ghost laws = { partial_order_from_own_ties (Prim.search (comparing, rules)) (Prim.search (comparing, rules)) };
+    ghost laws = { partial_order_from_own_ties
+        (Prim.search (comparing, rules)) (Prim.search (comparing, rules)) };
 
     fn partial_cmp(&self, other: &Prefix) -> Option<Ordering> {
         Some(self.cmp(other))

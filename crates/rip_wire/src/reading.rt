@@ -10,12 +10,10 @@ ghost use Rattle.rip_wire.specs.Datagram.{datagram_bytes, message_of};
 ghost use Rattle.rip_wire.specs.Fields.{number_at};
 ghost use Rattle.rip_wire.specs.Message.{Message, bits_of_mask, entries_at, entry_at, groups_in, kind_in, message_in, metric_of, prefix_of, request, response};
 
+use crate::limits::{ENTRY_LEN, HEADER_LEN, MOST_BYTES};
 use crate::prefix::mask_of_length;
 use crate::{Address, Datagram, Entry, Kind, Metric, Prefix, WireCode, WireError};
 use byteorder::{BigEndian, ByteOrder};
-
-/// The most bytes of a datagram: a header of 4, and 25 entries of 20.
-const MOST_BYTES: usize = 504;
 
 /// The length whose mask this is, where it is a mask.
 fn length_of_mask(mask: u32) -> Option<u8>
@@ -30,7 +28,7 @@ fn length_of_mask(mask: u32) -> Option<u8>
     }
 }
 
-/// The number in the two bytes at a place.
+/// The number in the two bytes at an offset.
 #[tactic(auto, unfolding(crate::specs::Fields::number_at))]
 fn u16_at(bytes: &[u8], at: usize) -> u16
     requires { at + 2 ≤ length bytes.now }
@@ -39,7 +37,7 @@ fn u16_at(bytes: &[u8], at: usize) -> u16
     BigEndian::read_u16(&bytes[at..])
 }
 
-/// The number in the four bytes at a place.
+/// The number in the four bytes at an offset.
 #[tactic(auto, unfolding(crate::specs::Fields::number_at))]
 fn u32_at(bytes: &[u8], at: usize) -> u32
     requires { at + 4 ≤ length bytes.now }
@@ -48,16 +46,16 @@ fn u32_at(bytes: &[u8], at: usize) -> u32
     BigEndian::read_u32(&bytes[at..])
 }
 
-/// The fault of a code at a place.
+/// The fault of a code at an offset.
 fn fault<T>(code: WireCode, at: usize) -> Result<T, WireError>
     ensures { result ≡ Err (record { code = code; at = at }) }
 {
     Err(WireError { code, at })
 }
 
-/// The prefix of the entry at a place, by its address and mask.
+/// The prefix of the entry at an offset, by its address and mask.
 fn read_prefix(at: usize, address: u32, mask: u32) -> Result<Prefix, WireError>
-    requires { at + 20 ≤ 504 }
+    requires { at + ENTRY_LEN ≤ MOST_BYTES }
     ensures { result ≡ prefix_of at address (bits_of_mask mask) }
 {
     let Some(length) = length_of_mask(mask) else {
@@ -72,9 +70,9 @@ fn read_prefix(at: usize, address: u32, mask: u32) -> Result<Prefix, WireError>
     }
 }
 
-/// The metric of the entry at a place.
+/// The metric of the entry at an offset.
 fn read_metric(at: usize, metric: u32) -> Result<Metric, WireError>
-    requires { at + 20 ≤ 504 }
+    requires { at + ENTRY_LEN ≤ MOST_BYTES }
     ensures { result ≡ metric_of at metric }
 {
     match Metric::new(metric) {
@@ -83,11 +81,11 @@ fn read_metric(at: usize, metric: u32) -> Result<Metric, WireError>
     }
 }
 
-/// The entry at a place, or its first fault.
+/// The entry at an offset, or its first fault.
 #[tactic(auto, unfolding(crate::specs::Message::entry_at))]
 fn read_entry(bytes: &[u8], at: usize) -> Result<Entry, WireError>
-    requires room { at + 20 ≤ length bytes.now }
-    requires few { length bytes.now ≤ 504 }
+    requires room { at + ENTRY_LEN ≤ length bytes.now }
+    requires few { length bytes.now ≤ MOST_BYTES }
     ensures { result ≡ entry_at at bytes.now }
 {
     match u16_at(bytes, at) {
@@ -105,11 +103,11 @@ fn read_entry(bytes: &[u8], at: usize) -> Result<Entry, WireError>
     })
 }
 
-/// Whether the entry at a place has no fault.
+/// Whether the entry at an offset has no fault.
 #[tactic(auto, unfolding(crate::specs::Message::entry_at))]
 fn is_entry(bytes: &[u8], at: usize) -> bool
-    requires room { at + 20 ≤ length bytes.now }
-    requires few { length bytes.now ≤ 504 }
+    requires room { at + ENTRY_LEN ≤ length bytes.now }
+    requires few { length bytes.now ≤ MOST_BYTES }
     ensures { result ≡ is_ok (entry_at at bytes.now) }
 {
     let Some(length) = length_of_mask(u32_at(bytes, at + 8)) else {
@@ -121,10 +119,10 @@ fn is_entry(bytes: &[u8], at: usize) -> bool
         && Metric::new(u32_at(bytes, at + 16)).is_some()
 }
 
-/// The first fault of the entry at a place where it has one.
+/// The first fault of the entry at an offset where it has one.
 fn entry_fault(bytes: &[u8], at: usize) -> WireError
-    requires room { at + 20 ≤ length bytes.now }
-    requires few { length bytes.now ≤ 504 }
+    requires room { at + ENTRY_LEN ≤ length bytes.now }
+    requires few { length bytes.now ≤ MOST_BYTES }
     requires bad { is_ok (entry_at at bytes.now) ≡ false }
     ensures { entry_at at bytes.now ≡ Err result }
 {
@@ -134,11 +132,11 @@ fn entry_fault(bytes: &[u8], at: usize) -> WireError
     }
 }
 
-/// The entry at a place where it has no fault.
+/// The entry at an offset where it has no fault.
 #[tactic(auto, unfolding(crate::specs::Message::entry_at))]
 pub(crate) fn good_entry(bytes: &[u8], at: usize) -> Entry
-    requires room { at + 20 ≤ length bytes.now }
-    requires few { length bytes.now ≤ 504 }
+    requires room { at + ENTRY_LEN ≤ length bytes.now }
+    requires few { length bytes.now ≤ MOST_BYTES }
     requires good { is_ok (entry_at at bytes.now) ≡ true }
     ensures { entry_at at bytes.now ≡ Ok result }
 {
@@ -165,7 +163,7 @@ fn read_kind(bytes: &[u8]) -> Result<Kind, WireError>
     ensures { result ≡ kind_in bytes.now }
 {
     let len = bytes.len();
-    if len < 4 {
+    if len < HEADER_LEN {
         return fault(WireCode::Short, len);
     }
     if bytes[0] != 1 && bytes[0] != 2 {
@@ -180,28 +178,30 @@ fn read_kind(bytes: &[u8]) -> Result<Kind, WireError>
     if len > MOST_BYTES {
         return fault(WireCode::TooMany, MOST_BYTES);
     }
-    if (len - 4) % 20 != 0 {
+    if (len - HEADER_LEN) % ENTRY_LEN != 0 {
         return fault(WireCode::Ragged, len);
     }
     if bytes[0] == 1 {
         return Ok(Kind::Request);
     }
-    if len == 4 {
-        return fault(WireCode::Empty, 4);
+    if len == HEADER_LEN {
+        return fault(WireCode::Empty, HEADER_LEN);
     }
     Ok(Kind::Response)
 }
 
 /// Tests each entry, up to the first fault.
 fn check_entries(bytes: &[u8]) -> Result<(), WireError>
-    requires header { 4 ≤ length bytes.now }
-    requires few { length bytes.now ≤ 504 }
-    ensures { MatchResult result (λ _. is_ok (entries_at (groups_in bytes.now) 4 bytes.now) ≡ true) (λ e. entries_at (groups_in bytes.now) 4 bytes.now ≡ Err e) }
+    requires header { HEADER_LEN ≤ length bytes.now }
+    requires few { length bytes.now ≤ MOST_BYTES }
+    ensures { MatchResult result
+        (λ _. is_ok (entries_at (groups_in bytes.now) HEADER_LEN bytes.now) ≡ true)
+        (λ e. entries_at (groups_in bytes.now) HEADER_LEN bytes.now ≡ Err e) }
 {
-    let count = (bytes.len() - 4) / 20;
+    let count = (bytes.len() - HEADER_LEN) / ENTRY_LEN;
     for i in 0..count {
-        if !is_entry(bytes, 4 + 20 * i) {
-            return Err(entry_fault(bytes, 4 + 20 * i));
+        if !is_entry(bytes, HEADER_LEN + ENTRY_LEN * i) {
+            return Err(entry_fault(bytes, HEADER_LEN + ENTRY_LEN * i));
         }
     }
     Ok(())
@@ -222,14 +222,18 @@ fn check_datagram(bytes: &[u8]) -> Result<(), WireError>
 /// (RFC 2453, sections 3.6 and 4). It borrows the bytes. Where they are no datagram, the error is
 /// their first fault: of the header, then of the length, and then entry by entry.
 pub fn read(bytes: &[u8]) -> Result<Datagram<'_>, WireError>
-    ensures response { (entries : List Entry) → IsOkAnd result (λ d. message_of d ≡ response entries) ↔ ResponseBytes entries bytes.now }
+    ensures response { (entries : List Entry) →
+        IsOkAnd result (λ d. message_of d ≡ response entries) ↔ ResponseBytes entries bytes.now }
     ensures request { IsOkAnd result (λ d. message_of d ≡ request) ↔ RequestBytes bytes.now }
-    ensures refused { (code : WireCode) (at : ℕ) → IsErrOf result (record { code = code; at = at }) ↔ WireFault bytes.now code at }
+    ensures refused { (code : WireCode) (at : ℕ) →
+        IsErrOf result (record { code = code; at = at }) ↔ WireFault bytes.now code at }
     ensures bytes { IfOk result (λ d. datagram_bytes d ≡ bytes.now) }
 
     // More bytes than a datagram can have are refused alike, whatever follows them.
-    ensures longer { IfErr result (λ e. 504 < length bytes.now → (more : List ℕ) → WireFault (bytes.now ++ more) e.code e.at) }
-    ensures exact { MatchResult result (λ d. message_in bytes.now ≡ Ok (message_of d)) (λ e. message_in bytes.now ≡ Err e) }
+    ensures longer { IfErr result (λ e. MOST_BYTES < length bytes.now → (more : List ℕ) →
+        WireFault (bytes.now ++ more) e.code e.at) }
+    ensures exact { MatchResult result
+        (λ d. message_in bytes.now ≡ Ok (message_of d)) (λ e. message_in bytes.now ≡ Err e) }
 {
     match check_datagram(bytes) {
         Ok(()) => Ok(Datagram::of_bytes(bytes)),

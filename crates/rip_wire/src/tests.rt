@@ -273,20 +273,20 @@ fn refuses_datagrams(rt: HostRuntime) {
         (13, 1, WireCode::Mask, 12),
         (23, 0, WireCode::Metric, 20),
     ];
-    for (at, byte, code, place) in rows {
+    for (changed, byte, code, at) in rows {
         let mut bytes = ONE_ENTRY;
-        bytes[at] = byte;
+        bytes[changed] = byte;
         let outcome = read(&bytes).map(|_| ());
-        assert_eq!(rt; outcome, Err(WireError { code, at: place }), "{at}");
+        assert_eq!(rt; outcome, Err(WireError { code, at }), "{changed}");
     }
     for length in 0..24 {
-        let (code, place) = match length {
+        let (code, at) = match length {
             0..=3 => (WireCode::Short, length),
             4 => (WireCode::Empty, 4),
             _ => (WireCode::Ragged, length),
         };
         let outcome = read(&ONE_ENTRY[..length]).map(|_| ());
-        assert_eq!(rt; outcome, Err(WireError { code, at: place }), "{length}");
+        assert_eq!(rt; outcome, Err(WireError { code, at }), "{length}");
     }
 }
 

@@ -6,41 +6,41 @@ ghost use Rattle.rip_wire.specs.Decimal.{digit_of, number_of};
 
 use itoa::Buffer;
 
-/// Writes text at a place, and answers the place after it.
+/// Writes text at an offset, and answers the offset after it.
 pub(crate) fn put(room: &mut [u8], at: usize, text: &str) -> usize
     requires { at + length text.now ≤ length room.old }
     ensures text { take result room.new ≡ take at room.old ++ text.now }
-    ensures place { result ≡ at + length text.now }
+    ensures after { result ≡ at + length text.now }
 {
     let end = at + text.len();
     room[at..end].copy_from_slice(text.as_bytes());
     end
 }
 
-/// Writes a number of up to three digits at a place, and answers the place after it.
+/// Writes a number of up to three digits at an offset, and answers the offset after it.
 pub(crate) fn put_number(room: &mut [u8], at: usize, number: u8) -> usize
     requires { at + 3 ≤ length room.old }
     ensures text { take result room.new ≡ take at room.old ++ decimal number }
-    ensures place { result ≤ at + 3 }
+    ensures after { result ≤ at + 3 }
 {
     put(room, at, Buffer::new().format(number))
 }
 
-/// Writes a dot and a number at a place, and answers the place after them.
+/// Writes a dot and a number at an offset, and answers the offset after them.
 fn put_dotted(room: &mut [u8], at: usize, number: u8) -> usize
     requires { at + 4 ≤ length room.old }
     ensures text { take result room.new ≡ take at room.old ++ (codes "." ++ decimal number) }
-    ensures place { result ≤ at + 4 }
+    ensures after { result ≤ at + 4 }
 {
     let end = put(room, at, ".");
     put_number(room, end, number)
 }
 
-/// Writes an address at the front, and answers the place after it.
+/// Writes an address at the front, and answers the offset after it.
 pub(crate) fn put_address(room: &mut [u8], address: u32) -> usize
     requires { 15 ≤ length room.old }
     ensures text { take result room.new ≡ address_text address }
-    ensures place { result ≤ 15 }
+    ensures after { result ≤ 15 }
 {
     let [a, b, c, d] = address.to_be_bytes();
     let end = put_number(room, 0, a);
@@ -49,12 +49,12 @@ pub(crate) fn put_address(room: &mut [u8], address: u32) -> usize
     put_dotted(room, end, d)
 }
 
-/// Writes a slash and a length at a place, and answers the place after them.
+/// Writes a slash and a length at an offset, and answers the offset after them.
 pub(crate) fn put_length(room: &mut [u8], at: usize, prefix_len: u8) -> usize
     requires room { at + 3 ≤ length room.old }
     requires few { prefix_len ≤ 32 }
     ensures text { take result room.new ≡ take at room.old ++ (codes "/" ++ decimal prefix_len) }
-    ensures place { result ≤ at + 3 }
+    ensures after { result ≤ at + 3 }
 {
     let end = put(room, at, "/");
     let mut buffer = Buffer::new();

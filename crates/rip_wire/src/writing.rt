@@ -5,9 +5,10 @@ ghost use Rattle.rip_wire.specs.Fields.{bytes_of_number};
 ghost use Rattle.rip_wire.specs.Grammar.{IsEntry, ResponseBytes, entry_bytes};
 
 use crate::Entry;
+use crate::limits::{ENTRY_LEN, HEADER_LEN, MOST_BYTES, MOST_ENTRIES};
 use byteorder::{BigEndian, ByteOrder};
 
-/// Writes a number in the two bytes at a place.
+/// Writes a number in the two bytes at an offset.
 #[tactic(auto, unfolding(crate::specs::Fields::bytes_of_number))]
 fn put_u16(room: &mut [u8], at: usize, number: u16)
     requires { at + 2 ≤ length room.old }
@@ -17,7 +18,7 @@ fn put_u16(room: &mut [u8], at: usize, number: u16)
     BigEndian::write_u16(&mut room[at..at + 2], number);
 }
 
-/// Writes a number in the four bytes at a place.
+/// Writes a number in the four bytes at an offset.
 #[tactic(auto, unfolding(crate::specs::Fields::bytes_of_number))]
 fn put_u32(room: &mut [u8], at: usize, number: u32)
     requires { at + 4 ≤ length room.old }
@@ -27,11 +28,11 @@ fn put_u32(room: &mut [u8], at: usize, number: u32)
     BigEndian::write_u32(&mut room[at..at + 4], number);
 }
 
-/// Writes an entry in the twenty bytes at a place.
+/// Writes an entry in the bytes from an offset on.
 fn put_entry(room: &mut [u8], at: usize, entry: Entry)
-    requires { at + 20 ≤ length room.old }
-    ensures spelling { take (at + 20) room.new ≡ take at room.old ++ entry_bytes entry }
-    ensures others { drop (at + 20) room.new ≡ drop (at + 20) room.old }
+    requires { at + ENTRY_LEN ≤ length room.old }
+    ensures spelling { take (at + ENTRY_LEN) room.new ≡ take at room.old ++ entry_bytes entry }
+    ensures others { drop (at + ENTRY_LEN) room.new ≡ drop (at + ENTRY_LEN) room.old }
     ensures entry { IsEntry entry }
 {
     put_u16(room, at, 2);
@@ -44,16 +45,16 @@ fn put_entry(room: &mut [u8], at: usize, entry: Entry)
 
 /// Writes the response of 1 to 25 entries at the front of the room, and answers its length. The
 /// other bytes stay.
-pub fn write_response(entries: &[Entry], room: &mut [u8; 504]) -> usize
+pub fn write_response(entries: &[Entry], room: &mut [u8; MOST_BYTES]) -> usize
     requires some { 1 ≤ length entries.now }
-    requires few { length entries.now ≤ 25 }
+    requires few { length entries.now ≤ MOST_ENTRIES }
     ensures spelling { ResponseBytes entries.now (take result room.new) }
-    ensures place { result ≡ 4 + 20 * length entries.now }
+    ensures len { result ≡ HEADER_LEN + ENTRY_LEN * length entries.now }
     ensures others { drop result room.new ≡ drop result room.old }
 {
-    room[..4].copy_from_slice(&[2, 2, 0, 0]);
+    room[..HEADER_LEN].copy_from_slice(&[2, 2, 0, 0]);
     for i in 0..entries.len() {
-        put_entry(room, 4 + 20 * i, entries[i]);
+        put_entry(room, HEADER_LEN + ENTRY_LEN * i, entries[i]);
     }
-    4 + 20 * entries.len()
+    HEADER_LEN + ENTRY_LEN * entries.len()
 }

@@ -9,8 +9,8 @@ put-requires c =
     let same = ap length c.format.ensures.text in
     omega arith
 
-pub returns-clause-place : goal.returns-clause-place
-returns-clause-place c =
+pub returns-clause-after : goal.returns-clause-after
+returns-clause-after c =
     let few = c.requires.few in
     let short = length-decimal-le 2 c.args.prefix_len (omega arith) (omega arith) (omega arith) in
     let same = ap length c.format.ensures.text in
