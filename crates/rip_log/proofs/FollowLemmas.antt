@@ -6,7 +6,7 @@ use Rattle.rip_log.specs.Cuts.{PassesLines}
 use Rattle.rip_log.specs.Fields.{onto}
 use Rattle.rip_log.specs.Leaves.{capture_of, line_of}
 use Rattle.rip_log.specs.Lines.{lines_of}
-use Rattle.rip_log.specs.Logs.{Numbered, Log, log_of, log_at, log_in, Gives, Whether}
+use Rattle.rip_log.specs.Logs.{Numbered, Log, log_of, log_at, log_in, Gives, IfElse}
 use Rattle.rip_log.specs.LogText.{AreLines, AreRecords, IsBad, IsFault, too_many, bad, LogFault, LogCut}
 use Rattle.rip_log.specs.Runs.{IsTaken}
 use Rattle.rip_log.specs.declared.line.LineCode.{LineCode}
@@ -17,8 +17,8 @@ use Rattle.rip_log.specs.declared.error.LogError.{LogError}
 use Rattle.rip_log.proofs.LineRelations.{AreLines-lines_of, lines_of-AreLines}
 use Rattle.rip_log.proofs.LogRelations.{Judges, onto_all, IsOutcome, FaultIn, outcome, log-before, log-fault, some-log, log_in-LogFault, LogFault-log_in}
 
-fault-place : (n : ℕ) (lines : List (List ℕ)) (e : LogError) (b : FaultIn n lines (log_of n lines).records e) → (n < e.line) × (e.line ≤ n + length lines)
-fault-place n lines e b =
+fault-line : (n : ℕ) (lines : List (List ℕ)) (e : LogError) (b : FaultIn n lines (log_of n lines).records e) → (n < e.line) × (e.line ≤ n + length lines)
+fault-line n lines e b =
     (omega (arith, b.number), omega (arith, b.number, ap length b.split, length-append b.before (b.bad ∷ b.after)))
 
 -- the lines of a text that a line feed ends, and those that follow
@@ -144,7 +144,7 @@ LogFault-at_once text more records line code which is =
       fault = fault-longer (length is.before) is.bad found.whole code which found.long is.fault;
     }
 
-read-same : (P Q : Type 0) (x : Bool) → x ≡ true → Whether x P Q → P
+read-same : (P Q : Type 0) (x : Bool) → x ≡ true → IfElse x P Q → P
 read-same P Q true e w = w
 read-same P Q false e w = cc e
 
@@ -171,7 +171,7 @@ module _ (judges : Judges) where
   whatever lines more others e None h told near =
       let none = none-of 0 lines (omega arith) h in
       let later : (log_of (0 + length lines) more).fault ≡ Some e = sym (ap (λ (l : Log). l.fault) (log-before judges 0 lines more _ none.1 none.0)) ∙ told in
-      absurd (omega (arith, near, (fault-place (0 + length lines) more e (fault-of (0 + length lines) more e none.1 later)).0))
+      absurd (omega (arith, near, (fault-line (0 + length lines) more e (fault-of (0 + length lines) more e none.1 later)).0))
   whatever lines more others e (Some f) h told near = fault-first 0 lines others f (omega arith) h ∙ sym (fault-first 0 lines more f (omega arith) h)
 
   pub LogFault-ended : (text more others : List ℕ) (lines : List (List ℕ)) (records : List Numbered) (line : ℕ) (code : LogCode) → AreLines (text ++ (10 ∷ [])) lines → line ≤ length lines
@@ -194,7 +194,7 @@ module _ (judges : Judges) where
       subst (AreRecords 0 passed) (append_cancel_right (log_of 0 passed).records taken (log_of (0 + length passed) rest).records all) none.0
   records-passed passed rest taken (Some f) few h e =
       let later : (log_of (0 + length passed) rest).fault ≡ Some f = sym (ap (λ (l : Log). l.fault) (sym (fault-first 0 passed rest f (omega arith) h) ∙ e)) ∙ h in
-      absurd (omega (arith, (fault-place 0 passed f (fault-of 0 passed f (omega arith) h)).1, (fault-place (0 + length passed) rest f (fault-of (0 + length passed) rest f few later)).0))
+      absurd (omega (arith, (fault-line 0 passed f (fault-of 0 passed f (omega arith) h)).1, (fault-line (0 + length passed) rest f (fault-of (0 + length passed) rest f few later)).0))
 
   pub IsTaken-read : (text left : List ℕ) (taken : List Numbered) (log rest : Log) (n : ℕ) (e : LogError) → log_in (Some text) ≡ Some log → IsTaken taken log rest → is_read e.code ≡ true
       → Gives capture_of line_of (Some rest) (log_at n (Some left)) (Err e) → PassesLines (Some text) 0 (Some left) n → n ≤ 1000000 → LogCut text left taken (n + 1)

@@ -8,6 +8,7 @@ use Rattle.rip_log.specs.Lines.{Capture, judge, judge_short, unless_skipped}
 use Rattle.rip_log.specs.Parts.{Tells, AreParts, capture_of_parts}
 use Rattle.rip_log.specs.declared.line.LineCode.{LineCode}
 use Rattle.rip_log.specs.declared.line.LineCode.TheVariants.{LongLine}
+use Rattle.rip_log.specs.Spans.{slice_of}
 use Rattle.rip_log.specs.declared.line.Parts.{Parts}
 
 pub judge-short : (line : List ℕ) → length line ≤ 2048 → judge line ≡ judge_short line
@@ -34,10 +35,11 @@ first-part line m from to h o =
 -- what the front of a line says of its parts, the line does
 parts-front : (line front room : List ℕ) (m : ℕ) (p : Parts) → m ≤ length line → front ≡ take m line → AreParts front room p → (capture_of_parts front room p ≡ capture_of_parts line room p) × AreParts line room p
 parts-front line front room m p fits is parts =
-    let short : p.to ≤ m = omega (arith, parts.within, ap length is, length-take m line) in
-    let same : slice_range front p.from p.to ≡ slice_range line p.from p.to = ap (λ l. slice_range l p.from p.to) is ∙ first-part line m p.from p.to short parts.ordered in (
+    let link = p.link in
+    let short : link.to ≤ m = omega (arith, parts.link.within, ap length is, length-take m line) in
+    let same : slice_of front link ≡ slice_of line link = ap (λ l. slice_of l link) is ∙ first-part line m link.from link.to short parts.link.ordered in (
       ap (λ l. record { link = l; sender = p.sender; datagram = take p.count room }) same,
-      record { ordered = parts.ordered; within = omega arith; name = ap is_name (sym same) ∙ parts.name; count = parts.count; valid = parts.valid },
+      record { link = record { ordered = parts.link.ordered; within = omega arith }; name = ap is_name (sym same) ∙ parts.name; count = parts.count; valid = parts.valid },
     )
 
 pub Tells-line : (line room : List ℕ) (r : Result (Option Parts) LineCode) → length line ≤ 2048 → Tells (unless_skipped (fields_of (strip_last 13 line))) (strip_last 13 line) room r → Tells (judge line) line room r

@@ -4,7 +4,7 @@ use Rattle.std.proofs.Math.Dec.{leb}
 use Rattle.rip_log.specs.Codes.{is_read}
 use Rattle.rip_log.specs.Leaves.{capture_of, line_of}
 use Rattle.rip_log.specs.Lines.{Capture, lines_of, judge}
-use Rattle.rip_log.specs.Logs.{Numbered, Log, log_of, log_in, with_line, faulty_log, onto_log, Gives, Whether}
+use Rattle.rip_log.specs.Logs.{Numbered, Log, log_of, log_in, with_line, faulty_log, onto_log, Gives, IfElse}
 use Rattle.rip_log.specs.LogText.{AreLines, AreRecords, IsSkipped, IsFault, too_many, bad, IsJudged, LogText, LogFault}
 use Rattle.rip_log.specs.Runs.{IsTaken, numbered}
 use Rattle.rip_log.specs.declared.line.LineCode.{LineCode}
@@ -178,7 +178,7 @@ IsTaken-end taken log rest new is gives =
     ∙ ap (λ (l : Log). record { records = taken ++ l.records; fault = l.fault }) gives.0
     ∙ ap (λ (l : List Numbered). record { records = l; fault = None }) (append-nil taken)
 
-no-read : (P Q : Type 0) (x : Bool) → x ≡ false → Whether x P Q → Q
+no-read : (P Q : Type 0) (x : Bool) → x ≡ false → IfElse x P Q → Q
 no-read P Q true e w = cc e
 no-read P Q false e w = w
 

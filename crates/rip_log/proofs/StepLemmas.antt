@@ -4,7 +4,7 @@ use Rattle.std.specs.Io.KnownBytes.{Keeps}
 use Rattle.rip_log.specs.Codes.{log_code, is_read}
 use Rattle.rip_log.specs.Cuts.{FirstLine, LongFirst, HasLine}
 use Rattle.rip_log.specs.Lines.{Capture, lines_of, judge}
-use Rattle.rip_log.specs.Logs.{Log, log_of, log_at, faulty_log, onto_log, Gives, SameLog, Whether}
+use Rattle.rip_log.specs.Logs.{Log, log_of, log_at, faulty_log, onto_log, Gives, SameLog, IfElse}
 use Rattle.rip_log.proofs.JudgeLemmas.{judge-long}
 use Rattle.rip_log.proofs.LogLemmas.{first-line, too-many}
 use Rattle.rip_log.specs.declared.line.LineCode.{LineCode}
@@ -36,11 +36,11 @@ is_read-log_code codes.Hex = refl
 is_read-log_code codes.LongDatagram = refl
 is_read-log_code (codes.Wire e) = refl
 
-whether-no : (P Q : Type 0) (b : Bool) → b ≡ false → Q → Whether b P Q
+whether-no : (P Q : Type 0) (b : Bool) → b ≡ false → Q → IfElse b P Q
 whether-no P Q true e q = cc e
 whether-no P Q false e q = q
 
-whether-yes : (P Q : Type 0) (b : Bool) → b ≡ true → P → Whether b P Q
+whether-yes : (P Q : Type 0) (b : Bool) → b ≡ true → P → IfElse b P Q
 whether-yes P Q true e p = p
 whether-yes P Q false e p = cc e
 

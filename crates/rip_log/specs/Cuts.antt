@@ -1,6 +1,8 @@
 -- What taking the first line off a text leaves.
-use Rattle.std.specs.Prelude.{◌≡◌, ◌<◌, ◌≤◌, ◌+◌, ℕ, Bool, true, false, List, [], ◌∷◌, ◌++◌, Option, Some, None, length, slice_range}
+use Rattle.std.specs.Prelude.{◌≡◌, ◌<◌, ◌≤◌, ◌+◌, ℕ, Bool, true, false, List, [], ◌∷◌, ◌++◌, Option, Some, None, length}
 use Rattle.rip_log.specs.Lines.{lines_of}
+use Rattle.rip_log.specs.Spans.{IsWithin, slice_of}
+use Rattle.rip_log.specs.declared.limits.TheConstants.{MOST_LINE_BYTES}
 use Rattle.rip_log.specs.declared.window.RawLine.{RawLine}
 use Rattle.rip_log.specs.declared.window.RawLine.TheVariants.{Line, Long}
 
@@ -16,23 +18,27 @@ FirstLine None left line = Unit {0}
 FirstLine (Some t) None line = ⊥
 FirstLine (Some t) (Some rest) line = lines_of t ≡ line ∷ lines_of rest
 
--- known text begins with a line of more than 2,048 bytes
+-- known text begins with a line that is too long
 abbrev pub LongFirst : Option (List ℕ) → Type 0
 LongFirst None = Unit {0}
-LongFirst (Some t) = (line : List ℕ) × (rest : List (List ℕ)) × (2048 < length line) × (lines_of t ≡ line ∷ rest)
+LongFirst (Some t) =
+    (line : List ℕ) × (rest : List (List ℕ))
+    × (MOST_LINE_BYTES < length line) × (lines_of t ≡ line ∷ rest)
 
 -- the line was taken off the text; items is the buffer then
 abbrev pub Cuts : Option (List ℕ) → Option (List ℕ) → List ℕ → RawLine → Type 0
-Cuts old new items (Line from to) = FirstLine old new (slice_range items from to)
+Cuts old new items (Line span) = FirstLine old new (slice_of items span)
 Cuts old new items Long = LongFirst old
 
 -- where the line lies
 abbrev pub LiesWithin : ℕ → RawLine → Type 0
-LiesWithin n (Line from to) = (from ≤ to) × (to ≤ n) × (to ≤ from + 2048)
+LiesWithin n (Line span) = IsWithin n span × (span.to ≤ span.from + MOST_LINE_BYTES)
 LiesWithin n Long = Unit {0}
 
 -- these many lines of known text, of which n others come before, were passed
 abbrev pub PassesLines : Option (List ℕ) → ℕ → Option (List ℕ) → ℕ → Type 0
 PassesLines None n left after = Unit {0}
 PassesLines (Some t) n None after = ⊥
-PassesLines (Some t) n (Some rest) after = (passed : List (List ℕ)) × (lines_of t ≡ passed ++ lines_of rest) × (after ≡ n + length passed)
+PassesLines (Some t) n (Some rest) after =
+    (passed : List (List ℕ))
+    × (lines_of t ≡ passed ++ lines_of rest) × (after ≡ n + length passed)

@@ -8,6 +8,7 @@ use Rattle.rip_log.specs.Lines.{Capture}
 use Rattle.rip_log.specs.Logs.{Log, log_at, Gives}
 use Rattle.rip_log.specs.declared.error.LogCode.TheVariants.{Ended}
 use Rattle.rip_log.specs.declared.error.LogError.{LogError}
+use Rattle.rip_log.specs.declared.limits.TheConstants.{MOST_LINES}
 use Rattle.rip_log.specs.declared.reader.Reading.{Reading}
 use Rattle.rip_log.specs.declared.reader.Record.{Record}
 
@@ -43,10 +44,10 @@ capture_of r = record { link = r.link.now; sender = r.sender; datagram = datagra
 abbrev pub line_of : Record → ℕ
 line_of r = r.line
 
--- the source failed in the call
-abbrev pub unread : {A : Type 0} → Result A LogError → Bool
-unread (Ok x) = false
-unread (Err e) = is_read e.code
+-- the call failed since the source did
+abbrev pub is_unreadable : {A : Type 0} → Result A LogError → Bool
+is_unreadable (Ok x) = false
+is_unreadable (Err e) = is_read e.code
 
 -- a line is bad, or an error was answered before
 abbrev pub is_refused : {A : Type 0} → Result A LogError → Bool
@@ -54,29 +55,37 @@ is_refused (Ok x) = false
 is_refused (Err e) = not (is_read e.code)
 
 -- how a call moves a reader on
-pub record Moves {R A : Type 0} (coming : R → Option (List ℕ)) (broken at_end : R → Bool) (old new : Reading R) (result : Result A LogError) : Type 0 where
+pub record Moves {R A : Type 0} (coming : R → Option (List ℕ)) (broken at_end : R → Bool)
+    (old new : Reading R) (result : Result A LogError) : Type 0 where
   -- the code Read only where the source failed; every other outcome leaves its mark
-  pub failed : unread result ≡ true → broken (source_of new) ≡ true
-  pub marks : unread result ≡ false → broken (source_of new) ≡ broken (source_of old)
+  pub failed : is_unreadable result ≡ true → broken (source_of new) ≡ true
+  pub marks : is_unreadable result ≡ false → broken (source_of new) ≡ broken (source_of old)
   -- the lines behind are those that were passed, and an error is at the line after them
-  pub passed : is_refused result ≡ false → PassesLines (text coming old) (lines_behind old) (text coming new) (lines_behind new)
+  pub passed : is_refused result ≡ false →
+      PassesLines (text coming old) (lines_behind old) (text coming new) (lines_behind new)
   pub here : IfErr result (λ e. e.line ≡ lines_behind new + 1)
   pub stopped : has_stopped new ≡ is_err result
   -- past its end the source is not pulled
   pub unpulled : at_end (source_of old) ≡ true → source_of new ≡ source_of old
 
 -- what a call of `next` answers, seen by view and number, and leaves
-pub record Leaves {R X : Type 0} (coming : R → Option (List ℕ)) (broken at_end : R → Bool) (view : X → Capture) (number : X → ℕ) (old new : Reading R) (result : Result (Option X) LogError) : Type 0 where
+pub record Leaves {R X : Type 0} (coming : R → Option (List ℕ)) (broken at_end : R → Bool)
+    (view : X → Capture) (number : X → ℕ) (old new : Reading R)
+    (result : Result (Option X) LogError) : Type 0 where
   -- the next record of the log to come, or its end or fault
-  pub gives : has_stopped old ≡ false → Gives view number (log_to_come coming old) (log_to_come coming new) result
+  pub gives : has_stopped old ≡ false →
+      Gives view number (log_to_come coming old) (log_to_come coming new) result
   pub moves : Moves coming broken at_end old new result
   -- after an error there is none but Ended, at the same line, and the source is not pulled
-  pub ended : has_stopped old ≡ true → (result ≡ Err (record { code = Ended; line = lines_behind old + 1 }))
+  pub ended : has_stopped old ≡ true →
+      (result ≡ Err (record { code = Ended; line = lines_behind old + 1 }))
       × (lines_behind new ≡ lines_behind old)
       × (source_of new ≡ source_of old)
   -- None only where the source has come to its end, and for good
   pub over : result ≡ Ok None → IsOver at_end new
-  pub stays_over : has_stopped old ≡ false → IsOver at_end old → (result ≡ Ok None) × IsOver at_end new
+  pub stays_over : has_stopped old ≡ false → IsOver at_end old →
+      (result ≡ Ok None) × IsOver at_end new
   -- a record is of a line behind it, and each call has a later one
-  pub onward : IfOk result (λ found. IfSome found (λ x. (lines_behind old + 1 ≤ lines_behind new) × (number x ≡ lines_behind new)))
-  pub few : lines_behind new ≤ 1000000
+  pub onward : IfOk result (λ found. IfSome found (λ x.
+      (lines_behind old + 1 ≤ lines_behind new) × (number x ≡ lines_behind new)))
+  pub few : lines_behind new ≤ MOST_LINES

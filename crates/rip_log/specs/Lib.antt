@@ -10,8 +10,9 @@ pub mod Logs
 pub mod Marks
 pub mod Pairs
 pub mod Parts
-pub mod Places
 pub mod Reader
 pub mod Readers
 pub mod Runs
+pub mod Spans
+pub mod Steps
 pub mod Writers

@@ -10,6 +10,8 @@ use Rattle.rip_wire.specs.declared.error.WireError.{WireError}
 use Rattle.rip_log.specs.Fields.{onto, fields_of, is_comment}
 use Rattle.rip_log.specs.declared.line.LineCode.{LineCode}
 use Rattle.rip_log.specs.declared.line.LineCode.TheVariants.{LongLine, Fields, LinkName, Sender, Hex, LongDatagram, Wire}
+use Rattle.rip_log.specs.declared.limits.TheConstants.{MOST_LINE_BYTES}
+use Rattle.rip_wire.specs.declared.limits.TheConstants.{MOST_BYTES}
 
 -- the parts that line feeds end, and what follows the last one where there is anything
 abbrev pub lines_of : List ℕ → List (List ℕ)
@@ -24,7 +26,7 @@ pub record Capture : Type 0 where
 
 -- these bytes, if they are no more than a datagram has
 abbrev pub sized : Result (List ℕ) FromHexError → Result (List ℕ) LineCode
-sized (Ok bytes) = if nat_lt 504 (length bytes) then Err LongDatagram else Ok bytes
+sized (Ok bytes) = if nat_lt MOST_BYTES (length bytes) then Err LongDatagram else Ok bytes
 sized (Err e) = Err Hex
 
 -- the bytes of hex digits
@@ -32,8 +34,10 @@ abbrev pub bytes_of : List ℕ → Result (List ℕ) LineCode
 bytes_of digits = sized (decode_of digits)
 
 -- a capture of this datagram
-abbrev pub checked : List ℕ → ℕ → List ℕ → Result Message WireError → Result (Option Capture) LineCode
-checked link sender bytes (Ok message) = Ok (Some (record { link = link; sender = sender; datagram = bytes }))
+abbrev pub checked : List ℕ → ℕ → List ℕ → Result Message WireError →
+    Result (Option Capture) LineCode
+checked link sender bytes (Ok message) =
+    Ok (Some (record { link = link; sender = sender; datagram = bytes }))
 checked link sender bytes (Err e) = Err (Wire e)
 
 -- a capture of these bytes
@@ -47,7 +51,8 @@ with_sender link (Some sender) digits = capture_in link sender (bytes_of digits)
 
 -- what a link's name, a sender and digits say
 abbrev pub three_fields : List ℕ → List ℕ → List ℕ → Result (Option Capture) LineCode
-three_fields link sender digits = if is_name link then with_sender link (address_in sender) digits else Err LinkName
+three_fields link sender digits =
+    if is_name link then with_sender link (address_in sender) digits else Err LinkName
 
 -- what these fields say
 abbrev pub said_by : List (List ℕ) → Result (Option Capture) LineCode
@@ -57,12 +62,13 @@ said_by other = Err Fields
 -- a line of blanks alone, and one that begins with #, say nothing
 abbrev pub unless_skipped : List (List ℕ) → Result (Option Capture) LineCode
 unless_skipped [] = Ok None
-unless_skipped (first ∷ rest) = if is_comment (first ∷ rest) then Ok None else said_by (first ∷ rest)
+unless_skipped (first ∷ rest) =
+    if is_comment (first ∷ rest) then Ok None else said_by (first ∷ rest)
 
--- what a line of at most 2,048 bytes says
+-- what a line that is not too long says
 abbrev pub judge_short : List ℕ → Result (Option Capture) LineCode
 judge_short line = unless_skipped (fields_of (strip_last 13 line))
 
 -- what a line says: nothing, a capture, or a fault
 abbrev pub judge : List ℕ → Result (Option Capture) LineCode
-judge line = if nat_lt 2048 (length line) then Err LongLine else judge_short line
+judge line = if nat_lt MOST_LINE_BYTES (length line) then Err LongLine else judge_short line

@@ -13,6 +13,8 @@ use Rattle.rip_log.specs.declared.line.LineCode.{LineCode}
 use Rattle.rip_log.specs.declared.line.LineCode.TheVariants.{LongLine, Fields, LinkName, Sender, Hex, LongDatagram, Wire}
 use Rattle.rip_log.specs.declared.error.LogCode.{LogCode}
 use Rattle.rip_log.specs.declared.error.LogCode.TheVariants.{TooManyLines}
+use Rattle.rip_log.specs.declared.limits.TheConstants.{MOST_LINE_BYTES, MOST_LINES}
+use Rattle.rip_wire.specs.declared.limits.TheConstants.{MOST_BYTES}
 
 -- no byte is a line feed
 abbrev pub HasNoFeed : List ℕ → Type 0
@@ -64,14 +66,16 @@ pub record FirstField (bare field rest : List ℕ) : Type 0 where
   pub longest : EndsRun rest
   pub whole : bare ≡ before ++ (field ++ rest)
 
--- the fields of a line without its carriage return: all of its longest runs of bytes that are no blanks
+-- the fields of a line without its carriage return: all of its longest runs of bytes that are no
+-- blanks
 abbrev pub AreFields : List ℕ → List (List ℕ) → Type 0
 AreFields bare [] = AllByRecursion IsBlank bare
-AreFields bare (field ∷ fields) = (rest : List ℕ) × FirstField bare field rest × AreFields rest fields
+AreFields bare (field ∷ fields) =
+    (rest : List ℕ) × FirstField bare field rest × AreFields rest fields
 
 -- a line that is not too long, and its fields
 pub record HasFields (line : List ℕ) (fields : List (List ℕ)) : Type 0 where
-  pub short : length line ≤ 2048
+  pub short : length line ≤ MOST_LINE_BYTES
   pub bare : List ℕ
   pub is_bare : IsBare line bare
   pub are_fields : AreFields bare fields
@@ -109,7 +113,7 @@ pub record IsRecord (line : List ℕ) (capture : Capture) : Type 0 where
   pub digits : List ℕ
   pub front : HasSender line capture.link digits capture.sender
   pub bytes : decode_of digits ≡ Ok capture.datagram
-  pub few : length capture.datagram ≤ 504
+  pub few : length capture.datagram ≤ MOST_BYTES
   pub no_fault : (code : WireCode) (at : ℕ) → ¬ WireFault capture.datagram code at
 
 -- fields of another number than three, where they say anything
@@ -121,13 +125,22 @@ pub record HasOthers (line : List ℕ) : Type 0 where
 
 -- a line that is bad, by the first of its faults
 abbrev pub IsBad : List ℕ → LineCode → Type 0
-IsBad line LongLine = 2048 < length line
+IsBad line LongLine = MOST_LINE_BYTES < length line
 IsBad line Fields = HasOthers line
-IsBad line LinkName = (link sender digits : List ℕ) × HasThree line link sender digits × ¬ IsName link
-IsBad line Sender = (link sender digits : List ℕ) × HasThree line link sender digits × IsName link × ((address : ℕ) → ¬ IsSender sender address)
-IsBad line Hex = (link digits : List ℕ) × (address : ℕ) × HasSender line link digits address × ((bytes : List ℕ) → decode_of digits ≢ Ok bytes)
-IsBad line LongDatagram = (link digits bytes : List ℕ) × (address : ℕ) × HasSender line link digits address × (decode_of digits ≡ Ok bytes) × (504 < length bytes)
-IsBad line (Wire e) = (link digits bytes : List ℕ) × (address : ℕ) × HasSender line link digits address × (decode_of digits ≡ Ok bytes) × (length bytes ≤ 504) × WireFault bytes e.code e.at
+IsBad line LinkName =
+    (link sender digits : List ℕ) × HasThree line link sender digits × ¬ IsName link
+IsBad line Sender =
+    (link sender digits : List ℕ) × HasThree line link sender digits × IsName link
+    × ((address : ℕ) → ¬ IsSender sender address)
+IsBad line Hex =
+    (link digits : List ℕ) × (address : ℕ) × HasSender line link digits address
+    × ((bytes : List ℕ) → decode_of digits ≢ Ok bytes)
+IsBad line LongDatagram =
+    (link digits bytes : List ℕ) × (address : ℕ) × HasSender line link digits address
+    × (decode_of digits ≡ Ok bytes) × (MOST_BYTES < length bytes)
+IsBad line (Wire e) =
+    (link digits bytes : List ℕ) × (address : ℕ) × HasSender line link digits address
+    × (decode_of digits ≡ Ok bytes) × (length bytes ≤ MOST_BYTES) × WireFault bytes e.code e.at
 
 -- a line is judged: it is skipped, or is a record, or is bad
 abbrev pub IsJudged : List ℕ → Result (Option Capture) LineCode → Type 0
@@ -140,22 +153,25 @@ abbrev pub AreRecords : ℕ → List (List ℕ) → List Numbered → Type 0
 AreRecords n [] records = records ≡ []
 AreRecords n (line ∷ lines) [] = IsSkipped line × AreRecords (n + 1) lines []
 AreRecords n (line ∷ lines) (r ∷ records) =
-    (IsSkipped line × AreRecords (n + 1) lines (r ∷ records)) ⊎ ((r.line ≡ n + 1) × IsRecord line r.capture × AreRecords (n + 1) lines records)
+    (IsSkipped line × AreRecords (n + 1) lines (r ∷ records))
+    ⊎ ((r.line ≡ n + 1) × IsRecord line r.capture × AreRecords (n + 1) lines records)
 
 -- a log without a fault, and its records
 pub record LogText (text : List ℕ) (records : List Numbered) : Type 0 where
   pub lines : List (List ℕ)
   pub are_lines : AreLines text lines
-  pub few : length lines ≤ 1000000
+  pub few : length lines ≤ MOST_LINES
   pub are_records : AreRecords 0 lines records
 
 -- why a line is bad that comes after n others: there are too many, or it is bad by itself
 pub data IsFault (n : ℕ) (line : List ℕ) (code : LogCode) : Type 0 where
-  too_many : n ≡ 1000000 → code ≡ TooManyLines → IsFault n line code
-  bad : n < 1000000 → (line_code : LineCode) → IsBad line line_code → code ≡ log_code line_code → IsFault n line code
+  too_many : n ≡ MOST_LINES → code ≡ TooManyLines → IsFault n line code
+  bad : n < MOST_LINES → (line_code : LineCode) → IsBad line line_code →
+      code ≡ log_code line_code → IsFault n line code
 
 -- the first bad line of a log, and its first code; the records are those of the lines before it
-pub record LogFault (text : List ℕ) (records : List Numbered) (line : ℕ) (code : LogCode) : Type 0 where
+pub record LogFault (text : List ℕ) (records : List Numbered) (line : ℕ) (code : LogCode)
+    : Type 0 where
   pub before : List (List ℕ)
   pub bad : List ℕ
   pub after : List (List ℕ)
@@ -164,7 +180,8 @@ pub record LogFault (text : List ℕ) (records : List Numbered) (line : ℕ) (co
   pub number : line ≡ length before + 1
   pub fault : IsFault (length before) bad code
 
--- a log whose source failed while this line was read, this text being still to come; the records are those of the lines before it
+-- a log whose source failed while this line was read, this text being still to come; the records
+-- are those of the lines before it
 pub record LogCut (text left : List ℕ) (records : List Numbered) (line : ℕ) : Type 0 where
   pub before : List (List ℕ)
   pub after : List (List ℕ)

@@ -6,6 +6,7 @@ use Rattle.rip_log.specs.Lines.{Capture, lines_of, judge}
 use Rattle.rip_log.specs.declared.line.LineCode.{LineCode}
 use Rattle.rip_log.specs.declared.error.LogCode.TheVariants.{TooManyLines}
 use Rattle.rip_log.specs.declared.error.LogError.{LogError}
+use Rattle.rip_log.specs.declared.limits.TheConstants.{MOST_LINES}
 
 -- a capture with the number of its line
 pub record Numbered : Type 0 where
@@ -36,7 +37,7 @@ with_line n (Err code) later = faulty_log (record { line = n; code = log_code co
 abbrev pub log_of : ℕ → List (List ℕ) → Log
 log_of n [] = ended_log
 log_of n (line ∷ rest) =
-    if nat_le 1000000 n then faulty_log (record { line = n + 1; code = TooManyLines })
+    if nat_le MOST_LINES n then faulty_log (record { line = n + 1; code = TooManyLines })
     else with_line (n + 1) (judge line) (log_of (n + 1) rest)
 
 -- what the lines of a text after n others have, where the text is told
@@ -48,16 +49,21 @@ abbrev pub log_in : Option (List ℕ) → Option Log
 log_in t = log_at 0 t
 
 -- p where b holds, else q
-abbrev pub Whether : Bool → Type 0 → Type 0 → Type 0
-Whether true p q = p
-Whether false p q = q
+abbrev pub IfElse : Bool → Type 0 → Type 0 → Type 0
+IfElse true p q = p
+IfElse false p q = q
 
--- what a call takes off a log, where it is told: its first record, or its end or fault, or nothing where the source failed
-abbrev pub Gives : {X : Type 0} → (X → Capture) → (X → ℕ) → Option Log → Option Log → Result (Option X) LogError → Type 0
+-- what a call takes off a log, where it is told: its first record, or its end or fault, or nothing
+-- where the source failed
+abbrev pub Gives : {X : Type 0} → (X → Capture) → (X → ℕ) → Option Log → Option Log →
+    Result (Option X) LogError → Type 0
 Gives view number None new result = Unit {0}
 Gives view number (Some log) new (Ok None) = (log ≡ ended_log) × (new ≡ Some ended_log)
-Gives view number (Some log) new (Ok (Some x)) = (rest : Log) × (new ≡ Some rest) × (log ≡ onto_log (record { line = number x; capture = view x }) rest)
-Gives view number (Some log) new (Err e) = Whether (is_read e.code) (new ≡ Some log) (log ≡ faulty_log e)
+Gives view number (Some log) new (Ok (Some x)) =
+    (rest : Log) × (new ≡ Some rest)
+    × (log ≡ onto_log (record { line = number x; capture = view x }) rest)
+Gives view number (Some log) new (Err e) =
+    IfElse (is_read e.code) (new ≡ Some log) (log ≡ faulty_log e)
 
 -- nothing was taken off a log, where it is told
 abbrev pub SameLog : Option Log → Option Log → Type 0

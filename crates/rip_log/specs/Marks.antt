@@ -23,7 +23,8 @@ left_at Ended left = Some []
 left_at Broken left = left
 
 -- at the end nothing is left
-pub nothing_left : (m : Mark) (left : Option (List ℕ)) → is_ended m ≡ true → IsAtEnd (left_at m left)
+pub nothing_left : (m : Mark) (left : Option (List ℕ)) → is_ended m ≡ true →
+    IsAtEnd (left_at m left)
 nothing_left Open left h = cc h
 nothing_left Ended left h = refl
 nothing_left Broken left h = cc h

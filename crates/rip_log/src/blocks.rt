@@ -75,7 +75,7 @@ fn bytes_of(digits: &[u8; DIGITS]) -> Option<[u8; BYTES]>
     Some(joined(&values))
 }
 
-/// The block from a place of the text on.
+/// The block from an offset of the text on.
 #[inline(always)]
 fn block_at(text: &[u8], at: usize) -> &[u8; DIGITS]
     requires { at + 32 ≤ length text.now }
@@ -87,7 +87,7 @@ fn block_at(text: &[u8], at: usize) -> &[u8; DIGITS]
     }
 }
 
-/// Writes bytes to the room, from a place on.
+/// Writes bytes to the room, from an offset on.
 #[inline(always)]
 fn store(bytes: &[u8; BYTES], room: &mut [u8], to: usize)
     requires { to + 16 ≤ length room.old }

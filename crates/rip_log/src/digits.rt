@@ -7,9 +7,10 @@ ghost use Rattle.rip_log.specs.Lines.{bytes_of};
 
 use crate::blocks::decode_blocks;
 use crate::line::LineCode;
+use rip_wire::MOST_BYTES;
 
-/// The most bytes of a datagram.
-const MOST_DATAGRAM_BYTES: usize = 504;
+/// The most digits of a datagram: two a byte.
+const MOST_DIGITS: usize = 2 * MOST_BYTES;
 
 /// Whether the byte is a hex digit, of either case.
 fn is_digit(byte: u8) -> bool
@@ -28,7 +29,7 @@ fn are_digits(text: &[u8]) -> bool
 /// What is wrong with more digits than a datagram has: an odd number of them, or a byte that is none,
 /// comes first.
 fn code_of_long(digits: &[u8]) -> LineCode
-    requires { 1008 < length digits.now }
+    requires { MOST_DIGITS < length digits.now }
     ensures { bytes_of digits.now ≡ Err result }
 {
     if digits.len() % 2 == 1 {
@@ -57,10 +58,12 @@ pub fn decode_digits(digits: &[u8], room: &mut [u8]) -> bool
 }
 
 /// Writes the bytes of hex digits to the front of the room, and answers how many there are.
-pub(crate) fn decode(digits: &[u8], room: &mut [u8; 504]) -> Result<usize, LineCode>
-    ensures { MatchResult result (λ n. (n ≤ 504) × (bytes_of digits.now ≡ Ok (take n room.new))) (λ code. bytes_of digits.now ≡ Err code) }
+pub(crate) fn decode(digits: &[u8], room: &mut [u8; MOST_BYTES]) -> Result<usize, LineCode>
+    ensures { MatchResult result
+        (λ n. (n ≤ MOST_BYTES) × (bytes_of digits.now ≡ Ok (take n room.new)))
+        (λ code. bytes_of digits.now ≡ Err code) }
 {
-    if digits.len() > 2 * MOST_DATAGRAM_BYTES {
+    if digits.len() > MOST_DIGITS {
         return Err(code_of_long(digits));
     }
     if decode_digits(digits, room) {

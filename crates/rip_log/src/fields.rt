@@ -3,6 +3,7 @@
 ghost use Rattle.std.specs.Prelude.{◌≡◌, ◌≤◌, ◌<◌, [], ◌∷◌, false, length, drop, MatchOption, slice_range, slice_index};
 ghost use Rattle.rip_log.specs.Fields.{is_blank, fields_of, NextField, IsSplit};
 
+use crate::span::Span;
 use memchr::memchr2;
 
 /// The fields of a line, where they lie.
@@ -10,7 +11,7 @@ use memchr::memchr2;
 pub enum Fields {
     Nothing,
     Comment,
-    Three((usize, usize), (usize, usize), (usize, usize)),
+    Three(Span, Span, Span),
     Other,
 }
 
@@ -21,7 +22,7 @@ fn is_blank(byte: u8) -> bool
     byte == b' ' || byte == b'\t'
 }
 
-/// The first place from `from` that is no blank, or the end of the line.
+/// The first offset from `from` on that has no blank, or the end of the line.
 fn skip_blanks(line: &[u8], from: usize) -> usize
     requires { from ≤ length line.now }
     ensures after { from ≤ result }
@@ -36,13 +37,14 @@ fn skip_blanks(line: &[u8], from: usize) -> usize
     at
 }
 
-/// The first place after `from` that is a blank, or the end of the line.
+/// The first offset after `from` that has a blank, or the end of the line.
 fn skip_field(line: &[u8], from: usize) -> usize
     requires inside { from < length line.now }
     requires field { is_blank (slice_index line.now from) ≡ false }
     ensures after { from < result }
     ensures within { result ≤ length line.now }
-    ensures split { fields_of (drop from line.now) ≡ slice_range line.now from result ∷ fields_of (drop result line.now) }
+    ensures split { fields_of (drop from line.now)
+        ≡ slice_range line.now from result ∷ fields_of (drop result line.now) }
 {
     match memchr2(b' ', b'\t', &line[from + 1..]) {
         Some(count) => from + 1 + count,
@@ -50,17 +52,17 @@ fn skip_field(line: &[u8], from: usize) -> usize
     }
 }
 
-/// The next field from `from`, as the places where it begins and ends.
-fn next_field(line: &[u8], from: usize) -> Option<(usize, usize)>
+/// The next field from `from` on.
+fn next_field(line: &[u8], from: usize) -> Option<Span>
     requires { from ≤ length line.now }
-    ensures { MatchOption result (fields_of (drop from line.now) ≡ []) (λ s. NextField line.now from s.0 s.1) }
+    ensures { MatchOption result (fields_of (drop from line.now) ≡ []) (NextField line.now from) }
 {
-    let start = skip_blanks(line, from);
-    if start == line.len() {
+    let from = skip_blanks(line, from);
+    if from == line.len() {
         return None;
     }
-    let end = skip_field(line, start);
-    Some((start, end))
+    let to = skip_field(line, from);
+    Some(Span { from, to })
 }
 
 /// The fields of a line.
@@ -70,16 +72,16 @@ pub fn split(line: &[u8]) -> Fields
     let Some(first) = next_field(line, 0) else {
         return Fields::Nothing;
     };
-    if line[first.0] == b'#' {
+    if line[first.from] == b'#' {
         return Fields::Comment;
     }
-    let Some(second) = next_field(line, first.1) else {
+    let Some(second) = next_field(line, first.to) else {
         return Fields::Other;
     };
-    let Some(third) = next_field(line, second.1) else {
+    let Some(third) = next_field(line, second.to) else {
         return Fields::Other;
     };
-    match next_field(line, third.1) {
+    match next_field(line, third.to) {
         None => Fields::Three(first, second, third),
         Some(_) => Fields::Other,
     }

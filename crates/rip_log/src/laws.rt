@@ -14,12 +14,14 @@ ghost use Rattle.rip_log.specs.declared.error.LogError.{LogError};
 ghost use Rattle.rip_log.specs.declared.line.LineCode.{LineCode};
 ghost use Rattle.rip_log.specs.declared.reader.Record.{Record};
 
+use crate::limits::MOST_LINES;
 use rip_wire::laws;
 
 /// What is computed of a line is what the words of the format say: it is skipped, or is a record, or
 /// is bad by the first of its faults.
 pub fn judged_lines()
-    ensures { (line : List ℕ) (judged : Result (Option Capture) LineCode) → (judge line ≡ judged) ↔ IsJudged line judged }
+    ensures { (line : List ℕ) (judged : Result (Option Capture) LineCode) →
+        (judge line ≡ judged) ↔ IsJudged line judged }
 {
     laws::names();
     laws::address_texts();
@@ -29,8 +31,12 @@ pub fn judged_lines()
 /// What a reader has to come at the front of a text is what the words of the format say: its
 /// records, and its first fault.
 pub fn log_texts()
-    ensures text { (text : List ℕ) (records : List Numbered) → (log_in (Some text) ≡ Some (record { records = records; fault = None })) ↔ LogText text records }
-    ensures fault { (text : List ℕ) (records : List Numbered) (e : LogError) → (log_in (Some text) ≡ Some (record { records = records; fault = Some e })) ↔ LogFault text records e.line e.code }
+    ensures text { (text : List ℕ) (records : List Numbered) →
+        (log_in (Some text) ≡ Some (record { records = records; fault = None }))
+        ↔ LogText text records }
+    ensures fault { (text : List ℕ) (records : List Numbered) (e : LogError) →
+        (log_in (Some text) ≡ Some (record { records = records; fault = Some e }))
+        ↔ LogFault text records e.line e.code }
 {
     judged_lines();
 }
@@ -38,8 +44,13 @@ pub fn log_texts()
 /// A line's fault is the same whatever follows the line, and that of a line that is too long, or one
 /// too many, whatever else follows.
 pub fn early_faults()
-    ensures ended { (text more others : List ℕ) (lines : List (List ℕ)) (records : List Numbered) (line : ℕ) (code : LogCode) → AreLines (text ++ 10 ∷ []) lines → line ≤ length lines → LogFault (text ++ 10 ∷ more) records line code → LogFault (text ++ 10 ∷ others) records line code }
-    ensures at_once { (text more : List ℕ) (records : List Numbered) (line : ℕ) (code : LogCode) → (code ≡ LogCode.LongLine) ⊎ (code ≡ LogCode.TooManyLines) → LogFault text records line code → LogFault (text ++ more) records line code }
+    ensures ended { (text more others : List ℕ) (lines : List (List ℕ)) (records : List Numbered)
+        (line : ℕ) (code : LogCode) → AreLines (text ++ 10 ∷ []) lines → line ≤ length lines →
+        LogFault (text ++ 10 ∷ more) records line code →
+        LogFault (text ++ 10 ∷ others) records line code }
+    ensures at_once { (text more : List ℕ) (records : List Numbered) (line : ℕ) (code : LogCode) →
+        (code ≡ LogCode.LongLine) ⊎ (code ≡ LogCode.TooManyLines) →
+        LogFault text records line code → LogFault (text ++ more) records line code }
 {
     judged_lines();
 }
@@ -48,9 +59,16 @@ pub fn early_faults()
 /// taken, and at the end, or at a fault, these are all the log's records.
 pub fn whole_runs()
     ensures none { (log : Log) → IsTaken [] log log }
-    ensures more { (taken : List Numbered) (log rest : Log) (new : Option Log) (r : Record) → IsTaken taken log rest → Gives capture_of line_of (Some rest) new (Ok (Some r)) → (later : Log) × (new ≡ Some later) × IsTaken (taken ++ numbered r ∷ []) log later }
-    ensures end { (taken : List Numbered) (log rest : Log) (new : Option Log) → IsTaken taken log rest → Gives capture_of line_of (Some rest) new (Ok None) → log ≡ record { records = taken; fault = None } }
-    ensures fault { (taken : List Numbered) (log rest : Log) (new : Option Log) (e : LogError) → IsTaken taken log rest → is_read e.code ≡ false → Gives capture_of line_of (Some rest) new (Err e) → log ≡ record { records = taken; fault = Some e } }
+    ensures more { (taken : List Numbered) (log rest : Log) (new : Option Log) (r : Record) →
+        IsTaken taken log rest → Gives capture_of line_of (Some rest) new (Ok (Some r)) →
+        (later : Log) × (new ≡ Some later) × IsTaken (taken ++ numbered r ∷ []) log later }
+    ensures end { (taken : List Numbered) (log rest : Log) (new : Option Log) →
+        IsTaken taken log rest → Gives capture_of line_of (Some rest) new (Ok None) →
+        log ≡ record { records = taken; fault = None } }
+    ensures fault { (taken : List Numbered) (log rest : Log) (new : Option Log) (e : LogError) →
+        IsTaken taken log rest → is_read e.code ≡ false →
+        Gives capture_of line_of (Some rest) new (Err e) →
+        log ≡ record { records = taken; fault = Some e } }
 {}
 
 /// The lines of a whole run: from the front of a text each call adds those that it passed, and where
@@ -58,8 +76,15 @@ pub fn whole_runs()
 /// being read is the next.
 pub fn lines_of_runs()
     ensures none { (text : List ℕ) → PassesLines (Some text) 0 (Some text) 0 }
-    ensures more { (text left new : Option (List ℕ)) (n behind after : ℕ) → PassesLines text n left behind → PassesLines left behind new after → PassesLines text n new after }
-    ensures read { (text left : List ℕ) (taken : List Numbered) (log rest : Log) (n : ℕ) (e : LogError) → log_in (Some text) ≡ Some log → IsTaken taken log rest → is_read e.code ≡ true → Gives capture_of line_of (Some rest) (log_at n (Some left)) (Err e) → PassesLines (Some text) 0 (Some left) n → n ≤ 1000000 → LogCut text left taken (n + 1) }
+    ensures more { (text left new : Option (List ℕ)) (n behind after : ℕ) →
+        PassesLines text n left behind → PassesLines left behind new after →
+        PassesLines text n new after }
+    ensures read { (text left : List ℕ) (taken : List Numbered) (log rest : Log) (n : ℕ)
+        (e : LogError) → log_in (Some text) ≡ Some log → IsTaken taken log rest →
+        is_read e.code ≡ true →
+        Gives capture_of line_of (Some rest) (log_at n (Some left)) (Err e) →
+        PassesLines (Some text) 0 (Some left) n → n ≤ MOST_LINES →
+        LogCut text left taken (n + 1) }
 {
     judged_lines();
 }

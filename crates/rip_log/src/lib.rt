@@ -7,15 +7,18 @@ mod digits;
 mod error;
 mod fields;
 pub mod laws;
+mod limits;
 mod line;
 mod reader;
 mod sink;
 mod source;
+mod span;
 mod window;
 
 pub use device::Failed;
 pub use digits::decode_digits;
 pub use error::{LogCode, LogError};
+pub use limits::{MOST_LINE_BYTES, MOST_LINES};
 pub use reader::{LogReader, Record};
 pub use sink::{IntoWrite, Sink};
 pub use source::{FromRead, Source};

@@ -1,14 +1,17 @@
 //! What one line says.
 
-ghost use Rattle.std.specs.Prelude.{◌≡◌, ◌≤◌, length, slice_range};
+ghost use Rattle.std.specs.Prelude.{◌≡◌, ◌≤◌, length};
 ghost use Rattle.std.specs.Io.BufRead.{strip_last};
-ghost use Rattle.rip_log.specs.Fields.{Lies, fields_of};
+ghost use Rattle.rip_log.specs.Fields.{fields_of};
 ghost use Rattle.rip_log.specs.Lines.{judge, three_fields, unless_skipped};
 ghost use Rattle.rip_log.specs.Parts.{Tells};
+ghost use Rattle.rip_log.specs.Spans.{IsWithin, slice_of};
 
 use crate::digits::decode;
 use crate::fields::{Fields, split};
-use rip_wire::{Address, WireError, is_name, read};
+use crate::limits::MOST_LINE_BYTES;
+use crate::span::Span;
+use rip_wire::{Address, MOST_BYTES, WireError, is_name, read};
 
 /// What is wrong with a line, by itself. The first that holds is told.
 #[derive(Clone, Copy)]
@@ -26,8 +29,7 @@ pub enum LineCode {
 /// the room the datagram takes.
 #[derive(Clone, Copy)]
 pub struct Parts {
-    pub from: usize,
-    pub to: usize,
+    pub link: Span,
     pub sender: Address,
     pub count: usize,
 }
@@ -46,28 +48,29 @@ fn without_return(line: &[u8]) -> &[u8]
 /// Judges three fields of a line, and writes the datagram to the room.
 fn judge_fields(
     line: &[u8],
-    link: (usize, usize),
-    sender: (usize, usize),
-    digits: (usize, usize),
-    room: &mut [u8; 504],
+    link: Span,
+    sender: Span,
+    digits: Span,
+    room: &mut [u8; MOST_BYTES],
 ) -> Result<Option<Parts>, LineCode>
-    requires link { Lies line.now link.0 link.1 }
-    requires sender { Lies line.now sender.0 sender.1 }
-    requires digits { Lies line.now digits.0 digits.1 }
-    ensures { Tells (three_fields (slice_range line.now link.0 link.1) (slice_range line.now sender.0 sender.1) (slice_range line.now digits.0 digits.1)) line.now room.new result }
+    requires link { IsWithin (length line.now) link }
+    requires sender { IsWithin (length line.now) sender }
+    requires digits { IsWithin (length line.now) digits }
+    ensures { Tells (three_fields
+        (slice_of line.now link) (slice_of line.now sender) (slice_of line.now digits))
+        line.now room.new result }
 {
-    if !is_name(&line[link.0..link.1]) {
+    if !is_name(&line[link.from..link.to]) {
         return Err(LineCode::LinkName);
     }
-    let Some(address) = Address::parse_bytes(&line[sender.0..sender.1]) else {
+    let Some(address) = Address::parse_bytes(&line[sender.from..sender.to]) else {
         return Err(LineCode::Sender);
     };
-    let count = decode(&line[digits.0..digits.1], room)?;
+    let count = decode(&line[digits.from..digits.to], room)?;
     match read(&room[..count]) {
         Err(error) => Err(LineCode::Wire(error)),
         Ok(_) => Ok(Some(Parts {
-            from: link.0,
-            to: link.1,
+            link,
             sender: address,
             count,
         })),
@@ -75,7 +78,7 @@ fn judge_fields(
 }
 
 /// Judges a line without its carriage return, and writes its datagram to the room.
-fn judge_bare(bare: &[u8], room: &mut [u8; 504]) -> Result<Option<Parts>, LineCode>
+fn judge_bare(bare: &[u8], room: &mut [u8; MOST_BYTES]) -> Result<Option<Parts>, LineCode>
     ensures { Tells (unless_skipped (fields_of bare.now)) bare.now room.new result }
 {
     match split(bare) {
@@ -86,8 +89,8 @@ fn judge_bare(bare: &[u8], room: &mut [u8; 504]) -> Result<Option<Parts>, LineCo
 }
 
 /// Judges a line of at most 2,048 bytes, and writes its datagram to the room.
-pub fn judge_line(line: &[u8], room: &mut [u8; 504]) -> Result<Option<Parts>, LineCode>
-    requires { length line.now ≤ 2048 }
+pub fn judge_line(line: &[u8], room: &mut [u8; MOST_BYTES]) -> Result<Option<Parts>, LineCode>
+    requires { length line.now ≤ MOST_LINE_BYTES }
     ensures { Tells (judge line.now) line.now room.new result }
 {
     judge_bare(without_return(line), room)

@@ -4,17 +4,17 @@ ghost use Rattle.std.specs.Prelude.{◌≡◌, ◌≢◌, ◌+◌, ◌≤◌, �
 ghost use Rattle.std.specs.Borrow.{sem};
 ghost use Rattle.std.specs.Io.BufRead.{Rests};
 ghost use Rattle.rip_wire.specs.Name.{is_name};
+ghost use Rattle.rip_log.specs.declared.limits.TheConstants.{MOST_LINES};
 
 use crate::device::Failed;
 use crate::error::{LogCode, LogError};
+use crate::limits::MOST_LINES;
 use crate::line::{Parts, judge_line};
 use crate::source::Source;
+use crate::span::Span;
 use crate::window::{RawLine, Window};
-use rip_wire::{Address, Datagram, laws};
+use rip_wire::{Address, Datagram, MOST_BYTES, laws};
 use std::alloc::Global;
-
-/// The most lines of a log.
-const MOST_LINES: u32 = 1_000_000;
 
 /// A captured datagram: a line of the log that is neither blank nor a comment.
 #[derive(Debug, Drop)]
@@ -42,9 +42,8 @@ impl Record<'_> {
 
 /// Where the parts of a record lie: its line in the window's buffer, and the parts in that.
 #[derive(Clone, Copy)]
-struct Place {
-    from: usize,
-    to: usize,
+struct FoundRecord {
+    line: Span,
     parts: Parts,
 }
 
@@ -52,7 +51,7 @@ struct Place {
 #[derive(Clone, Copy)]
 enum Step {
     Skipped,
-    Found(Place),
+    Found(FoundRecord),
     End,
 }
 
@@ -61,20 +60,20 @@ enum Step {
 struct Progress {
     lines: u32,
     is_stopped: bool,
-    ghost few: { lines ≤ 1000000 },
+    ghost few: { lines ≤ MOST_LINES },
 }
 
 /// The lines of a source, with room for one datagram.
 #[derive(Drop)]
 struct Reading<R> {
     window: Window<R>,
-    room: [u8; 504],
+    room: [u8; MOST_BYTES],
     progress: Progress,
 }
 
 impl<R: Source> Reading<R> {
     ghost use Rattle.rip_log.specs.Leaves.{IsOver, Leaves, Moves, capture_of, has_stopped, lines_behind};
-    ghost use Rattle.rip_log.specs.Places.{IsGood, LineSays, capture_at};
+    ghost use Rattle.rip_log.specs.Steps.{IsGood, LineSays, capture_at};
     ghost use Rattle.rip_log.specs.Held.{held};
 
     /// The error at the line that is being read. From now on there are no more records.
@@ -96,18 +95,18 @@ impl<R: Source> Reading<R> {
     #[tactic(auto, using(crate::proofs::PassLemmas::passes_line))]
     fn read_line(&mut self) -> Result<Step, LogError>
         requires running { has_stopped self.old ≡ false }
-        requires few { lines_behind self.old < 1000000 }
+        requires few { lines_behind self.old < MOST_LINES }
         requires held { 0 < length (held self.old.window) }
         ensures says { LineSays R.coming R.at_end self.old self.new result }
         ensures moves { Moves R.coming R.broken R.at_end self.old self.new result }
         ensures some { result ≢ Ok Step.End }
     {
-        let (from, to) = match self.window.take_line() {
+        let line = match self.window.take_line() {
             Err(Failed) => return Err(self.stop(LogCode::Read)),
             Ok(RawLine::Long) => return Err(self.stop(LogCode::LongLine)),
-            Ok(RawLine::Line { from, to }) => (from, to),
+            Ok(RawLine::Line(line)) => line,
         };
-        match judge_line(self.window.range(from, to), &mut self.room) {
+        match judge_line(self.window.range(line), &mut self.room) {
             Err(code) => Err(self.stop(LogCode::from(code))),
             Ok(None) => {
                 self.progress.lines += 1;
@@ -115,7 +114,7 @@ impl<R: Source> Reading<R> {
             }
             Ok(Some(parts)) => {
                 self.progress.lines += 1;
-                Ok(Step::Found(Place { from, to, parts }))
+                Ok(Step::Found(FoundRecord { line, parts }))
             }
         }
     }
@@ -141,8 +140,9 @@ impl<R: Source> Reading<R> {
 
     /// Reads up to the next record, and says where it lies.
     #[tactic(auto, using(crate::proofs::PassLemmas::passes_trans))]
-    fn advance(&mut self) -> Result<Option<Place>, LogError>
-        ensures leaves { Leaves R.coming R.broken R.at_end (capture_at self.new) (λ _. lines_behind self.new) self.old self.new result }
+    fn advance(&mut self) -> Result<Option<FoundRecord>, LogError>
+        ensures leaves { Leaves R.coming R.broken R.at_end
+            (capture_at self.new) (λ _. lines_behind self.new) self.old self.new result }
         ensures good { IfOk result (λ found. IfSome found (IsGood self.new)) }
     {
         if self.progress.is_stopped {
@@ -151,24 +151,24 @@ impl<R: Source> Reading<R> {
         'lines: loop {
             match self.step()? {
                 Step::Skipped => {}
-                Step::Found(place) => return Ok(Some(place)),
+                Step::Found(found) => return Ok(Some(found)),
                 Step::End => return Ok(None),
             }
         }
     }
 
-    /// The record at a place that was found.
-    fn record(&self, place: Place) -> Record<'_>
-        requires { IsGood self.now place }
-        ensures capture { capture_of result ≡ capture_at self.now place }
+    /// A record that was found, borrowed.
+    fn record(&self, found: FoundRecord) -> Record<'_>
+        requires { IsGood self.now found }
+        ensures capture { capture_of result ≡ capture_at self.now found }
         ensures line { result.line ≡ lines_behind self.now }
     {
-        let line = self.window.range(place.from, place.to);
+        let line = self.window.range(found.line);
         Record {
             line: self.progress.lines,
-            link: name_text(&line[place.parts.from..place.parts.to]),
-            datagram: Datagram::of_bytes(&self.room[..place.parts.count]),
-            sender: place.parts.sender.get(),
+            link: name_text(&line[found.parts.link.from..found.parts.link.to]),
+            datagram: Datagram::of_bytes(&self.room[..found.parts.count]),
+            sender: found.parts.sender.get(),
         }
     }
 }
@@ -203,15 +203,18 @@ impl<R: Source> LogReader<R> {
     pub fn new(alloc: Global, source: R) -> Result<LogReader<R>, (LogError, R)>
         ensures source { IfOk result (λ r. source_of (reading_of r) ≡ source) }
         ensures text { IfOk result (λ r. text R.coming (reading_of r) ≡ R.coming source) }
-        ensures to_come { IfOk result (λ r. log_to_come R.coming (reading_of r) ≡ log_in (R.coming source)) }
-        ensures front { IfOk result (λ r. (lines_behind (reading_of r) ≡ 0) × (has_stopped (reading_of r) ≡ false)) }
-        ensures refused { IfErr result (λ e. (e.1 ≡ source) × (e.0 ≡ record { code = LogCode.Memory; line = 0 })) }
+        ensures to_come { IfOk result
+            (λ r. log_to_come R.coming (reading_of r) ≡ log_in (R.coming source)) }
+        ensures front { IfOk result
+            (λ r. (lines_behind (reading_of r) ≡ 0) × (has_stopped (reading_of r) ≡ false)) }
+        ensures refused { IfErr result
+            (λ e. (e.1 ≡ source) × (e.0 ≡ record { code = LogCode.Memory; line = 0 })) }
     {
         match Window::new(alloc, source) {
             Ok(window) => Ok(LogReader {
                 reading: Reading {
                     window,
-                    room: [0; 504],
+                    room: [0; MOST_BYTES],
                     progress: Progress {
                         lines: 0,
                         is_stopped: false,
@@ -232,12 +235,14 @@ impl<R: Source> LogReader<R> {
     /// no memory. An error is the fault of the first bad line, or Read where the source failed while a
     /// line was read; after an error each call answers Ended at the same line.
     pub fn next(&mut self) -> Result<Option<Record<'_>>, LogError>
-        ensures* leaves { sem 𝓛 (Rests (the_row R.row) self.entry (λ new. Leaves R.coming R.broken R.at_end capture_of line_of (reading_of self.old) (reading_of new) result)) }
+        ensures* leaves { sem 𝓛 (Rests (the_row R.row) self.entry
+            (λ new. Leaves R.coming R.broken R.at_end capture_of line_of
+            (reading_of self.old) (reading_of new) result)) }
     {
         match self.reading.advance() {
             Err(error) => Err(error),
             Ok(None) => Ok(None),
-            Ok(Some(place)) => Ok(Some(self.reading.record(place))),
+            Ok(Some(found)) => Ok(Some(self.reading.record(found))),
         }
     }
 

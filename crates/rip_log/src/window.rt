@@ -1,18 +1,18 @@
 //! The bytes between a source and its lines.
 
-ghost use Rattle.std.specs.Prelude.{◌≡◌, ◌+◌, ◌<◌, ◌≤◌, ◌↔◌, [], true, false, Ok, length, take, drop, is_err, vec_len, IfOk, IfErr, OnOk, OnErr, MatchOption, slice_range};
+ghost use Rattle.std.specs.Prelude.{◌≡◌, ◌+◌, ◌<◌, ◌≤◌, ◌↔◌, [], true, false, Ok, length, take, drop, is_err, vec_len, IfOk, IfErr, OnOk, OnErr, MatchOption};
 ghost use Rattle.std.specs.Io.KnownBytes.{Keeps, Consumes};
+ghost use Rattle.rip_log.specs.declared.window.TheConstants.{BUFFER_LEN};
 
 use crate::device::Failed;
+use crate::limits::MOST_LINE_BYTES;
 use crate::source::Source;
+use crate::span::Span;
 use memchr::memchr;
 use std::alloc::{AllocError, Global};
 
-/// The most bytes of a line.
-const MOST_LINE_BYTES: usize = 2048;
-
 /// The bytes of the buffer.
-const ROOM: usize = 65_536;
+const BUFFER_LEN: usize = 65_536;
 
 /// Where the first line of what is held ends: at a line feed, with the text, or too late.
 #[derive(Clone, Copy)]
@@ -25,7 +25,7 @@ pub enum LineEnd {
 /// The first line, where it lies in the buffer, or that it is too long.
 #[derive(Clone, Copy)]
 pub enum RawLine {
-    Line { from: usize, to: usize },
+    Line(Span),
     Long,
 }
 
@@ -37,40 +37,38 @@ pub struct Window<R> {
     start: usize,
     end: usize,
     ghost ordered: { start ≤ end },
-    ghost within: { end ≤ 65536 },
-    ghost room: { vec_len buffer ≡ 65536 },
+    ghost within: { end ≤ BUFFER_LEN },
+    ghost room: { vec_len buffer ≡ BUFFER_LEN },
 }
 
-/// Pulls once into what lies behind the first `held` bytes.
-fn pull_behind<R: Source>(
-    source: &mut R,
-    buffer: &mut Vec<u8>,
-    held: usize,
-) -> Result<usize, Failed>
-    requires { held < vec_len buffer.old }
-    ensures len { vec_len buffer.new ≡ vec_len buffer.old }
-    ensures front { take held buffer.new.items ≡ take held buffer.old.items }
-    ensures bound { IfOk result (λ n. held + n ≤ vec_len buffer.new) }
-    ensures ok { IfOk result (λ n. Consumes (R.coming source.old) (R.coming source.new) (take n (drop held buffer.new.items))) }
+/// Pulls once into what lies behind the first `len` bytes.
+fn pull_behind<R: Source>(source: &mut R, buffer: &mut Vec<u8>, len: usize) -> Result<usize, Failed>
+    requires { len < vec_len buffer.old }
+    ensures size { vec_len buffer.new ≡ vec_len buffer.old }
+    ensures front { take len buffer.new.items ≡ take len buffer.old.items }
+    ensures bound { IfOk result (λ n. len + n ≤ vec_len buffer.new) }
+    ensures ok { IfOk result (λ n. Consumes (R.coming source.old) (R.coming source.new)
+        (take n (drop len buffer.new.items))) }
     ensures err { OnErr result (Keeps (R.coming source.old) (R.coming source.new)) }
     ensures failed { is_err result ≡ R.broken source.new }
     ensures fails_on { R.broken source.old ≡ true → R.broken source.new ≡ true }
     ensures ended { R.at_end source.new ≡ true ↔ result ≡ Ok 0 }
 {
-    source.pull(&mut buffer.as_mut_slice()[held..])
+    source.pull(&mut buffer.as_mut_slice()[len..])
 }
 
 impl<R: Source> Window<R> {
     ghost use Rattle.rip_log.specs.Held.{held, text};
     ghost use Rattle.rip_log.specs.Ends.{NoFeedBelow, FirstFeed, Ends};
     ghost use Rattle.rip_log.specs.Cuts.{Cuts, HasLine, LiesWithin};
+    ghost use Rattle.rip_log.specs.Spans.{IsWithin, slice_of};
 
     /// A window that holds nothing yet.
     pub fn new(alloc: Global, source: R) -> Result<Window<R>, (AllocError, R)>
         ensures ok { IfOk result (λ w. (w.source ≡ source) × (held w ≡ [])) }
         ensures err { IfErr result (λ e. e.1 ≡ source) }
     {
-        match vec![in alloc; 0u8; ROOM] {
+        match vec![in alloc; 0u8; BUFFER_LEN] {
             Ok(buffer) => Ok(Window {
                 source,
                 buffer,
@@ -95,16 +93,16 @@ impl<R: Source> Window<R> {
         ensures source { self.new.source ≡ self.old.source }
     {
         if self.start > 0 {
-            let held = self.end - self.start;
+            let len = self.end - self.start;
             self.buffer.copy_within(self.start..self.end, 0);
             self.start = 0;
-            self.end = held;
+            self.end = len;
         }
     }
 
     /// Pulls once behind what is held, and answers how many bytes came.
     fn refill(&mut self) -> Result<usize, Failed>
-        requires { length (held self.old) ≤ 2048 }
+        requires { length (held self.old) ≤ MOST_LINE_BYTES }
         ensures text { Keeps (text R.coming self.old) (text R.coming self.new) }
         ensures held { take (length (held self.old)) (held self.new) ≡ held self.old }
         ensures more { IfOk result (λ n. length (held self.new) ≡ length (held self.old) + n) }
@@ -114,9 +112,9 @@ impl<R: Source> Window<R> {
         ensures ended { R.at_end self.new.source ≡ true ↔ result ≡ Ok 0 }
     {
         self.compact();
-        let held = self.end;
-        let count = pull_behind(&mut self.source, &mut self.buffer, held)?;
-        self.end = held + count;
+        let len = self.end;
+        let count = pull_behind(&mut self.source, &mut self.buffer, len)?;
+        self.end = len + count;
         Ok(count)
     }
 
@@ -131,8 +129,10 @@ impl<R: Source> Window<R> {
     pub fn has_line(&mut self) -> Result<bool, Failed>
         ensures text { Keeps (text R.coming self.old) (text R.coming self.new) }
         ensures some { IfOk result (HasLine (text R.coming self.new)) }
-        ensures at_end { result ≡ Ok false → (held self.new ≡ []) × (R.at_end self.new.source ≡ true) }
-        ensures stays { held self.old ≡ [] → R.at_end self.old.source ≡ true → (result ≡ Ok false) × (held self.new ≡ []) × (R.at_end self.new.source ≡ true) }
+        ensures at_end { result ≡ Ok false →
+            (held self.new ≡ []) × (R.at_end self.new.source ≡ true) }
+        ensures stays { held self.old ≡ [] → R.at_end self.old.source ≡ true →
+            (result ≡ Ok false) × (held self.new ≡ []) × (R.at_end self.new.source ≡ true) }
         ensures held { result ≡ Ok true → 0 < length (held self.new) }
         ensures ok { OnOk result (R.broken self.new.source ≡ R.broken self.old.source) }
         ensures err { OnErr result (R.broken self.new.source ≡ true) }
@@ -152,7 +152,8 @@ impl<R: Source> Window<R> {
     fn feed_from(&self, seen: usize) -> Option<usize>
         requires within { seen ≤ length (held self.now) }
         requires before { NoFeedBelow (held self.now) seen }
-        ensures { MatchOption result (NoFeedBelow (held self.now) (length (held self.now))) (FirstFeed (held self.now)) }
+        ensures { MatchOption result
+            (NoFeedBelow (held self.now) (length (held self.now))) (FirstFeed (held self.now)) }
     {
         let held = self.held();
         match memchr(b'\n', &held[seen..]) {
@@ -192,7 +193,8 @@ impl<R: Source> Window<R> {
     /// Takes the first line off the text, where bytes of it are held.
     pub fn take_line(&mut self) -> Result<RawLine, Failed>
         requires { 0 < length (held self.old) }
-        ensures cut { IfOk result (Cuts (text R.coming self.old) (text R.coming self.new) self.new.buffer.items) }
+        ensures cut { IfOk result
+            (Cuts (text R.coming self.old) (text R.coming self.new) self.new.buffer.items) }
         ensures kept { OnErr result (Keeps (text R.coming self.old) (text R.coming self.new)) }
         ensures within { IfOk result (LiesWithin (vec_len self.new.buffer)) }
         ensures ok { OnOk result (R.broken self.new.source ≡ R.broken self.old.source) }
@@ -204,23 +206,22 @@ impl<R: Source> Window<R> {
                 let from = self.start;
                 let to = from + at;
                 self.start = to + 1;
-                Ok(RawLine::Line { from, to })
+                Ok(RawLine::Line(Span { from, to }))
             }
             LineEnd::Last => {
                 let (from, to) = (self.start, self.end);
                 self.start = to;
-                Ok(RawLine::Line { from, to })
+                Ok(RawLine::Line(Span { from, to }))
             }
             LineEnd::Long => Ok(RawLine::Long),
         }
     }
 
     /// A part of the buffer.
-    pub fn range(&self, from: usize, to: usize) -> &[u8]
-        requires ordered { from ≤ to }
-        requires within { to ≤ vec_len self.now.buffer }
-        ensures { result.now ≡ slice_range self.now.buffer.items from to }
+    pub fn range(&self, span: Span) -> &[u8]
+        requires { IsWithin (vec_len self.now.buffer) span }
+        ensures { result.now ≡ slice_of self.now.buffer.items span }
     {
-        &self.buffer.as_slice()[from..to]
+        &self.buffer.as_slice()[span.from..span.to]
     }
 }

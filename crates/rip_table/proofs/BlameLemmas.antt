@@ -3,7 +3,7 @@ use Rattle.std.proofs.Common.{◌≡◌, ◌+◌, ℕ, Bool, true, false, Option
 use Rattle.rip_wire.specs.Message.{Message, request, response}
 use Rattle.rip_plan.specs.Network.{Network}
 use Rattle.rip_log.specs.Lines.{Capture}
-use Rattle.rip_log.specs.Logs.{Whether}
+use Rattle.rip_log.specs.Logs.{IfElse}
 use Rattle.rip_log.specs.declared.error.LogError.{LogError}
 use Rattle.rip_log.specs.declared.error.LogCode.TheVariants as codes
 use Rattle.rip_table.specs.State.{State}
@@ -46,7 +46,7 @@ at_last behind line (OfLog error) h is = cc h
 at_last behind line (Table error) h is = is
 at_last behind line UnknownSender h is = is
 
-pub tell : {W J S O : Type 0} (P : Type 0) (b r : Bool) → Whether b W J → (W → S) → (J → O) → r ≡ false → Whether b S (Whether r P O)
+pub tell : {W J S O : Type 0} (P : Type 0) (b r : Bool) → IfElse b W J → (W → S) → (J → O) → r ≡ false → IfElse b S (IfElse r P O)
 tell P true r w f g k = f w
 tell P false false w f g k = g w
 tell P false true w f g k = cc k

@@ -3,7 +3,7 @@ use Rattle.std.proofs.Common.{◌≡◌, ℕ, Bool, true, false, List, [], ◌�
 use Rattle.rip_plan.specs.Network.{Network}
 use Rattle.rip_log.specs.Lines.{Capture}
 use Rattle.rip_log.specs.Codes.{is_read}
-use Rattle.rip_log.specs.Logs.{Numbered, Log, onto_log, Gives, Whether}
+use Rattle.rip_log.specs.Logs.{Numbered, Log, onto_log, Gives, IfElse}
 use Rattle.rip_log.specs.declared.error.LogError.{LogError}
 use Rattle.rip_table.specs.State.{State}
 use Rattle.rip_table.specs.Joined.{joined_capture, joined_records, and_then, outcome, outcome_of, with_record, Outcome, WantsFor}
@@ -70,17 +70,17 @@ module _ {X : Type 0} (view : X → Capture) (number : X → ℕ) where
   OutcomeKnown-none n old (Some log) mid None left p gives = absurd p
   OutcomeKnown-none n old (Some log) mid (Some m) left p gives = outcome-passed n old log mid _ p ∙ ap (outcome n mid) gives.0
 
-  whether : {P Q P' Q' : Type 0} (b : Bool) → (P → P') → (Q → Q') → Whether b P Q → Whether b P' Q'
+  whether : {P Q P' Q' : Type 0} (b : Bool) → (P → P') → (Q → Q') → IfElse b P Q → IfElse b P' Q'
   whether true f g p = f p
   whether false f g q = g q
 
-  trivial : {P Q : Type 0} (b : Bool) → P → Q → Whether b P Q
+  trivial : {P Q : Type 0} (b : Bool) → P → Q → IfElse b P Q
   trivial true p q = p
   trivial false p q = q
 
   pub told_bad : (n : Network) (old : State) (log : Option Log) (mid : State) (here left : Option Log) (e : LogError)
       → PassedKnown n old log mid here → Gives view number here left (Err e)
-      → Whether (is_read e.code) (PassedKnown n old log mid left) (OutcomeKnown n old log mid (Some (record { line = e.line; cause = OfLog e })))
+      → IfElse (is_read e.code) (PassedKnown n old log mid left) (OutcomeKnown n old log mid (Some (record { line = e.line; cause = OfLog e })))
   told_bad n old None mid here left e p gives = trivial (is_read e.code) tt tt
   told_bad n old (Some log) mid None left e p gives = absurd p
   told_bad n old (Some log) mid (Some m) left e p gives =

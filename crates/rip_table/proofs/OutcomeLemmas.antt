@@ -2,14 +2,14 @@
 use Rattle.std.proofs.Common.{◌≡◌, ◌↔◌, Bool, true, false, Option, Some, None, Result, Ok, Err, subst}
 use Rattle.rip_plan.specs.Network.{Network}
 use Rattle.rip_plan.specs.Relations.{IsLawful}
-use Rattle.rip_log.specs.Logs.{Log, Whether}
+use Rattle.rip_log.specs.Logs.{Log, IfElse}
 use Rattle.rip_table.specs.State.{Fits, IsState, State}
 use Rattle.rip_table.specs.Joined.{is_memory, outcome}
 use Rattle.rip_table.specs.LogJoin.{IsOutcome}
 use Rattle.rip_table.specs.Collects.{SaidOutcome, OutcomeKnown, ToldOutcome, is_read_cause}
 use Rattle.rip_table.specs.declared.error.CollectError.{CollectError}
 
-in_neither : (P Q R : Type 0) (a b : Bool) → a ≡ false → b ≡ false → Whether a P (Whether b Q R) → R
+in_neither : (P Q R : Type 0) (a b : Bool) → a ≡ false → b ≡ false → IfElse a P (IfElse b Q R) → R
 in_neither P Q R false false h k w = w
 in_neither P Q R false true h k w = cc k
 in_neither P Q R true b h k w = cc h

@@ -1,7 +1,7 @@
 -- What a record does where its interface takes its message.
 use Rattle.std.proofs.Common.{◌≡◌, ℕ, Option, Some, Ok, Err, refl, ap, ◌∙◌}
 use Rattle.rip_wire.specs.Message.{Message, request, response}
-use Rattle.rip_log.specs.Logs.{Whether}
+use Rattle.rip_log.specs.Logs.{IfElse}
 use Rattle.rip_table.specs.State.{State}
 use Rattle.rip_table.specs.Joined.{as_cause, is_memory, joined_from, joined_message, Takes, WantsAt}
 use Rattle.rip_table.specs.declared.error.TableError.{TableError}
@@ -19,7 +19,7 @@ pub taken_well : (sender i : ℕ) (old new : State) (m : Message) (o : Option �
 taken_well sender i old new m o is h = from_option sender i old m o is ∙ ap as_cause h
 
 pub taken_ill : (sender i : ℕ) (old new : State) (m : Message) (o : Option ℕ) (e : TableError) → o ≡ Some i → Takes sender i old m new (Err e)
-    → (new ≡ old) × Whether (is_memory (Table e)) (WantsAt sender old m o) (joined_from sender old m o ≡ Err (Table e))
+    → (new ≡ old) × IfElse (is_memory (Table e)) (WantsAt sender old m o) (joined_from sender old m o ≡ Err (Table e))
 taken_ill sender i old new m o Memory is h = (h.0, rw is h.1)
 taken_ill sender i old new m o (Changed p x y) is h = (h.0, from_option sender i old m o is ∙ ap as_cause h.1)
 taken_ill sender i old new m o (NextHop p) is h = (h.0, from_option sender i old m o is ∙ ap as_cause h.1)

@@ -4,7 +4,7 @@ use Rattle.rip_plan.specs.Network.{Network}
 use Rattle.rip_log.specs.Codes.{is_read}
 use Rattle.rip_log.specs.Leaves.{has_stopped, lines_behind, log_to_come, source_of}
 use Rattle.rip_log.specs.Lines.{Capture}
-use Rattle.rip_log.specs.Logs.{Log, Numbered, Whether}
+use Rattle.rip_log.specs.Logs.{Log, Numbered, IfElse}
 use Rattle.rip_log.specs.declared.error.LogCode.TheVariants as codes
 use Rattle.rip_log.specs.declared.reader.Reading.{Reading}
 use Rattle.rip_table.specs.State.{Fits, State}
@@ -70,8 +70,8 @@ IsAtLine behind line other = line ≡ behind
 abbrev pub ToldOutcome : Network → State → Option Log → State → Option Log → Result (Unit {0}) CollectError → Type 0
 ToldOutcome n old log new left (Ok u) = OutcomeKnown n old log new None
 ToldOutcome n old log new left (Err e) =
-    Whether (is_memory e.cause) (StuckKnown n old log new left e.line)
-    (Whether (is_read_cause e.cause) (PassedKnown n old log new left) (OutcomeKnown n old log new (Some e)))
+    IfElse (is_memory e.cause) (StuckKnown n old log new left e.line)
+    (IfElse (is_read_cause e.cause) (PassedKnown n old log new left) (OutcomeKnown n old log new (Some e)))
 
 -- the same in the words of the subject, of a log that is told
 abbrev pub SaidOutcome : Network → State → Log → State → Result (Unit {0}) CollectError → Type 0

@@ -8,7 +8,7 @@ use Rattle.rip_wire.specs.declared.entry.Entry.{Entry}
 use Rattle.rip_plan.specs.Network.{Network, found_at}
 use Rattle.rip_plan.specs.Passes.{same_prefix}
 use Rattle.rip_log.specs.Lines.{Capture}
-use Rattle.rip_log.specs.Logs.{Log, Numbered, Whether}
+use Rattle.rip_log.specs.Logs.{Log, Numbered, IfElse}
 use Rattle.rip_log.specs.declared.error.LogError.{LogError}
 use Rattle.rip_table.specs.State.{State, is_among}
 use Rattle.rip_table.specs.declared.error.TableError.{TableError}
@@ -123,7 +123,7 @@ is_memory other = false
 -- what joining a record answers and leaves
 abbrev pub Joins : Network → State → Capture → State → Result (Unit {0}) CollectCause → Type 0
 Joins n old c new (Ok u) = joined_capture n old c ≡ Ok new
-Joins n old c new (Err cause) = (new ≡ old) × Whether (is_memory cause) (WantsFor n old c) (joined_capture n old c ≡ Err cause)
+Joins n old c new (Err cause) = (new ≡ old) × IfElse (is_memory cause) (WantsFor n old c) (joined_capture n old c ≡ Err cause)
 
 -- ---- a log
 

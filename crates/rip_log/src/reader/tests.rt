@@ -27,8 +27,9 @@ const SETTLED: [(&str, &str, [(u8, u32); 2]); 6] = [
 ];
 
 /// Its first line, byte by byte.
-const FIRST_LINE: &str =
-    "a 10.1.0.1 02020000000200000a030000ffff00000000000000000001000200000a020000ffff00000000000000000010\n";
+const FIRST_LINE: &str = "a 10.1.0.1 02020000\
+    000200000a030000ffff00000000000000000001\
+    000200000a020000ffff00000000000000000010\n";
 
 /// How many bytes come in one pull.
 const PIECES: [usize; 8] = [1, 2, 3, 7, 99, 100, 101, 2049];

@@ -5,12 +5,12 @@ use Rattle.rip_log.proofs.fields.split.Goals as goal
 pub returns-then-line-first-eq35 : goal.returns-then-line-first-eq35
 returns-then-line-first-eq35 c =
     let one = c.in-Some.ensures in
-    is_comment-yes c.args.line.now _ c.in-Some.first.0 c.in-Some.first.1 one.split one.some one.within c.if-line-first-eq35.true
+    is_comment-yes c.args.line.now _ c.in-Some.first.from c.in-Some.first.to one.split one.some one.within c.if-line-first-eq35.true
 
 pub returns-in_default-next_field : goal.returns-in_default-next_field
 returns-in_default-next_field c =
     let one = c.in-Some.ensures in
-    let all = one.split ∙ ap (λ (l : List (List ℕ)). slice_range c.args.line.now c.in-Some.first.0 c.in-Some.first.1 ∷ l) c.in_default-next_field.ensures in
+    let all = one.split ∙ ap (λ (l : List (List ℕ)). slice_range c.args.line.now c.in-Some.first.from c.in-Some.first.to ∷ l) c.in_default-next_field.ensures in
     (is_comment-no c.args.line.now _ _ _ one.split one.some one.within c.if-line-first-eq35.false, λ h. omega (arith, ap length all), λ h. omega (arith, ap length all))
 
 pub returns-in_default-next_field-2 : goal.returns-in_default-next_field-2

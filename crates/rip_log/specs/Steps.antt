@@ -1,0 +1,47 @@
+-- What one line does to a reader, and the record that is found in it.
+use Rattle.std.specs.Prelude.{◌≡◌, ◌+◌, ℕ, Bool, true, List, Option, Some, None, Result, Ok, Err, vec_len}
+use Rattle.rip_log.specs.Leaves.{source_of, log_to_come, lines_behind}
+use Rattle.rip_log.specs.Lines.{Capture}
+use Rattle.rip_log.specs.Logs.{Gives, SameLog}
+use Rattle.rip_log.specs.Parts.{AreParts, capture_of_parts}
+use Rattle.rip_log.specs.Spans.{IsWithin, slice_of}
+use Rattle.rip_log.specs.declared.error.LogError.{LogError}
+use Rattle.rip_log.specs.declared.reader.FoundRecord.{FoundRecord}
+use Rattle.rip_log.specs.declared.reader.Reading.{Reading}
+use Rattle.rip_log.specs.declared.reader.Step.{Step}
+use Rattle.rip_log.specs.declared.reader.Step.TheVariants.{Skipped, Found, End}
+
+-- the line of the record
+abbrev pub line_at : {R : Type 0} → Reading R → FoundRecord → List ℕ
+line_at reader found = slice_of reader.window.buffer.items found.line
+
+-- the capture of the record
+abbrev pub capture_at : {R : Type 0} → Reading R → FoundRecord → Capture
+capture_at reader found = capture_of_parts (line_at reader found) reader.room found.parts
+
+-- the record lies in the reader
+pub record IsGood {R : Type 0} (reader : Reading R) (found : FoundRecord) : Type 0 where
+  pub line : IsWithin (vec_len reader.window.buffer) found.line
+  pub parts : AreParts (line_at reader found) reader.room found.parts
+
+-- what a line takes off the log to come
+abbrev pub GivesFound : {R : Type 0} → (R → Option (List ℕ)) → Reading R → Reading R →
+    Result (Option FoundRecord) LogError → Type 0
+GivesFound coming old new result =
+    Gives (capture_at new) (λ _. lines_behind new)
+    (log_to_come coming old) (log_to_come coming new) result
+
+-- one line was taken off the log to come: it said nothing, or it is the next record, or there is
+-- none
+abbrev pub LineSays : {R : Type 0} → (R → Option (List ℕ)) → (R → Bool) → Reading R → Reading R →
+    Result Step LogError → Type 0
+LineSays coming at_end old new (Ok Skipped) =
+    SameLog (log_to_come coming old) (log_to_come coming new)
+    × (lines_behind new ≡ lines_behind old + 1)
+LineSays coming at_end old new (Ok (Found found)) =
+    GivesFound coming old new (Ok (Some found))
+    × IsGood new found
+    × (lines_behind new ≡ lines_behind old + 1)
+LineSays coming at_end old new (Ok End) =
+    GivesFound coming old new (Ok None) × (at_end (source_of new) ≡ true)
+LineSays coming at_end old new (Err e) = GivesFound coming old new (Err e)
