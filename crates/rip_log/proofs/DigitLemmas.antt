@@ -1,11 +1,11 @@
--- What is wrong with hex digits.
+-- The faults of hex digits.
 use Rattle.std.proofs.Common.{◌≡◌, ◌%◌, ◌<◌, ℕ, List, length, Result, Ok, Err, refl, ap, ◌∙◌, arith}
 use Rattle.std.specs.List.{AllPass}
 use Rattle.hex.specs.Hex.{decode_of, is_hex_digit}
 use Rattle.hex.specs.declared.error.FromHexError.{FromHexError}
 use Rattle.hex.proofs.HexLemmas.{decode_of-odd, decode_of-ok, decode_of-digits}
 use Rattle.rip_log.specs.Lines.{bytes_of, sized}
-use Rattle.rip_log.specs.declared.line.LineCode.TheVariants.{Hex, LongDatagram}
+use Rattle.rip_log.specs.declared.error.LogCode.TheVariants.{Hex, LongDatagram}
 
 pub bytes_of-odd : (s : List ℕ) → length s % 2 ≡ 1 → bytes_of s ≡ Err Hex
 bytes_of-odd s odd = ap sized (decode_of-odd s odd)

@@ -1,7 +1,7 @@
 -- A line's fault is the same whatever follows the line; where reading breaks off, whole lines were passed.
 use Rattle.std.proofs.Common.{◌≡◌, ◌≢◌, ◌⊎◌, ◌+◌, ◌≤◌, ◌<◌, ℕ, Bool, true, false, cond, List, [], ◌∷◌, ◌++◌, length, Option, Some, None, Err, refl, sym, ap, ◌∙◌, arith, subst, inl, inr, append_assoc, ◌==◌}
 use Rattle.std.proofs.lemmas.List.{append_cancel_right, length-append}
-use Rattle.rip_log.specs.Codes.{is_read, log_code}
+use Rattle.rip_log.specs.Codes.{is_read}
 use Rattle.rip_log.specs.Cuts.{PassesLines}
 use Rattle.rip_log.specs.Fields.{onto}
 use Rattle.rip_log.specs.Leaves.{capture_of, line_of}
@@ -9,8 +9,6 @@ use Rattle.rip_log.specs.Lines.{lines_of}
 use Rattle.rip_log.specs.Logs.{Numbered, Log, log_of, log_at, log_in, Gives, IfElse}
 use Rattle.rip_log.specs.LogText.{AreLines, AreRecords, IsBad, IsFault, too_many, bad, LogFault, LogCut}
 use Rattle.rip_log.specs.Runs.{IsTaken}
-use Rattle.rip_log.specs.declared.line.LineCode.{LineCode}
-use Rattle.rip_log.specs.declared.line.LineCode.TheVariants as codes
 use Rattle.rip_log.specs.declared.error.LogCode.{LogCode}
 use Rattle.rip_log.specs.declared.error.LogCode.TheVariants.{LongLine, TooManyLines}
 use Rattle.rip_log.specs.declared.error.LogError.{LogError}
@@ -108,28 +106,13 @@ longer [] more [] line after e = absurd (cc e)
 longer [] more (first ∷ before) line after e = absurd (cc e)
 longer (b ∷ text) more before line after e = longer-byte b (b == 10) text more before line after e (λ front l rest h. longer text more front l rest h)
 
-long-code : (line whole : List ℕ) (c : LineCode) → log_code c ≡ LongLine → length line ≤ length whole → IsBad line c → IsBad whole codes.LongLine
-long-code line whole codes.LongLine e long is = omega (arith, long, is)
-long-code line whole codes.Fields e long is = absurd (cc e)
-long-code line whole codes.LinkName e long is = absurd (cc e)
-long-code line whole codes.Sender e long is = absurd (cc e)
-long-code line whole codes.Hex e long is = absurd (cc e)
-long-code line whole codes.LongDatagram e long is = absurd (cc e)
-long-code line whole (codes.Wire f) e long is = absurd (cc e)
-
-not-many : (c : LineCode) → log_code c ≢ TooManyLines
-not-many codes.LongLine e = cc e
-not-many codes.Fields e = cc e
-not-many codes.LinkName e = cc e
-not-many codes.Sender e = cc e
-not-many codes.Hex e = cc e
-not-many codes.LongDatagram e = cc e
-not-many (codes.Wire f) e = cc e
-
 fault-longer : (n : ℕ) (line whole : List ℕ) (code : LogCode) → ((code ≡ LongLine) ⊎ (code ≡ TooManyLines)) → length line ≤ length whole → IsFault n line code → IsFault n whole code
 fault-longer n line whole code which long (too_many here what) = too_many here what
-fault-longer n line whole code (inl e) long (bad few c is what) = bad few codes.LongLine (long-code line whole c (sym what ∙ e) long is) e
-fault-longer n line whole code (inr e) long (bad few c is what) = absurd (not-many c (sym what ∙ e))
+fault-longer n line whole code (inl e) long (bad few is) =
+    let past = subst (IsBad line) e is in
+    let past_too : IsBad whole LongLine = omega (arith, long, past) in
+    bad few (subst (IsBad whole) (sym e) past_too)
+fault-longer n line whole code (inr e) long (bad few is) = absurd (subst (IsBad line) e is)
 
 pub LogFault-at_once : (text more : List ℕ) (records : List Numbered) (line : ℕ) (code : LogCode) → ((code ≡ LongLine) ⊎ (code ≡ TooManyLines)) → LogFault text records line code → LogFault (text ++ more) records line code
 LogFault-at_once text more records line code which is =

@@ -16,8 +16,8 @@ use Rattle.rip_log.specs.Lines.{Capture, sized, bytes_of, checked, capture_in, w
 use Rattle.rip_log.specs.LogText.{HasFields, SaysNothing, HasThree, IsSender, HasSender, HasOthers, IsBad, IsJudged}
 use Rattle.rip_log.proofs.DigitLemmas.{sized-long}
 use Rattle.rip_log.proofs.JudgeLemmas.{judge-long, judge-short}
-use Rattle.rip_log.specs.declared.line.LineCode.{LineCode}
-use Rattle.rip_log.specs.declared.line.LineCode.TheVariants as codes
+use Rattle.rip_log.specs.declared.error.LogCode.{LogCode}
+use Rattle.rip_log.specs.declared.error.LogCode.TheVariants as codes
 
 -- the laws of names, of addresses and of the faults of bytes
 pub record WireLaws : Type 0 where
@@ -150,7 +150,7 @@ module _ (laws : WireLaws) where
   IsJudged-judge : (line : List ℕ) → IsJudged line (judge line)
   IsJudged-judge line = says-line line (nat_lt 2048 (length line)) refl
 
-  pub judged-line : (line : List ℕ) (judged : Result (Option Capture) LineCode) → judge line ≡ judged → IsJudged line judged
+  pub judged-line : (line : List ℕ) (judged : Result (Option Capture) LogCode) → judge line ≡ judged → IsJudged line judged
   judged-line line judged e = subst (IsJudged line) e (IsJudged-judge line)
 
   -- from the words to the computed
@@ -182,7 +182,7 @@ module _ (laws : WireLaws) where
   judge-bytes line link digits bytes address front e few =
       judge-sender line link digits address front ∙ ap (capture_in link address) (ap sized e ∙ sized-few bytes few)
 
-  bad-line : (line : List ℕ) (code : LineCode) → IsBad line code → judge line ≡ Err code
+  bad-line : (line : List ℕ) (code : LogCode) → IsBad line code → judge line ≡ Err code
   bad-line line codes.LongLine bad = judge-long line bad
   bad-line line codes.Fields bad = judge-fields line bad.fields bad.has_fields ∙ said-fields bad.fields bad.says ∙ said-others bad.fields bad.count
   bad-line line codes.LinkName bad =
@@ -195,8 +195,12 @@ module _ (laws : WireLaws) where
   bad-line line codes.Hex bad = judge-sender line bad.0 bad.1 bad.2 bad.3 ∙ ap (capture_in bad.0 bad.2) (sized-bad (decode_of bad.1) bad.4)
   bad-line line codes.LongDatagram bad = judge-sender line bad.0 bad.1 bad.3 bad.4 ∙ ap (capture_in bad.0 bad.3) (ap sized bad.5 ∙ sized-long bad.2 bad.6)
   bad-line line (codes.Wire f) bad = judge-bytes line bad.0 bad.1 bad.2 bad.3 bad.4 bad.5 bad.6 ∙ ap (checked bad.0 bad.3 bad.2) ((laws.faults bad.2 f.code f.at).1 bad.7)
+  bad-line line codes.TooManyLines bad = absurd bad
+  bad-line line codes.Read bad = absurd bad
+  bad-line line codes.Ended bad = absurd bad
+  bad-line line codes.Memory bad = absurd bad
 
-  pub judge-IsJudged : (line : List ℕ) (r : Result (Option Capture) LineCode) → IsJudged line r → judge line ≡ r
+  pub judge-IsJudged : (line : List ℕ) (r : Result (Option Capture) LogCode) → IsJudged line r → judge line ≡ r
   judge-IsJudged line (Ok None) skipped = judge-fields line skipped.fields skipped.has_fields ∙ skipped-fields skipped.fields skipped.says_nothing
   judge-IsJudged line (Ok (Some capture)) is =
       judge-bytes line capture.link is.digits capture.datagram capture.sender is.front is.bytes is.few

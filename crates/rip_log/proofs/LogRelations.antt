@@ -7,7 +7,6 @@ use Rattle.rip_log.specs.Lines.{Capture, lines_of, judge}
 use Rattle.rip_log.specs.Logs.{Numbered, Log, log_of, log_in, with_line, faulty_log, onto_log, Gives, IfElse}
 use Rattle.rip_log.specs.LogText.{AreLines, AreRecords, IsSkipped, IsFault, too_many, bad, IsJudged, LogText, LogFault}
 use Rattle.rip_log.specs.Runs.{IsTaken, numbered}
-use Rattle.rip_log.specs.declared.line.LineCode.{LineCode}
 use Rattle.rip_log.specs.declared.error.LogCode.{LogCode}
 use Rattle.rip_log.specs.declared.error.LogCode.TheVariants.{TooManyLines}
 use Rattle.rip_log.specs.declared.error.LogError.{LogError}
@@ -58,13 +57,13 @@ outcome-later : (n : ℕ) (line : List ℕ) (lines : List (List ℕ)) (records a
 outcome-later n line lines records all None onto t = (onto lines t.0, omega (arith, t.1))
 outcome-later n line lines records all (Some e) onto t = later-fault n line lines records all e onto t
 
-outcome-line : (n : ℕ) (line : List ℕ) (lines : List (List ℕ)) (later : Log) (x : Result (Option Capture) LineCode) → n < 1000000 → IsJudged line x → IsOutcome (n + 1) lines later.records later.fault
+outcome-line : (n : ℕ) (line : List ℕ) (lines : List (List ℕ)) (later : Log) (x : Result (Option Capture) LogCode) → n < 1000000 → IsJudged line x → IsOutcome (n + 1) lines later.records later.fault
     → IsOutcome n (line ∷ lines) (with_line (n + 1) x later).records (with_line (n + 1) x later).fault
 outcome-line n line lines later (Ok None) few says t = outcome-later n line lines later.records later.records later.fault (λ before are. skip n line before later.records says are) t
 outcome-line n line lines later (Ok (Some capture)) few says t =
     outcome-later n line lines later.records (record { line = n + 1; capture = capture } ∷ later.records) later.fault (λ before are. inr (refl, says, are)) t
 outcome-line n line lines later (Err code) few says t =
-    record { before = []; bad = line; after = lines; split = refl; are_records = refl; number = omega arith; fault = bad (omega arith) code says refl }
+    record { before = []; bad = line; after = lines; split = refl; are_records = refl; number = omega arith; fault = bad (omega arith) says }
 
 lt-of : (n : ℕ) → leb 1000000 n ≡ false → n < 1000000
 lt-of n h = grind arith
@@ -77,11 +76,11 @@ some-log a b e = cc e
 
 fault-few : (n : ℕ) (line : List ℕ) (code : LogCode) → IsFault n line code → n ≤ 1000000
 fault-few n line code (too_many here what) = omega (arith, here)
-fault-few n line code (bad few c is what) = omega (arith, few)
+fault-few n line code (bad few is) = omega (arith, few)
 
 -- the law `judged_lines`
 abbrev pub Judges : Type 0
-Judges = (line : List ℕ) (judged : Result (Option Capture) LineCode) → (judge line ≡ judged) ↔ IsJudged line judged
+Judges = (line : List ℕ) (judged : Result (Option Capture) LogCode) → (judge line ≡ judged) ↔ IsJudged line judged
 
 module _ (judges : Judges) where
   -- lines whose records these are, in front of others
@@ -129,8 +128,7 @@ module _ (judges : Judges) where
 
   fault-log : (n : ℕ) (line : List ℕ) (rest : List (List ℕ)) (code : LogCode) → IsFault n line code → log_of n (line ∷ rest) ≡ faulty_log (record { line = n + 1; code = code })
   fault-log n line rest code (too_many here what) = too-many n line rest (omega (arith, here)) ∙ ap (λ (c : LogCode). faulty_log (record { line = n + 1; code = c })) (sym what)
-  fault-log n line rest code (bad few c is what) =
-      first-line n line rest (Err c) few ((judges line (Err c)).1 is) ∙ ap (λ (d : LogCode). faulty_log (record { line = n + 1; code = d })) (sym what)
+  fault-log n line rest code (bad few is) = first-line n line rest (Err code) few ((judges line (Err code)).1 is)
 
   -- a fault after lines that are good ends the log
   pub log-fault : (n : ℕ) (before : List (List ℕ)) (line : List ℕ) (after : List (List ℕ)) (records : List Numbered) (e : LogError) → AreRecords n before records → e.line ≡ n + length before + 1

@@ -1,16 +1,23 @@
 -- What taking a line does to the log to come.
-use Rattle.std.proofs.Common.{◌≡◌, ◌+◌, ◌≤◌, ◌<◌, ℕ, List, Option, Some, None, Result, Ok, Err, refl, sym, ap, ◌∙◌, subst, Bool, true, false}
+use Rattle.std.proofs.Common.{◌≡◌, ◌+◌, ◌≤◌, ◌<◌, ℕ, List, Option, Some, None, Result, Ok, Err, refl, sym, ap, ◌∙◌, subst, Bool, true, false, cond, length, [], ◌∷◌}
+use Rattle.std.specs.Prelude.{nat_lt, ⊤}
 use Rattle.std.specs.Io.KnownBytes.{Keeps}
-use Rattle.rip_log.specs.Codes.{log_code, is_read}
+use Rattle.std.specs.Io.BufRead.{strip_last}
+use Rattle.hex.specs.Hex.{decode_of}
+use Rattle.hex.specs.declared.error.FromHexError.{FromHexError}
+use Rattle.rip_wire.specs.Address.{address_in}
+use Rattle.rip_wire.specs.Message.{Message, message_in}
+use Rattle.rip_wire.specs.Name.{is_name}
+use Rattle.rip_wire.specs.declared.error.WireError.{WireError}
+use Rattle.rip_log.specs.Codes.{is_read}
 use Rattle.rip_log.specs.Cuts.{FirstLine, LongFirst, HasLine}
-use Rattle.rip_log.specs.Lines.{Capture, lines_of, judge}
+use Rattle.rip_log.specs.Fields.{fields_of, is_comment}
+use Rattle.rip_log.specs.Lines.{Capture, lines_of, judge, judge_short, unless_skipped, said_by, with_sender, capture_in, sized, checked}
 use Rattle.rip_log.specs.Logs.{Log, log_of, log_at, faulty_log, onto_log, Gives, SameLog, IfElse}
 use Rattle.rip_log.proofs.JudgeLemmas.{judge-long}
 use Rattle.rip_log.proofs.LogLemmas.{first-line, too-many}
-use Rattle.rip_log.specs.declared.line.LineCode.{LineCode}
-use Rattle.rip_log.specs.declared.line.LineCode.TheVariants as codes
 use Rattle.rip_log.specs.declared.error.LogCode.{LogCode}
-use Rattle.rip_log.specs.declared.error.LogCode.TheVariants.{TooManyLines, LongLine, Read}
+use Rattle.rip_log.specs.declared.error.LogCode.TheVariants.{TooManyLines, LongLine, LongDatagram, LinkName, Read}
 use Rattle.rip_log.specs.declared.error.LogError.{LogError}
 
 pub SameLog-here : (a : Option Log) → SameLog a a
@@ -27,22 +34,70 @@ SameLog-kept None mid n keeps = tt
 SameLog-kept (Some t) None n keeps = absurd keeps
 SameLog-kept (Some t) (Some m) n keeps = ap (λ (l : List ℕ). Some (log_of n (lines_of l))) keeps
 
-is_read-log_code : (c : LineCode) → is_read (log_code c) ≡ false
-is_read-log_code codes.LongLine = refl
-is_read-log_code codes.Fields = refl
-is_read-log_code codes.LinkName = refl
-is_read-log_code codes.Sender = refl
-is_read-log_code codes.Hex = refl
-is_read-log_code codes.LongDatagram = refl
-is_read-log_code (codes.Wire e) = refl
+-- what is computed of a line says nothing of the source
+SaysLine : Result (Option Capture) LogCode → Type 0
+SaysLine (Ok x) = ⊤
+SaysLine (Err code) = is_read code ≡ false
 
-whether-no : (P Q : Type 0) (b : Bool) → b ≡ false → Q → IfElse b P Q
-whether-no P Q true e q = cc e
-whether-no P Q false e q = q
+says-checked : (link : List ℕ) (sender : ℕ) (bytes : List ℕ) (r : Result Message WireError) → SaysLine (checked link sender bytes r)
+unfolding SaysLine
+says-checked link sender bytes (Ok m) = tt
+says-checked link sender bytes (Err e) = refl
 
-whether-yes : (P Q : Type 0) (b : Bool) → b ≡ true → P → IfElse b P Q
-whether-yes P Q true e p = p
-whether-yes P Q false e p = cc e
+says-few : (link : List ℕ) (sender : ℕ) (bytes : List ℕ) (x : Bool) → SaysLine (capture_in link sender (cond x (Err LongDatagram) (Ok bytes)))
+unfolding SaysLine
+says-few link sender bytes true = refl
+says-few link sender bytes false = says-checked link sender bytes (message_in bytes)
+
+says-digits : (link : List ℕ) (sender : ℕ) (r : Result (List ℕ) FromHexError) → SaysLine (capture_in link sender (sized r))
+unfolding SaysLine
+says-digits link sender (Ok bytes) = says-few link sender bytes (nat_lt 504 (length bytes))
+says-digits link sender (Err e) = refl
+
+says-sender : (link digits : List ℕ) (o : Option ℕ) → SaysLine (with_sender link o digits)
+unfolding SaysLine
+says-sender link digits None = refl
+says-sender link digits (Some sender) = says-digits link sender (decode_of digits)
+
+says-three : (link sender digits : List ℕ) (x : Bool) → SaysLine (cond x (with_sender link (address_in sender) digits) (Err LinkName))
+unfolding SaysLine
+says-three link sender digits true = says-sender link digits (address_in sender)
+says-three link sender digits false = refl
+
+says-fields : (fields : List (List ℕ)) → SaysLine (said_by fields)
+unfolding SaysLine
+says-fields [] = refl
+says-fields (a ∷ []) = refl
+says-fields (a ∷ b ∷ []) = refl
+says-fields (a ∷ b ∷ c ∷ []) = says-three a b c (is_name a)
+says-fields (a ∷ b ∷ c ∷ d ∷ more) = refl
+
+says-comment : (fields : List (List ℕ)) (x : Bool) → SaysLine (cond x (Ok None) (said_by fields))
+unfolding SaysLine
+says-comment fields true = tt
+says-comment fields false = says-fields fields
+
+says-bare : (fields : List (List ℕ)) → SaysLine (unless_skipped fields)
+unfolding SaysLine
+says-bare [] = tt
+says-bare (first ∷ rest) = says-comment (first ∷ rest) (is_comment (first ∷ rest))
+
+says-long : (line : List ℕ) (x : Bool) → SaysLine (cond x (Err LongLine) (judge_short line))
+unfolding SaysLine
+says-long line true = refl
+says-long line false = says-bare (fields_of (strip_last 13 line))
+
+not-read : (line : List ℕ) (code : LogCode) → judge line ≡ Err code → is_read code ≡ false
+unfolding SaysLine
+not-read line code e = subst SaysLine e (says-long line (nat_lt 2048 (length line)))
+
+else-holds : (P Q : Type 0) (b : Bool) → b ≡ false → Q → IfElse b P Q
+else-holds P Q true e q = cc e
+else-holds P Q false e q = q
+
+then-holds : (P Q : Type 0) (b : Bool) → b ≡ true → P → IfElse b P Q
+then-holds P Q true e p = p
+then-holds P Q false e p = cc e
 
 faulty-at : (e : LogError) (n : ℕ) (c : LogCode) → e.line ≡ n → e.code ≡ c → faulty_log (record { line = n; code = c }) ≡ faulty_log e
 faulty-at e n c at what = ap (λ (k : ℕ). faulty_log (record { line = k; code = c })) (sym at) ∙ ap (λ (d : LogCode). faulty_log (record { line = e.line; code = d })) (sym what)
@@ -61,9 +116,9 @@ module _ {X : Type 0} (view : X → Capture) (number : X → ℕ) where
   Gives-on (Some log) b c r same gives = subst (λ (x : Option Log). Gives view number x c r) same gives
 
   -- the source failed
-  pub Gives-unread : (a b : Option Log) (e : LogError) → e.code ≡ Read → SameLog a b → Gives view number a b (Err e)
-  Gives-unread None b e what same = tt
-  Gives-unread (Some log) b e what same = whether-yes _ _ (is_read e.code) (ap is_read what) same
+  pub Gives-unreadable : (a b : Option Log) (e : LogError) → e.code ≡ Read → SameLog a b → Gives view number a b (Err e)
+  Gives-unreadable None b e what same = tt
+  Gives-unreadable (Some log) b e what same = then-holds _ _ (is_read e.code) (ap is_read what) same
 
   -- no line is left
   pub Gives-end : (t mid : Option (List ℕ)) (n : ℕ) → Keeps t mid → HasLine mid false → Gives view number (log_at n t) (log_at n mid) (Ok None)
@@ -84,21 +139,21 @@ module _ {X : Type 0} (view : X → Capture) (number : X → ℕ) where
       (log_of after (lines_of r), refl, said ∙ moved)
 
   bad : (log : Log) (left : Option Log) (n : ℕ) (c : LogCode) (e : LogError) → log ≡ faulty_log (record { line = n; code = c }) → is_read c ≡ false → e.line ≡ n → e.code ≡ c → Gives view number (Some log) left (Err e)
-  bad log left n c e said fine at what = whether-no _ _ (is_read e.code) (ap is_read what ∙ fine) (said ∙ faulty-at e n c at what)
+  bad log left n c e said fine at what = else-holds _ _ (is_read e.code) (ap is_read what ∙ fine) (said ∙ faulty-at e n c at what)
 
   -- a line is bad
-  pub Gives-bad : (t new : Option (List ℕ)) (left : Option Log) (n : ℕ) (line : List ℕ) (code : LineCode) (e : LogError) → n < 1000000 → judge line ≡ Err code → FirstLine t new line
-      → e.line ≡ n + 1 → e.code ≡ log_code code → Gives view number (log_at n t) left (Err e)
+  pub Gives-bad : (t new : Option (List ℕ)) (left : Option Log) (n : ℕ) (line : List ℕ) (code : LogCode) (e : LogError) → n < 1000000 → judge line ≡ Err code → FirstLine t new line
+      → e.line ≡ n + 1 → e.code ≡ code → Gives view number (log_at n t) left (Err e)
   Gives-bad None new left n line code e few j cut at what = tt
   Gives-bad (Some t) None left n line code e few j cut at what = absurd cut
   Gives-bad (Some t) (Some r) left n line code e few j cut at what =
-      bad (log_of n (lines_of t)) left (n + 1) (log_code code) e (ap (log_of n) cut ∙ first-line n line (lines_of r) (Err code) few j) (is_read-log_code code) at what
+      bad (log_of n (lines_of t)) left (n + 1) code e (ap (log_of n) cut ∙ first-line n line (lines_of r) (Err code) few j) (not-read line code j) at what
 
   -- a line is too long
   pub Gives-long : (t : Option (List ℕ)) (left : Option Log) (n : ℕ) (e : LogError) → n < 1000000 → LongFirst t → e.line ≡ n + 1 → e.code ≡ LongLine → Gives view number (log_at n t) left (Err e)
   Gives-long None left n e few long at what = tt
   Gives-long (Some t) left n e few long at what =
-      bad (log_of n (lines_of t)) left (n + 1) LongLine e (ap (log_of n) long.3 ∙ first-line n long.0 long.1 (Err codes.LongLine) few (judge-long long.0 long.2)) refl at what
+      bad (log_of n (lines_of t)) left (n + 1) LongLine e (ap (log_of n) long.3 ∙ first-line n long.0 long.1 (Err LongLine) few (judge-long long.0 long.2)) refl at what
 
   -- there is a line too many
   pub Gives-many : (t mid : Option (List ℕ)) (left : Option Log) (n : ℕ) (e : LogError) → 1000000 ≤ n → Keeps t mid → HasLine mid true → e.line ≡ n + 1 → e.code ≡ TooManyLines → Gives view number (log_at n t) left (Err e)

@@ -6,13 +6,10 @@ use Rattle.rip_wire.specs.Address.{address_text}
 use Rattle.rip_wire.specs.Faults.{WireFault}
 use Rattle.rip_wire.specs.Name.{IsName}
 use Rattle.rip_wire.specs.declared.error.WireCode.{WireCode}
-use Rattle.rip_log.specs.Codes.{log_code}
 use Rattle.rip_log.specs.Lines.{Capture}
 use Rattle.rip_log.specs.Logs.{Numbered}
-use Rattle.rip_log.specs.declared.line.LineCode.{LineCode}
-use Rattle.rip_log.specs.declared.line.LineCode.TheVariants.{LongLine, Fields, LinkName, Sender, Hex, LongDatagram, Wire}
 use Rattle.rip_log.specs.declared.error.LogCode.{LogCode}
-use Rattle.rip_log.specs.declared.error.LogCode.TheVariants.{TooManyLines}
+use Rattle.rip_log.specs.declared.error.LogCode.TheVariants.{LongLine, Fields, LinkName, Sender, Hex, LongDatagram, Wire, TooManyLines}
 use Rattle.rip_log.specs.declared.limits.TheConstants.{MOST_LINE_BYTES, MOST_LINES}
 use Rattle.rip_wire.specs.declared.limits.TheConstants.{MOST_BYTES}
 
@@ -123,8 +120,8 @@ pub record HasOthers (line : List ℕ) : Type 0 where
   pub says : ¬ SaysNothing fields
   pub count : length fields ≢ 3
 
--- a line that is bad, by the first of its faults
-abbrev pub IsBad : List ℕ → LineCode → Type 0
+-- a line that is bad by itself, by the first of its faults; no other code is one of a line
+abbrev pub IsBad : List ℕ → LogCode → Type 0
 IsBad line LongLine = MOST_LINE_BYTES < length line
 IsBad line Fields = HasOthers line
 IsBad line LinkName =
@@ -141,9 +138,10 @@ IsBad line LongDatagram =
 IsBad line (Wire e) =
     (link digits bytes : List ℕ) × (address : ℕ) × HasSender line link digits address
     × (decode_of digits ≡ Ok bytes) × (length bytes ≤ MOST_BYTES) × WireFault bytes e.code e.at
+IsBad line other = ⊥
 
 -- a line is judged: it is skipped, or is a record, or is bad
-abbrev pub IsJudged : List ℕ → Result (Option Capture) LineCode → Type 0
+abbrev pub IsJudged : List ℕ → Result (Option Capture) LogCode → Type 0
 IsJudged line (Ok None) = IsSkipped line
 IsJudged line (Ok (Some capture)) = IsRecord line capture
 IsJudged line (Err code) = IsBad line code
@@ -166,8 +164,7 @@ pub record LogText (text : List ℕ) (records : List Numbered) : Type 0 where
 -- why a line is bad that comes after n others: there are too many, or it is bad by itself
 pub data IsFault (n : ℕ) (line : List ℕ) (code : LogCode) : Type 0 where
   too_many : n ≡ MOST_LINES → code ≡ TooManyLines → IsFault n line code
-  bad : n < MOST_LINES → (line_code : LineCode) → IsBad line line_code →
-      code ≡ log_code line_code → IsFault n line code
+  bad : n < MOST_LINES → IsBad line code → IsFault n line code
 
 -- the first bad line of a log, and its first code; the records are those of the lines before it
 pub record LogFault (text : List ℕ) (records : List Numbered) (line : ℕ) (code : LogCode)

@@ -1,9 +1,9 @@
 -- What a text has for its readers: records, and then the end or a fault.
 use Rattle.std.specs.Prelude.{◌≡◌, ℕ, ◌+◌, nat_le, if◌then◌else◌, Bool, true, false, List, [], ◌∷◌, Option, Some, None, Result, Ok, Err}
 use Rattle.std.specs.Option.{option_map}
-use Rattle.rip_log.specs.Codes.{log_code, is_read}
+use Rattle.rip_log.specs.Codes.{is_read}
 use Rattle.rip_log.specs.Lines.{Capture, lines_of, judge}
-use Rattle.rip_log.specs.declared.line.LineCode.{LineCode}
+use Rattle.rip_log.specs.declared.error.LogCode.{LogCode}
 use Rattle.rip_log.specs.declared.error.LogCode.TheVariants.{TooManyLines}
 use Rattle.rip_log.specs.declared.error.LogError.{LogError}
 use Rattle.rip_log.specs.declared.limits.TheConstants.{MOST_LINES}
@@ -28,10 +28,10 @@ abbrev pub onto_log : Numbered → Log → Log
 onto_log r log = record { records = r ∷ log.records; fault = log.fault }
 
 -- what line n says, and then these
-abbrev pub with_line : ℕ → Result (Option Capture) LineCode → Log → Log
+abbrev pub with_line : ℕ → Result (Option Capture) LogCode → Log → Log
 with_line n (Ok None) later = later
 with_line n (Ok (Some capture)) later = onto_log (record { line = n; capture = capture }) later
-with_line n (Err code) later = faulty_log (record { line = n; code = log_code code })
+with_line n (Err code) later = faulty_log (record { line = n; code = code })
 
 -- what the lines after n others have
 abbrev pub log_of : ℕ → List (List ℕ) → Log

@@ -3,7 +3,7 @@ use Rattle.std.specs.Prelude.{◌≡◌, ◌≤◌, ℕ, true, List, Option, Som
 use Rattle.rip_wire.specs.Message.{message_in}
 use Rattle.rip_wire.specs.Name.{is_name}
 use Rattle.rip_log.specs.Lines.{Capture}
-use Rattle.rip_log.specs.declared.line.LineCode.{LineCode}
+use Rattle.rip_log.specs.declared.error.LogCode.{LogCode}
 use Rattle.rip_log.specs.declared.line.Parts.{Parts}
 use Rattle.rip_log.specs.Spans.{IsWithin, slice_of}
 use Rattle.rip_wire.specs.declared.limits.TheConstants.{MOST_BYTES}
@@ -25,8 +25,8 @@ pub record AreParts (line room : List ℕ) (parts : Parts) : Type 0 where
   pub valid : is_ok (message_in (take parts.count room)) ≡ true
 
 -- what is said of a line is what the parts and the room say
-abbrev pub Tells : Result (Option Capture) LineCode → List ℕ → List ℕ →
-    Result (Option Parts) LineCode → Type 0
+abbrev pub Tells : Result (Option Capture) LogCode → List ℕ → List ℕ →
+    Result (Option Parts) LogCode → Type 0
 Tells said line room (Ok None) = said ≡ Ok None
 Tells said line room (Ok (Some parts)) =
     (said ≡ Ok (Some (capture_of_parts line room parts))) × AreParts line room parts

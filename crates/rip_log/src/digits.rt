@@ -6,7 +6,7 @@ ghost use Rattle.hex.specs.Hex.{decode_of, is_hex_digit};
 ghost use Rattle.rip_log.specs.Lines.{bytes_of};
 
 use crate::blocks::decode_blocks;
-use crate::line::LineCode;
+use crate::error::LogCode;
 use rip_wire::MOST_BYTES;
 
 /// The most digits of a datagram: two a byte.
@@ -28,17 +28,17 @@ fn are_digits(text: &[u8]) -> bool
 
 /// What is wrong with more digits than a datagram has: an odd number of them, or a byte that is none,
 /// comes first.
-fn code_of_long(digits: &[u8]) -> LineCode
+fn code_of_long(digits: &[u8]) -> LogCode
     requires { MOST_DIGITS < length digits.now }
     ensures { bytes_of digits.now ≡ Err result }
 {
     if digits.len() % 2 == 1 {
-        return LineCode::Hex;
+        return LogCode::Hex;
     }
     if are_digits(digits) {
-        LineCode::LongDatagram
+        LogCode::LongDatagram
     } else {
-        LineCode::Hex
+        LogCode::Hex
     }
 }
 
@@ -58,7 +58,7 @@ pub fn decode_digits(digits: &[u8], room: &mut [u8]) -> bool
 }
 
 /// Writes the bytes of hex digits to the front of the room, and answers how many there are.
-pub(crate) fn decode(digits: &[u8], room: &mut [u8; MOST_BYTES]) -> Result<usize, LineCode>
+pub(crate) fn decode(digits: &[u8], room: &mut [u8; MOST_BYTES]) -> Result<usize, LogCode>
     ensures { MatchResult result
         (λ n. (n ≤ MOST_BYTES) × (bytes_of digits.now ≡ Ok (take n room.new)))
         (λ code. bytes_of digits.now ≡ Err code) }
@@ -69,7 +69,7 @@ pub(crate) fn decode(digits: &[u8], room: &mut [u8; MOST_BYTES]) -> Result<usize
     if decode_digits(digits, room) {
         Ok(digits.len() / 2)
     } else {
-        Err(LineCode::Hex)
+        Err(LogCode::Hex)
     }
 }
 

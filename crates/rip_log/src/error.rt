@@ -1,8 +1,5 @@
 //! What is wrong with a log.
 
-ghost use Rattle.std.specs.Prelude.{◌≡◌};
-
-use crate::line::LineCode;
 use rip_wire::WireError;
 use thiserror::Error;
 
@@ -31,24 +28,6 @@ pub enum LogCode {
     Ended,
     /// There is no memory for the reader.
     Memory,
-}
-
-impl From<LineCode> for LogCode {
-    ghost use Rattle.rip_log.specs.Codes.{log_code};
-
-    ghost from_gives = { λ line code. code ≡ log_code line };
-
-    fn from(code: LineCode) -> LogCode {
-        match code {
-            LineCode::LongLine => LogCode::LongLine,
-            LineCode::Fields => LogCode::Fields,
-            LineCode::LinkName => LogCode::LinkName,
-            LineCode::Sender => LogCode::Sender,
-            LineCode::Hex => LogCode::Hex,
-            LineCode::LongDatagram => LogCode::LongDatagram,
-            LineCode::Wire(error) => LogCode::Wire(error),
-        }
-    }
 }
 
 /// Why there is no next record, and the number of the line concerned, or 0 where none is.

@@ -11,7 +11,6 @@ ghost use Rattle.rip_log.specs.LogText.{AreLines, IsJudged, LogCut, LogFault, Lo
 ghost use Rattle.rip_log.specs.Runs.{IsTaken, numbered};
 ghost use Rattle.rip_log.specs.declared.error.LogCode.{LogCode};
 ghost use Rattle.rip_log.specs.declared.error.LogError.{LogError};
-ghost use Rattle.rip_log.specs.declared.line.LineCode.{LineCode};
 ghost use Rattle.rip_log.specs.declared.reader.Record.{Record};
 
 use crate::limits::MOST_LINES;
@@ -20,7 +19,7 @@ use rip_wire::laws;
 /// What is computed of a line is what the words of the format say: it is skipped, or is a record, or
 /// is bad by the first of its faults.
 pub fn judged_lines()
-    ensures { (line : List ℕ) (judged : Result (Option Capture) LineCode) →
+    ensures { (line : List ℕ) (judged : Result (Option Capture) LogCode) →
         (judge line ≡ judged) ↔ IsJudged line judged }
 {
     laws::names();

@@ -8,22 +8,11 @@ ghost use Rattle.rip_log.specs.Parts.{Tells};
 ghost use Rattle.rip_log.specs.Spans.{IsWithin, slice_of};
 
 use crate::digits::decode;
+use crate::error::LogCode;
 use crate::fields::{Fields, split};
 use crate::limits::MOST_LINE_BYTES;
 use crate::span::Span;
-use rip_wire::{Address, MOST_BYTES, WireError, is_name, read};
-
-/// What is wrong with a line, by itself. The first that holds is told.
-#[derive(Clone, Copy)]
-pub enum LineCode {
-    LongLine,
-    Fields,
-    LinkName,
-    Sender,
-    Hex,
-    LongDatagram,
-    Wire(WireError),
-}
+use rip_wire::{Address, MOST_BYTES, is_name, read};
 
 /// The parts of a record: where the link's name lies in the line, the sender, and how many bytes of
 /// the room the datagram takes.
@@ -52,7 +41,7 @@ fn judge_fields(
     sender: Span,
     digits: Span,
     room: &mut [u8; MOST_BYTES],
-) -> Result<Option<Parts>, LineCode>
+) -> Result<Option<Parts>, LogCode>
     requires link { IsWithin (length line.now) link }
     requires sender { IsWithin (length line.now) sender }
     requires digits { IsWithin (length line.now) digits }
@@ -61,14 +50,14 @@ fn judge_fields(
         line.now room.new result }
 {
     if !is_name(&line[link.from..link.to]) {
-        return Err(LineCode::LinkName);
+        return Err(LogCode::LinkName);
     }
     let Some(address) = Address::parse_bytes(&line[sender.from..sender.to]) else {
-        return Err(LineCode::Sender);
+        return Err(LogCode::Sender);
     };
     let count = decode(&line[digits.from..digits.to], room)?;
     match read(&room[..count]) {
-        Err(error) => Err(LineCode::Wire(error)),
+        Err(error) => Err(LogCode::Wire(error)),
         Ok(_) => Ok(Some(Parts {
             link,
             sender: address,
@@ -78,18 +67,18 @@ fn judge_fields(
 }
 
 /// Judges a line without its carriage return, and writes its datagram to the room.
-fn judge_bare(bare: &[u8], room: &mut [u8; MOST_BYTES]) -> Result<Option<Parts>, LineCode>
+fn judge_bare(bare: &[u8], room: &mut [u8; MOST_BYTES]) -> Result<Option<Parts>, LogCode>
     ensures { Tells (unless_skipped (fields_of bare.now)) bare.now room.new result }
 {
     match split(bare) {
         Fields::Nothing | Fields::Comment => Ok(None),
-        Fields::Other => Err(LineCode::Fields),
+        Fields::Other => Err(LogCode::Fields),
         Fields::Three(link, sender, digits) => judge_fields(bare, link, sender, digits, room),
     }
 }
 
 /// Judges a line of at most 2,048 bytes, and writes its datagram to the room.
-pub fn judge_line(line: &[u8], room: &mut [u8; MOST_BYTES]) -> Result<Option<Parts>, LineCode>
+pub fn judge_line(line: &[u8], room: &mut [u8; MOST_BYTES]) -> Result<Option<Parts>, LogCode>
     requires { length line.now ≤ MOST_LINE_BYTES }
     ensures { Tells (judge line.now) line.now room.new result }
 {

@@ -107,7 +107,7 @@ impl<R: Source> Reading<R> {
             Ok(RawLine::Line(line)) => line,
         };
         match judge_line(self.window.range(line), &mut self.room) {
-            Err(code) => Err(self.stop(LogCode::from(code))),
+            Err(code) => Err(self.stop(code)),
             Ok(None) => {
                 self.progress.lines += 1;
                 Ok(Step::Skipped)
