@@ -9,31 +9,31 @@ use Rattle.rip_log.specs.Logs.{Log, log_at, Gives}
 use Rattle.rip_log.specs.declared.error.LogCode.TheVariants.{Ended}
 use Rattle.rip_log.specs.declared.error.LogError.{LogError}
 use Rattle.rip_log.specs.declared.limits.TheConstants.{MOST_LINES}
-use Rattle.rip_log.specs.declared.reader.Reading.{Reading}
+use Rattle.rip_log.specs.declared.reader.LogReader.{LogReader}
 use Rattle.rip_log.specs.declared.reader.Record.{Record}
 
 -- the source beneath
-abbrev pub source_of : {R : Type 0} → Reading R → R
+abbrev pub source_of : {R : Type 0} → LogReader R → R
 source_of reader = reader.window.source
 
 -- the text to come: what is held, and then what the source still gives
-abbrev pub text : {R : Type 0} → (R → Option (List ℕ)) → Reading R → Option (List ℕ)
+abbrev pub text : {R : Type 0} → (R → Option (List ℕ)) → LogReader R → Option (List ℕ)
 text coming reader = window_text coming reader.window
 
 -- the lines behind the reader
-abbrev pub lines_behind : {R : Type 0} → Reading R → ℕ
+abbrev pub lines_behind : {R : Type 0} → LogReader R → ℕ
 lines_behind reader = reader.progress.lines
 
 -- an error was answered
-abbrev pub has_stopped : {R : Type 0} → Reading R → Bool
+abbrev pub has_stopped : {R : Type 0} → LogReader R → Bool
 has_stopped reader = reader.progress.is_stopped
 
 -- what is still to come from a reader, where bytes are told
-abbrev pub log_to_come : {R : Type 0} → (R → Option (List ℕ)) → Reading R → Option Log
+abbrev pub log_to_come : {R : Type 0} → (R → Option (List ℕ)) → LogReader R → Option Log
 log_to_come coming reader = log_at (lines_behind reader) (text coming reader)
 
 -- nothing is held, and the source has come to its end
-abbrev pub IsOver : {R : Type 0} → (R → Bool) → Reading R → Type 0
+abbrev pub IsOver : {R : Type 0} → (R → Bool) → LogReader R → Type 0
 IsOver at_end reader = (held reader.window ≡ []) × (at_end (source_of reader) ≡ true)
 
 -- the capture of a record
@@ -56,7 +56,7 @@ is_refused (Err e) = not (is_read e.code)
 
 -- how a call moves a reader on
 pub record Moves {R A : Type 0} (coming : R → Option (List ℕ)) (broken at_end : R → Bool)
-    (old new : Reading R) (result : Result A LogError) : Type 0 where
+    (old new : LogReader R) (result : Result A LogError) : Type 0 where
   -- the code Read only where the source failed; every other outcome leaves its mark
   pub failed : is_unreadable result ≡ true → broken (source_of new) ≡ true
   pub marks : is_unreadable result ≡ false → broken (source_of new) ≡ broken (source_of old)
@@ -70,7 +70,7 @@ pub record Moves {R A : Type 0} (coming : R → Option (List ℕ)) (broken at_en
 
 -- what a call of `next` answers, seen by view and number, and leaves
 pub record Leaves {R X : Type 0} (coming : R → Option (List ℕ)) (broken at_end : R → Bool)
-    (view : X → Capture) (number : X → ℕ) (old new : Reading R)
+    (view : X → Capture) (number : X → ℕ) (old new : LogReader R)
     (result : Result (Option X) LogError) : Type 0 where
   -- the next record of the log to come, or its end or fault
   pub gives : has_stopped old ≡ false →

@@ -10,7 +10,6 @@ pub mod Logs
 pub mod Marks
 pub mod Pairs
 pub mod Parts
-pub mod Reader
 pub mod Readers
 pub mod Runs
 pub mod Spans

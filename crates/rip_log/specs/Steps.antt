@@ -7,25 +7,25 @@ use Rattle.rip_log.specs.Parts.{AreParts, capture_of_parts}
 use Rattle.rip_log.specs.Spans.{IsWithin, slice_of}
 use Rattle.rip_log.specs.declared.error.LogError.{LogError}
 use Rattle.rip_log.specs.declared.reader.FoundRecord.{FoundRecord}
-use Rattle.rip_log.specs.declared.reader.Reading.{Reading}
+use Rattle.rip_log.specs.declared.reader.LogReader.{LogReader}
 use Rattle.rip_log.specs.declared.reader.Step.{Step}
 use Rattle.rip_log.specs.declared.reader.Step.TheVariants.{Skipped, Found, End}
 
 -- the line of the record
-abbrev pub line_at : {R : Type 0} → Reading R → FoundRecord → List ℕ
+abbrev pub line_at : {R : Type 0} → LogReader R → FoundRecord → List ℕ
 line_at reader found = slice_of reader.window.buffer.items found.line
 
 -- the capture of the record
-abbrev pub capture_at : {R : Type 0} → Reading R → FoundRecord → Capture
+abbrev pub capture_at : {R : Type 0} → LogReader R → FoundRecord → Capture
 capture_at reader found = capture_of_parts (line_at reader found) reader.room found.parts
 
 -- the record lies in the reader
-pub record IsGood {R : Type 0} (reader : Reading R) (found : FoundRecord) : Type 0 where
+pub record IsGood {R : Type 0} (reader : LogReader R) (found : FoundRecord) : Type 0 where
   pub line : IsWithin (vec_len reader.window.buffer) found.line
   pub parts : AreParts (line_at reader found) reader.room found.parts
 
 -- what a line takes off the log to come
-abbrev pub GivesFound : {R : Type 0} → (R → Option (List ℕ)) → Reading R → Reading R →
+abbrev pub GivesFound : {R : Type 0} → (R → Option (List ℕ)) → LogReader R → LogReader R →
     Result (Option FoundRecord) LogError → Type 0
 GivesFound coming old new result =
     Gives (capture_at new) (λ _. lines_behind new)
@@ -33,8 +33,8 @@ GivesFound coming old new result =
 
 -- one line was taken off the log to come: it said nothing, or it is the next record, or there is
 -- none
-abbrev pub LineSays : {R : Type 0} → (R → Option (List ℕ)) → (R → Bool) → Reading R → Reading R →
-    Result Step LogError → Type 0
+abbrev pub LineSays : {R : Type 0} → (R → Option (List ℕ)) → (R → Bool) →
+    LogReader R → LogReader R → Result Step LogError → Type 0
 LineSays coming at_end old new (Ok Skipped) =
     SameLog (log_to_come coming old) (log_to_come coming new)
     × (lines_behind new ≡ lines_behind old + 1)

@@ -63,16 +63,31 @@ struct Progress {
     ghost few: { lines ≤ MOST_LINES },
 }
 
-/// The lines of a source, with room for one datagram.
+/// A name, as text.
+fn name_text(name: &[u8]) -> &str
+    requires { is_name name.now ≡ true }
+    ensures { result.now ≡ name.now }
+{
+    laws::names();
+    match str::from_utf8(name) {
+        Ok(text) => text,
+        Err(_) => unreachable!(),
+    }
+}
+
+/// A reader of a log's records: one a line, of at most 1,000,000 lines of at most 2,048 bytes. After
+/// an error there are no more.
 #[derive(Drop)]
-struct Reading<R> {
+pub struct LogReader<R> {
     window: Window<R>,
     room: [u8; MOST_BYTES],
     progress: Progress,
 }
 
-impl<R: Source> Reading<R> {
-    ghost use Rattle.rip_log.specs.Leaves.{IsOver, Leaves, Moves, capture_of, has_stopped, lines_behind};
+impl<R: Source> LogReader<R> {
+    ghost use Rattle.rip_log.specs.contracts.reader.LogReader.{the_row};
+    ghost use Rattle.rip_log.specs.Leaves.{IsOver, Leaves, Moves, capture_of, has_stopped, line_of, lines_behind, log_to_come, source_of, text};
+    ghost use Rattle.rip_log.specs.Logs.{log_in};
     ghost use Rattle.rip_log.specs.Steps.{IsGood, LineSays, capture_at};
     ghost use Rattle.rip_log.specs.Held.{held};
 
@@ -171,54 +186,24 @@ impl<R: Source> Reading<R> {
             sender: found.parts.sender.get(),
         }
     }
-}
-
-/// A name, as text.
-fn name_text(name: &[u8]) -> &str
-    requires { is_name name.now ≡ true }
-    ensures { result.now ≡ name.now }
-{
-    laws::names();
-    match str::from_utf8(name) {
-        Ok(text) => text,
-        Err(_) => unreachable!(),
-    }
-}
-
-/// A reader of a log's records: one a line, of at most 1,000,000 lines of at most 2,048 bytes. After
-/// an error there are no more.
-#[derive(Drop)]
-pub struct LogReader<R> {
-    reading: Reading<R>,
-}
-
-impl<R: Source> LogReader<R> {
-    ghost use Rattle.rip_log.specs.contracts.reader.LogReader.{the_row};
-    ghost use Rattle.rip_log.specs.Leaves.{Leaves, capture_of, has_stopped, line_of, lines_behind, log_to_come, source_of, text};
-    ghost use Rattle.rip_log.specs.Logs.{log_in};
-    ghost use Rattle.rip_log.specs.Reader.{reading_of};
 
     /// A reader at the front of the source's text. It takes the memory that it needs, and pulls
     /// nothing yet. Where there is none, the error is Memory at line 0, and the source comes back.
     pub fn new(alloc: Global, source: R) -> Result<LogReader<R>, (LogError, R)>
-        ensures source { IfOk result (λ r. source_of (reading_of r) ≡ source) }
-        ensures text { IfOk result (λ r. text R.coming (reading_of r) ≡ R.coming source) }
-        ensures to_come { IfOk result
-            (λ r. log_to_come R.coming (reading_of r) ≡ log_in (R.coming source)) }
-        ensures front { IfOk result
-            (λ r. (lines_behind (reading_of r) ≡ 0) × (has_stopped (reading_of r) ≡ false)) }
+        ensures source { IfOk result (λ r. source_of r ≡ source) }
+        ensures text { IfOk result (λ r. text R.coming r ≡ R.coming source) }
+        ensures to_come { IfOk result (λ r. log_to_come R.coming r ≡ log_in (R.coming source)) }
+        ensures front { IfOk result (λ r. (lines_behind r ≡ 0) × (has_stopped r ≡ false)) }
         ensures refused { IfErr result
             (λ e. (e.1 ≡ source) × (e.0 ≡ record { code = LogCode.Memory; line = 0 })) }
     {
         match Window::new(alloc, source) {
             Ok(window) => Ok(LogReader {
-                reading: Reading {
-                    window,
-                    room: [0; MOST_BYTES],
-                    progress: Progress {
-                        lines: 0,
-                        is_stopped: false,
-                    },
+                window,
+                room: [0; MOST_BYTES],
+                progress: Progress {
+                    lines: 0,
+                    is_stopped: false,
                 },
             }),
             Err((_, source)) => Err((
@@ -236,21 +221,20 @@ impl<R: Source> LogReader<R> {
     /// line was read; after an error each call answers Ended at the same line.
     pub fn next(&mut self) -> Result<Option<Record<'_>>, LogError>
         ensures* leaves { sem 𝓛 (Rests (the_row R.row) self.entry
-            (λ new. Leaves R.coming R.broken R.at_end capture_of line_of
-            (reading_of self.old) (reading_of new) result)) }
+            (λ new. Leaves R.coming R.broken R.at_end capture_of line_of self.old new result)) }
     {
-        match self.reading.advance() {
+        match self.advance() {
             Err(error) => Err(error),
             Ok(None) => Ok(None),
-            Ok(Some(found)) => Ok(Some(self.reading.record(found))),
+            Ok(Some(found)) => Ok(Some(self.record(found))),
         }
     }
 
     /// The source, as it stands.
     pub fn into_source(self) -> R
-        ensures { result ≡ source_of (reading_of self) }
+        ensures { result ≡ source_of self }
     {
-        self.reading.window.into_source()
+        self.window.into_source()
     }
 }
 

@@ -6,7 +6,7 @@ use Rattle.rip_log.specs.Leaves.{has_stopped, lines_behind, log_to_come, source_
 use Rattle.rip_log.specs.Lines.{Capture}
 use Rattle.rip_log.specs.Logs.{Log, Numbered, IfElse}
 use Rattle.rip_log.specs.declared.error.LogCode.TheVariants as codes
-use Rattle.rip_log.specs.declared.reader.Reading.{Reading}
+use Rattle.rip_log.specs.declared.reader.LogReader.{LogReader}
 use Rattle.rip_table.specs.State.{Fits, State}
 use Rattle.rip_table.specs.Joined.{WantsFor, is_memory, joined_records, outcome}
 use Rattle.rip_table.specs.LogJoin.{IsOutcome}
@@ -78,7 +78,7 @@ abbrev pub SaidOutcome : Network → State → Log → State → Result (Unit {0
 SaidOutcome n old log new (Ok u) = IsOutcome n old log new None
 SaidOutcome n old log new (Err e) = is_memory e.cause ≡ false → is_read_cause e.cause ≡ false → IsOutcome n old log new (Some e)
 
-pub record Collects {R : Type 0} (coming : R → Option (List ℕ)) (broken at_end : R → Bool) (n : Network) (old new : State) (before after : Reading R) (result : Result (Unit {0}) CollectError) : Type 0 where
+pub record Collects {R : Type 0} (coming : R → Option (List ℕ)) (broken at_end : R → Bool) (n : Network) (old new : State) (before after : LogReader R) (result : Result (Unit {0}) CollectError) : Type 0 where
   pub told : has_stopped before ≡ false → ToldOutcome n old (log_to_come coming before) new (log_to_come coming after) result
   pub said : has_stopped before ≡ false → (log : Log) → log_to_come coming before ≡ Some log → SaidOutcome n old log new result
   -- a reader that had stopped changes nothing

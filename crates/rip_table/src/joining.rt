@@ -1,7 +1,6 @@
 //! The loop over the records of a log.
 
 ghost use Rattle.rip_log.specs.Leaves.{capture_of};
-ghost use Rattle.rip_log.specs.Reader.{reading_of};
 ghost use Rattle.rip_table.specs.Collects.{Collects};
 ghost use Rattle.rip_table.specs.Joined.{Joins};
 ghost use Rattle.rip_table.specs.State.{Fits};
@@ -39,7 +38,7 @@ pub fn collect<R: Source, T: MetricTable>(
     table: &mut T,
 ) -> Result<(), CollectError>
     requires { Fits plan.now (T.state table.old) }
-    ensures { Collects R.coming R.broken R.at_end plan.now (T.state table.old) (T.state table.new) (reading_of reader.old) (reading_of reader.new) result }
+    ensures { Collects R.coming R.broken R.at_end plan.now (T.state table.old) (T.state table.new) reader.old reader.new result }
 {
     plan.lawful();
     laws::refused_logs();

@@ -1,6 +1,5 @@
 use Rattle.std.proofs.Common.{◌≡◌, ◌∙◌, sym, refl, false, subst, Some, Ok, Err}
 use Rattle.rip_log.specs.Leaves.{capture_of, line_of, lines_behind, log_to_come, has_stopped}
-use Rattle.rip_log.specs.Reader.{reading_of}
 use Rattle.rip_table.specs.State.{State, Fits}
 use Rattle.rip_table.specs.Joined.{is_memory}
 use Rattle.rip_table.specs.Collects.{is_read_cause, StuckKnown, OutcomeKnown, PassedKnown, ToldOutcome}
@@ -15,8 +14,8 @@ use Rattle.rip_table.proofs.joining.collect.Goals as goal
 pub records-preserved : goal.records-preserved
 records-preserved g c =
     let h = rw (c.in-Ok-Some.is, c.in-Ok-Some.field-0-is) at c.next.follows.holds-at-none in
-    let run : has_stopped (reading_of c.records.reader) ≡ false = runs _ _ _ h.ended in
-    let was_run : has_stopped (reading_of c.args.reader.now) ≡ false = sym c.records.invariant.running ∙ run in
+    let run : has_stopped c.records.reader ≡ false = runs _ _ _ h.ended in
+    let was_run : has_stopped c.args.reader.now ≡ false = sym c.records.invariant.running ∙ run in
     let joins = rw c.in-Ok.is at c.join.ensures in
     record {
       passed = λ was. PassedKnown-more capture_of line_of _ _ _ (g.T.MetricTable.state c.records.table) (g.T.MetricTable.state c.join.new.table) _ _ _ (c.records.invariant.passed was) (h.gives run) joins;
@@ -32,22 +31,22 @@ returns-in-Err-join g c =
     let state = g.T.MetricTable.state in
     let coming = g.R.Source.coming in
     let plan = c.args.plan.now in
-    let before = (reading_of c.records.reader) in
-    let after = (reading_of c.next.follows.lender-at-none) in
+    let before = c.records.reader in
+    let after = c.next.follows.lender-at-none in
     let entry = capture_of c.in-Ok-Some.record in
     let cause = c.in-Err-join.cause in
     let inv = c.records.invariant in
-    let log = log_to_come coming (reading_of c.args.reader.now) in
+    let log = log_to_come coming c.args.reader.now in
     let old = state c.args.table.now in
     let h = rw (c.in-Ok-Some.is, c.in-Ok-Some.field-0-is) at c.next.follows.holds-at-none in
-    let run : has_stopped (reading_of c.records.reader) ≡ false = runs _ _ _ h.ended in
-    let was_run : has_stopped (reading_of c.args.reader.now) ≡ false = sym inv.running ∙ run in
+    let run : has_stopped c.records.reader ≡ false = runs _ _ _ h.ended in
+    let was_run : has_stopped c.args.reader.now ≡ false = sym inv.running ∙ run in
     let joins = rw c.in-Err-join.is at c.join.ensures in
     let blame = Joins-blame plan (state c.records.table) entry (state c.join.new.table) cause joins in
     let unread = unread-blame cause blame in
     let new = state c.join.new.table in
     let error : CollectError = record { line = c.in-Ok-Some.record.line; cause = cause } in
-    let told : has_stopped (reading_of c.args.reader.now) ≡ false → ToldOutcome plan old log new (log_to_come coming after) (Err error) = λ was.
+    let told : has_stopped c.args.reader.now ≡ false → ToldOutcome plan old log new (log_to_come coming after) (Err error) = λ was.
     let passed = inv.passed was in
     let gives = h.gives run in
     tell (PassedKnown plan old log new (log_to_come coming after)) (is_memory cause) (is_read_cause cause) joins.1
@@ -71,13 +70,13 @@ returns-in-Err-join g c =
 pub returns-in-Ok-None : goal.returns-in-Ok-None
 returns-in-Ok-None g c =
     let h = rw (c.in-Ok-None.is, c.in-Ok-None.field-0-is) at c.next.follows.holds-at-none in
-    let run : has_stopped (reading_of c.records.reader) ≡ false = runs _ _ _ h.ended in
-    let was_run : has_stopped (reading_of c.args.reader.now) ≡ false = sym c.records.invariant.running ∙ run in
-    let log = log_to_come g.R.Source.coming (reading_of c.args.reader.now) in
-    let left = log_to_come g.R.Source.coming (reading_of c.next.follows.lender-at-none) in
+    let run : has_stopped c.records.reader ≡ false = runs _ _ _ h.ended in
+    let was_run : has_stopped c.args.reader.now ≡ false = sym c.records.invariant.running ∙ run in
+    let log = log_to_come g.R.Source.coming c.args.reader.now in
+    let left = log_to_come g.R.Source.coming c.next.follows.lender-at-none in
     let old = g.T.MetricTable.state c.args.table.now in
     let new = g.T.MetricTable.state c.records.table in
-    let told : has_stopped (reading_of c.args.reader.now) ≡ false → ToldOutcome c.args.plan.now old log new left (Ok tt) = λ was.
+    let told : has_stopped c.args.reader.now ≡ false → ToldOutcome c.args.plan.now old log new left (Ok tt) = λ was.
     OutcomeKnown-none capture_of line_of _ _ _ _ _ _ (c.records.invariant.passed was) (h.gives run) in
     record {
       told = told;
@@ -95,12 +94,12 @@ pub returns-in-Err : goal.returns-in-Err
 returns-in-Err g c =
     let h = rw c.in-Err.is at c.next.follows.holds-at-none in
     let inv = c.records.invariant in
-    let log = log_to_come g.R.Source.coming (reading_of c.args.reader.now) in
-    let left = log_to_come g.R.Source.coming (reading_of c.next.follows.lender-at-none) in
+    let log = log_to_come g.R.Source.coming c.args.reader.now in
+    let left = log_to_come g.R.Source.coming c.next.follows.lender-at-none in
     let old = g.T.MetricTable.state c.args.table.now in
     let new = g.T.MetricTable.state c.records.table in
     let error : CollectError = record { line = c.in-Err.error.line; cause = OfLog c.in-Err.error } in
-    let told : has_stopped (reading_of c.args.reader.now) ≡ false → ToldOutcome c.args.plan.now old log new left (Err error) = λ was.
+    let told : has_stopped c.args.reader.now ≡ false → ToldOutcome c.args.plan.now old log new left (Err error) = λ was.
     told_bad capture_of line_of _ _ _ _ _ _ c.in-Err.error (inv.passed was) (h.gives (inv.running ∙ was)) in
     record {
       told = told;

@@ -1,6 +1,5 @@
 use Rattle.std.proofs.Common.{◌≡◌, ◌-◌, true, false}
 use Rattle.rip_log.specs.Leaves.{log_to_come, lines_behind, has_stopped, source_of}
-use Rattle.rip_log.specs.Reader.{reading_of}
 use Rattle.rip_table.specs.State.{Fits}
 use Rattle.rip_table.specs.Collects.{PassedKnown}
 use Rattle.rip_table.proofs.joining.collect.Given as goal
@@ -10,13 +9,13 @@ invariant-records g l =
     let coming = g.R.Source.coming in
     let state = g.T.MetricTable.state in
     record {
-      passed : has_stopped (reading_of l.fn.reader) ≡ false → PassedKnown l.plan (state l.fn.table) (log_to_come coming (reading_of l.fn.reader)) (state l.table) (log_to_come coming (reading_of l.reader));
+      passed : has_stopped l.fn.reader ≡ false → PassedKnown l.plan (state l.fn.table) (log_to_come coming l.fn.reader) (state l.table) (log_to_come coming l.reader);
       fits : Fits l.plan (state l.table);
-      running : has_stopped (reading_of l.reader) ≡ has_stopped (reading_of l.fn.reader);
-      marks : g.R.Source.broken (source_of (reading_of l.reader)) ≡ g.R.Source.broken (source_of (reading_of l.fn.reader));
-      still : has_stopped (reading_of l.fn.reader) ≡ true → (state l.table ≡ state l.fn.table);
-      here : has_stopped (reading_of l.fn.reader) ≡ true → (lines_behind (reading_of l.reader) ≡ lines_behind (reading_of l.fn.reader));
+      running : has_stopped l.reader ≡ has_stopped l.fn.reader;
+      marks : g.R.Source.broken (source_of l.reader) ≡ g.R.Source.broken (source_of l.fn.reader);
+      still : has_stopped l.fn.reader ≡ true → (state l.table ≡ state l.fn.table);
+      here : has_stopped l.fn.reader ≡ true → (lines_behind l.reader ≡ lines_behind l.fn.reader);
     }
 
 abbrev pub decreases-records : goal.decreases-records
-decreases-records g l = 1000000 - lines_behind (reading_of l.reader)
+decreases-records g l = 1000000 - lines_behind l.reader

@@ -2,7 +2,7 @@ use Rattle.std.proofs.Common.{◌≡◌, ◌-◌, ◌≤◌, false, true}
 use Rattle.rip_log.specs.Leaves.{IsOver, text, log_to_come, lines_behind, has_stopped, source_of}
 use Rattle.rip_log.specs.Cuts.{PassesLines}
 use Rattle.rip_log.specs.Logs.{SameLog}
-use Rattle.rip_log.proofs.reader.Reading.advance.Given as goal
+use Rattle.rip_log.proofs.reader.LogReader.advance.Given as goal
 
 abbrev pub invariant-lines : goal.invariant-lines
 invariant-lines g l = record {

@@ -1,6 +1,6 @@
 use Rattle.std.proofs.Common.{rules, refl}
 use Rattle.rip_log.proofs.PassLemmas.{passes_trans}
-use Rattle.rip_log.proofs.reader.Reading.advance.Goals as goal
+use Rattle.rip_log.proofs.reader.LogReader.advance.Goals as goal
 
 pub returns-in-Found-clause-leaves : goal.returns-in-Found-clause-leaves
 returns-in-Found-clause-leaves g c = record {
