@@ -47,60 +47,10 @@ fn u32_at(bytes: &[u8], at: usize) -> u32
 }
 
 /// The fault of a code at an offset.
-fn fault<T>(code: WireCode, at: usize) -> Result<T, WireError>
-    ensures { result ≡ Err (record { code = code; at = at }) }
+fn fault(code: WireCode, at: usize) -> WireError
+    ensures { result ≡ record { code = code; at = at } }
 {
-    Err(WireError { code, at })
-}
-
-/// The prefix of the entry at an offset, by its address and mask.
-fn read_prefix(at: usize, address: u32, mask: u32) -> Result<Prefix, WireError>
-    requires { at + ENTRY_LEN ≤ MOST_BYTES }
-    ensures { result ≡ prefix_of at address (bits_of_mask mask) }
-{
-    let Some(length) = length_of_mask(mask) else {
-        return fault(WireCode::Mask, at + 8);
-    };
-    if length == 0 && address != 0 {
-        return fault(WireCode::NoMask, at + 8);
-    }
-    match Prefix::new(Address::new(address), length) {
-        Some(prefix) => Ok(prefix),
-        None => fault(WireCode::HostBits, at + 4),
-    }
-}
-
-/// The metric of the entry at an offset.
-fn read_metric(at: usize, metric: u32) -> Result<Metric, WireError>
-    requires { at + ENTRY_LEN ≤ MOST_BYTES }
-    ensures { result ≡ metric_of at metric }
-{
-    match Metric::new(metric) {
-        Some(metric) => Ok(metric),
-        None => fault(WireCode::Metric, at + 16),
-    }
-}
-
-/// The entry at an offset, or its first fault.
-#[tactic(auto, unfolding(crate::specs::Message::entry_at))]
-fn read_entry(bytes: &[u8], at: usize) -> Result<Entry, WireError>
-    requires room { at + ENTRY_LEN ≤ length bytes.now }
-    requires few { length bytes.now ≤ MOST_BYTES }
-    ensures { result ≡ entry_at at bytes.now }
-{
-    match u16_at(bytes, at) {
-        0xFFFF => return fault(WireCode::Authentication, at),
-        2 => {}
-        _ => return fault(WireCode::Family, at),
-    }
-    let prefix = read_prefix(at, u32_at(bytes, at + 4), u32_at(bytes, at + 8))?;
-    let metric = read_metric(at, u32_at(bytes, at + 16))?;
-    Ok(Entry {
-        tag: u16_at(bytes, at + 2),
-        prefix,
-        next_hop: Address::new(u32_at(bytes, at + 12)),
-        metric,
-    })
+    WireError { code, at }
 }
 
 /// Whether the entry at an offset has no fault.
@@ -120,16 +70,29 @@ fn is_entry(bytes: &[u8], at: usize) -> bool
 }
 
 /// The first fault of the entry at an offset where it has one.
+#[tactic(auto, unfolding(crate::specs::Message::entry_at))]
 fn entry_fault(bytes: &[u8], at: usize) -> WireError
     requires room { at + ENTRY_LEN ≤ length bytes.now }
     requires few { length bytes.now ≤ MOST_BYTES }
     requires bad { is_ok (entry_at at bytes.now) ≡ false }
     ensures { entry_at at bytes.now ≡ Err result }
 {
-    match read_entry(bytes, at) {
-        Ok(_) => unreachable!(),
-        Err(error) => error,
+    match u16_at(bytes, at) {
+        0xFFFF => return fault(WireCode::Authentication, at),
+        2 => {}
+        _ => return fault(WireCode::Family, at),
     }
+    let address = u32_at(bytes, at + 4);
+    let Some(length) = length_of_mask(u32_at(bytes, at + 8)) else {
+        return fault(WireCode::Mask, at + 8);
+    };
+    if length == 0 && address != 0 {
+        return fault(WireCode::NoMask, at + 8);
+    }
+    if Prefix::new(Address::new(address), length).is_none() {
+        return fault(WireCode::HostBits, at + 4);
+    }
+    fault(WireCode::Metric, at + 16)
 }
 
 /// The entry at an offset where it has no fault.
@@ -164,28 +127,28 @@ fn read_kind(bytes: &[u8]) -> Result<Kind, WireError>
 {
     let len = bytes.len();
     if len < HEADER_LEN {
-        return fault(WireCode::Short, len);
+        return Err(fault(WireCode::Short, len));
     }
     if bytes[0] != 1 && bytes[0] != 2 {
-        return fault(WireCode::Command, 0);
+        return Err(fault(WireCode::Command, 0));
     }
     if bytes[1] != 2 {
-        return fault(WireCode::Version, 1);
+        return Err(fault(WireCode::Version, 1));
     }
     if bytes[2] != 0 || bytes[3] != 0 {
-        return fault(WireCode::Zero, 2);
+        return Err(fault(WireCode::Zero, 2));
     }
     if len > MOST_BYTES {
-        return fault(WireCode::TooMany, MOST_BYTES);
+        return Err(fault(WireCode::TooMany, MOST_BYTES));
     }
     if (len - HEADER_LEN) % ENTRY_LEN != 0 {
-        return fault(WireCode::Ragged, len);
+        return Err(fault(WireCode::Ragged, len));
     }
     if bytes[0] == 1 {
         return Ok(Kind::Request);
     }
     if len == HEADER_LEN {
-        return fault(WireCode::Empty, HEADER_LEN);
+        return Err(fault(WireCode::Empty, HEADER_LEN));
     }
     Ok(Kind::Response)
 }
