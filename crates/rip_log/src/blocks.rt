@@ -8,7 +8,7 @@ ghost use Rattle.rip_log.specs.Pairs.{AreBytes, IsByte};
 const DIGITS: usize = 32;
 
 /// How many bytes these are.
-const BYTES: usize = 16;
+const BYTES: usize = DIGITS / 2;
 
 /// The value of a digit; of another byte 16 or more. It takes no branch, so that the values of a
 /// block are found side by side.
@@ -27,11 +27,11 @@ fn value(byte: u8) -> u8
 /// The values of the digits of a block.
 #[inline(always)]
 fn values_of(digits: &[u8; DIGITS]) -> [u8; DIGITS]
-    ensures { (k : ℕ) → k < 32 → slice_index result k < 16 →
+    ensures { (k : ℕ) → k < DIGITS → slice_index result k < 16 →
         hex_digit_value (slice_index digits.now k) ≡ Some (slice_index result k) }
 {
     let mut values = [0; DIGITS];
-    'values: for i in 0..32 {
+    'values: for i in 0..DIGITS {
         values[i] = value(digits[i]);
     }
     values
@@ -40,10 +40,10 @@ fn values_of(digits: &[u8; DIGITS]) -> [u8; DIGITS]
 /// The largest of the values.
 #[inline(always)]
 fn largest(values: &[u8; DIGITS]) -> u8
-    ensures { (k : ℕ) → k < 32 → slice_index values.now k ≤ result }
+    ensures { (k : ℕ) → k < DIGITS → slice_index values.now k ≤ result }
 {
     let mut largest = 0u8;
-    'values: for i in 0..32 {
+    'values: for i in 0..DIGITS {
         largest = largest.max(values[i]);
     }
     largest
@@ -52,12 +52,12 @@ fn largest(values: &[u8; DIGITS]) -> u8
 /// The bytes of pairs of values.
 #[inline(always)]
 fn joined(values: &[u8; DIGITS]) -> [u8; BYTES]
-    requires { (k : ℕ) → k < 32 → slice_index values.now k < 16 }
-    ensures { (k : ℕ) → k < 16 → slice_index result k
+    requires { (k : ℕ) → k < DIGITS → slice_index values.now k < 16 }
+    ensures { (k : ℕ) → k < BYTES → slice_index result k
         ≡ slice_index values.now (2 * k) * 16 + slice_index values.now (2 * k + 1) }
 {
     let mut bytes = [0; BYTES];
-    'bytes: for i in 0..16 {
+    'bytes: for i in 0..BYTES {
         bytes[i] = values[2 * i] * 16 + values[2 * i + 1];
     }
     bytes
@@ -66,7 +66,7 @@ fn joined(values: &[u8; DIGITS]) -> [u8; BYTES]
 /// The bytes of a block, if all of it are digits.
 #[inline(always)]
 fn bytes_of(digits: &[u8; DIGITS]) -> Option<[u8; BYTES]>
-    ensures { IfSome result (λ bytes. AreBytes digits.now bytes 16) }
+    ensures { IfSome result (λ bytes. AreBytes digits.now bytes BYTES) }
 {
     let values = values_of(digits);
     if largest(&values) > 15 {
@@ -78,8 +78,8 @@ fn bytes_of(digits: &[u8; DIGITS]) -> Option<[u8; BYTES]>
 /// The block from an offset of the text on.
 #[inline(always)]
 fn block_at(text: &[u8], at: usize) -> &[u8; DIGITS]
-    requires { at + 32 ≤ length text.now }
-    ensures { (k : ℕ) → k < 32 → slice_index result.now k ≡ slice_index text.now (at + k) }
+    requires { at + DIGITS ≤ length text.now }
+    ensures { (k : ℕ) → k < DIGITS → slice_index result.now k ≡ slice_index text.now (at + k) }
 {
     match text[at..].first_chunk::<DIGITS>() {
         Some(digits) => digits,
@@ -90,12 +90,12 @@ fn block_at(text: &[u8], at: usize) -> &[u8; DIGITS]
 /// Writes bytes to the room, from an offset on.
 #[inline(always)]
 fn store(bytes: &[u8; BYTES], room: &mut [u8], to: usize)
-    requires { to + 16 ≤ length room.old }
+    requires { to + BYTES ≤ length room.old }
     ensures size { length room.new ≡ length room.old }
-    ensures written { (k : ℕ) → k < 16 → slice_index room.new (to + k) ≡ slice_index bytes.now k }
+    ensures written { (k : ℕ) → k < BYTES → slice_index room.new (to + k) ≡ slice_index bytes.now k }
     ensures before { (k : ℕ) → k < to → slice_index room.new k ≡ slice_index room.old k }
 {
-    'bytes: for i in 0..16 {
+    'bytes: for i in 0..BYTES {
         room[to + i] = bytes[i];
     }
 }
@@ -103,10 +103,10 @@ fn store(bytes: &[u8; BYTES], room: &mut [u8], to: usize)
 /// Writes the bytes of a block of the text to the room, if all of it are digits.
 #[inline(always)]
 fn put(text: &[u8], at: usize, room: &mut [u8], to: usize) -> bool
-    requires text { at + 32 ≤ length text.now }
-    requires room { to + 16 ≤ length room.old }
+    requires text { at + DIGITS ≤ length text.now }
+    requires room { to + BYTES ≤ length room.old }
     ensures size { length room.new ≡ length room.old }
-    ensures bytes { IsTrue result → (k : ℕ) → k < 16 →
+    ensures bytes { IsTrue result → (k : ℕ) → k < BYTES →
         IsByte (slice_index text.now (at + 2 * k)) (slice_index text.now (at + 2 * k + 1))
         (slice_index room.new (to + k)) }
     ensures before { (k : ℕ) → k < to → slice_index room.new k ≡ slice_index room.old k }
@@ -132,10 +132,10 @@ pub fn decode_blocks(text: &[u8], room: &mut [u8]) -> bool
     if len < DIGITS || len % 2 != 0 {
         return false;
     }
-    'rows: for k in 0..len / 32 {
-        if !put(text, 32 * k, room, 16 * k) {
+    'rows: for k in 0..len / DIGITS {
+        if !put(text, DIGITS * k, room, BYTES * k) {
             return false;
         }
     }
-    put(text, len - 32, room, len / 2 - 16)
+    put(text, len - DIGITS, room, len / 2 - BYTES)
 }
