@@ -15,10 +15,10 @@ more_bytes digits old new at to n twice within front same more = λ j h.
       | inl below ↦ rw (same j below) (front j below)
       | inr above ↦
           let m : ℕ = j - to in
-          let place : to + m ≡ j = omega arith in
+          let offset : to + m ≡ j = omega arith in
           let first : at + 2 * m ≡ 2 * j = omega arith in
           let byte = more m (omega arith) in
-          rw (first, place) at byte
+          rw (first, offset) at byte
     ]
 
 -- the byte of two digits is what decoding them answers

@@ -92,7 +92,8 @@ fn block_at(text: &[u8], at: usize) -> &[u8; DIGITS]
 fn store(bytes: &[u8; BYTES], room: &mut [u8], to: usize)
     requires { to + BYTES ≤ length room.old }
     ensures size { length room.new ≡ length room.old }
-    ensures written { (k : ℕ) → k < BYTES → slice_index room.new (to + k) ≡ slice_index bytes.now k }
+    ensures written { (k : ℕ) → k < BYTES →
+        slice_index room.new (to + k) ≡ slice_index bytes.now k }
     ensures before { (k : ℕ) → k < to → slice_index room.new k ≡ slice_index room.old k }
 {
     'bytes: for i in 0..BYTES {

@@ -33,10 +33,10 @@ unfolding entries_bytes
 IsWritten-none old new front others = record { each = tt; front = front; others = others }
 
 pub IsWritten-push : (at : ℕ) (es : List Entry) (e : Entry) (old mid new : List ℕ) → at ≡ 4 + 20 * length es → IsWritten es old mid → take (at + 20) new ≡ take at mid ++ entry_bytes e → drop (at + 20) new ≡ drop (at + 20) mid → IsEntry e → IsWritten (es ++ e ∷ []) old new
-IsWritten-push at es e old mid new place so_far front others one =
+IsWritten-push at es e old mid new offset so_far front others one =
     let size : 4 + 20 * length (es ++ e ∷ []) ≡ at + 20 = omega (arith, length-append es (e ∷ [])) in
-    let before : take at mid ≡ 2 ∷ 2 ∷ 0 ∷ 0 ∷ entries_bytes es = rw place so_far.front in
-    let after : drop at mid ≡ drop at old = rw place so_far.others in
+    let before : take at mid ≡ 2 ∷ 2 ∷ 0 ∷ 0 ∷ entries_bytes es = rw offset so_far.front in
+    let after : drop at mid ≡ drop at old = rw offset so_far.others in
     record {
       each = each-push es e so_far.each one;
       front = rw size (front ∙ ap (λ (bs : List ℕ). bs ++ entry_bytes e) before ∙ ap (λ (bs : List ℕ). 2 ∷ 2 ∷ 0 ∷ 0 ∷ bs) (sym (entries_bytes-push es e)));

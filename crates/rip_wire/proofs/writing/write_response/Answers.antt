@@ -12,6 +12,6 @@ loop-i-preserved c =
     let es = c.args.entries.now in
     let e = c.index-entries-i.result in
     let lt = c.loop-i-test.true in
-    let place : 4 + 20 * i ≡ 4 + 20 * length (take i es) = omega (arith, length-take i es) in
+    let offset : 4 + 20 * i ≡ 4 + 20 * length (take i es) = omega (arith, length-take i es) in
     let more : take (i + 1) es ≡ take i es ++ e ∷ [] = take_more es i e lt ∙ ap (λ x. take i es ++ x ∷ []) (sym c.index-entries-i.is) in
-    rw more (IsWritten-push (4 + 20 * i) (take i es) e c.args.room.now c.loop-i.room _ place c.loop-i.invariant c.put_entry.ensures.spelling c.put_entry.ensures.others c.put_entry.ensures.entry)
+    rw more (IsWritten-push (4 + 20 * i) (take i es) e c.args.room.now c.loop-i.room _ offset c.loop-i.invariant c.put_entry.ensures.spelling c.put_entry.ensures.others c.put_entry.ensures.entry)
