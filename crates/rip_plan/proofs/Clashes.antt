@@ -42,10 +42,10 @@ first_clash-map see clash earlier (x ∷ xs) = by_test (list_any (λ y. clash (s
     by_test false e later = rw (e, any_seen see (λ y. clash y (see x)) earlier, e, ← map_push see earlier x) later
 
 -- the places that meet, with the routers that they touch
-pub meeting_seen : (interfaces : List DraftInterface) (places : List DraftPlace) → option_map (λ p. p.place) (first_clash (λ p q. do_meet (touching interfaces p) (touching interfaces q)) [] places) ≡ option_map (λ t. t.place.place) (first_clash do_meet [] (map (touching interfaces) places))
+pub meeting_seen : (interfaces : List DraftInterface) (places : List DraftPlace) → option_map (λ p. p.at) (first_clash (λ p q. do_meet (touching interfaces p) (touching interfaces q)) [] places) ≡ option_map (λ t. t.place.at) (first_clash do_meet [] (map (touching interfaces) places))
 meeting_seen interfaces places = by_option (first_clash (λ p q. do_meet (touching interfaces p) (touching interfaces q)) [] places) (first_clash do_meet [] (map (touching interfaces) places)) (first_clash-map (touching interfaces) do_meet [] places)
   where
-    by_option : (o : Option DraftPlace) (t : Option Touching) → option_map (touching interfaces) o ≡ t → option_map (λ p. p.place) o ≡ option_map (λ t. t.place.place) t
+    by_option : (o : Option DraftPlace) (t : Option Touching) → option_map (touching interfaces) o ≡ t → option_map (λ p. p.at) o ≡ option_map (λ t. t.place.at) t
     by_option None t h = rw (← h) refl
     by_option (Some p) t h = rw (← h) refl
 

@@ -1,5 +1,6 @@
 -- What the first pass over a plan's places keeps.
 use Rattle.std.proofs.Common.{◌≡◌, ℕ, ◌+◌, ◌-◌, ◌<◌, ◌≤◌, ◌^◌, List, [], ◌∷◌, ◌++◌, length, length-append, Bool, true, false, not, ◌&&◌, ◌||◌, Option, Some, None, Ok, refl, ◌∙◌, ap, arith}
+use Rattle.std.proofs.lemmas.Iterator.Adapters.{position_from-zero}
 use Rattle.std.specs.Prelude.{ℤ, pos, negsuc, nat_le, nat_lt}
 use Rattle.std.specs.List.{AllByRecursion, IsDistinct, list_any, position_or_len}
 use Rattle.std.specs.Str.{bytes_eq}
@@ -17,7 +18,8 @@ use Rattle.rip_plan.specs.declared.parts.Seat.TheVariants as seats
 use Rattle.rip_plan.specs.declared.error.At.{At}
 use Rattle.rip_plan.specs.Fields.{cost_of, is_between}
 use Rattle.rip_plan.specs.Seats.{is_on}
-use Rattle.rip_plan.specs.Draft.{Sketch, prefix_step, link_step, interface_step, own_step, router_step, is_outside, has_address, number_of}
+use Rattle.rip_plan.specs.Draft.{Sketch, prefix_step, link_step, interface_step, own_step, router_step, is_outside, has_address}
+use Rattle.rip_plan.specs.Names.{number_of_name}
 use Rattle.rip_plan.proofs.Binds.{steps_keep}
 use Rattle.rip_plan.proofs.Items.{all_none, all_push, all_weaker, distinct_push}
 use Rattle.rip_plan.proofs.StepsTaken.{with_link, with_router, prefix_taken, link_taken, interface_taken, own_taken, router_taken}
@@ -67,9 +69,9 @@ cost_within (Some (pos n)) c h =
     (grind (arith, nat_tests), grind (arith, nat_tests))
 cost_within (Some (negsuc n)) c h = absurd (none-some c h)
 
-number_below : (name : List ℕ) (names : List (List ℕ)) (l : ℕ) → number_of name names ≡ Some l → l < length names
+number_below : (name : List ℕ) (names : List (List ℕ)) (l : ℕ) → number_of_name name names ≡ Some l → l < length names
 number_below name names l h =
-    let (below, same) = cond_some (nat_lt (position_or_len (λ other. bytes_eq other name) names) (length names)) (position_or_len (λ other. bytes_eq other name) names) l h in
+    let (below, same) = cond_some (nat_lt (position_or_len (λ other. bytes_eq other name) names) (length names)) (position_or_len (λ other. bytes_eq other name) names) l (position_from-zero (λ other. bytes_eq other name) names ∙ h) in
     grind (arith, nat_tests)
 
 room_left : (n : ℕ) → nat_le 1024 n ≡ false → n + 1 ≤ 1024
@@ -81,9 +83,9 @@ is_named false h = absurd cc
 
 -- an own prefix is on no link
 outside_same : (l a : ℕ) (ps : List DraftPlace) (prefix : Block) (r c : ℕ) (place : At) → is_outside l a ps ≡ false
-    → is_outside l a (ps ++ record { prefix = prefix; seat = seats.Own r c; place = place } ∷ []) ≡ false
+    → is_outside l a (ps ++ record { prefix = prefix; seat = seats.Own r c; at = place } ∷ []) ≡ false
 outside_same l a ps prefix r c place h =
-    let p : DraftPlace = record { prefix = prefix; seat = seats.Own r c; place = place } in
+    let p : DraftPlace = record { prefix = prefix; seat = seats.Own r c; at = place } in
     let on = any_same (λ q. is_on l q.seat) ps p refl in
     let holds = any_same (λ q. is_on l q.seat && has_address q.prefix a) ps p refl in
     rw (on, holds) h
@@ -123,7 +125,7 @@ prefix_keeps laws i j d s t some while h =
     let kept = while.kept in
     let number : length s.links ≡ i = while.number in
     let room : length s.places + 1 ≤ 1024 = room_left (length s.places) taken.added.room in
-    let added : DraftPlace = record { prefix = taken.prefix; seat = seats.Link (i - 1); place = _ } in
+    let added : DraftPlace = record { prefix = taken.prefix; seat = seats.Link (i - 1); at = _ } in
     rw taken.added.made (record {
       kept = record {
         link_names = kept.link_names;
@@ -188,7 +190,7 @@ interface_keeps laws links r j d s t some while h =
     let kept = while.kept in
     let number : length s.routers ≡ r = while.number in
     let room : length s.interfaces + 1 ≤ 1024 = room_left (length s.interfaces) taken.room in
-    let added : DraftInterface = record { interface = record { router = r - 1; link = taken.link; address = taken.address; cost = taken.cost }; place = _ } in
+    let added : DraftInterface = record { interface = record { router = r - 1; link = taken.link; address = taken.address; cost = taken.cost }; at = _ } in
     let costs = cost_within taken.given taken.cost taken.costs in
     rw taken.made (record {
       kept = record {
@@ -219,7 +221,7 @@ own_keeps laws links r j d s t some while h =
     let kept = while.kept in
     let number : length s.routers ≡ r = while.number in
     let room : length s.places + 1 ≤ 1024 = room_left (length s.places) taken.added.room in
-    let added : DraftPlace = record { prefix = taken.prefix; seat = seats.Own (r - 1) taken.cost; place = _ } in
+    let added : DraftPlace = record { prefix = taken.prefix; seat = seats.Own (r - 1) taken.cost; at = _ } in
     let costs = cost_within taken.given taken.cost taken.costs in
     rw taken.added.made (record {
       kept = record {
@@ -229,7 +231,7 @@ own_keeps laws links r j d s t some while h =
         routers_differ = kept.routers_differ;
         interfaces = kept.interfaces;
         inside = all_weaker (IsInsideOf s.places) (IsInsideOf (s.places ++ added ∷ []))
-            (λ i e. outside_same i.interface.link i.interface.address s.places taken.prefix (r - 1) taken.cost added.place e) s.interfaces kept.inside;
+            (λ i e. outside_same i.interface.link i.interface.address s.places taken.prefix (r - 1) taken.cost added.at e) s.interfaces kept.inside;
         places = all_push (IsFitPlace (length s.links) (length s.routers)) s.places added kept.places
             (record { prefix = laws.prefix taken.text taken.prefix taken.parsed; seat = (omega arith, costs.0, costs.1) });
         few_interfaces = kept.few_interfaces;

@@ -14,7 +14,8 @@ use Rattle.rip_plan.specs.declared.parts.Seat.{Seat}
 use Rattle.rip_plan.specs.declared.parts.Seat.TheVariants as seats
 use Rattle.rip_plan.specs.Seats as seated
 use Rattle.rip_plan.specs.Passes.{same_prefix}
-use Rattle.rip_plan.specs.Network.{Network, number_of_prefix, first_named, first_at, is_at, found_at, is_on, is_of, numbers_where, is_carrying, first_carrying, cost_on, cost_at, direct_at}
+use Rattle.rip_plan.specs.Names.{number_of_name}
+use Rattle.rip_plan.specs.Network.{Network, number_of_prefix, first_at, is_at, found_at, is_on, is_of, numbers_where, is_carrying, first_carrying, cost_on, cost_at, direct_at}
 use Rattle.rip_plan.specs.Relations.{IsPrefix, IsInterface, HasAddress, IsAt, IsPlace, Carries, Touches, IsDirect, IsLawful}
 use Rattle.rip_plan.proofs.Items.{both, position_finds, position_none, none_at}
 use Rattle.rip_plan.proofs.Numbering.{same_is, same_self}
@@ -237,9 +238,9 @@ placed : (x : Interface) (l a : ℕ) → x.link ≡ l → x.address ≡ a → x 
 placed x l a e f = rw (← e, ← f) refl
 
 pub found_gives : (n : Network) (name : List ℕ) (a i : ℕ) → found_at n name a ≡ Some i → IsAt n name a i
-found_gives n name a i h = by_link (first_named name 0 n.links) refl h
+found_gives n name a i h = by_link (number_of_name name n.links) refl h
   where
-    by_link : (o : Option ℕ) → first_named name 0 n.links ≡ o → option_and_then (λ l. first_at l a 0 n.interfaces) o ≡ Some i → IsAt n name a i
+    by_link : (o : Option ℕ) → number_of_name name n.links ≡ o → option_and_then (λ l. first_at l a 0 n.interfaces) o ≡ Some i → IsAt n name a i
     by_link None e f = absurd cc
     by_link (Some l) e f =
         let (other, at, same) = at_first (λ m. bytes_eq m name) n.links l e in

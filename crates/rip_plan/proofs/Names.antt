@@ -4,7 +4,7 @@ use Rattle.std.specs.Option.{is_some}
 use Rattle.std.specs.Str.{bytes_eq}
 use Rattle.std.specs.List.{list_any, position_from}
 use Rattle.std.proofs.lemmas.Slice.Eq.{bytes_eq-Decides}
-use Rattle.rip_plan.specs.Draft.{is_taken}
+use Rattle.rip_plan.specs.Names.{is_taken}
 use Rattle.rip_plan.proofs.Items.{or_false, position_none}
 use Rattle.rip_plan.proofs.Numbering.{or_nothing, position_push}
 

@@ -17,7 +17,8 @@ use Rattle.rip_plan.specs.declared.parts.Seat.{Seat}
 use Rattle.rip_plan.specs.declared.parts.Seat.TheVariants as seats
 use Rattle.rip_plan.specs.Fault.{fault, ◌>>=◌, wanted, steps}
 use Rattle.rip_plan.specs.Fields.{◌&>◌, link_fields, interface_fields, own_fields, router_fields, root_fields, cost_of, is_version}
-use Rattle.rip_plan.specs.Draft.{Sketch, prefix_step, link_step, interface_step, own_step, router_step, is_taken, is_outside, number_of, with_place}
+use Rattle.rip_plan.specs.Draft.{Sketch, prefix_step, link_step, interface_step, own_step, router_step, is_outside, with_place}
+use Rattle.rip_plan.specs.Names.{is_taken, number_of_name}
 use Rattle.rip_plan.specs.Passes.{Touching, touching, first_clash, do_meet, are_twice, have_one_address, first_bare, none_found, second_passes}
 use Rattle.rip_plan.specs.PlanText.{sketch_of_document, document_of, sketch_of}
 use Rattle.rip_plan.specs.Network.{Network, network_in, network_of_sketch}
@@ -72,7 +73,7 @@ interface_apart r j d s =
     want codes.Key (RouterInterface r j) (as_table d &> interface_fields) _ (λ e. cc) (λ f.
     want codes.Address (RouterInterface r j) (address_in f.1) _ (λ e. cc) (λ address.
     want codes.Cost (RouterInterface r j) (cost_of f.2) _ (λ e. cc) (λ cost.
-    want codes.UnknownLink (RouterInterface r j) (number_of f.0 s.links) _ (λ e. cc) (λ link.
+    want codes.UnknownLink (RouterInterface r j) (number_of_name f.0 s.links) _ (λ e. cc) (λ link.
     guard (is_outside link address s.places) codes.OutsidePrefix (RouterInterface r j) _ (λ e. cc)
     (guard (nat_le 1024 (length s.interfaces)) codes.Limit (RouterInterface r j) _ (λ e. cc) tt)))))
 
@@ -96,9 +97,9 @@ router_apart r d s =
 passes_apart : (s : Sketch) → Apart (second_passes s)
 unfolding second_passes
 passes_apart s =
-    let meetings = option_map (λ (t : Touching). t.place.place) (first_clash do_meet [] (map (touching s.interfaces) s.places)) in
-    let twice = option_map (λ (i : DraftInterface). i.place) (first_clash are_twice [] s.interfaces) in
-    let taken = option_map (λ (i : DraftInterface). i.place) (first_clash have_one_address [] s.interfaces) in
+    let meetings = option_map (λ (t : Touching). t.place.at) (first_clash do_meet [] (map (touching s.interfaces) s.places)) in
+    let twice = option_map (λ (i : DraftInterface). i.at) (first_clash are_twice [] s.interfaces) in
+    let taken = option_map (λ (i : DraftInterface). i.at) (first_clash have_one_address [] s.interfaces) in
     let bare = option_map (λ r. Router (r + 1)) (first_bare s.interfaces 0 (length s.routers)) in
     bind {B = Unit {0}} (none_found codes.DuplicatePrefix meetings) (λ _. none_found codes.TwiceOnLink twice >>= (λ _. none_found codes.DuplicateAddress taken >>= (λ _. none_found codes.NoInterface bare)))
     (found codes.DuplicatePrefix meetings (λ e. cc)) (λ _.

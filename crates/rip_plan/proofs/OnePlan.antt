@@ -10,7 +10,7 @@ use Rattle.rip_plan.specs.declared.parts.Place.{Place}
 use Rattle.rip_plan.specs.declared.parts.Seat.{Seat}
 use Rattle.rip_plan.specs.declared.parts.Seat.TheVariants as seats
 use Rattle.rip_plan.specs.Fields.{list_of}
-use Rattle.rip_plan.specs.Draft.{number_of}
+use Rattle.rip_plan.specs.Names.{number_of_name}
 use Rattle.rip_plan.specs.Passes.{same_prefix}
 use Rattle.rip_plan.specs.Network.{Network}
 use Rattle.rip_plan.specs.PlanOf.{Matched, HasText, HasItems, IsCostOf, IsNameOf, items_under, IsInterfaceOf, Placement, IsOnLink, IsOwned, IsPlaceOf, each_once, PlanOf}
@@ -38,7 +38,7 @@ interface_same : (names others : List (List ℕ)) → names ≡ others → (x y 
 interface_same names others same x y at h k =
     let router : x.router ≡ y.router = h.router ∙ sym k.router in
     let name : h.link_name ≡ k.link_name = text_same (codes_of "link") at.1 h.link_name k.link_name h.has_link k.has_link in
-    let link : x.link ≡ y.link = same_Some x.link y.link (sym h.link ∙ ap (λ (n : List ℕ). number_of n names) name ∙ ap (number_of k.link_name) same ∙ k.link) in
+    let link : x.link ≡ y.link = same_Some x.link y.link (sym h.link ∙ ap (λ (n : List ℕ). number_of_name n names) name ∙ ap (number_of_name k.link_name) same ∙ k.link) in
     let text : h.text ≡ k.text = text_same (codes_of "address") at.1 h.text k.text h.has_address k.has_address in
     let address : x.address ≡ y.address = same_Some x.address y.address (sym h.address ∙ ap address_in text ∙ k.address) in
     let cost : x.cost ≡ y.cost = cost_same at.1 x.cost y.cost h.cost k.cost in

@@ -49,7 +49,7 @@ prefixes_added l j (x ∷ xs) s t h =
     let (u, first, others) = bind_ok (prefix_step (l + 1) j x s) (steps (prefix_step (l + 1)) (j + 1) xs) t h in
     let taken = prefix_taken (l + 1) j x s u first in
     let rest = prefixes_added l (j + 1) xs u t others in
-    let new : DraftPlace = record { prefix = taken.prefix; seat = seats.Link (l + 1 - 1); place = LinkPrefix (l + 1) j } in
+    let new : DraftPlace = record { prefix = taken.prefix; seat = seats.Link (l + 1 - 1); at = LinkPrefix (l + 1) j } in
     record {
       added = new ∷ rest.added;
       made = rest.made ∙ ap (λ (v : Sketch). record v { places = v.places ++ rest.added }) taken.added.made ∙ ap (λ (ps : List DraftPlace). record s { places = ps }) (append_assoc s.places (new ∷ []) rest.added);
@@ -105,7 +105,7 @@ interfaces_added r j (x ∷ xs) s t h =
     let taken = interface_taken (r + 1) j x s u first in
     let fields = interface_table x taken.name taken.text taken.given taken.cost taken.fields taken.costs in
     let rest = interfaces_added r (j + 1) xs u t others in
-    let new : DraftInterface = record { interface = record { router = r + 1 - 1; link = taken.link; address = taken.address; cost = taken.cost }; place = RouterInterface (r + 1) j } in
+    let new : DraftInterface = record { interface = record { router = r + 1 - 1; link = taken.link; address = taken.address; cost = taken.cost }; at = RouterInterface (r + 1) j } in
     record {
       added = new ∷ rest.added;
       made = rest.made ∙ ap (λ (v : Sketch). record v { interfaces = v.interfaces ++ rest.added }) taken.made ∙ ap (λ (is : List DraftInterface). record s { interfaces = is }) (append_assoc s.interfaces (new ∷ []) rest.added);
@@ -127,7 +127,7 @@ owns_added r j (x ∷ xs) s t h =
     let taken = own_taken (r + 1) j x s u first in
     let fields = own_table x taken.text taken.given taken.cost taken.fields taken.costs in
     let rest = owns_added r (j + 1) xs u t others in
-    let new : DraftPlace = record { prefix = taken.prefix; seat = seats.Own (r + 1 - 1) taken.cost; place = RouterOwn (r + 1) j } in
+    let new : DraftPlace = record { prefix = taken.prefix; seat = seats.Own (r + 1 - 1) taken.cost; at = RouterOwn (r + 1) j } in
     record {
       added = new ∷ rest.added;
       made = rest.made ∙ ap (λ (v : Sketch). record v { places = v.places ++ rest.added }) taken.added.made ∙ ap (λ (ps : List DraftPlace). record s { places = ps }) (append_assoc s.places (new ∷ []) rest.added);

@@ -33,9 +33,9 @@ last_none code (Some place) h = absurd cc
 pub passes_clear : (s : Sketch) → second_passes s ≡ Ok tt → Clear s
 unfolding second_passes
 passes_clear s h =
-    let meetings = option_map (λ (t : Touching). t.place.place) (first_clash do_meet [] (map (touching s.interfaces) s.places)) in
-    let twice = option_map (λ (i : DraftInterface). i.place) (first_clash are_twice [] s.interfaces) in
-    let taken = option_map (λ (i : DraftInterface). i.place) (first_clash have_one_address [] s.interfaces) in
+    let meetings = option_map (λ (t : Touching). t.place.at) (first_clash do_meet [] (map (touching s.interfaces) s.places)) in
+    let twice = option_map (λ (i : DraftInterface). i.at) (first_clash are_twice [] s.interfaces) in
+    let taken = option_map (λ (i : DraftInterface). i.at) (first_clash have_one_address [] s.interfaces) in
     let bare = option_map (λ r. Router (r + 1)) (first_bare s.interfaces 0 (length s.routers)) in
     let (one, h1) = none_found_ok codes.DuplicatePrefix meetings _ tt h in
     let (two, h2) = none_found_ok codes.TwiceOnLink twice _ tt h1 in

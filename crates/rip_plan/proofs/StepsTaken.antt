@@ -13,17 +13,18 @@ use Rattle.rip_plan.specs.declared.parts.Seat.{Seat}
 use Rattle.rip_plan.specs.declared.parts.Seat.TheVariants as seats
 use Rattle.rip_plan.specs.Fault.{fault, ◌>>=◌, steps}
 use Rattle.rip_plan.specs.Fields.{◌&>◌, link_fields, interface_fields, own_fields, router_fields, root_fields, cost_of, is_version}
-use Rattle.rip_plan.specs.Draft.{Sketch, prefix_step, link_step, interface_step, own_step, router_step, is_taken, is_outside, number_of, with_place}
+use Rattle.rip_plan.specs.Draft.{Sketch, prefix_step, link_step, interface_step, own_step, router_step, is_outside, with_place}
+use Rattle.rip_plan.specs.Names.{is_taken, number_of_name}
 use Rattle.rip_plan.specs.Passes.{second_passes}
 use Rattle.rip_plan.specs.PlanText.{empty, sketch_of_document, document_of, sketch_of}
 use Rattle.rip_plan.proofs.Binds.{bind_ok, wanted_ok, guard_ok, ok_same}
 
 -- the draft with one more place, or interface, or name
 abbrev pub with_new_place : At → Block → Seat → Sketch → Sketch
-with_new_place place prefix seat s = record s { places = s.places ++ record { prefix = prefix; seat = seat; place = place } ∷ [] }
+with_new_place place prefix seat s = record s { places = s.places ++ record { prefix = prefix; seat = seat; at = place } ∷ [] }
 
 abbrev pub with_interface : At → Interface → Sketch → Sketch
-with_interface place i s = record s { interfaces = s.interfaces ++ record { interface = i; place = place } ∷ [] }
+with_interface place i s = record s { interfaces = s.interfaces ++ record { interface = i; at = place } ∷ [] }
 
 abbrev pub with_link : List ℕ → Sketch → Sketch
 with_link name s = record s { links = s.links ++ name ∷ [] }
@@ -80,7 +81,7 @@ pub record InterfaceTaken (r j : ℕ) (d : Data) (s t : Sketch) : Type 0 where
   pub cost : ℕ
   pub costs : cost_of given ≡ Some cost
   pub link : ℕ
-  pub known : number_of name s.links ≡ Some link
+  pub known : number_of_name name s.links ≡ Some link
   pub inside : is_outside link address s.places ≡ false
   pub room : nat_le 1024 (length s.interfaces) ≡ false
   pub made : t ≡ with_interface (RouterInterface r j) (record { router = r - 1; link = link; address = address; cost = cost }) s
@@ -91,7 +92,7 @@ interface_taken r j d s t h =
     let (f, fields, h1) = wanted_ok (fault codes.Key (RouterInterface r j)) (as_table d &> interface_fields) _ t h in
     let (address, parsed, h2) = wanted_ok (fault codes.Address (RouterInterface r j)) (address_in f.1) _ t h1 in
     let (cost, costs, h3) = wanted_ok (fault codes.Cost (RouterInterface r j)) (cost_of f.2) _ t h2 in
-    let (link, known, h4) = wanted_ok (fault codes.UnknownLink (RouterInterface r j)) (number_of f.0 s.links) _ t h3 in
+    let (link, known, h4) = wanted_ok (fault codes.UnknownLink (RouterInterface r j)) (number_of_name f.0 s.links) _ t h3 in
     let (inside, h5) = guard_ok (is_outside link address s.places) (fault codes.OutsidePrefix (RouterInterface r j)) _ t h4 in
     let (room, h6) = guard_ok (nat_le 1024 (length s.interfaces)) (fault codes.Limit (RouterInterface r j)) _ t h5 in
     record {

@@ -1,6 +1,5 @@
--- What was read of a plan so far, and each step of the first pass over its places.
-use Rattle.std.specs.Prelude.{◌≡◌, ℕ, ◌-◌, ◌/◌, List, [], ◌∷◌, ◌++◌, length, map, Bool, ◌&&◌, not, ◌==◌, nat_le, Option, Result, Ok, Err, if◌then◌else◌, string_bytes, position}
-use Rattle.std.specs.Str.{bytes_eq}
+-- What was read of a plan so far, and each step of the first pass over its text.
+use Rattle.std.specs.Prelude.{◌≡◌, ℕ, ◌-◌, ◌/◌, List, [], ◌∷◌, ◌++◌, length, map, Bool, ◌&&◌, not, ◌==◌, nat_le, Option, Result, Ok, Err, if◌then◌else◌, string_bytes}
 use Rattle.std.specs.List.{list_any}
 use Rattle.toml.specs.Data.{Data, as_str, as_table}
 use Rattle.rip_wire.specs.Address.{address_in}
@@ -16,11 +15,13 @@ use Rattle.rip_plan.specs.declared.draft.DraftInterface.{DraftInterface}
 use Rattle.rip_plan.specs.declared.draft.DraftPlace.{DraftPlace}
 use Rattle.rip_plan.specs.declared.parts.Seat.{Seat}
 use Rattle.rip_plan.specs.declared.parts.Seat.TheVariants as seats
+use Rattle.rip_plan.specs.Names.{is_taken, number_of_name}
 use Rattle.rip_plan.specs.Seats.{is_on}
 use Rattle.rip_plan.specs.Fault.{fault, ◌>>=◌, wanted, steps, Fails}
 use Rattle.rip_plan.specs.Fields.{◌&>◌, link_fields, interface_fields, own_fields, router_fields, cost_of}
 
--- what was read: names, interfaces and places, each of these two with its place in the text
+-- what was read: names, interfaces and places of prefixes, these two with where they stand in the
+-- text
 pub record Sketch : Type 0 where
   pub links : List (List ℕ)
   pub routers : List (List ℕ)
@@ -28,18 +29,27 @@ pub record Sketch : Type 0 where
   pub places : List DraftPlace
 
 abbrev pub sketch : Draft → Sketch
-sketch d = record { links = map string_bytes d.links.items; routers = map string_bytes d.routers.items; interfaces = d.interfaces.items; places = d.places.items }
+sketch d = record {
+  links = map string_bytes d.links.items;
+  routers = map string_bytes d.routers.items;
+  interfaces = d.interfaces.items;
+  places = d.places.items;
+}
 
 -- what a step did with the draft
-abbrev pub Steps : Sketch → Sketch → Result (Unit {0}) ReadError → (Sketch → Result Sketch PlanError) → Type 0
+abbrev pub Steps : Sketch → Sketch → Result (Unit {0}) ReadError
+    → (Sketch → Result Sketch PlanError) → Type 0
 Steps old new (Ok u) step = step old ≡ Ok new
 Steps old new (Err e) step = Fails e (step old)
 
 -- one more place of a prefix, up to 1024
 abbrev pub with_place : At → Block → Seat → Sketch → Result Sketch PlanError
-with_place place prefix seat s =
-    if nat_le 1024 (length s.places) then Err (fault codes.Limit place)
-    else Ok (record s { places = s.places ++ record { prefix = prefix; seat = seat; place = place } ∷ [] })
+with_place at prefix seat s =
+    if nat_le 1024 (length s.places) then Err (fault codes.Limit at)
+    else Ok (record s {
+      places =
+          s.places ++ record { prefix = prefix; seat = seat; at = at } ∷ [];
+    })
 
 -- prefix j of link i
 unfoldable pub prefix_step : ℕ → ℕ → Data → Sketch → Result Sketch PlanError
@@ -47,10 +57,6 @@ prefix_step i j d s =
     wanted (fault codes.Key (LinkPrefix i j)) (as_str d) >>= (λ text.
     wanted (fault codes.Prefix (LinkPrefix i j)) (prefix_in text) >>= (λ prefix.
     with_place (LinkPrefix i j) prefix (seats.Link (i - 1)) s))
-
--- the name is among the names
-abbrev pub is_taken : List ℕ → List (List ℕ) → Bool
-is_taken name names = list_any (λ other. bytes_eq other name) names
 
 -- link i
 unfoldable pub link_step : ℕ → Data → Sketch → Result Sketch PlanError
@@ -66,11 +72,9 @@ has_address p a = a / size_of p.prefix_len == p.network / size_of p.prefix_len
 
 -- the link has prefixes, and none contains the address
 abbrev pub is_outside : ℕ → ℕ → List DraftPlace → Bool
-is_outside l a ps = list_any (λ p. is_on l p.seat) ps && not (list_any (λ p. is_on l p.seat && has_address p.prefix a) ps)
-
--- the number of the first name that is this one
-abbrev pub number_of : List ℕ → List (List ℕ) → Option ℕ
-number_of name names = position (λ other. bytes_eq other name) names
+is_outside l a ps =
+    list_any (λ p. is_on l p.seat) ps
+    && not (list_any (λ p. is_on l p.seat && has_address p.prefix a) ps)
 
 -- interface j of router r
 unfoldable pub interface_step : ℕ → ℕ → Data → Sketch → Result Sketch PlanError
@@ -78,10 +82,15 @@ interface_step r j d s =
     wanted (fault codes.Key (RouterInterface r j)) (as_table d &> interface_fields) >>= (λ f.
     wanted (fault codes.Address (RouterInterface r j)) (address_in f.1) >>= (λ address.
     wanted (fault codes.Cost (RouterInterface r j)) (cost_of f.2) >>= (λ cost.
-    wanted (fault codes.UnknownLink (RouterInterface r j)) (number_of f.0 s.links) >>= (λ link.
+    wanted (fault codes.UnknownLink (RouterInterface r j)) (number_of_name f.0 s.links) >>= (λ link.
     if is_outside link address s.places then Err (fault codes.OutsidePrefix (RouterInterface r j))
     else if nat_le 1024 (length s.interfaces) then Err (fault codes.Limit (RouterInterface r j))
-    else Ok (record s { interfaces = s.interfaces ++ record { interface = record { router = r - 1; link = link; address = address; cost = cost }; place = RouterInterface r j } ∷ [] })))))
+    else Ok (record s {
+      interfaces = s.interfaces ++ record {
+        interface = record { router = r - 1; link = link; address = address; cost = cost };
+        at = RouterInterface r j;
+      } ∷ [];
+    })))))
 
 -- own prefix j of router r
 unfoldable pub own_step : ℕ → ℕ → Data → Sketch → Result Sketch PlanError
@@ -97,4 +106,5 @@ router_step r d s =
     wanted (fault codes.Key (Router r)) (as_table d &> router_fields) >>= (λ f.
     if not (is_name f.0) then Err (fault codes.Name (Router r))
     else if is_taken f.0 s.routers then Err (fault codes.DuplicateName (Router r))
-    else steps (interface_step r) 1 f.1 (record s { routers = s.routers ++ f.0 ∷ [] }) >>= steps (own_step r) 1 f.2)
+    else steps (interface_step r) 1 f.1 (record s { routers = s.routers ++ f.0 ∷ [] })
+    >>= steps (own_step r) 1 f.2)

@@ -7,10 +7,11 @@ use Rattle.rip_plan.specs.declared.error.ReadError.{ReadError}
 use Rattle.rip_plan.specs.declared.error.ReadError.TheVariants as errors
 
 abbrev pub fault : PlanCode → At → PlanError
-fault code place = record { code = code; place = place }
+fault code at = record { code = code; place = at }
 
 infixl 10 ◌>>=◌
-abbrev pub ◌>>=◌ : {A B : Type 0} → Result A PlanError → (A → Result B PlanError) → Result B PlanError
+abbrev pub ◌>>=◌ : {A B : Type 0}
+    → Result A PlanError → (A → Result B PlanError) → Result B PlanError
 (Ok x) >>= f = f x
 (Err e) >>= f = Err e
 
@@ -28,7 +29,9 @@ abbrev pub Gives : {X Y : Type 0} → (X → Y) → Result X ReadError → Resul
 Gives view (Ok x) read = read ≡ Ok (view x)
 Gives view (Err e) read = Fails e read
 
--- A step over each item of a list in turn, with its number, from a state to the next, or the first fault.
-abbrev pub steps : {S A : Type 0} → (ℕ → A → S → Result S PlanError) → ℕ → List A → S → Result S PlanError
+-- A step over each item of a list in turn, with its number, from a state to the next, or the first
+-- fault.
+abbrev pub steps : {S A : Type 0}
+    → (ℕ → A → S → Result S PlanError) → ℕ → List A → S → Result S PlanError
 steps step n [] s = Ok s
 steps step n (x ∷ xs) s = step n x s >>= steps step (n + 1) xs

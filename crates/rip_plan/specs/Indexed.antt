@@ -2,24 +2,41 @@
 use Rattle.std.specs.Prelude.{◌≡◌, ℕ, ◌*◌, List, length, map, string_bytes}
 use Rattle.std.specs.HashMap.{get, get_by_text}
 use Rattle.rip_wire.specs.Prefix.{Block}
-use Rattle.rip_plan.specs.Network.{Network, each_below, first_at, first_named, is_of, is_on, number_of_prefix, numbers_where, pair_eq}
+use Rattle.rip_plan.specs.Names.{number_of_name}
+use Rattle.rip_plan.specs.Network.{Network, each_below, first_at, is_of, is_on, number_of_prefix, numbers_where, pair_eq}
 use Rattle.rip_plan.specs.Passes.{same_prefix}
 use Rattle.rip_plan.specs.Relations.{IsLawful}
 use Rattle.rip_plan.specs.Rows.{AreCosts, AreFlags}
 use Rattle.rip_plan.specs.declared.plan.Plan.TheInside.{Inside}
 
 abbrev pub network_of : Inside → Network
-network_of p = record { links = map string_bytes p.links.items; routers = map string_bytes p.routers.items; interfaces = p.interfaces.items; prefixes = p.prefixes.items; places = p.places.items }
+network_of p = record {
+  links = map string_bytes p.links.items;
+  routers = map string_bytes p.routers.items;
+  interfaces = p.interfaces.items;
+  prefixes = p.prefixes.items;
+  places = p.places.items;
+}
 
 -- what a plan keeps: its laws, and look-ups that find what a walk over the parts would find
 pub record IsKept (plan : Inside) : Type 0 where
   pub lawful : IsLawful (network_of plan)
-  pub on_link : map (λ w. w.items) plan.on_link.items ≡ each_below (length plan.links.items) (λ l. numbers_where (is_on l) 0 plan.interfaces.items)
-  pub of_router : map (λ w. w.items) plan.of_router.items ≡ each_below (length plan.routers.items) (λ r. numbers_where (is_of r) 0 plan.interfaces.items)
-  pub names : (bytes : List ℕ) → get_by_text plan.names bytes ≡ first_named bytes 0 (map string_bytes plan.links.items)
-  pub numbers : (p : Block) → get same_prefix plan.numbers p ≡ number_of_prefix p plan.prefixes.items
-  pub carriers_room : length plan.carriers.items ≡ length plan.links.items * length plan.prefixes.items
+  pub on_link : map (λ w. w.items) plan.on_link.items
+      ≡ each_below (length plan.links.items)
+      (λ l. numbers_where (is_on l) 0 plan.interfaces.items)
+  pub of_router : map (λ w. w.items) plan.of_router.items
+      ≡ each_below (length plan.routers.items)
+      (λ r. numbers_where (is_of r) 0 plan.interfaces.items)
+  pub names : (name : List ℕ) → get_by_text plan.names name
+      ≡ number_of_name name (map string_bytes plan.links.items)
+  pub numbers : (p : Block) →
+      get same_prefix plan.numbers p ≡ number_of_prefix p plan.prefixes.items
+  pub carriers_room : length plan.carriers.items
+      ≡ length plan.links.items * length plan.prefixes.items
   pub carriers : AreFlags (length plan.prefixes.items) plan.places.items plan.carriers.items
-  pub costs_room : length plan.costs.items ≡ length plan.routers.items * length plan.prefixes.items
-  pub costs : AreCosts (length plan.prefixes.items) plan.interfaces.items plan.places.items plan.costs.items
-  pub addresses : (l a : ℕ) → get pair_eq plan.addresses (l, a) ≡ first_at l a 0 plan.interfaces.items
+  pub costs_room : length plan.costs.items
+      ≡ length plan.routers.items * length plan.prefixes.items
+  pub costs : AreCosts (length plan.prefixes.items) plan.interfaces.items plan.places.items
+      plan.costs.items
+  pub addresses : (l a : ℕ) →
+      get pair_eq plan.addresses (l, a) ≡ first_at l a 0 plan.interfaces.items

@@ -1,6 +1,7 @@
 pub mod Fault
 pub mod Fields
 pub mod Seats
+pub mod Names
 pub mod Draft
 pub mod Passes
 pub mod PlanText

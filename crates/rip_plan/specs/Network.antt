@@ -1,8 +1,8 @@
--- What a plan is: its links and routers by their names, its interfaces, and its prefixes with their places.
+-- What a plan is: its links and routers by their names, its interfaces, and its prefixes with their
+-- places.
 use Rattle.std.specs.Prelude.{ℕ, zero, suc, ◌+◌, Bool, if◌then◌else◌, option_and_then, ◌&&◌, ◌==◌, List, [], ◌∷◌, ◌++◌, length, map, Option, Some, None, Result, Ok}
 use Rattle.std.specs.List.{position_from}
 use Rattle.std.specs.Option.{option_or}
-use Rattle.std.specs.Str.{bytes_eq}
 use Rattle.rip_wire.specs.Prefix.{Block}
 use Rattle.rip_plan.specs.declared.error.PlanError.{PlanError}
 use Rattle.rip_plan.specs.declared.parts.Interface.{Interface}
@@ -12,6 +12,7 @@ use Rattle.rip_plan.specs.declared.parts.Seat.TheVariants as seats
 use Rattle.rip_plan.specs.declared.draft.DraftPlace.{DraftPlace}
 use Rattle.rip_plan.specs.Fault.{◌>>=◌}
 use Rattle.rip_plan.specs.Seats as seated
+use Rattle.rip_plan.specs.Names.{number_of_name}
 use Rattle.rip_plan.specs.Draft.{Sketch}
 use Rattle.rip_plan.specs.Passes.{same_prefix}
 use Rattle.rip_plan.specs.PlanText.{sketch_of}
@@ -37,18 +38,26 @@ abbrev pub with_prefix : List Block → Block → Option ℕ → List Block
 with_prefix ps p None = ps ++ p ∷ []
 with_prefix ps p (Some k) = ps
 
--- the prefixes, each once in the order of its first place, and the places with the prefixes' numbers
+-- the prefixes, each once in the order of its first place, and the places with the prefixes'
+-- numbers
 abbrev pub numbered : List Block → List Place → List DraftPlace → List Block × List Place
 numbered ps qs [] = (ps, qs)
 numbered ps qs (d ∷ ds) =
     let k = number_of_prefix d.prefix ps in
-    numbered (with_prefix ps d.prefix k) (qs ++ record { prefix = number_or_next ps k; seat = d.seat } ∷ []) ds
+    let q : Place = record { prefix = number_or_next ps k; seat = d.seat } in
+    numbered (with_prefix ps d.prefix k) (qs ++ q ∷ []) ds
 
 -- the plan of what was read
 abbrev pub network_of_sketch : Sketch → Network
 network_of_sketch s =
     let both = numbered [] [] s.places in
-    record { links = s.links; routers = s.routers; interfaces = map (λ i. i.interface) s.interfaces; prefixes = both.0; places = both.1 }
+    record {
+      links = s.links;
+      routers = s.routers;
+      interfaces = map (λ i. i.interface) s.interfaces;
+      prefixes = both.0;
+      places = both.1;
+    }
 
 -- the plan that the bytes are, or their first fault
 abbrev pub network_in : List ℕ → Result Network PlanError
@@ -60,10 +69,6 @@ network_in bytes = sketch_of bytes >>= (λ s. Ok (network_of_sketch s))
 abbrev pub pair_eq : ℕ × ℕ → ℕ × ℕ → Bool
 pair_eq p q = p.0 == q.0 && p.1 == q.1
 
--- the number of the first name that is these bytes, counted from n
-abbrev pub first_named : List ℕ → ℕ → List (List ℕ) → Option ℕ
-first_named bytes n names = position_from (λ name. bytes_eq name bytes) n names
-
 abbrev pub is_at : ℕ → ℕ → Interface → Bool
 is_at l a i = i.link == l && i.address == a
 
@@ -73,7 +78,7 @@ first_at l a n interfaces = position_from (is_at l a) n interfaces
 
 -- the number of the interface on the link of this name with the address
 abbrev pub found_at : Network → List ℕ → ℕ → Option ℕ
-found_at n name a = option_and_then (λ l. first_at l a 0 n.interfaces) (first_named name 0 n.links)
+found_at n name a = option_and_then (λ l. first_at l a 0 n.interfaces) (number_of_name name n.links)
 
 abbrev pub is_on : ℕ → Interface → Bool
 is_on l i = i.link == l
@@ -84,7 +89,8 @@ is_of r i = i.router == r
 -- the numbers of the items that pass, counted from n, ascending
 abbrev pub numbers_where : {A : Type 0} → (A → Bool) → ℕ → List A → List ℕ
 numbers_where test n [] = []
-numbers_where test n (x ∷ xs) = if test x then n ∷ numbers_where test (n + 1) xs else numbers_where test (n + 1) xs
+numbers_where test n (x ∷ xs) =
+    if test x then n ∷ numbers_where test (n + 1) xs else numbers_where test (n + 1) xs
 
 -- the place is the link, with prefix k
 abbrev pub is_carrying : ℕ → ℕ → Place → Bool
@@ -108,7 +114,8 @@ cost_at r interfaces (seats.Own owner c) = if owner == r then Some c else None
 abbrev pub direct_at : ℕ → ℕ → List Interface → List Place → Option ℕ
 direct_at r k interfaces [] = None
 direct_at r k interfaces (q ∷ qs) =
-    if q.prefix == k then option_or (cost_at r interfaces q.seat) (direct_at r k interfaces qs) else direct_at r k interfaces qs
+    if q.prefix == k then option_or (cost_at r interfaces q.seat) (direct_at r k interfaces qs)
+    else direct_at r k interfaces qs
 
 -- f of each number below n
 abbrev pub each_below : {A : Type 0} → ℕ → (ℕ → A) → List A

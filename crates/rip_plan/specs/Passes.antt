@@ -17,14 +17,16 @@ use Rattle.rip_plan.specs.Draft.{Sketch}
 -- the first item that clashes with an earlier one
 abbrev pub first_clash : {A : Type 0} → (A → A → Bool) → List A → List A → Option A
 first_clash clash earlier [] = None
-first_clash clash earlier (x ∷ xs) = if list_any (λ y. clash y x) earlier then Some x else first_clash clash (earlier ++ x ∷ []) xs
+first_clash clash earlier (x ∷ xs) =
+    if list_any (λ y. clash y x) earlier then Some x else first_clash clash (earlier ++ x ∷ []) xs
 
 abbrev pub same_prefix : Block → Block → Bool
 same_prefix p q = p.network == q.network && p.prefix_len == q.prefix_len
 
 -- the routers that a seat touches: those with an interface on the link, or the owner
 abbrev pub touched : List DraftInterface → Seat → List ℕ
-touched interfaces (seats.Link l) = map (λ i. i.interface.router) (filter (λ i. i.interface.link == l) interfaces)
+touched interfaces (seats.Link l) =
+    map (λ i. i.interface.router) (filter (λ i. i.interface.link == l) interfaces)
 touched interfaces (seats.Own r c) = r ∷ []
 
 abbrev pub is_same_link : Seat → Seat → Bool
@@ -45,7 +47,9 @@ have_common rs ss = list_any (λ s. list_any (λ r. r == s) rs) ss
 
 -- two places of one prefix on one link, or that touch one router
 abbrev pub do_meet : Touching → Touching → Bool
-do_meet p q = same_prefix p.place.prefix q.place.prefix && (is_same_link p.place.seat q.place.seat || have_common p.routers q.routers)
+do_meet p q =
+    same_prefix p.place.prefix q.place.prefix
+    && (is_same_link p.place.seat q.place.seat || have_common p.routers q.routers)
 
 -- two interfaces of one router on one link
 abbrev pub are_twice : DraftInterface → DraftInterface → Bool
@@ -53,7 +57,8 @@ are_twice a b = a.interface.router == b.interface.router && a.interface.link == 
 
 -- two interfaces on one link with one address
 abbrev pub have_one_address : DraftInterface → DraftInterface → Bool
-have_one_address a b = a.interface.link == b.interface.link && a.interface.address == b.interface.address
+have_one_address a b =
+    a.interface.link == b.interface.link && a.interface.address == b.interface.address
 
 -- the router has no interface
 abbrev pub is_bare : List DraftInterface → ℕ → Bool
@@ -62,17 +67,35 @@ is_bare interfaces r = not (list_any (λ i. i.interface.router == r) interfaces)
 -- the first of n routers from k on that has no interface
 abbrev pub first_bare : List DraftInterface → ℕ → ℕ → Option ℕ
 first_bare interfaces k zero = None
-first_bare interfaces k (suc n) = if is_bare interfaces k then Some k else first_bare interfaces (k + 1) n
+first_bare interfaces k (suc n) =
+    if is_bare interfaces k then Some k else first_bare interfaces (k + 1) n
 
--- nothing, or the fault at the place where something was found
+-- nothing, or the fault where something was found
 abbrev pub none_found : PlanCode → Option At → Result (Unit {0}) PlanError
 none_found code None = Ok tt
-none_found code (Some place) = Err (fault code place)
+none_found code (Some at) = Err (fault code at)
+
+-- where the first place of a prefix stands that meets an earlier one
+abbrev pub duplicate_in : List DraftInterface → List DraftPlace → Option At
+duplicate_in interfaces places =
+    option_map (λ t. t.place.at) (first_clash do_meet [] (map (touching interfaces) places))
+
+-- where the first interface stands whose router has an earlier one on the link
+abbrev pub twice_in : List DraftInterface → Option At
+twice_in interfaces = option_map (λ i. i.at) (first_clash are_twice [] interfaces)
+
+-- where the first interface stands whose address an earlier one on the link has
+abbrev pub taken_address_in : List DraftInterface → Option At
+taken_address_in interfaces = option_map (λ i. i.at) (first_clash have_one_address [] interfaces)
+
+-- where the first of so many routers stands that has no interface
+abbrev pub bare_in : List DraftInterface → ℕ → Option At
+bare_in interfaces routers = option_map (λ r. Router (r + 1)) (first_bare interfaces 0 routers)
 
 -- the passes, one for each of these codes
 unfoldable pub second_passes : Sketch → Result (Unit {0}) PlanError
 second_passes s =
-    none_found codes.DuplicatePrefix (option_map (λ t. t.place.place) (first_clash do_meet [] (map (touching s.interfaces) s.places))) >>= (λ _.
-    none_found codes.TwiceOnLink (option_map (λ i. i.place) (first_clash are_twice [] s.interfaces)) >>= (λ _.
-    none_found codes.DuplicateAddress (option_map (λ i. i.place) (first_clash have_one_address [] s.interfaces)) >>= (λ _.
-    none_found codes.NoInterface (option_map (λ r. Router (r + 1)) (first_bare s.interfaces 0 (length s.routers))))))
+    none_found codes.DuplicatePrefix (duplicate_in s.interfaces s.places) >>= (λ _.
+    none_found codes.TwiceOnLink (twice_in s.interfaces) >>= (λ _.
+    none_found codes.DuplicateAddress (taken_address_in s.interfaces) >>= (λ _.
+    none_found codes.NoInterface (bare_in s.interfaces (length s.routers)))))

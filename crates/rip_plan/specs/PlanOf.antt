@@ -1,4 +1,5 @@
--- What it is for a network to be the plan of a document: each list is matched item by item with the document's tables.
+-- What it is for a network to be the plan of a document: each list is matched item by item with the
+-- document's tables.
 use Rattle.std.specs.Prelude.{◌≡◌, ◌⊎◌, ℕ, ◌+◌, pos, List, [], ◌∷◌, ◌++◌, map, filter, not, codes, Option, None, Some}
 use Rattle.toml.specs.Data.{Data, Items, Members, string, integer, array, table, get}
 use Rattle.rip_wire.specs.Address.{address_in}
@@ -8,13 +9,13 @@ use Rattle.rip_plan.specs.declared.parts.Place.{Place}
 use Rattle.rip_plan.specs.declared.parts.Seat.{Seat}
 use Rattle.rip_plan.specs.declared.parts.Seat.TheVariants as seats
 use Rattle.rip_plan.specs.Fields.{list_of}
-use Rattle.rip_plan.specs.Draft.{number_of}
+use Rattle.rip_plan.specs.Names.{number_of_name}
 use Rattle.rip_plan.specs.Passes.{same_prefix}
 use Rattle.rip_plan.specs.PlanText.{document_of}
 use Rattle.rip_plan.specs.Network.{Network}
 use Rattle.rip_plan.specs.Relations.{IsPrefix}
 
--- each item of the one list with the item of the other at the same place
+-- each item of the one list with the item of the other that has the same number
 abbrev pub Matched : {A B : Type 0} → (A → B → Type 0) → List A → List B → Type 0
 Matched R [] [] = Unit {0}
 Matched R [] (y ∷ ys) = ⊥
@@ -33,7 +34,8 @@ HasItems key d ds = (items : Items) × (get key d ≡ Some (array items)) × (li
 
 -- the table's cost: what it gives, or 1 where it gives none
 abbrev pub IsCostOf : Data → ℕ → Type 0
-IsCostOf d c = (get (codes "cost") d ≡ Some (integer (pos c))) ⊎ ((get (codes "cost") d ≡ None) × (c ≡ 1))
+IsCostOf d c =
+    (get (codes "cost") d ≡ Some (integer (pos c))) ⊎ ((get (codes "cost") d ≡ None) × (c ≡ 1))
 
 abbrev pub IsNameOf : List ℕ → Data → Type 0
 IsNameOf name d = HasText (codes "name") d name
@@ -45,7 +47,8 @@ items_in _ = []
 -- the items of the lists at the key, each with the number of its table, counted from n
 abbrev pub items_under : List ℕ → ℕ → List Data → List (ℕ × Data)
 items_under key n [] = []
-items_under key n (d ∷ ds) = map (λ item. (n, item)) (items_in (get key d)) ++ items_under key (n + 1) ds
+items_under key n (d ∷ ds) =
+    map (λ item. (n, item)) (items_in (get key d)) ++ items_under key (n + 1) ds
 
 -- ---- parts of the plan
 
@@ -54,7 +57,7 @@ pub record IsInterfaceOf (links : List (List ℕ)) (i : Interface) (at : ℕ × 
   pub router : i.router ≡ at.0
   pub link_name : List ℕ
   pub has_link : HasText (codes "link") at.1 link_name
-  pub link : number_of link_name links ≡ Some i.link
+  pub link : number_of_name link_name links ≡ Some i.link
   pub text : List ℕ
   pub has_address : HasText (codes "address") at.1 text
   pub address : address_in text ≡ Some i.address
@@ -100,7 +103,8 @@ pub record PlanOf (document : Members) (n : Network) : Type 0 where
   pub routers : List Data
   pub has_routers : HasItems (codes "router") (table document) routers
   pub router_names : Matched IsNameOf n.routers routers
-  pub interfaces : Matched (IsInterfaceOf n.links) n.interfaces (items_under (codes "interface") 0 routers)
+  pub interfaces : Matched (IsInterfaceOf n.links) n.interfaces
+      (items_under (codes "interface") 0 routers)
   pub on_links : List Placement
   pub link_prefixes : Matched IsOnLink on_links (items_under (codes "prefixes") 0 links)
   pub owned : List Placement

@@ -14,13 +14,14 @@ use Rattle.rip_plan.specs.Passes.{second_passes}
 abbrev pub empty : Sketch
 empty = record { links = []; routers = []; interfaces = []; places = [] }
 
--- what a document says: the version, the root, the first pass over places, and the other passes
+-- what a document says: the version, the root, the first pass, and the other passes
 unfoldable pub sketch_of_document : Members → Result Sketch PlanError
 sketch_of_document doc =
-    if not (is_version (get_member (codes "version") doc)) then Err (fault codes.Version Version) else
-    (wanted (fault codes.Key Text) (root_fields doc) >>= (λ root.
-    if nat_lt 512 (length root.0) || nat_lt 128 (length root.1) then Err (fault codes.Limit Text) else
-    (steps link_step 1 root.0 empty >>= steps router_step 1 root.1 >>= (λ s. second_passes s >>= (λ _. Ok s)))))
+    if not (is_version (get_member (codes "version") doc)) then Err (fault codes.Version Version)
+    else (wanted (fault codes.Key Text) (root_fields doc) >>= (λ root.
+    if nat_lt 512 (length root.0) || nat_lt 128 (length root.1) then Err (fault codes.Limit Text)
+    else (steps link_step 1 root.0 empty >>= steps router_step 1 root.1 >>= (λ s.
+    second_passes s >>= (λ _. Ok s)))))
 
 -- the document that the bytes are
 abbrev pub document_of : List ℕ → Option Members
@@ -28,4 +29,6 @@ document_of bytes = if is_utf8 bytes then parse_document bytes else None
 
 -- what the bytes say; at most 1,048,576 of them
 unfoldable pub sketch_of : List ℕ → Result Sketch PlanError
-sketch_of bytes = if nat_lt 1048576 (length bytes) then Err (fault codes.Limit Text) else (wanted (fault codes.Syntax Text) (document_of bytes) >>= sketch_of_document)
+sketch_of bytes =
+    if nat_lt 1048576 (length bytes) then Err (fault codes.Limit Text)
+    else (wanted (fault codes.Syntax Text) (document_of bytes) >>= sketch_of_document)

@@ -1,4 +1,5 @@
--- What stands in a network: who is on which link at what cost, where each prefix is, and the laws that a plan keeps.
+-- What stands in a network: who is on which link at what cost, where each prefix is, and the laws
+-- that a plan keeps.
 use Rattle.std.specs.Prelude.{◌≡◌, ◌≢◌, ℕ, ◌<◌, ◌≤◌, ◌^◌, ◌⊎◌, List, length, Some, slice_get}
 use Rattle.rip_wire.specs.Name.{IsName}
 use Rattle.rip_wire.specs.Prefix.{Block, ContainsAddress, IsBlock}
@@ -18,16 +19,19 @@ IsRouterName n r name = slice_get n.routers r ≡ Some name
 abbrev pub IsPrefix : Network → ℕ → Block → Type 0
 IsPrefix n k p = slice_get n.prefixes k ≡ Some p
 
--- interface i is router r's on link l, and has cost c (RFC 2453, 3.5: the metric of a directly-connected network)
+-- interface i is router r's on link l, and has cost c (RFC 2453, 3.5: the metric of a
+-- directly-connected network)
 pub record IsInterface (n : Network) (i r l c : ℕ) : Type 0 where
   pub address : ℕ
-  pub listed : slice_get n.interfaces i ≡ Some (record { router = r; link = l; address = address; cost = c })
+  pub listed : slice_get n.interfaces i
+      ≡ Some (record { router = r; link = l; address = address; cost = c })
 
 -- interface i is on link l and has address a there
 pub record HasAddress (n : Network) (i l a : ℕ) : Type 0 where
   pub router : ℕ
   pub cost : ℕ
-  pub listed : slice_get n.interfaces i ≡ Some (record { router = router; link = l; address = a; cost = cost })
+  pub listed : slice_get n.interfaces i
+      ≡ Some (record { router = router; link = l; address = a; cost = cost })
 
 -- interface i is on the link of this name and has address a there
 abbrev pub IsAt : Network → List ℕ → ℕ → ℕ → Type 0
@@ -63,17 +67,20 @@ pub record IsPlace (n : Network) (k p : ℕ) (seat : Seat) : Type 0 where
 abbrev pub Carries : Network → ℕ → ℕ → Type 0
 Carries n l p = (k : ℕ) × IsPlace n k p (Link l)
 
--- place k of prefix p touches router r, which has the prefix there at cost c: the router is on the link, or owns the prefix
+-- place k of prefix p touches router r, which has the prefix there at cost c: the router is on the
+-- link, or owns the prefix
 abbrev pub Touches : Network → ℕ → ℕ → ℕ → ℕ → Type 0
 Touches n k p r c = ((l : ℕ) × IsPlace n k p (Link l) × HasCost n r l c) ⊎ IsPlace n k p (Own r c)
 
--- router r has prefix p on its own link, or as its own, at cost c (RFC 2453, 3.5: its directly-connected networks)
+-- router r has prefix p on its own link, or as its own, at cost c (RFC 2453, 3.5: its
+-- directly-connected networks)
 abbrev pub IsDirect : Network → ℕ → ℕ → ℕ → Type 0
 IsDirect n r p c = (k : ℕ) × Touches n k p r c
 
 -- a prefix of link l contains address a
 abbrev pub IsInside : Network → ℕ → ℕ → Type 0
-IsInside n l a = (p : ℕ) × (block : Block) × Carries n l p × IsPrefix n p block × ContainsAddress block a
+IsInside n l a =
+    (p : ℕ) × (block : Block) × Carries n l p × IsPrefix n p block × ContainsAddress block a
 
 -- ---- The laws of a plan: its refusals turned round
 
@@ -88,8 +95,10 @@ pub record IsLawful (n : Network) : Type 0 where
   -- names
   pub link_named : (l : ℕ) (name : List ℕ) → IsLinkName n l name → IsName name
   pub router_named : (r : ℕ) (name : List ℕ) → IsRouterName n r name → IsName name
-  pub link_names_differ : (l m : ℕ) (name : List ℕ) → IsLinkName n l name → IsLinkName n m name → l ≡ m
-  pub router_names_differ : (r s : ℕ) (name : List ℕ) → IsRouterName n r name → IsRouterName n s name → r ≡ s
+  pub link_names_differ : (l m : ℕ) (name : List ℕ)
+      → IsLinkName n l name → IsLinkName n m name → l ≡ m
+  pub router_names_differ : (r s : ℕ) (name : List ℕ)
+      → IsRouterName n r name → IsRouterName n s name → r ≡ s
   -- interfaces; costs are 1 to 15 (RFC 2453, 3.5)
   pub router_known : (i r l c : ℕ) → IsInterface n i r l c → r < length n.routers
   pub link_known : (i r l c : ℕ) → IsInterface n i r l c → l < length n.links

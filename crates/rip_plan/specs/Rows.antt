@@ -1,4 +1,5 @@
--- The rows in which a plan keeps the costs of routers and the prefixes of links, one after another in one list: what stands in row r at column k of w.
+-- The rows in which a plan keeps the costs of routers and the prefixes of links, one after another
+-- in one list: what stands in row r at column k of w.
 use Rattle.std.specs.Prelude.{◌≡◌, ℕ, ◌+◌, ◌*◌, ◌<◌, List, [], ◌∷◌, length, Bool, false, ◌==◌, Option, Some, None, if◌then◌else◌, slice_get, slice_index, slice_index_or, unwrap_or, is_some}
 use Rattle.std.specs.Option.{option_or}
 use Rattle.rip_plan.specs.declared.parts.Interface.{Interface}
@@ -17,16 +18,19 @@ flag w flags l k = slice_index_or flags (l * w + k) false
 
 -- the row of each router has the cost at which it has each of w prefixes, or 0
 abbrev pub AreCosts : ℕ → List Interface → List Place → List ℕ → Type 0
-AreCosts w interfaces places costs = (r k : ℕ) → k < w → cell w costs r k ≡ unwrap_or (direct_at r k interfaces places) 0
+AreCosts w interfaces places costs =
+    (r k : ℕ) → k < w → cell w costs r k ≡ unwrap_or (direct_at r k interfaces places) 0
 
 -- the row of each link says of each of w prefixes whether it stands on the link
 abbrev pub AreFlags : ℕ → List Place → List Bool → Type 0
-AreFlags w places flags = (l k : ℕ) → k < w → flag w flags l k ≡ is_some (first_carrying l k 0 places)
+AreFlags w places flags =
+    (l k : ℕ) → k < w → flag w flags l k ≡ is_some (first_carrying l k 0 places)
 
 -- in column p stand the costs that there are, and all else is as it was
 abbrev pub WritesCosts : ℕ → ℕ → (ℕ → Option ℕ) → List ℕ → List ℕ → Type 0
 WritesCosts w p cost old new =
-    (r k : ℕ) → k < w → cell w new r k ≡ (if p == k then unwrap_or (cost r) (cell w old r k) else cell w old r k)
+    (r k : ℕ) → k < w → cell w new r k
+    ≡ (if p == k then unwrap_or (cost r) (cell w old r k) else cell w old r k)
 
 -- the cost of the interface, if it is the router's
 abbrev pub cost_by : ℕ → Option Interface → Option ℕ
@@ -36,11 +40,13 @@ cost_by r (Some i) = if i.router == r then Some i.cost else None
 -- the cost of the router's first interface among those of these numbers
 abbrev pub cost_among : ℕ → List Interface → List ℕ → Option ℕ
 cost_among r interfaces [] = None
-cost_among r interfaces (n ∷ ns) = option_or (cost_by r (slice_get interfaces n)) (cost_among r interfaces ns)
+cost_among r interfaces (n ∷ ns) =
+    option_or (cost_by r (slice_get interfaces n)) (cost_among r interfaces ns)
 
 -- these are the lists of the interfaces on each link
 abbrev pub AreOnLinks : List Interface → List (List ℕ) → Type 0
-AreOnLinks interfaces lists = lists ≡ each_below (length lists) (λ l. numbers_where (is_on l) 0 interfaces)
+AreOnLinks interfaces lists =
+    lists ≡ each_below (length lists) (λ l. numbers_where (is_on l) 0 interfaces)
 
 -- a link of the seat has a lower number
 abbrev pub IsLinkBelow : ℕ → Seat → Type 0

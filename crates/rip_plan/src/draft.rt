@@ -1,10 +1,9 @@
-//! What was read of a plan so far, and the steps of the first pass over its places.
+//! What was read of a plan so far, and the steps of the first pass over its text.
 
 ghost use Rattle.std.specs.Prelude.{◌≡◌, ℕ, [], List, filter, map, nat_eq, string_bytes};
-ghost use Rattle.std.specs.List.{position_from};
-ghost use Rattle.std.specs.Str.{bytes_eq};
 ghost use Rattle.std.specs.HashMap.{get, get_by_text};
 ghost use Rattle.std.specs.Option.{option_map_or};
+ghost use Rattle.rip_plan.specs.Names.{number_of_name};
 ghost use Rattle.rip_plan.specs.Seats.{is_on};
 
 use crate::error::At;
@@ -19,7 +18,7 @@ pub(crate) const MOST: usize = 1024;
 #[derive(Clone, Copy, Debug)]
 pub(crate) struct DraftInterface {
     pub interface: Interface,
-    pub place: At,
+    pub at: At,
 }
 
 /// A place of a prefix, and where it stands in the text.
@@ -27,7 +26,7 @@ pub(crate) struct DraftInterface {
 pub(crate) struct DraftPlace {
     pub prefix: Prefix,
     pub seat: Seat,
-    pub place: At,
+    pub at: At,
 }
 
 /// What was read of a plan so far. Beside the links stand the numbers of their names and, by link,
@@ -40,12 +39,12 @@ pub(crate) struct Draft {
     pub places: Vec<DraftPlace>,
     pub numbers: HashMap<String, usize>,
     pub blocks: HashMap<usize, Vec<Prefix>>,
-    ghost numbered: { (bytes : List ℕ) → get_by_text numbers bytes
-        ≡ position_from (λ name. bytes_eq name bytes) 0 (map string_bytes links.items) },
+    ghost numbered: { (name : List ℕ) → get_by_text numbers name
+        ≡ number_of_name name (map string_bytes links.items) },
     ghost blocked: { (l : ℕ) → option_map_or (λ v. v.items) (get nat_eq blocks l) []
         ≡ map (λ p. p.prefix) (filter (λ p. is_on l p.seat) places.items) },
 }
 
 mod steps;
 
-pub(crate) use steps::{add_links, add_routers, wrong};
+pub(crate) use steps::{add_links, add_routers};

@@ -82,6 +82,13 @@ pub(crate) enum ReadError {
     Fault(PlanError),
 }
 
+/// A fault, and where it stands.
+pub(crate) fn fault(code: PlanCode, at: At) -> ReadError
+    ensures { result ≡ ReadError.Fault (record { code = code; place = at }) }
+{
+    ReadError::Fault(PlanError { code, place: at })
+}
+
 impl From<AllocError> for ReadError {
     ghost from_gives = { λ _ e. e ≡ OutOfMemory };
 

@@ -17,7 +17,8 @@ fn member<'a>(table: &'a Table, key: &str) -> Option<&'a Value>
 
 /// The text at a key.
 fn text_at<'a>(table: &'a Table, key: &str) -> Option<&'a str>
-    ensures { option_copied result ≡ option_and_then as_str (get_member key.now (table_view table.now)) }
+    ensures { option_copied result
+        ≡ option_and_then as_str (get_member key.now (table_view table.now)) }
 {
     match member(table, key) {
         Some(value) => value.as_str(),
@@ -42,7 +43,8 @@ fn list_at<'a>(table: &'a Table, key: &str) -> Option<&'a [Value]>
 /// The items of the list at a key, and none where nothing is there; `None` where it is no list.
 #[tactic(auto, using(crate::proofs::Keys::list_of_items))]
 fn list_if<'a>(table: &'a Table, key: &str) -> Option<&'a [Value]>
-    ensures { option_map (λ v. map view v.now) result ≡ items_if (get_member key.now (table_view table.now)) }
+    ensures { option_map (λ v. map view v.now) result
+        ≡ items_if (get_member key.now (table_view table.now)) }
 {
     match member(table, key) {
         None => Some(&[]),
@@ -95,7 +97,8 @@ fn has_interface_keys(table: &Table) -> bool
 /// The name and the prefixes of a link's table.
 #[tactic(auto, unfolding(crate::specs::Fields::link_fields))]
 pub(crate) fn fields_of_link<'a>(table: &'a Table) -> Option<(&'a str, &'a [Value])>
-    ensures { option_map (λ f. (f.0.now, map view f.1.now)) result ≡ link_fields (table_view table.now) }
+    ensures { option_map (λ f. (f.0.now, map view f.1.now)) result
+        ≡ link_fields (table_view table.now) }
 {
     if !has_link_keys(table) {
         return None;
@@ -108,7 +111,8 @@ pub(crate) fn fields_of_link<'a>(table: &'a Table) -> Option<(&'a str, &'a [Valu
 /// The link, the address and the cost of an interface's table.
 #[tactic(auto, unfolding(crate::specs::Fields::interface_fields))]
 pub(crate) fn fields_of_interface<'a>(table: &'a Table) -> Option<(&'a str, &'a str, Option<i64>)>
-    ensures { option_map (λ f. (f.0.now, f.1.now, f.2)) result ≡ interface_fields (table_view table.now) }
+    ensures { option_map (λ f. (f.0.now, f.1.now, f.2)) result
+        ≡ interface_fields (table_view table.now) }
 {
     if !has_interface_keys(table) {
         return None;
@@ -187,7 +191,8 @@ fn has_root_keys(table: &Table) -> bool
 /// The name, the interfaces and the own prefixes of a router's table.
 #[tactic(auto, unfolding(crate::specs::Fields::router_fields))]
 pub(crate) fn fields_of_router<'a>(table: &'a Table) -> Option<(&'a str, &'a [Value], &'a [Value])>
-    ensures { option_map (λ f. (f.0.now, map view f.1.now, map view f.2.now)) result ≡ router_fields (table_view table.now) }
+    ensures { option_map (λ f. (f.0.now, map view f.1.now, map view f.2.now)) result
+        ≡ router_fields (table_view table.now) }
 {
     if !has_router_keys(table) {
         return None;
@@ -201,7 +206,8 @@ pub(crate) fn fields_of_router<'a>(table: &'a Table) -> Option<(&'a str, &'a [Va
 /// The links and the routers of the document, at least one of each.
 #[tactic(auto, unfolding(crate::specs::Fields::root_fields))]
 pub(crate) fn fields_of_root<'a>(table: &'a Table) -> Option<(&'a [Value], &'a [Value])>
-    ensures { option_map (λ f. (map view f.0.now, map view f.1.now)) result ≡ root_fields (table_view table.now) }
+    ensures { option_map (λ f. (map view f.0.now, map view f.1.now)) result
+        ≡ root_fields (table_view table.now) }
 {
     if !has_root_keys(table) {
         return None;

@@ -43,7 +43,8 @@ pub(crate) fn all_on(
     links: usize,
 ) -> Result<Vec<Vec<usize>>, AllocError>
     requires { All (λ i. i.link < links) interfaces.now }
-    ensures { IfOk result (λ v. map (λ w. w.items) v.items ≡ each_below links (λ l. numbers_where (is_on l) 0 interfaces.now)) }
+    ensures { IfOk result (λ v. map (λ w. w.items) v.items
+        ≡ each_below links (λ l. numbers_where (is_on l) 0 interfaces.now)) }
 {
     let mut all = empty_lists(alloc, links)?;
     for i in 0..interfaces.len() {
@@ -60,7 +61,8 @@ pub(crate) fn all_of(
     routers: usize,
 ) -> Result<Vec<Vec<usize>>, AllocError>
     requires { All (λ i. i.router < routers) interfaces.now }
-    ensures { IfOk result (λ v. map (λ w. w.items) v.items ≡ each_below routers (λ r. numbers_where (is_of r) 0 interfaces.now)) }
+    ensures { IfOk result (λ v. map (λ w. w.items) v.items
+        ≡ each_below routers (λ r. numbers_where (is_of r) 0 interfaces.now)) }
 {
     let mut all = empty_lists(alloc, routers)?;
     for i in 0..interfaces.len() {

@@ -12,7 +12,7 @@ use rip_wire::Prefix;
 use std::alloc::{AllocError, Global};
 use std::collections::HashMap;
 
-/// The interfaces without their places in the text.
+/// The interfaces, without where they stand in the text.
 pub(crate) fn interfaces_of(
     alloc: Global,
     interfaces: &[DraftInterface],

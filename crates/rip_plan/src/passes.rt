@@ -5,12 +5,12 @@ ghost use Rattle.std.specs.List.{list_any};
 ghost use Rattle.rip_wire.specs.Prefix.{Block};
 ghost use Rattle.rip_plan.specs.Draft.{sketch};
 ghost use Rattle.rip_plan.specs.Fault.{Gives};
-ghost use Rattle.rip_plan.specs.Passes.{are_twice, do_meet, first_bare, first_clash, have_common, have_one_address, none_found, same_prefix, second_passes, touched, touching};
+ghost use Rattle.rip_plan.specs.Passes.{bare_in, duplicate_in, have_common, none_found, same_prefix, second_passes, taken_address_in, touched, twice_in};
 ghost use Rattle.rip_plan.specs.Passes as spec;
 ghost use Rattle.rip_plan.specs.Touches.{listed, seats_meet, touched_by};
 
-use crate::draft::{Draft, DraftInterface, DraftPlace, wrong};
-use crate::error::{At, PlanCode, ReadError};
+use crate::draft::{Draft, DraftInterface, DraftPlace};
+use crate::error::{At, PlanCode, ReadError, fault};
 use crate::parts::Seat;
 use rip_wire::Prefix;
 use std::alloc::{AllocError, Global};
@@ -119,58 +119,54 @@ fn add_seat(
     Ok(())
 }
 
-/// The place in the text of the first place of a prefix that meets an earlier one.
+/// Where the first place of a prefix stands in the text that meets an earlier one.
 fn first_duplicate(
     alloc: Global,
     interfaces: &[DraftInterface],
     places: &[DraftPlace],
 ) -> Result<Option<At>, AllocError>
-    ensures { IfOk result (λ found. found
-        ≡ option_map (λ t. t.place.place)
-        (first_clash do_meet [] (map (touching interfaces.now) places.now))) }
+    ensures { IfOk result (λ found. found ≡ duplicate_in interfaces.now places.now) }
 {
     let on_links = routers_on_links(alloc, interfaces)?;
     let mut earlier = HashMap::new(alloc);
     for k in 0..places.len() {
         let place = places[k];
         if meets_earlier(&on_links, &place, &earlier) {
-            return Ok(Some(place.place));
+            return Ok(Some(place.at));
         }
         add_seat(alloc, &mut earlier, place)?;
     }
     Ok(None)
 }
 
-/// The place of the first interface whose router has an earlier one on the link.
+/// Where the first interface stands whose router has an earlier one on the link.
 fn first_twice(alloc: Global, interfaces: &[DraftInterface]) -> Result<Option<At>, AllocError>
-    ensures { IfOk result (λ found. found
-        ≡ option_map (λ i. i.place) (first_clash are_twice [] interfaces.now)) }
+    ensures { IfOk result (λ found. found ≡ twice_in interfaces.now) }
 {
     let mut seen = HashSet::new(alloc);
     for k in 0..interfaces.len() {
         let draft = interfaces[k];
         let interface = draft.interface;
         if !seen.insert((interface.router, interface.link))? {
-            return Ok(Some(draft.place));
+            return Ok(Some(draft.at));
         }
     }
     Ok(None)
 }
 
-/// The place of the first interface whose address an earlier one on the link has.
+/// Where the first interface stands whose address an earlier one on the link has.
 fn first_taken_address(
     alloc: Global,
     interfaces: &[DraftInterface],
 ) -> Result<Option<At>, AllocError>
-    ensures { IfOk result (λ found. found
-        ≡ option_map (λ i. i.place) (first_clash have_one_address [] interfaces.now)) }
+    ensures { IfOk result (λ found. found ≡ taken_address_in interfaces.now) }
 {
     let mut seen = HashSet::new(alloc);
     for k in 0..interfaces.len() {
         let draft = interfaces[k];
         let interface = draft.interface;
         if !seen.insert((interface.link, interface.address.get()))? {
-            return Ok(Some(draft.place));
+            return Ok(Some(draft.at));
         }
     }
     Ok(None)
@@ -182,9 +178,9 @@ fn has_interface(interfaces: &[DraftInterface], router: usize) -> bool
     interfaces.iter().any(|i| i.interface.router == router)
 }
 
-/// The place of the first router without an interface.
+/// Where the first router without an interface stands.
 fn first_without_interface(interfaces: &[DraftInterface], routers: usize) -> Option<At>
-    ensures { result ≡ option_map (λ r. At.Router (r + 1)) (first_bare interfaces.now 0 routers) }
+    ensures { result ≡ bare_in interfaces.now routers }
 {
     for r in 0..routers {
         if !has_interface(interfaces, r) {
@@ -200,7 +196,7 @@ fn expect_none(code: PlanCode, found: Option<At>) -> Result<(), ReadError>
 {
     match found {
         None => Ok(()),
-        Some(place) => Err(wrong(code, place)),
+        Some(at) => Err(fault(code, at)),
     }
 }
 

@@ -207,7 +207,8 @@ impl Plan {
     /// The numbers of the interfaces on a link, ascending.
     pub fn on_link(&self, link: usize) -> &[usize]
         requires { link < length self.now.links }
-        ensures exact { (i : ℕ) → Contains result.now i ↔ ((r c : ℕ) × IsInterface self.now i r link c) }
+        ensures exact { (i : ℕ) →
+            Contains result.now i ↔ ((r c : ℕ) × IsInterface self.now i r link c) }
         ensures ascending { IsStrictlyIncreasing result.now }
         ensures value { result.now ≡ numbers_where (is_on link) 0 self.now.interfaces }
     {
@@ -217,7 +218,8 @@ impl Plan {
     /// The numbers of the interfaces of a router, ascending.
     pub fn of_router(&self, router: usize) -> &[usize]
         requires { router < length self.now.routers }
-        ensures exact { (i : ℕ) → Contains result.now i ↔ ((l c : ℕ) × IsInterface self.now i router l c) }
+        ensures exact { (i : ℕ) →
+            Contains result.now i ↔ ((l c : ℕ) × IsInterface self.now i router l c) }
         ensures ascending { IsStrictlyIncreasing result.now }
         ensures value { result.now ≡ numbers_where (is_of router) 0 self.now.interfaces }
     {
@@ -252,7 +254,8 @@ impl Plan {
         requires { router < length self.now.routers }
         ensures one { Decides result ((i l c : ℕ) × IsLeaf self.now router i l c) }
         ensures more { Decides (not result) (HasTwoInterfaces self.now router) }
-        ensures count { result ≡ (length (numbers_where (is_of router) 0 self.now.interfaces) == 1) }
+        ensures count { result
+            ≡ (length (numbers_where (is_of router) 0 self.now.interfaces) == 1) }
     {
         self.lawful();
         self.of_router(router).len() == 1
@@ -282,7 +285,9 @@ impl Plan {
 
     /// The cost at which a router has a prefix, by the look-ups.
     fn cost_of(&self, router: usize, prefix: Prefix) -> Option<u8>
-        ensures { result ≡ option_and_then (λ k. direct_at router k self.now.interfaces self.now.places) (number_of_prefix prefix self.now.prefixes) }
+        ensures { result
+            ≡ option_and_then (λ k. direct_at router k self.now.interfaces self.now.places)
+            (number_of_prefix prefix self.now.prefixes) }
     {
         let number = self.numbers.get(&prefix)?;
         self.cost_at(router, *number)
@@ -290,7 +295,8 @@ impl Plan {
 
     /// The cost at which a router has a prefix on a link of its own, or as its own prefix.
     pub fn direct(&self, router: usize, prefix: Prefix) -> Option<u8>
-        ensures planned { (k c : ℕ) → IsPrefix self.now k prefix → (result ≡ Some c) ↔ IsDirect self.now router k c }
+        ensures planned { (k c : ℕ) → IsPrefix self.now k prefix →
+            (result ≡ Some c) ↔ IsDirect self.now router k c }
         ensures unplanned { ((k : ℕ) → IsPrefix self.now k prefix → ⊥) → result ≡ None }
     {
         self.lawful();
@@ -317,7 +323,9 @@ impl Plan {
 
     /// Whether a link has a prefix, by the look-ups.
     fn is_carrier_of(&self, link: usize, prefix: Prefix) -> bool
-        ensures { result ≡ is_some (option_and_then (λ k. first_carrying link k 0 self.now.places) (number_of_prefix prefix self.now.prefixes)) }
+        ensures { result
+            ≡ is_some (option_and_then (λ k. first_carrying link k 0 self.now.places)
+            (number_of_prefix prefix self.now.prefixes)) }
     {
         match self.numbers.get(&prefix) {
             Some(number) => self.is_carrier(link, *number),
@@ -327,7 +335,8 @@ impl Plan {
 
     /// Whether a link is a place of a prefix.
     pub fn carries(&self, link: usize, prefix: Prefix) -> bool
-        ensures planned { (k : ℕ) → IsPrefix self.now k prefix → Decides result (Carries self.now link k) }
+        ensures planned { (k : ℕ) → IsPrefix self.now k prefix →
+            Decides result (Carries self.now link k) }
         ensures unplanned { ((k : ℕ) → IsPrefix self.now k prefix → ⊥) → result ≡ false }
     {
         self.lawful();

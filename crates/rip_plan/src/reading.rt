@@ -6,8 +6,8 @@ ghost use Rattle.rip_plan.specs.Draft.{sketch};
 ghost use Rattle.rip_plan.specs.Fault.{Gives};
 ghost use Rattle.rip_plan.specs.PlanText.{document_of, sketch_of, sketch_of_document};
 
-use crate::draft::{Draft, add_links, add_routers, wrong};
-use crate::error::{At, PlanCode, ReadError};
+use crate::draft::{Draft, add_links, add_routers};
+use crate::error::{At, PlanCode, ReadError, fault};
 use crate::fields;
 use crate::passes::check_passes;
 use std::alloc::Global;
@@ -28,13 +28,13 @@ fn draft_of(alloc: Global, table: &Table) -> Result<Draft, ReadError>
     ensures { Gives sketch result (sketch_of_document (table_view table.now)) }
 {
     if !fields::is_version_one(table) {
-        return Err(wrong(PlanCode::Version, At::Version));
+        return Err(fault(PlanCode::Version, At::Version));
     }
     let Some((links, routers)) = fields::fields_of_root(table) else {
-        return Err(wrong(PlanCode::Key, At::Text));
+        return Err(fault(PlanCode::Key, At::Text));
     };
     if MOST_LINKS < links.len() || MOST_ROUTERS < routers.len() {
-        return Err(wrong(PlanCode::Limit, At::Text));
+        return Err(fault(PlanCode::Limit, At::Text));
     }
     let mut draft = Draft {
         links: Vec::new(alloc),
@@ -76,11 +76,11 @@ pub(crate) fn read_draft(alloc: Global, bytes: &[u8]) -> Result<Draft, ReadError
     ensures { Gives sketch result (sketch_of bytes.now) }
 {
     if MOST_BYTES < bytes.len() {
-        return Err(wrong(PlanCode::Limit, At::Text));
+        return Err(fault(PlanCode::Limit, At::Text));
     }
     let table = table_of(alloc, bytes)?;
     let Some(table) = table else {
-        return Err(wrong(PlanCode::Syntax, At::Text));
+        return Err(fault(PlanCode::Syntax, At::Text));
     };
     draft_of(alloc, &table)
 }

@@ -5,7 +5,8 @@ use Rattle.std.specs.Option.{option_and_then}
 use Rattle.std.specs.Str.{bytes_eq}
 use Rattle.std.proofs.lemmas.Bool.{eqb-true, eq-eqb}
 use Rattle.std.proofs.lemmas.Slice.Eq.{bytes_eq-Decides}
-use Rattle.rip_plan.specs.Network.{Network, first_at, first_named, found_at, is_at}
+use Rattle.rip_plan.specs.Names.{number_of_name}
+use Rattle.rip_plan.specs.Network.{Network, first_at, found_at, is_at}
 use Rattle.rip_plan.specs.Relations.{HasAddress, IsAt, IsLawful}
 use Rattle.rip_plan.specs.declared.parts.Interface.{Interface}
 use Rattle.rip_table.proofs.NumberLemmas.{placed}
@@ -53,7 +54,7 @@ and_then_split (Some l) f i h = (l, refl, h)
 
 pub found-IsAt : (n : Network) (name : List ℕ) (a i : ℕ) → found_at n name a ≡ Some i → IsAt n name a i
 found-IsAt n name a i h =
-    let split = and_then_split (first_named name 0 n.links) (λ l. first_at l a 0 n.interfaces) i h in
+    let split = and_then_split (number_of_name name n.links) (λ l. first_at l a 0 n.interfaces) i h in
     let link = placed (λ other. bytes_eq other name) n.links 0 split.0 split.1 in
     let interface = placed (is_at split.0 a) n.interfaces 0 i split.2 in
     let link_here : split.0 ≡ link.0 = omega (arith, link.2) in
@@ -67,7 +68,7 @@ pub IsAt-found : (n : Network) (name : List ℕ) (a i : ℕ) → IsLawful n → 
 IsAt-found n name a i lawful at =
     let l = at.0 in
     let has = at.2 in
-    let link : first_named name 0 n.links ≡ Some l =
+    let link : number_of_name name n.links ≡ Some l =
     found-only (λ other. bytes_eq other name) n.links l name at.1 ((bytes_eq-Decides name name).1 refl)
     (λ m other is same. lawful.link_names_differ m l name (is ∙ ap (λ (x : List ℕ). Some x) ((bytes_eq-Decides other name).0 same)) at.1) in
     let interface : first_at l a 0 n.interfaces ≡ Some i =

@@ -1,27 +1,21 @@
-//! The steps of the first pass over the places of a plan.
+//! The steps of the first pass over the text of a plan.
 
 ghost use Rattle.std.specs.Prelude.{◌≡◌, ◌==◌, ◌≤◌, ◌++◌, ◌∷◌, ℕ, [], IfErr, IfOk, false, if◌then◌else◌, map, nat_eq, string_bytes};
 ghost use Rattle.std.specs.List.{list_any};
 ghost use Rattle.toml.specs.View.{view};
-ghost use Rattle.rip_plan.specs.Draft as spec;
-ghost use Rattle.rip_plan.specs.Draft.{Steps, has_address, interface_step, is_outside, is_taken, link_step, own_step, prefix_step, router_step, sketch, with_place};
+ghost use Rattle.rip_plan.specs.Draft.{Steps, has_address, interface_step, is_outside, link_step, own_step, prefix_step, router_step, sketch, with_place};
 ghost use Rattle.rip_plan.specs.Fault.{steps};
+ghost use Rattle.rip_plan.specs.Names.{is_taken, number_of_name};
 ghost use Rattle.rip_plan.specs.Touches.{listed};
 
 use crate::draft::{Draft, DraftInterface, DraftPlace, MOST};
-use crate::error::{At, PlanCode, PlanError, ReadError};
+use crate::error::{At, PlanCode, ReadError, fault};
 use crate::fields;
 use crate::parts::{Interface, Seat};
 use rip_wire::{Address, Prefix, is_name};
 use std::alloc::{AllocError, Global};
 use std::collections::HashMap;
 use toml::Value;
-
-pub(crate) fn wrong(code: PlanCode, place: At) -> ReadError
-    ensures { result ≡ ReadError.Fault (record { code = code; place = place }) }
-{
-    ReadError::Fault(PlanError { code, place })
-}
 
 fn is_name_taken(name: &str, names: &[String]) -> bool
     ensures { result ≡ is_taken name.now (map string_bytes names.now) }
@@ -31,7 +25,7 @@ fn is_name_taken(name: &str, names: &[String]) -> bool
 
 /// The number of the link of a name.
 fn number_of(draft: &Draft, name: &str) -> Option<usize>
-    ensures { result ≡ spec.number_of name.now (sketch draft.now).links }
+    ensures { result ≡ number_of_name name.now (sketch draft.now).links }
 {
     draft.numbers.get(name).copied()
 }
@@ -97,22 +91,18 @@ fn add_block(
 }
 
 /// Adds a place of a prefix, unless there are as many as a plan may have.
-fn add_place(draft: &mut Draft, place: At, prefix: Prefix, seat: Seat) -> Result<(), ReadError>
-    ensures { Steps (sketch draft.old) (sketch draft.new) result (with_place place prefix seat) }
+fn add_place(draft: &mut Draft, at: At, prefix: Prefix, seat: Seat) -> Result<(), ReadError>
+    ensures { Steps (sketch draft.old) (sketch draft.new) result (with_place at prefix seat) }
 {
     if MOST <= draft.places.len() {
-        return Err(wrong(PlanCode::Limit, place));
+        return Err(fault(PlanCode::Limit, at));
     }
     // With room for the place nothing fails after its prefix is kept.
     draft.places.reserve(1)?;
     if let Seat::Link(link) = seat {
         add_block(&mut draft.blocks, link, prefix)?;
     }
-    draft.places.push(DraftPlace {
-        prefix,
-        seat,
-        place,
-    })?;
+    draft.places.push(DraftPlace { prefix, seat, at })?;
     Ok(())
 }
 
@@ -121,19 +111,20 @@ fn add_prefix(draft: &mut Draft, i: usize, j: usize, item: &Value) -> Result<(),
     requires { 1 ≤ i }
     ensures { Steps (sketch draft.old) (sketch draft.new) result (prefix_step i j (view item.now)) }
 {
-    let place = At::LinkPrefix(i, j);
+    let at = At::LinkPrefix(i, j);
     let Some(text) = item.as_str() else {
-        return Err(wrong(PlanCode::Key, place));
+        return Err(fault(PlanCode::Key, at));
     };
     let Some(prefix) = Prefix::parse(text) else {
-        return Err(wrong(PlanCode::Prefix, place));
+        return Err(fault(PlanCode::Prefix, at));
     };
-    add_place(draft, place, prefix, Seat::Link(i - 1))
+    add_place(draft, at, prefix, Seat::Link(i - 1))
 }
 
 fn add_prefixes(draft: &mut Draft, i: usize, items: &[Value]) -> Result<(), ReadError>
     requires { 1 ≤ i }
-    ensures { Steps (sketch draft.old) (sketch draft.new) result (steps (prefix_step i) 1 (map view items.now)) }
+    ensures { Steps (sketch draft.old) (sketch draft.new) result
+        (steps (prefix_step i) 1 (map view items.now)) }
 {
     for (j, item) in items.iter().enumerate() {
         add_prefix(draft, i, j + 1, item)?;
@@ -146,18 +137,18 @@ fn add_link(draft: &mut Draft, alloc: Global, i: usize, item: &Value) -> Result<
     requires { 1 ≤ i }
     ensures { Steps (sketch draft.old) (sketch draft.new) result (link_step i (view item.now)) }
 {
-    let place = At::Link(i);
+    let at = At::Link(i);
     let Some(table) = item.as_table() else {
-        return Err(wrong(PlanCode::Key, place));
+        return Err(fault(PlanCode::Key, at));
     };
     let Some((name, prefixes)) = fields::fields_of_link(table) else {
-        return Err(wrong(PlanCode::Key, place));
+        return Err(fault(PlanCode::Key, at));
     };
     if !is_name(name.as_bytes()) {
-        return Err(wrong(PlanCode::Name, place));
+        return Err(fault(PlanCode::Name, at));
     }
     if is_link_named(draft, name) {
-        return Err(wrong(PlanCode::DuplicateName, place));
+        return Err(fault(PlanCode::DuplicateName, at));
     }
     add_link_name(draft, alloc, name)?;
     add_prefixes(draft, i, prefixes)
@@ -166,29 +157,30 @@ fn add_link(draft: &mut Draft, alloc: Global, i: usize, item: &Value) -> Result<
 #[tactic(auto, unfolding(crate::specs::Draft::interface_step))]
 fn add_interface(draft: &mut Draft, r: usize, j: usize, item: &Value) -> Result<(), ReadError>
     requires { 1 ≤ r }
-    ensures { Steps (sketch draft.old) (sketch draft.new) result (interface_step r j (view item.now)) }
+    ensures { Steps (sketch draft.old) (sketch draft.new) result
+        (interface_step r j (view item.now)) }
 {
-    let place = At::RouterInterface(r, j);
+    let at = At::RouterInterface(r, j);
     let Some(table) = item.as_table() else {
-        return Err(wrong(PlanCode::Key, place));
+        return Err(fault(PlanCode::Key, at));
     };
     let Some((name, text, given)) = fields::fields_of_interface(table) else {
-        return Err(wrong(PlanCode::Key, place));
+        return Err(fault(PlanCode::Key, at));
     };
     let Some(address) = Address::parse(text) else {
-        return Err(wrong(PlanCode::Address, place));
+        return Err(fault(PlanCode::Address, at));
     };
     let Some(cost) = fields::cost_of(given) else {
-        return Err(wrong(PlanCode::Cost, place));
+        return Err(fault(PlanCode::Cost, at));
     };
     let Some(link) = number_of(draft, name) else {
-        return Err(wrong(PlanCode::UnknownLink, place));
+        return Err(fault(PlanCode::UnknownLink, at));
     };
     if is_out_of_link(draft, link, address) {
-        return Err(wrong(PlanCode::OutsidePrefix, place));
+        return Err(fault(PlanCode::OutsidePrefix, at));
     }
     if MOST <= draft.interfaces.len() {
-        return Err(wrong(PlanCode::Limit, place));
+        return Err(fault(PlanCode::Limit, at));
     }
     let interface = Interface {
         router: r - 1,
@@ -196,13 +188,14 @@ fn add_interface(draft: &mut Draft, r: usize, j: usize, item: &Value) -> Result<
         address,
         cost,
     };
-    draft.interfaces.push(DraftInterface { interface, place })?;
+    draft.interfaces.push(DraftInterface { interface, at })?;
     Ok(())
 }
 
 fn add_interfaces(draft: &mut Draft, r: usize, items: &[Value]) -> Result<(), ReadError>
     requires { 1 ≤ r }
-    ensures { Steps (sketch draft.old) (sketch draft.new) result (steps (interface_step r) 1 (map view items.now)) }
+    ensures { Steps (sketch draft.old) (sketch draft.new) result
+        (steps (interface_step r) 1 (map view items.now)) }
 {
     for (j, item) in items.iter().enumerate() {
         add_interface(draft, r, j + 1, item)?;
@@ -215,26 +208,27 @@ fn add_own(draft: &mut Draft, r: usize, j: usize, item: &Value) -> Result<(), Re
     requires { 1 ≤ r }
     ensures { Steps (sketch draft.old) (sketch draft.new) result (own_step r j (view item.now)) }
 {
-    let place = At::RouterOwn(r, j);
+    let at = At::RouterOwn(r, j);
     let Some(table) = item.as_table() else {
-        return Err(wrong(PlanCode::Key, place));
+        return Err(fault(PlanCode::Key, at));
     };
     let Some((text, given)) = fields::fields_of_own(table) else {
-        return Err(wrong(PlanCode::Key, place));
+        return Err(fault(PlanCode::Key, at));
     };
     let Some(prefix) = Prefix::parse(text) else {
-        return Err(wrong(PlanCode::Prefix, place));
+        return Err(fault(PlanCode::Prefix, at));
     };
     let Some(cost) = fields::cost_of(given) else {
-        return Err(wrong(PlanCode::Cost, place));
+        return Err(fault(PlanCode::Cost, at));
     };
     let router = r - 1;
-    add_place(draft, place, prefix, Seat::Own { router, cost })
+    add_place(draft, at, prefix, Seat::Own { router, cost })
 }
 
 fn add_owns(draft: &mut Draft, r: usize, items: &[Value]) -> Result<(), ReadError>
     requires { 1 ≤ r }
-    ensures { Steps (sketch draft.old) (sketch draft.new) result (steps (own_step r) 1 (map view items.now)) }
+    ensures { Steps (sketch draft.old) (sketch draft.new) result
+        (steps (own_step r) 1 (map view items.now)) }
 {
     for (j, item) in items.iter().enumerate() {
         add_own(draft, r, j + 1, item)?;
@@ -247,18 +241,18 @@ fn add_router(draft: &mut Draft, alloc: Global, r: usize, item: &Value) -> Resul
     requires { 1 ≤ r }
     ensures { Steps (sketch draft.old) (sketch draft.new) result (router_step r (view item.now)) }
 {
-    let place = At::Router(r);
+    let at = At::Router(r);
     let Some(table) = item.as_table() else {
-        return Err(wrong(PlanCode::Key, place));
+        return Err(fault(PlanCode::Key, at));
     };
     let Some((name, interfaces, owns)) = fields::fields_of_router(table) else {
-        return Err(wrong(PlanCode::Key, place));
+        return Err(fault(PlanCode::Key, at));
     };
     if !is_name(name.as_bytes()) {
-        return Err(wrong(PlanCode::Name, place));
+        return Err(fault(PlanCode::Name, at));
     }
     if is_name_taken(name, draft.routers.as_slice()) {
-        return Err(wrong(PlanCode::DuplicateName, place));
+        return Err(fault(PlanCode::DuplicateName, at));
     }
     draft.routers.push(String::from_str(alloc, name)?)?;
     add_interfaces(draft, r, interfaces)?;
@@ -266,7 +260,8 @@ fn add_router(draft: &mut Draft, alloc: Global, r: usize, item: &Value) -> Resul
 }
 
 pub(crate) fn add_links(draft: &mut Draft, alloc: Global, items: &[Value]) -> Result<(), ReadError>
-    ensures { Steps (sketch draft.old) (sketch draft.new) result (steps link_step 1 (map view items.now)) }
+    ensures { Steps (sketch draft.old) (sketch draft.new) result
+        (steps link_step 1 (map view items.now)) }
 {
     for (i, item) in items.iter().enumerate() {
         add_link(draft, alloc, i + 1, item)?;
@@ -279,7 +274,8 @@ pub(crate) fn add_routers(
     alloc: Global,
     items: &[Value],
 ) -> Result<(), ReadError>
-    ensures { Steps (sketch draft.old) (sketch draft.new) result (steps router_step 1 (map view items.now)) }
+    ensures { Steps (sketch draft.old) (sketch draft.new) result
+        (steps router_step 1 (map view items.now)) }
 {
     for (i, item) in items.iter().enumerate() {
         add_router(draft, alloc, i + 1, item)?;

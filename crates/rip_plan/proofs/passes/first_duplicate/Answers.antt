@@ -35,7 +35,7 @@ returns-then-meets_earlier c =
     let p = c.index-places-k.result in
     let clash = λ (q r : DraftPlace). do_meet (touching is q) (touching is r) in
     let before = met is (touched_by c.in_ok-on_links.on_links) (touched_same c.in_ok-on_links.on_links is c.in_ok-on_links.ensures) (take k places) p (listed same_prefix c.loop-k.earlier p.prefix) (c.loop-k.invariant.1 p.prefix) in
-    ap (option_map (λ (q : DraftPlace). q.place)) (clash_here clash places k p c.loop-k-test.true c.index-places-k.is _ (sym before ∙ sym c.meets_earlier.ensures ∙ c.if-meets_earlier.true) c.loop-k.invariant.0)
+    ap (option_map (λ (q : DraftPlace). q.at)) (clash_here clash places k p c.loop-k-test.true c.index-places-k.is _ (sym before ∙ sym c.meets_earlier.ensures ∙ c.if-meets_earlier.true) c.loop-k.invariant.0)
     ∙ meeting_seen is places
 
 pub loop-k-preserved : goal.loop-k-preserved
@@ -59,4 +59,4 @@ returns c =
     let k = c.loop-k.k in
     let clash = λ (q r : DraftPlace). do_meet (touching is q) (touching is r) in
     let none : None ≡ first_clash clash [] places = sym (at_drop_all (λ ps. first_clash clash (take k places) ps) places k c.loop-k-test.false) ∙ c.loop-k.invariant.0 in
-    ap (option_map (λ (q : DraftPlace). q.place)) none ∙ meeting_seen is places
+    ap (option_map (λ (q : DraftPlace). q.at)) none ∙ meeting_seen is places
