@@ -90,7 +90,7 @@ pub added : (had is_new : Bool) → is_new ≡ not had → is_new ≡ true → h
 added true b h e = absurd cc
 added false b h e = refl
 
-or_turned : (a b : Bool) → cond a true b ≡ (b || a)
+pub or_turned : (a b : Bool) → cond a true b ≡ (b || a)
 or_turned true true = refl
 or_turned true false = refl
 or_turned false true = refl

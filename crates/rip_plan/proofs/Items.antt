@@ -1,5 +1,6 @@
 -- The items of a list, by their numbers.
 use Rattle.std.proofs.Common.{◌≡◌, ℕ, zero, suc, ◌+◌, ◌<◌, ◌⊎◌, inl, inr, List, [], ◌∷◌, ◌++◌, length, map, Bool, true, false, cond, ◌&&◌, ◌||◌, Option, Some, None, refl, sym, ◌∙◌, ap, subst, arith}
+use Rattle.std.specs.Option.{is_some}
 use Rattle.std.specs.Prelude.{slice_get}
 use Rattle.std.specs.List.{AllByRecursion, IsDistinct, list_any, position_from}
 use Rattle.std.proofs.lemmas.Option.{none-some, same_Some}
@@ -138,6 +139,15 @@ position_none test n [] h = refl
 position_none test n (x ∷ xs) h =
     let both = option_guard (test x) n (position_from test (n + 1) xs) h in
     rw both.0 (position_none test (n + 1) xs both.1)
+
+-- something is found exactly where something passes
+pub any_found : {A : Type 0} (test : A → Bool) (n : ℕ) (xs : List A) → is_some (position_from test n xs) ≡ list_any test xs
+any_found test n [] = refl
+any_found test n (x ∷ xs) = by_test (test x) refl (any_found test (n + 1) xs)
+  where
+    by_test : (b : Bool) → test x ≡ b → is_some (position_from test (n + 1) xs) ≡ list_any test xs → is_some (position_from test n (x ∷ xs)) ≡ list_any test (x ∷ xs)
+    by_test true e later = rw e refl
+    by_test false e later = rw e later
 
 -- ---- where nothing clashes, each item is apart from the earlier ones
 

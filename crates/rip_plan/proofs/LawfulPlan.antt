@@ -14,7 +14,7 @@ use Rattle.rip_plan.specs.declared.draft.DraftPlace.{DraftPlace}
 use Rattle.rip_plan.specs.declared.parts.Interface.{Interface}
 use Rattle.rip_plan.specs.declared.parts.Seat.{Seat}
 use Rattle.rip_plan.specs.declared.parts.Seat.TheVariants as seats
-use Rattle.rip_plan.specs.Fields.{some_items, root_fields, items_at, is_root_key, keys_pass, ◌&>◌}
+use Rattle.rip_plan.specs.Fields.{some_items, root_fields, items_at, root_keys, has_only, ◌&>◌}
 use Rattle.rip_plan.specs.Seats.{is_on}
 use Rattle.rip_plan.specs.Draft.{Sketch, link_step, router_step, is_outside, has_address}
 use Rattle.rip_plan.specs.Passes.{same_prefix, touched, touching, do_meet, is_same_link, have_common, are_twice, have_one_address}
@@ -203,7 +203,7 @@ some_of_both (Some (x ∷ xs)) (Some (y ∷ ys)) f h =
 
 some_of_root : (doc : Members) (f : List Data × List Data) → root_fields doc ≡ Some f → (1 ≤ length f.0) × (1 ≤ length f.1)
 unfolding root_fields
-some_of_root doc f h = some_of_both (items_at (codes_of "link") doc) (items_at (codes_of "router") doc) f (chosen (keys_pass is_root_key doc) _ f h)
+some_of_root doc f h = some_of_both (items_at (codes_of "link") doc) (items_at (codes_of "router") doc) f (chosen (has_only root_keys doc) _ f h)
 
 good_document : (laws : TextLaws) (doc : Members) (s : Sketch) → DocumentTaken doc s → Good s
 unfolding IsDistinct

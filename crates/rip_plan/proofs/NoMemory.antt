@@ -18,7 +18,7 @@ use Rattle.rip_plan.specs.declared.parts.Seat.TheVariants as seats
 use Rattle.rip_plan.specs.Fault.{fault, ◌>>=◌, wanted, steps}
 use Rattle.rip_plan.specs.Fields.{◌&>◌, link_fields, interface_fields, own_fields, router_fields, root_fields, cost_of, is_version}
 use Rattle.rip_plan.specs.Draft.{Sketch, prefix_step, link_step, interface_step, own_step, router_step, is_outside, with_place}
-use Rattle.rip_plan.specs.Names.{is_taken, number_of_name}
+use Rattle.rip_plan.specs.Names.{is_one_of, number_of_name}
 use Rattle.rip_plan.specs.Passes.{Touching, touching, first_clash, do_meet, are_twice, have_one_address, first_bare, none_found, second_passes}
 use Rattle.rip_plan.specs.PlanText.{sketch_of_document, document_of, sketch_of}
 use Rattle.rip_plan.specs.Network.{Network, network_in, network_of_sketch}
@@ -64,7 +64,7 @@ unfolding link_step
 link_apart i d s =
     want codes.Key (Link i) (as_table d &> link_fields) _ (λ e. cc) (λ f.
     guard (not (is_name f.0)) codes.Name (Link i) _ (λ e. cc)
-    (guard (is_taken f.0 s.links) codes.DuplicateName (Link i) _ (λ e. cc)
+    (guard (is_one_of f.0 s.links) codes.DuplicateName (Link i) _ (λ e. cc)
     (each (prefix_step i) (prefix_apart i) 1 f.1 (record s { links = s.links ++ f.0 ∷ [] }))))
 
 interface_apart : (r j : ℕ) (d : Data) (s : Sketch) → Apart (interface_step r j d s)
@@ -90,7 +90,7 @@ unfolding router_step
 router_apart r d s =
     want codes.Key (Router r) (as_table d &> router_fields) _ (λ e. cc) (λ f.
     guard (not (is_name f.0)) codes.Name (Router r) _ (λ e. cc)
-    (guard (is_taken f.0 s.routers) codes.DuplicateName (Router r) _ (λ e. cc)
+    (guard (is_one_of f.0 s.routers) codes.DuplicateName (Router r) _ (λ e. cc)
     (bind (steps (interface_step r) 1 f.1 (record s { routers = s.routers ++ f.0 ∷ [] })) (steps (own_step r) 1 f.2)
     (each (interface_step r) (interface_apart r) 1 f.1 (record s { routers = s.routers ++ f.0 ∷ [] })) (λ t. each (own_step r) (own_apart r) 1 f.2 t))))
 

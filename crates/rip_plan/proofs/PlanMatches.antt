@@ -11,7 +11,7 @@ use Rattle.rip_plan.specs.declared.parts.Interface.{Interface}
 use Rattle.rip_plan.specs.declared.parts.Seat.TheVariants as seats
 use Rattle.rip_plan.specs.declared.error.At.TheVariants.{LinkPrefix, RouterInterface, RouterOwn}
 use Rattle.rip_plan.specs.Fault.{steps}
-use Rattle.rip_plan.specs.Fields.{◌&>◌, items_at, is_root_key, keys_pass, some_items, root_fields}
+use Rattle.rip_plan.specs.Fields.{◌&>◌, items_at, root_keys, has_only, some_items, root_fields}
 use Rattle.rip_plan.specs.Draft.{Sketch, prefix_step, link_step, interface_step, own_step, router_step}
 use Rattle.rip_plan.specs.PlanText.{empty, sketch_of}
 use Rattle.rip_plan.specs.Network.{Network, network_in, network_of_sketch}
@@ -200,7 +200,7 @@ record IsRoot (doc : Members) (links routers : List Data) : Type 0 where
 root_table : (doc : Members) (links routers : List Data) → root_fields doc ≡ Some (links, routers) → IsRoot doc links routers
 unfolding root_fields
 root_table doc links routers h =
-    let h1 = chosen (keys_pass is_root_key doc) _ (links, routers) h in
+    let h1 = chosen (has_only root_keys doc) _ (links, routers) h in
     let (a, first, h2) = then_some (items_at (codes_of "link") doc &> some_items) _ (links, routers) h1 in
     let (b, second, h3) = then_some (items_at (codes_of "router") doc &> some_items) _ (links, routers) h2 in
     let same = same_Some (a, b) (links, routers) h3 in

@@ -14,7 +14,7 @@ use Rattle.rip_plan.specs.declared.parts.Seat.TheVariants as seats
 use Rattle.rip_plan.specs.Fault.{fault, ◌>>=◌, steps}
 use Rattle.rip_plan.specs.Fields.{◌&>◌, link_fields, interface_fields, own_fields, router_fields, root_fields, cost_of, is_version}
 use Rattle.rip_plan.specs.Draft.{Sketch, prefix_step, link_step, interface_step, own_step, router_step, is_outside, with_place}
-use Rattle.rip_plan.specs.Names.{is_taken, number_of_name}
+use Rattle.rip_plan.specs.Names.{is_one_of, number_of_name}
 use Rattle.rip_plan.specs.Passes.{second_passes}
 use Rattle.rip_plan.specs.PlanText.{empty, sketch_of_document, document_of, sketch_of}
 use Rattle.rip_plan.proofs.Binds.{bind_ok, wanted_ok, guard_ok, ok_same}
@@ -60,7 +60,7 @@ pub record LinkTaken (i : ℕ) (d : Data) (s t : Sketch) : Type 0 where
   pub prefixes : List Data
   pub fields : (as_table d &> link_fields) ≡ Some (name, prefixes)
   pub named : not (is_name name) ≡ false
-  pub fresh : is_taken name s.links ≡ false
+  pub fresh : is_one_of name s.links ≡ false
   pub others : steps (prefix_step i) 1 prefixes (with_link name s) ≡ Ok t
 
 pub link_taken : (i : ℕ) (d : Data) (s t : Sketch) → link_step i d s ≡ Ok t → LinkTaken i d s t
@@ -68,7 +68,7 @@ unfolding link_step
 link_taken i d s t h =
     let (f, fields, h1) = wanted_ok (fault codes.Key (Link i)) (as_table d &> link_fields) _ t h in
     let (named, h2) = guard_ok (not (is_name f.0)) (fault codes.Name (Link i)) _ t h1 in
-    let (fresh, h3) = guard_ok (is_taken f.0 s.links) (fault codes.DuplicateName (Link i)) _ t h2 in
+    let (fresh, h3) = guard_ok (is_one_of f.0 s.links) (fault codes.DuplicateName (Link i)) _ t h2 in
     record { name = f.0; prefixes = f.1; fields = fields; named = named; fresh = fresh; others = h3 }
 
 pub record InterfaceTaken (r j : ℕ) (d : Data) (s t : Sketch) : Type 0 where
@@ -144,7 +144,7 @@ pub record RouterTaken (r : ℕ) (d : Data) (s t : Sketch) : Type 0 where
   pub owns : List Data
   pub fields : (as_table d &> router_fields) ≡ Some (name, interfaces, owns)
   pub named : not (is_name name) ≡ false
-  pub fresh : is_taken name s.routers ≡ false
+  pub fresh : is_one_of name s.routers ≡ false
   pub between : Sketch
   pub first : steps (interface_step r) 1 interfaces (with_router name s) ≡ Ok between
   pub second : steps (own_step r) 1 owns between ≡ Ok t
@@ -154,7 +154,7 @@ unfolding router_step
 router_taken r d s t h =
     let (f, fields, h1) = wanted_ok (fault codes.Key (Router r)) (as_table d &> router_fields) _ t h in
     let (named, h2) = guard_ok (not (is_name f.0)) (fault codes.Name (Router r)) _ t h1 in
-    let (fresh, h3) = guard_ok (is_taken f.0 s.routers) (fault codes.DuplicateName (Router r)) _ t h2 in
+    let (fresh, h3) = guard_ok (is_one_of f.0 s.routers) (fault codes.DuplicateName (Router r)) _ t h2 in
     let (u, first, second) = bind_ok (steps (interface_step r) 1 f.1 (with_router f.0 s)) (steps (own_step r) 1 f.2) t h3 in
     record { name = f.0; interfaces = f.1; owns = f.2; fields = fields; named = named; fresh = fresh; between = u; first = first; second = second }
 

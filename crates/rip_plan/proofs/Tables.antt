@@ -3,7 +3,7 @@ use Rattle.std.proofs.Common.{◌≡◌, ℕ, ◌⊎◌, inl, inr, List, [], Boo
 use Rattle.std.specs.Prelude.{ℤ, pos, negsuc, option_and_then, option_map, codes as codes_of}
 use Rattle.std.proofs.lemmas.Option.{none-some, same_Some, cond_some}
 use Rattle.toml.specs.Data.{Data, Items, Members, string, integer, float, boolean, datetime, array, table, get, get_member, as_str, as_integer, as_array, as_table}
-use Rattle.rip_plan.specs.Fields.{◌&>◌, keys_pass, list_of, text_at, items_at, items_if, integer_if, is_link_key, is_interface_key, is_own_key, is_router_key, is_between, link_fields, interface_fields, own_fields, router_fields, cost_of}
+use Rattle.rip_plan.specs.Fields.{◌&>◌, has_only, list_of, text_at, items_at, items_if, integer_if, link_keys, interface_keys, own_keys, router_keys, is_between, link_fields, interface_fields, own_fields, router_fields, cost_of}
 use Rattle.rip_plan.specs.PlanOf.{HasText, IsCostOf, IsNameOf, items_in}
 
 pub then_some : {A B : Type 0} (o : Option A) (f : A → Option B) (y : B) → (o &> f) ≡ Some y → (x : A) × (o ≡ Some x) × (f x ≡ Some y)
@@ -87,7 +87,7 @@ pub link_table : (d : Data) (name : List ℕ) (prefixes : List Data) → (as_tab
 unfolding link_fields
 link_table d name prefixes h =
     let (ms, is, h1) = then_some (as_table d) link_fields (name, prefixes) h in
-    let h2 = chosen (keys_pass is_link_key ms) _ (name, prefixes) h1 in
+    let h2 = chosen (has_only link_keys ms) _ (name, prefixes) h1 in
     let (a, first, h3) = then_some (text_at (codes_of "name") ms) _ (name, prefixes) h2 in
     let (b, second, h4) = then_some (items_at (codes_of "prefixes") ms) _ (name, prefixes) h3 in
     let same = same_Some (a, b) (name, prefixes) h4 in
@@ -106,7 +106,7 @@ pub interface_table : (d : Data) (link text : List ℕ) (given : Option ℤ) (c 
 unfolding interface_fields
 interface_table d link text given c h e =
     let (ms, is, h1) = then_some (as_table d) interface_fields (link, text, given) h in
-    let h2 = chosen (keys_pass is_interface_key ms) _ (link, text, given) h1 in
+    let h2 = chosen (has_only interface_keys ms) _ (link, text, given) h1 in
     let (a, first, h3) = then_some (text_at (codes_of "link") ms) _ (link, text, given) h2 in
     let (b, second, h4) = then_some (text_at (codes_of "address") ms) _ (link, text, given) h3 in
     let (g, third, h5) = then_some (integer_if (get_member (codes_of "cost") ms)) _ (link, text, given) h4 in
@@ -126,7 +126,7 @@ pub own_table : (d : Data) (text : List ℕ) (given : Option ℤ) (c : ℕ) → 
 unfolding own_fields
 own_table d text given c h e =
     let (ms, is, h1) = then_some (as_table d) own_fields (text, given) h in
-    let h2 = chosen (keys_pass is_own_key ms) _ (text, given) h1 in
+    let h2 = chosen (has_only own_keys ms) _ (text, given) h1 in
     let (a, first, h3) = then_some (text_at (codes_of "prefix") ms) _ (text, given) h2 in
     let (g, second, h4) = then_some (integer_if (get_member (codes_of "cost") ms)) _ (text, given) h3 in
     let same = same_Some (a, g) (text, given) h4 in
@@ -145,7 +145,7 @@ pub router_table : (d : Data) (name : List ℕ) (interfaces owns : List Data) �
 unfolding router_fields
 router_table d name interfaces owns h =
     let (ms, is, h1) = then_some (as_table d) router_fields (name, interfaces, owns) h in
-    let h2 = chosen (keys_pass is_router_key ms) _ (name, interfaces, owns) h1 in
+    let h2 = chosen (has_only router_keys ms) _ (name, interfaces, owns) h1 in
     let (a, first, h3) = then_some (text_at (codes_of "name") ms) _ (name, interfaces, owns) h2 in
     let (b, second, h4) = then_some (items_at (codes_of "interface") ms) _ (name, interfaces, owns) h3 in
     let (c, third, h5) = then_some (items_if (get_member (codes_of "own") ms)) _ (name, interfaces, owns) h4 in

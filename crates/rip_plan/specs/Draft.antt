@@ -1,5 +1,5 @@
 -- What was read of a plan so far, and each step of the first pass over its text.
-use Rattle.std.specs.Prelude.{◌≡◌, ℕ, ◌-◌, ◌/◌, List, [], ◌∷◌, ◌++◌, length, map, Bool, ◌&&◌, not, ◌==◌, nat_le, Option, Result, Ok, Err, if◌then◌else◌, string_bytes}
+use Rattle.std.specs.Prelude.{◌≡◌, ℕ, ◌-◌, ◌/◌, List, [], ◌∷◌, ◌++◌, length, map, Bool, ◌&&◌, not, ◌==◌, nat_le, Result, Ok, Err, if◌then◌else◌, string_bytes}
 use Rattle.std.specs.List.{list_any}
 use Rattle.toml.specs.Data.{Data, as_str, as_table}
 use Rattle.rip_wire.specs.Address.{address_in}
@@ -13,9 +13,10 @@ use Rattle.rip_plan.specs.declared.error.ReadError.{ReadError}
 use Rattle.rip_plan.specs.declared.draft.Draft.{Draft}
 use Rattle.rip_plan.specs.declared.draft.DraftInterface.{DraftInterface}
 use Rattle.rip_plan.specs.declared.draft.DraftPlace.{DraftPlace}
+use Rattle.rip_plan.specs.declared.limits.TheConstants.{MOST_INTERFACES, MOST_PLACES}
 use Rattle.rip_plan.specs.declared.parts.Seat.{Seat}
 use Rattle.rip_plan.specs.declared.parts.Seat.TheVariants as seats
-use Rattle.rip_plan.specs.Names.{is_taken, number_of_name}
+use Rattle.rip_plan.specs.Names.{is_one_of, number_of_name}
 use Rattle.rip_plan.specs.Seats.{is_on}
 use Rattle.rip_plan.specs.Fault.{fault, ◌>>=◌, wanted, steps, Fails}
 use Rattle.rip_plan.specs.Fields.{◌&>◌, link_fields, interface_fields, own_fields, router_fields, cost_of}
@@ -42,10 +43,10 @@ abbrev pub Steps : Sketch → Sketch → Result (Unit {0}) ReadError
 Steps old new (Ok u) step = step old ≡ Ok new
 Steps old new (Err e) step = Fails e (step old)
 
--- one more place of a prefix, up to 1024
+-- one more place of a prefix, where there are not the most already
 abbrev pub with_place : At → Block → Seat → Sketch → Result Sketch PlanError
 with_place at prefix seat s =
-    if nat_le 1024 (length s.places) then Err (fault codes.Limit at)
+    if nat_le MOST_PLACES (length s.places) then Err (fault codes.Limit at)
     else Ok (record s {
       places =
           s.places ++ record { prefix = prefix; seat = seat; at = at } ∷ [];
@@ -63,7 +64,7 @@ unfoldable pub link_step : ℕ → Data → Sketch → Result Sketch PlanError
 link_step i d s =
     wanted (fault codes.Key (Link i)) (as_table d &> link_fields) >>= (λ f.
     if not (is_name f.0) then Err (fault codes.Name (Link i))
-    else if is_taken f.0 s.links then Err (fault codes.DuplicateName (Link i))
+    else if is_one_of f.0 s.links then Err (fault codes.DuplicateName (Link i))
     else steps (prefix_step i) 1 f.1 (record s { links = s.links ++ f.0 ∷ [] }))
 
 -- the prefix contains the address
@@ -84,7 +85,8 @@ interface_step r j d s =
     wanted (fault codes.Cost (RouterInterface r j)) (cost_of f.2) >>= (λ cost.
     wanted (fault codes.UnknownLink (RouterInterface r j)) (number_of_name f.0 s.links) >>= (λ link.
     if is_outside link address s.places then Err (fault codes.OutsidePrefix (RouterInterface r j))
-    else if nat_le 1024 (length s.interfaces) then Err (fault codes.Limit (RouterInterface r j))
+    else if nat_le MOST_INTERFACES (length s.interfaces) then
+    Err (fault codes.Limit (RouterInterface r j))
     else Ok (record s {
       interfaces = s.interfaces ++ record {
         interface = record { router = r - 1; link = link; address = address; cost = cost };
@@ -105,6 +107,6 @@ unfoldable pub router_step : ℕ → Data → Sketch → Result Sketch PlanError
 router_step r d s =
     wanted (fault codes.Key (Router r)) (as_table d &> router_fields) >>= (λ f.
     if not (is_name f.0) then Err (fault codes.Name (Router r))
-    else if is_taken f.0 s.routers then Err (fault codes.DuplicateName (Router r))
+    else if is_one_of f.0 s.routers then Err (fault codes.DuplicateName (Router r))
     else steps (interface_step r) 1 f.1 (record s { routers = s.routers ++ f.0 ∷ [] })
     >>= steps (own_step r) 1 f.2)

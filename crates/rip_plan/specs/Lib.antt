@@ -2,6 +2,7 @@ pub mod Fault
 pub mod Fields
 pub mod Seats
 pub mod Names
+pub mod Codes
 pub mod Draft
 pub mod Passes
 pub mod PlanText

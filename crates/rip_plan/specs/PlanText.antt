@@ -6,6 +6,7 @@ use Rattle.toml.specs.Parse.{parse_document}
 use Rattle.rip_plan.specs.declared.error.PlanCode.TheVariants as codes
 use Rattle.rip_plan.specs.declared.error.PlanError.{PlanError}
 use Rattle.rip_plan.specs.declared.error.At.TheVariants.{Text, Version}
+use Rattle.rip_plan.specs.declared.limits.TheConstants.{MOST_BYTES, MOST_LINKS, MOST_ROUTERS}
 use Rattle.rip_plan.specs.Fault.{fault, ◌>>=◌, wanted, steps}
 use Rattle.rip_plan.specs.Fields.{root_fields, is_version}
 use Rattle.rip_plan.specs.Draft.{Sketch, link_step, router_step}
@@ -19,7 +20,8 @@ unfoldable pub sketch_of_document : Members → Result Sketch PlanError
 sketch_of_document doc =
     if not (is_version (get_member (codes "version") doc)) then Err (fault codes.Version Version)
     else (wanted (fault codes.Key Text) (root_fields doc) >>= (λ root.
-    if nat_lt 512 (length root.0) || nat_lt 128 (length root.1) then Err (fault codes.Limit Text)
+    if nat_lt MOST_LINKS (length root.0) || nat_lt MOST_ROUTERS (length root.1) then
+    Err (fault codes.Limit Text)
     else (steps link_step 1 root.0 empty >>= steps router_step 1 root.1 >>= (λ s.
     second_passes s >>= (λ _. Ok s)))))
 
@@ -27,8 +29,8 @@ sketch_of_document doc =
 abbrev pub document_of : List ℕ → Option Members
 document_of bytes = if is_utf8 bytes then parse_document bytes else None
 
--- what the bytes say; at most 1,048,576 of them
+-- what the bytes say; there is a limit to them
 unfoldable pub sketch_of : List ℕ → Result Sketch PlanError
 sketch_of bytes =
-    if nat_lt 1048576 (length bytes) then Err (fault codes.Limit Text)
+    if nat_lt MOST_BYTES (length bytes) then Err (fault codes.Limit Text)
     else (wanted (fault codes.Syntax Text) (document_of bytes) >>= sketch_of_document)

@@ -3,6 +3,7 @@
 use Rattle.std.specs.Prelude.{◌≡◌, ◌≢◌, ℕ, ◌<◌, ◌≤◌, ◌^◌, ◌⊎◌, List, length, Some, slice_get}
 use Rattle.rip_wire.specs.Name.{IsName}
 use Rattle.rip_wire.specs.Prefix.{Block, ContainsAddress, IsBlock}
+use Rattle.rip_plan.specs.declared.limits.TheConstants.{MOST_COST, MOST_INTERFACES, MOST_LINKS, MOST_PLACES, MOST_ROUTERS}
 use Rattle.rip_plan.specs.declared.parts.Seat.{Seat}
 use Rattle.rip_plan.specs.declared.parts.Seat.TheVariants.{Link, Own}
 use Rattle.rip_plan.specs.Network.{Network}
@@ -87,11 +88,11 @@ IsInside n l a =
 pub record IsLawful (n : Network) : Type 0 where
   -- limits
   pub some_link : 1 ≤ length n.links
-  pub few_links : length n.links ≤ 512
+  pub few_links : length n.links ≤ MOST_LINKS
   pub some_router : 1 ≤ length n.routers
-  pub few_routers : length n.routers ≤ 128
-  pub few_interfaces : length n.interfaces ≤ 1024
-  pub few_places : length n.places ≤ 1024
+  pub few_routers : length n.routers ≤ MOST_ROUTERS
+  pub few_interfaces : length n.interfaces ≤ MOST_INTERFACES
+  pub few_places : length n.places ≤ MOST_PLACES
   -- names
   pub link_named : (l : ℕ) (name : List ℕ) → IsLinkName n l name → IsName name
   pub router_named : (r : ℕ) (name : List ℕ) → IsRouterName n r name → IsName name
@@ -99,11 +100,11 @@ pub record IsLawful (n : Network) : Type 0 where
       → IsLinkName n l name → IsLinkName n m name → l ≡ m
   pub router_names_differ : (r s : ℕ) (name : List ℕ)
       → IsRouterName n r name → IsRouterName n s name → r ≡ s
-  -- interfaces; costs are 1 to 15 (RFC 2453, 3.5)
+  -- interfaces, and their costs (RFC 2453, 3.5)
   pub router_known : (i r l c : ℕ) → IsInterface n i r l c → r < length n.routers
   pub link_known : (i r l c : ℕ) → IsInterface n i r l c → l < length n.links
   pub cost_least : (i r l c : ℕ) → IsInterface n i r l c → 1 ≤ c
-  pub cost_most : (i r l c : ℕ) → IsInterface n i r l c → c ≤ 15
+  pub cost_most : (i r l c : ℕ) → IsInterface n i r l c → c ≤ MOST_COST
   pub one_interface : (r : ℕ) → r < length n.routers → (i l c : ℕ) × IsInterface n i r l c
   pub one_on_link : (i j r l c d : ℕ) → IsInterface n i r l c → IsInterface n j r l d → i ≡ j
   pub address_known : (i l a : ℕ) → HasAddress n i l a → a < 2 ^ 32
@@ -117,6 +118,6 @@ pub record IsLawful (n : Network) : Type 0 where
   pub seat_known : (k p l : ℕ) → IsPlace n k p (Link l) → l < length n.links
   pub owner_known : (k p r c : ℕ) → IsPlace n k p (Own r c) → r < length n.routers
   pub own_cost_least : (k p r c : ℕ) → IsPlace n k p (Own r c) → 1 ≤ c
-  pub own_cost_most : (k p r c : ℕ) → IsPlace n k p (Own r c) → c ≤ 15
+  pub own_cost_most : (k p r c : ℕ) → IsPlace n k p (Own r c) → c ≤ MOST_COST
   pub carried_once : (k j p l : ℕ) → IsPlace n k p (Link l) → IsPlace n j p (Link l) → k ≡ j
   pub touched_once : (k j p r c d : ℕ) → Touches n k p r c → Touches n j p r d → k ≡ j

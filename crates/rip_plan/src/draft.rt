@@ -11,9 +11,6 @@ use crate::parts::{Interface, Seat};
 use rip_wire::Prefix;
 use std::collections::HashMap;
 
-/// The most interfaces, and the most places of prefixes, of a plan.
-pub(crate) const MOST: usize = 1024;
-
 /// An interface, and where it stands in the text.
 #[derive(Clone, Copy, Debug)]
 pub(crate) struct DraftInterface {

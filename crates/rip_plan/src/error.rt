@@ -1,6 +1,7 @@
 //! Why a plan could not be read.
 
 ghost use Rattle.std.specs.Prelude.{◌≡◌};
+ghost use Rattle.rip_plan.specs.Codes.{number_of_code};
 ghost use Rattle.rip_plan.specs.declared.error.ReadError.TheVariants.{OutOfMemory};
 
 use std::alloc::{AllocError, AllocFailed};
@@ -44,7 +45,16 @@ pub enum PlanCode {
     Memory,
 }
 
-/// A place in the text of a plan. Its numbers start at 1.
+impl PlanCode {
+    /// The number that is printed.
+    pub fn number(self) -> u8
+        ensures { result ≡ number_of_code self }
+    {
+        self as u8
+    }
+}
+
+/// Where something stands in the text of a plan. The numbers start at 1.
 #[derive(Clone, Copy, Debug, PartialEq, Eq)]
 pub enum At {
     /// The text as a whole, and the root of the document.

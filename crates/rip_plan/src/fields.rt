@@ -4,8 +4,10 @@ ghost use Rattle.std.specs.Prelude.{map, codes, ◌≡◌, Some, None, option_ma
 ghost use Rattle.toml.specs.Data.{as_str, as_integer, get_member};
 ghost use Rattle.toml.specs.View.{view, table_view, array_view};
 ghost use Rattle.rip_plan.specs.Fields as spec;
-ghost use Rattle.rip_plan.specs.Fields.{integer_if, interface_fields, is_interface_key, is_link_key, is_own_key, is_root_key, is_router_key, is_version, items_at, items_if, keys_pass, link_fields, own_fields, root_fields, router_fields};
+ghost use Rattle.rip_plan.specs.Fields.{integer_if, interface_fields, is_version, items_at, items_if, link_fields, own_fields, root_fields, router_fields};
+ghost use Rattle.rip_plan.specs.Names.{is_one_of};
 
+use crate::limits::MOST_COST;
 use toml::{Table, Value};
 
 /// What a table holds at a key.
@@ -68,30 +70,17 @@ fn integer_at(table: &Table, key: &str) -> Option<Option<i64>>
     }
 }
 
-fn is_a_link_key(key: &str) -> bool
-    ensures { result ≡ is_link_key key.now }
+fn is_key_of(key: &str, known: &[&str]) -> bool
+    ensures { result ≡ is_one_of key.now (map (λ k. k.now) known.now) }
 {
-    matches!(key, "name" | "prefixes")
+    known.iter().any(|other| *other == key)
 }
 
-#[tactic(auto, using(crate::proofs::Keys::all_keys))]
-fn has_link_keys(table: &Table) -> bool
-    ensures { result ≡ keys_pass is_link_key (table_view table.now) }
+/// Whether every key of a table is one of these.
+fn has_only(table: &Table, known: &[&str]) -> bool
+    ensures { result ≡ spec.has_only (map (λ k. k.now) known.now) (table_view table.now) }
 {
-    table.keys().all(|key| is_a_link_key(key.as_str()))
-}
-
-fn is_an_interface_key(key: &str) -> bool
-    ensures { result ≡ is_interface_key key.now }
-{
-    matches!(key, "link" | "address" | "cost")
-}
-
-#[tactic(auto, using(crate::proofs::Keys::all_keys))]
-fn has_interface_keys(table: &Table) -> bool
-    ensures { result ≡ keys_pass is_interface_key (table_view table.now) }
-{
-    table.keys().all(|key| is_an_interface_key(key.as_str()))
+    table.keys().all(|key| is_key_of(key.as_str(), known))
 }
 
 /// The name and the prefixes of a link's table.
@@ -100,7 +89,7 @@ pub(crate) fn fields_of_link<'a>(table: &'a Table) -> Option<(&'a str, &'a [Valu
     ensures { option_map (λ f. (f.0.now, map view f.1.now)) result
         ≡ link_fields (table_view table.now) }
 {
-    if !has_link_keys(table) {
+    if !has_only(table, &["name", "prefixes"]) {
         return None;
     }
     let name = text_at(table, "name")?;
@@ -114,7 +103,7 @@ pub(crate) fn fields_of_interface<'a>(table: &'a Table) -> Option<(&'a str, &'a 
     ensures { option_map (λ f. (f.0.now, f.1.now, f.2)) result
         ≡ interface_fields (table_view table.now) }
 {
-    if !has_interface_keys(table) {
+    if !has_only(table, &["link", "address", "cost"]) {
         return None;
     }
     let link = text_at(table, "link")?;
@@ -130,7 +119,7 @@ pub(crate) fn cost_of(given: Option<i64>) -> Option<u8>
     match given {
         None => Some(1),
         Some(number) => {
-            if 1 <= number && number <= 15 {
+            if 1 <= number && number <= i64::from(MOST_COST) {
                 Some(number as u8)
             } else {
                 None
@@ -139,53 +128,17 @@ pub(crate) fn cost_of(given: Option<i64>) -> Option<u8>
     }
 }
 
-fn is_an_own_key(key: &str) -> bool
-    ensures { result ≡ is_own_key key.now }
-{
-    matches!(key, "prefix" | "cost")
-}
-
-fn has_own_keys(table: &Table) -> bool
-    ensures { result ≡ keys_pass is_own_key (table_view table.now) }
-{
-    table.keys().all(|key| is_an_own_key(key.as_str()))
-}
-
 /// The prefix and the cost of an own prefix's table.
 #[tactic(auto, unfolding(crate::specs::Fields::own_fields))]
 pub(crate) fn fields_of_own<'a>(table: &'a Table) -> Option<(&'a str, Option<i64>)>
     ensures { option_map (λ f. (f.0.now, f.1)) result ≡ own_fields (table_view table.now) }
 {
-    if !has_own_keys(table) {
+    if !has_only(table, &["prefix", "cost"]) {
         return None;
     }
     let prefix = text_at(table, "prefix")?;
     let cost = integer_at(table, "cost")?;
     Some((prefix, cost))
-}
-
-fn is_a_router_key(key: &str) -> bool
-    ensures { result ≡ is_router_key key.now }
-{
-    matches!(key, "name" | "interface" | "own")
-}
-
-fn has_router_keys(table: &Table) -> bool
-    ensures { result ≡ keys_pass is_router_key (table_view table.now) }
-{
-    table.keys().all(|key| is_a_router_key(key.as_str()))
-}
-
-fn is_a_root_key(key: &str) -> bool
-    ensures { result ≡ is_root_key key.now }
-{
-    matches!(key, "version" | "link" | "router")
-}
-
-fn has_root_keys(table: &Table) -> bool
-    ensures { result ≡ keys_pass is_root_key (table_view table.now) }
-{
-    table.keys().all(|key| is_a_root_key(key.as_str()))
 }
 
 /// The name, the interfaces and the own prefixes of a router's table.
@@ -194,7 +147,7 @@ pub(crate) fn fields_of_router<'a>(table: &'a Table) -> Option<(&'a str, &'a [Va
     ensures { option_map (λ f. (f.0.now, map view f.1.now, map view f.2.now)) result
         ≡ router_fields (table_view table.now) }
 {
-    if !has_router_keys(table) {
+    if !has_only(table, &["name", "interface", "own"]) {
         return None;
     }
     let name = text_at(table, "name")?;
@@ -209,7 +162,7 @@ pub(crate) fn fields_of_root<'a>(table: &'a Table) -> Option<(&'a [Value], &'a [
     ensures { option_map (λ f. (map view f.0.now, map view f.1.now)) result
         ≡ root_fields (table_view table.now) }
 {
-    if !has_root_keys(table) {
+    if !has_only(table, &["version", "link", "router"]) {
         return None;
     }
     let links = list_at(table, "link")?;

@@ -6,6 +6,7 @@ ghost use Rattle.std.specs.HashMap.{get};
 ghost use Rattle.rip_plan.specs.Network.{cost_at, each_below, first_at, is_of, is_on, numbers_where, pair_eq};
 ghost use Rattle.rip_plan.specs.Rows.{AreCosts, AreFlags, AreOnLinks, IsLinkBelow, IsOwnerBelow, IsOwnerWithin, WritesCosts, cost_among};
 
+use crate::limits::{MOST_LINKS, MOST_PLACES, MOST_ROUTERS};
 use crate::parts::{Interface, Place, Seat};
 use std::alloc::{AllocError, Global};
 use std::collections::HashMap;
@@ -79,15 +80,15 @@ pub(crate) fn carriers_of(
     links: usize,
     prefixes: usize,
 ) -> Result<Vec<bool>, AllocError>
-    requires few_links { links ≤ 512 }
-    requires few_prefixes { prefixes ≤ 1024 }
+    requires few_links { links ≤ MOST_LINKS }
+    requires few_prefixes { prefixes ≤ MOST_PLACES }
     requires prefixes { All (λ q. q.prefix < prefixes) places.now }
     requires seats { All (λ q. IsLinkBelow links q.seat) places.now }
     ensures room { IfOk result (λ v. length v.items ≡ links * prefixes) }
     ensures flags { IfOk result (λ v. AreFlags prefixes places.now v.items) }
 {
     let mut carriers = vec![in alloc; false; links * prefixes]?;
-    for i in (0..places.len()).rev() {
+    for i in 0..places.len() {
         let place = places[i];
         if let Seat::Link(link) = place.seat {
             carriers[link * prefixes + place.prefix] = true;
@@ -154,8 +155,8 @@ pub(crate) fn costs_of(
     routers: usize,
     prefixes: usize,
 ) -> Result<Vec<u8>, AllocError>
-    requires few_routers { routers ≤ 128 }
-    requires few_prefixes { prefixes ≤ 1024 }
+    requires few_routers { routers ≤ MOST_ROUTERS }
+    requires few_prefixes { prefixes ≤ MOST_PLACES }
     requires routers { All (λ i. i.router < routers) interfaces.now }
     requires lists { AreOnLinks interfaces.now (map (λ w. w.items) on_link.now) }
     requires prefixes { All (λ q. q.prefix < prefixes) places.now }

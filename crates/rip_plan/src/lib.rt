@@ -6,6 +6,7 @@ mod error;
 mod fields;
 mod index;
 pub mod laws;
+mod limits;
 mod numbers;
 mod parts;
 mod passes;
@@ -13,6 +14,7 @@ mod plan;
 mod reading;
 
 pub use error::{At, PlanCode, PlanError};
+pub use limits::{MOST_BYTES, MOST_COST, MOST_INTERFACES, MOST_LINKS, MOST_PLACES, MOST_ROUTERS};
 pub use parts::{Interface, Place, Seat};
 pub use plan::Plan;
 

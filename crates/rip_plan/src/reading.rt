@@ -9,18 +9,11 @@ ghost use Rattle.rip_plan.specs.PlanText.{document_of, sketch_of, sketch_of_docu
 use crate::draft::{Draft, add_links, add_routers};
 use crate::error::{At, PlanCode, ReadError, fault};
 use crate::fields;
+use crate::limits::{MOST_BYTES, MOST_LINKS, MOST_ROUTERS};
 use crate::passes::check_passes;
 use std::alloc::Global;
 use std::collections::HashMap;
 use toml::Table;
-
-/// The most bytes of a plan.
-const MOST_BYTES: usize = 1_048_576;
-
-/// The most links and the most routers of a plan.
-const MOST_LINKS: usize = 512;
-
-const MOST_ROUTERS: usize = 128;
 
 /// What a document says of a plan, or its first fault.
 #[tactic(auto, unfolding(crate::specs::PlanText::sketch_of_document))]

@@ -5,12 +5,13 @@ ghost use Rattle.std.specs.List.{list_any};
 ghost use Rattle.toml.specs.View.{view};
 ghost use Rattle.rip_plan.specs.Draft.{Steps, has_address, interface_step, is_outside, link_step, own_step, prefix_step, router_step, sketch, with_place};
 ghost use Rattle.rip_plan.specs.Fault.{steps};
-ghost use Rattle.rip_plan.specs.Names.{is_taken, number_of_name};
+ghost use Rattle.rip_plan.specs.Names.{is_one_of, number_of_name};
 ghost use Rattle.rip_plan.specs.Touches.{listed};
 
-use crate::draft::{Draft, DraftInterface, DraftPlace, MOST};
+use crate::draft::{Draft, DraftInterface, DraftPlace};
 use crate::error::{At, PlanCode, ReadError, fault};
 use crate::fields;
+use crate::limits::{MOST_INTERFACES, MOST_PLACES};
 use crate::parts::{Interface, Seat};
 use rip_wire::{Address, Prefix, is_name};
 use std::alloc::{AllocError, Global};
@@ -18,7 +19,7 @@ use std::collections::HashMap;
 use toml::Value;
 
 fn is_name_taken(name: &str, names: &[String]) -> bool
-    ensures { result ≡ is_taken name.now (map string_bytes names.now) }
+    ensures { result ≡ is_one_of name.now (map string_bytes names.now) }
 {
     names.iter().any(|other| other.as_str() == name)
 }
@@ -31,14 +32,14 @@ fn number_of(draft: &Draft, name: &str) -> Option<usize>
 }
 
 fn is_link_named(draft: &Draft, name: &str) -> bool
-    ensures { result ≡ is_taken name.now (sketch draft.now).links }
+    ensures { result ≡ is_one_of name.now (sketch draft.now).links }
 {
     number_of(draft, name).is_some()
 }
 
 /// Adds the name of a link that no earlier link has.
 fn add_link_name(draft: &mut Draft, alloc: Global, name: &str) -> Result<(), ReadError>
-    requires { is_taken name.now (sketch draft.old).links ≡ false }
+    requires { is_one_of name.now (sketch draft.old).links ≡ false }
     ensures { Steps (sketch draft.old) (sketch draft.new) result (λ s.
         Ok (record s { links = s.links ++ name.now ∷ [] })) }
 {
@@ -94,7 +95,7 @@ fn add_block(
 fn add_place(draft: &mut Draft, at: At, prefix: Prefix, seat: Seat) -> Result<(), ReadError>
     ensures { Steps (sketch draft.old) (sketch draft.new) result (with_place at prefix seat) }
 {
-    if MOST <= draft.places.len() {
+    if MOST_PLACES <= draft.places.len() {
         return Err(fault(PlanCode::Limit, at));
     }
     // With room for the place nothing fails after its prefix is kept.
@@ -179,7 +180,7 @@ fn add_interface(draft: &mut Draft, r: usize, j: usize, item: &Value) -> Result<
     if is_out_of_link(draft, link, address) {
         return Err(fault(PlanCode::OutsidePrefix, at));
     }
-    if MOST <= draft.interfaces.len() {
+    if MOST_INTERFACES <= draft.interfaces.len() {
         return Err(fault(PlanCode::Limit, at));
     }
     let interface = Interface {

@@ -1,35 +1,54 @@
-use Rattle.std.proofs.Common.{◌≡◌, ◌-◌, ◌+◌, ◌*◌, ◌<◌, ◌∷◌, ◌&&◌, ℕ, Bool, true, false, cond, drop, length, get_or, arith, refl, ◌∙◌, Option, Some, length-set}
+use Rattle.std.proofs.Common.{◌≡◌, ◌+◌, ◌*◌, ◌<◌, ◌&&◌, ◌||◌, ℕ, Bool, Vec, Global, length, get_or, take, arith, refl, sym, ◌∙◌, ap, length-set, true, false}
+use Rattle.std.proofs.Math.ListN.{set}
 use Rattle.std.specs.Prelude.{◌==◌}
-use Rattle.std.specs.Option.{is_some}
+use Rattle.std.specs.List.{list_any}
+use Rattle.std.proofs.lemmas.List.{take_all}
+use Rattle.std.proofs.lemmas.List.Folds.{list_any_more}
 use Rattle.std.proofs.lemmas.Nat.{mul-add-lt}
 use Rattle.rip_plan.specs.declared.parts.Place.{Place}
 use Rattle.rip_plan.specs.declared.parts.Seat.TheVariants.{Link}
-use Rattle.rip_plan.specs.Network.{first_carrying, is_carrying}
+use Rattle.rip_plan.specs.Network.{is_carrying}
 use Rattle.rip_plan.specs.Rows.{IsLinkBelow}
-use Rattle.rip_plan.proofs.Back.{back_at}
 use Rattle.rip_plan.proofs.Cells.{cell_set}
+use Rattle.rip_plan.proofs.Clashes.{or_turned}
+use Rattle.rip_plan.proofs.Items.{any_found}
 use Rattle.rip_plan.proofs.index.carriers_of.Goals as goal
+use Rattle.rip_plan.proofs.index.carriers_of.Goals.{in-Link, in_default}
 
-flag_set : (b : Bool) (n : ℕ) (o : Option ℕ) → cond b true (is_some o) ≡ is_some (cond b (Some n) o)
-flag_set true n o = refl
-flag_set false n o = refl
+or_off : (b : Bool) → (b || false) ≡ b
+or_off true = refl
+or_off false = refl
 
-pub loop-i-preserved-in-Link : goal.loop-i-preserved-in-Link
-loop-i-preserved-in-Link c =
+pub loop-i-preserved : goal.loop-i-preserved
+loop-i-preserved c =
     let i = c.loop-i.i in
     let places = c.args.places.now in
     let w = c.args.prefixes in
-    let l = c.in-Link.link in
     let d : Place = record { prefix = 0; seat = Link 0 } in
-    let q = get_or places (i - 1) d in
-    let link : IsLinkBelow c.args.links (Link l) = rw c.in-Link.is at (c.requires.seats (i - 1) d (omega arith)) in
-    let column : q.prefix < w = c.requires.prefixes (i - 1) d (omega arith) in
-    let inside : l * w + q.prefix < length c.loop-i.carriers.items = omega (arith, c.loop-i.invariant.0, mul-add-lt l w q.prefix c.args.links link column) in
-    let front : drop (i - 1) places ≡ q ∷ drop i places = back_at places i d (omega arith) (omega arith) in
-    let next : i - 1 + 1 ≡ i = omega arith in (
-      simp length-set c.loop-i.invariant.0,
-      λ m k h.
-          let on : is_carrying m k q ≡ ((l == m) && (q.prefix == k)) = rw c.in-Link.is refl in
-          cell_set c.loop-i.carriers.items w l q.prefix m k true false inside column h
-          ∙ rw (c.loop-i.invariant.1 m k h, ← on, front, next) (flag_set (is_carrying m k q) (i - 1) (first_carrying m k i (drop i places))),
-    )
+    let q = get_or places i d in
+    let more = λ (m k : ℕ). list_any_more (is_carrying m k) places i d c.loop-i-test.true in
+    elim c.match-place.branch [
+      | in-Link b ↦
+          let l = b.in-Link.link in
+          let written : c.match-place.carriers.items ≡ set c.loop-i.carriers.items (l * w + q.prefix) true = ap (λ (v : Vec Bool Global). v.items) b.carriers-is in
+          let link : IsLinkBelow c.args.links (Link l) = rw b.in-Link.is at (c.requires.seats i d c.loop-i-test.true) in
+          let column : q.prefix < w = c.requires.prefixes i d c.loop-i-test.true in
+          let inside : l * w + q.prefix < length c.loop-i.carriers.items = omega (arith, c.loop-i.invariant.0, mul-add-lt l w q.prefix c.args.links link column) in (
+            rw written (simp length-set c.loop-i.invariant.0),
+            λ m k h.
+                let on : is_carrying m k q ≡ ((l == m) && (q.prefix == k)) = rw b.in-Link.is refl in
+                rw written (cell_set c.loop-i.carriers.items w l q.prefix m k true false inside column h
+                ∙ rw (c.loop-i.invariant.1 m k h, ← on) (or_turned (is_carrying m k q) (list_any (is_carrying m k) (take i places)) ∙ sym (more m k))),
+          )
+      | in_default b ↦ (
+        rw b.carriers-is c.loop-i.invariant.0,
+        λ m k h.
+            let off : is_carrying m k q ≡ false = rw b.in_default.is refl in
+            rw (b.carriers-is, more m k, off) (c.loop-i.invariant.1 m k h ∙ sym (or_off (list_any (is_carrying m k) (take i places)))),
+      )
+    ]
+
+pub returns-clause-flags : goal.returns-clause-flags
+returns-clause-flags c = λ l k h.
+    let all : take c.loop-i.i c.args.places.now ≡ c.args.places.now = take_all c.loop-i.i c.args.places.now c.loop-i-test.false in
+    c.loop-i.invariant.1 l k h ∙ ap (list_any (is_carrying l k)) all ∙ sym (any_found (is_carrying l k) 0 c.args.places.now)

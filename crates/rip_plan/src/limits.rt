@@ -1,0 +1,19 @@
+//! The limits of a plan.
+
+/// The most bytes of a plan's text.
+pub const MOST_BYTES: usize = 1_048_576;
+
+/// The most links of a plan.
+pub const MOST_LINKS: usize = 512;
+
+/// The most routers of a plan.
+pub const MOST_ROUTERS: usize = 128;
+
+/// The most interfaces of a plan.
+pub const MOST_INTERFACES: usize = 1_024;
+
+/// The most places of prefixes of a plan.
+pub const MOST_PLACES: usize = 1_024;
+
+/// The highest cost of an interface and of an own prefix (RFC 2453, 3.5).
+pub const MOST_COST: u8 = 15;
