@@ -6,9 +6,8 @@ use mathlib.Core.Path.{fun_ext}
 use Rattle.rip_wire.specs.Prefix.{Block}
 use Rattle.rip_wire.specs.declared.entry.Entry.{Entry}
 use Rattle.rip_plan.specs.Passes.{same_prefix}
-use Rattle.rip_table.specs.State.{IsState, State, is_among}
+use Rattle.rip_table.specs.State.{IsState, State, is_among, with_prefix}
 use Rattle.rip_table.specs.Joined.{is_foreign, is_past, joined_at, joined_entries, with_heard, with_metric}
-use Rattle.rip_table.specs.ListState.{with_prefix}
 use Rattle.rip_table.specs.Numbers.{AreFaultless}
 use Rattle.rip_table.specs.Rows.{AreWritten, Rows, cell, grid_state, heads, shown_after, with_row, with_rows}
 use Rattle.rip_table.specs.declared.error.TableError.TheVariants.{Changed, NextHop, TooManyPrefixes}

@@ -7,9 +7,9 @@ use mathlib.Core.Path.{fun_ext}
 use Rattle.rip_wire.specs.Prefix.{Block}
 use Rattle.rip_wire.specs.declared.entry.Entry.{Entry}
 use Rattle.rip_plan.specs.Passes.{same_prefix}
-use Rattle.rip_table.specs.State.{State}
+use Rattle.rip_table.specs.State.{State, with_prefix}
 use Rattle.rip_table.specs.Joined.{is_foreign, is_past, joined_at, joined_entries, with_heard, with_metric}
-use Rattle.rip_table.specs.ListState.{IsAdded, list_state, metric_in, with_prefix}
+use Rattle.rip_table.specs.ListState.{IsAdded, list_state, metric_in}
 use Rattle.rip_table.specs.declared.error.TableError.TheVariants.{Changed, NextHop, TooManyPrefixes}
 use Rattle.rip_table.specs.declared.list.shown.Shown.{Shown}
 use Rattle.rip_table.proofs.Truth.{both-true, neither-true, or-none, then-split}

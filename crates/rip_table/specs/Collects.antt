@@ -28,9 +28,13 @@ PassedKnown n old (Some log) new None = ⊥
 PassedKnown n old (Some log) new (Some left) = Passed n old log new left
 
 -- want of memory came at a record of this line, which brings a pair that the table lacks
-pub record Stuck (n : Network) (old : State) (log : Log) (new : State) (left : Log) (line : ℕ) : Type 0 where
+pub record Stuck (n : Network) (old : State) (log : Log) (new : State) (left : Log)
+    (line : ℕ) : Type 0 where
   pub capture : Capture
-  pub before : Passed n old log new (record { records = (record { line = line; capture = capture }) ∷ left.records; fault = left.fault })
+  pub before : Passed n old log new (record {
+    records = (record { line = line; capture = capture }) ∷ left.records;
+    fault = left.fault;
+  })
   pub wants : WantsFor n new capture
 
 abbrev pub StuckKnown : Network → State → Option Log → State → Option Log → ℕ → Type 0
@@ -61,28 +65,44 @@ abbrev pub reader_refused : Result (Unit {0}) CollectError → Bool
 reader_refused (Ok u) = false
 reader_refused (Err e) = is_log_cause e.cause
 
--- an error of the reader is told at the line after those behind it, and every other at the last of those
+-- an error of the reader is told at the line after those behind it, and every other at the last of
+-- those
 abbrev pub IsAtLine : ℕ → ℕ → CollectCause → Type 0
 IsAtLine behind line (OfLog e) = (line ≡ behind + 1) × (e.line ≡ behind + 1)
 IsAtLine behind line other = line ≡ behind
 
 -- what was joined, where bytes are told
-abbrev pub ToldOutcome : Network → State → Option Log → State → Option Log → Result (Unit {0}) CollectError → Type 0
+abbrev pub ToldOutcome : Network → State → Option Log → State → Option Log
+    → Result (Unit {0}) CollectError → Type 0
 ToldOutcome n old log new left (Ok u) = OutcomeKnown n old log new None
 ToldOutcome n old log new left (Err e) =
     IfElse (is_memory e.cause) (StuckKnown n old log new left e.line)
-    (IfElse (is_read_cause e.cause) (PassedKnown n old log new left) (OutcomeKnown n old log new (Some e)))
+    (IfElse (is_read_cause e.cause) (PassedKnown n old log new left)
+    (OutcomeKnown n old log new (Some e)))
 
 -- the same in the words of the subject, of a log that is told
 abbrev pub SaidOutcome : Network → State → Log → State → Result (Unit {0}) CollectError → Type 0
 SaidOutcome n old log new (Ok u) = IsOutcome n old log new None
-SaidOutcome n old log new (Err e) = is_memory e.cause ≡ false → is_read_cause e.cause ≡ false → IsOutcome n old log new (Some e)
+SaidOutcome n old log new (Err e) =
+    is_memory e.cause ≡ false → is_read_cause e.cause ≡ false → IsOutcome n old log new (Some e)
 
-pub record Collects {R : Type 0} (coming : R → Option (List ℕ)) (broken at_end : R → Bool) (n : Network) (old new : State) (before after : LogReader R) (result : Result (Unit {0}) CollectError) : Type 0 where
-  pub told : has_stopped before ≡ false → ToldOutcome n old (log_to_come coming before) new (log_to_come coming after) result
-  pub said : has_stopped before ≡ false → (log : Log) → log_to_come coming before ≡ Some log → SaidOutcome n old log new result
+-- what is answered of a reader that had stopped
+abbrev pub already_ended : {R : Type 0} → LogReader R → CollectError
+already_ended before = record {
+  line = lines_behind before + 1;
+  cause = OfLog (record { code = codes.Ended; line = lines_behind before + 1 });
+}
+
+pub record Collects {R : Type 0} (coming : R → Option (List ℕ)) (broken at_end : R → Bool)
+    (n : Network) (old new : State) (before after : LogReader R)
+    (result : Result (Unit {0}) CollectError) : Type 0 where
+  pub told : has_stopped before ≡ false
+      → ToldOutcome n old (log_to_come coming before) new (log_to_come coming after) result
+  pub said : has_stopped before ≡ false → (log : Log) → log_to_come coming before ≡ Some log
+      → SaidOutcome n old log new result
   -- a reader that had stopped changes nothing
-  pub stopped : has_stopped before ≡ true → (new ≡ old) × (result ≡ Err (record { line = lines_behind before + 1; cause = OfLog (record { code = codes.Ended; line = lines_behind before + 1 }) }))
+  pub stopped : has_stopped before ≡ true
+      → (new ≡ old) × (result ≡ Err (already_ended before))
   pub refused : has_stopped before ≡ false → has_stopped after ≡ reader_refused result
   pub here : IfErr result (λ e. IsAtLine (lines_behind after) e.line e.cause)
   pub fits : Fits n new

@@ -30,12 +30,18 @@ abbrev pub update : ℕ → Capture
 update metric = record {
   link = codes "a";
   sender = sender;
-  datagram = 2 ∷ 2 ∷ 0 ∷ 0 ∷ 0 ∷ 2 ∷ 0 ∷ 0 ∷ 10 ∷ 3 ∷ 0 ∷ 0 ∷ 255 ∷ 255 ∷ 0 ∷ 0 ∷ 0 ∷ 0 ∷ 0 ∷ 0 ∷ 0 ∷ 0 ∷ 0 ∷ metric ∷ [];
+  datagram =
+      2 ∷ 2 ∷ 0 ∷ 0 ∷ 0 ∷ 2 ∷ 0 ∷ 0 ∷ 10 ∷ 3 ∷ 0 ∷ 0 ∷ 255 ∷ 255 ∷ 0 ∷ 0
+      ∷ 0 ∷ 0 ∷ 0 ∷ 0 ∷ 0 ∷ 0 ∷ 0 ∷ metric ∷ [];
 }
 
 -- metric 1 on line 1, and metric 2 on line 2
 abbrev pub two_metrics : Log
-two_metrics = record { records = (record { line = 1; capture = update 1 }) ∷ (record { line = 2; capture = update 2 }) ∷ []; fault = None }
+two_metrics = record {
+  records = (record { line = 1; capture = update 1 })
+      ∷ (record { line = 2; capture = update 2 }) ∷ [];
+  fault = None;
+}
 
 -- the interface was heard, and showed 1
 abbrev pub one_metric : State

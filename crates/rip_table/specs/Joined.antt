@@ -1,5 +1,5 @@
 -- What entries, datagrams, records and logs make of a table: the definitions that compute.
-use Rattle.std.specs.Prelude.{◌≡◌, ℕ, ◌==◌, nat_le, nat_lt, Bool, true, false, ◌&&◌, ◌||◌, not, if◌then◌else◌, List, [], ◌∷◌, ◌++◌, length, Option, Some, None, is_none, is_ok, Result, Ok, Err}
+use Rattle.std.specs.Prelude.{◌≡◌, ℕ, ◌==◌, nat_le, nat_lt, Bool, true, false, ◌&&◌, ◌||◌, not, if◌then◌else◌, List, [], ◌∷◌, length, Option, Some, None, is_none, is_ok, Result, Ok, Err}
 use Rattle.std.specs.List.{list_any}
 use Rattle.rip_wire.specs.Prefix.{Block}
 use Rattle.rip_wire.specs.Message.{Message, request, response, message_in}
@@ -10,7 +10,8 @@ use Rattle.rip_plan.specs.Passes.{same_prefix}
 use Rattle.rip_log.specs.Lines.{Capture}
 use Rattle.rip_log.specs.Logs.{Log, Numbered, IfElse}
 use Rattle.rip_log.specs.declared.error.LogError.{LogError}
-use Rattle.rip_table.specs.State.{State, is_among}
+use Rattle.rip_table.specs.State.{State, is_among, with_prefix}
+use Rattle.rip_table.specs.declared.limits.TheConstants.{MOST_PREFIXES}
 use Rattle.rip_table.specs.declared.error.TableError.{TableError}
 use Rattle.rip_table.specs.declared.error.TableError.TheVariants.{Changed, NextHop, TooManyPrefixes, Memory}
 use Rattle.rip_table.specs.declared.error.CollectCause.{CollectCause}
@@ -23,7 +24,7 @@ use Rattle.rip_table.specs.declared.error.CollectError.{CollectError}
 abbrev pub with_metric : State → ℕ → Block → ℕ → State
 with_metric s i p m = record {
   interfaces = s.interfaces;
-  prefixes = if is_among p s.prefixes then s.prefixes else s.prefixes ++ p ∷ [];
+  prefixes = with_prefix p s.prefixes;
   shows = λ j q. if (j == i) && same_prefix q p then Some m else s.shows j q;
   heard = s.heard;
 }
@@ -31,13 +32,14 @@ with_metric s i p m = record {
 abbrev pub with_heard : State → ℕ → State
 with_heard s i = record s { heard = λ j. if j == i then true else s.heard j }
 
--- a route below 16 by another next hop than the sender, for which 0.0.0.0 stands too (RFC 2453, 4.4)
+-- a route below 16 by another next hop than the sender, for which 0.0.0.0 stands too (RFC 2453,
+-- 4.4)
 abbrev pub is_foreign : ℕ → Entry → Bool
 is_foreign sender e = nat_lt e.metric 16 && not ((e.next_hop == 0) || (e.next_hop == sender))
 
--- the prefix is new, and there are 2,048
+-- the prefix is new, and there are as many as a table may have
 abbrev pub is_past : State → Block → Bool
-is_past s p = nat_le 2048 (length s.prefixes) && not (is_among p s.prefixes)
+is_past s p = nat_le MOST_PREFIXES (length s.prefixes) && not (is_among p s.prefixes)
 
 -- one entry of a sender, where this metric or none stands at its place
 abbrev pub joined_at : ℕ → ℕ → State → Entry → Option ℕ → Result State TableError
@@ -59,7 +61,8 @@ and_then (Err e) f = Err e
 -- the entries of a sender at an interface, one after the other
 abbrev pub joined_entries : ℕ → ℕ → State → List Entry → Result State TableError
 joined_entries sender i s [] = Ok s
-joined_entries sender i s (e ∷ es) = and_then (joined_at sender i s e (s.shows i e.prefix)) (λ t. joined_entries sender i t es)
+joined_entries sender i s (e ∷ es) =
+    and_then (joined_at sender i s e (s.shows i e.prefix)) (λ t. joined_entries sender i t es)
 
 -- a message of a sender at an interface; a request adds nothing
 abbrev pub joined_message : ℕ → ℕ → State → Message → Result State TableError
@@ -80,9 +83,12 @@ pub record Wants (sender i : ℕ) (s : State) (m : Message) : Type 0 where
 abbrev pub Takes : ℕ → ℕ → State → Message → State → Result (Unit {0}) TableError → Type 0
 Takes sender i old m new (Ok u) = joined_message sender i old m ≡ Ok new
 Takes sender i old m new (Err Memory) = (new ≡ old) × Wants sender i old m
-Takes sender i old m new (Err (Changed p x y)) = (new ≡ old) × (joined_message sender i old m ≡ Err (Changed p x y))
-Takes sender i old m new (Err (NextHop p)) = (new ≡ old) × (joined_message sender i old m ≡ Err (NextHop p))
-Takes sender i old m new (Err TooManyPrefixes) = (new ≡ old) × (joined_message sender i old m ≡ Err TooManyPrefixes)
+Takes sender i old m new (Err (Changed p x y)) =
+    (new ≡ old) × (joined_message sender i old m ≡ Err (Changed p x y))
+Takes sender i old m new (Err (NextHop p)) =
+    (new ≡ old) × (joined_message sender i old m ≡ Err (NextHop p))
+Takes sender i old m new (Err TooManyPrefixes) =
+    (new ≡ old) × (joined_message sender i old m ≡ Err TooManyPrefixes)
 
 -- ---- a record
 
@@ -90,7 +96,8 @@ abbrev pub as_cause : Result State TableError → Result State CollectCause
 as_cause (Ok s) = Ok s
 as_cause (Err e) = Err (Table e)
 
--- a message of a sender at its interface; where it has none, a response is refused and a request passed over
+-- a message of a sender at its interface; where it has none, a response is refused and a request
+-- passed over
 abbrev pub joined_from : ℕ → State → Message → Option ℕ → Result State CollectCause
 joined_from sender s request None = Ok s
 joined_from sender s (response es) None = Err UnknownSender
@@ -123,19 +130,25 @@ is_memory other = false
 -- what joining a record answers and leaves
 abbrev pub Joins : Network → State → Capture → State → Result (Unit {0}) CollectCause → Type 0
 Joins n old c new (Ok u) = joined_capture n old c ≡ Ok new
-Joins n old c new (Err cause) = (new ≡ old) × IfElse (is_memory cause) (WantsFor n old c) (joined_capture n old c ≡ Err cause)
+Joins n old c new (Err cause) =
+    (new ≡ old) × IfElse (is_memory cause) (WantsFor n old c) (joined_capture n old c ≡ Err cause)
 
 -- ---- a log
 
 -- the records of a log, one after the other
 abbrev pub joined_records : Network → State → List Numbered → Result State CollectCause
 joined_records n s [] = Ok s
-joined_records n s (r ∷ records) = and_then (joined_capture n s r.capture) (λ t. joined_records n t records)
+joined_records n s (r ∷ records) =
+    and_then (joined_capture n s r.capture) (λ t. joined_records n t records)
 
 -- a table, and what refused the rest of a log
 pub record Outcome : Type 0 where
   pub state : State
   pub fault : Option CollectError
+
+-- a table, and the cause that refused the rest of a log at a line
+abbrev pub refused_at : State → ℕ → CollectCause → Outcome
+refused_at s line cause = record { state = s; fault = Some (record { line = line; cause = cause }) }
 
 abbrev pub log_fault : Option LogError → Option CollectError
 log_fault None = None
@@ -143,12 +156,13 @@ log_fault (Some e) = Some (record { line = e.line; cause = OfLog e })
 
 abbrev pub with_record : State → ℕ → Result State CollectCause → (State → Outcome) → Outcome
 with_record s line (Ok t) later = later t
-with_record s line (Err cause) later = record { state = s; fault = Some (record { line = line; cause = cause }) }
+with_record s line (Err cause) later = refused_at s line cause
 
 -- what the records of a log make of a table, up to the first refusal
 abbrev pub outcome_of : Network → State → List Numbered → Option LogError → Outcome
 outcome_of n s [] fault = record { state = s; fault = log_fault fault }
-outcome_of n s (r ∷ records) fault = with_record s r.line (joined_capture n s r.capture) (λ t. outcome_of n t records fault)
+outcome_of n s (r ∷ records) fault =
+    with_record s r.line (joined_capture n s r.capture) (λ t. outcome_of n t records fault)
 
 abbrev pub outcome : Network → State → Log → Outcome
 outcome n s log = outcome_of n s log.records log.fault

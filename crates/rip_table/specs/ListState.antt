@@ -1,15 +1,16 @@
 -- What a table means that is a list of what interfaces showed.
-use Rattle.std.specs.Prelude.{ℕ, ◌==◌, ◌&&◌, ◌≡◌, Bool, false, if◌then◌else◌, List, [], ◌∷◌, ◌++◌, length, Option, Some, None, Ok, option_map, find, slice_index_or}
+use Rattle.std.specs.Prelude.{ℕ, ◌==◌, ◌&&◌, ◌≡◌, Bool, false, List, [], ◌∷◌, ◌++◌, length, Option, Some, None, Ok, option_map, find, slice_index_or}
 use Rattle.rip_wire.specs.Prefix.{Block}
 use Rattle.rip_plan.specs.Passes.{same_prefix}
 use Rattle.rip_wire.specs.declared.entry.Entry.{Entry}
-use Rattle.rip_table.specs.State.{State, is_among}
+use Rattle.rip_table.specs.State.{State, with_prefix}
 use Rattle.rip_table.specs.Joined.{joined_entries}
 use Rattle.rip_table.specs.declared.list.shown.Shown.{Shown}
 
 -- the first metric of an interface and a prefix
 abbrev pub metric_in : ℕ → Block → List Shown → Option ℕ
-metric_in i p shown = option_map (λ c. c.metric) (find (λ c. (i == c.interface) && same_prefix p c.prefix) shown)
+metric_in i p shown =
+    option_map (λ c. c.metric) (find (λ c. (i == c.interface) && same_prefix p c.prefix) shown)
 
 abbrev pub list_state : List Bool → List Block → List Shown → State
 list_state heard prefixes shown = record {
@@ -19,16 +20,17 @@ list_state heard prefixes shown = record {
   heard = λ i. slice_index_or heard i false;
 }
 
--- the prefixes with this one, which is new or not
-abbrev pub with_prefix : Block → List Block → List Block
-with_prefix p prefixes = if is_among p prefixes then prefixes else prefixes ++ p ∷ []
-
 -- an item was added with its prefix, unless its interface showed the prefix before
-pub record IsAdded (c : Shown) (prefixes : List Block) (shown : List Shown) (new_prefixes : List Block) (new_shown : List Shown) : Type 0 where
-  pub known : (m : ℕ) → metric_in c.interface c.prefix shown ≡ Some m → (new_prefixes ≡ prefixes) × (new_shown ≡ shown)
-  pub new : metric_in c.interface c.prefix shown ≡ None → (new_prefixes ≡ with_prefix c.prefix prefixes) × (new_shown ≡ shown ++ c ∷ [])
+pub record IsAdded (c : Shown) (prefixes : List Block) (shown : List Shown)
+    (new_prefixes : List Block) (new_shown : List Shown) : Type 0 where
+  pub known : (m : ℕ) → metric_in c.interface c.prefix shown ≡ Some m
+      → (new_prefixes ≡ prefixes) × (new_shown ≡ shown)
+  pub new : metric_in c.interface c.prefix shown ≡ None
+      → (new_prefixes ≡ with_prefix c.prefix prefixes) × (new_shown ≡ shown ++ c ∷ [])
 
 -- what the entries show was added, whose join is a table
 abbrev pub AreAdded : ℕ → List Entry → List Block → List Shown → List Block → List Shown → Type 0
 AreAdded i entries prefixes shown new_prefixes new_shown =
-    (heard : List Bool) (sender : ℕ) (t : State) → joined_entries sender i (list_state heard prefixes shown) entries ≡ Ok t → list_state heard new_prefixes new_shown ≡ t
+    (heard : List Bool) (sender : ℕ) (t : State)
+    → joined_entries sender i (list_state heard prefixes shown) entries ≡ Ok t
+    → list_state heard new_prefixes new_shown ≡ t

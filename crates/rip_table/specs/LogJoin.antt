@@ -1,4 +1,5 @@
--- What a log makes of a table: who tells what, what stands in the table then, and what refuses a log.
+-- What a log makes of a table: who tells what, what stands in the table then, and what refuses a
+-- log.
 use Rattle.std.specs.Prelude.{◌≡◌, ◌≢◌, ◌↔◌, ◌⊎◌, ℕ, ◌<◌, ◌≤◌, true, List, ◌∷◌, ◌++◌, length, Option, Some, None, Ok, slice_get}
 use Rattle.rip_wire.specs.Prefix.{Block}
 use Rattle.rip_wire.specs.Message.{response, message_in}
@@ -10,6 +11,7 @@ use Rattle.rip_log.specs.Logs.{Log, Numbered}
 use Rattle.rip_log.specs.declared.error.LogError.{LogError}
 use Rattle.rip_table.specs.State.{IsState, State}
 use Rattle.rip_table.specs.Joined.{with_heard}
+use Rattle.rip_table.specs.declared.limits.TheConstants.{MOST_PREFIXES}
 use Rattle.rip_table.specs.declared.error.TableError.{TableError}
 use Rattle.rip_table.specs.declared.error.TableError.TheVariants.{Changed, NextHop, TooManyPrefixes, Memory}
 use Rattle.rip_table.specs.declared.error.CollectCause.{CollectCause}
@@ -18,22 +20,26 @@ use Rattle.rip_table.specs.declared.error.CollectError.{CollectError}
 
 -- ---- who tells what
 
--- a capture is a response of interface i, with these entries: it was on the interface's link, its sender has the address there
+-- a capture is a response of interface i, with these entries: it was on the interface's link, its
+-- sender has the address there
 pub record IsResponse (n : Network) (c : Capture) (i : ℕ) (entries : List Entry) : Type 0 where
   pub from : IsAt n c.link c.sender i
   pub says : message_in c.datagram ≡ Ok (response entries)
 
 -- record k of a log is a response of interface i, with these entries
 abbrev pub HasResponse : Network → List Numbered → ℕ → ℕ → List Entry → Type 0
-HasResponse n log k i entries = (r : Numbered) × (slice_get log k ≡ Some r) × IsResponse n r.capture i entries
+HasResponse n log k i entries =
+    (r : Numbered) × (slice_get log k ≡ Some r) × IsResponse n r.capture i entries
 
 -- entry j is of prefix p and has metric x
 abbrev pub HasEntry : List Entry → ℕ → Block → ℕ → Type 0
-HasEntry entries j p x = (e : Entry) × (slice_get entries j ≡ Some e) × (e.prefix ≡ p) × (e.metric ≡ x)
+HasEntry entries j p x =
+    (e : Entry) × (slice_get entries j ≡ Some e) × (e.prefix ≡ p) × (e.metric ≡ x)
 
 -- entry j of record k is interface i's, of prefix p, and has metric x
 abbrev pub IsSaid : Network → List Numbered → ℕ → ℕ → ℕ → Block → ℕ → Type 0
-IsSaid n log k j i p x = (entries : List Entry) × HasResponse n log k i entries × HasEntry entries j p x
+IsSaid n log k j i p x =
+    (entries : List Entry) × HasResponse n log k i entries × HasEntry entries j p x
 
 -- a log tells metric x of prefix p at interface i
 abbrev pub IsTold : Network → List Numbered → ℕ → Block → ℕ → Type 0
@@ -57,7 +63,8 @@ ComesBefore k j l m = (k < l) ⊎ ((k ≡ l) × (j < m))
 abbrev pub IsListed : State → Block → Type 0
 IsListed s p = (k : ℕ) × (slice_get s.prefixes k ≡ Some p)
 
--- prefixes stand in the order of their first appearance: before each entry of the later one there is one of the earlier
+-- prefixes stand in the order of their first appearance: before each entry of the later one there
+-- is one of the earlier
 abbrev pub AreInOrder : Network → List Numbered → List Block → Type 0
 AreInOrder n log prefixes =
     (a b : ℕ) (p q : Block) → a < b → slice_get prefixes a ≡ Some p → slice_get prefixes b ≡ Some q
@@ -67,7 +74,8 @@ AreInOrder n log prefixes =
 pub record IsJoin (n : Network) (old : State) (log : List Numbered) (new : State) : Type 0 where
   pub interfaces : new.interfaces ≡ old.interfaces
   -- what was shown, and what the log tells, is shown
-  pub shown : (i : ℕ) (p : Block) (x : ℕ) → (new.shows i p ≡ Some x) ↔ ((old.shows i p ≡ Some x) ⊎ IsTold n log i p x)
+  pub shown : (i : ℕ) (p : Block) (x : ℕ)
+      → (new.shows i p ≡ Some x) ↔ ((old.shows i p ≡ Some x) ⊎ IsTold n log i p x)
   pub heard : (i : ℕ) → (new.heard i ≡ true) ↔ ((old.heard i ≡ true) ⊎ HasUpdate n log i)
   -- the prefixes that were there, and those of which the log tells
   pub listed : (p : Block) → IsListed new p ↔ (IsListed old p ⊎ ((i x : ℕ) × IsTold n log i p x))
@@ -85,9 +93,11 @@ AreInEntryOrder entries prefixes =
 -- entries of interface i make this table of an old one; they mark no interface
 pub record AreTaken (i : ℕ) (old : State) (entries : List Entry) (new : State) : Type 0 where
   pub interfaces : new.interfaces ≡ old.interfaces
-  pub shown : (j : ℕ) (p : Block) (x : ℕ) → (new.shows j p ≡ Some x) ↔ ((old.shows j p ≡ Some x) ⊎ ((j ≡ i) × ((k : ℕ) × HasEntry entries k p x)))
+  pub shown : (j : ℕ) (p : Block) (x : ℕ) → (new.shows j p ≡ Some x)
+      ↔ ((old.shows j p ≡ Some x) ⊎ ((j ≡ i) × ((k : ℕ) × HasEntry entries k p x)))
   pub heard : (j : ℕ) → (new.heard j ≡ true) ↔ (old.heard j ≡ true)
-  pub listed : (p : Block) → IsListed new p ↔ (IsListed old p ⊎ ((k x : ℕ) × HasEntry entries k p x))
+  pub listed : (p : Block)
+      → IsListed new p ↔ (IsListed old p ⊎ ((k x : ℕ) × HasEntry entries k p x))
   pub others : List Block
   pub prefixes : new.prefixes ≡ old.prefixes ++ others
   pub order : AreInEntryOrder entries others
@@ -98,7 +108,8 @@ pub record AreTaken (i : ℕ) (old : State) (entries : List Entry) (new : State)
 abbrev pub KeepsMetric : State → ℕ → Entry → Type 0
 KeepsMetric s i e = (x : ℕ) → s.shows i e.prefix ≡ Some x → x ≡ e.metric
 
--- an entry is a route below 16 by another router than the sender, for which 0.0.0.0 stands too (RFC 2453, 4.4)
+-- an entry is a route below 16 by another router than the sender, for which 0.0.0.0 stands too (RFC
+-- 2453, 4.4)
 pub record IsElsewhere (sender : ℕ) (e : Entry) : Type 0 where
   pub reachable : e.metric < 16
   pub unspecified : e.next_hop ≢ 0
@@ -117,15 +128,15 @@ pub record IsByAnother (s : State) (i sender : ℕ) (e : Entry) (p : Block) : Ty
   pub keeps : KeepsMetric s i e
   pub elsewhere : IsElsewhere sender e
 
--- another entry is of one prefix too many: it is new, and there are 2,048
+-- another entry is of one prefix too many: it is new, and there are as many as a table may have
 pub record IsTooMany (s : State) (i sender : ℕ) (e : Entry) : Type 0 where
   pub keeps : KeepsMetric s i e
   pub here : IsElsewhere sender e → ⊥
   pub new : IsListed s e.prefix → ⊥
-  pub full : 2048 ≤ length s.prefixes
+  pub full : MOST_PREFIXES ≤ length s.prefixes
 
--- an entry of interface i is bad, where this is the table before it: the first that applies of a change, a next hop elsewhere
--- and too many prefixes
+-- an entry of interface i is bad, where this is the table before it: the first that applies of a
+-- change, a next hop elsewhere and too many prefixes
 abbrev pub IsBadEntry : ℕ → ℕ → State → Entry → TableError → Type 0
 IsBadEntry sender i s e (Changed p old new) = IsChange s i e p old new
 IsBadEntry sender i s e (NextHop p) = IsByAnother s i sender e p
@@ -136,10 +147,12 @@ IsBadEntry sender i s e Memory = ⊥
 abbrev pub AreGood : ℕ → ℕ → State → List Entry → Type 0
 AreGood sender i old entries =
     (front rest : List Entry) (e : Entry) (s : State) (error : TableError)
-    → entries ≡ front ++ e ∷ rest → AreTaken i old front s → IsState s → IsBadEntry sender i s e error → ⊥
+    → entries ≡ front ++ e ∷ rest → AreTaken i old front s → IsState s
+    → IsBadEntry sender i s e error → ⊥
 
 -- entries of interface i are joined into this table: they make it, and none of them is bad
-pub record AreJoined (sender i : ℕ) (old : State) (entries : List Entry) (new : State) : Type 0 where
+pub record AreJoined (sender i : ℕ) (old : State) (entries : List Entry)
+    (new : State) : Type 0 where
   pub taken : AreTaken i old entries new
   pub state : IsState new
   pub good : AreGood sender i old entries
@@ -172,7 +185,8 @@ IsRefused n s c (OfLog error) = ⊥
 abbrev pub AreAccepted : Network → State → List Numbered → Type 0
 AreAccepted n old log =
     (before after : List Numbered) (r : Numbered) (s : State) (cause : CollectCause)
-    → log ≡ before ++ r ∷ after → IsJoin n old before s → IsState s → IsRefused n s r.capture cause → ⊥
+    → log ≡ before ++ r ∷ after → IsJoin n old before s → IsState s
+    → IsRefused n s r.capture cause → ⊥
 
 -- a log is joined into this table: it makes it, and none of its records is refused
 pub record IsJoined (n : Network) (old : State) (log : List Numbered) (new : State) : Type 0 where
@@ -180,8 +194,10 @@ pub record IsJoined (n : Network) (old : State) (log : List Numbered) (new : Sta
   pub state : IsState new
   pub accepted : AreAccepted n old log
 
--- the first record of a log that is refused is on this line, and those before it are joined into this table
-pub record IsFirstRefused (n : Network) (old : State) (log : List Numbered) (s : State) (line : ℕ) (cause : CollectCause) : Type 0 where
+-- the first record of a log that is refused is on this line, and those before it are joined into
+-- this table
+pub record IsFirstRefused (n : Network) (old : State) (log : List Numbered) (s : State)
+    (line : ℕ) (cause : CollectCause) : Type 0 where
   pub before : List Numbered
   pub capture : Capture
   pub after : List Numbered
@@ -190,7 +206,8 @@ pub record IsFirstRefused (n : Network) (old : State) (log : List Numbered) (s :
   pub refused : IsRefused n s capture cause
 
 -- the records of a log are joined, and this is the log's own fault
-pub record IsFaultOf (n : Network) (old : State) (log : Log) (s : State) (error : CollectError) : Type 0 where
+pub record IsFaultOf (n : Network) (old : State) (log : Log) (s : State)
+    (error : CollectError) : Type 0 where
   pub fault : LogError
   pub has : log.fault ≡ Some fault
   pub is : error ≡ record { line = fault.line; cause = OfLog fault }
@@ -199,4 +216,5 @@ pub record IsFaultOf (n : Network) (old : State) (log : Log) (s : State) (error 
 -- what a log makes of a table, and what refuses the rest of the log
 abbrev pub IsOutcome : Network → State → Log → State → Option CollectError → Type 0
 IsOutcome n old log s None = (log.fault ≡ None) × IsJoined n old log.records s
-IsOutcome n old log s (Some error) = IsFirstRefused n old log.records s error.line error.cause ⊎ IsFaultOf n old log s error
+IsOutcome n old log s (Some error) =
+    IsFirstRefused n old log.records s error.line error.cause ⊎ IsFaultOf n old log s error

@@ -8,12 +8,15 @@ use Rattle.rip_plan.specs.Network.{number_of_prefix}
 use Rattle.rip_plan.specs.Passes.{same_prefix}
 use Rattle.rip_table.specs.State.{IsState, State}
 use Rattle.rip_table.specs.Joined.{brings_pair, is_foreign, joined_entries, with_heard}
+use Rattle.rip_table.specs.declared.limits.TheConstants.{MOST_PREFIXES}
 use Rattle.rip_table.specs.declared.error.TableError.{TableError}
 use Rattle.rip_table.specs.declared.error.TableError.TheVariants.{Changed, NextHop, TooManyPrefixes}
 
 -- for each entry the number, if any, of its prefix in the list
 abbrev pub AreNumbers : List Block → List Entry → List (Option ℕ) → Type 0
-AreNumbers prefixes entries numbers = (j : ℕ) (e : Entry) → slice_get entries j ≡ Some e → slice_get numbers j ≡ Some (number_of_prefix e.prefix prefixes)
+AreNumbers prefixes entries numbers =
+    (j : ℕ) (e : Entry) → slice_get entries j ≡ Some e
+    → slice_get numbers j ≡ Some (number_of_prefix e.prefix prefixes)
 
 -- the metric of the first entry of a prefix
 abbrev pub metric_among : Block → List Entry → Option ℕ
@@ -24,7 +27,8 @@ metric_among p (e ∷ es) = if same_prefix p e.prefix then Some e.metric else me
 abbrev pub known_metric : State → ℕ → List Entry → Block → Option ℕ
 known_metric s i entries p = option_or (s.shows i p) (metric_among p entries)
 
--- how many prefixes there are with that of an entry, which is new where it has no number and nothing is known of it
+-- how many prefixes there are with that of an entry, which is new where it has no number and
+-- nothing is known of it
 abbrev pub counted : ℕ → Option ℕ → Bool → ℕ
 counted count number is_known = if is_none number && not is_known then count + 1 else count
 
@@ -32,19 +36,25 @@ counted count number is_known = if is_none number && not is_known then count + 1
 abbrev pub judged_alone : ℕ → Entry → ℕ → Result (Unit {0}) TableError
 judged_alone sender e count =
     if is_foreign sender e then Err (NextHop e.prefix)
-    else if nat_lt 2048 count then Err TooManyPrefixes
+    else if nat_lt MOST_PREFIXES count then Err TooManyPrefixes
     else Ok tt
 
--- the fault, if any, of an entry whose prefix had this metric or none, and with which there are so many prefixes
+-- the fault, if any, of an entry whose prefix had this metric or none, and with which there are so
+-- many prefixes
 abbrev pub judged : ℕ → Entry → Option ℕ → ℕ → Result (Unit {0}) TableError
 judged sender e None count = judged_alone sender e count
-judged sender e (Some old) count = if not (old == e.metric) then Err (Changed e.prefix old e.metric) else judged_alone sender e count
+judged sender e (Some old) count =
+    if not (old == e.metric) then Err (Changed e.prefix old e.metric)
+    else judged_alone sender e count
 
 -- these entries have no fault, and make a table of this one
 abbrev pub AreFaultless : ℕ → ℕ → State → List Entry → Type 0
-AreFaultless sender i s entries = (t : State) × (joined_entries sender i (with_heard s i) entries ≡ Ok t) × IsState t
+AreFaultless sender i s entries =
+    (t : State) × (joined_entries sender i (with_heard s i) entries ≡ Ok t) × IsState t
 
--- the entries have no fault, and it is told whether one brings a pair, or the first of them that is bad has this fault
+-- the entries have no fault, and it is told whether one brings a pair, or the first of them that is
+-- bad has this fault
 abbrev pub IsChecked : ℕ → ℕ → State → List Entry → Result Bool TableError → Type 0
-IsChecked sender i s entries (Ok brings) = AreFaultless sender i s entries × (brings ≡ brings_pair i s (response entries))
+IsChecked sender i s entries (Ok brings) =
+    AreFaultless sender i s entries × (brings ≡ brings_pair i s (response entries))
 IsChecked sender i s entries (Err e) = joined_entries sender i (with_heard s i) entries ≡ Err e

@@ -23,7 +23,8 @@ heads rows = map (λ row. row.0) rows
 
 -- no prefix stands twice
 abbrev pub AreDifferent : List Block → Type 0
-AreDifferent prefixes = (j k : ℕ) (p : Block) → slice_get prefixes j ≡ Some p → slice_get prefixes k ≡ Some p → j ≡ k
+AreDifferent prefixes =
+    (j k : ℕ) (p : Block) → slice_get prefixes j ≡ Some p → slice_get prefixes k ≡ Some p → j ≡ k
 
 -- each row has so many cells
 abbrev pub IsGrid : ℕ → Rows → Type 0
@@ -50,7 +51,8 @@ with_cell (row ∷ rows) (suc k) i x = row ∷ with_cell rows k i x
 
 -- a new prefix gets a row of empty cells, at the end
 abbrev pub with_row : ℕ → Rows → Block → Rows
-with_row width rows p = if is_among p (heads rows) then rows else rows ++ (p, replicate width None) ∷ []
+with_row width rows p =
+    if is_among p (heads rows) then rows else rows ++ (p, replicate width None) ∷ []
 
 -- the prefixes of entries, one after the other
 abbrev pub with_rows : ℕ → Rows → List Entry → Rows
@@ -60,11 +62,15 @@ with_rows width rows (e ∷ es) = with_rows width (with_row width rows e.prefix)
 -- what is shown once an interface has shown the metrics of entries
 abbrev pub shown_after : (ℕ → Block → Option ℕ) → ℕ → List Entry → ℕ → Block → Option ℕ
 shown_after shows i [] = shows
-shown_after shows i (e ∷ es) = shown_after (λ j q. if (j == i) && same_prefix q e.prefix then Some e.metric else shows j q) i es
+shown_after shows i (e ∷ es) =
+    shown_after (λ j q.
+    if (j == i) && same_prefix q e.prefix then Some e.metric else shows j q) i es
 
--- for each entry the number of its prefix
-abbrev pub ArePlaces : Rows → List Entry → List ℕ → Type 0
-ArePlaces rows entries places = (j : ℕ) (e : Entry) → slice_get entries j ≡ Some e → number_of_prefix e.prefix (heads rows) ≡ Some (slice_index_or places j 0)
+-- for each entry the number of its prefix's row
+abbrev pub AreRowNumbers : Rows → List Entry → List ℕ → Type 0
+AreRowNumbers rows entries row_numbers =
+    (j : ℕ) (e : Entry) → slice_get entries j ≡ Some e
+    → number_of_prefix e.prefix (heads rows) ≡ Some (slice_index_or row_numbers j 0)
 
 -- what the entries of interface i show was written, whose join is a table
 abbrev pub AreWritten : ℕ → List Entry → Rows → Rows → Type 0

@@ -15,7 +15,7 @@ use self::numbers::find_numbers;
 use self::order::Order;
 use self::rows::{Rows, add_new, add_planned};
 use crate::error::TableError;
-use crate::numbered::{Numbered, check};
+use crate::judging::{KnownMetrics, check};
 use crate::table::{MetricTable, none_heard};
 use indexmap::IndexMap;
 use rip_plan::Plan;
@@ -35,7 +35,7 @@ pub struct GridTable<S: BuildHasher> {
     ghost some: { 0 < length orders.items },
 }
 
-impl<S: BuildHasher> Numbered for GridTable<S> {
+impl<S: BuildHasher> KnownMetrics for GridTable<S> {
     ghost state = { λ t. grid_state t.heard.items (rows_of t.rows.entries) };
 
     ghost is_state = { λ t. t.valid };
@@ -112,8 +112,10 @@ impl<S: BuildHasher + Drop> GridTable<S> {
     /// The table of a plan in which nothing was heard. It finds prefixes by hashing with `hasher`;
     /// strangers choose them, so a program hands in one that is seeded at random.
     pub fn with_hasher(alloc: Global, plan: &Plan, hasher: S) -> Result<GridTable<S>, TableError>
-        ensures state { IfOk result (λ table. ⟦<GridTable<S> as MetricTable>⟧.state table ≡ new_state plan.now) }
-        ensures fits { IfOk result (λ table. Fits plan.now (⟦<GridTable<S> as MetricTable>⟧.state table)) }
+        ensures state { IfOk result (λ table.
+            ⟦<GridTable<S> as MetricTable>⟧.state table ≡ new_state plan.now) }
+        ensures fits { IfOk result (λ table.
+            Fits plan.now (⟦<GridTable<S> as MetricTable>⟧.state table)) }
         ensures memory { IfErr result (λ error. error ≡ Memory) }
     {
         let heard = none_heard(alloc, plan.interfaces())?;

@@ -38,7 +38,8 @@ pub fn collect<R: Source, T: MetricTable>(
     table: &mut T,
 ) -> Result<(), CollectError>
     requires { Fits plan.now (T.state table.old) }
-    ensures { Collects R.coming R.broken R.at_end plan.now (T.state table.old) (T.state table.new) reader.old reader.new result }
+    ensures { Collects R.coming R.broken R.at_end plan.now (T.state table.old)
+        (T.state table.new) reader.old reader.new result }
 {
     plan.lawful();
     laws::refused_logs();

@@ -9,7 +9,7 @@ ghost use Rattle.rip_plan.specs.Relations.{IsAt, IsLawful};
 ghost use Rattle.rip_log.specs.Lines.{Capture};
 ghost use Rattle.rip_log.specs.Logs.{Log, Numbered};
 ghost use Rattle.rip_table.specs.State.{Fits, IsState, State};
-ghost use Rattle.rip_table.specs.Joined.{joined_capture, joined_entries, joined_records, outcome};
+ghost use Rattle.rip_table.specs.Joined.{joined_capture, joined_entries, joined_records, outcome, refused_at};
 ghost use Rattle.rip_table.specs.LogJoin.{AreJoined, IsFirstRefused, IsJoin, IsJoined, IsListed, IsOutcome, IsResponse};
 ghost use Rattle.rip_table.specs.declared.error.CollectCause.{CollectCause};
 ghost use Rattle.rip_table.specs.declared.error.CollectCause.TheVariants.{Table};
@@ -24,8 +24,11 @@ pub mod examples;
 /// metrics that it tells, the interfaces that were heard, and prefixes in the order of their first
 /// appearance.
 pub fn joined_logs()
-    ensures join { (n : Network) (old new : State) (log : List Numbered) → IsLawful n → IsState old → Fits n old → (joined_records n old log ≡ Ok new) ↔ IsJoined n old log new }
-    ensures fits { (n : Network) (old new : State) (log : List Numbered) → Fits n old → joined_records n old log ≡ Ok new → Fits n new }
+    ensures join { (n : Network) (old new : State) (log : List Numbered) →
+        IsLawful n → IsState old → Fits n old →
+        (joined_records n old log ≡ Ok new) ↔ IsJoined n old log new }
+    ensures fits { (n : Network) (old new : State) (log : List Numbered) →
+        Fits n old → joined_records n old log ≡ Ok new → Fits n new }
 {
     laws::metric_bounds();
 }
@@ -33,7 +36,9 @@ pub fn joined_logs()
 /// The first entries of a response are joined exactly where none of them is bad, and then into the
 /// table that they make.
 pub fn joined_responses()
-    ensures { (n : Network) (old new : State) (c : Capture) (i : ℕ) (front rest : List Entry) → IsState old → Fits n old → IsResponse n c i (front ++ rest) → (joined_entries c.sender i old front ≡ Ok new) ↔ AreJoined c.sender i old front new }
+    ensures { (n : Network) (old new : State) (c : Capture) (i : ℕ) (front rest : List Entry) →
+        IsState old → Fits n old → IsResponse n c i (front ++ rest) →
+        (joined_entries c.sender i old front ≡ Ok new) ↔ AreJoined c.sender i old front new }
 {
     laws::metric_bounds();
 }
@@ -41,38 +46,58 @@ pub fn joined_responses()
 /// What a log makes of a table is one table: two that are a join of the same are the same, the order
 /// of their prefixes included.
 pub fn one_join()
-    ensures { (n : Network) (old s t : State) (log : List Numbered) → IsState s → IsState t → IsJoin n old log s → IsJoin n old log t → s ≡ t }
+    ensures { (n : Network) (old s t : State) (log : List Numbered) →
+        IsState s → IsState t → IsJoin n old log s → IsJoin n old log t → s ≡ t }
 {}
 
 /// A log is refused exactly by its first record that is refused, and its line is that record's; else
 /// by the log's own fault.
 pub fn refused_logs()
-    ensures records { (n : Network) (old : State) (log : List Numbered) (cause : CollectCause) → IsLawful n → IsState old → Fits n old → (joined_records n old log ≡ Err cause) ↔ ((s : State) × (line : ℕ) × IsFirstRefused n old log s line cause) }
-    ensures outcome { (n : Network) (old s : State) (log : Log) (fault : Option CollectError) → IsLawful n → IsState old → Fits n old → (outcome n old log ≡ record { state = s; fault = fault }) ↔ IsOutcome n old log s fault }
+    ensures records { (n : Network) (old : State) (log : List Numbered) (cause : CollectCause) →
+        IsLawful n → IsState old → Fits n old →
+        (joined_records n old log ≡ Err cause)
+        ↔ ((s : State) × (line : ℕ) × IsFirstRefused n old log s line cause) }
+    ensures outcome { (n : Network) (old s : State) (log : Log) (fault : Option CollectError) →
+        IsLawful n → IsState old → Fits n old →
+        (outcome n old log ≡ record { state = s; fault = fault }) ↔ IsOutcome n old log s fault }
 {
     laws::metric_bounds();
 }
 
 /// A request changes nothing, whoever sent it.
 pub fn kept_requests()
-    ensures { (n : Network) (s : State) (c : Capture) → message_in c.datagram ≡ Ok request → joined_capture n s c ≡ Ok s }
+    ensures { (n : Network) (s : State) (c : Capture) →
+        message_in c.datagram ≡ Ok request → joined_capture n s c ≡ Ok s }
 {}
 
 /// The interface that is found for a link and a sender is the one that has the address there.
 pub fn found_interfaces()
-    ensures { (n : Network) (name : List ℕ) (a i : ℕ) → IsLawful n → (found_at n name a ≡ Some i) ↔ IsAt n name a i }
+    ensures { (n : Network) (name : List ℕ) (a i : ℕ) →
+        IsLawful n → (found_at n name a ≡ Some i) ↔ IsAt n name a i }
 {}
 
 /// A response with one entry, whose prefix is new, puts the prefix last in the list and shows its
 /// metric.
 pub fn new_prefixes()
-    ensures { (n : Network) (old new : State) (r : Numbered) (i : ℕ) (e : Entry) → IsState new → IsJoin n old (r ∷ []) new → IsResponse n r.capture i (e ∷ []) → ¬ IsListed old e.prefix → (new.prefixes ≡ old.prefixes ++ e.prefix ∷ []) × (new.shows i e.prefix ≡ Some e.metric) × (new.heard i ≡ true) }
+    ensures { (n : Network) (old new : State) (r : Numbered) (i : ℕ) (e : Entry) →
+        IsState new → IsJoin n old (r ∷ []) new →
+        IsResponse n r.capture i (e ∷ []) → ¬ IsListed old e.prefix →
+        (new.prefixes ≡ old.prefixes ++ e.prefix ∷ [])
+        × (new.shows i e.prefix ≡ Some e.metric)
+        × (new.heard i ≡ true) }
 {}
 
 /// A response with one entry that gives a prefix another metric than the one before is refused on its
 /// line, whatever follows.
 pub fn changed_metrics()
-    ensures { (n : Network) (old s : State) (first second : Numbered) (log : Log) (rest : List Numbered) (i : ℕ) (e f : Entry) → IsLawful n → IsState old → Fits n old → log.records ≡ first ∷ second ∷ rest → joined_records n old (first ∷ []) ≡ Ok s → IsResponse n first.capture i (e ∷ []) → IsResponse n second.capture i (f ∷ []) → e.prefix ≡ f.prefix → e.metric ≢ f.metric → outcome n old log ≡ record { state = s; fault = Some (record { line = second.line; cause = Table (Changed f.prefix e.metric f.metric) }) } }
+    ensures { (n : Network) (old s : State) (first second : Numbered) (log : Log)
+        (rest : List Numbered) (i : ℕ) (e f : Entry) →
+        IsLawful n → IsState old → Fits n old →
+        log.records ≡ first ∷ second ∷ rest → joined_records n old (first ∷ []) ≡ Ok s →
+        IsResponse n first.capture i (e ∷ []) → IsResponse n second.capture i (f ∷ []) →
+        e.prefix ≡ f.prefix → e.metric ≢ f.metric →
+        outcome n old log
+        ≡ refused_at s second.line (Table (Changed f.prefix e.metric f.metric)) }
 {
     laws::metric_bounds();
 }

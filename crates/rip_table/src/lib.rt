@@ -4,14 +4,16 @@
 mod error;
 mod grid;
 mod joining;
+mod judging;
 pub mod laws;
+mod limits;
 mod list;
-mod numbered;
 mod table;
 
 pub use error::{CollectCause, CollectError, TableError};
 pub use grid::GridTable;
 pub use joining::collect;
+pub use limits::MOST_PREFIXES;
 pub use list::ListTable;
 pub use table::MetricTable;
 

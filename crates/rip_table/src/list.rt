@@ -1,9 +1,9 @@
 //! The plain table: a list of what the interfaces showed.
 
-ghost use Rattle.std.specs.Prelude.{◌≡◌, ◌+◌, ◌≤◌, ◌<◌, if◌then◌else◌, List, [], ◌∷◌, ◌++◌, Bool, true, IfOk, IfErr, OnOk, OnErr, length, vec_len, vec_capacity};
+ghost use Rattle.std.specs.Prelude.{◌≡◌, ◌+◌, ◌≤◌, ◌<◌, List, Bool, true, IfOk, IfErr, OnOk, OnErr, length, vec_len, vec_capacity};
 ghost use Rattle.rip_wire.specs.Message.{response};
 ghost use Rattle.rip_plan.specs.Network.{number_of_prefix};
-ghost use Rattle.rip_table.specs.State.{Fits, IsState, is_among, new_state};
+ghost use Rattle.rip_table.specs.State.{Fits, IsState, new_state, with_prefix};
 ghost use Rattle.rip_table.specs.Joined.{brings_pair};
 ghost use Rattle.rip_table.specs.ListState.{AreAdded, IsAdded, list_state, metric_in};
 ghost use Rattle.rip_table.specs.Numbers.{AreNumbers};
@@ -12,7 +12,7 @@ mod shown;
 
 use self::shown::Shown;
 use crate::error::TableError;
-use crate::numbered::{Numbered, Numbers, check};
+use crate::judging::{KnownMetrics, Numbers, check};
 use crate::table::{MetricTable, none_heard};
 use rip_plan::Plan;
 use rip_wire::{Datagram, Entry, Kind, MOST_ENTRIES, Metric, Prefix};
@@ -47,7 +47,7 @@ fn number_in(prefixes: &[Prefix], prefix: Prefix) -> Option<usize>
 
 /// The numbers of the prefixes of a response's entries.
 fn numbers_of(prefixes: &[Prefix], entries: &[Entry]) -> Numbers
-    requires { length entries.now ≤ 25 }
+    requires { length entries.now ≤ MOST_ENTRIES }
     ensures { AreNumbers prefixes.now entries.now result }
 {
     let mut numbers = [None; MOST_ENTRIES];
@@ -72,8 +72,9 @@ fn metric_of(shown: &[Shown], interface: usize, prefix: Prefix) -> Option<Metric
 fn make_room(prefixes: &mut Vec<Prefix>, shown: &mut Vec<Shown>) -> Result<(), AllocError>
     ensures prefixes { prefixes.new.items ≡ prefixes.old.items }
     ensures shown { shown.new.items ≡ shown.old.items }
-    ensures more_prefixes { OnOk result (vec_len prefixes.new + 25 ≤ vec_capacity prefixes.new) }
-    ensures more_shown { OnOk result (vec_len shown.new + 25 ≤ vec_capacity shown.new) }
+    ensures more_prefixes { OnOk result
+        (vec_len prefixes.new + MOST_ENTRIES ≤ vec_capacity prefixes.new) }
+    ensures more_shown { OnOk result (vec_len shown.new + MOST_ENTRIES ≤ vec_capacity shown.new) }
 {
     prefixes.reserve(MOST_ENTRIES)?;
     shown.reserve(MOST_ENTRIES)
@@ -82,7 +83,7 @@ fn make_room(prefixes: &mut Vec<Prefix>, shown: &mut Vec<Shown>) -> Result<(), A
 /// Adds a prefix, where it is new. There is room for it.
 fn add_prefix(prefixes: &mut Vec<Prefix>, prefix: Prefix)
     requires { vec_len prefixes.old < vec_capacity prefixes.old }
-    ensures items { prefixes.new.items ≡ (if is_among prefix prefixes.old.items then prefixes.old.items else prefixes.old.items ++ prefix ∷ []) }
+    ensures items { prefixes.new.items ≡ with_prefix prefix prefixes.old.items }
     ensures room { vec_capacity prefixes.new ≡ vec_capacity prefixes.old }
     ensures len { vec_len prefixes.new ≤ vec_len prefixes.old + 1 }
 {
@@ -95,7 +96,8 @@ fn add_prefix(prefixes: &mut Vec<Prefix>, prefix: Prefix)
 fn add(prefixes: &mut Vec<Prefix>, shown: &mut Vec<Shown>, item: Shown)
     requires prefixes { vec_len prefixes.old < vec_capacity prefixes.old }
     requires shown { vec_len shown.old < vec_capacity shown.old }
-    ensures items { IsAdded item prefixes.old.items shown.old.items prefixes.new.items shown.new.items }
+    ensures items { IsAdded item prefixes.old.items shown.old.items prefixes.new.items
+        shown.new.items }
     ensures prefix_room { vec_capacity prefixes.new ≡ vec_capacity prefixes.old }
     ensures prefix_len { vec_len prefixes.new ≤ vec_len prefixes.old + 1 }
     ensures shown_room { vec_capacity shown.new ≡ vec_capacity shown.old }
@@ -110,9 +112,9 @@ fn add(prefixes: &mut Vec<Prefix>, shown: &mut Vec<Shown>, item: Shown)
 
 /// Adds what the entries of a response show. There is room for them.
 fn add_all(prefixes: &mut Vec<Prefix>, shown: &mut Vec<Shown>, interface: usize, entries: &[Entry])
-    requires few { length entries.now ≤ 25 }
-    requires prefixes { vec_len prefixes.old + 25 ≤ vec_capacity prefixes.old }
-    requires shown { vec_len shown.old + 25 ≤ vec_capacity shown.old }
+    requires few { length entries.now ≤ MOST_ENTRIES }
+    requires prefixes { vec_len prefixes.old + MOST_ENTRIES ≤ vec_capacity prefixes.old }
+    requires shown { vec_len shown.old + MOST_ENTRIES ≤ vec_capacity shown.old }
     ensures { AreAdded interface entries.now prefixes.old.items shown.old.items prefixes.new.items
         shown.new.items }
 {
@@ -135,7 +137,7 @@ fn add_new(
     entries: &[Entry],
     brings: bool,
 ) -> Result<(), AllocError>
-    requires few { length entries.now ≤ 25 }
+    requires few { length entries.now ≤ MOST_ENTRIES }
     requires brings { (heard : List Bool) →
         brings ≡ brings_pair interface (list_state heard prefixes.old.items shown.old.items)
         (response entries.now) }
@@ -153,7 +155,7 @@ fn add_new(
     Ok(())
 }
 
-impl Numbered for ListTable {
+impl KnownMetrics for ListTable {
     ghost state = { λ t. list_state t.heard.items t.prefixes.items t.shown.items };
 
     ghost is_state = { λ t. t.valid };
@@ -223,8 +225,10 @@ impl ListTable {
 
     /// The table of a plan in which nothing was heard.
     pub fn new(alloc: Global, plan: &Plan) -> Result<ListTable, TableError>
-        ensures state { IfOk result (λ table. ⟦<ListTable as MetricTable>⟧.state table ≡ new_state plan.now) }
-        ensures fits { IfOk result (λ table. Fits plan.now (⟦<ListTable as MetricTable>⟧.state table)) }
+        ensures state { IfOk result (λ table.
+            ⟦<ListTable as MetricTable>⟧.state table ≡ new_state plan.now) }
+        ensures fits { IfOk result (λ table.
+            Fits plan.now (⟦<ListTable as MetricTable>⟧.state table)) }
         ensures memory { IfErr result (λ error. error ≡ Memory) }
     {
         let prefixes = planned(alloc, plan)?;

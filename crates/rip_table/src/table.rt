@@ -19,7 +19,7 @@ pub trait MetricTable {
     // What it means.
     ghost state: { Self → State };
 
-    // Its prefixes differ, there are at most 2,048, and what is shown is a metric.
+    // Its prefixes differ, there are at most `MOST_PREFIXES`, and what is shown is a metric.
     ghost is_state: { (t : Self) → IsState (state t) };
 
     /// How many interfaces it has.
@@ -39,7 +39,8 @@ pub trait MetricTable {
     fn metric(&self, interface: usize, k: usize) -> Option<Metric>
         requires interface { interface < (state self.now).interfaces }
         requires prefix { k < length (state self.now).prefixes }
-        ensures { (p : Block) → slice_get (state self.now).prefixes k ≡ Some p → result ≡ (state self.now).shows interface p };
+        ensures { (p : Block) → slice_get (state self.now).prefixes k ≡ Some p →
+            result ≡ (state self.now).shows interface p };
 
     /// Whether an interface was heard: whether a response of it was taken.
     fn heard(&self, interface: usize) -> bool
@@ -57,7 +58,8 @@ pub trait MetricTable {
     ) -> Result<(), TableError>
         requires fits { Fits plan.now (state self.old) }
         requires interface { interface < length plan.now.interfaces }
-        ensures takes { (l a : ℕ) → HasAddress plan.now interface l a → Takes a interface (state self.old) (message_of datagram.now) (state self.new) result }
+        ensures takes { (l a : ℕ) → HasAddress plan.now interface l a →
+            Takes a interface (state self.old) (message_of datagram.now) (state self.new) result }
         // It still fits the plan.
         ensures fits { Fits plan.now (state self.new) };
 }

@@ -9,8 +9,9 @@ ghost use Rattle.rip_table.specs.Rows.{AreDifferent, heads, rows_of};
 
 use super::order::Order;
 use super::rows::Rows;
-use crate::numbered::Numbers;
-use rip_wire::{Entry, Prefix};
+use crate::judging::Numbers;
+use crate::limits::MOST_PREFIXES;
+use rip_wire::{Entry, MOST_ENTRIES, Prefix};
 use std::hash::BuildHasher;
 
 /// The number of a prefix, if it has a row: the guess, where it is right, and else the one that
@@ -35,9 +36,9 @@ pub(crate) fn find_numbers<S: BuildHasher>(
     entries: &[Entry],
     numbers: &mut Numbers,
 )
-    requires few { length entries.now ≤ 25 }
+    requires few { length entries.now ≤ MOST_ENTRIES }
     requires differ { AreDifferent (heads (rows_of rows.now.entries)) }
-    requires rows { index_map_len rows.now ≤ 2048 }
+    requires rows { index_map_len rows.now ≤ MOST_PREFIXES }
     ensures { AreNumbers (heads (rows_of rows.now.entries)) entries.now numbers.new }
 {
     for j in 0..entries.len() {

@@ -1,8 +1,9 @@
 //! The order in which a router names prefixes.
 
 ghost use Rattle.std.specs.Prelude.{◌≡◌, ◌≢◌, ℕ, ◌<◌, slice_index};
+ghost use Rattle.rip_table.specs.declared.limits.TheConstants.{MOST_PREFIXES};
 
-use crate::numbered::MOST_PREFIXES;
+use crate::limits::MOST_PREFIXES;
 
 /// For the number of each prefix that of the one that a router named after it, and the number of
 /// the one that it named last. A router names its prefixes in the same order in each of its
@@ -11,7 +12,7 @@ use crate::numbered::MOST_PREFIXES;
 pub(crate) struct Order {
     after: [u16; MOST_PREFIXES],
     last: usize,
-    ghost known: { last < 2048 },
+    ghost known: { last < MOST_PREFIXES },
 }
 
 impl Order {
@@ -35,7 +36,7 @@ impl Order {
 
     /// It named the prefix of this number next.
     pub(crate) fn put(&mut self, number: usize)
-        requires { number < 2048 }
+        requires { number < MOST_PREFIXES }
         ensures last { self.new.last ≡ number }
         ensures after { slice_index self.new.after self.old.last ≡ number }
         ensures others { (k : ℕ) → k ≢ self.old.last →

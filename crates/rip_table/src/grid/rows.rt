@@ -7,11 +7,11 @@ ghost use Rattle.rip_table.specs.declared.error.TableError.TheVariants.{Memory};
 ghost use Rattle.rip_wire.specs.Message.{response};
 ghost use Rattle.rip_table.specs.Joined.{brings_pair};
 ghost use Rattle.rip_table.specs.Numbers.{AreNumbers};
-ghost use Rattle.rip_table.specs.Rows.{ArePlaces, AreWritten, IsGrid, cell, grid_state, heads, planned_rows, rows_of, shown_after, with_cell, with_row, with_rows};
+ghost use Rattle.rip_table.specs.Rows.{AreRowNumbers, AreWritten, IsGrid, cell, grid_state, heads, planned_rows, rows_of, shown_after, with_cell, with_row, with_rows};
 
 use super::cell::Cell;
 use crate::error::TableError;
-use crate::numbered::Numbers;
+use crate::judging::Numbers;
 use indexmap::IndexMap;
 use rip_plan::Plan;
 use rip_wire::{Entry, MOST_ENTRIES, Prefix};
@@ -22,7 +22,7 @@ use std::hash::BuildHasher;
 pub(crate) type Rows<S> = IndexMap<Prefix, Vec<Cell>, S>;
 
 /// The numbers of the rows of a response's entries.
-type Places = [usize; MOST_ENTRIES];
+type RowNumbers = [usize; MOST_ENTRIES];
 
 /// A row of empty cells.
 fn empty_row(alloc: Global, width: usize) -> Result<Vec<Cell>, AllocError>
@@ -40,9 +40,12 @@ fn row_at<S: BuildHasher>(
     number: Option<usize>,
     prefix: Prefix,
 ) -> Result<usize, TableError>
-    requires { (k : ℕ) → number ≡ Some k → number_of_prefix prefix (heads (rows_of rows.old.entries)) ≡ Some k }
-    ensures ok { OnOk result (rows_of rows.new.entries ≡ with_row width (rows_of rows.old.entries) prefix) }
-    ensures number { IfOk result (λ k. number_of_prefix prefix (heads (rows_of rows.new.entries)) ≡ Some k) }
+    requires { (k : ℕ) → number ≡ Some k →
+        number_of_prefix prefix (heads (rows_of rows.old.entries)) ≡ Some k }
+    ensures ok { OnOk result (rows_of rows.new.entries
+        ≡ with_row width (rows_of rows.old.entries) prefix) }
+    ensures number { IfOk result (λ k.
+        number_of_prefix prefix (heads (rows_of rows.new.entries)) ≡ Some k) }
     ensures memory { IfErr result (λ error. error ≡ Memory) }
     ensures err { OnErr result (rows.new.entries ≡ rows.old.entries) }
 {
@@ -66,21 +69,22 @@ fn grow<S: BuildHasher>(
     width: usize,
     numbers: &Numbers,
     entries: &[Entry],
-) -> Result<Places, TableError>
-    requires few { length entries.now ≤ 25 }
+) -> Result<RowNumbers, TableError>
+    requires few { length entries.now ≤ MOST_ENTRIES }
     requires numbers { AreNumbers (heads (rows_of rows.old.entries)) entries.now numbers.now }
     ensures ok { OnOk result (rows_of rows.new.entries
         ≡ with_rows width (rows_of rows.old.entries) entries.now) }
-    ensures places { IfOk result (λ places. ArePlaces (rows_of rows.new.entries) entries.now
-        places) }
-    ensures front { take (index_map_len rows.old) (rows_of rows.new.entries) ≡ rows_of rows.old.entries }
+    ensures row_numbers { IfOk result (λ row_numbers.
+        AreRowNumbers (rows_of rows.new.entries) entries.now row_numbers) }
+    ensures front { take (index_map_len rows.old) (rows_of rows.new.entries)
+        ≡ rows_of rows.old.entries }
 {
-    let mut places = [0; MOST_ENTRIES];
+    let mut row_numbers = [0; MOST_ENTRIES];
     for j in 0..entries.len() {
         let entry = entries[j];
-        places[j] = row_at(alloc, rows, width, numbers[j], entry.prefix)?;
+        row_numbers[j] = row_at(alloc, rows, width, numbers[j], entry.prefix)?;
     }
-    Ok(places)
+    Ok(row_numbers)
 }
 
 /// Adds rows for the prefixes that are new, and answers the numbers of all, or leaves the rows as
@@ -91,19 +95,19 @@ fn grow_or_keep<S: BuildHasher>(
     width: usize,
     numbers: &Numbers,
     entries: &[Entry],
-) -> Result<Places, TableError>
-    requires few { length entries.now ≤ 25 }
+) -> Result<RowNumbers, TableError>
+    requires few { length entries.now ≤ MOST_ENTRIES }
     requires numbers { AreNumbers (heads (rows_of rows.old.entries)) entries.now numbers.now }
     ensures ok { OnOk result (rows_of rows.new.entries
         ≡ with_rows width (rows_of rows.old.entries) entries.now) }
-    ensures places { IfOk result (λ places. ArePlaces (rows_of rows.new.entries) entries.now
-        places) }
+    ensures row_numbers { IfOk result (λ row_numbers.
+        AreRowNumbers (rows_of rows.new.entries) entries.now row_numbers) }
     ensures memory { IfErr result (λ error. error ≡ Memory) }
     ensures err { OnErr result (rows_of rows.new.entries ≡ rows_of rows.old.entries) }
 {
     let was = rows.len();
     match grow(alloc, rows, width, numbers, entries) {
-        Ok(places) => Ok(places),
+        Ok(row_numbers) => Ok(row_numbers),
         Err(_) => {
             rows.truncate(was);
             Err(TableError::Memory)
@@ -133,13 +137,13 @@ fn write<S: BuildHasher>(
     rows: &mut Rows<S>,
     width: usize,
     interface: usize,
-    places: &Places,
+    row_numbers: &RowNumbers,
     entries: &[Entry],
 )
-    requires few { length entries.now ≤ 25 }
+    requires few { length entries.now ≤ MOST_ENTRIES }
     requires grid { IsGrid width (rows_of rows.old.entries) }
     requires cell { interface < width }
-    requires places { ArePlaces (rows_of rows.old.entries) entries.now places.now }
+    requires row_numbers { AreRowNumbers (rows_of rows.old.entries) entries.now row_numbers.now }
     ensures heads { heads (rows_of rows.new.entries) ≡ heads (rows_of rows.old.entries) }
     ensures grid { IsGrid width (rows_of rows.new.entries) }
     ensures cells { cell (rows_of rows.new.entries)
@@ -147,7 +151,13 @@ fn write<S: BuildHasher>(
 {
     for j in 0..entries.len() {
         let entry = entries[j];
-        set_cell(rows, places[j], width, interface, Cell::of(entry.metric));
+        set_cell(
+            rows,
+            row_numbers[j],
+            width,
+            interface,
+            Cell::of(entry.metric),
+        );
     }
 }
 
@@ -161,7 +171,7 @@ fn add<S: BuildHasher>(
     numbers: &Numbers,
     entries: &[Entry],
 ) -> Result<(), TableError>
-    requires few { length entries.now ≤ 25 }
+    requires few { length entries.now ≤ MOST_ENTRIES }
     requires grid { IsGrid width (rows_of rows.old.entries) }
     requires cell { interface < width }
     requires numbers { AreNumbers (heads (rows_of rows.old.entries)) entries.now numbers.now }
@@ -171,8 +181,8 @@ fn add<S: BuildHasher>(
     ensures memory { IfErr result (λ error. error ≡ Memory) }
     ensures err { OnErr result (rows_of rows.new.entries ≡ rows_of rows.old.entries) }
 {
-    let places = grow_or_keep(alloc, rows, width, numbers, entries)?;
-    write(rows, width, interface, &places, entries);
+    let row_numbers = grow_or_keep(alloc, rows, width, numbers, entries)?;
+    write(rows, width, interface, &row_numbers, entries);
     Ok(())
 }
 
@@ -187,7 +197,7 @@ pub(crate) fn add_new<S: BuildHasher>(
     entries: &[Entry],
     brings: bool,
 ) -> Result<(), TableError>
-    requires few { length entries.now ≤ 25 }
+    requires few { length entries.now ≤ MOST_ENTRIES }
     requires grid { IsGrid width (rows_of rows.old.entries) }
     requires cell { interface < width }
     requires numbers { AreNumbers (heads (rows_of rows.old.entries)) entries.now numbers.now }
@@ -215,7 +225,8 @@ pub(crate) fn add_planned<S: BuildHasher>(
     plan: &Plan,
 ) -> Result<(), TableError>
     requires { rows.old.entries ≡ [] }
-    ensures ok { OnOk result (rows_of rows.new.entries ≡ planned_rows (length plan.now.interfaces) plan.now.prefixes) }
+    ensures ok { OnOk result (rows_of rows.new.entries
+        ≡ planned_rows (length plan.now.interfaces) plan.now.prefixes) }
     ensures memory { IfErr result (λ error. error ≡ Memory) }
 {
     plan.lawful();

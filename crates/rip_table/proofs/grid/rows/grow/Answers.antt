@@ -20,23 +20,23 @@ row_at-requires g c k h =
     (sym (number-here (heads (rows_of c.args.rows.now.entries)) es c.args.numbers.now c.loop-j.j c.index-entries-j.result c.requires.numbers at) ∙ h)
 
 -- a place that was found stays, and the next is put after it
-placed : (now new : List Block) (es : List Entry) (places : List ℕ) (j x : ℕ) (e : Entry) → length places ≡ 25 → j < 25
+placed : (now new : List Block) (es : List Entry) (row_numbers : List ℕ) (j x : ℕ) (e : Entry) → length row_numbers ≡ 25 → j < 25
     → ((q : Block) (v : ℕ) → number_of_prefix q now ≡ Some v → number_of_prefix q new ≡ Some v)
-    → ((k : ℕ) (d : Entry) → k < j → slice_get es k ≡ Some d → number_of_prefix d.prefix now ≡ Some (slice_index_or places k 0))
+    → ((k : ℕ) (d : Entry) → k < j → slice_get es k ≡ Some d → number_of_prefix d.prefix now ≡ Some (slice_index_or row_numbers k 0))
     → slice_get es j ≡ Some e → number_of_prefix e.prefix new ≡ Some x
-    → (k : ℕ) (d : Entry) → k < j + 1 → slice_get es k ≡ Some d → number_of_prefix d.prefix new ≡ Some (slice_index_or (set places j x) k 0)
-placed now new es places j x e room few kept found at here k d lt is = by (nat_lt k j) refl
+    → (k : ℕ) (d : Entry) → k < j + 1 → slice_get es k ≡ Some d → number_of_prefix d.prefix new ≡ Some (slice_index_or (set row_numbers j x) k 0)
+placed now new es row_numbers j x e room few kept found at here k d lt is = by (nat_lt k j) refl
   where
-    by : (b : Bool) → nat_lt k j ≡ b → number_of_prefix d.prefix new ≡ Some (slice_index_or (set places j x) k 0)
+    by : (b : Bool) → nat_lt k j ≡ b → number_of_prefix d.prefix new ≡ Some (slice_index_or (set row_numbers j x) k 0)
     by true t =
         let before : k < j = ltb-true k j t in
         let apart : k ≢ j = omega (arith, before) in
-        kept d.prefix (slice_index_or places k 0) (found k d before is) ∙ ap (λ (v : ℕ). Some v) (sym (get_or-set_other places j k x 0 apart))
+        kept d.prefix (slice_index_or row_numbers k 0) (found k d before is) ∙ ap (λ (v : ℕ). Some v) (sym (get_or-set_other row_numbers j k x 0 apart))
     by false t =
         let same : k ≡ j = omega (arith, ltb-false k j t, lt) in
         let one : Some e ≡ Some d = sym at ∙ ap (slice_get es) (sym same) ∙ is in
         let entry : e ≡ d = cc one in
-        ap (λ (f : Entry). number_of_prefix f.prefix new) (sym entry) ∙ here ∙ ap (λ (v : ℕ). Some v) (sym (get_or-set_same places j x 0 (omega (arith, few, room))) ∙ ap (λ (m : ℕ). slice_index_or (set places j x) m 0) (sym same))
+        ap (λ (f : Entry). number_of_prefix f.prefix new) (sym entry) ∙ here ∙ ap (λ (v : ℕ). Some v) (sym (get_or-set_same row_numbers j x 0 (omega (arith, few, room))) ∙ ap (λ (m : ℕ). slice_index_or (set row_numbers j x) m 0) (sym same))
 
 pub loop-j-preserved : goal.loop-j-preserved
 loop-j-preserved g c =
@@ -45,7 +45,7 @@ loop-j-preserved g c =
     let p = c.index-entries-j.result.prefix in
     let inv = c.loop-j.invariant in
     let rows = rows_of c.loop-j.rows.entries in
-    let step = c.in_ok-places.ensures.ok in
+    let step = c.in_ok-row_numbers.ensures.ok in
     let kept : (q : Block) (k : ℕ) → number_of_prefix q (heads rows) ≡ Some k → number_of_prefix q (heads (rows_of c.row_at.new.rows.entries)) ≡ Some k =
     λ q k h. ap (λ (r : Rows). number_of_prefix q (heads r)) step ∙ with_row-keeps c.args.width rows p q k h in
     let here = drop-more es c.loop-j.j c.index-entries-j.result at in
@@ -53,14 +53,14 @@ loop-j-preserved g c =
     record {
       told = ap (λ (r : Rows). with_rows c.args.width r (drop (c.loop-j.j + 1) es)) step ∙ ap (with_rows c.args.width rows) (sym here) ∙ inv.told;
       kept = λ q k h. kept q k (inv.kept q k h);
-      room = length-set c.loop-j.places c.loop-j.j c.in_ok-places.field-0 ∙ inv.room;
-      places = placed (heads rows) (heads (rows_of c.row_at.new.rows.entries)) es c.loop-j.places c.loop-j.j c.in_ok-places.field-0 c.index-entries-j.result inv.room (omega (arith, c.loop-j-test.true, c.requires.few))
-          kept inv.places at c.in_ok-places.ensures.number;
+      room = length-set c.loop-j.row_numbers c.loop-j.j c.in_ok-row_numbers.field-0 ∙ inv.room;
+      row_numbers = placed (heads rows) (heads (rows_of c.row_at.new.rows.entries)) es c.loop-j.row_numbers c.loop-j.j c.in_ok-row_numbers.field-0 c.index-entries-j.result inv.room (omega (arith, c.loop-j-test.true, c.requires.few))
+          kept inv.row_numbers at c.in_ok-row_numbers.ensures.number;
       longer = omega (arith, few, with_row-longer c.args.width rows p, ap length step, length-rows c.row_at.new.rows.entries);
       front = ap (take (length c.args.rows.now.entries)) step ∙ with_row-front (length c.args.rows.now.entries) c.args.width rows p few ∙ inv.front;
     }
 
-pub returns-clause-places : goal.returns-clause-places
-returns-clause-places g c j e at =
+pub returns-clause-row_numbers : goal.returns-clause-row_numbers
+returns-clause-row_numbers g c j e at =
     let es = c.args.entries.now in
-    c.loop-j.invariant.places j e (omega (arith, slice_get_within es j e at, c.loop-j-test.false)) at
+    c.loop-j.invariant.row_numbers j e (omega (arith, slice_get_within es j e at, c.loop-j-test.false)) at

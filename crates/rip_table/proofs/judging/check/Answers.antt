@@ -8,24 +8,24 @@ use Rattle.rip_table.specs.Numbers.{counted, judged, metric_among, IsChecked}
 use Rattle.rip_table.proofs.Lists.{take-end}
 use Rattle.rip_table.proofs.NumberLemmas.{any-next, none-is, number-below, number-here}
 use Rattle.rip_table.proofs.CheckLemmas.{Checked, Checked-start, Checked-fault, Checked-next}
-use Rattle.rip_table.proofs.numbered.check.Goals as goal
+use Rattle.rip_table.proofs.judging.check.Goals as goal
 
 pub shown-shown-requires-clause-number : goal.shown-shown-requires-clause-number
 shown-shown-requires-clause-number g c k h =
-    number-below (g.T.Numbered.state c.args.table.now).prefixes c.args.entries.now c.args.numbers.now c.loop-j.j k c.requires.numbers c.loop-j-test.true h
+    number-below (g.T.KnownMetrics.state c.args.table.now).prefixes c.args.entries.now c.args.numbers.now c.loop-j.j k c.requires.numbers c.loop-j-test.true h
 
 pub loop-j-init : goal.loop-j-init
 loop-j-init g c =
-    let s = g.T.Numbered.state c.args.table.now in
+    let s = g.T.KnownMetrics.state c.args.table.now in
     record {
       checked = subst (Checked c.args.sender c.args.interface s c.args.entries.now 0) (sym c.count-count.ensures)
-          (Checked-start c.args.sender c.args.interface s c.args.entries.now (g.T.Numbered.is_state c.args.table.now));
+          (Checked-start c.args.sender c.args.interface s c.args.entries.now (g.T.KnownMetrics.is_state c.args.table.now));
       brings = refl;
     }
 
 pub returns-in_err-judge : goal.returns-in_err-judge
 returns-in_err-judge g c =
-    let s = g.T.Numbered.state c.args.table.now in
+    let s = g.T.KnownMetrics.state c.args.table.now in
     let es = c.args.entries.now in
     let e = c.index-entries-j.result in
     let here = slice_get_read es (length es) c.loop-j.j e refl c.loop-j-test.true c.index-entries-j.is in
@@ -40,7 +40,7 @@ returns-in_err-judge g c =
 
 pub loop-j-preserved : goal.loop-j-preserved
 loop-j-preserved g c =
-    let s = g.T.Numbered.state c.args.table.now in
+    let s = g.T.KnownMetrics.state c.args.table.now in
     let es = c.args.entries.now in
     let e = c.index-entries-j.result in
     let here = slice_get_read es (length es) c.loop-j.j e refl c.loop-j-test.true c.index-entries-j.is in
@@ -62,7 +62,7 @@ loop-j-preserved g c =
 
 pub returns : goal.returns
 returns g c =
-    let s = g.T.Numbered.state c.args.table.now in
+    let s = g.T.KnownMetrics.state c.args.table.now in
     let es = c.args.entries.now in
     let ck = c.loop-j.invariant.checked in
     let all = take-end es c.loop-j.j (omega (arith, c.loop-j-test)) in (

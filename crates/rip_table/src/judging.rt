@@ -9,20 +9,18 @@ ghost use Rattle.rip_table.specs.State.{IsState, State};
 ghost use Rattle.rip_table.specs.Numbers.{AreNumbers, IsChecked, counted, judged, metric_among};
 
 use crate::error::TableError;
+use crate::limits::MOST_PREFIXES;
 use rip_wire::{Address, Entry, MOST_ENTRIES, Metric, Prefix};
-
-/// The most prefixes of a table.
-pub(crate) const MOST_PREFIXES: usize = 2_048;
 
 /// For each entry of a response the number, if any, of its prefix.
 pub(crate) type Numbers = [Option<usize>; MOST_ENTRIES];
 
 /// What a table knows before a response changes it.
-pub(crate) trait Numbered {
+pub(crate) trait KnownMetrics {
     // What it means.
     ghost state: { Self → State };
 
-    // Its prefixes differ, there are at most 2,048, and what is shown is a metric.
+    // Its prefixes differ, there are not too many, and what is shown is a metric.
     ghost is_state: { (t : Self) → IsState (state t) };
 
     /// How many prefixes it has.
@@ -33,14 +31,16 @@ pub(crate) trait Numbered {
     fn metric_at(&self, interface: usize, k: usize) -> Option<Metric>
         requires interface { interface < (state self.now).interfaces }
         requires prefix { k < length (state self.now).prefixes }
-        ensures { (p : Block) → slice_get (state self.now).prefixes k ≡ Some p → result ≡ (state self.now).shows interface p };
+        ensures { (p : Block) → slice_get (state self.now).prefixes k ≡ Some p →
+            result ≡ (state self.now).shows interface p };
 }
 
 /// What an interface showed of the prefix of a number, if it has one.
-fn shown<T: Numbered>(table: &T, interface: usize, number: Option<usize>) -> Option<Metric>
+fn shown<T: KnownMetrics>(table: &T, interface: usize, number: Option<usize>) -> Option<Metric>
     requires interface { interface < (T.state table.now).interfaces }
     requires number { (k : ℕ) → number ≡ Some k → k < length (T.state table.now).prefixes }
-    ensures { (p : Block) → number ≡ number_of_prefix p (T.state table.now).prefixes → result ≡ (T.state table.now).shows interface p }
+    ensures { (p : Block) → number ≡ number_of_prefix p (T.state table.now).prefixes →
+        result ≡ (T.state table.now).shows interface p }
 {
     match number {
         Some(k) => table.metric_at(interface, k),
@@ -80,7 +80,7 @@ fn known(shown: Option<Metric>, entries: &[Entry], j: usize) -> Option<Metric>
 /// How many prefixes there are with that of an entry, which is new where it has no number and
 /// nothing is known of it.
 fn count_with(count: usize, number: Option<usize>, is_known: bool) -> usize
-    requires { count ≤ 2048 }
+    requires { count ≤ MOST_PREFIXES }
     ensures { result ≡ counted count number is_known }
 {
     if number.is_none() && !is_known {
@@ -124,14 +124,14 @@ fn judge(
 
 /// Judges the entries of a response, and answers the first fault; without one, whether some entry
 /// is of a prefix that the interface did not show.
-pub(crate) fn check<T: Numbered>(
+pub(crate) fn check<T: KnownMetrics>(
     table: &T,
     numbers: &Numbers,
     interface: usize,
     sender: Address,
     entries: &[Entry],
 ) -> Result<bool, TableError>
-    requires few { length entries.now ≤ 25 }
+    requires few { length entries.now ≤ MOST_ENTRIES }
     requires interface { interface < (T.state table.now).interfaces }
     requires numbers { AreNumbers (T.state table.now).prefixes entries.now numbers.now }
     ensures { IsChecked sender interface (T.state table.now) entries.now result }

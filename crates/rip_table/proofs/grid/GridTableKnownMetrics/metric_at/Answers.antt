@@ -2,7 +2,7 @@ use Rattle.std.proofs.Common.{◌≡◌, ◌∙◌, sym, arith, length, None}
 use Rattle.rip_table.specs.Rows.{heads, rows_of}
 use Rattle.rip_table.proofs.RowLemmas.{get_or-any, number-listed, row-at, row-width}
 use Rattle.rip_table.proofs.CellLemmas.{cell-at}
-use Rattle.rip_table.proofs.grid.GridTableNumbered.metric_at.Goals as goal
+use Rattle.rip_table.proofs.grid.GridTableKnownMetrics.metric_at.Goals as goal
 
 pub index-requires-2 : goal.index-requires-2
 index-requires-2 g c =
