@@ -6,7 +6,7 @@ use Rattle.toml.specs.Parse.{parse_document}
 use Rattle.rip_plan.specs.declared.error.PlanCode.TheVariants as codes
 use Rattle.rip_plan.specs.declared.error.PlanError.{PlanError}
 use Rattle.rip_plan.specs.declared.error.At.TheVariants.{Text, Version}
-use Rattle.rip_plan.specs.declared.limits.TheConstants.{MOST_BYTES, MOST_LINKS, MOST_ROUTERS}
+use Rattle.rip_plan.specs.declared.limits.TheConstants.{MOST_PLAN_BYTES, MOST_LINKS, MOST_ROUTERS}
 use Rattle.rip_plan.specs.Fault.{fault, ◌>>=◌, wanted, steps}
 use Rattle.rip_plan.specs.Fields.{root_fields, is_version}
 use Rattle.rip_plan.specs.Draft.{Sketch, link_step, router_step}
@@ -32,5 +32,5 @@ document_of bytes = if is_utf8 bytes then parse_document bytes else None
 -- what the bytes say; there is a limit to them
 unfoldable pub sketch_of : List ℕ → Result Sketch PlanError
 sketch_of bytes =
-    if nat_lt MOST_BYTES (length bytes) then Err (fault codes.Limit Text)
+    if nat_lt MOST_PLAN_BYTES (length bytes) then Err (fault codes.Limit Text)
     else (wanted (fault codes.Syntax Text) (document_of bytes) >>= sketch_of_document)

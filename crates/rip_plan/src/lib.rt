@@ -14,7 +14,9 @@ mod plan;
 mod reading;
 
 pub use error::{At, PlanCode, PlanError};
-pub use limits::{MOST_BYTES, MOST_COST, MOST_INTERFACES, MOST_LINKS, MOST_PLACES, MOST_ROUTERS};
+pub use limits::{
+    MOST_COST, MOST_INTERFACES, MOST_LINKS, MOST_PLACES, MOST_PLAN_BYTES, MOST_ROUTERS,
+};
 pub use parts::{Interface, Place, Seat};
 pub use plan::Plan;
 

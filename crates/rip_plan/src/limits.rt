@@ -1,7 +1,7 @@
 //! The limits of a plan.
 
 /// The most bytes of a plan's text.
-pub const MOST_BYTES: usize = 1_048_576;
+pub const MOST_PLAN_BYTES: usize = 1_048_576;
 
 /// The most links of a plan.
 pub const MOST_LINKS: usize = 512;

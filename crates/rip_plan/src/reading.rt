@@ -9,7 +9,7 @@ ghost use Rattle.rip_plan.specs.PlanText.{document_of, sketch_of, sketch_of_docu
 use crate::draft::{Draft, add_links, add_routers};
 use crate::error::{At, PlanCode, ReadError, fault};
 use crate::fields;
-use crate::limits::{MOST_BYTES, MOST_LINKS, MOST_ROUTERS};
+use crate::limits::{MOST_LINKS, MOST_PLAN_BYTES, MOST_ROUTERS};
 use crate::passes::check_passes;
 use std::alloc::Global;
 use std::collections::HashMap;
@@ -68,7 +68,7 @@ fn table_of(alloc: Global, bytes: &[u8]) -> Result<Option<Table>, ReadError>
 pub(crate) fn read_draft(alloc: Global, bytes: &[u8]) -> Result<Draft, ReadError>
     ensures { Gives sketch result (sketch_of bytes.now) }
 {
-    if MOST_BYTES < bytes.len() {
+    if MOST_PLAN_BYTES < bytes.len() {
         return Err(fault(PlanCode::Limit, At::Text));
     }
     let table = table_of(alloc, bytes)?;
