@@ -1,12 +1,16 @@
 -- What a table means that has a row of cells for each prefix, one cell for each interface.
-use Rattle.std.specs.Prelude.{◌≡◌, ℕ, zero, suc, Bool, false, if◌then◌else◌, ◌==◌, ◌&&◌, List, [], ◌∷◌, ◌++◌, length, map, replicate, All, Option, Some, None, Ok, ◌<◌, slice_get, slice_set, slice_index_or}
+use Rattle.std.specs.Prelude.{◌≡◌, ℕ, zero, suc, Bool, false, if◌then◌else◌, ◌==◌, ◌&&◌, List, [], ◌∷◌, ◌++◌, length, map, replicate, All, Option, Some, None, Result, Ok, Err, ◌<◌, ◌≤◌, slice_get, slice_set, slice_index_or}
 use Rattle.std.specs.declared.vec.Vec.{Vec}
 use Rattle.std.specs.declared.alloc.Global.{Global}
 use Rattle.rip_wire.specs.Prefix.{Block}
 use Rattle.rip_wire.specs.declared.entry.Entry.{Entry}
 use Rattle.rip_plan.specs.Network.{number_of_prefix}
 use Rattle.rip_plan.specs.Passes.{same_prefix}
+use Rattle.rip_wire.specs.declared.entries.TheConstants.{MOST_ENTRIES}
+use Rattle.rip_table.specs.declared.error.TableError.{TableError}
+use Rattle.rip_table.specs.declared.error.TableError.TheVariants.{Memory}
 use Rattle.rip_table.specs.State.{IsState, State, is_among}
+use Rattle.rip_table.specs.Numbers.{AreNumbers}
 use Rattle.rip_table.specs.Joined.{joined_entries}
 
 -- for each prefix what each interface showed of it
@@ -77,6 +81,20 @@ abbrev pub AreWritten : ℕ → List Entry → Rows → Rows → Type 0
 AreWritten i entries old new =
     (heard : List Bool) (sender : ℕ) (t : State) → i < length heard → IsState (grid_state heard old)
     → joined_entries sender i (grid_state heard old) entries ≡ Ok t → grid_state heard new ≡ t
+
+-- the entries of a response of interface i can be written to rows of so many cells, by these
+-- numbers of their prefixes
+pub record CanWrite (width i : ℕ) (rows : Rows) (numbers : List (Option ℕ))
+    (entries : List Entry) : Type 0 where
+  pub few : length entries ≤ MOST_ENTRIES
+  pub grid : IsGrid width rows
+  pub cell : i < width
+  pub numbered : AreNumbers (heads rows) entries numbers
+
+-- writing the entries answers Ok where they were written, and Memory where the rows are as before
+abbrev pub IsWritten : ℕ → List Entry → Rows → Rows → Result (Unit {0}) TableError → Type 0
+IsWritten i entries old new (Ok u) = AreWritten i entries old new
+IsWritten i entries old new (Err error) = (error ≡ Memory) × (new ≡ old)
 
 -- a row of empty cells for each prefix
 abbrev pub planned_rows : ℕ → List Block → Rows

@@ -1,11 +1,11 @@
 //! Both tables, on responses that are taken and refused.
 
-ghost use Rattle.std.specs.Prelude.{◌≡◌, ◌≤◌, ◌<◌, length};
+ghost use Rattle.std.specs.Prelude.{◌≡◌, ◌≤◌, ◌<◌, IfOk, length};
 ghost use Rattle.rip_table.specs.State.{Fits};
 
 use crate::{GridTable, ListTable, MetricTable, TableError};
 use rip_plan::Plan;
-use rip_wire::{Address, Entry, Metric, Prefix, read, write_response};
+use rip_wire::{Address, Entry, MOST_ENTRIES, Metric, Prefix, read, write_response};
 use std::alloc::Global;
 use std::hash::{BuildHasherDefault, FoldHasher};
 use std::process::Abort;
@@ -74,7 +74,7 @@ fn take<T: MetricTable>(
 ) -> Result<(), TableError>
     requires fits { Fits plan.now (T.state table.old) }
     requires some { 1 ≤ length entries.now }
-    requires few { length entries.now ≤ 25 }
+    requires few { length entries.now ≤ MOST_ENTRIES }
     ensures { Fits plan.now (T.state table.new) }
 {
     let mut room = [0; 504];
@@ -135,6 +135,17 @@ fn plan_in(rt: &impl Abort, alloc: Global) -> Plan {
         Ok(plan) => plan,
         Err(_) => panic!(rt; "no plan"),
     }
+}
+
+/// A grid in which nothing was heard.
+fn new_grid(
+    alloc: Global,
+    plan: &Plan,
+) -> Result<GridTable<BuildHasherDefault<FoldHasher>>, TableError>
+    ensures { IfOk result (λ table.
+        Fits plan.now (⟦<GridTable<BuildHasherDefault<FoldHasher>> as MetricTable>⟧.state table)) }
+{
+    GridTable::with_hasher(alloc, plan, BuildHasherDefault::<FoldHasher>::new())
 }
 
 /// The mark of an interface.
@@ -240,11 +251,7 @@ fn list_takes_and_refuses(rt: HostRuntime) -> Result<(), Fail> {
 #[test]
 fn grid_takes_and_refuses(rt: HostRuntime) -> Result<(), Fail> {
     let plan = plan_in(&rt, rt.alloc());
-    let mut table = GridTable::with_hasher(
-        rt.alloc(),
-        &plan,
-        BuildHasherDefault::<FoldHasher>::new(),
-    )?;
+    let mut table = new_grid(rt.alloc(), &plan)?;
     takes_and_refuses(&rt, &plan, &mut table);
     Ok(())
 }

@@ -7,7 +7,7 @@ ghost use Rattle.rip_table.specs.declared.error.TableError.TheVariants.{Memory};
 ghost use Rattle.rip_wire.specs.Message.{response};
 ghost use Rattle.rip_table.specs.Joined.{brings_pair};
 ghost use Rattle.rip_table.specs.Numbers.{AreNumbers};
-ghost use Rattle.rip_table.specs.Rows.{AreRowNumbers, AreWritten, IsGrid, cell, grid_state, heads, planned_rows, rows_of, shown_after, with_cell, with_row, with_rows};
+ghost use Rattle.rip_table.specs.Rows.{AreRowNumbers, CanWrite, IsGrid, IsWritten, cell, grid_state, heads, planned_rows, rows_of, shown_after, with_cell, with_row, with_rows};
 
 use super::cell::Cell;
 use crate::error::TableError;
@@ -171,15 +171,11 @@ fn add<S: BuildHasher>(
     numbers: &Numbers,
     entries: &[Entry],
 ) -> Result<(), TableError>
-    requires few { length entries.now ≤ MOST_ENTRIES }
-    requires grid { IsGrid width (rows_of rows.old.entries) }
-    requires cell { interface < width }
-    requires numbers { AreNumbers (heads (rows_of rows.old.entries)) entries.now numbers.now }
-    ensures ok { OnOk result (AreWritten interface entries.now (rows_of rows.old.entries)
-        (rows_of rows.new.entries)) }
+    requires { CanWrite width interface (rows_of rows.old.entries) numbers.now
+        entries.now }
+    ensures written { IsWritten interface entries.now (rows_of rows.old.entries)
+        (rows_of rows.new.entries) result }
     ensures grid { IsGrid width (rows_of rows.new.entries) }
-    ensures memory { IfErr result (λ error. error ≡ Memory) }
-    ensures err { OnErr result (rows_of rows.new.entries ≡ rows_of rows.old.entries) }
 {
     let row_numbers = grow_or_keep(alloc, rows, width, numbers, entries)?;
     write(rows, width, interface, &row_numbers, entries);
@@ -197,18 +193,14 @@ pub(crate) fn add_new<S: BuildHasher>(
     entries: &[Entry],
     brings: bool,
 ) -> Result<(), TableError>
-    requires few { length entries.now ≤ MOST_ENTRIES }
-    requires grid { IsGrid width (rows_of rows.old.entries) }
-    requires cell { interface < width }
-    requires numbers { AreNumbers (heads (rows_of rows.old.entries)) entries.now numbers.now }
+    requires can { CanWrite width interface (rows_of rows.old.entries) numbers.now
+        entries.now }
     requires brings { (heard : List Bool) →
         brings ≡ brings_pair interface (grid_state heard (rows_of rows.old.entries))
         (response entries.now) }
-    ensures ok { OnOk result (AreWritten interface entries.now (rows_of rows.old.entries)
-        (rows_of rows.new.entries)) }
+    ensures written { IsWritten interface entries.now (rows_of rows.old.entries)
+        (rows_of rows.new.entries) result }
     ensures grid { IsGrid width (rows_of rows.new.entries) }
-    ensures memory { IfErr result (λ error. error ≡ Memory) }
-    ensures err { OnErr result (rows_of rows.new.entries ≡ rows_of rows.old.entries) }
     ensures wants { OnErr result (brings ≡ true) }
 {
     if brings {

@@ -5,12 +5,11 @@ ghost use Rattle.std.specs.Prelude.{◌≡◌};
 ghost use Rattle.rip_table.specs.State.{Fits};
 
 use super::logs::{SETTLED, TRIANGLE, push_line};
-use super::{PLAN, agree, entry, take};
-use crate::{CollectCause, CollectError, GridTable, ListTable, MetricTable, TableError, collect};
+use super::{PLAN, agree, entry, new_grid, take};
+use crate::{CollectCause, CollectError, ListTable, MetricTable, TableError, collect};
 use rip_log::{FromRead, LogReader, Source};
 use rip_plan::Plan;
 use std::alloc::Global;
-use std::hash::{BuildHasherDefault, FoldHasher};
 use std::process::Abort;
 use std::test::Fail;
 
@@ -78,8 +77,7 @@ fn grid_keeps_what_it_had(rt: HostRuntime) -> Result<(), Fail> {
     let Ok(mut list) = ListTable::new(rt.alloc(), &plan) else {
         return Ok(());
     };
-    let hasher = BuildHasherDefault::<FoldHasher>::new();
-    let Ok(mut grid) = GridTable::with_hasher(rt.alloc(), &plan, hasher) else {
+    let Ok(mut grid) = new_grid(rt.alloc(), &plan) else {
         return Ok(());
     };
     if fills(&rt, &plan, &mut grid, &mut list) {
@@ -97,8 +95,7 @@ fn list_keeps_what_it_had(rt: HostRuntime) -> Result<(), Fail> {
     let Ok(mut list) = ListTable::new(rt.alloc(), &plan) else {
         return Ok(());
     };
-    let hasher = BuildHasherDefault::<FoldHasher>::new();
-    let Ok(mut grid) = GridTable::with_hasher(rt.alloc(), &plan, hasher) else {
+    let Ok(mut grid) = new_grid(rt.alloc(), &plan) else {
         return Ok(());
     };
     if fills(&rt, &plan, &mut list, &mut grid) {
@@ -209,8 +206,7 @@ fn grid_joins_the_lines_before(rt: HostRuntime) -> Result<(), Fail> {
     let Ok(plan) = Plan::read(rt.alloc(), TRIANGLE.as_bytes()) else {
         return Ok(());
     };
-    let hasher = BuildHasherDefault::<FoldHasher>::new();
-    let Ok(mut grid) = GridTable::with_hasher(rt.alloc(), &plan, hasher) else {
+    let Ok(mut grid) = new_grid(rt.alloc(), &plan) else {
         return Ok(());
     };
     if joins(&rt, rt.alloc(), &plan, &mut grid).is_ok() {

@@ -3,11 +3,10 @@
 ghost use Rattle.std.specs.Prelude.{◌≡◌};
 ghost use Rattle.rip_table.specs.State.{Fits};
 
-use super::{agree, is_heard, plan_in, take};
-use crate::{GridTable, ListTable, MetricTable, TableError};
+use super::{agree, is_heard, new_grid, plan_in, take};
+use crate::{ListTable, MetricTable, TableError};
 use rip_plan::Plan;
 use rip_wire::{Address, Entry, Metric, Prefix};
-use std::hash::{BuildHasherDefault, FoldHasher};
 use std::process::Abort;
 use std::test::Fail;
 
@@ -52,11 +51,7 @@ fn is_full<T: MetricTable>(rt: &impl Abort, plan: &Plan, table: &mut T)
 fn prefixes_2048_and_one_more(rt: HostRuntime) -> Result<(), Fail> {
     let plan = plan_in(&rt, rt.alloc());
     let mut list = ListTable::new(rt.alloc(), &plan)?;
-    let mut grid = GridTable::with_hasher(
-        rt.alloc(),
-        &plan,
-        BuildHasherDefault::<FoldHasher>::new(),
-    )?;
+    let mut grid = new_grid(rt.alloc(), &plan)?;
     fills(&rt, &plan, &mut list);
     fills(&rt, &plan, &mut grid);
     assert!(rt; agree(&list, &grid));

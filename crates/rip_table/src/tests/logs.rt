@@ -3,12 +3,11 @@
 ghost use Rattle.std.specs.Prelude.{◌≡◌};
 ghost use Rattle.rip_table.specs.State.{Fits};
 
-use super::{is_heard, metric, prefix, shown};
-use crate::{CollectCause, CollectError, GridTable, ListTable, MetricTable, TableError, collect};
+use super::{is_heard, metric, new_grid, prefix, shown};
+use crate::{CollectCause, CollectError, ListTable, MetricTable, TableError, collect};
 use rip_log::{FromRead, LogReader};
 use rip_plan::Plan;
 use std::alloc::{AllocError, Global};
-use std::hash::{BuildHasherDefault, FoldHasher};
 use std::process::Abort;
 use std::test::Fail;
 
@@ -170,8 +169,7 @@ fn expect_refusals(
     let log = settled_and(alloc, line)?;
     let mut list = ListTable::new(alloc, &plan)?;
     expect_refusal(rt, alloc, &plan, log.as_bytes(), &mut list, error);
-    let hasher = BuildHasherDefault::<FoldHasher>::new();
-    let mut grid = GridTable::with_hasher(alloc, &plan, hasher)?;
+    let mut grid = new_grid(alloc, &plan)?;
     expect_refusal(rt, alloc, &plan, log.as_bytes(), &mut grid, error);
     Ok(())
 }

@@ -2,10 +2,9 @@
 
 ghost use Rattle.rip_table.specs.State.{Fits};
 
-use super::{agree, entry, metric, plan_in, prefix, shown, take};
-use crate::{GridTable, ListTable, MetricTable, TableError};
+use super::{agree, entry, metric, new_grid, plan_in, prefix, shown, take};
+use crate::{ListTable, MetricTable, TableError};
 use rip_plan::Plan;
-use std::hash::{BuildHasherDefault, FoldHasher};
 use std::process::Abort;
 use std::test::Fail;
 
@@ -65,11 +64,7 @@ fn takes_both<T: MetricTable>(rt: &impl Abort, plan: &Plan, table: &mut T)
 fn orders_of_updates(rt: HostRuntime) -> Result<(), Fail> {
     let plan = plan_in(&rt, rt.alloc());
     let mut list = ListTable::new(rt.alloc(), &plan)?;
-    let mut grid = GridTable::with_hasher(
-        rt.alloc(),
-        &plan,
-        BuildHasherDefault::<FoldHasher>::new(),
-    )?;
+    let mut grid = new_grid(rt.alloc(), &plan)?;
     takes_both(&rt, &plan, &mut list);
     takes_both(&rt, &plan, &mut grid);
     assert!(rt; agree(&list, &grid));

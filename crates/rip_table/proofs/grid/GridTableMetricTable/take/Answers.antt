@@ -48,7 +48,7 @@ returns-in_err-add_new g c =
     let is : c.from_residual-in_err-add_new.result ≡ Err Memory = search rules in
     let checked : AreFaultless a c.args.interface s es = subst (λ (x : ℕ). AreFaultless x c.args.interface s es) sender (c.in_ok-brings.ensures).0 in
     subst (Takes a c.args.interface s m new) (sym is)
-    (wanting a c.args.interface s m es new message checked (sym (c.in_ok-brings.ensures).1 ∙ c.in_err-add_new.ensures.wants) (ap (grid_state heard) c.in_err-add_new.ensures.err))
+    (wanting a c.args.interface s m es new message checked (sym (c.in_ok-brings.ensures).1 ∙ c.in_err-add_new.ensures.wants) (ap (grid_state heard) c.in_err-add_new.ensures.written.1))
     in
     let here = has-address c.args.plan.now c.args.interface c.interface-own.result c.interface-own.ensures.exact in
     record {
@@ -59,7 +59,7 @@ returns-in_err-add_new g c =
 pub invariant_of-self-2-clause-valid : goal.invariant_of-self-2-clause-valid
 invariant_of-self-2-clause-valid g c =
     let same = taken-is c.interface-own.result.address c.args.interface c.args.self.now.heard.items (rows_of c.args.self.now.rows.entries) (rows_of c.add_new.new.rows.entries) c.entries-entries.result.now
-    (omega (arith, c.requires.interface, c.requires.fits.interfaces)) c.args.self.now.valid (c.in_ok-brings.ensures).0 c.in_ok-add_new.ensures.ok in
+    (omega (arith, c.requires.interface, c.requires.fits.interfaces)) c.args.self.now.valid (c.in_ok-brings.ensures).0 c.in_ok-add_new.ensures.written in
     subst IsState (sym same) ((c.in_ok-brings.ensures).0).2
 
 pub invariant_of-self-2-clause-grid : goal.invariant_of-self-2-clause-grid
@@ -81,7 +81,7 @@ returns g c =
     let sender = sender-is c.args.plan.now c.args.interface l a c.interface-own.result c.interface-own.ensures.exact has in
     let checked : AreFaultless a c.args.interface s es = subst (λ (x : ℕ). AreFaultless x c.args.interface s es) sender (c.in_ok-brings.ensures).0 in
     taken a c.args.interface s m es new message checked
-    (taken-is a c.args.interface heard rows (rows_of c.add_new.new.rows.entries) es (omega (arith, c.requires.interface, c.requires.fits.interfaces)) c.args.self.now.valid checked c.in_ok-add_new.ensures.ok)
+    (taken-is a c.args.interface heard rows (rows_of c.add_new.new.rows.entries) es (omega (arith, c.requires.interface, c.requires.fits.interfaces)) c.args.self.now.valid checked c.in_ok-add_new.ensures.written)
     in
     let here = has-address c.args.plan.now c.args.interface c.interface-own.result c.interface-own.ensures.exact in
     record {

@@ -3,6 +3,6 @@ use Rattle.rip_table.specs.Rows.{grid_state, rows_of}
 use Rattle.rip_table.proofs.ListLemmas.{nothing-joins}
 use Rattle.rip_table.proofs.grid.rows.add_new.Goals as goal
 
-pub returns-else-brings-clause-ok : goal.returns-else-brings-clause-ok
-returns-else-brings-clause-ok g c heard sender t lt valid h =
+pub returns-else-brings-clause-written : goal.returns-else-brings-clause-written
+returns-else-brings-clause-written g c heard sender t lt valid h =
     nothing-joins sender c.args.interface (grid_state heard (rows_of c.args.rows.now.entries)) c.args.entries.now t (sym (c.requires.brings heard) ∙ c.if-brings.false) h
