@@ -46,7 +46,7 @@ fn routers_touched<'a>(on_links: &'a HashMap<usize, Vec<usize>>, seat: &'a Seat)
     }
 }
 
-fn are_one_link(seat: Seat, other: Seat) -> bool
+fn is_same_link(seat: Seat, other: Seat) -> bool
     ensures { result ≡ spec.is_same_link seat other }
 {
     match (seat, other) {
@@ -71,7 +71,7 @@ fn share_router(routers: &[usize], others: &[usize]) -> bool
 fn meet(on_links: &HashMap<usize, Vec<usize>>, seat: &Seat, other: &Seat) -> bool
     ensures { result ≡ seats_meet (touched_by on_links.now) seat.now other.now }
 {
-    are_one_link(*seat, *other)
+    is_same_link(*seat, *other)
         || share_router(
             routers_touched(on_links, seat),
             routers_touched(on_links, other),

@@ -1,3 +1,4 @@
+use crate::{At, PlanCode, PlanError};
 use std::alloc::{AllocError, Global};
 
 mod answers;
@@ -63,6 +64,11 @@ fn replaced(alloc: Global, text: &str, old: &str, new: &str) -> Result<String, A
         made.push_str(back)?;
     }
     Ok(made)
+}
+
+/// The refusal of a plan with a code, and where the fault stands.
+fn refusal(code: PlanCode, place: At) -> Option<PlanError> {
+    Some(PlanError { code, place })
 }
 
 /// The triangle with a part of its text replaced by another.

@@ -1,4 +1,4 @@
-use super::{TRIANGLE, replaced};
+use super::{TRIANGLE, refusal, replaced};
 use crate::{At, Plan, PlanCode, PlanError};
 use std::alloc::{AllocError, Global};
 use std::test::Fail;
@@ -72,8 +72,7 @@ fn padded(alloc: Global, bytes: usize) -> Result<String, AllocError> {
 }
 
 fn limit(place: At) -> Option<PlanError> {
-    let code = PlanCode::Limit;
-    Some(PlanError { code, place })
+    refusal(PlanCode::Limit, place)
 }
 
 #[test]
@@ -157,14 +156,7 @@ fn limits_and_other_faults(rt: HostRuntime) -> Result<(), Fail> {
         "version = 1\nnote = 1",
     )?;
     let fault = Plan::read(alloc, key.as_bytes()).err();
-    let code = PlanCode::Key;
-    assert_eq!(rt;
-        fault,
-        Some(PlanError {
-            code,
-            place: At::Text
-        })
-    );
+    assert_eq!(rt; fault, refusal(PlanCode::Key, At::Text));
     Ok(())
 }
 
@@ -180,9 +172,8 @@ fn interfaces_and_other_faults(rt: HostRuntime) -> Result<(), Fail> {
     let prefix = "name = \"l8\"\nprefixes = [\"192.168.0.0/16\"]";
     let mut outside = replaced(alloc, full.as_str(), "name = \"l8\"\nprefixes = []", prefix)?;
     outside.push_str("[[router.interface]]\nlink = \"l8\"\naddress = \"10.9.9.9\"\n")?;
-    let code = PlanCode::OutsidePrefix;
     let place = At::RouterInterface(128, 9);
     let fault = Plan::read(alloc, outside.as_bytes()).err();
-    assert_eq!(rt; fault, Some(PlanError { code, place }));
+    assert_eq!(rt; fault, refusal(PlanCode::OutsidePrefix, place));
     Ok(())
 }

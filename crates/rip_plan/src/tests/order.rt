@@ -1,5 +1,5 @@
-use super::{changed, replaced};
-use crate::{At, Plan, PlanCode, PlanError};
+use super::{changed, refusal, replaced};
+use crate::{At, Plan, PlanCode};
 use std::test::Fail;
 
 /// A plan with two faults is refused with the one that the order puts first.
@@ -205,11 +205,7 @@ fn two_faults(rt: HostRuntime) -> Result<(), Fail> {
         let once = changed(alloc, old, new)?;
         let text = replaced(alloc, once.as_str(), other, instead)?;
         let fault = Plan::read(alloc, text.as_bytes()).err();
-        assert_eq!(rt;
-            fault,
-            Some(PlanError { code, place }),
-            "{new} and {instead}"
-        );
+        assert_eq!(rt; fault, refusal(code, place), "{new} and {instead}");
     }
     Ok(())
 }

@@ -1,5 +1,5 @@
-use super::changed;
-use crate::{At, Plan, PlanCode, PlanError};
+use super::{changed, refusal};
+use crate::{At, Plan, PlanCode};
 use std::test::Fail;
 
 #[test]
@@ -187,7 +187,7 @@ fn each_refusal(rt: HostRuntime) -> Result<(), Fail> {
     for (old, new, code, place) in rows {
         let text = changed(alloc, old, new)?;
         let fault = Plan::read(alloc, text.as_bytes()).err();
-        assert_eq!(rt; fault, Some(PlanError { code, place }), "{new}");
+        assert_eq!(rt; fault, refusal(code, place), "{new}");
     }
     Ok(())
 }
@@ -201,13 +201,6 @@ fn router_without_interface(rt: HostRuntime) -> Result<(), Fail> {
         "[[router]]\nname = \"r3\"\ninterface = []\n\n[[router]]\nname = \"r4\"\n",
     )?;
     let fault = Plan::read(alloc, text.as_bytes()).err();
-    let code = PlanCode::NoInterface;
-    assert_eq!(rt;
-        fault,
-        Some(PlanError {
-            code,
-            place: At::Router(3)
-        })
-    );
+    assert_eq!(rt; fault, refusal(PlanCode::NoInterface, At::Router(3)));
     Ok(())
 }
