@@ -35,10 +35,10 @@ Joins-blame n old c new (OfLog error) h =
 Joins-blame n old c new (Table error) h = refl
 Joins-blame n old c new UnknownSender h = refl
 
-pub unread-blame : (cause : CollectCause) → is_log_cause cause ≡ false → is_read_cause cause ≡ false
-unread-blame (OfLog error) h = cc h
-unread-blame (Table error) h = refl
-unread-blame UnknownSender h = refl
+pub not_log-not_read : (cause : CollectCause) → is_log_cause cause ≡ false → is_read_cause cause ≡ false
+not_log-not_read (OfLog error) h = cc h
+not_log-not_read (Table error) h = refl
+not_log-not_read UnknownSender h = refl
 
 -- what is not of the reader is told at the last of the lines behind it
 pub at_last : (behind line : ℕ) (cause : CollectCause) → is_log_cause cause ≡ false → line ≡ behind → IsAtLine behind line cause

@@ -7,7 +7,7 @@ use Rattle.rip_table.specs.declared.error.CollectCause.TheVariants.{Log as OfLog
 use Rattle.rip_table.specs.declared.error.CollectError.{CollectError}
 use Rattle.rip_table.proofs.JoinLemmas.{PassedKnown-more, told_bad, OutcomeKnown-none, OutcomeKnown-refused, StuckKnown-wants}
 use Rattle.rip_table.proofs.FitLemmas.{Fits-joined}
-use Rattle.rip_table.proofs.BlameLemmas.{Joins-blame, unread-blame, at_last, tell, runs, again}
+use Rattle.rip_table.proofs.BlameLemmas.{Joins-blame, not_log-not_read, at_last, tell, runs, again}
 use Rattle.rip_table.proofs.OutcomeLemmas.{said_outcome}
 use Rattle.rip_table.proofs.joining.collect.Goals as goal
 
@@ -43,7 +43,7 @@ returns-in-Err-join g c =
     let was_run : has_stopped c.args.reader.now ≡ false = sym inv.running ∙ run in
     let joins = rw c.in-Err-join.is at c.join.ensures in
     let blame = Joins-blame plan (state c.records.table) entry (state c.join.new.table) cause joins in
-    let unread = unread-blame cause blame in
+    let not_read = not_log-not_read cause blame in
     let new = state c.join.new.table in
     let error : CollectError = record { line = c.in-Ok-Some.record.line; cause = cause } in
     let told : has_stopped c.args.reader.now ≡ false → ToldOutcome plan old log new (log_to_come coming after) (Err error) = λ was.
@@ -54,7 +54,7 @@ returns-in-Err-join g c =
     (StuckKnown-wants capture_of line_of plan old log (state c.records.table) (log_to_come coming before) (log_to_come coming after) c.in-Ok-Some.record passed gives w))
     (λ j. subst (λ (s : State). OutcomeKnown plan old log s (Some error)) (sym joins.0)
     (OutcomeKnown-refused capture_of line_of plan old log (state c.records.table) (log_to_come coming before) (log_to_come coming after) c.in-Ok-Some.record cause passed gives j))
-    unread in
+    not_read in
     record {
       told = told;
       said = λ was. said_outcome c.refused_logs.ensures.outcome plan old new log (log_to_come coming after) (Err error) c.lawful.ensures (g.T.MetricTable.is_state c.args.table.now) c.requires (told was);
@@ -63,7 +63,7 @@ returns-in-Err-join g c =
       here = at_last (lines_behind after) c.in-Ok-Some.record.line cause blame h.onward.1;
       fits = subst (λ (s : State). Fits plan s) (sym joins.0) inv.fits;
       ended = λ fine. cc fine;
-      failed = λ bad. cc (bad, unread);
+      failed = λ bad. cc (bad, not_read);
       marks = λ fine. h.moves.marks refl ∙ inv.marks;
     }
 
