@@ -25,7 +25,7 @@ install: $(PROGRAM)
 	install -d $(DESTDIR)$(PREFIX)/share/man/man1
 	install -m 644 docs/ripaudit.1 $(DESTDIR)$(PREFIX)/share/man/man1/ripaudit.1
 	install -d $(DESTDIR)$(PREFIX)/share/doc/ripaudit
-	install -m 644 README.md docs/OPERATING.md docs/tcpdump-to-log.awk $(DESTDIR)$(PREFIX)/share/doc/ripaudit
+	install -m 644 README.md docs/OPERATING.md docs/CODES.md docs/tcpdump-to-log.awk $(DESTDIR)$(PREFIX)/share/doc/ripaudit
 
 clean:
 	rm -rf out crates/*/out

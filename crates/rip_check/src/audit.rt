@@ -9,12 +9,12 @@ ghost use Rattle.rip_check.specs.Firsts.{IsFirstBelow, IsFirstPlace, IsFirstUnhe
 ghost use Rattle.rip_check.specs.TwoLeasts.{AreTwoLeast};
 ghost use Rattle.rip_check.specs.Verdicts.{IsRowFirst, IsSound, IsVerdict};
 
-use crate::links::{MOST_LINKS, NOTHING, TwoLeast, fill};
+use crate::links::{NOTHING, TwoLeast, fill};
 use crate::lookup::in_range;
 use crate::places::{failing, unmet};
 use crate::routes::{read, reason};
 use crate::verdict::{Place2, Unclear, Verdict};
-use rip_plan::{Interface, Plan};
+use rip_plan::{Interface, MOST_LINKS, Plan};
 use rip_table::MetricTable;
 
 /// The first interface that was not heard.

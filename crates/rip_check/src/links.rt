@@ -11,9 +11,6 @@ use crate::lookup::shown_at;
 use rip_plan::Plan;
 use rip_table::MetricTable;
 
-/// The most links of a plan.
-pub(crate) const MOST_LINKS: usize = 512;
-
 /// The least metric that is shown on a link, whose it is, and the least of the other routers'. A
 /// plan has at most 128 routers, so that bytes serve.
 #[derive(Clone, Copy)]

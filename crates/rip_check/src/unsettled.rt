@@ -8,12 +8,12 @@ ghost use Rattle.rip_check.specs.Marks.{AreUnsettled, IsMark};
 ghost use Rattle.rip_check.specs.TwoLeasts.{AreTwoLeast};
 ghost use Rattle.rip_check.specs.Verdicts.{IsFailing};
 
-use crate::links::{MOST_LINKS, NOTHING, TwoLeast, fill};
+use crate::links::{NOTHING, TwoLeast, fill};
 use crate::lookup::in_range;
 use crate::places::{place_of, unmet};
 use crate::routes::read;
 use crate::verdict::Place2;
-use rip_plan::Plan;
+use rip_plan::{MOST_LINKS, Plan};
 use rip_table::MetricTable;
 use std::alloc::{AllocError, Global};
 

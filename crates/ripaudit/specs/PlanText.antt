@@ -4,6 +4,7 @@ use Rattle.std.specs.List.{flat_map}
 use Rattle.rip_wire.specs.Address.{address_text}
 use Rattle.rip_wire.specs.Prefix.{prefix_text}
 use Rattle.rip_plan.specs.Answers.{first_fault}
+use Rattle.rip_plan.specs.Codes.{number_of_code}
 use Rattle.rip_plan.specs.Network.{Network}
 use Rattle.rip_plan.specs.PlanOf.{IsPlanOfText}
 use Rattle.rip_plan.specs.declared.error.At.{At}
@@ -19,26 +20,30 @@ use Rattle.ripaudit.specs.Names.{name_of, numbered}
 use Rattle.ripaudit.specs.Written.{Written, line}
 use Rattle.ripaudit.specs.declared.status.Status.TheVariants.{Done, Refused}
 
--- the number and the word of a code
-abbrev pub plan_code_text : PlanCode → List ℕ
-plan_code_text Syntax = codes "1 Syntax"
-plan_code_text Version = codes "2 Version"
-plan_code_text Key = codes "3 Key"
-plan_code_text Name = codes "4 Name"
-plan_code_text DuplicateName = codes "5 DuplicateName"
-plan_code_text Address = codes "6 Address"
-plan_code_text Prefix = codes "7 Prefix"
-plan_code_text Cost = codes "8 Cost"
-plan_code_text DuplicatePrefix = codes "9 DuplicatePrefix"
-plan_code_text UnknownLink = codes "10 UnknownLink"
-plan_code_text TwiceOnLink = codes "11 TwiceOnLink"
-plan_code_text DuplicateAddress = codes "12 DuplicateAddress"
-plan_code_text OutsidePrefix = codes "13 OutsidePrefix"
-plan_code_text NoInterface = codes "14 NoInterface"
-plan_code_text Limit = codes "15 Limit"
-plan_code_text Memory = codes "16 Memory"
+-- the word of a code
+abbrev pub word_of : PlanCode → List ℕ
+word_of Syntax = codes "Syntax"
+word_of Version = codes "Version"
+word_of Key = codes "Key"
+word_of Name = codes "Name"
+word_of DuplicateName = codes "DuplicateName"
+word_of Address = codes "Address"
+word_of Prefix = codes "Prefix"
+word_of Cost = codes "Cost"
+word_of DuplicatePrefix = codes "DuplicatePrefix"
+word_of UnknownLink = codes "UnknownLink"
+word_of TwiceOnLink = codes "TwiceOnLink"
+word_of DuplicateAddress = codes "DuplicateAddress"
+word_of OutsidePrefix = codes "OutsidePrefix"
+word_of NoInterface = codes "NoInterface"
+word_of Limit = codes "Limit"
+word_of Memory = codes "Memory"
 
--- a place in a plan's text, as `router 1 interface 2`
+-- the number and the word of a code, as `10 UnknownLink`
+abbrev pub plan_code_text : PlanCode → List ℕ
+plan_code_text code = decimal (number_of_code code) ++ codes " " ++ word_of code
+
+-- a position in a plan's text, as `router 1 interface 2`
 abbrev pub at_text : At → List ℕ
 at_text places.Text = codes "text"
 at_text places.Version = codes "version"

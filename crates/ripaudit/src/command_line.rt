@@ -8,6 +8,7 @@ use crate::table::run_table;
 use clap::error::ErrorKind;
 use clap::{Arg, ArgAction, ArgMatches, Command, Error};
 use rip_log::{FromRead, IntoWrite};
+use rip_plan::MOST_PLAN_BYTES;
 use std::alloc::Global;
 use std::collections::hash_map::RandomState;
 use std::io::Read;
@@ -16,7 +17,7 @@ use std::rt::Files;
 use std::{env, fs, io};
 
 /// The most bytes of a plan's file that are read: one more than a plan may have.
-const MOST_BYTES: u64 = 1_048_577;
+const MOST_BYTES: u64 = MOST_PLAN_BYTES as u64 + 1;
 
 /// The word of a plan's file.
 fn plan_word<'a>(alloc: Global) -> Arg<'a> {

@@ -13,10 +13,10 @@ use crate::line::Line;
 use crate::output::{Page, finish, write_all};
 use crate::status::{RunError, Status};
 use rip_log::{Failed, Sink, decode_digits};
-use rip_wire::{Datagram, Entry, Kind, WireCode, WireError, read};
+use rip_wire::{Datagram, Entry, Kind, MOST_BYTES, WireCode, WireError, read};
 
 /// How many bytes are looked at: one more than a datagram can have.
-const ROOM: usize = 505;
+const ROOM: usize = MOST_BYTES + 1;
 
 /// Whether the word is an even number of hexadecimal digits.
 fn is_hex(word: &[u8]) -> bool
@@ -30,7 +30,7 @@ fn is_hex(word: &[u8]) -> bool
 fn bytes_of_hex<'a>(word: &[u8], room: &'a mut [u8; ROOM]) -> Option<&'a [u8]>
     ensures { MatchOption result ((bytes : List ℕ) → decode_of word.now ≡ Ok bytes → ⊥)
         (λ front. (bytes : List ℕ) × (decode_of word.now ≡ Ok bytes)
-        × (front.now ≡ take 505 bytes)) }
+        × (front.now ≡ take ROOM bytes)) }
 {
     if !is_hex(word) {
         return None;

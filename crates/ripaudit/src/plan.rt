@@ -3,7 +3,7 @@
 ghost use Rattle.std.specs.Prelude.{◌≡◌, ◌≢◌, ◌+◌, ◌≤◌, ◌<◌, ◌↔◌, ◌++◌, [], Err, IfOk, IsOk, length, true};
 ghost use Rattle.std.specs.Io.KnownBytes.{Keeps};
 ghost use Rattle.std.specs.List.{flat_map};
-ghost use Rattle.ripaudit.specs.PlanText.{IsSeat, PlanText, at_text, counts_line, interface_line, place_line, plan_code_text, refused_plan, seat_text, shown_plan};
+ghost use Rattle.ripaudit.specs.PlanText.{IsSeat, PlanText, at_text, counts_line, interface_line, place_line, plan_code_text, refused_plan, seat_text, shown_plan, word_of};
 ghost use Rattle.ripaudit.specs.Held.{held};
 ghost use Rattle.ripaudit.specs.Sent.{BeginningOut, WentOut, Writes};
 
@@ -15,32 +15,43 @@ use rip_log::{Failed, Sink};
 use rip_plan::{At, Interface, Place, Plan, PlanCode, PlanError, Seat};
 use std::alloc::Global;
 
-/// The number and the word of a code.
-fn code_text(code: PlanCode) -> &'static str
-    ensures text { result.now ≡ plan_code_text code }
+/// The word of a code.
+fn word(code: PlanCode) -> &'static str
+    ensures text { result.now ≡ word_of code }
     ensures short { length result.now ≤ 32 }
 {
     match code {
-        PlanCode::Syntax => "1 Syntax",
-        PlanCode::Version => "2 Version",
-        PlanCode::Key => "3 Key",
-        PlanCode::Name => "4 Name",
-        PlanCode::DuplicateName => "5 DuplicateName",
-        PlanCode::Address => "6 Address",
-        PlanCode::Prefix => "7 Prefix",
-        PlanCode::Cost => "8 Cost",
-        PlanCode::DuplicatePrefix => "9 DuplicatePrefix",
-        PlanCode::UnknownLink => "10 UnknownLink",
-        PlanCode::TwiceOnLink => "11 TwiceOnLink",
-        PlanCode::DuplicateAddress => "12 DuplicateAddress",
-        PlanCode::OutsidePrefix => "13 OutsidePrefix",
-        PlanCode::NoInterface => "14 NoInterface",
-        PlanCode::Limit => "15 Limit",
-        PlanCode::Memory => "16 Memory",
+        PlanCode::Syntax => "Syntax",
+        PlanCode::Version => "Version",
+        PlanCode::Key => "Key",
+        PlanCode::Name => "Name",
+        PlanCode::DuplicateName => "DuplicateName",
+        PlanCode::Address => "Address",
+        PlanCode::Prefix => "Prefix",
+        PlanCode::Cost => "Cost",
+        PlanCode::DuplicatePrefix => "DuplicatePrefix",
+        PlanCode::UnknownLink => "UnknownLink",
+        PlanCode::TwiceOnLink => "TwiceOnLink",
+        PlanCode::DuplicateAddress => "DuplicateAddress",
+        PlanCode::OutsidePrefix => "OutsidePrefix",
+        PlanCode::NoInterface => "NoInterface",
+        PlanCode::Limit => "Limit",
+        PlanCode::Memory => "Memory",
     }
 }
 
-/// Adds a place in a plan's text.
+/// Adds the number and the word of a code.
+fn push_code(text: &mut Line, code: PlanCode)
+    requires { length text.old + 53 ≤ 256 }
+    ensures text { text.new ≡ text.old ++ plan_code_text code }
+    ensures size { length text.new ≤ length text.old + 53 }
+{
+    text.push_number(u64::from(code.number()));
+    text.push(" ");
+    text.push(word(code));
+}
+
+/// Adds a position in a plan's text.
 fn push_at(text: &mut Line, place: At)
     requires { length text.old + 72 ≤ 256 }
     ensures text { text.new ≡ text.old ++ at_text place }
@@ -72,7 +83,7 @@ fn fault_text(error: PlanError) -> Line
 {
     let mut text = Line::new();
     text.push("refused: plan ");
-    text.push(code_text(error.code));
+    push_code(&mut text, error.code);
     text.push(" at ");
     push_at(&mut text, error.place);
     text.end();

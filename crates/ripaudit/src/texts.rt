@@ -9,11 +9,8 @@ mod text;
 
 pub(crate) use self::text::Text;
 use crate::line::Line;
-use rip_table::MetricTable;
+use rip_table::{MOST_PREFIXES, MetricTable};
 use rip_wire::Prefix;
-
-/// The most prefixes of a table.
-const PREFIXES: usize = 2048;
 
 /// Room for each metric at its number, up to 16.
 pub(crate) const METRICS: usize = 17;
@@ -21,7 +18,7 @@ pub(crate) const METRICS: usize = 17;
 /// The texts of a table's prefixes, by their numbers, and of all metrics.
 #[derive(Drop)]
 pub(crate) struct Texts {
-    pub(crate) prefixes: [Text; PREFIXES],
+    pub(crate) prefixes: [Text; MOST_PREFIXES],
     pub(crate) metrics: [Text; METRICS],
 }
 
@@ -31,7 +28,7 @@ impl Texts {
         ensures { AreTexts (T.state table.now).prefixes result }
     {
         let mut texts = Texts {
-            prefixes: [Text::empty(); PREFIXES],
+            prefixes: [Text::empty(); MOST_PREFIXES],
             metrics: [Text::empty(); METRICS],
         };
         make_prefixes(table, &mut texts.prefixes);
@@ -62,7 +59,7 @@ fn of_metric(number: usize) -> Text
 }
 
 /// Makes the texts of a table's prefixes.
-fn make_prefixes<T: MetricTable>(table: &T, texts: &mut [Text; PREFIXES])
+fn make_prefixes<T: MetricTable>(table: &T, texts: &mut [Text; MOST_PREFIXES])
     ensures { AreOfPrefixes (T.state table.now).prefixes texts.new }
 {
     for k in 0..table.prefix_count() {

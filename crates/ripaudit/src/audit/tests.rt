@@ -1,11 +1,11 @@
-use crate::agree::expect_alike;
+use crate::tests::agree::expect_alike;
 use crate::audit::run_audit;
-use crate::captures::{
+use crate::tests::captures::{
     entry, push_line, push_lines, push_response, settled, settled_and, settled_but,
 };
-use crate::devices::Pieces;
+use crate::tests::devices::Pieces;
 use crate::status::Status;
-use crate::triangle::{TRIANGLE, changed};
+use crate::tests::triangle::{TRIANGLE, changed};
 use rip_log::{FromRead, IntoWrite, Sink, Source};
 use rip_wire::Address;
 use std::alloc::{AllocError, Global};

@@ -1,5 +1,5 @@
 use crate::decode::run_decode;
-use crate::devices::Slow;
+use crate::tests::devices::Slow;
 use crate::status::{RunError, Status};
 use rip_log::IntoWrite;
 use rip_wire::{Address, Entry, Metric, Prefix, write_response};

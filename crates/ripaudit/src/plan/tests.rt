@@ -1,7 +1,7 @@
 use crate::audit::run_audit;
 use crate::plan::run_plan;
 use crate::status::{RunError, Status};
-use crate::triangle::{TRIANGLE, changed};
+use crate::tests::triangle::{TRIANGLE, changed};
 use rip_log::{FromRead, IntoWrite, Sink};
 use std::alloc::{AllocError, Global};
 use std::fmt::Write as _;

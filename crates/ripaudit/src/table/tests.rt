@@ -1,8 +1,8 @@
-use crate::captures::{entry, full, push_line, push_response, settled, settled_and};
-use crate::devices::{Endless, Pieces, Slow};
+use crate::tests::captures::{entry, full, push_line, push_response, settled, settled_and};
+use crate::tests::devices::{Endless, Pieces, Slow};
 use crate::status::{RunError, Status};
 use crate::table::run_table;
-use crate::triangle::{TRIANGLE, changed};
+use crate::tests::triangle::{TRIANGLE, changed};
 use rip_log::{FromRead, IntoWrite, Sink, Source};
 use rip_wire::Address;
 use std::alloc::{AllocError, Global};

@@ -1,7 +1,7 @@
 //! Routers in a row, with a prefix at the first of them.
 
 use super::expect_line;
-use crate::captures::push_line;
+use crate::tests::captures::push_line;
 use std::alloc::{AllocError, Global};
 use std::process::Abort;
 use std::test::Fail;

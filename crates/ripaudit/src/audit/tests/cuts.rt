@@ -1,8 +1,8 @@
 //! Logs that are cut off, or that come in pieces.
 
 use super::{PHANTOM, expect_line, expect_text, phantom};
-use crate::captures::settled;
-use crate::triangle::TRIANGLE;
+use crate::tests::captures::settled;
+use crate::tests::triangle::TRIANGLE;
 use std::alloc::{AllocError, Global};
 use std::process::Abort;
 use std::test::Fail;

@@ -1,8 +1,8 @@
 //! Prefixes at two places.
 
 use super::{SETTLED, expect_line};
-use crate::captures::{entry, push_response, settled};
-use crate::triangle::{TRIANGLE, changed};
+use crate::tests::captures::{entry, push_response, settled};
+use crate::tests::triangle::{TRIANGLE, changed};
 use rip_wire::{Address, Entry, Prefix};
 use std::alloc::{AllocError, Global};
 use std::process::Abort;

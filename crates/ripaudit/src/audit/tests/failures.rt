@@ -2,10 +2,10 @@
 
 use super::{PHANTOM, phantom};
 use crate::audit::run_audit;
-use crate::captures::settled;
-use crate::devices::{Pieces, Slow};
+use crate::tests::captures::settled;
+use crate::tests::devices::{Pieces, Slow};
 use crate::status::{RunError, Status};
-use crate::triangle::TRIANGLE;
+use crate::tests::triangle::TRIANGLE;
 use rip_log::{FromRead, IntoWrite, Sink, Source};
 use std::alloc::Global;
 use std::hash::{BuildHasherDefault, FoldHasher};

@@ -1,8 +1,8 @@
 //! Routers with one interface.
 
 use super::expect_line;
-use crate::captures::{settled, settled_and};
-use crate::triangle::{TRIANGLE, changed};
+use crate::tests::captures::{settled, settled_and};
+use crate::tests::triangle::{TRIANGLE, changed};
 use std::alloc::{AllocError, Global};
 use std::test::Fail;
 

@@ -2,10 +2,10 @@
 
 use super::{expect_line, expect_text};
 use crate::audit::run_audit;
-use crate::captures::{entry, full, push_line, settled};
-use crate::devices::Endless;
+use crate::tests::captures::{entry, full, push_line, settled};
+use crate::tests::devices::Endless;
 use crate::status::Status;
-use crate::triangle::TRIANGLE;
+use crate::tests::triangle::TRIANGLE;
 use rip_log::{FromRead, IntoWrite};
 use std::hash::{BuildHasherDefault, FoldHasher};
 use std::test::Fail;
