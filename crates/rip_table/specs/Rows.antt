@@ -6,7 +6,7 @@ use Rattle.rip_wire.specs.Prefix.{Block}
 use Rattle.rip_wire.specs.declared.entry.Entry.{Entry}
 use Rattle.rip_plan.specs.Network.{number_of_prefix}
 use Rattle.rip_plan.specs.Passes.{same_prefix}
-use Rattle.rip_wire.specs.declared.entries.TheConstants.{MOST_ENTRIES}
+use Rattle.rip_wire.specs.declared.limits.TheConstants.{MOST_ENTRIES}
 use Rattle.rip_table.specs.declared.error.TableError.{TableError}
 use Rattle.rip_table.specs.declared.error.TableError.TheVariants.{Memory}
 use Rattle.rip_table.specs.State.{IsState, State, is_among}

@@ -1,10 +1,10 @@
-use crate::tests::agree::expect_alike;
 use crate::audit::run_audit;
+use crate::status::Status;
+use crate::tests::agree::expect_alike;
 use crate::tests::captures::{
     entry, push_line, push_lines, push_response, settled, settled_and, settled_but,
 };
 use crate::tests::devices::Pieces;
-use crate::status::Status;
 use crate::tests::triangle::{TRIANGLE, changed};
 use rip_log::{FromRead, IntoWrite, Sink, Source};
 use rip_wire::Address;

@@ -1,6 +1,6 @@
 use crate::decode::run_decode;
-use crate::tests::devices::Slow;
 use crate::status::{RunError, Status};
+use crate::tests::devices::Slow;
 use rip_log::IntoWrite;
 use rip_wire::{Address, Entry, Metric, Prefix, write_response};
 use std::alloc::{AllocError, Global};

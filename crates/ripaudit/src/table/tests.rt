@@ -1,7 +1,7 @@
-use crate::tests::captures::{entry, full, push_line, push_response, settled, settled_and};
-use crate::tests::devices::{Endless, Pieces, Slow};
 use crate::status::{RunError, Status};
 use crate::table::run_table;
+use crate::tests::captures::{entry, full, push_line, push_response, settled, settled_and};
+use crate::tests::devices::{Endless, Pieces, Slow};
 use crate::tests::triangle::{TRIANGLE, changed};
 use rip_log::{FromRead, IntoWrite, Sink, Source};
 use rip_wire::Address;

@@ -3,8 +3,8 @@
 ghost use Rattle.std.specs.Prelude.{◌≡◌};
 ghost use Rattle.rip_table.specs.State.{Fits};
 
-use crate::tests::captures::{push_line, settled, settled_and};
 use crate::table::write_table;
+use crate::tests::captures::{push_line, settled, settled_and};
 use crate::tests::triangle::TRIANGLE;
 use rip_check::judge;
 use rip_log::{FromRead, IntoWrite, LogReader};

@@ -2,9 +2,9 @@
 
 use super::{PHANTOM, phantom};
 use crate::audit::run_audit;
+use crate::status::{RunError, Status};
 use crate::tests::captures::settled;
 use crate::tests::devices::{Pieces, Slow};
-use crate::status::{RunError, Status};
 use crate::tests::triangle::TRIANGLE;
 use rip_log::{FromRead, IntoWrite, Sink, Source};
 use std::alloc::Global;

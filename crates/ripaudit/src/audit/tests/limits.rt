@@ -2,9 +2,9 @@
 
 use super::{expect_line, expect_text};
 use crate::audit::run_audit;
+use crate::status::Status;
 use crate::tests::captures::{entry, full, push_line, settled};
 use crate::tests::devices::Endless;
-use crate::status::Status;
 use crate::tests::triangle::TRIANGLE;
 use rip_log::{FromRead, IntoWrite};
 use std::hash::{BuildHasherDefault, FoldHasher};
