@@ -17,8 +17,9 @@ IsAfter None r p = Unit {0}
 IsAfter (Some a) r p = IsBefore a.0 a.1 r p
 
 -- (r, p) is the first place after the given one that is not fine
-pub record IsFirst (n : Network) (count : ℕ) (after : Option (ℕ × ℕ)) (Fine : ℕ → ℕ
-    → Type 0) (r p : ℕ) : Type 0 where
+pub record IsFirst
+    (n : Network) (count : ℕ) (after : Option (ℕ × ℕ)) (Fine : ℕ → ℕ → Type 0) (r p : ℕ)
+    : Type 0 where
   pub router : r < length n.routers
   pub prefix : p < count
   pub behind : IsAfter after r p

@@ -41,8 +41,9 @@ pub record IsFailing (n : Network) (shown : Showing) (failing : Place2) : Type 0
   pub hidden : IsTrue failing.hidden ↔ IsHidden n shown failing.router failing.prefix
 
 -- the first readable place after the given one that fails, with its values
-pub record IsFirstFailing (n : Network) (count : ℕ) (shown : Showing) (after : Option (ℕ
-    × ℕ)) (failing : Place2) : Type 0 where
+pub record IsFirstFailing
+    (n : Network) (count : ℕ) (shown : Showing) (after : Option (ℕ × ℕ)) (failing : Place2)
+    : Type 0 where
   pub first : IsFirst n count after (IsSound n shown) failing.router failing.prefix
   pub values : IsFailing n shown failing
 

@@ -13,8 +13,14 @@ ghost use Rattle.rip_log.specs.declared.error.LogCode.{LogCode};
 ghost use Rattle.rip_log.specs.declared.error.LogError.{LogError};
 ghost use Rattle.rip_log.specs.declared.reader.Record.{Record};
 
-use crate::limits::MOST_LINES;
+use crate::limits::{MOST_LINE_BYTES, MOST_LINES};
 use rip_wire::laws;
+
+/// The limits of a log.
+pub fn limits()
+    ensures bytes { MOST_LINE_BYTES ≡ 2048 }
+    ensures lines { MOST_LINES ≡ 1000000 }
+{}
 
 /// What is computed of a line is what the words of the format say: it is skipped, or is a record, or
 /// is bad by the first of its faults.

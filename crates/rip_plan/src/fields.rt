@@ -70,6 +70,7 @@ fn integer_at(table: &Table, key: &str) -> Option<Option<i64>>
     }
 }
 
+/// Whether a key is one of these.
 fn is_key_of(key: &str, known: &[&str]) -> bool
     ensures { result ≡ is_one_of key.now (map (λ k. k.now) known.now) }
 {

@@ -16,9 +16,15 @@ ghost use Rattle.rip_table.specs.declared.error.CollectCause.TheVariants.{Table}
 ghost use Rattle.rip_table.specs.declared.error.TableError.TheVariants.{Changed};
 ghost use Rattle.rip_table.specs.declared.error.CollectError.{CollectError};
 
+use crate::limits::MOST_PREFIXES;
 use rip_wire::laws;
 
 pub mod examples;
+
+/// The limit of a table.
+pub fn limits()
+    ensures { MOST_PREFIXES ≡ 2048 }
+{}
 
 /// A log is joined exactly where no record is refused, and then into the table that it makes: the
 /// metrics that it tells, the interfaces that were heard, and prefixes in the order of their first

@@ -13,7 +13,13 @@ ghost use Rattle.rip_wire.specs.Name.{IsName};
 ghost use Rattle.rip_wire.specs.Name as name;
 ghost use Rattle.rip_wire.specs.Prefix.{Block, IsBlock, prefix_in, prefix_text};
 
-use crate::limits::MOST_ENTRIES;
+use crate::limits::{MOST_BYTES, MOST_ENTRIES};
+
+/// The sizes of a datagram (RFC 2453, section 3.6).
+pub fn limits()
+    ensures entries { MOST_ENTRIES ≡ 25 }
+    ensures bytes { MOST_BYTES ≡ 504 }
+{}
 
 /// The bytes of an entry are those of a response of this entry alone, after its header.
 pub fn entry_spellings()

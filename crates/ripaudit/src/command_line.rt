@@ -17,7 +17,7 @@ use std::rt::Files;
 use std::{env, fs, io};
 
 /// The most bytes of a plan's file that are read: one more than a plan may have.
-const MOST_BYTES: u64 = MOST_PLAN_BYTES as u64 + 1;
+const MOST_FILE_BYTES: u64 = MOST_PLAN_BYTES as u64 + 1;
 
 /// The word of a plan's file.
 fn plan_word<'a>(alloc: Global) -> Arg<'a> {
@@ -107,7 +107,7 @@ fn read_fault(error: &io::Error) -> RunError {
 /// The bytes of a plan's file, or the first of them where there are too many.
 fn read_plan<R: Files + AllocGlobal>(rt: &R, path: &str) -> io::Result<Vec<u8>> {
     let mut bytes = Vec::new(rt.alloc());
-    let mut file = fs::open(rt, path)?.take(MOST_BYTES);
+    let mut file = fs::open(rt, path)?.take(MOST_FILE_BYTES);
     file.read_to_end(&mut bytes)?;
     Ok(bytes)
 }
@@ -124,19 +124,19 @@ fn plan_file<R: Files + AllocGlobal + Print>(rt: &R, path: &str) -> Result<Statu
     }
 }
 
-/// What is printed of a log.
+/// The commands that read a log.
 #[derive(Clone, Copy)]
-enum Report {
+enum LogCommand {
     /// The verdict, with a line for each place that does not hold where all are asked for.
     Audit { all: bool },
     /// The table.
     Table,
 }
 
-/// Runs `audit` or `table` on a log.
+/// Runs a command on a log.
 fn report_from<R: AllocGlobal + Print, L: Read + Drop>(
     rt: &R,
-    report: Report,
+    command: LogCommand,
     plan: &[u8],
     log: L,
     hasher: RandomState,
@@ -144,17 +144,17 @@ fn report_from<R: AllocGlobal + Print, L: Read + Drop>(
     let alloc = rt.alloc();
     let mut out = IntoWrite::new(io::writer(rt));
     let log = FromRead::new(log);
-    let (_, outcome) = match report {
-        Report::Audit { all } => run_audit(alloc, plan, log, &mut out, all, hasher),
-        Report::Table => run_table(alloc, plan, log, &mut out, hasher),
+    let (_, outcome) = match command {
+        LogCommand::Audit { all } => run_audit(alloc, plan, log, &mut out, all, hasher),
+        LogCommand::Table => run_table(alloc, plan, log, &mut out, hasher),
     };
     outcome
 }
 
-/// Runs `audit` or `table` on a file and on a log, which is standard input where no file is named.
+/// Runs a command on a file of a plan and on a log, which is standard input where no file is named.
 fn report_file<R: Files + AllocGlobal + RandomSource + Input + Print>(
     rt: &R,
-    report: Report,
+    command: LogCommand,
     path: &str,
     log: Option<&str>,
 ) -> Result<Status, RunError> {
@@ -163,9 +163,9 @@ fn report_file<R: Files + AllocGlobal + RandomSource + Input + Print>(
         return Err(RunError::Read);
     };
     match log {
-        None => report_from(rt, report, plan.as_slice(), rt.reader(), hasher),
+        None => report_from(rt, command, plan.as_slice(), rt.reader(), hasher),
         Some(log) => match fs::open(rt, log) {
-            Ok(file) => report_from(rt, report, plan.as_slice(), file, hasher),
+            Ok(file) => report_from(rt, command, plan.as_slice(), file, hasher),
             Err(error) => Err(read_fault(&error)),
         },
     }
@@ -178,14 +178,14 @@ fn run_command<R: Files + AllocGlobal + RandomSource + Input + Print + Eprint>(
 ) -> u8 {
     let outcome = match matches.subcommand() {
         Some(("audit", words)) => words.get_str("PLAN").map(|path| {
-            let report = Report::Audit {
+            let command = LogCommand::Audit {
                 all: words.get_flag("all"),
             };
-            report_file(rt, report, path, words.get_str("LOG"))
+            report_file(rt, command, path, words.get_str("LOG"))
         }),
         Some(("table", words)) => words.get_str("PLAN").map(|path| report_file(
             rt,
-            Report::Table,
+            LogCommand::Table,
             path,
             words.get_str("LOG"),
         )),

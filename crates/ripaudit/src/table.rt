@@ -5,9 +5,10 @@ ghost use Rattle.std.specs.Io.KnownBytes.{Keeps};
 ghost use Rattle.std.specs.List.{enumerate_from, flat_map};
 ghost use Rattle.rip_plan.specs.Answers.{first_fault};
 ghost use Rattle.rip_plan.specs.declared.error.PlanError.{PlanError};
-ghost use Rattle.rip_table.specs.State.{Fits};
+ghost use Rattle.rip_table.specs.State.{Fits, State};
 ghost use Rattle.ripaudit.specs.TableText.{TableText, interface_lines, interface_name, prefix_lines, shown_lines, shown_table, table_line, unheard_line};
 ghost use Rattle.ripaudit.specs.Held.{held};
+ghost use Rattle.ripaudit.specs.ReportText.{IsAccepted};
 ghost use Rattle.ripaudit.specs.Sent.{BeginningOut, WentOut, Writes};
 ghost use Rattle.ripaudit.specs.Texts.{AreOfMetrics, AreTexts, text_of};
 ghost use Rattle.rip_plan.specs.Network.{Network};
@@ -237,6 +238,10 @@ pub fn run_table<R: Source, K: Sink, S: BuildHasher + Drop>(
     // The whole text went out, and nothing else.
     ensures text { IfOk result.1 (WentOut (TableText plan.now (R.coming log))
         (K.taken out.old) (K.taken out.new)) }
+    // Where plan and log are accepted, it is the table that the log shows.
+    ensures told { (n : Network) (s : State) → IsAccepted plan.now (R.coming log) n s →
+        IfOk result.1
+        (WentOut (λ w. w ≡ shown_table n s) (K.taken out.old) (K.taken out.new)) }
     // The sink has failed, and a beginning of the text went out.
     ensures write { result.1 ≡ Err RunError.Write → (K.broken out.new ≡ true)
         × BeginningOut (TableText plan.now (R.coming log)) (K.taken out.old) (K.taken out.new) }

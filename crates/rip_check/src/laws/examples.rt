@@ -43,7 +43,8 @@ pub fn leaf()
     rip_wire::laws::names();
 }
 
-/// A link that costs its two routers differently: what it costs the router that sends counts.
+/// A link that costs its two routers differently: the cost of the interface on which a datagram comes
+/// in counts.
 pub fn slope()
     ensures settled { IsSettledNetwork net.slope 2 (slope_shown 6) (slope_tables 6) }
     ensures unsettled { IsUnsettledNetwork net.slope 2 (slope_shown 2) (slope_tables 2) }

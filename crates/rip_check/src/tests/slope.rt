@@ -57,7 +57,7 @@ const LOG: [Line<'static>; 4] = [
 ];
 
 #[test]
-fn the_receivers_cost_counts(rt: HostRuntime) {
+fn the_cost_where_it_comes_in_counts(rt: HostRuntime) {
     let alloc = rt.alloc();
     let plan = plan_of(&rt, alloc, &[SLOPE]);
     expect(&rt, alloc, &plan, &[&LOG], Verdict::Settled);

@@ -304,7 +304,7 @@ fn takes_only_the_sender_as_next_hop(rt: HostRuntime) -> Result<(), Fail> {
 }
 
 #[test]
-fn costs_are_the_receivers(rt: HostRuntime) -> Result<(), Fail> {
+fn the_cost_where_it_comes_in_counts(rt: HostRuntime) -> Result<(), Fail> {
     let alloc = rt.alloc();
     for (metric, line) in [
         (6, "settled: 2 routers, 2 prefixes"),
