@@ -7,15 +7,17 @@ use Rattle.std.proofs.lemmas.List.Elements.{Contains-get_or}
 use Rattle.rip_plan.specs.declared.parts.Interface.{Interface}
 use Rattle.rip_plan.specs.Network.{Network}
 use Rattle.rip_plan.specs.Relations.{IsLawful, IsInterface, HasCost, IsDirect}
+use Rattle.rip_table.specs.State.{State}
 use Rattle.rip_check.specs.Settled.{IsChoice}
-use Rattle.rip_check.specs.Tables.{Showing, Offers}
+use Rattle.rip_check.specs.Tables.{Offers}
 use Rattle.rip_check.specs.declared.links.TwoLeast.{TwoLeast}
 use Rattle.rip_check.specs.TwoLeasts.{IsSeen, IsTwoLeast}
 use Rattle.rip_check.proofs.Owned.{its_link, within}
+use Rattle.rip_check.specs.Captured.{metric_at}
 
 -- what interface j offers over a link of this cost
-abbrev pub heard_from : Showing → ℕ → ℕ → ℕ → ℕ
-heard_from shown c j p = min 16 (c + unwrap_or (shown.cell j p) 16)
+abbrev pub heard_from : State → ℕ → ℕ → ℕ → ℕ
+heard_from shown c j p = min 16 (c + unwrap_or (metric_at shown j p) 16)
 
 module _ (n : Network) (l : ℕ) (numbers : List ℕ) (exact : (i : ℕ) → Contains numbers i ↔ ((r c : ℕ) × IsInterface n i r l c)) where
   across_at : (k : ℕ) → k < length numbers → (r c : ℕ) × IsInterface n (get_or numbers k 0) r l c
@@ -36,7 +38,7 @@ module _ (n : Network) (l : ℕ) (numbers : List ℕ) (exact : (i : ℕ) → Con
       let h = (exact i).1 (r, c, its) in
       (h.0, h.1, get_or_default numbers h.0 0 i h.1 ∙ h.2)
 
-  module _ (shown : Showing) (r cost p : ℕ) where
+  module _ (shown : State) (r cost p : ℕ) where
     -- no more than what the interfaces at the places before k offer to router r
     abbrev pub IsBelowBefore : ℕ → ℕ → Type 0
     IsBelowBefore best k =
@@ -85,12 +87,12 @@ module _ (n : Network) (l : ℕ) (numbers : List ℕ) (exact : (i : ℕ) → Con
         omega (arith, le', o.value, same)
 
 -- the best so far stays a choice
-pub still_chosen : (n : Network) (shown : Showing) (r p l best next : ℕ) → IsChoice n shown r p best → (next ≡ best) ⊎ ((s : ℕ) × Offers n shown r l s p next) → IsChoice n shown r p next
+pub still_chosen : (n : Network) (shown : State) (r p l best next : ℕ) → IsChoice n shown r p best → (next ≡ best) ⊎ ((s : ℕ) × Offers n shown r l s p next) → IsChoice n shown r p next
 still_chosen n shown r p l best next chosen (inl e) = rw e chosen
 still_chosen n shown r p l best next chosen (inr o) = inr (inr (l, o.0, o.1))
 
 -- what is no more than 16, the direct cost and the offers over each link is no more than any choice
-pub least_of : (n : Network) (shown : Showing) (r p best : ℕ) → best ≤ 16 → ((c : ℕ) → IsDirect n r p c → best ≤ c) →
+pub least_of : (n : Network) (shown : State) (r p best : ℕ) → best ≤ 16 → ((c : ℕ) → IsDirect n r p c → best ≤ c) →
     ((i l c : ℕ) → IsInterface n i r l c → (s v : ℕ) → Offers n shown r l s p v → best ≤ v) → (v : ℕ) → IsChoice n shown r p v → best ≤ v
 least_of n shown r p best most direct offers v (inl e) = omega (arith, e, most)
 least_of n shown r p best most direct offers v (inr (inl d)) = direct v d
@@ -102,21 +104,21 @@ least_of n shown r p best most direct offers v (inr (inr h)) = offers h.2.here.0
 abbrev pub IsFor : TwoLeast → ℕ → ℕ → Type 0
 IsFor two r v = ((r ≡ two.by) × (v ≡ two.next)) ⊎ ((r ≡ two.by → ⊥) × (v ≡ two.least))
 
-module _ (n : Network) (shown : Showing) (r l p cost : ℕ) (two : TwoLeast) (own : HasCost n r l cost) (is : IsTwoLeast n shown l p (length n.interfaces) two) where
+module _ (n : Network) (shown : State) (r l p cost : ℕ) (two : TwoLeast) (own : HasCost n r l cost) (is : IsTwoLeast n shown l p (length n.interfaces) two) where
   -- no neighbour shows less
   pub told_below : IsLawful n → (v : ℕ) → IsFor two r v → (s w : ℕ) → (o : Offers n shown r l s p w) →
-      (v ≤ unwrap_or (shown.cell o.interface p) 16) × (w ≡ min 16 (cost + unwrap_or (shown.cell o.interface p) 16))
+      (v ≤ unwrap_or (metric_at shown o.interface p) 16) × (w ≡ min 16 (cost + unwrap_or (metric_at shown o.interface p) 16))
   told_below plan v for s w o =
       let number = plan.one_on_link o.here.0 own.0 r l o.cost cost o.here.1 own.1 in
       let mine : IsInterface n own.0 r l o.cost = rw number at o.here.1 in
       let same : o.cost ≡ cost = (its_link n own.0 r l o.cost r l cost mine own.1).2 in
-      let seen : IsSeen n shown l p o.interface s (unwrap_or (shown.cell o.interface p) 16) = record { cost = o.its_cost; its = o.there; value = refl } in
+      let seen : IsSeen n shown l p o.interface s (unwrap_or (metric_at shown o.interface p) 16) = record { cost = o.its_cost; its = o.there; value = refl } in
       let lt = within n o.interface s l o.its_cost o.there in
       (below for seen lt, rw same at o.value)
     where
-      below : IsFor two r v → IsSeen n shown l p o.interface s (unwrap_or (shown.cell o.interface p) 16) → o.interface < length n.interfaces → v ≤ unwrap_or (shown.cell o.interface p) 16
-      below (inl h) seen lt = omega (arith, h.1, is.others o.interface s (unwrap_or (shown.cell o.interface p) 16) lt seen (λ e. o.neighbour.other (e ∙ sym h.0)))
-      below (inr h) seen lt = omega (arith, h.1, is.below o.interface s (unwrap_or (shown.cell o.interface p) 16) lt seen)
+      below : IsFor two r v → IsSeen n shown l p o.interface s (unwrap_or (metric_at shown o.interface p) 16) → o.interface < length n.interfaces → v ≤ unwrap_or (metric_at shown o.interface p) 16
+      below (inl h) seen lt = omega (arith, h.1, is.others o.interface s (unwrap_or (metric_at shown o.interface p) 16) lt seen (λ e. o.neighbour.other (e ∙ sym h.0)))
+      below (inr h) seen lt = omega (arith, h.1, is.below o.interface s (unwrap_or (metric_at shown o.interface p) 16) lt seen)
 
   -- and one shows it, if it is below 16
   pub told_offer : (v : ℕ) → IsFor two r v → v < 16 → (w : ℕ) → w ≡ min 16 (cost + v) → (s : ℕ) × Offers n shown r l s p w

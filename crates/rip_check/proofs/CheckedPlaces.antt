@@ -7,11 +7,13 @@ use Rattle.rip_plan.specs.declared.parts.Seat.TheVariants.{Link, Own}
 use Rattle.rip_plan.specs.declared.parts.Place.{Place}
 use Rattle.rip_plan.specs.Network.{Network}
 use Rattle.rip_plan.specs.Relations.{IsInterface, IsPlace, IsDirect, Carries}
+use Rattle.rip_table.specs.State.{State}
 use Rattle.rip_check.specs.declared.way.Way.{Way}
 use Rattle.rip_check.specs.declared.way.Way.TheVariants.{Unreachable, Here, Over}
-use Rattle.rip_check.specs.Tables.{Tables, Showing, Route, FitsWay, IsSilent, MayShow, Offers, IsLeastOffer, IsHiddenRoute, Fits, Shows}
+use Rattle.rip_check.specs.Tables.{Tables, Route, FitsWay, IsSilent, MayShow, Offers, IsLeastOffer, IsHiddenRoute, FitsShown, Shows}
 use Rattle.rip_check.specs.Settled.{IsChoice, IsGiven, Holds, HoldsAll}
 use Rattle.rip_check.proofs.Checking.{each, each_gives, some, some_gives, some_holds, below, below_gives, when, when_gives, is_link, link_of}
+use Rattle.rip_check.specs.Captured.{metric_at}
 
 same : (a : ℕ) → (a == a) ≡ true
 same a = eq-eqb a a refl
@@ -83,14 +85,14 @@ is_direct_gives n r p m ok =
 
 -- ---- offers
 
-abbrev offer : Showing → ℕ → ℕ → ℕ → ℕ
-offer shown c j p = min 16 (c + unwrap_or (shown.cell j p) 16)
+abbrev offer : State → ℕ → ℕ → ℕ → ℕ
+offer shown c j p = min 16 (c + unwrap_or (metric_at shown j p) 16)
 
-abbrev each_offer : Network → Showing → ℕ → ℕ → (ℕ → Bool) → Bool
+abbrev each_offer : Network → State → ℕ → ℕ → (ℕ → Bool) → Bool
 each_offer n shown r p test =
     each (λ i x. when (x.router == r) (each (λ j y. when ((y.link == x.link) && not (y.router == r)) (test (offer shown x.cost j p))) n.interfaces)) n.interfaces
 
-each_offer_gives : (n : Network) (shown : Showing) (r p : ℕ) (test : ℕ → Bool) → each_offer n shown r p test ≡ true → (l s v : ℕ) → Offers n shown r l s p v → test v ≡ true
+each_offer_gives : (n : Network) (shown : State) (r p : ℕ) (test : ℕ → Bool) → each_offer n shown r p test ≡ true → (l s v : ℕ) → Offers n shown r l s p v → test v ≡ true
 each_offer_gives n shown r p test ok l s v o =
     let here = when_gives (r == r) _
     (each_gives (λ i x. when (x.router == r) (each (λ j y. when ((y.link == x.link) && not (y.router == r)) (test (offer shown x.cost j p))) n.interfaces)) n.interfaces ok o.here.0 _ o.here.1.listed)
@@ -100,11 +102,11 @@ each_offer_gives n shown r p test ok l s v o =
     (and_from _ _ (same l) (not_from_false _ (ne_eqb s r o.neighbour.other))) in
     rw o.value there
 
-abbrev some_offer : Network → Showing → ℕ → ℕ → ℕ → ℕ → Bool
+abbrev some_offer : Network → State → ℕ → ℕ → ℕ → ℕ → Bool
 some_offer n shown r l p m =
     some (λ i x. ((x.router == r) && (x.link == l)) && some (λ j y. ((y.link == l) && not (y.router == r)) && (offer shown x.cost j p == m)) n.interfaces) n.interfaces
 
-some_offer_gives : (n : Network) (shown : Showing) (r l p m : ℕ) → some_offer n shown r l p m ≡ true → (s : ℕ) × Offers n shown r l s p m
+some_offer_gives : (n : Network) (shown : State) (r l p m : ℕ) → some_offer n shown r l p m ≡ true → (s : ℕ) × Offers n shown r l s p m
 some_offer_gives n shown r l p m ok =
     let h = some_gives (λ i x. ((x.router == r) && (x.link == l)) && some (λ j y. ((y.link == l) && not (y.router == r)) && (offer shown x.cost j p == m)) n.interfaces) n.interfaces ok in
     let parts = and_parts _ _ h.3 in
@@ -128,10 +130,10 @@ some_offer_gives n shown r l p m ok =
 
 -- ---- places that hold
 
-abbrev is_least : Network → Showing → ℕ → ℕ → ℕ → Bool
+abbrev is_least : Network → State → ℕ → ℕ → ℕ → Bool
 is_least n shown r p m = nat_le m 16 && (each_direct n r p (nat_le m) && each_offer n shown r p (nat_le m))
 
-is_least_gives : (n : Network) (shown : Showing) (r p m : ℕ) → is_least n shown r p m ≡ true → (v : ℕ) → IsChoice n shown r p v → m ≤ v
+is_least_gives : (n : Network) (shown : State) (r p m : ℕ) → is_least n shown r p m ≡ true → (v : ℕ) → IsChoice n shown r p v → m ≤ v
 is_least_gives n shown r p m ok v choice =
     let h = and_parts _ _ ok in
     let g = and_parts (each_direct n r p (nat_le m)) (each_offer n shown r p (nat_le m)) h.1 in
@@ -142,30 +144,30 @@ is_least_gives n shown r p m ok v choice =
     go (inr (inl d)) most direct offers = direct d
     go (inr (inr o)) most direct offers = offers o.0 o.1 o.2
 
-abbrev is_given : Network → Showing → ℕ → ℕ → ℕ → Way → Bool
+abbrev is_given : Network → State → ℕ → ℕ → ℕ → Way → Bool
 is_given n shown r p m Unreachable = m == 16
 is_given n shown r p m Here = is_direct n r p m
 is_given n shown r p m (Over l) = some_offer n shown r l p m
 
-is_given_gives : (n : Network) (shown : Showing) (r p m : ℕ) (w : Way) → is_given n shown r p m w ≡ true → IsChoice n shown r p m × IsGiven n shown r p m w
+is_given_gives : (n : Network) (shown : State) (r p m : ℕ) (w : Way) → is_given n shown r p m w ≡ true → IsChoice n shown r p m × IsGiven n shown r p m w
 is_given_gives n shown r p m Unreachable ok = (inl (eqb-true m 16 ok), tt)
 is_given_gives n shown r p m Here ok = let d = is_direct_gives n r p m ok in (inr (inl d), d)
 is_given_gives n shown r p m (Over l) ok = let o = some_offer_gives n shown r l p m ok in (inr (inr (l, o.0, o.1)), o)
 
-abbrev pub holds_at : Network → Showing → ℕ → ℕ → Route → Bool
+abbrev pub holds_at : Network → State → ℕ → ℕ → Route → Bool
 holds_at n shown r p t = is_least n shown r p t.metric && is_given n shown r p t.metric t.way
 
-pub holds_gives : (n : Network) (shown : Showing) (r p : ℕ) (t : Route) → holds_at n shown r p t ≡ true → Holds n shown r p t
+pub holds_gives : (n : Network) (shown : State) (r p : ℕ) (t : Route) → holds_at n shown r p t ≡ true → Holds n shown r p t
 holds_gives n shown r p t ok =
     let h = and_parts (is_least n shown r p t.metric) (is_given n shown r p t.metric t.way) ok in
     let given = is_given_gives n shown r p t.metric t.way h.1 in
     record { chosen = given.0; least = is_least_gives n shown r p t.metric h.0; given = given.1 }
 
 -- no choice is this metric
-abbrev pub is_no_choice : Network → Showing → ℕ → ℕ → ℕ → Bool
+abbrev pub is_no_choice : Network → State → ℕ → ℕ → ℕ → Bool
 is_no_choice n shown r p m = not (m == 16) && (each_direct n r p (λ v. not (v == m)) && each_offer n shown r p (λ v. not (v == m)))
 
-pub no_choice : (n : Network) (shown : Showing) (r p m : ℕ) → is_no_choice n shown r p m ≡ true → IsChoice n shown r p m → ⊥
+pub no_choice : (n : Network) (shown : State) (r p m : ℕ) → is_no_choice n shown r p m ≡ true → IsChoice n shown r p m → ⊥
 no_choice n shown r p m ok choice =
     let h = and_parts _ _ ok in
     let g = and_parts (each_direct n r p (λ v. not (v == m))) (each_offer n shown r p (λ v. not (v == m))) h.1 in
@@ -259,15 +261,15 @@ fits_way_gives n r p m (Over l) ok =
     (leb-true 1 m metric.0, ltb-true m 16 metric.1, (f.1.cost, (f.0, its)), not_carried n l p g.1)
 
 -- what a leaf learned over link l, where it shows 16 there
-abbrev is_learned_way : Network → Showing → ℕ → ℕ → ℕ → ℕ → Way → Bool
+abbrev is_learned_way : Network → State → ℕ → ℕ → ℕ → ℕ → Way → Bool
 is_learned_way n shown r l p m Unreachable = m == 16
 is_learned_way n shown r l p m Here = false
 is_learned_way n shown r l p m (Over k) = (k == l) && (nat_lt m 16 && some_offer n shown r l p m)
 
-abbrev is_learned : Network → Showing → ℕ → ℕ → ℕ → Route → Bool
+abbrev is_learned : Network → State → ℕ → ℕ → ℕ → Route → Bool
 is_learned n shown r l p t = (nat_le t.metric 16 && each_offer n shown r p (nat_le t.metric)) && is_learned_way n shown r l p t.metric t.way
 
-learned_way_gives : (n : Network) (shown : Showing) (r l p m : ℕ) (w : Way) → is_learned_way n shown r l p m w ≡ true →
+learned_way_gives : (n : Network) (shown : State) (r l p m : ℕ) (w : Way) → is_learned_way n shown r l p m w ≡ true →
     ((m ≡ 16) ⊎ ((k s : ℕ) × Offers n shown r k s p m)) × (m < 16 → w ≡ Over l) × (m ≡ 16 → w ≡ Unreachable)
 learned_way_gives n shown r l p m Unreachable ok = let e = eqb-true m 16 ok in (inl e, λ small. absurd (omega (arith, e, small)), λ is. refl)
 learned_way_gives n shown r l p m Here ok = cc ok
@@ -278,7 +280,7 @@ learned_way_gives n shown r l p m (Over k) ok =
     let small = ltb-true m 16 g.0 in
     (inr (l, o.0, o.1), λ _. ap Over (eqb-true k l h.0), λ is. absurd (omega (arith, is, small)))
 
-is_learned_gives : (n : Network) (shown : Showing) (r l p : ℕ) (t : Route) → is_learned n shown r l p t ≡ true →
+is_learned_gives : (n : Network) (shown : State) (r l p : ℕ) (t : Route) → is_learned n shown r l p t ≡ true →
     IsLeastOffer n shown r p t.metric × (t.metric < 16 → t.way ≡ Over l) × (t.metric ≡ 16 → t.way ≡ Unreachable)
 is_learned_gives n shown r l p t ok =
     let h = and_parts _ (is_learned_way n shown r l p t.metric t.way) ok in
@@ -296,20 +298,20 @@ is_here_gives Unreachable ok = cc ok
 is_here_gives Here ok = refl
 is_here_gives (Over l) ok = cc ok
 
-abbrev fits_hidden : Network → Showing → ℕ → ℕ → ℕ → ℕ → Route → Bool
+abbrev fits_hidden : Network → State → ℕ → ℕ → ℕ → ℕ → Route → Bool
 fits_hidden n shown r i l p t =
-    when (carries n l p && is_silent (shown.cell i p)) (is_here t.way && is_direct n r p t.metric)
-    && when (not (carries n l p) && is_shown (shown.cell i p) 16) (is_learned n shown r l p t)
+    when (carries n l p && is_silent (metric_at shown i p)) (is_here t.way && is_direct n r p t.metric)
+    && when (not (carries n l p) && is_shown (metric_at shown i p) 16) (is_learned n shown r l p t)
 
-fits_hidden_gives : (n : Network) (shown : Showing) (r i l p : ℕ) (t : Route) → fits_hidden n shown r i l p t ≡ true → IsHiddenRoute n shown r i l p t
+fits_hidden_gives : (n : Network) (shown : State) (r i l p : ℕ) (t : Route) → fits_hidden n shown r i l p t ≡ true → IsHiddenRoute n shown r i l p t
 fits_hidden_gives n shown r i l p t ok =
-    let h = and_parts (when (carries n l p && is_silent (shown.cell i p)) (is_here t.way && is_direct n r p t.metric)) _ ok in
+    let h = and_parts (when (carries n l p && is_silent (metric_at shown i p)) (is_here t.way && is_direct n r p t.metric)) _ ok in
     record {
       carried = λ on silent.
           let g = and_parts (is_here t.way) (is_direct n r p t.metric) (when_gives _ _ h.0 (and_from _ _ (carries_holds n l p on) (is_silent_holds _ silent))) in
           (is_here_gives t.way g.0, is_direct_gives n r p t.metric g.1);
       learned = λ off sixteen.
-          is_learned_gives n shown r l p t (when_gives (not (carries n l p) && is_shown (shown.cell i p) 16) (is_learned n shown r l p t) h.1
+          is_learned_gives n shown r l p t (when_gives (not (carries n l p) && is_shown (metric_at shown i p) 16) (is_learned n shown r l p t) h.1
           (and_from _ _ (not_from_false _ (unless (carries n l p) (λ on. off (carries_gives n l p on)))) (is_shown_holds _ 16 sixteen)));
     }
   where
@@ -317,26 +319,28 @@ fits_hidden_gives n shown r i l p t ok =
     unless true h = absurd (h refl)
     unless false h = refl
 
-abbrev is_told : Network → Showing → ℕ → ℕ → Route → Bool
-is_told n shown r p t = each (λ i x. when (x.router == r) (may_show n x.link p t.metric t.way (shown.cell i p))) n.interfaces
+abbrev is_told : Network → State → ℕ → ℕ → Route → Bool
+is_told n shown r p t = each (λ i x. when (x.router == r) (may_show n x.link p t.metric t.way (metric_at shown i p))) n.interfaces
 
 -- the interface is not the only one, or the route is what is hidden there
-abbrev is_alone_fit : Network → Showing → ℕ → ℕ → Route → Bool
+abbrev is_alone_fit : Network → State → ℕ → ℕ → Route → Bool
 is_alone_fit n shown r p t =
     each (λ i x. when (x.router == r) (some (λ j y. (y.router == r) && not (j == i)) n.interfaces || fits_hidden n shown r i x.link p t)) n.interfaces
 
-abbrev pub fits_at : Network → Showing → ℕ → ℕ → Route → Bool
+abbrev pub fits_at : Network → State → ℕ → ℕ → Route → Bool
 fits_at n shown r p t = (fits_way n r p t.metric t.way && is_told n shown r p t) && is_alone_fit n shown r p t
 
-pub fits_gives : (n : Network) (shown : Showing) (r p : ℕ) (t : Route) → fits_at n shown r p t ≡ true → Fits n shown r p t
+pub fits_gives : (n : Network) (shown : State) (r p : ℕ) (t : Route) → fits_at n shown r p t ≡ true → FitsShown n shown r p t
 fits_gives n shown r p t ok =
     let h = and_parts _ (is_alone_fit n shown r p t) ok in
     let g = and_parts (fits_way n r p t.metric t.way) (is_told n shown r p t) h.0 in
     record {
-      way_fits = fits_way_gives n r p t.metric t.way g.0;
-      as_told = λ i l c its.
-          may_show_gives n l p t.metric t.way (shown.cell i p)
-          (when_gives (r == r) _ (each_gives (λ i x. when (x.router == r) (may_show n x.link p t.metric t.way (shown.cell i p))) n.interfaces g.1 i _ its.listed) (same r));
+      told = record {
+        way_fits = fits_way_gives n r p t.metric t.way g.0;
+        as_told = λ i l c its.
+            may_show_gives n l p t.metric t.way (metric_at shown i p)
+            (when_gives (r == r) _ (each_gives (λ i x. when (x.router == r) (may_show n x.link p t.metric t.way (metric_at shown i p))) n.interfaces g.1 i _ its.listed) (same r));
+      };
       hidden = λ i l c leaf.
           let a = when_gives (r == r) _
           (each_gives (λ i x. when (x.router == r) (some (λ j y. (y.router == r) && not (j == i)) n.interfaces || fits_hidden n shown r i x.link p t)) n.interfaces h.1 i _ leaf.has.listed)
@@ -353,21 +357,21 @@ fits_gives n shown r p t ok =
 
 -- ---- every place
 
-abbrev pub all_fit : Network → ℕ → Showing → Tables → Bool
-all_fit n count shown T = below (λ r. below (λ p. fits_at n shown r p (T r p)) count) (length n.routers)
+abbrev pub all_fit : Network → State → Tables → Bool
+all_fit n shown T = below (λ r. below (λ p. fits_at n shown r p (T r p)) (length shown.prefixes)) (length n.routers)
 
-pub shows : (n : Network) (count : ℕ) (shown : Showing) (T : Tables) → ((i : ℕ) → IsTrue (shown.is_heard i)) → all_fit n count shown T ≡ true → Shows n count shown T
-shows n count shown T heard ok = record {
+pub shows : (n : Network) (shown : State) (T : Tables) → ((i : ℕ) → IsTrue (shown.heard i)) → all_fit n shown T ≡ true → Shows n shown T
+shows n shown T heard ok = record {
   heard = λ i r l c its. heard i;
   fits = λ r p at known.
       fits_gives n shown r p (T r p)
-      (below_gives (λ p. fits_at n shown r p (T r p)) count (below_gives (λ r. below (λ p. fits_at n shown r p (T r p)) count) (length n.routers) ok r at) p known);
+      (below_gives (λ p. fits_at n shown r p (T r p)) (length shown.prefixes) (below_gives (λ r. below (λ p. fits_at n shown r p (T r p)) (length shown.prefixes)) (length n.routers) ok r at) p known);
 }
 
-abbrev pub all_hold : Network → ℕ → Showing → Tables → Bool
-all_hold n count shown T = below (λ r. below (λ p. holds_at n shown r p (T r p)) count) (length n.routers)
+abbrev pub all_hold : Network → State → Tables → Bool
+all_hold n shown T = below (λ r. below (λ p. holds_at n shown r p (T r p)) (length shown.prefixes)) (length n.routers)
 
-pub holds_all : (n : Network) (count : ℕ) (shown : Showing) (T : Tables) → all_hold n count shown T ≡ true → HoldsAll n count shown T
-holds_all n count shown T ok r p at known =
+pub holds_all : (n : Network) (shown : State) (T : Tables) → all_hold n shown T ≡ true → HoldsAll n shown T
+holds_all n shown T ok r p at known =
     holds_gives n shown r p (T r p)
-    (below_gives (λ p. holds_at n shown r p (T r p)) count (below_gives (λ r. below (λ p. holds_at n shown r p (T r p)) count) (length n.routers) ok r at) p known)
+    (below_gives (λ p. holds_at n shown r p (T r p)) (length shown.prefixes) (below_gives (λ r. below (λ p. holds_at n shown r p (T r p)) (length shown.prefixes)) (length n.routers) ok r at) p known)

@@ -5,12 +5,12 @@ use Rattle.std.proofs.lemmas.Option.{slice_get_within, same_Some}
 use Rattle.rip_plan.specs.declared.parts.Interface.{Interface}
 use Rattle.rip_plan.specs.Network.{Network}
 use Rattle.rip_plan.specs.Relations.{IsLawful, IsInterface, IsLeaf, Carries}
+use Rattle.rip_table.specs.State.{State}
 use Rattle.rip_check.specs.declared.way.Way.{Way}
 use Rattle.rip_check.specs.declared.way.Way.TheVariants.{Unreachable, Here, Over}
-use Rattle.rip_check.specs.Tables.{Showing, Route, Fits, FitsWay, MayShow, IsSilent, Offers, IsLeastOffer, IsHiddenRoute}
+use Rattle.rip_check.specs.Tables.{Route, FitsShown, FitsWay, MayShow, IsSilent, Offers, IsLeastOffer, IsHiddenRoute, Tells}
 use Rattle.rip_check.proofs.Reading.{carries_or_not}
-use Rattle.rip_check.specs.Captured.{IsInRange}
-use Rattle.rip_check.specs.Telling.{Tells}
+use Rattle.rip_check.specs.Captured.{IsInRange, metric_at}
 use Rattle.rip_check.specs.Verdicts.{IsHidden}
 use Rattle.rip_check.proofs.Across.{heard_from}
 use Rattle.rip_check.proofs.Owned.{its_link}
@@ -21,12 +21,12 @@ record IsAcross (own x : Interface) : Type 0 where
   pub other : x.router ≢ own.router
 
 -- v is no more than what any of the interfaces before the bound offers to own
-abbrev IsBelowOffers : List Interface → Showing → Interface → ℕ → ℕ → ℕ → Type 0
+abbrev IsBelowOffers : List Interface → State → Interface → ℕ → ℕ → ℕ → Type 0
 IsBelowOffers interfaces shown own p bound v =
     (j : ℕ) (x : Interface) → j < bound → slice_get interfaces j ≡ Some x → IsAcross own x → v ≤ heard_from shown own.cost j p
 
 -- v is what one of the interfaces offers to own
-record IsOfferAt (interfaces : List Interface) (shown : Showing) (own : Interface) (p v : ℕ) : Type 0 where
+record IsOfferAt (interfaces : List Interface) (shown : State) (own : Interface) (p v : ℕ) : Type 0 where
   pub number : ℕ
   pub its : Interface
   pub listed : slice_get interfaces number ≡ Some its
@@ -34,7 +34,7 @@ record IsOfferAt (interfaces : List Interface) (shown : Showing) (own : Interfac
   pub value : v ≡ heard_from shown own.cost number p
 
 -- the least of what is offered to one interface
-record LeastAt (xs : List Interface) (shown : Showing) (own : Interface) (p bound : ℕ) : Type 0 where
+record LeastAt (xs : List Interface) (shown : State) (own : Interface) (p bound : ℕ) : Type 0 where
   value : ℕ
   most : value ≤ 16
   below : IsBelowOffers xs shown own p bound value
@@ -50,7 +50,7 @@ across_or_not own x =
       | inr not ↦ inr (λ h. not h.link)
     ]
 
-module _ (xs : List Interface) (shown : Showing) (own : Interface) (p : ℕ) where
+module _ (xs : List Interface) (shown : State) (own : Interface) (p : ℕ) where
   one_more : (k v : ℕ) → IsBelowOffers xs shown own p k v → ((x : Interface) → slice_get xs k ≡ Some x → IsAcross own x → v ≤ heard_from shown own.cost k p) →
       IsBelowOffers xs shown own p (suc k) v
   one_more k v before here j x lt listed across =
@@ -86,7 +86,7 @@ module _ (xs : List Interface) (shown : Showing) (own : Interface) (p : ℕ) whe
                 absurd (not (rw same at a)))
           ]
 
-module _ (n : Network) (shown : Showing) (r i p : ℕ) (own : Interface) (mine : own.router ≡ r) (leaf : IsLeaf n r i own.link own.cost) where
+module _ (n : Network) (shown : State) (r i p : ℕ) (own : Interface) (mine : own.router ≡ r) (leaf : IsLeaf n r i own.link own.cost) where
   -- what is so of its interface is so of each
   pub only_one : (Q : ℕ → ℕ → Type 0) → Q i own.link → (j k d : ℕ) → IsInterface n j r k d → Q j k
   only_one Q q j k d at =
@@ -142,27 +142,29 @@ module _ (n : Network) (shown : Showing) (r i p : ℕ) (own : Interface) (mine :
           let o' : Offers n shown own.router own.link s p w = rw mine (rw e' at o) in
           below s w o'
 
-  made : (t : Route) → FitsWay n r p t.metric t.way → MayShow n own.link p t.metric t.way (shown.cell i p) → IsHiddenRoute n shown r i own.link p t → Fits n shown r p t
+  made : (t : Route) → FitsWay n r p t.metric t.way → MayShow n own.link p t.metric t.way (metric_at shown i p) → IsHiddenRoute n shown r i own.link p t → FitsShown n shown r p t
   made t way told hidden =
       record {
-        way_fits = way;
-        as_told = only_one (λ j k. MayShow n k p t.metric t.way (shown.cell j p)) told;
+        told = record {
+          way_fits = way;
+          as_told = only_one (λ j k. MayShow n k p t.metric t.way (metric_at shown j p)) told;
+        };
         hidden = λ j k d other. only_one (λ x y. IsHiddenRoute n shown r x y p t) hidden j k d other.has;
       }
 
-  not_small : (m : ℕ) → m < 16 → shown.cell i p ≡ Some m → IsSilent (shown.cell i p) → ⊥
+  not_small : (m : ℕ) → m < 16 → metric_at shown i p ≡ Some m → IsSilent (metric_at shown i p) → ⊥
   not_small m less e (inl none) = cc (e, none)
   not_small m less e (inr big) =
       let is : m ≡ 16 = same_Some m 16 (sym e ∙ big) in
       omega (arith, less, is)
 
   -- it shows a metric below 16
-  pub low_fits : (m : ℕ) → 1 ≤ m → m < 16 → shown.cell i p ≡ Some m → Fits n shown r p (record { metric = m; way = Here })
+  pub low_fits : (m : ℕ) → 1 ≤ m → m < 16 → metric_at shown i p ≡ Some m → FitsShown n shown r p (record { metric = m; way = Here })
   low_fits m one less e = made (record { metric = m; way = Here }) (one, less) (inl e)
       (record { carried = λ on silent. absurd (not_small m less e silent); learned = λ off is. absurd (not_small m less e (inr is)) })
 
   -- it has the prefix on its link
-  pub here_fits : IsLawful n → IsSilent (shown.cell i p) → Carries n own.link p → Fits n shown r p (record { metric = own.cost; way = Here })
+  pub here_fits : IsLawful n → IsSilent (metric_at shown i p) → Carries n own.link p → FitsShown n shown r p (record { metric = own.cost; way = Here })
   here_fits plan silent carried =
       let least_cost = plan.cost_least i r own.link own.cost leaf.has in
       let most_cost = plan.cost_most i r own.link own.cost leaf.has in
@@ -170,14 +172,14 @@ module _ (n : Network) (shown : Showing) (r i p : ℕ) (own : Interface) (mine :
       (record { carried = λ on is. (refl, (carried.0, inl (own.link, carried.1, (i, leaf.has)))); learned = λ off is. absurd (off carried) })
 
   -- it shows nothing, or 16 where no offer is below 16
-  pub nowhere_fits : IsSilent (shown.cell i p) → (Carries n own.link p → ⊥) → (shown.cell i p ≡ Some 16 → IsLeastOffer n shown r p 16) →
-      Fits n shown r p (record { metric = 16; way = Unreachable })
+  pub nowhere_fits : IsSilent (metric_at shown i p) → (Carries n own.link p → ⊥) → (metric_at shown i p ≡ Some 16 → IsLeastOffer n shown r p 16) →
+      FitsShown n shown r p (record { metric = 16; way = Unreachable })
   nowhere_fits silent off least = made (record { metric = 16; way = Unreachable }) refl silent
       (record { carried = λ on is. absurd (off on); learned = λ off' is. (least is, λ lt. absurd (omega (arith, lt)), λ is'. refl) })
 
   -- it shows 16, and the least offer is below that
-  pub over_fits : IsLawful n → shown.cell i p ≡ Some 16 → (Carries n own.link p → ⊥) → (h : ℕ) → IsLeastOffer n shown r p h → h < 16 →
-      Fits n shown r p (record { metric = h; way = Over own.link })
+  pub over_fits : IsLawful n → metric_at shown i p ≡ Some 16 → (Carries n own.link p → ⊥) → (h : ℕ) → IsLeastOffer n shown r p h → h < 16 →
+      FitsShown n shown r p (record { metric = h; way = Over own.link })
   over_fits plan e off h so less =
       made (record { metric = h; way = Over own.link }) (at_least so.reached, less, (own.cost, (i, leaf.has)), off) (inl (refl, e))
       (record { carried = λ on is. absurd (off on); learned = λ off' is. (so, λ lt. refl, λ is'. absurd (omega (arith, less, is'))) })
@@ -189,8 +191,8 @@ module _ (n : Network) (shown : Showing) (r i p : ℕ) (own : Interface) (mine :
           let one = plan.cost_least offer.here.0 r o.0 offer.cost offer.here.1 in
           omega (arith, offer.value, one)
 
-  a_route : IsLawful n → IsInRange n shown → (t : Route) × Fits n shown r p t
-  a_route plan range = go (shown.cell i p) refl (carries_or_not n own.link p)
+  a_route : IsLawful n → IsInRange n shown → (t : Route) × FitsShown n shown r p t
+  a_route plan range = go (metric_at shown i p) refl (carries_or_not n own.link p)
     where
       so : LeastAt n.interfaces shown own p (length n.interfaces)
       so = least_at n.interfaces shown own p (length n.interfaces)
@@ -198,7 +200,7 @@ module _ (n : Network) (shown : Showing) (r i p : ℕ) (own : Interface) (mine :
       least : IsLeastOffer n shown r p so.value
       least = is_least so.value so.most so.below so.reached
 
-      go : (x : Option ℕ) → shown.cell i p ≡ x → Carries n own.link p ⊎ (Carries n own.link p → ⊥) → (t : Route) × Fits n shown r p t
+      go : (x : Option ℕ) → metric_at shown i p ≡ x → Carries n own.link p ⊎ (Carries n own.link p → ⊥) → (t : Route) × FitsShown n shown r p t
       go None e (inl carried) = (record { metric = own.cost; way = Here }, here_fits plan (inl e) carried)
       go None e (inr off) = (record { metric = 16; way = Unreachable }, nowhere_fits (inl e) off (λ is. cc (e, is)))
       go (Some m) e carries =
@@ -206,7 +208,7 @@ module _ (n : Network) (shown : Showing) (r i p : ℕ) (own : Interface) (mine :
             | inl less ↦ (record { metric = m; way = Here }, low_fits m (range i r own.link own.cost p m leaf.has e).0 less e)
             | inr more ↦
                 let is : m ≡ 16 = omega (arith, more, (range i r own.link own.cost p m leaf.has e).1) in
-                let e' : shown.cell i p ≡ Some 16 = e ∙ ap Some is in
+                let e' : metric_at shown i p ≡ Some 16 = e ∙ ap Some is in
                 elim carries [
                   | inl carried ↦ (record { metric = own.cost; way = Here }, here_fits plan (inr e') carried)
                   | inr off ↦ elim (cases_lt so.value 16) [
@@ -219,17 +221,17 @@ module _ (n : Network) (shown : Showing) (r i p : ℕ) (own : Interface) (mine :
           ]
 
   -- hidden is told from its interface
-  pub hidden_at : IsHidden n shown r p → (Carries n own.link p × IsSilent (shown.cell i p)) ⊎ ((Carries n own.link p → ⊥) × (shown.cell i p ≡ Some 16))
+  pub hidden_at : IsHidden n shown r p → (Carries n own.link p × IsSilent (metric_at shown i p)) ⊎ ((Carries n own.link p → ⊥) × (metric_at shown i p ≡ Some 16))
   hidden_at h =
       let e : h.0 ≡ i = leaf.only h.0 h.1 h.2 h.3.has in
       let at : IsInterface n i r h.1 h.2 = rw e at h.3.has in
       let e' : h.1 ≡ own.link = (its_link n i r h.1 h.2 r own.link own.cost at leaf.has).1 in
       rw e' at (rw e at h.4)
 
-  pub low_shows : (m : ℕ) → m < 16 → shown.cell i p ≡ Some m → IsHidden n shown r p → ⊥
+  pub low_shows : (m : ℕ) → m < 16 → metric_at shown i p ≡ Some m → IsHidden n shown r p → ⊥
   low_shows m less e h = elim (hidden_at h) [ inl x ↦ not_small m less e x.1 | inr x ↦ not_small m less e (inr x.1) ]
 
-  pub nowhere_shows : shown.cell i p ≡ None → (Carries n own.link p → ⊥) → IsHidden n shown r p → ⊥
+  pub nowhere_shows : metric_at shown i p ≡ None → (Carries n own.link p → ⊥) → IsHidden n shown r p → ⊥
   nowhere_shows e off h = elim (hidden_at h) [ inl x ↦ off x.0 | inr x ↦ cc (e, x.1) ]
 
   -- the same route
@@ -237,12 +239,12 @@ module _ (n : Network) (shown : Showing) (r i p : ℕ) (own : Interface) (mine :
   same_route t u e f = λ x. record { metric = e x; way = f x }
 
   -- where it shows its route, only that one fits
-  pub low_one : (m : ℕ) → m < 16 → shown.cell i p ≡ Some m → (u : Route) → Tells n shown r p u → u ≡ record { metric = m; way = Here }
+  pub low_one : (m : ℕ) → m < 16 → metric_at shown i p ≡ Some m → (u : Route) → Tells n shown r p u → u ≡ record { metric = m; way = Here }
   low_one m less e u tells =
       let both = go u.way tells.way_fits (tells.as_told i own.link own.cost leaf.has) in
       same_route u (record { metric = m; way = Here }) both.0 both.1
     where
-      go : (w : Way) → FitsWay n r p u.metric w → MayShow n own.link p u.metric w (shown.cell i p) → (u.metric ≡ m) × (w ≡ Here)
+      go : (w : Way) → FitsWay n r p u.metric w → MayShow n own.link p u.metric w (metric_at shown i p) → (u.metric ≡ m) × (w ≡ Here)
       go Unreachable f told = absurd (not_small m less e told)
       go Here f (inl is) = (same_Some u.metric m (sym is ∙ e), refl)
       go Here f (inr h) = absurd (not_small m less e h.1)
@@ -252,12 +254,12 @@ module _ (n : Network) (shown : Showing) (r i p : ℕ) (own : Interface) (mine :
           absurd (h.0 (only_one (λ x y. y ≡ own.link) refl on.1.0 k on.0 on.1.1))
 
   -- and where it shows nothing on a link that does not carry the prefix
-  pub nowhere_one : shown.cell i p ≡ None → (Carries n own.link p → ⊥) → (u : Route) → Tells n shown r p u → u ≡ record { metric = 16; way = Unreachable }
+  pub nowhere_one : metric_at shown i p ≡ None → (Carries n own.link p → ⊥) → (u : Route) → Tells n shown r p u → u ≡ record { metric = 16; way = Unreachable }
   nowhere_one e off u tells =
       let both = go u.way tells.way_fits (tells.as_told i own.link own.cost leaf.has) in
       same_route u (record { metric = 16; way = Unreachable }) both.0 both.1
     where
-      go : (w : Way) → FitsWay n r p u.metric w → MayShow n own.link p u.metric w (shown.cell i p) → (u.metric ≡ 16) × (w ≡ Unreachable)
+      go : (w : Way) → FitsWay n r p u.metric w → MayShow n own.link p u.metric w (metric_at shown i p) → (u.metric ≡ 16) × (w ≡ Unreachable)
       go Unreachable f told = (f, refl)
       go Here f (inl is) = cc (e, is)
       go Here f (inr h) = absurd (off h.0)
@@ -265,6 +267,6 @@ module _ (n : Network) (shown : Showing) (r i p : ℕ) (own : Interface) (mine :
       go (Over k) f (inr h) = cc (e, h.1)
 
 -- each leaf has a route that fits
-pub leaf_route : (n : Network) (shown : Showing) (r i l c p : ℕ) → IsLeaf n r i l c → IsLawful n → IsInRange n shown → (t : Route) × Fits n shown r p t
+pub leaf_route : (n : Network) (shown : State) (r i l c p : ℕ) → IsLeaf n r i l c → IsLawful n → IsInRange n shown → (t : Route) × FitsShown n shown r p t
 leaf_route n shown r i l c p leaf plan range =
     a_route n shown r i p (record { router = r; link = l; address = leaf.has.address; cost = c }) refl leaf plan range

@@ -4,10 +4,10 @@ use Rattle.std.proofs.lemmas.Option.{slice_get_within}
 use Rattle.rip_wire.specs.Prefix.{Block}
 use Rattle.rip_plan.specs.Network.{Network}
 use Rattle.rip_plan.specs.Relations.{IsLawful, IsDirect, Touches}
-use Rattle.rip_table.specs.State.{State, Fits, IsState}
-use Rattle.rip_check.specs.Captured.{IsInRange, showing_of}
+use Rattle.rip_table.specs.State.{Fits, IsState, State}
+use Rattle.rip_check.specs.Captured.{IsInRange}
 
-pub in_range : (n : Network) (s : State) → Fits n s → IsState s → IsInRange n (showing_of s)
+pub in_range : (n : Network) (s : State) → Fits n s → IsState s → IsInRange n s
 in_range n s fits is i r l c p m its shows = go (slice_get s.prefixes p) shows
   where
     go : (o : Option Block) → option_and_then (λ b. s.shows i b) o ≡ Some m → (1 ≤ m) × (m ≤ 16)

@@ -1,43 +1,45 @@
 -- No neighbour is a better way, though it may show 16.
-use Rattle.std.proofs.Common.{◌≡◌, ℕ, ◌+◌, ◌<◌, ◌≤◌, ◌⊎◌, inl, inr, min, unwrap_or, refl, ap, arith}
+use Rattle.std.proofs.Common.{◌≡◌, ℕ, ◌+◌, ◌<◌, ◌≤◌, ◌⊎◌, inl, inr, min, unwrap_or, refl, ap, arith, length}
 use Rattle.std.proofs.lemmas.Bool.{cases_eq}
 use Rattle.rip_plan.specs.Network.{Network}
 use Rattle.rip_plan.specs.Relations.{IsLawful, IsInterface, HasCost, IsNeighbour}
-use Rattle.rip_check.specs.Tables.{Tables, Showing, Shows, MayShow, FitsWay, Offers}
+use Rattle.rip_table.specs.State.{State}
+use Rattle.rip_check.specs.Tables.{Tables, Shows, MayShow, FitsWay, Offers}
 use Rattle.rip_check.specs.declared.way.Way.{Way}
 use Rattle.rip_check.specs.declared.way.Way.TheVariants.{Unreachable, Here, Over}
 use Rattle.rip_check.specs.Settled.{HoldsAll, IsGiven}
 use Rattle.rip_check.proofs.Shown.{some_is, metric_most, offer_below, known_on}
+use Rattle.rip_check.specs.Captured.{metric_at}
 
-module _ (n : Network) (count : ℕ) (shown : Showing) (T : Tables) (plan : IsLawful n) (shows : Shows n count shown T) (holds : HoldsAll n count shown T) where
-  -- the metric is at most what any neighbour's showing makes it
-  at_most_shown : (r l c s p j d : ℕ) → p < count → HasCost n r l c → IsNeighbour n r l s → IsInterface n j s l d →
-      (T r p).metric ≤ c + unwrap_or (shown.cell j p) 16
+module _ (n : Network) (shown : State) (T : Tables) (plan : IsLawful n) (shows : Shows n shown T) (holds : HoldsAll n shown T) where
+  -- the metric is at most what any neighbour shows makes it
+  at_most_shown : (r l c s p j d : ℕ) → p < length shown.prefixes → HasCost n r l c → IsNeighbour n r l s → IsInterface n j s l d →
+      (T r p).metric ≤ c + unwrap_or (metric_at shown j p) 16
   at_most_shown r l c s p j d known has near there =
-      let o : Offers n shown r l s p (min 16 (c + unwrap_or (shown.cell j p) 16)) =
+      let o : Offers n shown r l s p (min 16 (c + unwrap_or (metric_at shown j p) 16)) =
       record { neighbour = near; cost = c; here = has; interface = j; its_cost = d; there = there; value = refl } in
       let le = (holds r p (known_on n plan r l near.here) known).least _ (inr (inr (l, s, o))) in
       omega (arith, le)
 
   -- the same of its metric, whatever way it goes
-  poison_cases : (r l c s p j d : ℕ) → p < count → HasCost n r l c → IsNeighbour n r l s → IsInterface n j s l d →
-      (w : Way) → MayShow n l p (T s p).metric w (shown.cell j p) → FitsWay n s p (T s p).metric w → IsGiven n shown s p (T s p).metric w →
+  poison_cases : (r l c s p j d : ℕ) → p < length shown.prefixes → HasCost n r l c → IsNeighbour n r l s → IsInterface n j s l d →
+      (w : Way) → MayShow n l p (T s p).metric w (metric_at shown j p) → FitsWay n s p (T s p).metric w → IsGiven n shown s p (T s p).metric w →
       (T r p).metric ≤ c + (T s p).metric
   poison_cases r l c s p j d known has near there Unreachable told fits given =
-      let most = metric_most n r p (T r p).metric (T r p).way (shows.fits r p (known_on n plan r l near.here) known).way_fits in
+      let most = metric_most n r p (T r p).metric (T r p).way (shows.fits r p (known_on n plan r l near.here) known).told.way_fits in
       omega (arith, most, fits)
   poison_cases r l c s p j d known has near there Here (inl e) fits given =
-      omega (arith, at_most_shown r l c s p j d known has near there, some_is (shown.cell j p) _ e)
+      omega (arith, at_most_shown r l c s p j d known has near there, some_is (metric_at shown j p) _ e)
   poison_cases r l c s p j d known has near there Here (inr h) fits given =
       let le = (holds r p (known_on n plan r l near.here) known).least c (inr (inl (h.0.0, inl (l, h.0.1, has)))) in
       omega (arith, le)
   poison_cases r l c s p j d known has near there (Over k) (inr h) fits given =
-      omega (arith, at_most_shown r l c s p j d known has near there, some_is (shown.cell j p) _ h.1)
+      omega (arith, at_most_shown r l c s p j d known has near there, some_is (metric_at shown j p) _ h.1)
   poison_cases r l c s p j d known has near there (Over k) (inl h) fits given =
       -- s goes over this very link: to r itself, or to one that is r's neighbour too
       let t = given.0 in
       let o = given.1 in
-      let e : (T s p).metric ≡ o.cost + (T t p).metric = offer_below n count shown T plan shows s k t p (T s p).metric o known fits.1 in
+      let e : (T s p).metric ≡ o.cost + (T t p).metric = offer_below n shown T plan shows s k t p (T s p).metric o known fits.1 in
       let same : (t ≡ r) ⊎ (t ≡ r → ⊥) = cases_eq t r in
       elim same [
         | inl is ↦ omega (arith, e, ap (λ (x : ℕ). (T x p).metric) is)
@@ -47,9 +49,9 @@ module _ (n : Network) (count : ℕ) (shown : Showing) (T : Tables) (plan : IsLa
             omega (arith, at_most_shown r l c t p o.interface o.its_cost known has near_too there_too, o.value, fits.1)
       ]
 
-  pub poison : (r l c s p : ℕ) → p < count → HasCost n r l c → IsNeighbour n r l s → (T r p).metric ≤ c + (T s p).metric
+  pub poison : (r l c s p : ℕ) → p < length shown.prefixes → HasCost n r l c → IsNeighbour n r l s → (T r p).metric ≤ c + (T s p).metric
   poison r l c s p known has near =
       let on = near.there in
       let s_known = known_on n plan s l on in
       poison_cases r l c s p on.1.0 on.0 known has near on.1.1 (T s p).way
-      ((shows.fits s p s_known known).as_told on.1.0 l on.0 on.1.1) (shows.fits s p s_known known).way_fits (holds s p s_known known).given
+      ((shows.fits s p s_known known).told.as_told on.1.0 l on.0 on.1.1) (shows.fits s p s_known known).told.way_fits (holds s p s_known known).given

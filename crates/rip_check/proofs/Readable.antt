@@ -2,27 +2,27 @@
 use Rattle.std.proofs.Common.{◌≡◌, ℕ, ◌<◌, ◌⊎◌, inl, inr, None, sym, ◌∙◌, length}
 use Rattle.rip_plan.specs.Network.{Network}
 use Rattle.rip_plan.specs.Relations.{IsLawful, IsLeaf, HasTwoInterfaces}
-use Rattle.rip_check.specs.Tables.{Showing, Route, Fits, IsHeard}
+use Rattle.rip_table.specs.State.{State}
+use Rattle.rip_check.specs.Tables.{Route, FitsShown, IsHeard, Tells}
 use Rattle.rip_check.proofs.Reading.{one_route, two_or_leaf, tables_of}
-use Rattle.rip_check.specs.Telling.{Tells}
 use Rattle.rip_check.specs.Captured.{IsInRange}
 use Rattle.rip_check.specs.Firsts.{IsReadable, AreFine}
 use Rattle.rip_check.specs.Settled.{Holds}
-use Rattle.rip_check.specs.Verdicts.{IsSound, TablesShown}
+use Rattle.rip_check.specs.Verdicts.{IsSound, ShowsTables}
 use Rattle.rip_check.proofs.Leaves.{leaf_route}
 
 pub two_not_leaf : (n : Network) (r i l c : ℕ) → HasTwoInterfaces n r → IsLeaf n r i l c → ⊥
 two_not_leaf n r i l c two leaf = two.8 (leaf.only two.0 two.2 two.4 two.6 ∙ sym (leaf.only two.1 two.3 two.5 two.7))
 
-module _ (n : Network) (plan : IsLawful n) (shown : Showing) (range : IsInRange n shown) where
+module _ (n : Network) (plan : IsLawful n) (shown : State) (range : IsInRange n shown) where
   -- with two interfaces nothing is hidden
-  pub two_fits : (r p : ℕ) (t : Route) → HasTwoInterfaces n r → Tells n shown r p t → Fits n shown r p t
-  two_fits r p t two tells = record { way_fits = tells.way_fits; as_told = tells.as_told; hidden = λ i l c leaf. absurd (two_not_leaf n r i l c two leaf) }
+  pub two_fits : (r p : ℕ) (t : Route) → HasTwoInterfaces n r → Tells n shown r p t → FitsShown n shown r p t
+  two_fits r p t two tells = record { told = tells; hidden = λ i l c leaf. absurd (two_not_leaf n r i l c two leaf) }
 
-  pub fits_tells : (r p : ℕ) (t : Route) → Fits n shown r p t → Tells n shown r p t
-  fits_tells r p t fits = record { way_fits = fits.way_fits; as_told = fits.as_told }
+  pub fits_tells : (r p : ℕ) (t : Route) → FitsShown n shown r p t → Tells n shown r p t
+  fits_tells r p t fits = fits.told
 
-  pub fits_readable : (r p : ℕ) (t : Route) → r < length n.routers → Fits n shown r p t → IsReadable n shown r p
+  pub fits_readable : (r p : ℕ) (t : Route) → r < length n.routers → FitsShown n shown r p t → IsReadable n shown r p
   fits_readable r p t at fits =
       let has = plan.one_interface r at in
       let kind : HasTwoInterfaces n r ⊎ IsLeaf n r has.0 has.1 has.2 = two_or_leaf n r has.0 has.1 has.2 has.3 in
@@ -31,7 +31,7 @@ module _ (n : Network) (plan : IsLawful n) (shown : Showing) (range : IsInRange 
         | inr leaf ↦ inr (has.0, has.1, has.2, leaf)
       ]
 
-  pub readable_fits : (r p : ℕ) → r < length n.routers → IsReadable n shown r p → (t : Route) × Fits n shown r p t
+  pub readable_fits : (r p : ℕ) → r < length n.routers → IsReadable n shown r p → (t : Route) × FitsShown n shown r p t
   readable_fits r p at readable =
       let has = plan.one_interface r at in
       let kind : HasTwoInterfaces n r ⊎ IsLeaf n r has.0 has.1 has.2 = two_or_leaf n r has.0 has.1 has.2 has.3 in
@@ -43,24 +43,24 @@ module _ (n : Network) (plan : IsLawful n) (shown : Showing) (range : IsInRange 
         | inr leaf ↦ leaf_route n shown r has.0 has.1 has.2 p leaf plan range
       ]
 
-  pub tables_shown : (count : ℕ) → IsHeard n shown → AreFine n count None (IsReadable n shown) → TablesShown n count shown
-  tables_shown count heard fine =
-      let made = tables_of (length n.routers) count (λ r p t. Fits n shown r p t) (λ r p at known. readable_fits r p at (fine r p at known tt)) in
+  pub tables_shown : IsHeard n shown → AreFine n (length shown.prefixes) None (IsReadable n shown) → ShowsTables n shown
+  tables_shown heard fine =
+      let made = tables_of (length n.routers) (length shown.prefixes) (λ r p t. FitsShown n shown r p t) (λ r p at known. readable_fits r p at (fine r p at known tt)) in
       (made.0, record { heard = heard; fits = made.1 })
 
-  pub shown_readable : (count : ℕ) → TablesShown n count shown → AreFine n count None (IsReadable n shown)
-  shown_readable count h r p at known behind = fits_readable r p (h.0 r p) at (h.1.fits r p at known)
+  pub shown_readable : ShowsTables n shown → AreFine n (length shown.prefixes) None (IsReadable n shown)
+  shown_readable h r p at known behind = fits_readable r p (h.0 r p) at (h.1.fits r p at known)
 
   pub not_readable : (r p : ℕ) → HasTwoInterfaces n r → ((t : Route) → Tells n shown r p t → ⊥) → IsReadable n shown r p → ⊥
   not_readable r p two none (inl h) = none h.0 h.1
   not_readable r p two none (inr h) = two_not_leaf n r h.0 h.1 h.2 two h.3
 
   -- where the one route that fits holds, each does
-  pub one_sound : (r p : ℕ) (t : Route) → r < length n.routers → Fits n shown r p t → Holds n shown r p t → IsSound n shown r p
+  pub one_sound : (r p : ℕ) (t : Route) → r < length n.routers → FitsShown n shown r p t → Holds n shown r p t → IsSound n shown r p
   one_sound r p t at fits holds = λ u fits'.
       let e : t ≡ u = one_route n plan shown r p t u at fits fits' in
       rw e at holds
 
   -- and where it does not hold, not each does
-  pub one_fails : (r p : ℕ) (t : Route) → Fits n shown r p t → (Holds n shown r p t → ⊥) → IsSound n shown r p → ⊥
+  pub one_fails : (r p : ℕ) (t : Route) → FitsShown n shown r p t → (Holds n shown r p t → ⊥) → IsSound n shown r p → ⊥
   one_fails r p t fits fails sound = fails (sound t fits)

@@ -1,4 +1,4 @@
--- What a showing tells of the routes: never two sets of tables, and one set where each place has a route that fits.
+-- What is shown tells of the routes: never two sets of tables, and one set where each place has a route that fits.
 use Rattle.std.proofs.Common.{◌≡◌, ◌≢◌, ℕ, zero, suc, length, slice_get, ◌<◌, ◌≤◌, ◌⊎◌, inl, inr, Option, None, Some, unwrap_or, refl, sym, ◌∙◌, ap, arith}
 use Rattle.std.proofs.lemmas.Bool.{cases_lt, cases_eq}
 use Rattle.std.proofs.lemmas.Option.{slice_get_within}
@@ -8,10 +8,12 @@ use Rattle.rip_plan.specs.declared.parts.Seat.TheVariants.{Link, Own}
 use Rattle.rip_plan.specs.declared.parts.Place.{Place}
 use Rattle.rip_plan.specs.Network.{Network}
 use Rattle.rip_plan.specs.Relations.{IsLawful, IsInterface, IsLeaf, IsDirect, Touches, Carries, IsPlace}
-use Rattle.rip_check.specs.Tables.{Tables, Showing, Fits, Route, FitsWay, MayShow, IsSilent, IsLeastOffer}
+use Rattle.rip_table.specs.State.{State}
+use Rattle.rip_check.specs.Tables.{Tables, FitsShown, Route, FitsWay, MayShow, IsSilent, IsLeastOffer}
 use Rattle.rip_check.specs.declared.way.Way.{Way}
 use Rattle.rip_check.specs.declared.way.Way.TheVariants.{Unreachable, Here, Over}
 use Rattle.rip_check.proofs.Shown.{some_is, shown_below, metric_most}
+use Rattle.rip_check.specs.Captured.{metric_at}
 
 -- a place has one seat
 one_seat : (n : Network) (k p : ℕ) (s t : Seat) → IsPlace n k p s → IsPlace n k p t → s ≡ t
@@ -116,7 +118,7 @@ two_or_leaf n r i l c has =
           })
     ]
 
-module _ (n : Network) (plan : IsLawful n) (shown : Showing) where
+module _ (n : Network) (plan : IsLawful n) (shown : State) where
   -- two interfaces of a router are on two links
   links_differ : (i j r l k c d : ℕ) → IsInterface n i r l c → IsInterface n j r k d → i ≢ j → l ≢ k
   links_differ i j r l k c d a b not e =
@@ -134,8 +136,8 @@ module _ (n : Network) (plan : IsLawful n) (shown : Showing) where
 
   -- a route below 16 is shown by some interface
   pub speaks_case : (i j r l k c d p m : ℕ) (w : Way) → IsInterface n i r l c → IsInterface n j r k d → i ≢ j → FitsWay n r p m w → m < 16 →
-      MayShow n l p m w (shown.cell i p) → MayShow n k p m w (shown.cell j p) →
-      (x y z : ℕ) × IsInterface n x r y z × (shown.cell x p ≡ Some m)
+      MayShow n l p m w (metric_at shown i p) → MayShow n k p m w (metric_at shown j p) →
+      (x y z : ℕ) × IsInterface n x r y z × (metric_at shown x p ≡ Some m)
   speaks_case i j r l k c d p m Unreachable a b not fits small t u = absurd (omega (arith, fits, small))
   speaks_case i j r l k c d p m Here a b not fits small (inl e) u = (i, l, c, a, e)
   speaks_case i j r l k c d p m Here a b not fits small (inr h) (inl e) = (j, k, d, b, e)
@@ -145,25 +147,25 @@ module _ (n : Network) (plan : IsLawful n) (shown : Showing) where
   speaks_case i j r l k c d p m (Over o) a b not fits small (inl h) (inl g) =
       absurd (links_differ i j r l k c d a b not (cc (h.0, g.0)))
 
-  speaks : (r p : ℕ) (t : Route) → TwoInterfaces n r → Fits n shown r p t → t.metric < 16 →
-      (x y z : ℕ) × IsInterface n x r y z × (shown.cell x p ≡ Some t.metric)
+  speaks : (r p : ℕ) (t : Route) → TwoInterfaces n r → FitsShown n shown r p t → t.metric < 16 →
+      (x y z : ℕ) × IsInterface n x r y z × (metric_at shown x p ≡ Some t.metric)
   speaks r p t two fits small =
-      speaks_case two.0 two.1 r two.2 two.3 two.4 two.5 p t.metric t.way two.6 two.7 two.8 fits.way_fits small
-      (fits.as_told two.0 two.2 two.4 two.6) (fits.as_told two.1 two.3 two.5 two.7)
+      speaks_case two.0 two.1 r two.2 two.3 two.4 two.5 p t.metric t.way two.6 two.7 two.8 fits.told.way_fits small
+      (fits.told.as_told two.0 two.2 two.4 two.6) (fits.told.as_told two.1 two.3 two.5 two.7)
 
   -- so two routes that fit have one metric
-  metric_told : (r p : ℕ) (t u : Route) → TwoInterfaces n r → Fits n shown r p t → Fits n shown r p u → t.metric < 16 → t.metric ≡ u.metric
+  metric_told : (r p : ℕ) (t u : Route) → TwoInterfaces n r → FitsShown n shown r p t → FitsShown n shown r p u → t.metric < 16 → t.metric ≡ u.metric
   metric_told r p t u at ft fu small =
       let h = speaks r p t at ft small in
-      let e = some_is (shown.cell h.0 p) t.metric h.4 in
-      let less : unwrap_or (shown.cell h.0 p) 16 < 16 = omega (arith, e, small) in
-      let e' = shown_below n h.1 p u.metric u.way (shown.cell h.0 p) (fu.as_told h.0 h.1 h.2 h.3) less in
+      let e = some_is (metric_at shown h.0 p) t.metric h.4 in
+      let less : unwrap_or (metric_at shown h.0 p) 16 < 16 = omega (arith, e, small) in
+      let e' = shown_below n h.1 p u.metric u.way (metric_at shown h.0 p) (fu.told.as_told h.0 h.1 h.2 h.3) less in
       omega (arith, e, e')
 
-  same_metric : (r p : ℕ) (t u : Route) → TwoInterfaces n r → Fits n shown r p t → Fits n shown r p u → t.metric ≡ u.metric
+  same_metric : (r p : ℕ) (t u : Route) → TwoInterfaces n r → FitsShown n shown r p t → FitsShown n shown r p u → t.metric ≡ u.metric
   same_metric r p t u at ft fu =
-      let x = metric_most n r p t.metric t.way ft.way_fits in
-      let y = metric_most n r p u.metric u.way fu.way_fits in
+      let x = metric_most n r p t.metric t.way ft.told.way_fits in
+      let y = metric_most n r p u.metric u.way fu.told.way_fits in
       let split : (t.metric < 16) ⊎ (16 ≤ t.metric) = cases_lt t.metric 16 in
       let split' : (u.metric < 16) ⊎ (16 ≤ u.metric) = cases_lt u.metric 16 in
       elim split [
@@ -176,32 +178,32 @@ module _ (n : Network) (plan : IsLawful n) (shown : Showing) where
 
   -- a way over a link is told by the 16 there
   not_here : (r p m l : ℕ) → FitsWay n r p m (Over l) →
-      ((i k c : ℕ) → IsInterface n i r k c → MayShow n k p m (Over l) (shown.cell i p)) →
-      ((i k c : ℕ) → IsInterface n i r k c → MayShow n k p m Here (shown.cell i p)) → ⊥
+      ((i k c : ℕ) → IsInterface n i r k c → MayShow n k p m (Over l) (metric_at shown i p)) →
+      ((i k c : ℕ) → IsInterface n i r k c → MayShow n k p m Here (metric_at shown i p)) → ⊥
   not_here r p m l fits over here =
       let on = fits.2 in
       go (over on.1.0 l on.0 on.1.1) (here on.1.0 l on.0 on.1.1)
     where
-      go : MayShow n l p m (Over l) (shown.cell fits.2.1.0 p) → MayShow n l p m Here (shown.cell fits.2.1.0 p) → ⊥
+      go : MayShow n l p m (Over l) (metric_at shown fits.2.1.0 p) → MayShow n l p m Here (metric_at shown fits.2.1.0 p) → ⊥
       go (inr h) u = h.0 refl
       go (inl h) (inr g) = fits.3 g.0
-      go (inl h) (inl e) = omega (arith, fits.1, some_is (shown.cell fits.2.1.0 p) 16 h.1, some_is (shown.cell fits.2.1.0 p) m e)
+      go (inl h) (inl e) = omega (arith, fits.1, some_is (metric_at shown fits.2.1.0 p) 16 h.1, some_is (metric_at shown fits.2.1.0 p) m e)
 
   same_link : (r p m l k : ℕ) → FitsWay n r p m (Over l) →
-      ((i o c : ℕ) → IsInterface n i r o c → MayShow n o p m (Over l) (shown.cell i p)) →
-      ((i o c : ℕ) → IsInterface n i r o c → MayShow n o p m (Over k) (shown.cell i p)) → k ≡ l
+      ((i o c : ℕ) → IsInterface n i r o c → MayShow n o p m (Over l) (metric_at shown i p)) →
+      ((i o c : ℕ) → IsInterface n i r o c → MayShow n o p m (Over k) (metric_at shown i p)) → k ≡ l
   same_link r p m l k fits t u =
       let on = fits.2 in
       go (t on.1.0 l on.0 on.1.1) (u on.1.0 l on.0 on.1.1)
     where
-      go : MayShow n l p m (Over l) (shown.cell fits.2.1.0 p) → MayShow n l p m (Over k) (shown.cell fits.2.1.0 p) → k ≡ l
+      go : MayShow n l p m (Over l) (metric_at shown fits.2.1.0 p) → MayShow n l p m (Over k) (metric_at shown fits.2.1.0 p) → k ≡ l
       go (inr h) v = absurd (h.0 refl)
       go (inl h) (inl g) = g.0
-      go (inl h) (inr g) = absurd (omega (arith, fits.1, some_is (shown.cell fits.2.1.0 p) 16 h.1, some_is (shown.cell fits.2.1.0 p) m g.1))
+      go (inl h) (inr g) = absurd (omega (arith, fits.1, some_is (metric_at shown fits.2.1.0 p) 16 h.1, some_is (metric_at shown fits.2.1.0 p) m g.1))
 
   same_way : (r p m : ℕ) (w v : Way) → FitsWay n r p m w → FitsWay n r p m v →
-      ((i o c : ℕ) → IsInterface n i r o c → MayShow n o p m w (shown.cell i p)) →
-      ((i o c : ℕ) → IsInterface n i r o c → MayShow n o p m v (shown.cell i p)) → w ≡ v
+      ((i o c : ℕ) → IsInterface n i r o c → MayShow n o p m w (metric_at shown i p)) →
+      ((i o c : ℕ) → IsInterface n i r o c → MayShow n o p m v (metric_at shown i p)) → w ≡ v
   same_way r p m Unreachable Unreachable f g t u = refl
   same_way r p m Unreachable Here f g t u = absurd (omega (arith, f, g))
   same_way r p m Unreachable (Over l) f g t u = absurd (omega (arith, f, g))
@@ -213,11 +215,11 @@ module _ (n : Network) (plan : IsLawful n) (shown : Showing) where
   same_way r p m (Over l) (Over k) f g t u = ap Over (sym (same_link r p m l k f t u))
 
   -- routes of one metric that fit go one way
-  one_way : (r p : ℕ) (t u : Route) → t.metric ≡ u.metric → Fits n shown r p t → Fits n shown r p u → t ≡ u
+  one_way : (r p : ℕ) (t u : Route) → t.metric ≡ u.metric → FitsShown n shown r p t → FitsShown n shown r p u → t ≡ u
   one_way r p t u e ft fu =
-      let gu : FitsWay n r p t.metric u.way = rw e fu.way_fits in
-      let tu : (i o c : ℕ) → IsInterface n i r o c → MayShow n o p t.metric u.way (shown.cell i p) = rw e fu.as_told in
-      let e' = same_way r p t.metric t.way u.way ft.way_fits gu ft.as_told tu in
+      let gu : FitsWay n r p t.metric u.way = rw e fu.told.way_fits in
+      let tu : (i o c : ℕ) → IsInterface n i r o c → MayShow n o p t.metric u.way (metric_at shown i p) = rw e fu.told.as_told in
+      let e' = same_way r p t.metric t.way u.way ft.told.way_fits gu ft.told.as_told tu in
       λ i. record { metric = e i; way = e' i }
 
   -- a direct cost is one
@@ -265,36 +267,36 @@ module _ (n : Network) (plan : IsLawful n) (shown : Showing) where
       ]
 
   -- what a leaf shows, and whether its link carries the prefix, tell its metric
-  leaf_metric : (r i l c p : ℕ) (t u : Route) → IsLeaf n r i l c → Fits n shown r p t → Fits n shown r p u →
-      Carries n l p ⊎ (Carries n l p → ⊥) → IsSilent (shown.cell i p) → t.metric ≡ u.metric
+  leaf_metric : (r i l c p : ℕ) (t u : Route) → IsLeaf n r i l c → FitsShown n shown r p t → FitsShown n shown r p u →
+      Carries n l p ⊎ (Carries n l p → ⊥) → IsSilent (metric_at shown i p) → t.metric ≡ u.metric
   leaf_metric r i l c p t u leaf ft fu (inl on) silent =
       let a = (ft.hidden i l c leaf).carried on silent in
       let b = (fu.hidden i l c leaf).carried on silent in
       direct_once r p t.metric u.metric a.1 b.1
   leaf_metric r i l c p t u leaf ft fu (inr off) (inl is) =
-      let a = unreachable_from l p t.metric r t.way (shown.cell i p) ft.way_fits (ft.as_told i l c leaf.has) off is in
-      let b = unreachable_from l p u.metric r u.way (shown.cell i p) fu.way_fits (fu.as_told i l c leaf.has) off is in
+      let a = unreachable_from l p t.metric r t.way (metric_at shown i p) ft.told.way_fits (ft.told.as_told i l c leaf.has) off is in
+      let b = unreachable_from l p u.metric r u.way (metric_at shown i p) fu.told.way_fits (fu.told.as_told i l c leaf.has) off is in
       omega (arith, a, b)
   leaf_metric r i l c p t u leaf ft fu (inr off) (inr is) =
       let a = (ft.hidden i l c leaf).learned off is in
       let b = (fu.hidden i l c leaf).learned off is in
       omega (arith, least_below r p t.metric u.metric a.0 b.0, least_below r p u.metric t.metric b.0 a.0)
 
-  leaf_same : (r i l c p : ℕ) (t u : Route) → IsLeaf n r i l c → Fits n shown r p t → Fits n shown r p u → t.metric ≡ u.metric
+  leaf_same : (r i l c p : ℕ) (t u : Route) → IsLeaf n r i l c → FitsShown n shown r p t → FitsShown n shown r p u → t.metric ≡ u.metric
   leaf_same r i l c p t u leaf ft fu =
-      let x = shown.cell i p in
-      let told = ft.as_told i l c leaf.has in
+      let x = metric_at shown i p in
+      let told = ft.told.as_told i l c leaf.has in
       let split : (unwrap_or x 16 < 16) ⊎ (16 ≤ unwrap_or x 16) = cases_lt (unwrap_or x 16) 16 in
       elim split [
         | inl small ↦
             let a = shown_below n l p t.metric t.way x told small in
-            let b = shown_below n l p u.metric u.way x (fu.as_told i l c leaf.has) small in
+            let b = shown_below n l p u.metric u.way x (fu.told.as_told i l c leaf.has) small in
             omega (arith, a, b)
-        | inr big ↦ leaf_metric r i l c p t u leaf ft fu (carries_or_not n l p) (silent_from l p t.metric r t.way x ft.way_fits told big)
+        | inr big ↦ leaf_metric r i l c p t u leaf ft fu (carries_or_not n l p) (silent_from l p t.metric r t.way x ft.told.way_fits told big)
       ]
 
   -- no two routes fit what a router shows
-  pub one_route : (r p : ℕ) (t u : Route) → r < length n.routers → Fits n shown r p t → Fits n shown r p u → t ≡ u
+  pub one_route : (r p : ℕ) (t u : Route) → r < length n.routers → FitsShown n shown r p t → FitsShown n shown r p u → t ≡ u
   one_route r p t u at ft fu =
       let has = plan.one_interface r at in
       let kind : TwoInterfaces n r ⊎ IsLeaf n r has.0 has.1 has.2 = two_or_leaf n r has.0 has.1 has.2 has.3 in

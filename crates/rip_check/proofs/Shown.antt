@@ -1,10 +1,12 @@
--- What a showing tells of the metric that is behind it.
+-- What is shown tells of the metric that is behind it.
 use Rattle.std.proofs.Common.{◌≡◌, ℕ, ◌+◌, ◌<◌, ◌≤◌, inl, inr, Option, Some, unwrap_or, arith, length}
 use Rattle.rip_plan.specs.Network.{Network}
 use Rattle.rip_plan.specs.Relations.{IsLawful, IsOn}
-use Rattle.rip_check.specs.Tables.{Tables, Showing, Shows, MayShow, FitsWay, IsSilent, Offers}
+use Rattle.rip_table.specs.State.{State}
+use Rattle.rip_check.specs.Tables.{Tables, Shows, MayShow, FitsWay, IsSilent, Offers}
 use Rattle.rip_check.specs.declared.way.Way.{Way}
 use Rattle.rip_check.specs.declared.way.Way.TheVariants.{Unreachable, Here, Over}
+use Rattle.rip_check.specs.Captured.{metric_at}
 
 -- silence counts as 16
 pub silent_is_16 : (x : Option ℕ) → IsSilent x → unwrap_or x 16 ≡ 16
@@ -38,11 +40,11 @@ metric_least n r p m (Over l) h = omega arith
 pub known_on : (n : Network) → IsLawful n → (r l : ℕ) → IsOn n r l → r < length n.routers
 known_on n plan r l on = plan.router_known on.1.0 r l on.0 on.1.1
 
-module _ (n : Network) (count : ℕ) (shown : Showing) (T : Tables) (plan : IsLawful n) (shows : Shows n count shown T) where
+module _ (n : Network) (shown : State) (T : Tables) (plan : IsLawful n) (shows : Shows n shown T) where
   -- an offer below 16 is the cost to the neighbour and the neighbour's metric
-  pub offer_below : (r l s p v : ℕ) (o : Offers n shown r l s p v) → p < count → v < 16 → v ≡ o.cost + (T s p).metric
+  pub offer_below : (r l s p v : ℕ) (o : Offers n shown r l s p v) → p < length shown.prefixes → v < 16 → v ≡ o.cost + (T s p).metric
   offer_below r l s p v o known b =
-      let told = (shows.fits s p (known_on n plan s l o.neighbour.there) known).as_told o.interface l o.its_cost o.there in
-      let small : unwrap_or (shown.cell o.interface p) 16 < 16 = omega (arith, o.value) in
-      let e = shown_below n l p (T s p).metric (T s p).way (shown.cell o.interface p) told small in
+      let told = (shows.fits s p (known_on n plan s l o.neighbour.there) known).told.as_told o.interface l o.its_cost o.there in
+      let small : unwrap_or (metric_at shown o.interface p) 16 < 16 = omega (arith, o.value) in
+      let e = shown_below n l p (T s p).metric (T s p).way (metric_at shown o.interface p) told small in
       omega (arith, o.value, e)

@@ -6,12 +6,12 @@ use Rattle.std.proofs.lemmas.List.{get_or-set_other}
 use Rattle.std.proofs.lemmas.Grind.{get_or-set_at, common_steps}
 use Rattle.rip_plan.specs.Network.{Network}
 use Rattle.rip_plan.specs.Relations.{IsInterface}
-use Rattle.rip_check.specs.Tables.{Showing}
+use Rattle.rip_table.specs.State.{State}
 use Rattle.rip_check.specs.declared.links.TwoLeast.{TwoLeast}
 use Rattle.rip_check.specs.TwoLeasts.{IsSeen, IsTwoLeast}
 use Rattle.rip_check.proofs.Owned.{its_link}
 
-module _ (n : Network) (shown : Showing) (l p i : ℕ) where
+module _ (n : Network) (shown : State) (l p i : ℕ) where
   -- an interface before the next place is an earlier one, or the one here
   split : (Q : ℕ → ℕ → Type 0) → ((j s v : ℕ) → j < i → IsSeen n shown l p j s v → Q s v) → ((s v : ℕ) → IsSeen n shown l p i s v → Q s v) →
       (j s v : ℕ) → j < i + 1 → IsSeen n shown l p j s v → Q s v
@@ -113,7 +113,7 @@ after_write xs k l y two d lt e =
     ]
 
 -- past the last interface
-pub reached : (n : Network) (shown : Showing) (l p i : ℕ) (two : TwoLeast) → length n.interfaces ≤ i → IsTwoLeast n shown l p i two → IsTwoLeast n shown l p (length n.interfaces) two
+pub reached : (n : Network) (shown : State) (l p i : ℕ) (two : TwoLeast) → length n.interfaces ≤ i → IsTwoLeast n shown l p i two → IsTwoLeast n shown l p (length n.interfaces) two
 reached n shown l p i two past is =
     record {
       most = is.most;

@@ -4,11 +4,12 @@ use Rattle.std.proofs.lemmas.Bool.{cases_lt}
 use Rattle.std.proofs.lemmas.Option.{same_Some}
 use Rattle.rip_plan.specs.Network.{Network}
 use Rattle.rip_plan.specs.Relations.{IsLawful, IsInterface, HasTwoInterfaces}
+use Rattle.rip_table.specs.State.{State}
 use Rattle.rip_check.specs.declared.surveys.Survey.{Survey}
 use Rattle.rip_check.specs.declared.way.Way.TheVariants.{Unreachable, Here, Over}
-use Rattle.rip_check.specs.Captured.{IsInRange}
-use Rattle.rip_check.specs.Tables.{Showing, Route, IsSilent}
-use Rattle.rip_check.specs.Telling.{Tells, IsMute, IsSilentLink}
+use Rattle.rip_check.specs.Captured.{IsInRange, metric_at}
+use Rattle.rip_check.specs.Tables.{Route, IsSilent, Tells}
+use Rattle.rip_check.specs.Telling.{IsMute, IsSilentLink}
 use Rattle.rip_check.specs.Firsts.{IsShownBelow}
 use Rattle.rip_check.specs.Surveys.{IsSurvey}
 use Rattle.rip_check.proofs.Owned.{within}
@@ -16,7 +17,7 @@ use Rattle.rip_check.proofs.Rows.{metric_is, no_other}
 use Rattle.rip_check.proofs.Shown.{some_is, shown_below}
 use Rattle.rip_check.proofs.Surveying.{below_not_silent}
 
-module _ (n : Network) (shown : Showing) (r p : ℕ) (found : Survey) (is : IsSurvey n shown r p (length n.interfaces) found) where
+module _ (n : Network) (shown : State) (r p : ℕ) (found : Survey) (is : IsSurvey n shown r p (length n.interfaces) found) where
   pub mute : found.metric ≡ 16 → IsMute n shown r p
   mute e i l c its = is.speech.mute e i l c (within n i r l c its) its
 
@@ -30,16 +31,16 @@ module _ (n : Network) (shown : Showing) (r p : ℕ) (found : Survey) (is : IsSu
         let h = is.speech.two on in
         let e = metric_is n plan shown r p two t found.metric tells is.speech.most mute is.speech.spoken in
         let its = h.3.its in
-        let x = shown.cell h.1 p in
+        let x = metric_at shown h.1 p in
         let same = some_is x h.2 h.3.shows in
         let less : unwrap_or x 16 < 16 = omega (arith, same, h.3.below) in
         h.4 (omega (arith, e, same, shown_below n h.3.link p t.metric t.way x (tells.as_told h.1 h.3.link h.3.cost its) less))
 
     -- with one metric each interface is silent or shows it
-    cell_is : found.another ≡ false → (i l c : ℕ) → IsInterface n i r l c → IsSilent (shown.cell i p) ⊎ (shown.cell i p ≡ Some found.metric)
-    cell_is off i l c its = go (shown.cell i p) refl
+    cell_is : found.another ≡ false → (i l c : ℕ) → IsInterface n i r l c → IsSilent (metric_at shown i p) ⊎ (metric_at shown i p ≡ Some found.metric)
+    cell_is off i l c its = go (metric_at shown i p) refl
       where
-        go : (x : Option ℕ) → shown.cell i p ≡ x → IsSilent (shown.cell i p) ⊎ (shown.cell i p ≡ Some found.metric)
+        go : (x : Option ℕ) → metric_at shown i p ≡ x → IsSilent (metric_at shown i p) ⊎ (metric_at shown i p ≡ Some found.metric)
         go None e = inl (inl e)
         go (Some v) e =
             elim (cases_lt v 16) [
@@ -85,12 +86,12 @@ module _ (n : Network) (shown : Showing) (r p : ℕ) (found : Survey) (is : IsSu
           ];
         }
       where
-        other : IsSilentLink n shown r p l → (i k c : ℕ) → IsInterface n i r k c → shown.cell i p ≡ Some found.metric → l ≡ k → ⊥
+        other : IsSilentLink n shown r p l → (i k c : ℕ) → IsInterface n i r k c → metric_at shown i p ≡ Some found.metric → l ≡ k → ⊥
         other silent i k c its shows same =
             let its' : IsInterface n i r l c = rw same its in
             let number = plan.one_on_link i silent.0 r l c silent.1 its' silent.2 in
-            let quiet : IsSilent (shown.cell i p) = rw number silent.3 in
-            below_not_silent (shown.cell i p) found.metric shows (small some) quiet
+            let quiet : IsSilent (metric_at shown i p) = rw number silent.3 in
+            below_not_silent (metric_at shown i p) found.metric shows (small some) quiet
 
     -- where no route over the silent may show this, none fits
     pub no_way : (found.metric ≡ 16 → ⊥) → (l : ℕ) → found.silent ≡ Some l → found.blocked ≡ true → (t : Route) → Tells n shown r p t → ⊥

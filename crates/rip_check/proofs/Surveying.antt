@@ -4,20 +4,22 @@ use Rattle.std.proofs.lemmas.Bool.{cases_lt}
 use Rattle.std.proofs.lemmas.Option.{same_Some}
 use Rattle.rip_plan.specs.Network.{Network}
 use Rattle.rip_plan.specs.Relations.{IsLawful, IsInterface, Carries}
+use Rattle.rip_table.specs.State.{State}
 use Rattle.rip_check.specs.declared.way.Way.TheVariants.{Over}
-use Rattle.rip_check.specs.Tables.{Showing, IsSilent, MayShow, IsAsTold}
+use Rattle.rip_check.specs.Tables.{IsSilent, MayShow, IsAsTold}
 use Rattle.rip_check.specs.Telling.{}
 use Rattle.rip_check.specs.Firsts.{IsShownBelow}
 use Rattle.rip_check.specs.declared.surveys.Survey.{Survey}
 use Rattle.rip_check.specs.Surveys.{IsSpeech, IsSilence, IsSurvey}
 use Rattle.rip_check.proofs.Owned.{its_link}
 use Rattle.rip_check.proofs.Rows.{not_silent}
+use Rattle.rip_check.specs.Captured.{metric_at}
 
 -- what is shown below 16 is no silence
 pub below_not_silent : (x : Option ℕ) (v : ℕ) → x ≡ Some v → v < 16 → IsSilent x → ⊥
 below_not_silent x v e less = not_silent x v e (λ big. omega (arith, big, less))
 
-module _ (n : Network) (shown : Showing) (r p i l c : ℕ) (its : IsInterface n i r l c) where
+module _ (n : Network) (shown : State) (r p i l c : ℕ) (its : IsInterface n i r l c) where
   -- an interface before the next bound is an earlier one, or the one here
   split : (Q : ℕ → ℕ → Type 0) → ((j k d : ℕ) → j < i → IsInterface n j r k d → Q j k) → Q i l → (j k d : ℕ) → j < i + 1 → IsInterface n j r k d → Q j k
   split Q before here j k d lt at =
@@ -31,23 +33,23 @@ module _ (n : Network) (shown : Showing) (r p i l c : ℕ) (its : IsInterface n 
       ]
 
   -- the same of metrics below 16
-  split_below : (Q : ℕ → Type 0) → ((j v : ℕ) → j < i → IsShownBelow n shown r p j v → Q v) → ((v : ℕ) → shown.cell i p ≡ Some v → v < 16 → Q v) →
+  split_below : (Q : ℕ → Type 0) → ((j v : ℕ) → j < i → IsShownBelow n shown r p j v → Q v) → ((v : ℕ) → metric_at shown i p ≡ Some v → v < 16 → Q v) →
       (j v : ℕ) → j < i + 1 → IsShownBelow n shown r p j v → Q v
   split_below Q before here j v lt is =
       elim (cases_lt j i) [
         | inl less ↦ before j v less is
         | inr big ↦
             let e : j ≡ i = omega arith in
-            let shows : shown.cell i p ≡ Some v = rw e at is.shows in
+            let shows : metric_at shown i p ≡ Some v = rw e at is.shows in
             here v shows is.below
       ]
 
   -- ---- the interface shows a metric below 16
-  module _ (m : ℕ) (least : 1 ≤ m) (less : m < 16) (shows : shown.cell i p ≡ Some m) where
-    here_not_silent : IsSilent (shown.cell i p) → ⊥
-    here_not_silent = below_not_silent (shown.cell i p) m shows less
+  module _ (m : ℕ) (least : 1 ≤ m) (less : m < 16) (shows : metric_at shown i p ≡ Some m) where
+    here_not_silent : IsSilent (metric_at shown i p) → ⊥
+    here_not_silent = below_not_silent (metric_at shown i p) m shows less
 
-    same_here : (v : ℕ) → shown.cell i p ≡ Some v → v ≡ m
+    same_here : (v : ℕ) → metric_at shown i p ≡ Some v → v ≡ m
     same_here v e = same_Some v m (sym e ∙ shows)
 
     pub first_metric : (old : ℕ) (another : Bool) → old ≡ 16 → IsSpeech n shown r p i old another → IsSpeech n shown r p (i + 1) m another
@@ -58,7 +60,7 @@ module _ (n : Network) (shown : Showing) (r p i l c : ℕ) (its : IsInterface n 
           mute = λ e. absurd (omega (arith, e, less));
           two = λ t. absurd (omega (arith, (was.two t).0, none));
           one = λ t. split_below (λ v. v ≡ m)
-              (λ j v lt is. absurd (below_not_silent (shown.cell j p) v is.shows is.below (was.mute none j is.link is.cost lt is.its))) (λ v e small. same_here v e);
+              (λ j v lt is. absurd (below_not_silent (metric_at shown j p) v is.shows is.below (was.mute none j is.link is.cost lt is.its))) (λ v e small. same_here v e);
         }
 
     pub same_metric : (another : Bool) → IsSpeech n shown r p i m another → IsSpeech n shown r p (i + 1) m another
@@ -85,31 +87,31 @@ module _ (n : Network) (shown : Showing) (r p i l c : ℕ) (its : IsInterface n 
     no_silence silent blocked was =
         record {
           some = λ k e. let h = was.some k e in (h.0, h.1, omega (arith, h.2), h.3, h.4, h.5);
-          none = λ e. split (λ j k. IsSilent (shown.cell j p) → Carries n k p) (was.none e) (λ silent. absurd (here_not_silent silent));
+          none = λ e. split (λ j k. IsSilent (metric_at shown j p) → Carries n k p) (was.none e) (λ silent. absurd (here_not_silent silent));
           no_route = was.no_route;
-          alone = λ e. split (λ j k. IsSilent (shown.cell j p) → (silent ≡ Some k) × (shown.cell j p ≡ Some 16)) (was.alone e) (λ silent. absurd (here_not_silent silent));
+          alone = λ e. split (λ j k. IsSilent (metric_at shown j p) → (silent ≡ Some k) × (metric_at shown j p ≡ Some 16)) (was.alone e) (λ silent. absurd (here_not_silent silent));
         }
 
   -- ---- the interface is silent
-  module _ (silent : IsSilent (shown.cell i p)) where
+  module _ (silent : IsSilent (metric_at shown i p)) where
     pub no_speech : (metric : ℕ) (another : Bool) → IsSpeech n shown r p i metric another → IsSpeech n shown r p (i + 1) metric another
     no_speech metric another was =
         record {
           most = was.most;
           spoken = was.spoken;
-          mute = λ e. split (λ j k. IsSilent (shown.cell j p)) (was.mute e) silent;
+          mute = λ e. split (λ j k. IsSilent (metric_at shown j p)) (was.mute e) silent;
           two = was.two;
-          one = λ t. split_below (λ v. v ≡ metric) (was.one t) (λ v e small. absurd (below_not_silent (shown.cell i p) v e small silent));
+          one = λ t. split_below (λ v. v ≡ metric) (was.one t) (λ v e small. absurd (below_not_silent (metric_at shown i p) v e small silent));
         }
 
     -- what a route over a link may show here
-    over_here : (m k : ℕ) → m < 16 → MayShow n l p m (Over k) (shown.cell i p) → (k ≡ l) × (shown.cell i p ≡ Some 16)
+    over_here : (m k : ℕ) → m < 16 → MayShow n l p m (Over k) (metric_at shown i p) → (k ≡ l) × (metric_at shown i p ≡ Some 16)
     over_here m k less (inl h) = h
-    over_here m k less (inr h) = absurd (below_not_silent (shown.cell i p) m h.1 less silent)
+    over_here m k less (inr h) = absurd (below_not_silent (metric_at shown i p) m h.1 less silent)
 
     -- the first silent
     pub first_silent_link : (off : Carries n l p → ⊥) (blocked : Bool) → IsSilence n shown r p i None blocked →
-        (next : Bool) → (next ≡ true → (blocked ≡ true) ⊎ (shown.cell i p ≡ None)) → (next ≡ false → (blocked ≡ false) × (shown.cell i p ≡ Some 16)) →
+        (next : Bool) → (next ≡ true → (blocked ≡ true) ⊎ (metric_at shown i p ≡ None)) → (next ≡ false → (blocked ≡ false) × (metric_at shown i p ≡ Some 16)) →
         IsSilence n shown r p (i + 1) (Some l) next
     first_silent_link off blocked was next on off' =
         record {
@@ -120,7 +122,7 @@ module _ (n : Network) (shown : Showing) (r p i l c : ℕ) (its : IsInterface n 
           no_route = λ t m k less away silent told. no_route_here (on t) m k less away (is_gap k silent) told;
           alone = λ t.
               let h = off' t in
-              split (λ j k. IsSilent (shown.cell j p) → (Some l ≡ Some k) × (shown.cell j p ≡ Some 16))
+              split (λ j k. IsSilent (metric_at shown j p) → (Some l ≡ Some k) × (metric_at shown j p ≡ Some 16))
               (λ j k d lt at quiet. let none : None ≡ Some k = (was.alone h.0 j k d lt at quiet).0 in cc none) (λ quiet. (refl, h.1));
         }
       where
@@ -128,7 +130,7 @@ module _ (n : Network) (shown : Showing) (r p i l c : ℕ) (its : IsInterface n 
         is_gap k (inl e) = cc e
         is_gap k (inr e) = same_Some k l (sym e)
 
-        no_route_here : (blocked ≡ true) ⊎ (shown.cell i p ≡ None) → (m k : ℕ) → m < 16 → (Carries n k p → ⊥) → k ≡ l → IsAsTold n shown r p m (Over k) → ⊥
+        no_route_here : (blocked ≡ true) ⊎ (metric_at shown i p ≡ None) → (m k : ℕ) → m < 16 → (Carries n k p → ⊥) → k ≡ l → IsAsTold n shown r p m (Over k) → ⊥
         no_route_here (inl t) m k less away same told = was.no_route t m k less away (inl refl) told
         no_route_here (inr none) m k less away same told =
             let h = over_here m k less (told i l c its) in
@@ -139,7 +141,7 @@ module _ (n : Network) (shown : Showing) (r p i l c : ℕ) (its : IsInterface n 
     more_silence plan silent blocked was beside =
         record {
           some = λ k e. let h = was.some k e in (h.0, h.1, omega (arith, h.2), h.3, h.4, h.5);
-          none = λ e. split (λ j k. IsSilent (shown.cell j p) → Carries n k p) (was.none e) (λ quiet. carried beside e);
+          none = λ e. split (λ j k. IsSilent (metric_at shown j p) → Carries n k p) (was.none e) (λ quiet. carried beside e);
           no_route = λ t m k less away at told. away' beside m k less away at (over_here m k less (told i l c its)).0;
           alone = λ t. cc t;
         }
@@ -159,7 +161,7 @@ module _ (n : Network) (shown : Showing) (r p i l c : ℕ) (its : IsInterface n 
         away' (inl some) m k less away (inr is) same = let h = was.some k is in apart h.0 k h.1 h.2 h.3 same
 
 -- before the first interface, and up to the next one
-module _ (n : Network) (shown : Showing) (r p : ℕ) where
+module _ (n : Network) (shown : State) (r p : ℕ) where
   pub nothing_yet : IsSurvey n shown r p 0 (record { metric = 16; another = false; silent = None; blocked = false })
   nothing_yet =
       record {

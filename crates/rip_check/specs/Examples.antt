@@ -1,15 +1,16 @@
 -- Worked examples: small networks, what their routers show, and the tables that this shows.
-use Rattle.std.specs.Prelude.{ℕ, zero, suc, ◌+◌, ◌*◌, ◌/◌, ◌%◌, ◌==◌, nat_lt, min, true, if◌then◌else◌, List, [], ◌∷◌, ◌++◌, Option, None, Some, option_and_then, unwrap_or, slice_get, codes}
+use Rattle.std.specs.Prelude.{ℕ, zero, suc, ◌+◌, ◌*◌, ◌/◌, ◌%◌, ◌==◌, nat_lt, min, true, if◌then◌else◌, List, [], ◌∷◌, ◌++◌, Option, None, Some, option_and_then, unwrap_or, length, slice_get, slice_index_or, codes}
 use Rattle.rip_wire.specs.Prefix.{Block, block}
 use Rattle.rip_plan.specs.declared.parts.Interface.{Interface}
 use Rattle.rip_plan.specs.declared.parts.Seat.{Seat}
 use Rattle.rip_plan.specs.declared.parts.Seat.TheVariants.{Link, Own}
 use Rattle.rip_plan.specs.declared.parts.Place.{Place}
-use Rattle.rip_plan.specs.Network.{Network, each_below}
+use Rattle.rip_plan.specs.Network.{Network, each_below, number_of_prefix}
+use Rattle.rip_table.specs.State.{State}
 use Rattle.rip_check.specs.declared.way.Way.{Way}
 use Rattle.rip_check.specs.declared.way.Way.TheVariants.{Unreachable, Here, Over}
 use Rattle.rip_plan.specs.Relations.{IsLawful}
-use Rattle.rip_check.specs.Tables.{Tables, Showing, Route, Shows}
+use Rattle.rip_check.specs.Tables.{Tables, Route, Shows}
 use Rattle.rip_check.specs.Settled.{HoldsAll, AllRight}
 
 -- ---- How they are written
@@ -32,12 +33,15 @@ place p seat = record { prefix = p; seat = seat }
 abbrev pub route : ℕ → Way → Route
 route m w = record { metric = m; way = w }
 
--- what is shown, with a row of prefixes for each interface; every interface was heard
-abbrev pub showing : List (List (Option ℕ)) → Showing
-showing rows = record {
-  cell = λ i p. option_and_then
-      (λ row. option_and_then (λ shown. shown) (slice_get row p)) (slice_get rows i);
-  is_heard = λ i. true;
+-- what is shown of these prefixes, with a row of them for each interface; every interface was heard
+abbrev pub showing : List Block → List (List (Option ℕ)) → State
+showing prefixes rows = record {
+  interfaces = length rows;
+  prefixes = prefixes;
+  shows = λ i p. option_and_then
+      (λ row. option_and_then (λ k. slice_index_or row k None) (number_of_prefix p prefixes))
+      (slice_get rows i);
+  heard = λ i. true;
 }
 
 -- tables, with a row of prefixes for each router
@@ -48,21 +52,21 @@ tables rows r p =
 -- ---- What is said of them
 
 -- the plan keeps its laws, the log shows the tables, and every place holds: the tables are right
-pub record IsSettledNetwork (n : Network) (count : ℕ) (shown : Showing) (T : Tables) : Type 0 where
+pub record IsSettledNetwork (n : Network) (shown : State) (T : Tables) : Type 0 where
   pub lawful : IsLawful n
-  pub shows : Shows n count shown T
-  pub holds : HoldsAll n count shown T
-  pub right : AllRight n count T
+  pub shows : Shows n shown T
+  pub holds : HoldsAll n shown T
+  pub right : AllRight n (length shown.prefixes) T
 
 -- the plan keeps its laws and the log shows the tables, but some place does not hold, and the
 -- tables are not right
 pub record IsUnsettledNetwork
-    (n : Network) (count : ℕ) (shown : Showing) (T : Tables)
+    (n : Network) (shown : State) (T : Tables)
     : Type 0 where
   pub lawful : IsLawful n
-  pub shows : Shows n count shown T
-  pub fails : HoldsAll n count shown T → ⊥
-  pub wrong : AllRight n count T → ⊥
+  pub shows : Shows n shown T
+  pub fails : HoldsAll n shown T → ⊥
+  pub wrong : AllRight n (length shown.prefixes) T → ⊥
 
 -- ---- The triangle: three routers, and a link with a prefix between any two
 
@@ -78,8 +82,8 @@ triangle = record {
   places = place 0 (Link 0) ∷ place 1 (Link 1) ∷ place 2 (Link 2) ∷ [];
 }
 
-abbrev pub triangle_shown : Showing
-triangle_shown = showing (
+abbrev pub triangle_shown : State
+triangle_shown = showing triangle.prefixes (
     (None ∷ Some 16 ∷ Some 1 ∷ []) ∷ (Some 1 ∷ Some 2 ∷ None ∷ [])
     ∷ (None ∷ Some 1 ∷ Some 2 ∷ []) ∷ (Some 1 ∷ None ∷ Some 16 ∷ [])
     ∷ (Some 2 ∷ None ∷ Some 1 ∷ []) ∷ (Some 16 ∷ Some 1 ∷ None ∷ []) ∷ []
@@ -95,8 +99,8 @@ triangle_tables = tables (
 -- ---- The same with a fourth prefix that nobody has: each router has it from the next one, round
 -- in a circle
 
-abbrev pub phantom_shown : Showing
-phantom_shown = showing (
+abbrev pub phantom_shown : State
+phantom_shown = showing (ten 1 ∷ ten 2 ∷ ten 3 ∷ ten 4 ∷ []) (
     (None ∷ Some 16 ∷ Some 1 ∷ Some 16 ∷ []) ∷ (Some 1 ∷ Some 2 ∷ None ∷ Some 2 ∷ [])
     ∷ (None ∷ Some 1 ∷ Some 2 ∷ Some 2 ∷ []) ∷ (Some 1 ∷ None ∷ Some 16 ∷ Some 16 ∷ [])
     ∷ (Some 2 ∷ None ∷ Some 1 ∷ Some 2 ∷ []) ∷ (Some 16 ∷ Some 1 ∷ None ∷ Some 16 ∷ []) ∷ []
@@ -110,8 +114,8 @@ phantom_tables = tables (
     )
 
 -- what should be shown of it: nobody can reach it
-abbrev pub nowhere_shown : Showing
-nowhere_shown = showing (
+abbrev pub nowhere_shown : State
+nowhere_shown = showing (ten 1 ∷ ten 2 ∷ ten 3 ∷ ten 4 ∷ []) (
     (None ∷ Some 16 ∷ Some 1 ∷ Some 16 ∷ []) ∷ (Some 1 ∷ Some 2 ∷ None ∷ None ∷ [])
     ∷ (None ∷ Some 1 ∷ Some 2 ∷ None ∷ []) ∷ (Some 1 ∷ None ∷ Some 16 ∷ None ∷ [])
     ∷ (Some 2 ∷ None ∷ Some 1 ∷ None ∷ []) ∷ (Some 16 ∷ Some 1 ∷ None ∷ None ∷ []) ∷ []
@@ -126,8 +130,8 @@ two_exits = record triangle {
       ∷ place 3 (Own 0 1) ∷ place 3 (Own 2 1) ∷ [];
 }
 
-abbrev pub two_exits_shown : Showing
-two_exits_shown = showing (
+abbrev pub two_exits_shown : State
+two_exits_shown = showing two_exits.prefixes (
     (None ∷ Some 16 ∷ Some 1 ∷ Some 1 ∷ []) ∷ (Some 1 ∷ Some 2 ∷ None ∷ Some 1 ∷ [])
     ∷ (None ∷ Some 1 ∷ Some 2 ∷ Some 16 ∷ []) ∷ (Some 1 ∷ None ∷ Some 16 ∷ Some 2 ∷ [])
     ∷ (Some 2 ∷ None ∷ Some 1 ∷ Some 1 ∷ []) ∷ (Some 16 ∷ Some 1 ∷ None ∷ Some 1 ∷ []) ∷ []
@@ -149,8 +153,8 @@ with_leaf = record triangle {
   interfaces = triangle.interfaces ++ interface 3 1 (octets 10 2 0 4) 1 ∷ [];
 }
 
-abbrev pub leaf_shown : Showing
-leaf_shown = showing (
+abbrev pub leaf_shown : State
+leaf_shown = showing with_leaf.prefixes (
     (None ∷ Some 16 ∷ Some 1 ∷ []) ∷ (Some 1 ∷ Some 2 ∷ None ∷ [])
     ∷ (None ∷ Some 1 ∷ Some 2 ∷ []) ∷ (Some 1 ∷ None ∷ Some 16 ∷ [])
     ∷ (Some 2 ∷ None ∷ Some 1 ∷ []) ∷ (Some 16 ∷ Some 1 ∷ None ∷ [])
@@ -179,9 +183,9 @@ slope = record {
 }
 
 -- the first router has the second prefix for m
-abbrev pub slope_shown : ℕ → Showing
+abbrev pub slope_shown : ℕ → State
 slope_shown m =
-    showing ((None ∷ Some m ∷ []) ∷ (Some 1 ∷ Some 16 ∷ [])
+    showing slope.prefixes ((None ∷ Some m ∷ []) ∷ (Some 1 ∷ Some 16 ∷ [])
     ∷ (Some 16 ∷ Some 1 ∷ []) ∷ (Some 2 ∷ None ∷ []) ∷ [])
 
 abbrev pub slope_tables : ℕ → Tables
@@ -215,8 +219,8 @@ chain_rows zero = []
 chain_rows (suc n) =
     chain_rows n ++ (Some (if n == 0 then 1 else 16) ∷ []) ∷ (Some (min 16 (n + 1)) ∷ []) ∷ []
 
-abbrev pub chain_shown : ℕ → Showing
-chain_shown n = showing (chain_rows n)
+abbrev pub chain_shown : ℕ → State
+chain_shown n = showing (chain n).prefixes (chain_rows n)
 
 abbrev pub chain_route : ℕ → Route
 chain_route r =

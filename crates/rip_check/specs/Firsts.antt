@@ -2,10 +2,11 @@
 use Rattle.std.specs.Prelude.{◌≡◌, ◌≢◌, ℕ, ◌<◌, ◌≤◌, ◌⊎◌, Option, None, Some, IsTrue, length}
 use Rattle.rip_plan.specs.Network.{Network}
 use Rattle.rip_plan.specs.Relations.{IsInterface, IsLeaf}
-use Rattle.rip_check.specs.Tables.{IsHeard, Showing, Route}
-use Rattle.rip_check.specs.Telling.{Tells}
+use Rattle.rip_table.specs.State.{State}
+use Rattle.rip_check.specs.Tables.{IsHeard, Route, Tells}
 use Rattle.rip_check.specs.declared.verdict.Unclear.{Unclear}
 use Rattle.rip_check.specs.declared.verdict.Unclear.TheVariants.{NotHeard, TwoMetrics, Missing, TwoWays}
+use Rattle.rip_check.specs.Captured.{metric_at}
 
 -- place (s, q) comes before place (r, p): by router, then by prefix
 abbrev pub IsBefore : ℕ → ℕ → ℕ → ℕ → Type 0
@@ -45,38 +46,38 @@ pub record IsFirstPlace (n : Network) (count : ℕ) (Fine : ℕ → ℕ → Type
   pub fine : r ≡ length n.routers → AreFine n count None Fine
 
 -- exactly one route fits what router r shows of prefix p, or the router has one interface
-abbrev pub IsReadable : Network → Showing → ℕ → ℕ → Type 0
+abbrev pub IsReadable : Network → State → ℕ → ℕ → Type 0
 IsReadable n shown r p =
     ((t : Route) × Tells n shown r p t × ((u : Route) → Tells n shown r p u → u ≡ t))
     ⊎ ((i l c : ℕ) × IsLeaf n r i l c)
 
 -- interface i of router r shows metric m, which is below 16
-pub record IsShownBelow (n : Network) (shown : Showing) (r p i m : ℕ) : Type 0 where
+pub record IsShownBelow (n : Network) (shown : State) (r p i m : ℕ) : Type 0 where
   pub link : ℕ
   pub cost : ℕ
   pub its : IsInterface n i r link cost
-  pub shows : shown.cell i p ≡ Some m
+  pub shows : metric_at shown i p ≡ Some m
   pub below : m < 16
 
 -- two interfaces of the router show different metrics below 16
-abbrev pub ShowsTwo : Network → Showing → ℕ → ℕ → Type 0
+abbrev pub ShowsTwo : Network → State → ℕ → ℕ → Type 0
 ShowsTwo n shown r p =
     (i j m v : ℕ) × IsShownBelow n shown r p i m × IsShownBelow n shown r p j v × (m ≢ v)
 
 -- the first interface of the router that shows nothing is on this link
-pub record IsFirstGap (n : Network) (shown : Showing) (r p l : ℕ) : Type 0 where
+pub record IsFirstGap (n : Network) (shown : State) (r p l : ℕ) : Type 0 where
   pub interface : ℕ
   pub cost : ℕ
   pub its : IsInterface n interface r l cost
-  pub shows : shown.cell interface p ≡ None
-  pub before : (j k d : ℕ) → j < interface → IsInterface n j r k d → shown.cell j p ≢ None
+  pub shows : metric_at shown interface p ≡ None
+  pub before : (j k d : ℕ) → j < interface → IsInterface n j r k d → metric_at shown j p ≢ None
 
 -- each interface of the router shows something
-abbrev pub ShowsEach : Network → Showing → ℕ → ℕ → Type 0
-ShowsEach n shown r p = (i l c : ℕ) → IsInterface n i r l c → shown.cell i p ≢ None
+abbrev pub ShowsEach : Network → State → ℕ → ℕ → Type 0
+ShowsEach n shown r p = (i l c : ℕ) → IsInterface n i r l c → metric_at shown i p ≢ None
 
 -- why no route of router r for prefix p can be read
-abbrev pub IsReason : Network → Showing → ℕ → ℕ → Unclear → Type 0
+abbrev pub IsReason : Network → State → ℕ → ℕ → Unclear → Type 0
 IsReason n shown r p (NotHeard s l) = ⊥
 IsReason n shown r p (TwoMetrics s q) = (s ≡ r) × (q ≡ p) × ShowsTwo n shown r p
 IsReason n shown r p (Missing s q l) =
@@ -85,28 +86,28 @@ IsReason n shown r p (TwoWays s q) =
     (s ≡ r) × (q ≡ p) × (ShowsTwo n shown r p → ⊥) × ShowsEach n shown r p
 
 -- the first interface that was not heard is router r's on link l
-pub record IsFirstUnheard (n : Network) (shown : Showing) (r l : ℕ) : Type 0 where
+pub record IsFirstUnheard (n : Network) (shown : State) (r l : ℕ) : Type 0 where
   pub interface : ℕ
   pub cost : ℕ
   pub its : IsInterface n interface r l cost
-  pub unheard : IsTrue (shown.is_heard interface) → ⊥
-  pub before : (j s k d : ℕ) → j < interface → IsInterface n j s k d → IsTrue (shown.is_heard j)
+  pub unheard : IsTrue (shown.heard interface) → ⊥
+  pub before : (j s k d : ℕ) → j < interface → IsInterface n j s k d → IsTrue (shown.heard j)
 
 -- the place of a trouble is the first that can't be read, with its reason
 pub record IsFirstUnclear
-    (n : Network) (count : ℕ) (shown : Showing) (unclear : Unclear)
+    (n : Network) (shown : State) (unclear : Unclear)
     : Type 0 where
   pub router : ℕ
   pub prefix : ℕ
-  pub first : IsFirst n count None (IsReadable n shown) router prefix
+  pub first : IsFirst n (length shown.prefixes) None (IsReadable n shown) router prefix
   pub reason : IsReason n shown router prefix unclear
 
 -- the first trouble: an interface not heard, else a place that can't be read
-abbrev pub IsFirstTrouble : Network → ℕ → Showing → Unclear → Type 0
-IsFirstTrouble n count shown (NotHeard r l) = IsFirstUnheard n shown r l
-IsFirstTrouble n count shown (TwoMetrics r p) =
-    IsHeard n shown × IsFirstUnclear n count shown (TwoMetrics r p)
-IsFirstTrouble n count shown (Missing r p l) =
-    IsHeard n shown × IsFirstUnclear n count shown (Missing r p l)
-IsFirstTrouble n count shown (TwoWays r p) =
-    IsHeard n shown × IsFirstUnclear n count shown (TwoWays r p)
+abbrev pub IsFirstTrouble : Network → State → Unclear → Type 0
+IsFirstTrouble n shown (NotHeard r l) = IsFirstUnheard n shown r l
+IsFirstTrouble n shown (TwoMetrics r p) =
+    IsHeard n shown × IsFirstUnclear n shown (TwoMetrics r p)
+IsFirstTrouble n shown (Missing r p l) =
+    IsHeard n shown × IsFirstUnclear n shown (Missing r p l)
+IsFirstTrouble n shown (TwoWays r p) =
+    IsHeard n shown × IsFirstUnclear n shown (TwoWays r p)

@@ -2,21 +2,20 @@
 use Rattle.std.specs.Prelude.{◌≡◌, ℕ, ◌+◌, ◌*◌, ◌≤◌, ◌<◌, length, slice_index}
 use Rattle.rip_plan.specs.Network.{Network}
 use Rattle.rip_table.specs.State.{State}
-use Rattle.rip_check.specs.Tables.{Showing, Route, Fits}
+use Rattle.rip_check.specs.Tables.{Route, FitsShown}
 use Rattle.rip_check.specs.Settled.{Holds}
-use Rattle.rip_check.specs.Captured.{showing_of}
-use Rattle.rip_check.specs.Verdicts.{IsEquation, IsSound}
+use Rattle.rip_check.specs.Verdicts.{IsLeastChoice, IsSound}
 use Rattle.rip_check.specs.declared.unsettled.Unsettled.{Unsettled}
 
 -- a route fits at the place and does not hold, and the equation there gives v
-pub record IsUnmet (n : Network) (shown : Showing) (r p v : ℕ) : Type 0 where
+pub record IsUnmet (n : Network) (shown : State) (r p v : ℕ) : Type 0 where
   pub route : Route
-  pub fits : Fits n shown r p route
+  pub fits : FitsShown n shown r p route
   pub fails : Holds n shown r p route → ⊥
-  pub equation : IsEquation n shown r p v
+  pub equation : IsLeastChoice n shown r p v
 
 -- 0 where the place holds or can't be read, else what the equation gives
-pub record IsMark (n : Network) (shown : Showing) (r p mark : ℕ) : Type 0 where
+pub record IsMark (n : Network) (shown : State) (r p mark : ℕ) : Type 0 where
   pub most : mark ≤ 16
   pub sound : mark ≡ 0 → IsSound n shown r p
   pub fails : 1 ≤ mark → IsUnmet n shown r p mark
@@ -25,4 +24,4 @@ pub record IsMark (n : Network) (shown : Showing) (r p mark : ℕ) : Type 0 wher
 pub record AreUnsettled (n : Network) (s : State) (unsettled : Unsettled) : Type 0 where
   pub size : length unsettled.marks.items ≡ length n.routers * length s.prefixes
   pub marks : (r p : ℕ) → r < length n.routers → p < length s.prefixes
-      → IsMark n (showing_of s) r p (slice_index unsettled.marks.items (r * length s.prefixes + p))
+      → IsMark n s r p (slice_index unsettled.marks.items (r * length s.prefixes + p))

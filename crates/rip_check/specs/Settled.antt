@@ -2,23 +2,24 @@
 use Rattle.std.specs.Prelude.{◌≡◌, ℕ, ◌≤◌, ◌<◌, ◌⊎◌, length}
 use Rattle.rip_plan.specs.Network.{Network}
 use Rattle.rip_plan.specs.Relations.{IsDirect}
+use Rattle.rip_table.specs.State.{State}
 use Rattle.rip_check.specs.Paths.{IsLeast, HasPathOver}
-use Rattle.rip_check.specs.Tables.{Tables, Showing, Route, Offers}
+use Rattle.rip_check.specs.Tables.{Tables, Route, Offers}
 use Rattle.rip_check.specs.declared.way.Way.{Way}
 use Rattle.rip_check.specs.declared.way.Way.TheVariants.{Unreachable, Here, Over}
 
 -- what router r can choose its metric from: 16, its direct cost, each offer
-abbrev pub IsChoice : Network → Showing → ℕ → ℕ → ℕ → Type 0
+abbrev pub IsChoice : Network → State → ℕ → ℕ → ℕ → Type 0
 IsChoice n shown r p v = (v ≡ 16) ⊎ (IsDirect n r p v ⊎ ((l s : ℕ) × Offers n shown r l s p v))
 
 -- the way gives the metric
-abbrev pub IsGiven : Network → Showing → ℕ → ℕ → ℕ → Way → Type 0
+abbrev pub IsGiven : Network → State → ℕ → ℕ → ℕ → Way → Type 0
 IsGiven n shown r p m Unreachable = Unit {0}
 IsGiven n shown r p m Here = IsDirect n r p m
 IsGiven n shown r p m (Over l) = (s : ℕ) × Offers n shown r l s p m
 
 -- the place holds: the metric is the least choice, and the way gives it
-pub record Holds (n : Network) (shown : Showing) (r p : ℕ) (route : Route) : Type 0 where
+pub record Holds (n : Network) (shown : State) (r p : ℕ) (route : Route) : Type 0 where
   pub chosen : IsChoice n shown r p route.metric
   pub least : (v : ℕ) → IsChoice n shown r p v → route.metric ≤ v
   pub given : IsGiven n shown r p route.metric route.way
@@ -35,8 +36,9 @@ pub record IsRight (n : Network) (r p : ℕ) (route : Route) : Type 0 where
   pub goes : GoesRight n p r route.metric route.way
 
 -- each place's equation holds
-abbrev pub HoldsAll : Network → ℕ → Showing → Tables → Type 0
-HoldsAll n count shown T = (r p : ℕ) → r < length n.routers → p < count → Holds n shown r p (T r p)
+abbrev pub HoldsAll : Network → State → Tables → Type 0
+HoldsAll n shown T =
+    (r p : ℕ) → r < length n.routers → p < length shown.prefixes → Holds n shown r p (T r p)
 
 -- each route is right
 abbrev pub AllRight : Network → ℕ → Tables → Type 0

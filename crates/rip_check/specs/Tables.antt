@@ -1,9 +1,11 @@
 -- Route tables, and what routers show of them.
-use Rattle.std.specs.Prelude.{◌≡◌, ◌≢◌, ℕ, ◌+◌, ◌≤◌, ◌<◌, ◌⊎◌, Option, None, Some, Bool, IsTrue, min, unwrap_or, length}
+use Rattle.std.specs.Prelude.{◌≡◌, ◌≢◌, ℕ, ◌+◌, ◌≤◌, ◌<◌, ◌⊎◌, Option, None, Some, IsTrue, min, unwrap_or, length}
 use Rattle.rip_check.specs.declared.way.Way.{Way}
 use Rattle.rip_check.specs.declared.way.Way.TheVariants.{Unreachable, Here, Over}
 use Rattle.rip_plan.specs.Network.{Network}
 use Rattle.rip_plan.specs.Relations.{IsInterface, HasCost, IsNeighbour, IsDirect, IsOn, IsLeaf, Carries}
+use Rattle.rip_table.specs.State.{State}
+use Rattle.rip_check.specs.Captured.{metric_at}
 
 -- a router's route for a prefix: 16 where it has none (RFC 2453, 3.6), and the way that a packet
 -- goes
@@ -14,12 +16,6 @@ pub record Route : Type 0 where
 -- the route of each router for each prefix, by their numbers
 abbrev pub Tables : Type 0
 Tables = ℕ → ℕ → Route
-
--- what a log shows: the metric, if any, of each interface for each prefix, and which interfaces
--- were heard
-pub record Showing : Type 0 where
-  pub cell : ℕ → ℕ → Option ℕ
-  pub is_heard : ℕ → Bool
 
 -- the metric and the way go together; a router never goes over a link of the prefix, where its
 -- route is its own
@@ -41,24 +37,24 @@ MayShow n l p m Here x = (x ≡ Some m) ⊎ (Carries n l p × IsSilent x)
 MayShow n l p m (Over k) x = ((k ≡ l) × (x ≡ Some 16)) ⊎ ((k ≢ l) × (x ≡ Some m))
 
 -- the metric and the way could be behind what router r shows of prefix p on each link
-abbrev pub IsAsTold : Network → Showing → ℕ → ℕ → ℕ → Way → Type 0
+abbrev pub IsAsTold : Network → State → ℕ → ℕ → ℕ → Way → Type 0
 IsAsTold n shown r p m w =
-    (i l c : ℕ) → IsInterface n i r l c → MayShow n l p m w (shown.cell i p)
+    (i l c : ℕ) → IsInterface n i r l c → MayShow n l p m w (metric_at shown i p)
 
 -- Neighbour s offers router r the metric v over link l: the cost of the interface on which the
 -- datagram comes in, and what s shows there, or 16 where it shows nothing or the sum is greater
 -- (RFC 2453, 3.9.2).
-pub record Offers (n : Network) (shown : Showing) (r l s p v : ℕ) : Type 0 where
+pub record Offers (n : Network) (shown : State) (r l s p v : ℕ) : Type 0 where
   pub neighbour : IsNeighbour n r l s
   pub cost : ℕ
   pub here : HasCost n r l cost
   pub interface : ℕ
   pub its_cost : ℕ
   pub there : IsInterface n interface s l its_cost
-  pub value : v ≡ min 16 (cost + unwrap_or (shown.cell interface p) 16)
+  pub value : v ≡ min 16 (cost + unwrap_or (metric_at shown interface p) 16)
 
 -- h is the least of 16 and of what is offered to router r
-pub record IsLeastOffer (n : Network) (shown : Showing) (r p h : ℕ) : Type 0 where
+pub record IsLeastOffer (n : Network) (shown : State) (r p h : ℕ) : Type 0 where
   pub reached : (h ≡ 16) ⊎ ((l s : ℕ) × Offers n shown r l s p h)
   pub most : h ≤ 16
   pub least : (l s v : ℕ) → Offers n shown r l s p v → h ≤ v
@@ -66,26 +62,31 @@ pub record IsLeastOffer (n : Network) (shown : Showing) (r p h : ℕ) : Type 0 w
 -- the route of a leaf whose one interface is i, on link l, where it cannot show it: its own prefix,
 -- or what it learned
 pub record IsHiddenRoute
-    (n : Network) (shown : Showing) (r i l p : ℕ) (route : Route)
+    (n : Network) (shown : State) (r i l p : ℕ) (route : Route)
     : Type 0 where
-  pub carried : Carries n l p → IsSilent (shown.cell i p) → (route.way ≡ Here)
+  pub carried : Carries n l p → IsSilent (metric_at shown i p) → (route.way ≡ Here)
       × IsDirect n r p route.metric
-  pub learned : (Carries n l p → ⊥) → shown.cell i p ≡ Some 16 →
+  pub learned : (Carries n l p → ⊥) → metric_at shown i p ≡ Some 16 →
       IsLeastOffer n shown r p route.metric × (route.metric < 16 → route.way ≡ Over l)
       × (route.metric ≡ 16 → route.way ≡ Unreachable)
 
--- the route fits all that router r shows of prefix p
-pub record Fits (n : Network) (shown : Showing) (r p : ℕ) (route : Route) : Type 0 where
+-- the route could be behind all that router r shows of prefix p
+pub record Tells (n : Network) (shown : State) (r p : ℕ) (route : Route) : Type 0 where
   pub way_fits : FitsWay n r p route.metric route.way
   pub as_told : IsAsTold n shown r p route.metric route.way
+
+-- it could, and where router r is a leaf that can't show its route, it is the hidden one
+pub record FitsShown (n : Network) (shown : State) (r p : ℕ) (route : Route) : Type 0 where
+  pub told : Tells n shown r p route
   pub hidden : (i l c : ℕ) → IsLeaf n r i l c → IsHiddenRoute n shown r i l p route
 
 -- each interface was heard
-abbrev pub IsHeard : Network → Showing → Type 0
-IsHeard n shown = (i r l c : ℕ) → IsInterface n i r l c → IsTrue (shown.is_heard i)
+abbrev pub IsHeard : Network → State → Type 0
+IsHeard n shown = (i r l c : ℕ) → IsInterface n i r l c → IsTrue (shown.heard i)
 
--- the log shows these tables, for the prefixes below the count: those of the plan, and then others
--- that it names
-pub record Shows (n : Network) (count : ℕ) (shown : Showing) (T : Tables) : Type 0 where
+-- the log shows these route tables, for each prefix of its own table: those of the plan, and then
+-- others that it names
+pub record Shows (n : Network) (shown : State) (T : Tables) : Type 0 where
   pub heard : IsHeard n shown
-  pub fits : (r p : ℕ) → r < length n.routers → p < count → Fits n shown r p (T r p)
+  pub fits : (r p : ℕ) → r < length n.routers → p < length shown.prefixes
+      → FitsShown n shown r p (T r p)

@@ -2,22 +2,23 @@
 use Rattle.std.specs.Prelude.{◌≡◌, ℕ, Some}
 use Rattle.rip_plan.specs.Network.{Network}
 use Rattle.rip_plan.specs.Relations.{IsInterface, Carries}
-use Rattle.rip_check.specs.Tables.{Showing, Route, FitsWay, IsAsTold, IsSilent}
+use Rattle.rip_table.specs.State.{State}
+use Rattle.rip_check.specs.Tables.{Route, IsSilent, Tells}
+use Rattle.rip_check.specs.Captured.{metric_at}
 
--- the route could be behind all that router r shows of prefix p
-pub record Tells (n : Network) (shown : Showing) (r p : ℕ) (route : Route) : Type 0 where
-  pub way_fits : FitsWay n r p route.metric route.way
-  pub as_told : IsAsTold n shown r p route.metric route.way
+-- no other route could be behind what router r shows of prefix p
+abbrev pub IsOnlyRoute : Network → State → ℕ → ℕ → Route → Type 0
+IsOnlyRoute n shown r p route = (other : Route) → Tells n shown r p other → other ≡ route
 
 -- router r shows nothing below 16
-abbrev pub IsMute : Network → Showing → ℕ → ℕ → Type 0
-IsMute n shown r p = (i l c : ℕ) → IsInterface n i r l c → IsSilent (shown.cell i p)
+abbrev pub IsMute : Network → State → ℕ → ℕ → Type 0
+IsMute n shown r p = (i l c : ℕ) → IsInterface n i r l c → IsSilent (metric_at shown i p)
 
 -- router r shows this metric somewhere
-abbrev pub IsSpoken : Network → Showing → ℕ → ℕ → ℕ → Type 0
-IsSpoken n shown r p m = (i l c : ℕ) × IsInterface n i r l c × (shown.cell i p ≡ Some m)
+abbrev pub IsSpoken : Network → State → ℕ → ℕ → ℕ → Type 0
+IsSpoken n shown r p m = (i l c : ℕ) × IsInterface n i r l c × (metric_at shown i p ≡ Some m)
 
 -- router r is silent on link l, which does not carry the prefix
-abbrev pub IsSilentLink : Network → Showing → ℕ → ℕ → ℕ → Type 0
+abbrev pub IsSilentLink : Network → State → ℕ → ℕ → ℕ → Type 0
 IsSilentLink n shown r p l =
-    (i c : ℕ) × IsInterface n i r l c × IsSilent (shown.cell i p) × (Carries n l p → ⊥)
+    (i c : ℕ) × IsInterface n i r l c × IsSilent (metric_at shown i p) × (Carries n l p → ⊥)

@@ -1,13 +1,13 @@
 //! The verdict on a table.
 
 ghost use Rattle.std.specs.Prelude.{◌≡◌, ◌↔◌, ℕ, ◌≤◌, ◌<◌, IfNone, IfSome, None, length};
-ghost use Rattle.rip_table.specs.State.{Fits as FitsPlan};
-ghost use Rattle.rip_check.specs.Audits.{EachPlaceHolds, HoldsAfter, IsKnownPlace, IsNextUnsettled, PacketsArrive, ShowsRightTables, ShowsTables, TroubleIs};
+ghost use Rattle.rip_table.specs.State.{Fits};
 ghost use Rattle.rip_check.specs.Tables.{IsHeard};
-ghost use Rattle.rip_check.specs.Captured.{showing_of};
-ghost use Rattle.rip_check.specs.Firsts.{IsFirstBelow, IsFirstPlace, IsFirstUnheard, IsReadable};
+ghost use Rattle.rip_check.specs.Firsts.{IsFirstBelow, IsFirstPlace, IsFirstUnheard, IsReadable, IsFirstTrouble};
 ghost use Rattle.rip_check.specs.TwoLeasts.{AreTwoLeast};
-ghost use Rattle.rip_check.specs.Verdicts.{IsRowFirst, IsSound, IsVerdict};
+ghost use Rattle.rip_check.specs.Verdicts.{IsRowFirst, IsSound, IsVerdict, ShowsTables, IsNextUnsettled, HoldsAfter, IsKnownPlace};
+ghost use Rattle.rip_check.specs.Laws.{ShowsRightTables, EachPlaceHolds};
+ghost use Rattle.rip_check.specs.Walks.{PacketsArrive};
 
 use crate::links::{NOTHING, TwoLeast, fill};
 use crate::lookup::in_range;
@@ -19,10 +19,10 @@ use rip_table::MetricTable;
 
 /// The first interface that was not heard.
 fn first_unheard<T: MetricTable>(plan: &Plan, table: &T) -> Option<Interface>
-    requires { FitsPlan plan.now (T.state table.now) }
+    requires { Fits plan.now (T.state table.now) }
     ensures some { IfSome result (λ x.
-        IsFirstUnheard plan.now (showing_of (T.state table.now)) x.router x.link) }
-    ensures none { IfNone result (IsHeard plan.now (showing_of (T.state table.now))) }
+        IsFirstUnheard plan.now (T.state table.now) x.router x.link) }
+    ensures none { IfNone result (IsHeard plan.now (T.state table.now)) }
 {
     for i in 0..plan.interfaces() {
         if !table.heard(i) {
@@ -39,12 +39,11 @@ fn first_in_row<T: MetricTable>(
     router: usize,
     from: usize,
 ) -> Option<Place2>
-    requires fits { FitsPlan plan.now (T.state table.now) }
+    requires fits { Fits plan.now (T.state table.now) }
     requires router { router < length plan.now.routers }
-    ensures some { IfSome result (IsRowFirst plan.now
-        (length (T.state table.now).prefixes) (showing_of (T.state table.now)) router from) }
+    ensures some { IfSome result (IsRowFirst plan.now (T.state table.now) router from) }
     ensures none { IfNone result ((q : ℕ) → from ≤ q → q < length (T.state table.now).prefixes →
-        IsSound plan.now (showing_of (T.state table.now)) router q) }
+        IsSound plan.now (T.state table.now) router q) }
 {
     for prefix in from..table.prefix_count() {
         if let Some(found) = failing(plan, table, router, prefix) {
@@ -61,7 +60,7 @@ pub fn next_unsettled<T: MetricTable>(
     table: &T,
     after: Option<(usize, usize)>,
 ) -> Option<Place2>
-    requires fits { FitsPlan plan.now (T.state table.now) }
+    requires fits { Fits plan.now (T.state table.now) }
     requires known { IsKnownPlace (T.state table.now) after }
     ensures some { IfSome result (λ place.
         IsNextUnsettled plan.now (T.state table.now) after place) }
@@ -97,17 +96,17 @@ fn narrow<T: MetricTable>(
     prefix: usize,
     bounds: Bounds,
 ) -> Bounds
-    requires fits { FitsPlan plan.now (T.state table.now) }
+    requires fits { Fits plan.now (T.state table.now) }
     requires prefix { prefix < length (T.state table.now).prefixes }
-    requires links { AreTwoLeast plan.now (showing_of (T.state table.now)) prefix links.now }
+    requires links { AreTwoLeast plan.now (T.state table.now) prefix links.now }
     requires known { bounds.unclear ≤ length plan.now.routers }
     requires order { bounds.failing ≤ bounds.unclear }
     ensures order { result.failing ≤ result.unclear }
     ensures unclear { IsFirstBelow bounds.unclear
-        (λ s. IsReadable plan.now (showing_of (T.state table.now)) s prefix) result.unclear }
+        (λ s. IsReadable plan.now (T.state table.now) s prefix) result.unclear }
     ensures failing { result.unclear ≡ bounds.unclear →
         IsFirstBelow bounds.failing
-        (λ s. IsSound plan.now (showing_of (T.state table.now)) s prefix) result.failing }
+        (λ s. IsSound plan.now (T.state table.now) s prefix) result.failing }
 {
     plan.lawful();
     in_range(plan, table);
@@ -146,13 +145,13 @@ struct Firsts {
 /// The first places. This goes prefix by prefix, so that the two least metrics of each link are
 /// found once for all routers.
 fn first_places<T: MetricTable>(plan: &Plan, table: &T) -> Firsts
-    requires { FitsPlan plan.now (T.state table.now) }
+    requires { Fits plan.now (T.state table.now) }
     ensures unclear { IsFirstPlace plan.now (length (T.state table.now).prefixes)
-        (IsReadable plan.now (showing_of (T.state table.now))) result.unclear
+        (IsReadable plan.now (T.state table.now)) result.unclear
         result.unclear_prefix }
     ensures failing { result.unclear ≡ length plan.now.routers →
         IsFirstPlace plan.now (length (T.state table.now).prefixes)
-        (IsSound plan.now (showing_of (T.state table.now))) result.failing result.failing_prefix }
+        (IsSound plan.now (T.state table.now)) result.failing result.failing_prefix }
 {
     plan.lawful();
     let mut room = [NOTHING; MOST_LINKS];
@@ -183,9 +182,8 @@ fn first_places<T: MetricTable>(plan: &Plan, table: &T) -> Firsts
 
 /// The verdict, by its definition.
 fn decide<T: MetricTable>(plan: &Plan, table: &T) -> Verdict
-    requires { FitsPlan plan.now (T.state table.now) }
-    ensures { IsVerdict plan.now
-        (length (T.state table.now).prefixes) (showing_of (T.state table.now)) result }
+    requires { Fits plan.now (T.state table.now) }
+    ensures { IsVerdict plan.now (T.state table.now) result }
 {
     plan.lawful();
     in_range(plan, table);
@@ -211,7 +209,7 @@ fn decide<T: MetricTable>(plan: &Plan, table: &T) -> Verdict
 /// that are right; then what follows them arrives. Unsettled names the first place that does not
 /// hold, by router and then by prefix, and Unclear the first reason why no tables are shown.
 pub fn judge<T: MetricTable>(plan: &Plan, table: &T) -> Verdict
-    requires { FitsPlan plan.now (T.state table.now) }
+    requires { Fits plan.now (T.state table.now) }
     ensures settled { (result ≡ Verdict.Settled) ↔ ShowsRightTables plan.now (T.state table.now) }
     ensures places { (result ≡ Verdict.Settled) ↔ EachPlaceHolds plan.now (T.state table.now) }
     ensures unsettled { (place : Place2) →
@@ -219,7 +217,7 @@ pub fn judge<T: MetricTable>(plan: &Plan, table: &T) -> Verdict
         ↔ (ShowsTables plan.now (T.state table.now)
         × IsNextUnsettled plan.now (T.state table.now) None place) }
     ensures unclear { (trouble : Unclear) →
-        (result ≡ Verdict.Unclear trouble) ↔ TroubleIs plan.now (T.state table.now) trouble }
+        (result ≡ Verdict.Unclear trouble) ↔ IsFirstTrouble plan.now (T.state table.now) trouble }
     ensures no_tables { ((trouble : Unclear) × (result ≡ Verdict.Unclear trouble))
         ↔ (ShowsTables plan.now (T.state table.now) → ⊥) }
     ensures arrive { result ≡ Verdict.Settled → PacketsArrive plan.now (T.state table.now) }

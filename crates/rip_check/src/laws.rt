@@ -1,11 +1,12 @@
 //! Laws of settled tables: functions that do nothing, whose contracts hold of every plan and every
-//! showing.
+//! table.
 
 ghost use Rattle.std.specs.Prelude.{ℕ, ◌↔◌};
 ghost use Rattle.rip_plan.specs.Network.{Network};
 ghost use Rattle.rip_plan.specs.Relations.{IsLawful};
-ghost use Rattle.rip_check.specs.Tables.{Showing};
-ghost use Rattle.rip_check.specs.Laws.{OneIsShown, OneRouteFits, PlacesSettled, RightTablesShown, Case, IsSettled, HasRightTables, PoisonHidesNothing, MetricsAreReached, NoPathIsCheaper, WalksFall, WalksEnd, WalksEndThere, WalksGoOn};
+ghost use Rattle.rip_table.specs.State.{State};
+ghost use Rattle.rip_check.specs.Laws.{OneIsShown, OneRouteFits, EachPlaceHolds, ShowsRightTables, Case, IsSettled, HasRightTables, PoisonHidesNothing, MetricsAreReached, NoPathIsCheaper, WalksFall};
+ghost use Rattle.rip_check.specs.Walks.{EachCanGoOn, EachEndsThere, EachIsShort};
 
 pub mod examples;
 
@@ -35,23 +36,22 @@ pub fn settled_is_right()
 /// No two routes fit what a router shows, those of leaves included, so that a log never shows two
 /// sets of tables.
 pub fn one_set_of_tables()
-    ensures route { (n : Network) (shown : Showing) → IsLawful n → OneRouteFits n shown }
-    ensures tables { (n : Network) (count : ℕ) (shown : Showing) → IsLawful n →
-        OneIsShown n count shown }
+    ensures route { (n : Network) (shown : State) → IsLawful n → OneRouteFits n shown }
+    ensures tables { (n : Network) (shown : State) → IsLawful n → OneIsShown n shown }
 {}
 
 /// Every interface was heard and each place has a route that fits and holds exactly where the log
 /// shows tables that are right.
 pub fn settled_places()
-    ensures { (n : Network) (count : ℕ) (shown : Showing) → IsLawful n →
-        PlacesSettled n count shown ↔ RightTablesShown n count shown }
+    ensures { (n : Network) (shown : State) → IsLawful n →
+        EachPlaceHolds n shown ↔ ShowsRightTables n shown }
 {}
 
 /// A packet that follows the tables comes nearer with each router, and arrives after at most fifteen:
 /// one that has not arrived has a next router, and where it arrives the router has the prefix.
 pub fn walks_arrive()
     ensures fall { (k : Case) → WalksFall k }
-    ensures end { (k : Case) → WalksEnd k }
-    ensures go_on { (k : Case) → IsSettled k → WalksGoOn k }
-    ensures there { (k : Case) → IsSettled k → WalksEndThere k }
+    ensures end { (k : Case) → EachIsShort k.net k.shown k.tables }
+    ensures go_on { (k : Case) → IsSettled k → EachCanGoOn k.net k.shown k.tables }
+    ensures there { (k : Case) → IsSettled k → EachEndsThere k.net k.shown k.tables }
 {}

@@ -2,10 +2,9 @@
 
 ghost use Rattle.std.specs.Prelude.{◌≡◌, ℕ, ◌+◌, ◌<◌, ◌≤◌, length, unwrap_or};
 ghost use Rattle.rip_plan.specs.Network.{Network};
-ghost use Rattle.rip_table.specs.State.{Fits as FitsPlan};
-ghost use Rattle.rip_check.specs.Captured.{showing_of};
-ghost use Rattle.rip_check.specs.Tables.{Showing};
+ghost use Rattle.rip_table.specs.State.{Fits, State};
 ghost use Rattle.rip_check.specs.TwoLeasts.{AreTwoLeast, IsSeen, IsTwoLeast};
+ghost use Rattle.rip_check.specs.Captured.{metric_at};
 
 use crate::lookup::shown_at;
 use rip_plan::Plan;
@@ -29,10 +28,10 @@ pub(crate) const NOTHING: TwoLeast = TwoLeast {
 
 /// What an interface shows, 16 where it shows nothing.
 fn seen_at<T: MetricTable>(plan: &Plan, table: &T, interface: usize, prefix: usize) -> u32
-    requires fits { FitsPlan plan.now (T.state table.now) }
+    requires fits { Fits plan.now (T.state table.now) }
     requires interface { interface < length plan.now.interfaces }
     requires prefix { prefix < length (T.state table.now).prefixes }
-    ensures value { result ≡ unwrap_or ((showing_of (T.state table.now)).cell interface prefix) 16 }
+    ensures value { result ≡ unwrap_or (metric_at (T.state table.now) interface prefix) 16 }
     ensures most { result ≤ 16 }
 {
     match shown_at(plan, table, interface, prefix) {
@@ -43,7 +42,7 @@ fn seen_at<T: MetricTable>(plan: &Plan, table: &T, interface: usize, prefix: usi
 
 /// The same with one more interface of the link.
 fn with(two: TwoLeast, router: u8, metric: u8) -> TwoLeast
-    ensures { (n : Network) (shown : Showing) (l p j : ℕ) → IsTwoLeast n shown l p j two →
+    ensures { (n : Network) (shown : State) (l p j : ℕ) → IsTwoLeast n shown l p j two →
         IsSeen n shown l p j router metric → IsTwoLeast n shown l p (j + 1) result }
 {
     if router == two.by {
@@ -73,10 +72,10 @@ fn with(two: TwoLeast, router: u8, metric: u8) -> TwoLeast
 
 /// Writes the two least metrics of each link for one prefix. 16 is there to begin with.
 pub(crate) fn fill<T: MetricTable>(plan: &Plan, table: &T, prefix: usize, links: &mut [TwoLeast])
-    requires fits { FitsPlan plan.now (T.state table.now) }
+    requires fits { Fits plan.now (T.state table.now) }
     requires prefix { prefix < length (T.state table.now).prefixes }
     requires size { length plan.now.links ≤ length links.old }
-    ensures { AreTwoLeast plan.now (showing_of (T.state table.now)) prefix links.new }
+    ensures { AreTwoLeast plan.now (T.state table.now) prefix links.new }
 {
     plan.lawful();
     let none = NOTHING;

@@ -3,10 +3,9 @@
 ghost use Rattle.std.specs.Prelude.{◌≡◌, ℕ, ◌+◌, ◌<◌, ◌≤◌, ◌⊎◌, IfSome, length, min, unwrap_or};
 ghost use Rattle.rip_plan.specs.Network.{Network};
 ghost use Rattle.rip_plan.specs.Relations.{HasCost, IsDirect, IsLawful};
-ghost use Rattle.rip_table.specs.State.{Fits as FitsPlan};
-ghost use Rattle.rip_check.specs.Captured.{showing_of};
+ghost use Rattle.rip_table.specs.State.{Fits, State};
 ghost use Rattle.rip_check.specs.Settled.{IsChoice};
-ghost use Rattle.rip_check.specs.Tables.{Offers, Showing};
+ghost use Rattle.rip_check.specs.Tables.{Offers};
 ghost use Rattle.rip_check.specs.TwoLeasts.{AreTwoLeast, IsTwoLeast};
 
 use crate::links::TwoLeast;
@@ -34,15 +33,15 @@ fn least_asked<T: MetricTable>(
     prefix: usize,
     best: u32,
 ) -> u32
-    requires fits { FitsPlan plan.now (T.state table.now) }
+    requires fits { Fits plan.now (T.state table.now) }
     requires prefix { prefix < length (T.state table.now).prefixes }
     requires own { HasCost plan.now own.router own.link own.cost }
     ensures at_most { result ≤ best }
     ensures least { (s v : ℕ) →
-        Offers plan.now (showing_of (T.state table.now)) own.router own.link s prefix v →
+        Offers plan.now (T.state table.now) own.router own.link s prefix v →
         result ≤ v }
     ensures chosen { (result ≡ best) ⊎ ((s : ℕ)
-        × Offers plan.now (showing_of (T.state table.now)) own.router own.link s prefix result) }
+        × Offers plan.now (T.state table.now) own.router own.link s prefix result) }
 {
     plan.lawful();
     let mut least = best;
@@ -65,11 +64,11 @@ fn least_told(own: Interface, two: TwoLeast, best: u32) -> u32
     requires least { two.least ≤ 16 }
     requires next { two.next ≤ 16 }
     ensures at_most { result ≤ best }
-    ensures least { (n : Network) (shown : Showing) (s p v : ℕ) → IsLawful n →
+    ensures least { (n : Network) (shown : State) (s p v : ℕ) → IsLawful n →
         HasCost n own.router own.link own.cost →
         IsTwoLeast n shown own.link p (length n.interfaces) two →
         Offers n shown own.router own.link s p v → result ≤ v }
-    ensures chosen { (n : Network) (shown : Showing) (p : ℕ) →
+    ensures chosen { (n : Network) (shown : State) (p : ℕ) →
         HasCost n own.router own.link own.cost →
         IsTwoLeast n shown own.link p (length n.interfaces) two →
         (result ≡ best) ⊎ ((s : ℕ) × Offers n shown own.router own.link s p result) }
@@ -93,17 +92,17 @@ pub(crate) fn best_over<T: MetricTable>(
     prefix: usize,
     best: u32,
 ) -> u32
-    requires fits { FitsPlan plan.now (T.state table.now) }
+    requires fits { Fits plan.now (T.state table.now) }
     requires prefix { prefix < length (T.state table.now).prefixes }
-    requires links { AreTwoLeast plan.now (showing_of (T.state table.now)) prefix links.now }
+    requires links { AreTwoLeast plan.now (T.state table.now) prefix links.now }
     requires own { HasCost plan.now own.router own.link own.cost }
     requires best { best ≤ 16 }
     ensures at_most { result ≤ best }
     ensures least { (s v : ℕ) →
-        Offers plan.now (showing_of (T.state table.now)) own.router own.link s prefix v →
+        Offers plan.now (T.state table.now) own.router own.link s prefix v →
         result ≤ v }
     ensures chosen { (result ≡ best) ⊎ ((s : ℕ)
-        × Offers plan.now (showing_of (T.state table.now)) own.router own.link s prefix result) }
+        × Offers plan.now (T.state table.now) own.router own.link s prefix result) }
 {
     plan.lawful();
     if own.link < links.len() {
@@ -134,13 +133,13 @@ pub(crate) fn least_choice<T: MetricTable>(
     router: usize,
     prefix: usize,
 ) -> u32
-    requires fits { FitsPlan plan.now (T.state table.now) }
+    requires fits { Fits plan.now (T.state table.now) }
     requires router { router < length plan.now.routers }
     requires prefix { prefix < length (T.state table.now).prefixes }
-    requires links { AreTwoLeast plan.now (showing_of (T.state table.now)) prefix links.now }
+    requires links { AreTwoLeast plan.now (T.state table.now) prefix links.now }
     ensures most { result ≤ 16 }
-    ensures chosen { IsChoice plan.now (showing_of (T.state table.now)) router prefix result }
-    ensures least { (v : ℕ) → IsChoice plan.now (showing_of (T.state table.now)) router prefix v →
+    ensures chosen { IsChoice plan.now (T.state table.now) router prefix result }
+    ensures least { (v : ℕ) → IsChoice plan.now (T.state table.now) router prefix v →
         result ≤ v }
 {
     let mut best = direct_or_16(plan, router, prefix);

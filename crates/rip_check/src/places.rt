@@ -2,13 +2,13 @@
 
 ghost use Rattle.std.specs.Prelude.{◌≡◌, ℕ, ◌<◌, ◌≤◌, ◌⊎◌, ◌↔◌, Decides, IfErr, IfNone, IfOk, IfSome, IsTrue, is_ok, length};
 ghost use Rattle.rip_plan.specs.Relations.{IsDirect};
-ghost use Rattle.rip_table.specs.State.{Fits as FitsPlan};
-ghost use Rattle.rip_check.specs.Audits.{CanRead, FitsShown, IsHiddenPlace, IsLeastChoice, IsOnlyRoute, ReasonIs};
-ghost use Rattle.rip_check.specs.Captured.{showing_of};
+ghost use Rattle.rip_table.specs.State.{Fits};
 ghost use Rattle.rip_check.specs.Settled.{Holds, IsChoice, IsGiven};
-ghost use Rattle.rip_check.specs.Tables.{Fits, FitsWay, Offers};
+ghost use Rattle.rip_check.specs.Tables.{FitsShown, FitsWay, Offers};
 ghost use Rattle.rip_check.specs.TwoLeasts.{AreTwoLeast};
-ghost use Rattle.rip_check.specs.Verdicts.{IsEquation, IsFailing, IsSound, route_of};
+ghost use Rattle.rip_check.specs.Verdicts.{IsLeastChoice, IsFailing, IsSound, route_of, IsHidden};
+ghost use Rattle.rip_check.specs.Telling.{IsOnlyRoute};
+ghost use Rattle.rip_check.specs.Firsts.{IsReadable, IsReason};
 
 use crate::links::TwoLeast;
 use crate::lookup::{in_range, metric_of};
@@ -40,15 +40,15 @@ fn is_offered<T: MetricTable>(
     metric: u32,
     link: usize,
 ) -> bool
-    requires fits { FitsPlan plan.now (T.state table.now) }
+    requires fits { Fits plan.now (T.state table.now) }
     requires router { router < length plan.now.routers }
     requires prefix { prefix < length (T.state table.now).prefixes }
-    requires links { AreTwoLeast plan.now (showing_of (T.state table.now)) prefix links.now }
+    requires links { AreTwoLeast plan.now (T.state table.now) prefix links.now }
     requires small { metric < 16 }
-    requires least { (v : ℕ) → IsChoice plan.now (showing_of (T.state table.now)) router prefix v →
+    requires least { (v : ℕ) → IsChoice plan.now (T.state table.now) router prefix v →
         metric ≤ v }
     ensures { Decides result ((s : ℕ)
-        × Offers plan.now (showing_of (T.state table.now)) router link s prefix metric) }
+        × Offers plan.now (T.state table.now) router link s prefix metric) }
 {
     let numbers = plan.of_router(router);
     for i in numbers {
@@ -70,15 +70,15 @@ fn is_given<T: MetricTable>(
     metric: u32,
     way: Way,
 ) -> bool
-    requires fits { FitsPlan plan.now (T.state table.now) }
+    requires fits { Fits plan.now (T.state table.now) }
     requires router { router < length plan.now.routers }
     requires prefix { prefix < length (T.state table.now).prefixes }
-    requires links { AreTwoLeast plan.now (showing_of (T.state table.now)) prefix links.now }
+    requires links { AreTwoLeast plan.now (T.state table.now) prefix links.now }
     requires way { FitsWay plan.now router prefix metric way }
-    requires least { (v : ℕ) → IsChoice plan.now (showing_of (T.state table.now)) router prefix v →
+    requires least { (v : ℕ) → IsChoice plan.now (T.state table.now) router prefix v →
         metric ≤ v }
     ensures { Decides result
-        (IsGiven plan.now (showing_of (T.state table.now)) router prefix metric way) }
+        (IsGiven plan.now (T.state table.now) router prefix metric way) }
 {
     match way {
         Way::Unreachable => true,
@@ -97,18 +97,18 @@ pub(crate) fn unmet<T: MetricTable>(
     prefix: usize,
     route: Reading,
 ) -> u32
-    requires fits { FitsPlan plan.now (T.state table.now) }
+    requires fits { Fits plan.now (T.state table.now) }
     requires router { router < length plan.now.routers }
     requires prefix { prefix < length (T.state table.now).prefixes }
-    requires links { AreTwoLeast plan.now (showing_of (T.state table.now)) prefix links.now }
-    requires route { Fits plan.now (showing_of (T.state table.now)) router prefix (route_of route) }
+    requires links { AreTwoLeast plan.now (T.state table.now) prefix links.now }
+    requires route { FitsShown plan.now (T.state table.now) router prefix (route_of route) }
     ensures most { result ≤ 16 }
-    ensures holds { result ≡ 0 → Holds plan.now (showing_of (T.state table.now)) router prefix
+    ensures holds { result ≡ 0 → Holds plan.now (T.state table.now) router prefix
         (route_of route) }
-    ensures fails { 1 ≤ result → Holds plan.now (showing_of (T.state table.now)) router prefix
+    ensures fails { 1 ≤ result → Holds plan.now (T.state table.now) router prefix
         (route_of route) → ⊥ }
     ensures equation { 1 ≤ result →
-        IsEquation plan.now (showing_of (T.state table.now)) router prefix result }
+        IsLeastChoice plan.now (T.state table.now) router prefix result }
 {
     plan.lawful();
     let equation = least_choice(plan, table, links, router, prefix);
@@ -150,12 +150,12 @@ pub(crate) fn failing<T: MetricTable>(
     router: usize,
     prefix: usize,
 ) -> Option<Place2>
-    requires fits { FitsPlan plan.now (T.state table.now) }
+    requires fits { Fits plan.now (T.state table.now) }
     requires router { router < length plan.now.routers }
     requires prefix { prefix < length (T.state table.now).prefixes }
     ensures some { IfSome result (λ f. (f.router ≡ router) × (f.prefix ≡ prefix)
-        × IsFailing plan.now (showing_of (T.state table.now)) f) }
-    ensures none { IfNone result (IsSound plan.now (showing_of (T.state table.now)) router prefix) }
+        × IsFailing plan.now (T.state table.now) f) }
+    ensures none { IfNone result (IsSound plan.now (T.state table.now) router prefix) }
 {
     plan.lawful();
     in_range(plan, table);
@@ -179,19 +179,19 @@ pub fn route<T: MetricTable>(
     router: usize,
     prefix: usize,
 ) -> Result<Route, Unclear>
-    requires fits { FitsPlan plan.now (T.state table.now) }
+    requires fits { Fits plan.now (T.state table.now) }
     requires router { router < length plan.now.routers }
     requires prefix { prefix < length (T.state table.now).prefixes }
-    ensures exact { IsTrue (is_ok result) ↔ CanRead plan.now (T.state table.now) router prefix }
+    ensures exact { IsTrue (is_ok result) ↔ IsReadable plan.now (T.state table.now) router prefix }
     ensures fits { IfOk result (λ t. FitsShown plan.now (T.state table.now) router prefix
         (record { metric = t.metric; way = t.way })) }
     ensures one { IfOk result (λ t. IsTrue t.hidden
         ⊎ IsOnlyRoute plan.now (T.state table.now) router prefix
         (record { metric = t.metric; way = t.way })) }
     ensures hidden { IfOk result (λ t. Decides t.hidden
-        (IsHiddenPlace plan.now (T.state table.now) router prefix)) }
+        (IsHidden plan.now (T.state table.now) router prefix)) }
     ensures unclear { IfErr result (λ trouble.
-        ReasonIs plan.now (T.state table.now) router prefix trouble) }
+        IsReason plan.now (T.state table.now) router prefix trouble) }
 {
     plan.lawful();
     in_range(plan, table);
@@ -208,7 +208,7 @@ pub fn route<T: MetricTable>(
 /// The least of 16, of the cost at which a router has a prefix itself, and of what its neighbours
 /// offer (RFC 2453, section 3.9.2).
 pub fn equation<T: MetricTable>(plan: &Plan, table: &T, router: usize, prefix: usize) -> Metric
-    requires fits { FitsPlan plan.now (T.state table.now) }
+    requires fits { Fits plan.now (T.state table.now) }
     requires router { router < length plan.now.routers }
     requires prefix { prefix < length (T.state table.now).prefixes }
     ensures { IsLeastChoice plan.now (T.state table.now) router prefix result }

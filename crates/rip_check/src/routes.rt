@@ -2,16 +2,14 @@
 
 ghost use Rattle.std.specs.Prelude.{◌≡◌, ◌≢◌, ℕ, ◌<◌, ◌≤◌, ◌⊎◌, Decides, IfErr, IfNone, IfOk, IfSome, IsTrue, None, Some, false, length};
 ghost use Rattle.rip_plan.specs.Relations.{HasTwoInterfaces, IsLeaf};
-ghost use Rattle.rip_table.specs.State.{Fits as FitsPlan};
-ghost use Rattle.rip_check.specs.Captured.{showing_of};
-ghost use Rattle.rip_check.specs.Firsts.{IsFirstGap, IsReadable, IsReason, IsShownBelow, ShowsEach};
-ghost use Rattle.rip_check.specs.Tables.{Fits, IsSilent, MayShow, Route as TableRoute, IsAsTold};
-ghost use Rattle.rip_check.specs.Telling.{IsSilentLink, IsMute, IsSpoken, Tells};
+ghost use Rattle.rip_table.specs.State.{Fits};
+ghost use Rattle.rip_check.specs.Firsts.{IsFirstGap, IsReadable, IsReason, ShowsEach};
+ghost use Rattle.rip_check.specs.Tables.{FitsShown, Route as TableRoute, Tells};
 ghost use Rattle.rip_check.specs.TwoLeasts.{AreTwoLeast};
 ghost use Rattle.rip_check.specs.Verdicts.{IsHidden};
 
 use crate::links::TwoLeast;
-use crate::lookup::{in_range, shown_at, shown_or_0};
+use crate::lookup::{in_range, shown_at};
 use crate::offers::best_over;
 use crate::surveys::survey_of;
 use crate::verdict::Unclear;
@@ -34,16 +32,16 @@ fn read_route<T: MetricTable>(
     router: usize,
     prefix: usize,
 ) -> Option<Reading>
-    requires fits { FitsPlan plan.now (T.state table.now) }
+    requires fits { Fits plan.now (T.state table.now) }
     requires router { router < length plan.now.routers }
     requires prefix { prefix < length (T.state table.now).prefixes }
     requires two { HasTwoInterfaces plan.now router }
     ensures most { IfSome result (λ t. t.metric ≤ 16) }
     ensures shown { IfSome result (λ t. t.hidden ≡ false) }
-    ensures some { IfSome result (λ t. Tells plan.now (showing_of (T.state table.now)) router prefix
+    ensures some { IfSome result (λ t. Tells plan.now (T.state table.now) router prefix
         (record { metric = t.metric; way = t.way })) }
     ensures none { IfNone result ((t : TableRoute) →
-        Tells plan.now (showing_of (T.state table.now)) router prefix t → ⊥) }
+        Tells plan.now (T.state table.now) router prefix t → ⊥) }
 {
     plan.lawful();
     in_range(plan, table);
@@ -76,13 +74,13 @@ fn read_route<T: MetricTable>(
 
 /// The link of a router's first interface that shows nothing.
 fn first_gap<T: MetricTable>(plan: &Plan, table: &T, router: usize, prefix: usize) -> Option<usize>
-    requires fits { FitsPlan plan.now (T.state table.now) }
+    requires fits { Fits plan.now (T.state table.now) }
     requires router { router < length plan.now.routers }
     requires prefix { prefix < length (T.state table.now).prefixes }
     ensures some { IfSome result (λ l.
-        IsFirstGap plan.now (showing_of (T.state table.now)) router prefix l) }
+        IsFirstGap plan.now (T.state table.now) router prefix l) }
     ensures none { IfNone result
-        (ShowsEach plan.now (showing_of (T.state table.now)) router prefix) }
+        (ShowsEach plan.now (T.state table.now) router prefix) }
 {
     let numbers = plan.of_router(router);
     for i in numbers {
@@ -102,10 +100,10 @@ pub(crate) fn reason<T: MetricTable>(
     router: usize,
     prefix: usize,
 ) -> Unclear
-    requires fits { FitsPlan plan.now (T.state table.now) }
+    requires fits { Fits plan.now (T.state table.now) }
     requires router { router < length plan.now.routers }
     requires prefix { prefix < length (T.state table.now).prefixes }
-    ensures { IsReason plan.now (showing_of (T.state table.now)) router prefix result }
+    ensures { IsReason plan.now (T.state table.now) router prefix result }
 {
     let found = survey_of(plan, table, router, prefix);
     if found.another {
@@ -129,57 +127,52 @@ fn leaf_route<T: MetricTable>(
     router: usize,
     prefix: usize,
 ) -> Reading
-    requires fits { FitsPlan plan.now (T.state table.now) }
+    requires fits { Fits plan.now (T.state table.now) }
     requires router { router < length plan.now.routers }
     requires prefix { prefix < length (T.state table.now).prefixes }
-    requires links { AreTwoLeast plan.now (showing_of (T.state table.now)) prefix links.now }
+    requires links { AreTwoLeast plan.now (T.state table.now) prefix links.now }
     requires leaf { (i l c : ℕ) × IsLeaf plan.now router i l c }
     ensures most { result.metric ≤ 16 }
-    ensures fits { Fits plan.now (showing_of (T.state table.now)) router prefix
+    ensures fits { FitsShown plan.now (T.state table.now) router prefix
         (record { metric = result.metric; way = result.way }) }
     ensures hidden { Decides result.hidden
-        (IsHidden plan.now (showing_of (T.state table.now)) router prefix) }
+        (IsHidden plan.now (T.state table.now) router prefix) }
     ensures one { IsTrue result.hidden
-        ⊎ ((u : TableRoute) → Tells plan.now (showing_of (T.state table.now)) router prefix u →
+        ⊎ ((u : TableRoute) → Tells plan.now (T.state table.now) router prefix u →
         u ≡ record { metric = result.metric; way = result.way }) }
 {
     plan.lawful();
     let i = plan.of_router(router)[0];
     let own = plan.interface(i);
-    let shown = shown_or_0(plan, table, i, prefix);
-    if 0 < shown && shown < 16 {
-        return Reading {
-            metric: shown,
+    let shown = shown_at(plan, table, i, prefix);
+    match shown {
+        Some(metric) if metric < 16 => Reading {
+            metric,
             way: Way::Here,
             hidden: false,
-        };
-    }
-    let carried = plan.is_place(own.link, prefix);
-    if carried {
-        return Reading {
+        },
+        _ if plan.is_place(own.link, prefix) => Reading {
             metric: u32::from(own.cost),
             way: Way::Here,
             hidden: true,
-        };
-    }
-    if shown == 0 {
-        return Reading {
+        },
+        None => Reading {
             metric: 16,
             way: Way::Unreachable,
             hidden: false,
-        };
-    }
-    let link = own.link;
-    let least = best_over(plan, table, links, own, prefix, 16);
-    let way = if least < 16 {
-        Way::Over(link)
-    } else {
-        Way::Unreachable
-    };
-    Reading {
-        metric: least,
-        way,
-        hidden: true,
+        },
+        Some(_) => {
+            let least = best_over(plan, table, links, own, prefix, 16);
+            Reading {
+                metric: least,
+                way: if least < 16 {
+                    Way::Over(own.link)
+                } else {
+                    Way::Unreachable
+                },
+                hidden: true,
+            }
+        }
     }
 }
 
@@ -191,22 +184,22 @@ pub(crate) fn read<T: MetricTable>(
     router: usize,
     prefix: usize,
 ) -> Option<Reading>
-    requires fits { FitsPlan plan.now (T.state table.now) }
+    requires fits { Fits plan.now (T.state table.now) }
     requires router { router < length plan.now.routers }
     requires prefix { prefix < length (T.state table.now).prefixes }
-    requires links { AreTwoLeast plan.now (showing_of (T.state table.now)) prefix links.now }
+    requires links { AreTwoLeast plan.now (T.state table.now) prefix links.now }
     ensures most { IfSome result (λ t. t.metric ≤ 16) }
     ensures fits { IfSome result
-        (λ t. Fits plan.now (showing_of (T.state table.now)) router prefix
+        (λ t. FitsShown plan.now (T.state table.now) router prefix
         (record { metric = t.metric; way = t.way })) }
     ensures hidden { IfSome result
-        (λ t. Decides t.hidden (IsHidden plan.now (showing_of (T.state table.now)) router prefix)) }
+        (λ t. Decides t.hidden (IsHidden plan.now (T.state table.now) router prefix)) }
     ensures one { IfSome result
         (λ t. IsTrue t.hidden ⊎
-        ((u : TableRoute) → Tells plan.now (showing_of (T.state table.now)) router prefix u →
+        ((u : TableRoute) → Tells plan.now (T.state table.now) router prefix u →
         u ≡ record { metric = t.metric; way = t.way })) }
     ensures none { IfNone result
-        (IsReadable plan.now (showing_of (T.state table.now)) router prefix → ⊥) }
+        (IsReadable plan.now (T.state table.now) router prefix → ⊥) }
 {
     plan.lawful();
     in_range(plan, table);

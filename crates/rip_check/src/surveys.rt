@@ -1,13 +1,14 @@
 //! What a router shows of a prefix, found by one walk over its interfaces.
 
-ghost use Rattle.std.specs.Prelude.{◌≡◌, ℕ, ◌+◌, ◌<◌, ◌≤◌, None, Some, length};
+ghost use Rattle.std.specs.Prelude.{◌≡◌, ℕ, ◌+◌, ◌<◌, ◌≤◌, IfSome, None, Some, length};
+ghost use Rattle.rip_plan.specs.Network.{Network};
 ghost use Rattle.rip_plan.specs.Relations.{IsInterface};
-ghost use Rattle.rip_table.specs.State.{Fits as FitsPlan};
-ghost use Rattle.rip_check.specs.Captured.{showing_of};
-ghost use Rattle.rip_check.specs.Surveys.{IsShownAs, IsSurvey};
-ghost use Rattle.rip_check.specs.Tables.{Showing};
+ghost use Rattle.rip_table.specs.State.{Fits, State};
+ghost use Rattle.rip_check.specs.Captured.{metric_at};
+ghost use Rattle.rip_check.specs.Surveys.{IsSurvey};
+ghost use Rattle.rip_check.specs.Tables.{IsSilent};
 
-use crate::lookup::shown_or_0;
+use crate::lookup::shown_at;
 use rip_plan::Plan;
 use rip_table::MetricTable;
 
@@ -25,29 +26,40 @@ pub(crate) struct Survey {
     pub blocked: bool,
 }
 
-/// The survey with one more interface, which is on this link and shows this, 0 for nothing.
-fn with_shown(plan: &Plan, found: Survey, link: usize, prefix: usize, shown: u32) -> Survey
-    requires { shown ≤ 16 }
-    ensures { (t : Showing) (r i c : ℕ) → IsSurvey plan.now t r prefix i found →
-        IsInterface plan.now i r link c → IsShownAs shown (t.cell i prefix) →
+/// The survey with one more interface, which shows this metric below 16.
+fn with_metric(found: Survey, metric: u32) -> Survey
+    requires low { 1 ≤ metric }
+    requires high { metric < 16 }
+    ensures { (n : Network) (t : State) (r i l c p : ℕ) → IsSurvey n t r p i found →
+        IsInterface n i r l c → metric_at t i p ≡ Some metric →
+        IsSurvey n t r p (i + 1) result }
+{
+    if found.metric == 16 {
+        return Survey { metric, ..found };
+    }
+    if metric == found.metric {
+        return found;
+    }
+    Survey {
+        another: true,
+        ..found
+    }
+}
+
+/// The survey with one more interface, which is on this link and shows nothing or 16.
+fn with_silence(
+    plan: &Plan,
+    found: Survey,
+    link: usize,
+    prefix: usize,
+    shown: Option<u32>,
+) -> Survey
+    requires { IsSilent shown }
+    ensures { (t : State) (r i c : ℕ) → IsSurvey plan.now t r prefix i found →
+        IsInterface plan.now i r link c → metric_at t i prefix ≡ shown →
         IsSurvey plan.now t r prefix (i + 1) result }
 {
     plan.lawful();
-    if 0 < shown && shown < 16 {
-        if found.metric == 16 {
-            return Survey {
-                metric: shown,
-                ..found
-            };
-        }
-        if shown == found.metric {
-            return found;
-        }
-        return Survey {
-            another: true,
-            ..found
-        };
-    }
     if found.silent.is_some() || plan.is_place(link, prefix) {
         return Survey {
             blocked: true,
@@ -56,8 +68,21 @@ fn with_shown(plan: &Plan, found: Survey, link: usize, prefix: usize, shown: u32
     }
     Survey {
         silent: Some(link),
-        blocked: found.blocked || shown == 0,
+        blocked: found.blocked || shown.is_none(),
         ..found
+    }
+}
+
+/// The survey with one more interface, which is on this link and shows this.
+fn with_shown(plan: &Plan, found: Survey, link: usize, prefix: usize, shown: Option<u32>) -> Survey
+    requires { IfSome shown (λ m. (1 ≤ m) × (m ≤ 16)) }
+    ensures { (t : State) (r i c : ℕ) → IsSurvey plan.now t r prefix i found →
+        IsInterface plan.now i r link c → metric_at t i prefix ≡ shown →
+        IsSurvey plan.now t r prefix (i + 1) result }
+{
+    match shown {
+        Some(metric) if metric < 16 => with_metric(found, metric),
+        _ => with_silence(plan, found, link, prefix, shown),
     }
 }
 
@@ -68,10 +93,10 @@ pub(crate) fn survey_of<T: MetricTable>(
     router: usize,
     prefix: usize,
 ) -> Survey
-    requires fits { FitsPlan plan.now (T.state table.now) }
+    requires fits { Fits plan.now (T.state table.now) }
     requires router { router < length plan.now.routers }
     requires prefix { prefix < length (T.state table.now).prefixes }
-    ensures { IsSurvey plan.now (showing_of (T.state table.now)) router prefix
+    ensures { IsSurvey plan.now (T.state table.now) router prefix
         (length plan.now.interfaces) result }
 {
     let mut found = Survey {
@@ -83,7 +108,7 @@ pub(crate) fn survey_of<T: MetricTable>(
     let numbers = plan.of_router(router);
     for i in numbers {
         let own = plan.interface(*i);
-        let shown = shown_or_0(plan, table, *i, prefix);
+        let shown = shown_at(plan, table, *i, prefix);
         found = with_shown(plan, found, own.link, prefix, shown);
     }
     found

@@ -1,12 +1,10 @@
 //! All places that do not hold, found at once.
 
 ghost use Rattle.std.specs.Prelude.{◌≡◌, ◌≢◌, ℕ, ◌+◌, ◌*◌, ◌<◌, ◌≤◌, IfNone, IfOk, IfSome, length, slice_index};
-ghost use Rattle.rip_table.specs.State.{Fits as FitsPlan};
-ghost use Rattle.rip_check.specs.Audits.{HoldsAfter, IsKnownPlace, IsNextUnsettled};
-ghost use Rattle.rip_check.specs.Captured.{showing_of};
+ghost use Rattle.rip_table.specs.State.{Fits};
 ghost use Rattle.rip_check.specs.Marks.{AreUnsettled, IsMark};
 ghost use Rattle.rip_check.specs.TwoLeasts.{AreTwoLeast};
-ghost use Rattle.rip_check.specs.Verdicts.{IsFailing};
+ghost use Rattle.rip_check.specs.Verdicts.{IsFailing, IsNextUnsettled, HoldsAfter, IsKnownPlace};
 
 use crate::links::{NOTHING, TwoLeast, fill};
 use crate::lookup::in_range;
@@ -33,11 +31,11 @@ fn mark_of<T: MetricTable>(
     router: usize,
     prefix: usize,
 ) -> u8
-    requires fits { FitsPlan plan.now (T.state table.now) }
+    requires fits { Fits plan.now (T.state table.now) }
     requires router { router < length plan.now.routers }
     requires prefix { prefix < length (T.state table.now).prefixes }
-    requires links { AreTwoLeast plan.now (showing_of (T.state table.now)) prefix links.now }
-    ensures { IsMark plan.now (showing_of (T.state table.now)) router prefix result }
+    requires links { AreTwoLeast plan.now (T.state table.now) prefix links.now }
+    ensures { IsMark plan.now (T.state table.now) router prefix result }
 {
     plan.lawful();
     in_range(plan, table);
@@ -55,13 +53,13 @@ fn mark_prefix<T: MetricTable>(
     prefix: usize,
     marks: &mut [u8],
 )
-    requires fits { FitsPlan plan.now (T.state table.now) }
+    requires fits { Fits plan.now (T.state table.now) }
     requires prefix { prefix < length (T.state table.now).prefixes }
-    requires links { AreTwoLeast plan.now (showing_of (T.state table.now)) prefix links.now }
+    requires links { AreTwoLeast plan.now (T.state table.now) prefix links.now }
     requires size { length marks.old
         ≡ length plan.now.routers * length (T.state table.now).prefixes }
     ensures marked { (r : ℕ) → r < length plan.now.routers →
-        IsMark plan.now (showing_of (T.state table.now)) r prefix
+        IsMark plan.now (T.state table.now) r prefix
         (slice_index marks.new (r * length (T.state table.now).prefixes + prefix)) }
     ensures others { (r q : ℕ) → q < length (T.state table.now).prefixes → q ≢ prefix →
         slice_index marks.new (r * length (T.state table.now).prefixes + q) ≡ slice_index marks.old
@@ -81,7 +79,7 @@ impl Unsettled {
         plan: &Plan,
         table: &T,
     ) -> Result<Unsettled, AllocError>
-        requires { FitsPlan plan.now (T.state table.now) }
+        requires { Fits plan.now (T.state table.now) }
         ensures { IfOk result (λ unsettled. AreUnsettled plan.now (T.state table.now) unsettled) }
     {
         plan.lawful();
@@ -118,7 +116,7 @@ impl Unsettled {
 
     /// A marked place with its values.
     fn place<T: MetricTable>(&self, plan: &Plan, table: &T, router: usize, prefix: usize) -> Place2
-        requires fits { FitsPlan plan.now (T.state table.now) }
+        requires fits { Fits plan.now (T.state table.now) }
         requires places { AreUnsettled plan.now (T.state table.now) self.now }
         requires router { router < length plan.now.routers }
         requires prefix { prefix < length (T.state table.now).prefixes }
@@ -126,7 +124,7 @@ impl Unsettled {
             (router * length (T.state table.now).prefixes + prefix) }
         ensures router { result.router ≡ router }
         ensures prefix { result.prefix ≡ prefix }
-        ensures values { IsFailing plan.now (showing_of (T.state table.now)) result }
+        ensures values { IsFailing plan.now (T.state table.now) result }
     {
         plan.lawful();
         in_range(plan, table);
@@ -143,7 +141,7 @@ impl Unsettled {
         table: &T,
         after: Option<(usize, usize)>,
     ) -> Option<Place2>
-        requires fits { FitsPlan plan.now (T.state table.now) }
+        requires fits { Fits plan.now (T.state table.now) }
         requires places { AreUnsettled plan.now (T.state table.now) self.now }
         requires known { IsKnownPlace (T.state table.now) after }
         ensures some { IfSome result

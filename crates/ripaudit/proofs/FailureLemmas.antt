@@ -4,7 +4,6 @@ use Rattle.std.proofs.Math.Nat.{mul-le-mul_right, suc-mul}
 use Rattle.rip_plan.specs.Network.{Network}
 use Rattle.rip_plan.specs.Relations.{IsLawful}
 use Rattle.rip_table.specs.State.{State}
-use Rattle.rip_check.specs.Audits.{HoldsAfter, IsKnownPlace, IsNextUnsettled}
 use Rattle.rip_check.specs.Firsts.{IsBefore}
 use Rattle.rip_check.specs.declared.verdict.Place2.{Place2}
 use Rattle.rip_check.specs.declared.way.Way.{Way}
@@ -14,6 +13,7 @@ use Rattle.ripaudit.specs.AuditText.{FailureLines, no_more, one_more, unsettled_
 use Rattle.ripaudit.specs.Sent.{Began, Writes}
 use Rattle.rip_log.specs.declared.device.Failed.{Failed}
 use Rattle.ripaudit.proofs.SentLemmas.{Began-front, Writes-more, Writes-same}
+use Rattle.rip_check.specs.Verdicts.{IsNextUnsettled, HoldsAfter, IsKnownPlace}
 
 -- how many places are left
 abbrev pub places_left : ℕ → ℕ → Option (ℕ × ℕ) → ℕ
@@ -75,7 +75,7 @@ pub known_place : (n : Network) (s : State) (after : Option (ℕ × ℕ)) (f : P
 known_place n s after f lawful next = record {
   router = next.first.router;
   prefix = next.first.prefix;
-  way = known_way n f.router f.prefix f.metric f.way lawful next.values.fits.way_fits;
+  way = known_way n f.router f.prefix f.metric f.way lawful next.values.fits.told.way_fits;
 }
 
 -- fewer places are left

@@ -13,8 +13,6 @@ use Rattle.rip_table.specs.Joined.{Outcome}
 use Rattle.rip_table.specs.State.{State, new_state}
 use Rattle.rip_table.specs.declared.error.CollectError.{CollectError}
 use Rattle.ripaudit.specs.ReportText.{IsAccepted, IsTable}
-use Rattle.ripaudit.specs.Sent.{BeginningOut, WentOut}
-use Rattle.ripaudit.specs.Written.{Written}
 use Rattle.ripaudit.specs.declared.status.Status.{Status}
 use Rattle.ripaudit.specs.declared.status.RunError.{RunError}
 use Rattle.ripaudit.specs.declared.status.RunError.TheVariants.{Memory}
@@ -60,11 +58,3 @@ of_refused IsSaid bytes log n s e (Ok status) told wanted k = absurd (never (sym
     other : ◌≡◌ {A = Result Status RunError} (Ok status) (Err Memory) → ⊥
     other h = absurd (cc)
 of_refused IsSaid bytes log n s e (Err f) told wanted k = tt
-
--- what went out is one of other texts too
-pub went-on : (IsText IsAlso : Written → Type 0) (a b : Option (List ℕ)) (outcome : Result Status RunError) → ((w : Written) → IsText w → IsAlso w) → IfOk outcome (WentOut IsText a b) → IfOk outcome (WentOut IsAlso a b)
-went-on IsText IsAlso a b (Ok status) also h = (h.0, also (record { text = h.0; status = status }) h.1, h.2)
-went-on IsText IsAlso a b (Err e) also h = tt
-
-pub began-on : (IsText IsAlso : Written → Type 0) (a b : Option (List ℕ)) → ((w : Written) → IsText w → IsAlso w) → BeginningOut IsText a b → BeginningOut IsAlso a b
-began-on IsText IsAlso a b also h = (h.0, also h.0 h.1, h.2)

@@ -1,13 +1,11 @@
 -- Verdicts and their statuses.
-use Rattle.std.proofs.Common.{◌≡◌, ℕ, Bool, List, Option, None, Result, Ok, Err, length, refl, ap}
+use Rattle.std.proofs.Common.{◌≡◌, ℕ, Bool, List, Option, None, Result, Ok, Err, refl, ap}
 use Rattle.std.specs.Prelude.{◌↔◌, IfOk}
 use Rattle.rip_plan.specs.Network.{Network}
 use Rattle.rip_plan.specs.Relations.{IsLawful}
 use Rattle.rip_log.specs.declared.device.Failed.{Failed}
 use Rattle.rip_table.specs.State.{State}
-use Rattle.rip_check.specs.Audits.{IsNextUnsettled, PacketsArrive, ShowsRightTables, ShowsTables, TroubleIs}
-use Rattle.rip_check.specs.Captured.{showing_of}
-use Rattle.rip_check.specs.Verdicts.{IsVerdict}
+use Rattle.rip_check.specs.Verdicts.{IsVerdict, ShowsTables, IsNextUnsettled}
 use Rattle.rip_check.specs.declared.verdict.Place2.{Place2}
 use Rattle.rip_check.specs.declared.verdict.Unclear.{Unclear}
 use Rattle.rip_check.specs.declared.verdict.Unclear.TheVariants.{NotHeard, TwoMetrics, Missing, TwoWays}
@@ -18,9 +16,12 @@ use Rattle.ripaudit.specs.Finished.{finished}
 use Rattle.ripaudit.specs.declared.status.Status.{Status}
 use Rattle.ripaudit.specs.declared.status.Status.TheVariants.{Settled, Unsettled, Unclear as IsUnclear}
 use Rattle.ripaudit.specs.declared.status.RunError.{RunError}
+use Rattle.rip_check.specs.Laws.{ShowsRightTables}
+use Rattle.rip_check.specs.Firsts.{IsFirstTrouble}
+use Rattle.rip_check.specs.Walks.{PacketsArrive}
 
 -- what a trouble names is known
-pub known_trouble : (n : Network) (s : State) (trouble : Unclear) → IsLawful n → TroubleIs n s trouble → IsTroubleOf n s trouble
+pub known_trouble : (n : Network) (s : State) (trouble : Unclear) → IsLawful n → IsFirstTrouble n s trouble → IsTroubleOf n s trouble
 known_trouble n s (NotHeard r l) lawful h = (lawful.router_known h.interface r l h.cost h.its, lawful.link_known h.interface r l h.cost h.its)
 known_trouble n s (TwoMetrics r p) lawful (heard, h) = (rw h.reason.0 h.first.router, rw h.reason.1 h.first.prefix)
 known_trouble n s (Missing r p l) lawful (heard, h) = (rw h.reason.0 h.first.router, rw h.reason.1 h.first.prefix, lawful.link_known h.reason.3.interface h.router l h.reason.3.cost h.reason.3.its)
@@ -30,11 +31,11 @@ known_trouble n s (TwoWays r p) lawful (heard, h) = (rw h.reason.0 h.first.route
 pub record Judges (n : Network) (s : State) (v : Verdict) : Type 0 where
   pub settled : (v ≡ verdicts.Settled) ↔ ShowsRightTables n s
   pub unsettled : (f : Place2) → (v ≡ verdicts.Unsettled f) ↔ (ShowsTables n s × IsNextUnsettled n s None f)
-  pub unclear : (trouble : Unclear) → (v ≡ verdicts.Unclear trouble) ↔ TroubleIs n s trouble
+  pub unclear : (trouble : Unclear) → (v ≡ verdicts.Unclear trouble) ↔ IsFirstTrouble n s trouble
   pub no_tables : ((trouble : Unclear) × (v ≡ verdicts.Unclear trouble)) ↔ (ShowsTables n s → ⊥)
   pub arrive : v ≡ verdicts.Settled → PacketsArrive n s
 
-pub said : (n : Network) (s : State) (v : Verdict) → Judges n s v → IsVerdict n (length s.prefixes) (showing_of s) v
+pub said : (n : Network) (s : State) (v : Verdict) → Judges n s v → IsVerdict n s v
 said n s verdicts.Settled j = j.settled.0 refl
 said n s (verdicts.Unsettled f) j = (j.unsettled f).0 refl
 said n s (verdicts.Unclear trouble) j = (j.unclear trouble).0 refl
@@ -78,13 +79,13 @@ ended_judged n s status (Ok done) outcome is h = rw is h
 ended_judged n s status (Err e) outcome is h = rw is tt
 
 -- what each verdict writes
-pub settled_told : (n : Network) (s : State) (all : Bool) (v : Verdict) → v ≡ verdicts.Settled → IsVerdict n (length s.prefixes) (showing_of s) v → VerdictText n s all (record { text = settled_line n s; status = verdict_status v })
+pub settled_told : (n : Network) (s : State) (all : Bool) (v : Verdict) → v ≡ verdicts.Settled → IsVerdict n s v → VerdictText n s all (record { text = settled_line n s; status = verdict_status v })
 settled_told n s all v e h = rw e (a_settled (rw e at h))
 
-pub unclear_told : (n : Network) (s : State) (all : Bool) (v : Verdict) (trouble : Unclear) → v ≡ verdicts.Unclear trouble → IsVerdict n (length s.prefixes) (showing_of s) v → VerdictText n s all (record { text = unclear_line n s trouble; status = verdict_status v })
+pub unclear_told : (n : Network) (s : State) (all : Bool) (v : Verdict) (trouble : Unclear) → v ≡ verdicts.Unclear trouble → IsVerdict n s v → VerdictText n s all (record { text = unclear_line n s trouble; status = verdict_status v })
 unclear_told n s all v trouble e h = rw e (an_unclear trouble (rw e at h))
 
-pub unsettled_told : (n : Network) (s : State) (all : Bool) (v : Verdict) (f : Place2) (text : List ℕ) → v ≡ verdicts.Unsettled f → IsVerdict n (length s.prefixes) (showing_of s) v → UnsettledLines n s all f text → VerdictText n s all (record { text = text; status = verdict_status v })
+pub unsettled_told : (n : Network) (s : State) (all : Bool) (v : Verdict) (f : Place2) (text : List ℕ) → v ≡ verdicts.Unsettled f → IsVerdict n s v → UnsettledLines n s all f text → VerdictText n s all (record { text = text; status = verdict_status v })
 unsettled_told n s all v f text e h lines = let both = rw e at h in rw e (an_unsettled f text both.0 both.1 lines)
 
 pub ifok-map : {A E : Type 0} {P Q : A → Type 0} (r : Result A E) → ((x : A) → P x → Q x) → IfOk r P → IfOk r Q

@@ -3,7 +3,6 @@ use Rattle.std.specs.Prelude.{◌≡◌, ◌↔◌, ℕ, ◌==◌, ◌<◌, nat_
 use Rattle.rip_wire.specs.Prefix.{prefix_text}
 use Rattle.rip_plan.specs.Network.{Network, each_below, is_of, numbers_where}
 use Rattle.rip_table.specs.State.{State}
-use Rattle.rip_check.specs.Audits.{HoldsAfter, IsNextUnsettled, PacketsArrive, ShowsRightTables, ShowsTables, TroubleIs}
 use Rattle.rip_check.specs.declared.verdict.Place2.{Place2}
 use Rattle.rip_check.specs.declared.verdict.Unclear.{Unclear}
 use Rattle.rip_check.specs.declared.verdict.Unclear.TheVariants.{NotHeard, TwoMetrics, Missing, TwoWays}
@@ -17,6 +16,10 @@ use Rattle.ripaudit.specs.Sent.{WentOut}
 use Rattle.ripaudit.specs.Written.{Written, line}
 use Rattle.ripaudit.specs.declared.status.Status.{Status}
 use Rattle.ripaudit.specs.declared.status.Status.TheVariants.{Settled, Unsettled, Unclear as IsUnclear}
+use Rattle.rip_check.specs.Laws.{ShowsRightTables}
+use Rattle.rip_check.specs.Verdicts.{ShowsTables, IsNextUnsettled, HoldsAfter}
+use Rattle.rip_check.specs.Firsts.{IsFirstTrouble}
+use Rattle.rip_check.specs.Walks.{PacketsArrive}
 
 -- ---- Lines
 
@@ -128,7 +131,7 @@ UnsettledLines n s false f text = text ≡ unsettled_line n s f
 pub data VerdictText (n : Network) (s : State) (all : Bool) : Written → Type 0 where
   a_settled : ShowsRightTables n s
       → VerdictText n s all (record { text = settled_line n s; status = Settled })
-  an_unclear : (trouble : Unclear) → TroubleIs n s trouble
+  an_unclear : (trouble : Unclear) → IsFirstTrouble n s trouble
       → VerdictText n s all (record { text = unclear_line n s trouble; status = IsUnclear })
   an_unsettled : (f : Place2) (text : List ℕ) → ShowsTables n s → IsNextUnsettled n s None f
       → UnsettledLines n s all f text
@@ -153,7 +156,7 @@ pub record IsJudged (n : Network) (s : State) (status : Status) : Type 0 where
   pub arrive : status ≡ Settled → PacketsArrive n s
   pub unsettled : (status ≡ Unsettled)
       ↔ (ShowsTables n s × ((f : Place2) × IsNextUnsettled n s None f))
-  pub unclear : (status ≡ IsUnclear) ↔ ((trouble : Unclear) × TroubleIs n s trouble)
+  pub unclear : (status ≡ IsUnclear) ↔ ((trouble : Unclear) × IsFirstTrouble n s trouble)
   pub no_tables : (status ≡ IsUnclear) ↔ (ShowsTables n s → ⊥)
 
 -- the lines of the verdict on the table went out, which name its first place that fails or its

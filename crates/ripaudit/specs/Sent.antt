@@ -1,9 +1,12 @@
 -- What has gone out of a text, by the bytes that a sink has taken before and after.
-use Rattle.std.specs.Prelude.{◌≡◌, ℕ, Bool, true, false, List, ◌++◌, Option, Result, OnErr, OnOk, is_err}
-use Rattle.std.specs.Io.KnownBytes.{Appends}
+use Rattle.std.specs.Prelude.{◌≡◌, ◌≢◌, ℕ, Bool, true, false, List, ◌++◌, Option, Result, Err, IfOk, OnErr, OnOk, is_err}
+use Rattle.std.specs.Io.KnownBytes.{Appends, Keeps}
 use Rattle.rip_log.specs.declared.device.Failed.{Failed}
 use Rattle.ripaudit.specs.Written.{Written}
 use Rattle.ripaudit.specs.declared.status.Status.{Status}
+use Rattle.ripaudit.specs.declared.status.Status.TheVariants.{Refused}
+use Rattle.ripaudit.specs.declared.status.RunError.{RunError}
+use Rattle.ripaudit.specs.declared.status.RunError.TheVariants.{Read, Write, Memory}
 
 -- a front of the text went out, and `left` is the rest of it
 pub record Sent (old new : Option (List ℕ)) (text left : List ℕ) : Type 0 where
@@ -39,3 +42,37 @@ WentOut IsText old new status =
 -- a beginning of one of these texts went out
 abbrev pub BeginningOut : (Written → Type 0) → Option (List ℕ) → Option (List ℕ) → Type 0
 BeginningOut IsText old new = (w : Written) × IsText w × Began old new w.text
+
+-- what a run leaves that prints one of these texts
+pub record Prints
+    {K : Type 0}
+    (taken : K → Option (List ℕ))
+    (broken : K → Bool)
+    (old new : K)
+    (result : Result Status RunError)
+    (IsText : Written → Type 0)
+    : Type 0 where
+  -- the whole text went out, and nothing else
+  pub text : IfOk result (WentOut IsText (taken old) (taken new))
+  -- the sink has failed, and a beginning of the text went out
+  pub write : result ≡ Err Write
+      → (broken new ≡ true) × BeginningOut IsText (taken old) (taken new)
+  -- with Read and with Memory nothing went out
+  pub read : result ≡ Err Read → Keeps (taken old) (taken new)
+  pub memory : result ≡ Err Memory → Keeps (taken old) (taken new)
+  -- every other answer leaves the sink's mark as it was
+  pub sink : result ≢ Err Write → broken new ≡ broken old
+
+-- what a run leaves that reads a log
+pub record Reads
+    {R : Type 0}
+    (broken at_end : R → Bool)
+    (old new : R)
+    (result : Result Status RunError)
+    : Type 0 where
+  -- the source has failed
+  pub read : result ≡ Err Read → broken new ≡ true
+  -- every other answer leaves the source's mark as it was
+  pub source : result ≢ Err Read → broken new ≡ broken old
+  -- what is printed of a log comes only where the source has come to its end
+  pub ended : IfOk result (λ status. status ≢ Refused → at_end new ≡ true)

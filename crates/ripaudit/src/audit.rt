@@ -3,19 +3,18 @@
 mod lines;
 
 ghost use Rattle.std.specs.Prelude.{◌≡◌, ◌≢◌, ◌↔◌, ◌++◌, ℕ, List, [], Err, IfOk, IfSome, None, Some, false, is_err, is_some, true, length};
-ghost use Rattle.std.specs.Io.KnownBytes.{Keeps};
 ghost use Rattle.rip_plan.specs.Answers.{first_fault};
 ghost use Rattle.rip_plan.specs.Network.{Network};
 ghost use Rattle.rip_plan.specs.declared.error.PlanError.{PlanError};
 ghost use Rattle.rip_table.specs.State.{Fits, State};
-ghost use Rattle.rip_check.specs.Audits.{IsNextUnsettled, PacketsArrive, ShowsRightTables};
-ghost use Rattle.rip_check.specs.Captured.{showing_of};
 ghost use Rattle.rip_check.specs.Marks.{AreUnsettled};
-ghost use Rattle.rip_check.specs.Verdicts.{IsVerdict};
+ghost use Rattle.rip_check.specs.Verdicts.{IsVerdict, IsNextUnsettled};
 ghost use Rattle.ripaudit.specs.AuditText.{AuditText, FailureLines, IsJudged, IsPlaceOf, IsTold, UnsettledLines, VerdictText, unsettled_line, verdict_status};
 ghost use Rattle.ripaudit.specs.Held.{held};
 ghost use Rattle.ripaudit.specs.ReportText.{IsAccepted};
-ghost use Rattle.ripaudit.specs.Sent.{BeginningOut, WentOut, Writes};
+ghost use Rattle.ripaudit.specs.Sent.{Prints, Reads, Writes};
+ghost use Rattle.rip_check.specs.Laws.{ShowsRightTables};
+ghost use Rattle.rip_check.specs.Walks.{PacketsArrive};
 
 use crate::output::{Page, finish, write_all};
 use crate::report::{Report, run_report};
@@ -151,8 +150,7 @@ fn write_verdict<T: MetricTable, K: Sink>(
     requires places { IfSome places.now (AreUnsettled plan.now (T.state table.now)) }
     requires all { (place : Place2) → verdict.now ≡ Verdict.Unsettled place →
         is_some places.now ≡ all }
-    requires verdict { IsVerdict plan.now
-        (length (T.state table.now).prefixes) (showing_of (T.state table.now)) verdict.now }
+    requires verdict { IsVerdict plan.now (T.state table.now) verdict.now }
     ensures { (text : List ℕ) × VerdictText plan.now (T.state table.now) all
         (record { text = text; status = verdict_status verdict.now })
         × Writes K.taken K.broken out.old out.new result text [] }
@@ -181,8 +179,6 @@ fn places_of<T: MetricTable>(
         IfSome places (AreUnsettled plan.now (T.state table.now))) }
     ensures all { IfOk result (λ places. (place : Place2) → verdict.now ≡ Verdict.Unsettled place →
         is_some places ≡ all) }
-    ensures memory { is_err result ≡ true →
-        (all ≡ true) × (verdict_status verdict.now ≡ Status.Unsettled) }
 {
     match verdict {
         Verdict::Unsettled(_) if all => Ok(Some(Unsettled::find(alloc, plan, table)?)),
@@ -199,15 +195,9 @@ fn audit_table<T: MetricTable, K: Sink>(
     out: &mut K,
 ) -> Result<Status, RunError>
     requires { Fits plan.now (T.state table.now) }
-    ensures text { IfOk result
-        (IsTold plan.now (T.state table.now) all (K.taken out.old) (K.taken out.new)) }
-    ensures write { result ≡ Err RunError.Write → (K.broken out.new ≡ true) × BeginningOut
-        (VerdictText plan.now (T.state table.now) all) (K.taken out.old) (K.taken out.new) }
-    ensures sink { result ≢ Err RunError.Write → K.broken out.new ≡ K.broken out.old }
+    ensures prints { Prints K.taken K.broken out.old out.new result
+        (VerdictText plan.now (T.state table.now) all) }
     ensures read { result ≢ Err RunError.Read }
-    ensures memory { result ≡ Err RunError.Memory → Keeps (K.taken out.old) (K.taken out.new) }
-    ensures wanted { result ≡ Err RunError.Memory →
-        (all ≡ true) × IsJudged plan.now (T.state table.now) Status.Unsettled }
     ensures judged { IfOk result (IsJudged plan.now (T.state table.now)) }
 {
     let verdict = judge(plan, table);
@@ -262,23 +252,12 @@ pub fn run_audit<R: Source, K: Sink, S: BuildHasher + Drop>(
     // What each verdict is answered for.
     ensures judged { (n : Network) (s : State) → IsAccepted plan.now (R.coming log) n s →
         IfOk result.1 (IsJudged n s) }
-    // The whole text went out, and nothing else.
-    ensures text { IfOk result.1 (WentOut (AuditText plan.now (R.coming log) all)
-        (K.taken out.old) (K.taken out.new)) }
-    // The sink has failed, and a beginning of the text went out.
-    ensures write { result.1 ≡ Err RunError.Write → (K.broken out.new ≡ true)
-        × BeginningOut (AuditText plan.now (R.coming log) all) (K.taken out.old) (K.taken out.new) }
-    // The source has failed, and nothing went out.
-    ensures read { result.1 ≡ Err RunError.Read →
-        (R.broken result.0 ≡ true) × Keeps (K.taken out.old) (K.taken out.new) }
-    // With Memory nothing went out.
-    ensures memory { result.1 ≡ Err RunError.Memory → Keeps (K.taken out.old) (K.taken out.new) }
-    // Every other answer leaves the marks of the devices as they were.
-    ensures source { result.1 ≢ Err RunError.Read → R.broken result.0 ≡ R.broken log }
-    ensures sink { result.1 ≢ Err RunError.Write → K.broken out.new ≡ K.broken out.old }
-    // A verdict comes only where the source has come to its end.
-    ensures ended { IfOk result.1 (λ status.
-        status ≢ Status.Refused → R.at_end result.0 ≡ true) }
+    // The whole text went out, or a beginning where the sink failed, or nothing.
+    ensures prints { Prints K.taken K.broken out.old out.new result.1
+        (AuditText plan.now (R.coming log) all) }
+    // The source was read to its end, or has failed, or the plan or the log is refused.
+    ensures reads { Reads R.broken R.at_end log result.0 result.1 }
+    // The source of a refused plan is as it was.
     ensures untouched { (e : PlanError) → first_fault plan.now ≡ Some e → result.0 ≡ log }
 {
     run_report(alloc, &Audit { all }, plan, log, out, hasher)

@@ -1,12 +1,12 @@
 //! The command `decode`: one datagram in hexadecimal digits.
 
-ghost use Rattle.std.specs.Prelude.{◌≡◌, ◌+◌, ◌≤◌, ◌%◌, ◌↔◌, ◌++◌, ℕ, List, Ok, [], decimal, length, take, true, IfErr, IfOk, IsOk, IsTrue, MatchOption};
+ghost use Rattle.std.specs.Prelude.{◌≡◌, ◌+◌, ◌≤◌, ◌%◌, ◌↔◌, ◌++◌, ℕ, List, Ok, [], decimal, length, take, true, IfErr, IsTrue, MatchOption};
 ghost use Rattle.std.specs.List.{AllPass};
 ghost use Rattle.hex.specs.Hex.{decode_of, is_hex_digit};
 ghost use Rattle.rip_wire.specs.Datagram.{datagram_bytes, entries_of, kind_of, message_of};
 ghost use Rattle.ripaudit.specs.DecodeText.{DecodeText, entry_line, entry_lines, refused_wire, shown, shown_response, wire_code_text, wire_fault_text};
 ghost use Rattle.ripaudit.specs.Held.{held};
-ghost use Rattle.ripaudit.specs.Sent.{BeginningOut, WentOut, Writes};
+ghost use Rattle.ripaudit.specs.Sent.{Prints, Writes};
 ghost use Rattle.ripaudit.specs.Written.{line};
 
 use crate::line::Line;
@@ -158,12 +158,9 @@ fn write_datagram<K: Sink>(datagram: &Datagram<'_>, out: &mut K) -> Result<(), F
 /// Prints the datagram that a word spells in hexadecimal digits of either case, or what is wrong
 /// with it. A word of any length is judged. It takes no memory.
 pub fn run_decode<K: Sink>(hex: &str, out: &mut K) -> Result<Status, RunError>
-    // The whole text went out, and nothing else.
-    ensures text { IfOk result (WentOut (DecodeText hex.now) (K.taken out.old) (K.taken out.new)) }
-    // The sink has failed, and a beginning of the text went out.
-    ensures write { IfErr result (λ e. (e ≡ RunError.Write) × (K.broken out.new ≡ true)
-        × BeginningOut (DecodeText hex.now) (K.taken out.old) (K.taken out.new)) }
-    ensures marks { IsOk result → K.broken out.new ≡ K.broken out.old }
+    // The whole text went out, or a beginning where the sink failed.
+    ensures prints { Prints K.taken K.broken out.old out.new result (DecodeText hex.now) }
+    ensures write { IfErr result (λ e. e ≡ RunError.Write) }
 {
     let mut room = [0; ROOM];
     match bytes_of_hex(hex.as_bytes(), &mut room) {

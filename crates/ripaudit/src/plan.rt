@@ -1,11 +1,10 @@
 //! The command `plan`: the parts of a plan.
 
-ghost use Rattle.std.specs.Prelude.{◌≡◌, ◌≢◌, ◌+◌, ◌≤◌, ◌<◌, ◌↔◌, ◌++◌, [], Err, IfOk, IsOk, length, true};
-ghost use Rattle.std.specs.Io.KnownBytes.{Keeps};
+ghost use Rattle.std.specs.Prelude.{◌≡◌, ◌≢◌, ◌+◌, ◌≤◌, ◌<◌, ◌↔◌, ◌++◌, [], Err, length};
 ghost use Rattle.std.specs.List.{flat_map};
 ghost use Rattle.ripaudit.specs.PlanText.{IsSeat, PlanText, at_text, counts_line, interface_line, place_line, plan_code_text, refused_plan, seat_text, shown_plan, word_of};
 ghost use Rattle.ripaudit.specs.Held.{held};
-ghost use Rattle.ripaudit.specs.Sent.{BeginningOut, WentOut, Writes};
+ghost use Rattle.ripaudit.specs.Sent.{Prints, Writes};
 
 use crate::line::Line;
 use crate::names::{push_link, push_router};
@@ -202,14 +201,10 @@ fn write_plan<K: Sink>(plan: &Plan, out: &mut K) -> Result<(), Failed>
 
 /// Ends a run whose plan is refused, or for whose plan there is no memory.
 pub(crate) fn refuse_plan<K: Sink>(error: PlanError, out: &mut K) -> Result<Status, RunError>
-    ensures text { IfOk result
-        (WentOut (λ w. w ≡ refused_plan error) (K.taken out.old) (K.taken out.new)) }
-    ensures write { result ≡ Err RunError.Write → (K.broken out.new ≡ true)
-        × BeginningOut (λ w. w ≡ refused_plan error) (K.taken out.old) (K.taken out.new) }
+    ensures prints { Prints K.taken K.broken out.old out.new result
+        (λ w. w ≡ refused_plan error) }
     ensures wanted { (result ≡ Err RunError.Memory) ↔ (error.code ≡ PlanCode.Memory) }
-    ensures memory { result ≡ Err RunError.Memory → Keeps (K.taken out.old) (K.taken out.new) }
     ensures read { result ≢ Err RunError.Read }
-    ensures sink { result ≢ Err RunError.Write → K.broken out.new ≡ K.broken out.old }
 {
     if error.code == PlanCode::Memory {
         return Err(RunError::Memory);
@@ -222,16 +217,9 @@ pub(crate) fn refuse_plan<K: Sink>(error: PlanError, out: &mut K) -> Result<Stat
 
 /// Prints the plan that the bytes of a TOML document are, or their first fault.
 pub fn run_plan<K: Sink>(alloc: Global, plan: &[u8], out: &mut K) -> Result<Status, RunError>
-    // The whole text went out, and nothing else.
-    ensures text { IfOk result (WentOut (PlanText plan.now) (K.taken out.old) (K.taken out.new)) }
-    // The sink has failed, and a beginning of the text went out.
-    ensures write { result ≡ Err RunError.Write → (K.broken out.new ≡ true)
-        × BeginningOut (PlanText plan.now) (K.taken out.old) (K.taken out.new) }
-    // With Memory nothing went out.
-    ensures memory { result ≡ Err RunError.Memory →
-        (K.broken out.new ≡ K.broken out.old) × Keeps (K.taken out.old) (K.taken out.new) }
-    ensures read { result ≡ Err RunError.Read → ⊥ }
-    ensures marks { IsOk result → K.broken out.new ≡ K.broken out.old }
+    // The whole text went out, or a beginning where the sink failed, or nothing.
+    ensures prints { Prints K.taken K.broken out.old out.new result (PlanText plan.now) }
+    ensures read { result ≢ Err RunError.Read }
 {
     match Plan::read(alloc, plan) {
         Ok(plan) => finish(write_plan(&plan, out), Status::Done),

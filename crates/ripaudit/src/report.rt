@@ -1,13 +1,12 @@
 //! Reports on the table of a log: what the commands share that read a plan and a log.
 
-ghost use Rattle.std.specs.Prelude.{◌≡◌, ◌≢◌, Err, IfOk, Ok, Some, true};
-ghost use Rattle.std.specs.Io.KnownBytes.{Keeps};
+ghost use Rattle.std.specs.Prelude.{◌≡◌, ◌≢◌, Err, IfOk, Some};
 ghost use Rattle.rip_plan.specs.Answers.{first_fault};
 ghost use Rattle.rip_plan.specs.Network.{Network};
 ghost use Rattle.rip_plan.specs.declared.error.PlanError.{PlanError};
 ghost use Rattle.rip_table.specs.State.{Fits, State, new_state};
 ghost use Rattle.ripaudit.specs.ReportText.{IsAccepted, IsTable, ReportOf, ReportText};
-ghost use Rattle.ripaudit.specs.Sent.{BeginningOut, WentOut};
+ghost use Rattle.ripaudit.specs.Sent.{Prints, Reads, WentOut};
 ghost use Rattle.ripaudit.specs.Written.{Written};
 
 use crate::output::{finish, write_all};
@@ -41,15 +40,10 @@ pub(crate) trait Report {
         out: &mut K,
     ) -> Result<Status, RunError>
         requires { Fits plan.now (T.state table.now) }
-        ensures text { IfOk result (WentOut (is_text self.now plan.now (T.state table.now))
-            (K.taken out.old) (K.taken out.new)) }
+        ensures prints { Prints K.taken K.broken out.old out.new result
+            (is_text self.now plan.now (T.state table.now)) }
         ensures meaning { IfOk result (means self.now plan.now (T.state table.now)) }
-        ensures write { result ≡ Err RunError.Write → (K.broken out.new ≡ true)
-            × BeginningOut (is_text self.now plan.now (T.state table.now))
-            (K.taken out.old) (K.taken out.new) }
-        ensures read { result ≢ Err RunError.Read }
-        ensures memory { result ≡ Err RunError.Memory → Keeps (K.taken out.old) (K.taken out.new) }
-        ensures sink { result ≢ Err RunError.Write → K.broken out.new ≡ K.broken out.old };
+        ensures read { result ≢ Err RunError.Read };
 }
 
 /// Writes the report on a log by its plan, or what refuses the log. The table is new.
@@ -62,23 +56,13 @@ fn report_log<C: Report, R: Source, K: Sink, T: MetricTable>(
     out: &mut K,
 ) -> (R, Result<Status, RunError>)
     requires { T.state table.old ≡ new_state plan.now }
-    ensures text { IfOk result.1 (WentOut
-        (ReportOf (C.is_text command.now plan.now) plan.now (R.coming log))
-        (K.taken out.old) (K.taken out.new)) }
+    ensures prints { Prints K.taken K.broken out.old out.new result.1
+        (ReportOf (C.is_text command.now plan.now) plan.now (R.coming log)) }
+    ensures reads { Reads R.broken R.at_end log result.0 result.1 }
     ensures told { (s : State) → IsTable plan.now (R.coming log) s → IfOk result.1
         (WentOut (C.is_text command.now plan.now s) (K.taken out.old) (K.taken out.new)) }
     ensures meaning { (s : State) → IsTable plan.now (R.coming log) s →
         IfOk result.1 (C.means command.now plan.now s) }
-    ensures write { result.1 ≡ Err RunError.Write → (K.broken out.new ≡ true) × BeginningOut
-        (ReportOf (C.is_text command.now plan.now) plan.now (R.coming log))
-        (K.taken out.old) (K.taken out.new) }
-    ensures read { result.1 ≡ Err RunError.Read →
-        (R.broken result.0 ≡ true) × Keeps (K.taken out.old) (K.taken out.new) }
-    ensures memory { result.1 ≡ Err RunError.Memory → Keeps (K.taken out.old) (K.taken out.new) }
-    ensures source { result.1 ≢ Err RunError.Read → R.broken result.0 ≡ R.broken log }
-    ensures sink { result.1 ≢ Err RunError.Write → K.broken out.new ≡ K.broken out.old }
-    ensures ended { IfOk result.1 (λ status.
-        status ≢ Status.Refused → R.at_end result.0 ≡ true) }
 {
     let (source, read) = read_log(alloc, plan, log, table);
     match read {
@@ -104,30 +88,17 @@ pub(crate) fn run_report<C: Report, R: Source, K: Sink, S: BuildHasher + Drop>(
     out: &mut K,
     hasher: S,
 ) -> (R, Result<Status, RunError>)
-    // The whole text went out, and nothing else.
-    ensures text { IfOk result.1 (WentOut
-        (ReportText (C.is_text command.now) plan.now (R.coming log))
-        (K.taken out.old) (K.taken out.new)) }
-    // Where plan and log are accepted, it is the text of the table that the log shows.
+    // The whole text went out, or a beginning where the sink failed, or nothing.
+    ensures prints { Prints K.taken K.broken out.old out.new result.1
+        (ReportText (C.is_text command.now) plan.now (R.coming log)) }
+    // The source was read to its end, or has failed, or the plan or the log is refused.
+    ensures reads { Reads R.broken R.at_end log result.0 result.1 }
+    // Where plan and log are accepted, the text is that of the table that the log shows.
     ensures told { (n : Network) (s : State) → IsAccepted plan.now (R.coming log) n s →
         IfOk result.1 (WentOut (C.is_text command.now n s) (K.taken out.old) (K.taken out.new)) }
     ensures meaning { (n : Network) (s : State) → IsAccepted plan.now (R.coming log) n s →
         IfOk result.1 (C.means command.now n s) }
-    // The sink has failed, and a beginning of the text went out.
-    ensures write { result.1 ≡ Err RunError.Write → (K.broken out.new ≡ true) × BeginningOut
-        (ReportText (C.is_text command.now) plan.now (R.coming log))
-        (K.taken out.old) (K.taken out.new) }
-    // The source has failed, and nothing went out.
-    ensures read { result.1 ≡ Err RunError.Read →
-        (R.broken result.0 ≡ true) × Keeps (K.taken out.old) (K.taken out.new) }
-    // With Memory nothing went out.
-    ensures memory { result.1 ≡ Err RunError.Memory → Keeps (K.taken out.old) (K.taken out.new) }
-    // Every other answer leaves the marks of the devices as they were.
-    ensures source { result.1 ≢ Err RunError.Read → R.broken result.0 ≡ R.broken log }
-    ensures sink { result.1 ≢ Err RunError.Write → K.broken out.new ≡ K.broken out.old }
-    // A report comes only where the source has come to its end.
-    ensures ended { IfOk result.1 (λ status.
-        status ≢ Status.Refused → R.at_end result.0 ≡ true) }
+    // The source of a refused plan is as it was.
     ensures untouched { (e : PlanError) → first_fault plan.now ≡ Some e → result.0 ≡ log }
 {
     one_plan();

@@ -1,7 +1,6 @@
 //! The command `table`: what the interfaces of a plan showed in a log.
 
-ghost use Rattle.std.specs.Prelude.{◌≡◌, ◌≢◌, ◌+◌, ◌≤◌, ◌<◌, ◌++◌, [], Err, IfOk, Ok, Some, length, codes, true};
-ghost use Rattle.std.specs.Io.KnownBytes.{Keeps};
+ghost use Rattle.std.specs.Prelude.{◌≡◌, ◌+◌, ◌≤◌, ◌<◌, ◌++◌, [], IfOk, Some, length, codes};
 ghost use Rattle.std.specs.List.{enumerate_from, flat_map};
 ghost use Rattle.rip_plan.specs.Answers.{first_fault};
 ghost use Rattle.rip_plan.specs.declared.error.PlanError.{PlanError};
@@ -9,7 +8,7 @@ ghost use Rattle.rip_table.specs.State.{Fits, State};
 ghost use Rattle.ripaudit.specs.TableText.{TableText, interface_lines, interface_name, prefix_lines, shown_lines, shown_table, table_line, unheard_line};
 ghost use Rattle.ripaudit.specs.Held.{held};
 ghost use Rattle.ripaudit.specs.ReportText.{IsAccepted};
-ghost use Rattle.ripaudit.specs.Sent.{BeginningOut, WentOut, Writes};
+ghost use Rattle.ripaudit.specs.Sent.{Prints, Reads, WentOut, Writes};
 ghost use Rattle.ripaudit.specs.Texts.{AreOfMetrics, AreTexts, text_of};
 ghost use Rattle.rip_plan.specs.Network.{Network};
 ghost use Rattle.rip_plan.specs.declared.parts.Interface.{Interface};
@@ -235,26 +234,16 @@ pub fn run_table<R: Source, K: Sink, S: BuildHasher + Drop>(
     out: &mut K,
     hasher: S,
 ) -> (R, Result<Status, RunError>)
-    // The whole text went out, and nothing else.
-    ensures text { IfOk result.1 (WentOut (TableText plan.now (R.coming log))
-        (K.taken out.old) (K.taken out.new)) }
+    // The whole text went out, or a beginning where the sink failed, or nothing.
+    ensures prints { Prints K.taken K.broken out.old out.new result.1
+        (TableText plan.now (R.coming log)) }
+    // The source was read to its end, or has failed, or the plan or the log is refused.
+    ensures reads { Reads R.broken R.at_end log result.0 result.1 }
     // Where plan and log are accepted, it is the table that the log shows.
     ensures told { (n : Network) (s : State) → IsAccepted plan.now (R.coming log) n s →
         IfOk result.1
         (WentOut (λ w. w ≡ shown_table n s) (K.taken out.old) (K.taken out.new)) }
-    // The sink has failed, and a beginning of the text went out.
-    ensures write { result.1 ≡ Err RunError.Write → (K.broken out.new ≡ true)
-        × BeginningOut (TableText plan.now (R.coming log)) (K.taken out.old) (K.taken out.new) }
-    // The source has failed, and nothing went out.
-    ensures read { result.1 ≡ Err RunError.Read →
-        (R.broken result.0 ≡ true) × Keeps (K.taken out.old) (K.taken out.new) }
-    // With Memory nothing went out.
-    ensures memory { result.1 ≡ Err RunError.Memory → Keeps (K.taken out.old) (K.taken out.new) }
-    // Every other answer leaves the marks of the devices as they were.
-    ensures source { result.1 ≢ Err RunError.Read → R.broken result.0 ≡ R.broken log }
-    ensures sink { result.1 ≢ Err RunError.Write → K.broken out.new ≡ K.broken out.old }
-    // A table comes only where the source has come to its end.
-    ensures ended { result.1 ≡ Ok Status.Done → R.at_end result.0 ≡ true }
+    // The source of a refused plan is as it was.
     ensures untouched { (e : PlanError) → first_fault plan.now ≡ Some e → result.0 ≡ log }
 {
     run_report(alloc, &Table, plan, log, out, hasher)

@@ -6,12 +6,12 @@ ghost use Rattle.rip_check.specs.Examples as net;
 ghost use Rattle.rip_check.specs.Examples.{IsSettledNetwork, IsUnsettledNetwork, chain, chain_shown, chain_tables, leaf_shown, leaf_tables, nowhere_shown, phantom_shown, phantom_tables, route, slope_shown, slope_tables, triangle_shown, triangle_tables, two_exits_shown, two_exits_tables, with_leaf};
 ghost use Rattle.rip_check.specs.Paths.{IsLeast, IsPath};
 ghost use Rattle.rip_check.specs.Settled.{Holds};
-ghost use Rattle.rip_check.specs.Tables.{Fits};
+ghost use Rattle.rip_check.specs.Tables.{FitsShown};
 ghost use Rattle.rip_check.specs.declared.way.Way.TheVariants.{Over, Unreachable};
 
 /// Three routers with a link between any two: each metric is right.
 pub fn triangle()
-    ensures { IsSettledNetwork net.triangle 3 triangle_shown triangle_tables }
+    ensures { IsSettledNetwork net.triangle triangle_shown triangle_tables }
 {
     rip_wire::laws::names();
 }
@@ -19,9 +19,9 @@ pub fn triangle()
 /// A prefix that nobody has, which each router believes to be behind the next one at metric 2: it
 /// should be 16 everywhere. What a router is offered is 3.
 pub fn phantom_prefix()
-    ensures unsettled { IsUnsettledNetwork net.triangle 4 phantom_shown phantom_tables }
+    ensures unsettled { IsUnsettledNetwork net.triangle phantom_shown phantom_tables }
     ensures least { IsLeast net.triangle 3 0 16 }
-    ensures nowhere { IsSettledNetwork net.triangle 4 nowhere_shown triangle_tables }
+    ensures nowhere { IsSettledNetwork net.triangle nowhere_shown triangle_tables }
     ensures offered { Holds net.triangle phantom_shown 0 3 (route 3 (Over 0)) }
 {
     rip_wire::laws::names();
@@ -29,16 +29,16 @@ pub fn phantom_prefix()
 
 /// A prefix at two places: each router has it from the nearer one.
 pub fn two_exits()
-    ensures { IsSettledNetwork net.two_exits 4 two_exits_shown two_exits_tables }
+    ensures { IsSettledNetwork net.two_exits two_exits_shown two_exits_tables }
 {
     rip_wire::laws::names();
 }
 
 /// A leaf, which can only show 16 of what it learned: its route is what it is offered, and no other.
 pub fn leaf()
-    ensures settled { IsSettledNetwork with_leaf 3 leaf_shown leaf_tables }
-    ensures hidden { Fits with_leaf leaf_shown 3 0 (route 2 (Over 1)) }
-    ensures reachable { Fits with_leaf leaf_shown 3 0 (route 16 Unreachable) → ⊥ }
+    ensures settled { IsSettledNetwork with_leaf leaf_shown leaf_tables }
+    ensures hidden { FitsShown with_leaf leaf_shown 3 0 (route 2 (Over 1)) }
+    ensures reachable { FitsShown with_leaf leaf_shown 3 0 (route 16 Unreachable) → ⊥ }
 {
     rip_wire::laws::names();
 }
@@ -46,8 +46,8 @@ pub fn leaf()
 /// A link that costs its two routers differently: the cost of the interface on which a datagram comes
 /// in counts.
 pub fn slope()
-    ensures settled { IsSettledNetwork net.slope 2 (slope_shown 6) (slope_tables 6) }
-    ensures unsettled { IsUnsettledNetwork net.slope 2 (slope_shown 2) (slope_tables 2) }
+    ensures settled { IsSettledNetwork net.slope (slope_shown 6) (slope_tables 6) }
+    ensures unsettled { IsUnsettledNetwork net.slope (slope_shown 2) (slope_tables 2) }
     ensures path { IsPath net.slope 1 0 (record { link = 1; to = 1 } ∷ []) 6 }
 {
     rip_wire::laws::names();
@@ -55,9 +55,9 @@ pub fn slope()
 
 /// Routers in a row, the first of which has a prefix: the fifteenth has metric 15, the sixteenth 16.
 pub fn chains()
-    ensures fifteen { IsSettledNetwork (chain 15) 1 (chain_shown 15) chain_tables }
+    ensures fifteen { IsSettledNetwork (chain 15) (chain_shown 15) chain_tables }
     ensures metric_15 { IsLeast (chain 15) 0 14 15 }
-    ensures sixteen { IsSettledNetwork (chain 16) 1 (chain_shown 16) chain_tables }
+    ensures sixteen { IsSettledNetwork (chain 16) (chain_shown 16) chain_tables }
     ensures metric_16 { IsLeast (chain 16) 0 15 16 }
 {
     rip_wire::laws::names();

@@ -2,6 +2,7 @@
 
 ghost use Rattle.std.specs.Prelude.{◌≡◌};
 ghost use Rattle.rip_table.specs.State.{Fits};
+ghost use Rattle.rip_check.specs.Verdicts.{route_of};
 
 use super::networks::{expect_on, failing, grid_in, hear_said, list_in, plan_of};
 use crate::{Verdict, Way, route};

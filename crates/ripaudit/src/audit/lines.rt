@@ -1,7 +1,6 @@
 //! The lines of verdicts.
 
 ghost use Rattle.std.specs.Prelude.{◌≡◌, ◌+◌, ◌≤◌, ◌<◌, ◌++◌, length};
-ghost use Rattle.rip_table.specs.State.{Fits};
 ghost use Rattle.ripaudit.specs.AuditText.{IsKnownWay, IsPlaceOf, IsTroubleOf, failure_part, has_one_interface, interface_part, leaf_part, leaves_of, metric_part, no_offer_part, place_part, settled_line, trouble_part, unclear_line, unsettled_line, way_part, wrong_way_part};
 
 use crate::line::Line;

@@ -1,6 +1,5 @@
 use Rattle.std.proofs.Common.{◌∙◌, ◌≡◌, ◌<◌, ◌≤◌, ◌⊎◌, inl, inr, length, arith}
 use Rattle.std.proofs.lemmas.List.{length-take-le}
-use Rattle.rip_check.specs.Captured.{showing_of}
 use Rattle.rip_check.specs.Firsts.{IsReadable}
 use Rattle.rip_check.specs.Verdicts.{IsSound}
 use Rattle.rip_check.proofs.Picking.{none_yet, place_next, all_places}
@@ -10,7 +9,7 @@ use Rattle.rip_check.proofs.audit.first_places.Goals.{then-next-unclear, else-ne
 pub loop-prefix-init : goal.loop-prefix-init
 loop-prefix-init g c =
     let n = c.args.plan.now in
-    let shown = showing_of (g.T.MetricTable.state c.args.table.now) in
+    let shown = (g.T.MetricTable.state c.args.table.now) in
     record {
       order = omega arith;
       unclear = none_yet n (IsReadable n shown) c.routers-unclear.result 0 c.routers-unclear.ensures;
@@ -27,7 +26,7 @@ narrow-next-requires-clause-order g c = c.loop-prefix.invariant.order
 pub loop-prefix-preserved : goal.loop-prefix-preserved
 loop-prefix-preserved g c =
     let n = c.args.plan.now in
-    let shown = showing_of (g.T.MetricTable.state c.args.table.now) in
+    let shown = (g.T.MetricTable.state c.args.table.now) in
     let next = c.narrow-next.result in
     let is = c.loop-prefix.invariant in
     let p = c.loop-prefix.prefix in
@@ -54,13 +53,13 @@ loop-prefix-preserved g c =
 pub returns-clause-unclear : goal.returns-clause-unclear
 returns-clause-unclear g c =
     let n = c.args.plan.now in
-    let shown = showing_of (g.T.MetricTable.state c.args.table.now) in
+    let shown = (g.T.MetricTable.state c.args.table.now) in
     all_places n c.loop-prefix.prefix (IsReadable n shown) c.loop-prefix.unclear c.loop-prefix.unclear_prefix c.loop-prefix.invariant.unclear (length (g.T.MetricTable.state c.args.table.now).prefixes)
     (omega (arith, c.loop-prefix-test.false, c.loop-prefix.auto.prefix-end, c.prefix_count-prefix-end.ensures))
 
 pub returns-clause-failing : goal.returns-clause-failing
 returns-clause-failing g c = λ e.
     let n = c.args.plan.now in
-    let shown = showing_of (g.T.MetricTable.state c.args.table.now) in
+    let shown = (g.T.MetricTable.state c.args.table.now) in
     all_places n c.loop-prefix.prefix (IsSound n shown) c.loop-prefix.failing c.loop-prefix.failing_prefix (c.loop-prefix.invariant.failing e) (length (g.T.MetricTable.state c.args.table.now).prefixes)
     (omega (arith, c.loop-prefix-test.false, c.loop-prefix.auto.prefix-end, c.prefix_count-prefix-end.ensures))

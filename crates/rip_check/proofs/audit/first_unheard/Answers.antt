@@ -1,12 +1,11 @@
 use Rattle.std.proofs.Common.{◌≡◌, inl, inr, true, false, IsTrue, refl, sym, ◌∙◌, arith}
 use Rattle.std.proofs.lemmas.Bool.{cases_lt}
-use Rattle.rip_check.specs.Captured.{showing_of}
 use Rattle.rip_check.proofs.Owned.{within}
 use Rattle.rip_check.proofs.audit.first_unheard.Goals as goal
 
 pub returns-then-not-heard-clause-some : goal.returns-then-not-heard-clause-some
 returns-then-not-heard-clause-some g c =
-    let off : (showing_of (g.T.MetricTable.state c.args.table.now)).is_heard c.loop-i.i ≡ false = sym c.heard.ensures ∙ c.if-not-heard.true in
+    let off : (g.T.MetricTable.state c.args.table.now).heard c.loop-i.i ≡ false = sym c.heard.ensures ∙ c.if-not-heard.true in
     record {
       interface = c.loop-i.i;
       cost = c.interface.result.cost;
@@ -21,7 +20,7 @@ loop-i-preserved g c = λ j s k d lt at.
       | inl less ↦ c.loop-i.invariant j s k d less at
       | inr big ↦
           let e : j ≡ c.loop-i.i = omega arith in
-          let on : (showing_of (g.T.MetricTable.state c.args.table.now)).is_heard c.loop-i.i ≡ true = sym c.heard.ensures ∙ c.if-not-heard.false in
+          let on : (g.T.MetricTable.state c.args.table.now).heard c.loop-i.i ≡ true = sym c.heard.ensures ∙ c.if-not-heard.false in
           rw e (rw on refl)
     ]
 

@@ -1,22 +1,20 @@
-use Rattle.std.proofs.Common.{length}
 use Rattle.rip_check.specs.declared.verdict.Verdict.TheVariants.{Settled, Unsettled, Unclear as IsUnclear}
 use Rattle.rip_check.proofs.Saying.{exactly, settled_places_too, no_tables, arrive}
-use Rattle.rip_check.specs.Captured.{showing_of}
 use Rattle.rip_check.proofs.audit.judge.Goals as goal
 
 pub returns : goal.returns
 returns g c =
     let n = c.args.plan.now in
-    let shown = showing_of (g.T.MetricTable.state c.args.table.now) in
+    let shown = (g.T.MetricTable.state c.args.table.now) in
     let plan = c.lawful.ensures in
     let range = c.in_range.ensures in
     let v = c.decide.result in
     let is = c.decide.ensures in
     record {
-      settled = exactly n (length (g.T.MetricTable.state c.args.table.now).prefixes) shown plan range v Settled is;
-      places = settled_places_too n (length (g.T.MetricTable.state c.args.table.now).prefixes) shown plan range v is;
-      unsettled = λ f. exactly n (length (g.T.MetricTable.state c.args.table.now).prefixes) shown plan range v (Unsettled f) is;
-      unclear = λ u. exactly n (length (g.T.MetricTable.state c.args.table.now).prefixes) shown plan range v (IsUnclear u) is;
-      no_tables = no_tables n (length (g.T.MetricTable.state c.args.table.now).prefixes) shown plan range v is;
-      arrive = λ e T shows. arrive n (length (g.T.MetricTable.state c.args.table.now).prefixes) shown plan range ((exactly n (length (g.T.MetricTable.state c.args.table.now).prefixes) shown plan range v Settled is).0 e) T shows;
+      settled = exactly n shown plan range v Settled is;
+      places = settled_places_too n shown plan range v is;
+      unsettled = λ f. exactly n shown plan range v (Unsettled f) is;
+      unclear = λ u. exactly n shown plan range v (IsUnclear u) is;
+      no_tables = no_tables n shown plan range v is;
+      arrive = λ e T shows. arrive n shown plan range ((exactly n shown plan range v Settled is).0 e) T shows;
     }

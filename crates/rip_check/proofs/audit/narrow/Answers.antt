@@ -1,5 +1,4 @@
 use Rattle.std.proofs.Common.{ℕ, ◌<◌, below_more, length, arith}
-use Rattle.rip_check.specs.Captured.{showing_of}
 use Rattle.rip_check.specs.Verdicts.{IsSound, route_of}
 use Rattle.rip_check.proofs.Readable.{fits_readable, one_sound, one_fails}
 use Rattle.rip_check.proofs.Picking.{none_so_far, so_far_on, so_far_first, all_so_far}
@@ -9,7 +8,7 @@ use Rattle.rip_check.proofs.audit.narrow.Goals.{then-router-failing+then-unmet-n
 pub loop-router-init : goal.loop-router-init
 loop-router-init g c = record {
   unclear = λ s lt. absurd (omega (arith, lt));
-  failing = none_so_far c.args.bounds.failing (λ s. IsSound c.args.plan.now (showing_of (g.T.MetricTable.state c.args.table.now)) s c.args.prefix);
+  failing = none_so_far c.args.bounds.failing (λ s. IsSound c.args.plan.now (g.T.MetricTable.state c.args.table.now) s c.args.prefix);
 }
 
 pub returns-in-None-clause-unclear : goal.returns-in-None-clause-unclear
@@ -23,7 +22,7 @@ pub loop-router-preserved : goal.loop-router-preserved
 loop-router-preserved g c =
     let n = c.args.plan.now in
     let plan = c.lawful.ensures in
-    let shown = showing_of (g.T.MetricTable.state c.args.table.now) in
+    let shown = (g.T.MetricTable.state c.args.table.now) in
     let range = c.in_range.ensures in
     let r = c.loop-router.router in
     let p = c.args.prefix in
@@ -58,5 +57,5 @@ returns-clause-unclear g c = record {
 
 pub returns-clause-failing : goal.returns-clause-failing
 returns-clause-failing g c = λ e.
-    all_so_far c.args.bounds.failing (λ s. IsSound c.args.plan.now (showing_of (g.T.MetricTable.state c.args.table.now)) s c.args.prefix) c.loop-router.router c.loop-router.failing
+    all_so_far c.args.bounds.failing (λ s. IsSound c.args.plan.now (g.T.MetricTable.state c.args.table.now) s c.args.prefix) c.loop-router.router c.loop-router.failing
     (omega (arith, c.requires.order, c.loop-router-test.false)) c.loop-router.invariant.failing

@@ -1,7 +1,6 @@
 use Rattle.std.proofs.Common.{◌+◌, ◌<◌, arith, length}
 use Rattle.rip_check.specs.Verdicts.{IsSound}
 use Rattle.rip_check.proofs.Order.{row_first, rows_on, StartsAt, starts_none, starts_some, none_sooner, in_front, at_back, all_later}
-use Rattle.rip_check.specs.Captured.{showing_of}
 use Rattle.rip_check.proofs.audit.next_unsettled.Goals as goal
 use Rattle.rip_check.proofs.audit.next_unsettled.Goals.{in-None, in-Some}
 
@@ -22,7 +21,7 @@ pub returns-in-Some-first_in_row-clause-some : goal.returns-in-Some-first_in_row
 returns-in-Some-first_in_row-clause-some g c =
     let h = c.in-Some-first_in_row.ensures.some in
     let n = c.args.plan.now in
-    let shown = showing_of (g.T.MetricTable.state c.args.table.now) in
+    let shown = (g.T.MetricTable.state c.args.table.now) in
     let f = c.in-Some-first_in_row.found in
     let at : c.loop-router.router < length n.routers = omega (arith, c.loop-router-test.true, c.routers-router-end.ensures) in
     record {
@@ -35,7 +34,7 @@ returns-in-Some-first_in_row-clause-some g c =
 pub loop-router-preserved : goal.loop-router-preserved
 loop-router-preserved g c =
     let n = c.args.plan.now in
-    let shown = showing_of (g.T.MetricTable.state c.args.table.now) in
+    let shown = (g.T.MetricTable.state c.args.table.now) in
     let start : StartsAt c.args.after c.match-after.row.0 c.match-after.row.1 =
     elim c.match-after.branch [
       | in-None w ↦ starts_none c.args.after c.match-after.row w.in-None.is w.row-is

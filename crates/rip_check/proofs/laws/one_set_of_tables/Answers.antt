@@ -5,4 +5,4 @@ pub returns-clause-route : goal.returns-clause-route
 returns-clause-route c n shown plan = one_route n plan shown
 
 pub returns-clause-tables : goal.returns-clause-tables
-returns-clause-tables c n count shown plan T U is_T is_U r p known at = one_route n plan shown r p (T r p) (U r p) known (is_T.fits r p known at) (is_U.fits r p known at)
+returns-clause-tables c n shown plan T U is_T is_U r p known at = one_route n plan shown r p (T r p) (U r p) known (is_T.fits r p known at) (is_U.fits r p known at)

@@ -3,4 +3,4 @@ use Rattle.rip_check.proofs.Converse.{holds}
 use Rattle.rip_check.proofs.laws.settled_is_right.Goals as goal
 
 pub returns : goal.returns
-returns c k = (right k.net k.count k.shown k.tables k.plan k.shows, holds k.net k.count k.shown k.tables k.plan k.shows)
+returns c k = (right k.net k.shown k.tables k.plan k.shows, holds k.net k.shown k.tables k.plan k.shows)

@@ -3,7 +3,6 @@ use Rattle.std.proofs.Common.{◌≡◌, ℕ, refl, ◌+◌, ◌<◌, ◌≤◌,
 use Rattle.std.proofs.lemmas.Grind.{common_steps}
 use Rattle.std.proofs.lemmas.Option.{slice_get-get_or}
 use Rattle.rip_check.specs.declared.links.TwoLeast.{TwoLeast}
-use Rattle.rip_check.specs.Captured.{showing_of}
 use Rattle.rip_check.specs.TwoLeasts.{IsSeen, IsTwoLeast}
 use Rattle.rip_check.proofs.Steps.{after_write, keep, skip, reached}
 use Rattle.rip_check.proofs.links.fill.Goals as goal
@@ -12,7 +11,7 @@ use Rattle.rip_check.proofs.links.fill.Goals.{then-metric-lt16, else-metric-lt16
 pub loop-i-preserved : goal.loop-i-preserved
 loop-i-preserved g c =
     let n = c.args.plan.now in
-    let shown = showing_of (g.T.MetricTable.state c.args.table.now) in
+    let shown = (g.T.MetricTable.state c.args.table.now) in
     let p = c.args.prefix in
     let i = c.loop-i.i in
     let blank : TwoLeast = record { least = 0; by = 0; next = 0 } in
@@ -71,7 +70,7 @@ pub returns : goal.returns
 returns g c = λ l two e.
     let is = c.loop-i.invariant.two l two e in
     let big : length c.args.plan.now.interfaces ≤ c.loop-i.i = omega (arith, c.loop-i-test.false) in
-    reached c.args.plan.now (showing_of (g.T.MetricTable.state c.args.table.now)) l c.args.prefix c.loop-i.i two big is
+    reached c.args.plan.now (g.T.MetricTable.state c.args.table.now) l c.args.prefix c.loop-i.i two big is
 
 pub overflow_cast-own : goal.overflow_cast-own
 overflow_cast-own g c =

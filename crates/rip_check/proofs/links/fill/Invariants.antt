@@ -1,6 +1,5 @@
 use Rattle.std.proofs.Common.{◌≡◌, ℕ, ◌<◌, Some, slice_get, length}
 use Rattle.rip_check.specs.declared.links.TwoLeast.{TwoLeast}
-use Rattle.rip_check.specs.Captured.{showing_of}
 use Rattle.rip_check.specs.TwoLeasts.{AreTwoLeastBefore}
 use Rattle.rip_check.proofs.links.fill.Given as goal
 
@@ -13,5 +12,5 @@ invariant-loop-k g l = record {
 abbrev pub invariant-loop-i : goal.invariant-loop-i
 invariant-loop-i g l = record {
   size : length l.links ≡ length l.fn.links;
-  two : AreTwoLeastBefore l.plan (showing_of (g.T.MetricTable.state l.table)) l.prefix l.i l.links;
+  two : AreTwoLeastBefore l.plan (g.T.MetricTable.state l.table) l.prefix l.i l.links;
 }

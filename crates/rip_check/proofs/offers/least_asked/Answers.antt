@@ -1,5 +1,4 @@
 use Rattle.std.proofs.Common.{◌≡◌, inr, get_or, arith}
-use Rattle.rip_check.specs.Captured.{showing_of}
 use Rattle.rip_check.proofs.Across.{heard_from, across_number, one_more, is_offer, below_offers}
 use Rattle.rip_check.proofs.offers.least_asked.Goals as goal
 use Rattle.rip_check.proofs.offers.least_asked.Goals.{then-across-own+then-offer-least, then-across-own+else-offer-least, else-across-own}
@@ -17,7 +16,7 @@ pub loop-j-preserved : goal.loop-j-preserved
 loop-j-preserved g c =
     let n = c.args.plan.now in
     let own = c.args.own in
-    let shown = showing_of (g.T.MetricTable.state c.args.table.now) in
+    let shown = (g.T.MetricTable.state c.args.table.now) in
     let numbers = c.on_link-numbers.result.now in
     let exact = c.on_link-numbers.ensures.exact in
     let k = c.loop-j.j-index in
@@ -52,5 +51,5 @@ loop-j-preserved g c =
 pub returns-clause-least : goal.returns-clause-least
 returns-clause-least g c =
     let own = c.args.own in
-    below_offers c.args.plan.now own.link c.on_link-numbers.result.now c.on_link-numbers.ensures.exact (showing_of (g.T.MetricTable.state c.args.table.now)) own.router own.cost c.args.prefix
+    below_offers c.args.plan.now own.link c.on_link-numbers.result.now c.on_link-numbers.ensures.exact (g.T.MetricTable.state c.args.table.now) own.router own.cost c.args.prefix
     c.lawful.ensures c.loop-j.j-index c.loop-j.least c.loop-j-test.false c.requires.own c.loop-j.invariant.below

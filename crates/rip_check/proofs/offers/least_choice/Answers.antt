@@ -1,5 +1,4 @@
 use Rattle.std.proofs.Common.{◌≡◌, ℕ, ◌≤◌, ◌⊎◌, arith}
-use Rattle.rip_check.specs.Captured.{showing_of}
 use Rattle.rip_check.specs.Tables.{Offers}
 use Rattle.rip_check.proofs.Owned.{its_number, its_router, each_more, every}
 use Rattle.rip_check.proofs.Across.{still_chosen, least_of}
@@ -13,7 +12,7 @@ loop-i-preserved g c =
     let n = c.args.plan.now in
     let r = c.args.router in
     let p = c.args.prefix in
-    let shown = showing_of (g.T.MetricTable.state c.args.table.now) in
+    let shown = (g.T.MetricTable.state c.args.table.now) in
     let numbers = c.of_router-numbers.result.now in
     let exact = c.of_router-numbers.ensures.exact in
     let k = c.loop-i.i-index in
@@ -34,7 +33,7 @@ loop-i-preserved g c =
 pub returns-clause-least : goal.returns-clause-least
 returns-clause-least g c =
     let n = c.args.plan.now in
-    let shown = showing_of (g.T.MetricTable.state c.args.table.now) in
+    let shown = (g.T.MetricTable.state c.args.table.now) in
     least_of n shown c.args.router c.args.prefix c.loop-i.best c.loop-i.invariant.most c.loop-i.invariant.direct
     (every n c.args.router c.of_router-numbers.result.now c.of_router-numbers.ensures.exact (λ j m. (s v : ℕ) → Offers n shown c.args.router m s c.args.prefix v → c.loop-i.best ≤ v)
     c.loop-i.i-index c.loop-i-test.false c.loop-i.invariant.below)

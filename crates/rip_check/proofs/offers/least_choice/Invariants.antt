@@ -1,6 +1,5 @@
 use Rattle.std.proofs.Common.{ℕ, ◌<◌, ◌≤◌, get_or}
 use Rattle.rip_plan.specs.Relations.{IsInterface, IsDirect}
-use Rattle.rip_check.specs.Captured.{showing_of}
 use Rattle.rip_check.specs.Settled.{IsChoice}
 use Rattle.rip_check.specs.Tables.{Offers}
 use Rattle.rip_check.proofs.offers.least_choice.Given as goal
@@ -10,6 +9,6 @@ invariant-loop-i g l = record {
   most : l.best ≤ 16;
   direct : (c : ℕ) → IsDirect l.plan l.router l.prefix c → l.best ≤ c;
   below : (k m c : ℕ) → k < l.i-index → IsInterface l.plan (get_or l.numbers k 0) l.router m c →
-      (s v : ℕ) → Offers l.plan (showing_of (g.T.MetricTable.state l.table)) l.router m s l.prefix v → l.best ≤ v;
-  chosen : IsChoice l.plan (showing_of (g.T.MetricTable.state l.table)) l.router l.prefix l.best;
+      (s v : ℕ) → Offers l.plan (g.T.MetricTable.state l.table) l.router m s l.prefix v → l.best ≤ v;
+  chosen : IsChoice l.plan (g.T.MetricTable.state l.table) l.router l.prefix l.best;
 }

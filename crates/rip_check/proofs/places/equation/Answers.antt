@@ -1,10 +1,9 @@
-use Rattle.rip_check.specs.Captured.{showing_of}
 use Rattle.rip_check.proofs.Standing.{choice_low}
 use Rattle.rip_check.proofs.places.equation.Goals as goal
 
 pub metric_of-requires-clause-low : goal.metric_of-requires-clause-low
 metric_of-requires-clause-low g c =
-    choice_low c.args.plan.now (showing_of (g.T.MetricTable.state c.args.table.now)) c.lawful.ensures c.args.router c.args.prefix c.least_choice.result c.least_choice.ensures.chosen
+    choice_low c.args.plan.now (g.T.MetricTable.state c.args.table.now) c.lawful.ensures c.args.router c.args.prefix c.least_choice.result c.least_choice.ensures.chosen
 
 pub returns : goal.returns
 returns g c = rw c.metric_of.ensures (record { chosen = c.least_choice.ensures.chosen; least = c.least_choice.ensures.least })

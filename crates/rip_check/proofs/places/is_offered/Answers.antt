@@ -1,5 +1,4 @@
 use Rattle.std.proofs.Common.{◌≡◌, ℕ, ◌≤◌, ◌⊎◌, refl}
-use Rattle.rip_check.specs.Captured.{showing_of}
 use Rattle.rip_check.specs.Tables.{Offers}
 use Rattle.rip_check.proofs.Owned.{its_number, its_router, each_more, every}
 use Rattle.rip_check.proofs.Standing.{offered_is}
@@ -14,7 +13,7 @@ returns-then-own-link g c =
     let r = c.args.router in
     let l = c.args.link in
     let p = c.args.prefix in
-    let shown = showing_of (g.T.MetricTable.state c.args.table.now) in
+    let shown = (g.T.MetricTable.state c.args.table.now) in
     let own = c.interface-own.result in
     let v = c.best_over.result in
     let mine = its_router n r c.of_router-numbers.result.now c.of_router-numbers.ensures.exact c.loop-i.i-index own c.loop-i-test.true c.interface-own.ensures.is in

@@ -1,7 +1,6 @@
 use Rattle.std.proofs.Common.{arith}
 use Rattle.std.proofs.lemmas.Bool.Decides.{not_from_Decides}
-use Rattle.rip_check.specs.Captured.{showing_of}
-use Rattle.rip_check.specs.Verdicts.{IsEquation, route_of}
+use Rattle.rip_check.specs.Verdicts.{IsLeastChoice, route_of}
 use Rattle.rip_check.proofs.Standing.{all_hold, is_equation, choice_low}
 use Rattle.rip_check.proofs.places.unmet.Goals as goal
 use Rattle.rip_check.proofs.places.unmet.Goals.{else-route-equation-via-then-route-equation+else-is_given, else-route-equation-via-else-route-equation}
@@ -12,8 +11,8 @@ is_given-requires-clause-least g c = λ v choice. omega (arith, c.if-route-equat
 pub returns-then-is_given-clause-holds : goal.returns-then-is_given-clause-holds
 returns-then-is_given-clause-holds g c = λ e.
     let n = c.args.plan.now in
-    let shown = showing_of (g.T.MetricTable.state c.args.table.now) in
-    let is : IsEquation n shown c.args.router c.args.prefix c.least_choice-equation.result = record { chosen = c.least_choice-equation.ensures.chosen; least = c.least_choice-equation.ensures.least } in
+    let shown = (g.T.MetricTable.state c.args.table.now) in
+    let is : IsLeastChoice n shown c.args.router c.args.prefix c.least_choice-equation.result = record { chosen = c.least_choice-equation.ensures.chosen; least = c.least_choice-equation.ensures.least } in
     all_hold n shown c.args.router c.args.prefix c.least_choice-equation.result (route_of c.args.route) is c.if-route-equation.true (c.is_given.ensures.0 c.if-is_given.true)
 
 pub returns-clause-holds : goal.returns-clause-holds
@@ -21,15 +20,15 @@ returns-clause-holds g c = λ e.
     absurd (omega (
       arith,
       e,
-      choice_low c.args.plan.now (showing_of (g.T.MetricTable.state c.args.table.now)) c.lawful.ensures c.args.router c.args.prefix c.least_choice-equation.result
+      choice_low c.args.plan.now (g.T.MetricTable.state c.args.table.now) c.lawful.ensures c.args.router c.args.prefix c.least_choice-equation.result
           c.least_choice-equation.ensures.chosen,
     ))
 
 pub returns-clause-fails : goal.returns-clause-fails
 returns-clause-fails g c = λ one holds.
     let n = c.args.plan.now in
-    let shown = showing_of (g.T.MetricTable.state c.args.table.now) in
-    let is : IsEquation n shown c.args.router c.args.prefix c.least_choice-equation.result = record { chosen = c.least_choice-equation.ensures.chosen; least = c.least_choice-equation.ensures.least } in
+    let shown = (g.T.MetricTable.state c.args.table.now) in
+    let is : IsLeastChoice n shown c.args.router c.args.prefix c.least_choice-equation.result = record { chosen = c.least_choice-equation.ensures.chosen; least = c.least_choice-equation.ensures.least } in
     elim c.else-route-equation.branch [
       | else-route-equation-via-then-route-equation+else-is_given w ↦ not_from_Decides w.is_given.result w.is_given.ensures w.if-is_given.false holds.given
       | else-route-equation-via-else-route-equation w ↦

@@ -1,7 +1,7 @@
 use Rattle.std.proofs.Common.{◌≡◌, None, get_or, sym}
-use Rattle.rip_check.specs.Captured.{showing_of}
 use Rattle.rip_check.proofs.Owned.{its_number, its_own, each_more, every, all_before}
 use Rattle.rip_check.proofs.routes.first_gap.Goals as goal
+use Rattle.rip_check.specs.Captured.{metric_at}
 
 pub interface-own-requires : goal.interface-own-requires
 interface-own-requires g c = its_number c.args.plan.now c.args.router c.of_router-numbers.result.now c.of_router-numbers.ensures.exact c.loop-i.i-index c.loop-i-test.true
@@ -14,7 +14,7 @@ returns-in-None-clause-some g c =
     let n = c.args.plan.now in
     let numbers = c.of_router-numbers.result.now in
     let exact = c.of_router-numbers.ensures.exact in
-    let cell = (showing_of (g.T.MetricTable.state c.args.table.now)).cell in
+    let cell = metric_at (g.T.MetricTable.state c.args.table.now) in
     let own = c.interface-own.result in
     record {
       interface = get_or numbers c.loop-i.i-index 0;
@@ -27,11 +27,11 @@ returns-in-None-clause-some g c =
 
 pub loop-i-preserved : goal.loop-i-preserved
 loop-i-preserved g c =
-    let cell = (showing_of (g.T.MetricTable.state c.args.table.now)).cell in
+    let cell = metric_at (g.T.MetricTable.state c.args.table.now) in
     each_more c.args.plan.now c.args.router c.of_router-numbers.result.now c.of_router-numbers.ensures.exact (λ j k. cell j c.args.prefix ≡ None → ⊥) c.loop-i.i-index
     c.interface-own.result c.interface-own.ensures.is c.loop-i.invariant (λ e. cc (e, c.in-Some.ensures.cell))
 
 pub returns-clause-none : goal.returns-clause-none
 returns-clause-none g c =
-    let cell = (showing_of (g.T.MetricTable.state c.args.table.now)).cell in
+    let cell = metric_at (g.T.MetricTable.state c.args.table.now) in
     every c.args.plan.now c.args.router c.of_router-numbers.result.now c.of_router-numbers.ensures.exact (λ j k. cell j c.args.prefix ≡ None → ⊥) c.loop-i.i-index c.loop-i-test.false c.loop-i.invariant

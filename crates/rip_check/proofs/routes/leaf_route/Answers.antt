@@ -1,11 +1,12 @@
-use Rattle.std.proofs.Common.{◌≡◌, get_or, inl, inr, refl, arith}
-use Rattle.rip_check.specs.Tables.{IsLeastOffer}
+use Rattle.std.proofs.Common.{◌≡◌, get_or, inl, inr, Some, None, refl, sym, ◌∙◌, arith}
 use Rattle.std.proofs.lemmas.Bool.Decides.{not_from_Decides}
-use Rattle.rip_check.specs.Captured.{showing_of}
+use Rattle.rip_check.specs.Captured.{metric_at}
+use Rattle.rip_check.specs.Tables.{IsLeastOffer, IsSilent}
 use Rattle.rip_check.proofs.Owned.{first_is_leaf, its_number, some_number, within}
-use Rattle.rip_check.proofs.Standing.{quiet, loud_16}
+use Rattle.rip_check.proofs.Standing.{high_is_silent, poison_is}
 use Rattle.rip_check.proofs.Leaves.{low_fits, here_fits, nowhere_fits, over_fits, least_offer, low_one, nowhere_one, low_shows, nowhere_shows}
 use Rattle.rip_check.proofs.routes.leaf_route.Goals as goal
+use Rattle.rip_check.proofs.routes.leaf_route.Goals.{in_default-via-in-Some+else-metric-lt16, in_default-via-in-None}
 
 pub bounds-of_router-0 : goal.bounds-of_router-0
 bounds-of_router-0 g c =
@@ -16,37 +17,39 @@ pub interface-own-requires : goal.interface-own-requires
 interface-own-requires g c =
     its_number c.args.plan.now c.args.router c.of_router.result.now c.of_router.ensures.exact 0 (some_number c.args.plan.now c.args.router c.of_router.result.now c.of_router.ensures.exact c.requires.leaf.0 c.requires.leaf.1 c.requires.leaf.2 c.requires.leaf.3)
 
-pub shown_or_0-shown-requires-clause-interface : goal.shown_or_0-shown-requires-clause-interface
-shown_or_0-shown-requires-clause-interface g c = within c.args.plan.now (get_or c.of_router.result.now 0 0) c.interface-own.result.router c.interface-own.result.link c.interface-own.result.cost c.interface-own.ensures.is
+pub shown_at-shown-requires-clause-interface : goal.shown_at-shown-requires-clause-interface
+shown_at-shown-requires-clause-interface g c = within c.args.plan.now (get_or c.of_router.result.now 0 0) c.interface-own.result.router c.interface-own.result.link c.interface-own.result.cost c.interface-own.ensures.is
 
-pub returns-then-shown-lt16 : goal.returns-then-shown-lt16
-returns-then-shown-lt16 g c =
+pub returns-in-Some : goal.returns-in-Some
+returns-in-Some g c =
     let n = c.args.plan.now in
-    let shown = showing_of (g.T.MetricTable.state c.args.table.now) in
+    let shown = (g.T.MetricTable.state c.args.table.now) in
     let i = get_or c.of_router.result.now 0 0 in
     let own = c.interface-own.result in
     let alone = c.requires.leaf in
     let only = first_is_leaf n c.args.router c.of_router.result.now c.of_router.ensures.exact alone.0 alone.1 alone.2 own alone.3 c.interface-own.ensures.is in
-    let m = c.shown_or_0-shown.result in
-    let e = c.shown_or_0-shown.ensures.some c.if-shown-gt0.true in
+    let m = c.in-Some.metric in
+    let e = sym {b = metric_at shown i c.args.prefix} c.shown_at-shown.ensures.cell ∙ c.in-Some.is in
     record {
-      most = omega (arith, c.if-shown-lt16.true);
-      fits = low_fits n shown c.args.router i c.args.prefix own only.0 only.1 m c.if-shown-gt0.true c.if-shown-lt16.true e;
-      hidden = (λ t. cc t, λ h. absurd (low_shows n shown c.args.router i c.args.prefix own only.0 only.1 m c.if-shown-lt16.true e h));
-      one = inr (low_one n shown c.args.router i c.args.prefix own only.0 only.1 m c.if-shown-lt16.true e);
+      most = omega (arith, c.if-metric-lt16.true);
+      fits = low_fits n shown c.args.router i c.args.prefix own only.0 only.1 m c.in-Some.ensures.range.0 c.if-metric-lt16.true e;
+      hidden = (λ t. cc t, λ h. absurd (low_shows n shown c.args.router i c.args.prefix own only.0 only.1 m c.if-metric-lt16.true e h));
+      one = inr (low_one n shown c.args.router i c.args.prefix own only.0 only.1 m c.if-metric-lt16.true e);
     }
 
-pub returns-then-carried : goal.returns-then-carried
-returns-then-carried g c =
+pub returns-in_default : goal.returns-in_default
+returns-in_default g c =
     let n = c.args.plan.now in
-    let shown = showing_of (g.T.MetricTable.state c.args.table.now) in
+    let shown = (g.T.MetricTable.state c.args.table.now) in
     let i = get_or c.of_router.result.now 0 0 in
     let own = c.interface-own.result in
     let alone = c.requires.leaf in
     let only = first_is_leaf n c.args.router c.of_router.result.now c.of_router.ensures.exact alone.0 alone.1 alone.2 own alone.3 c.interface-own.ensures.is in
-    let s = c.shown_or_0-shown.ensures in
-    let silent = quiet (shown.cell i c.args.prefix) c.shown_or_0-shown.result s.most s.none s.some c.else-shown-gt0.either in
-    let on = c.is_place-carried.ensures.0 c.if-carried.true in
+    let silent : IsSilent (metric_at shown i c.args.prefix) = rw (← c.shown_at-shown.ensures.cell) (elim c.in_default.branch [
+      | in_default-via-in-Some+else-metric-lt16 w ↦ high_is_silent c.shown_at-shown.result w.in-Some.metric c.shown_at-shown.ensures.range w.in-Some.is w.if-metric-lt16.false
+      | in_default-via-in-None w ↦ inl w.in_default.is
+    ]) in
+    let on = c.is_place.ensures.0 c.if-is_place.true in
     rw c.from.ensures (record {
       most = omega (arith, c.lawful.ensures.cost_most i c.args.router own.link own.cost only.1.has);
       fits = here_fits n shown c.args.router i c.args.prefix own only.0 only.1 c.lawful.ensures silent on;
@@ -54,16 +57,20 @@ returns-then-carried g c =
       one = inl refl;
     })
 
-pub returns-then-shown-eq0 : goal.returns-then-shown-eq0
-returns-then-shown-eq0 g c =
+pub returns-in-None : goal.returns-in-None
+returns-in-None g c =
     let n = c.args.plan.now in
-    let shown = showing_of (g.T.MetricTable.state c.args.table.now) in
+    let shown = (g.T.MetricTable.state c.args.table.now) in
     let i = get_or c.of_router.result.now 0 0 in
     let own = c.interface-own.result in
     let alone = c.requires.leaf in
     let only = first_is_leaf n c.args.router c.of_router.result.now c.of_router.ensures.exact alone.0 alone.1 alone.2 own alone.3 c.interface-own.ensures.is in
-    let e = c.shown_or_0-shown.ensures.none c.if-shown-eq0.true in
-    let off = not_from_Decides c.is_place-carried.result c.is_place-carried.ensures c.if-carried.false in
+    let same : c.shown_at-shown.result ≡ c.in_default.shown = elim c.in_default.branch [
+      | in_default-via-in-Some+else-metric-lt16 w ↦ w.in-Some.is ∙ sym w.shown-is
+      | in_default-via-in-None w ↦ sym w.shown-is
+    ] in
+    let e : metric_at shown i c.args.prefix ≡ None = sym {b = metric_at shown i c.args.prefix} c.shown_at-shown.ensures.cell ∙ same ∙ c.in-None.is in
+    let off = not_from_Decides c.is_place.result c.is_place.ensures c.if-is_place.false in
     record {
       most = omega arith;
       fits = nowhere_fits n shown c.args.router i c.args.prefix own only.0 only.1 (inl e) off (λ is. cc (e, is));
@@ -74,17 +81,23 @@ returns-then-shown-eq0 g c =
 pub returns-then-least-lt16 : goal.returns-then-least-lt16
 returns-then-least-lt16 g c =
     let n = c.args.plan.now in
-    let shown = showing_of (g.T.MetricTable.state c.args.table.now) in
+    let shown = (g.T.MetricTable.state c.args.table.now) in
     let i = get_or c.of_router.result.now 0 0 in
     let own = c.interface-own.result in
     let alone = c.requires.leaf in
     let only = first_is_leaf n c.args.router c.of_router.result.now c.of_router.ensures.exact alone.0 alone.1 alone.2 own alone.3 c.interface-own.ensures.is in
-    let s = c.shown_or_0-shown.ensures in
-    let e = loud_16 (shown.cell i c.args.prefix) c.shown_or_0-shown.result s.most s.some c.else-shown-gt0.either c.if-shown-eq0.false in
-    let off = not_from_Decides c.is_place-carried.result c.is_place-carried.ensures c.if-carried.false in
-    let least = c.best_over-least.ensures.least in
-    let chosen = c.best_over-least.ensures.chosen in
-    let so = least_offer n shown c.args.router i c.args.prefix own only.0 only.1 c.best_over-least.result c.best_over-least.ensures.at_most least chosen in
+    let silent : IsSilent (metric_at shown i c.args.prefix) = rw (← c.shown_at-shown.ensures.cell) (elim c.in_default.branch [
+      | in_default-via-in-Some+else-metric-lt16 w ↦ high_is_silent c.shown_at-shown.result w.in-Some.metric c.shown_at-shown.ensures.range w.in-Some.is w.if-metric-lt16.false
+      | in_default-via-in-None w ↦ inl w.in_default.is
+    ]) in
+    let same : c.shown_at-shown.result ≡ c.in_default.shown = elim c.in_default.branch [
+      | in_default-via-in-Some+else-metric-lt16 w ↦ w.in-Some.is ∙ sym w.shown-is
+      | in_default-via-in-None w ↦ sym w.shown-is
+    ] in
+    let e : metric_at shown i c.args.prefix ≡ Some 16 =
+    poison_is (metric_at shown i c.args.prefix) c.in-Some-2.field-0 silent (sym {b = metric_at shown i c.args.prefix} c.shown_at-shown.ensures.cell ∙ same ∙ c.in-Some-2.is) in
+    let off = not_from_Decides c.is_place.result c.is_place.ensures c.if-is_place.false in
+    let so = least_offer n shown c.args.router i c.args.prefix own only.0 only.1 c.best_over-least.result c.best_over-least.ensures.at_most c.best_over-least.ensures.least c.best_over-least.ensures.chosen in
     record {
       most = c.best_over-least.ensures.at_most;
       fits = over_fits n shown c.args.router i c.args.prefix own only.0 only.1 c.lawful.ensures e off c.best_over-least.result so c.if-least-lt16.true;
@@ -95,17 +108,23 @@ returns-then-least-lt16 g c =
 pub returns-else-least-lt16 : goal.returns-else-least-lt16
 returns-else-least-lt16 g c =
     let n = c.args.plan.now in
-    let shown = showing_of (g.T.MetricTable.state c.args.table.now) in
+    let shown = (g.T.MetricTable.state c.args.table.now) in
     let i = get_or c.of_router.result.now 0 0 in
     let own = c.interface-own.result in
     let alone = c.requires.leaf in
     let only = first_is_leaf n c.args.router c.of_router.result.now c.of_router.ensures.exact alone.0 alone.1 alone.2 own alone.3 c.interface-own.ensures.is in
-    let s = c.shown_or_0-shown.ensures in
-    let e = loud_16 (shown.cell i c.args.prefix) c.shown_or_0-shown.result s.most s.some c.else-shown-gt0.either c.if-shown-eq0.false in
-    let off = not_from_Decides c.is_place-carried.result c.is_place-carried.ensures c.if-carried.false in
-    let least = c.best_over-least.ensures.least in
-    let chosen = c.best_over-least.ensures.chosen in
-    let so = least_offer n shown c.args.router i c.args.prefix own only.0 only.1 c.best_over-least.result c.best_over-least.ensures.at_most least chosen in
+    let silent : IsSilent (metric_at shown i c.args.prefix) = rw (← c.shown_at-shown.ensures.cell) (elim c.in_default.branch [
+      | in_default-via-in-Some+else-metric-lt16 w ↦ high_is_silent c.shown_at-shown.result w.in-Some.metric c.shown_at-shown.ensures.range w.in-Some.is w.if-metric-lt16.false
+      | in_default-via-in-None w ↦ inl w.in_default.is
+    ]) in
+    let same : c.shown_at-shown.result ≡ c.in_default.shown = elim c.in_default.branch [
+      | in_default-via-in-Some+else-metric-lt16 w ↦ w.in-Some.is ∙ sym w.shown-is
+      | in_default-via-in-None w ↦ sym w.shown-is
+    ] in
+    let e : metric_at shown i c.args.prefix ≡ Some 16 =
+    poison_is (metric_at shown i c.args.prefix) c.in-Some-2.field-0 silent (sym {b = metric_at shown i c.args.prefix} c.shown_at-shown.ensures.cell ∙ same ∙ c.in-Some-2.is) in
+    let off = not_from_Decides c.is_place.result c.is_place.ensures c.if-is_place.false in
+    let so = least_offer n shown c.args.router i c.args.prefix own only.0 only.1 c.best_over-least.result c.best_over-least.ensures.at_most c.best_over-least.ensures.least c.best_over-least.ensures.chosen in
     let is : c.best_over-least.result ≡ 16 = omega (arith, c.best_over-least.ensures.at_most, c.if-least-lt16.false) in
     let so' : IsLeastOffer n shown c.args.router c.args.prefix 16 = rw is at so in
     record {

@@ -2,18 +2,18 @@ use Rattle.std.proofs.Common.{inr, Option, None, Some, IfNone, IfSome, IsTrue, D
 use Rattle.std.proofs.lemmas.Bool.{not_from_false}
 use Rattle.rip_plan.specs.Network.{Network}
 use Rattle.rip_plan.specs.Relations.{IsLawful, HasTwoInterfaces}
+use Rattle.rip_table.specs.State.{State}
 use Rattle.rip_check.specs.declared.routes.Reading.{Reading}
-use Rattle.rip_check.specs.Captured.{IsInRange, showing_of}
+use Rattle.rip_check.specs.Captured.{IsInRange}
 use Rattle.rip_check.specs.Firsts.{IsReadable}
-use Rattle.rip_check.specs.Tables.{Fits, Route, Showing}
-use Rattle.rip_check.specs.Telling.{Tells}
+use Rattle.rip_check.specs.Tables.{FitsShown, Route, Tells}
 use Rattle.rip_check.specs.Verdicts.{IsHidden, route_of}
 use Rattle.rip_check.proofs.Reading.{one_route}
 use Rattle.rip_check.proofs.Readable.{two_fits, two_not_leaf, not_readable}
 use Rattle.rip_check.proofs.routes.read.Goals as goal
 
-module _ (n : Network) (plan : IsLawful n) (shown : Showing) (range : IsInRange n shown) (r p : ℕ) (two : HasTwoInterfaces n r) where
-  fitting : (o : Option Reading) → IfSome o (λ t. Tells n shown r p (route_of t)) → IfSome o (λ t. Fits n shown r p (route_of t))
+module _ (n : Network) (plan : IsLawful n) (shown : State) (range : IsInRange n shown) (r p : ℕ) (two : HasTwoInterfaces n r) where
+  fitting : (o : Option Reading) → IfSome o (λ t. Tells n shown r p (route_of t)) → IfSome o (λ t. FitsShown n shown r p (route_of t))
   fitting None h = tt
   fitting (Some t) h = two_fits n plan shown range r p (route_of t) two h
 
@@ -33,20 +33,20 @@ module _ (n : Network) (plan : IsLawful n) (shown : Showing) (range : IsInRange 
 
 pub returns-clause-fits : goal.returns-clause-fits
 returns-clause-fits g c =
-    fitting c.args.plan.now c.lawful.ensures (showing_of (g.T.MetricTable.state c.args.table.now)) c.in_range.ensures c.args.router c.args.prefix
+    fitting c.args.plan.now c.lawful.ensures (g.T.MetricTable.state c.args.table.now) c.in_range.ensures c.args.router c.args.prefix
     (c.leaf.ensures.more.0 (not_from_false _ c.if-leaf.false)) c.read_route.result c.read_route.ensures.some
 
 pub returns-clause-hidden : goal.returns-clause-hidden
 returns-clause-hidden g c =
-    not_hidden c.args.plan.now c.lawful.ensures (showing_of (g.T.MetricTable.state c.args.table.now)) c.in_range.ensures c.args.router c.args.prefix
+    not_hidden c.args.plan.now c.lawful.ensures (g.T.MetricTable.state c.args.table.now) c.in_range.ensures c.args.router c.args.prefix
     (c.leaf.ensures.more.0 (not_from_false _ c.if-leaf.false)) c.read_route.result c.read_route.ensures.shown
 
 pub returns-clause-one : goal.returns-clause-one
 returns-clause-one g c =
-    only c.args.plan.now c.lawful.ensures (showing_of (g.T.MetricTable.state c.args.table.now)) c.in_range.ensures c.args.router c.args.prefix
+    only c.args.plan.now c.lawful.ensures (g.T.MetricTable.state c.args.table.now) c.in_range.ensures c.args.router c.args.prefix
     (c.leaf.ensures.more.0 (not_from_false _ c.if-leaf.false)) c.requires.router c.read_route.result c.read_route.ensures.some
 
 pub returns-clause-none : goal.returns-clause-none
 returns-clause-none g c =
-    unreadable c.args.plan.now c.lawful.ensures (showing_of (g.T.MetricTable.state c.args.table.now)) c.in_range.ensures c.args.router c.args.prefix
+    unreadable c.args.plan.now c.lawful.ensures (g.T.MetricTable.state c.args.table.now) c.in_range.ensures c.args.router c.args.prefix
     (c.leaf.ensures.more.0 (not_from_false _ c.if-leaf.false)) c.read_route.result c.read_route.ensures.none

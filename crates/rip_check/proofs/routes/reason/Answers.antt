@@ -1,5 +1,4 @@
 use Rattle.std.proofs.Common.{refl}
-use Rattle.rip_check.specs.Captured.{showing_of}
 use Rattle.rip_check.proofs.Standing.{two_shown, not_two}
 use Rattle.rip_check.proofs.Surveyed.{mute, one_metric}
 use Rattle.rip_check.proofs.routes.reason.Goals as goal
@@ -7,7 +6,7 @@ use Rattle.rip_check.proofs.routes.reason.Goals as goal
 pub returns-then-found : goal.returns-then-found
 returns-then-found g c =
     let n = c.args.plan.now in
-    let shown = showing_of (g.T.MetricTable.state c.args.table.now) in
+    let shown = (g.T.MetricTable.state c.args.table.now) in
     let found = c.survey_of-found.result in
     let is = c.survey_of-found.ensures in
     let two = is.speech.two c.if-found.true in (
@@ -19,7 +18,7 @@ returns-then-found g c =
 pub returns-in-Some : goal.returns-in-Some
 returns-in-Some g c =
     let n = c.args.plan.now in
-    let shown = showing_of (g.T.MetricTable.state c.args.table.now) in
+    let shown = (g.T.MetricTable.state c.args.table.now) in
     let found = c.survey_of-found.result in (
       refl,
       refl,
@@ -30,7 +29,7 @@ returns-in-Some g c =
 pub returns-in-None : goal.returns-in-None
 returns-in-None g c =
     let n = c.args.plan.now in
-    let shown = showing_of (g.T.MetricTable.state c.args.table.now) in
+    let shown = (g.T.MetricTable.state c.args.table.now) in
     let found = c.survey_of-found.result in (
       refl,
       refl,

@@ -1,5 +1,4 @@
 use Rattle.std.proofs.Common.{arith}
-use Rattle.rip_check.specs.Captured.{showing_of}
 use Rattle.rip_check.specs.Verdicts.{route_of}
 use Rattle.rip_check.proofs.Readable.{fits_readable, one_sound}
 use Rattle.rip_check.proofs.unsettled.mark_of.Goals as goal
@@ -7,7 +6,7 @@ use Rattle.rip_check.proofs.unsettled.mark_of.Goals as goal
 pub returns-in-None : goal.returns-in-None
 returns-in-None g c =
     let n = c.args.plan.now in
-    let shown = showing_of (g.T.MetricTable.state c.args.table.now) in
+    let shown = (g.T.MetricTable.state c.args.table.now) in
     record {
       most = omega arith;
       sound = λ e t fits. absurd (c.in-None.ensures.none (fits_readable n c.lawful.ensures shown c.in_range.ensures c.args.router c.args.prefix t c.requires.router fits));
@@ -17,7 +16,7 @@ returns-in-None g c =
 pub returns-in-Some : goal.returns-in-Some
 returns-in-Some g c =
     let n = c.args.plan.now in
-    let shown = showing_of (g.T.MetricTable.state c.args.table.now) in
+    let shown = (g.T.MetricTable.state c.args.table.now) in
     let t = route_of c.in-Some.route in
     let fits = c.in-Some.ensures.fits in
     record {

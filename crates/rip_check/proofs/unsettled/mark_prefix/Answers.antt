@@ -1,7 +1,6 @@
 use Rattle.std.proofs.Common.{◌+◌, ◌*◌, ◌<◌, ◌∙◌, refl, length, arith}
 use Rattle.std.proofs.lemmas.Nat.{mul-add-lt}
 use Rattle.std.proofs.lemmas.Grind.{common_steps}
-use Rattle.rip_check.specs.Captured.{showing_of}
 use Rattle.rip_check.specs.Marks.{IsMark}
 use Rattle.rip_check.proofs.Marking.{one_more_mark, other_mark}
 use Rattle.rip_check.proofs.unsettled.mark_prefix.Goals as goal
@@ -12,7 +11,7 @@ loop-router-init g c = record { marked = λ r lt. absurd (omega (arith, lt)); ot
 pub loop-router-preserved : goal.loop-router-preserved
 loop-router-preserved g c =
     let n = c.args.plan.now in
-    let shown = showing_of (g.T.MetricTable.state c.args.table.now) in
+    let shown = (g.T.MetricTable.state c.args.table.now) in
     let count = length (g.T.MetricTable.state c.args.table.now).prefixes in
     let i = c.loop-router.router in
     let p = c.args.prefix in

@@ -1,8 +1,8 @@
 use Rattle.std.proofs.Common.{length}
-use Rattle.rip_check.specs.Audits.{IsKnownPlace}
 use Rattle.ripaudit.specs.Held.{held}
 use Rattle.ripaudit.proofs.FailureLemmas.{LinesSoFar, places_left}
 use Rattle.ripaudit.proofs.audit.write_failures.Given as goal
+use Rattle.rip_check.specs.Verdicts.{IsKnownPlace}
 
 abbrev pub invariant-places : goal.invariant-places
 invariant-places g l =

@@ -4,28 +4,17 @@ use Rattle.rip_table.specs.State.{State}
 use Rattle.ripaudit.specs.RefusalText.{refused_log}
 use Rattle.ripaudit.specs.ReportText.{ReportOf, a_refusal, of_table}
 use Rattle.ripaudit.specs.Sent.{WentOut}
-use Rattle.ripaudit.proofs.FinishLemmas.{finished_sink, finished_text, finished_wrote}
-use Rattle.ripaudit.proofs.ReportLemmas.{began-on, no_table, same_table, went-on}
+use Rattle.ripaudit.proofs.FinishLemmas.{finished_prints, prints_also}
+use Rattle.ripaudit.proofs.ReportLemmas.{no_table, same_table}
 use Rattle.ripaudit.proofs.SentLemmas.{Writes-same}
 use Rattle.ripaudit.proofs.report.report_log.Goals as goal
 
-pub returns-in-Ok-None-clause-text : goal.returns-in-Ok-None-clause-text
-returns-in-Ok-None-clause-text g c =
+pub returns-in-Ok-None-clause-prints : goal.returns-in-Ok-None-clause-prints
+returns-in-Ok-None-clause-prints g c =
     let s = g.T.MetricTable.state c.read_log-source.new.table in
     let told = rw (c.in-Ok-None.is, c.in-Ok-None.field-0-is) at c.read_log-source.ensures.told in
-    let log = g.R.Source.coming c.args.log in
-    let n = c.args.plan.now in
-    let says = g.C.Report.is_text c.args.command.now n in
-    went-on (says s) (ReportOf says n log) (g.K.Sink.taken c.args.out.now) (g.K.Sink.taken c.write.new.out) c.write.result (λ w h. of_table s w told h) c.write.ensures.text
-
-pub returns-in-Ok-None-clause-write : goal.returns-in-Ok-None-clause-write
-returns-in-Ok-None-clause-write g c =
-    let s = g.T.MetricTable.state c.read_log-source.new.table in
-    let told = rw (c.in-Ok-None.is, c.in-Ok-None.field-0-is) at c.read_log-source.ensures.told in
-    let log = g.R.Source.coming c.args.log in
-    let n = c.args.plan.now in
-    let says = g.C.Report.is_text c.args.command.now n in
-    λ failed. let h = c.write.ensures.write failed in (h.0, began-on (says s) (ReportOf says n log) (g.K.Sink.taken c.args.out.now) (g.K.Sink.taken c.write.new.out) (λ w h. of_table s w told h) h.1)
+    let says = g.C.Report.is_text c.args.command.now c.args.plan.now in
+    prints_also (says s) (ReportOf says c.args.plan.now (g.R.Source.coming c.args.log)) g.K.Sink.taken g.K.Sink.broken c.args.out.now c.write.new.out c.write.result (λ w h. of_table s w told h) c.write.ensures.prints
 
 pub returns-in-Ok-None-clause-told : goal.returns-in-Ok-None-clause-told
 returns-in-Ok-None-clause-told g c =
@@ -34,7 +23,7 @@ returns-in-Ok-None-clause-told g c =
     let a = g.K.Sink.taken c.args.out.now in
     let b = g.K.Sink.taken c.write.new.out in
     let told = rw (c.in-Ok-None.is, c.in-Ok-None.field-0-is) at c.read_log-source.ensures.told in
-    λ t table. subst (λ (u : State). IfOk c.write.result (WentOut (g.C.Report.is_text c.args.command.now n u) a b)) (same_table n (g.R.Source.coming c.args.log) s t None told table).0 c.write.ensures.text
+    λ t table. subst (λ (u : State). IfOk c.write.result (WentOut (g.C.Report.is_text c.args.command.now n u) a b)) (same_table n (g.R.Source.coming c.args.log) s t None told table).0 c.write.ensures.prints.text
 
 pub returns-in-Ok-None-clause-meaning : goal.returns-in-Ok-None-clause-meaning
 returns-in-Ok-None-clause-meaning g c =
@@ -43,25 +32,15 @@ returns-in-Ok-None-clause-meaning g c =
     let told = rw (c.in-Ok-None.is, c.in-Ok-None.field-0-is) at c.read_log-source.ensures.told in
     λ t table. subst (λ (u : State). IfOk c.write.result (g.C.Report.means c.args.command.now n u)) (same_table n (g.R.Source.coming c.args.log) s t None told table).0 c.write.ensures.meaning
 
-pub returns-in-Ok-Some-clause-text : goal.returns-in-Ok-Some-clause-text
-returns-in-Ok-Some-clause-text g c =
+pub returns-in-Ok-Some-clause-prints : goal.returns-in-Ok-Some-clause-prints
+returns-in-Ok-Some-clause-prints g c =
     let n = c.args.plan.now in
     let e = c.in-Ok-Some.error in
     let s = g.T.MetricTable.state c.read_log-source.new.table in
     let told = rw (c.in-Ok-Some.is, c.in-Ok-Some.field-0-is) at c.read_log-source.ensures.told in
     let line = c.as_bytes.ensures ∙ c.refusal_text.ensures in
     let wrote = Writes-same g.K.Sink.taken g.K.Sink.broken c.args.out.now c.write_all.new.out c.write_all.result _ _ [] line c.write_all.ensures in
-    finished_text (ReportOf (g.C.Report.is_text c.args.command.now n) n (g.R.Source.coming c.args.log)) (refused_log e) g.K.Sink.taken g.K.Sink.broken c.args.out.now c.write_all.new.out c.write_all.result c.finish.result (a_refusal s e told) c.finish.ensures wrote
-
-pub returns-in-Ok-Some-clause-write : goal.returns-in-Ok-Some-clause-write
-returns-in-Ok-Some-clause-write g c =
-    let n = c.args.plan.now in
-    let e = c.in-Ok-Some.error in
-    let s = g.T.MetricTable.state c.read_log-source.new.table in
-    let told = rw (c.in-Ok-Some.is, c.in-Ok-Some.field-0-is) at c.read_log-source.ensures.told in
-    let line = c.as_bytes.ensures ∙ c.refusal_text.ensures in
-    let wrote = Writes-same g.K.Sink.taken g.K.Sink.broken c.args.out.now c.write_all.new.out c.write_all.result _ _ [] line c.write_all.ensures in
-    finished_wrote (ReportOf (g.C.Report.is_text c.args.command.now n) n (g.R.Source.coming c.args.log)) (refused_log e) g.K.Sink.taken g.K.Sink.broken c.args.out.now c.write_all.new.out c.write_all.result c.finish.result (a_refusal s e told) c.finish.ensures wrote
+    finished_prints (ReportOf (g.C.Report.is_text c.args.command.now n) n (g.R.Source.coming c.args.log)) (refused_log e) g.K.Sink.taken g.K.Sink.broken c.args.out.now c.write_all.new.out c.write_all.result c.finish.result (a_refusal s e told) c.finish.ensures wrote
 
 pub returns-in-Ok-Some-clause-told : goal.returns-in-Ok-Some-clause-told
 returns-in-Ok-Some-clause-told g c =
@@ -72,6 +51,3 @@ pub returns-in-Ok-Some-clause-meaning : goal.returns-in-Ok-Some-clause-meaning
 returns-in-Ok-Some-clause-meaning g c =
     let told = rw (c.in-Ok-Some.is, c.in-Ok-Some.field-0-is) at c.read_log-source.ensures.told in
     λ t table. no_table _ c.args.plan.now (g.R.Source.coming c.args.log) (g.T.MetricTable.state c.read_log-source.new.table) t c.in-Ok-Some.error told table
-
-pub returns-in-Ok-Some-clause-sink : goal.returns-in-Ok-Some-clause-sink
-returns-in-Ok-Some-clause-sink g c = finished_sink _ _ _ _ _ _ c.write_all.result c.finish.result c.finish.ensures c.write_all.ensures

@@ -1,23 +1,15 @@
 use Rattle.std.specs.Prelude.{IfOk}
 use Rattle.ripaudit.specs.ReportText.{ReportOf, ReportText, a_fault, of_plan}
 use Rattle.ripaudit.specs.Sent.{WentOut}
-use Rattle.ripaudit.proofs.FinishLemmas.{first_told, refused_text, refused_wrote}
-use Rattle.ripaudit.proofs.ReportLemmas.{began-on, of_read, of_refused, went-on}
+use Rattle.ripaudit.proofs.FinishLemmas.{first_told, prints_also, refused_prints}
+use Rattle.ripaudit.proofs.ReportLemmas.{of_read, of_refused}
 use Rattle.ripaudit.proofs.report.run_report.Goals as goal
 
-pub returns-in-Ok-with_hasher-clause-text : goal.returns-in-Ok-with_hasher-clause-text
-returns-in-Ok-with_hasher-clause-text g c =
+pub returns-in-Ok-with_hasher-clause-prints : goal.returns-in-Ok-with_hasher-clause-prints
+returns-in-Ok-with_hasher-clause-prints g c =
     let says = g.C.Report.is_text c.args.command.now in
     let log = g.R.Source.coming c.args.log in
-    went-on (ReportOf (says c.in-Ok.plan) c.in-Ok.plan log) (ReportText says c.args.plan.now log) (g.K.Sink.taken c.args.out.now) (g.K.Sink.taken c.report_log.new.out) c.report_log.result.1 (λ w h. of_plan c.in-Ok.plan w c.in-Ok.ensures.faultless c.in-Ok.ensures.plan h) c.report_log.ensures.text
-
-pub returns-in-Ok-with_hasher-clause-write : goal.returns-in-Ok-with_hasher-clause-write
-returns-in-Ok-with_hasher-clause-write g c =
-    let says = g.C.Report.is_text c.args.command.now in
-    let log = g.R.Source.coming c.args.log in
-    λ failed.
-    let h = c.report_log.ensures.write failed in
-    (h.0, began-on (ReportOf (says c.in-Ok.plan) c.in-Ok.plan log) (ReportText says c.args.plan.now log) (g.K.Sink.taken c.args.out.now) (g.K.Sink.taken c.report_log.new.out) (λ w h. of_plan c.in-Ok.plan w c.in-Ok.ensures.faultless c.in-Ok.ensures.plan h) h.1)
+    prints_also (ReportOf (says c.in-Ok.plan) c.in-Ok.plan log) (ReportText says c.args.plan.now log) g.K.Sink.taken g.K.Sink.broken c.args.out.now c.report_log.new.out c.report_log.result.1 (λ w h. of_plan c.in-Ok.plan w c.in-Ok.ensures.faultless c.in-Ok.ensures.plan h) c.report_log.ensures.prints
 
 pub returns-in-Ok-with_hasher-clause-told : goal.returns-in-Ok-with_hasher-clause-told
 returns-in-Ok-with_hasher-clause-told g c =
@@ -29,13 +21,9 @@ pub returns-in-Ok-with_hasher-clause-meaning : goal.returns-in-Ok-with_hasher-cl
 returns-in-Ok-with_hasher-clause-meaning g c =
     λ n s accepted. of_read (λ m t. IfOk c.report_log.result.1 (g.C.Report.means c.args.command.now m t)) c.args.plan.now (g.R.Source.coming c.args.log) n c.in-Ok.plan s (λ n m q. c.one_plan.ensures q.document n m) c.in-Ok.ensures.plan c.report_log.ensures.meaning accepted
 
-pub returns-in-Err-clause-text : goal.returns-in-Err-clause-text
-returns-in-Err-clause-text g c =
-    refused_text (ReportText (g.C.Report.is_text c.args.command.now) c.args.plan.now (g.R.Source.coming c.args.log)) c.in-Err.error (g.K.Sink.taken c.args.out.now) (g.K.Sink.taken c.refuse_plan.new.out) c.refuse_plan.result (λ other. a_fault c.in-Err.error (first_told c.args.plan.now c.in-Err.error c.in-Err.ensures.fault other)) c.refuse_plan.ensures.wanted c.refuse_plan.ensures.text
-
-pub returns-in-Err-clause-write : goal.returns-in-Err-clause-write
-returns-in-Err-clause-write g c =
-    refused_wrote (ReportText (g.C.Report.is_text c.args.command.now) c.args.plan.now (g.R.Source.coming c.args.log)) c.in-Err.error (g.K.Sink.taken c.args.out.now) (g.K.Sink.taken c.refuse_plan.new.out) (g.K.Sink.broken c.refuse_plan.new.out) c.refuse_plan.result (λ other. a_fault c.in-Err.error (first_told c.args.plan.now c.in-Err.error c.in-Err.ensures.fault other)) c.refuse_plan.ensures.wanted c.refuse_plan.ensures.write
+pub returns-in-Err-clause-prints : goal.returns-in-Err-clause-prints
+returns-in-Err-clause-prints g c =
+    refused_prints (ReportText (g.C.Report.is_text c.args.command.now) c.args.plan.now (g.R.Source.coming c.args.log)) c.in-Err.error g.K.Sink.taken g.K.Sink.broken c.args.out.now c.refuse_plan.new.out c.refuse_plan.result (λ other. a_fault c.in-Err.error (first_told c.args.plan.now c.in-Err.error c.in-Err.ensures.fault other)) c.refuse_plan.ensures.wanted c.refuse_plan.ensures.prints
 
 pub returns-in-Err-clause-told : goal.returns-in-Err-clause-told
 returns-in-Err-clause-told g c =

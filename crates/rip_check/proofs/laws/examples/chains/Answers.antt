@@ -10,11 +10,11 @@ passes_15 = record { counts = refl; links = refl; routers = refl; interfaces = r
 passes_16 : Passes (chain 16)
 passes_16 = record { counts = refl; links = refl; routers = refl; interfaces = refl; inside = refl; prefixes = refl; places = refl; has = refl }
 
-settled_15 : NamesTested → IsSettledNetwork (chain 15) 1 (chain_shown 15) chain_tables
-settled_15 tested = settled (chain 15) 1 (chain_shown 15) chain_tables passes_15 tested (λ i. refl) refl refl
+settled_15 : NamesTested → IsSettledNetwork (chain 15) (chain_shown 15) chain_tables
+settled_15 tested = settled (chain 15) (chain_shown 15) chain_tables passes_15 tested (λ i. refl) refl refl
 
-settled_16 : NamesTested → IsSettledNetwork (chain 16) 1 (chain_shown 16) chain_tables
-settled_16 tested = settled (chain 16) 1 (chain_shown 16) chain_tables passes_16 tested (λ i. refl) refl refl
+settled_16 : NamesTested → IsSettledNetwork (chain 16) (chain_shown 16) chain_tables
+settled_16 tested = settled (chain 16) (chain_shown 16) chain_tables passes_16 tested (λ i. refl) refl refl
 
 pub returns-clause-fifteen : goal.returns-clause-fifteen
 returns-clause-fifteen c = settled_15 (λ text. (c.names.ensures.exact text).0)

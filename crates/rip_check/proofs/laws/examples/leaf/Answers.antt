@@ -12,7 +12,7 @@ passes : Passes with_leaf
 passes = record { counts = refl; links = refl; routers = refl; interfaces = refl; inside = refl; prefixes = refl; places = refl; has = refl }
 
 pub returns-clause-settled : goal.returns-clause-settled
-returns-clause-settled c = settled with_leaf 3 leaf_shown leaf_tables passes (λ text. (c.names.ensures.exact text).0) (λ i. refl) refl refl
+returns-clause-settled c = settled with_leaf leaf_shown leaf_tables passes (λ text. (c.names.ensures.exact text).0) (λ i. refl) refl refl
 
 pub returns-clause-hidden : goal.returns-clause-hidden
 returns-clause-hidden c = fits_gives with_leaf leaf_shown 3 0 (route 2 (Over 1)) refl

@@ -17,13 +17,13 @@ no_path r (h ∷ hops) v path = omega (arith, no_path h.to hops path.1 path.4, p
 
 pub returns-clause-unsettled : goal.returns-clause-unsettled
 returns-clause-unsettled c =
-    unsettled triangle 4 phantom_shown phantom_tables passes (λ text. (c.names.ensures.exact text).0) (λ i. refl) refl 0 3 (omega arith) (omega arith) refl
+    unsettled triangle phantom_shown phantom_tables passes (λ text. (c.names.ensures.exact text).0) (λ i. refl) refl 0 3 (omega arith) (omega arith) refl
 
 pub returns-clause-least : goal.returns-clause-least
 returns-clause-least c = record { reached = inl refl; least = no_path 0 }
 
 pub returns-clause-nowhere : goal.returns-clause-nowhere
-returns-clause-nowhere c = settled triangle 4 nowhere_shown triangle_tables passes (λ text. (c.names.ensures.exact text).0) (λ i. refl) refl refl
+returns-clause-nowhere c = settled triangle nowhere_shown triangle_tables passes (λ text. (c.names.ensures.exact text).0) (λ i. refl) refl refl
 
 pub returns-clause-offered : goal.returns-clause-offered
 returns-clause-offered c = holds_gives triangle phantom_shown 0 3 (route 3 (Over 0)) refl

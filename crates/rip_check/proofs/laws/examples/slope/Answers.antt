@@ -9,11 +9,11 @@ passes : Passes slope
 passes = record { counts = refl; links = refl; routers = refl; interfaces = refl; inside = refl; prefixes = refl; places = refl; has = refl }
 
 pub returns-clause-settled : goal.returns-clause-settled
-returns-clause-settled c = settled slope 2 (slope_shown 6) (slope_tables 6) passes (λ text. (c.names.ensures.exact text).0) (λ i. refl) refl refl
+returns-clause-settled c = settled slope (slope_shown 6) (slope_tables 6) passes (λ text. (c.names.ensures.exact text).0) (λ i. refl) refl refl
 
 pub returns-clause-unsettled : goal.returns-clause-unsettled
 returns-clause-unsettled c =
-    unsettled slope 2 (slope_shown 2) (slope_tables 2) passes (λ text. (c.names.ensures.exact text).0) (λ i. refl) refl 0 1 (omega arith) (omega arith) refl
+    unsettled slope (slope_shown 2) (slope_tables 2) passes (λ text. (c.names.ensures.exact text).0) (λ i. refl) refl 0 1 (omega arith) (omega arith) refl
 
 pub returns-clause-path : goal.returns-clause-path
 returns-clause-path c =

@@ -8,4 +8,4 @@ passes : Passes triangle
 passes = record { counts = refl; links = refl; routers = refl; interfaces = refl; inside = refl; prefixes = refl; places = refl; has = refl }
 
 pub returns : goal.returns
-returns c = settled triangle 3 triangle_shown triangle_tables passes (λ text. (c.names.ensures.exact text).0) (λ i. refl) refl refl
+returns c = settled triangle triangle_shown triangle_tables passes (λ text. (c.names.ensures.exact text).0) (λ i. refl) refl refl

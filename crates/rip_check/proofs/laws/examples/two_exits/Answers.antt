@@ -8,4 +8,4 @@ passes : Passes two_exits
 passes = record { counts = refl; links = refl; routers = refl; interfaces = refl; inside = refl; prefixes = refl; places = refl; has = refl }
 
 pub returns : goal.returns
-returns c = settled two_exits 4 two_exits_shown two_exits_tables passes (λ text. (c.names.ensures.exact text).0) (λ i. refl) refl refl
+returns c = settled two_exits two_exits_shown two_exits_tables passes (λ text. (c.names.ensures.exact text).0) (λ i. refl) refl refl

@@ -2,7 +2,6 @@ use Rattle.std.proofs.Common.{◌≤◌, ◌≡◌, ℕ, ◌+◌, ◌*◌, inl, 
 use Rattle.std.proofs.Math.Seq.{take-append_seam}
 use Rattle.std.proofs.lemmas.Bool.{cases_lt}
 use Rattle.std.proofs.lemmas.List.{length-take-le}
-use Rattle.rip_check.specs.Captured.{showing_of}
 use Rattle.rip_check.proofs.unsettled.Unsettled.find.Goals as goal
 
 pub loop-prefix-init : goal.loop-prefix-init
@@ -17,7 +16,7 @@ loop-prefix-init g c =
 pub loop-prefix-preserved : goal.loop-prefix-preserved
 loop-prefix-preserved g c =
     let n = c.args.plan.now in
-    let shown = showing_of (g.T.MetricTable.state c.args.table.now) in
+    let shown = (g.T.MetricTable.state c.args.table.now) in
     let count = length (g.T.MetricTable.state c.args.table.now).prefixes in
     let is = c.loop-prefix.invariant in
     let new = c.mark_prefix.new.marks in

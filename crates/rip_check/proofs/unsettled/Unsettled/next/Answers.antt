@@ -1,7 +1,6 @@
 use Rattle.std.proofs.Common.{ℕ, ◌+◌, ◌<◌, ◌≤◌, arith, length}
 use Rattle.rip_check.specs.Verdicts.{IsSound}
 use Rattle.rip_check.proofs.Order.{row_first, rows_on, StartsAt, starts_none, starts_some, none_sooner, in_front, at_back, all_later}
-use Rattle.rip_check.specs.Captured.{showing_of}
 use Rattle.rip_check.proofs.unsettled.Unsettled.next.Goals as goal
 use Rattle.rip_check.proofs.unsettled.Unsettled.next.Goals.{in-None, in-Some}
 
@@ -22,7 +21,7 @@ pub returns-in-Some-first_marked-clause-some : goal.returns-in-Some-first_marked
 returns-in-Some-first_marked-clause-some g c =
     let n = c.args.plan.now in
     let count = length (g.T.MetricTable.state c.args.table.now).prefixes in
-    let shown = showing_of (g.T.MetricTable.state c.args.table.now) in
+    let shown = (g.T.MetricTable.state c.args.table.now) in
     let r = c.loop-router.router in
     let f = c.place.result in
     let h = rw c.prefix_count-count.ensures at c.in-Some-first_marked.ensures.some in
@@ -41,7 +40,7 @@ pub loop-router-preserved : goal.loop-router-preserved
 loop-router-preserved g c =
     let n = c.args.plan.now in
     let count = length (g.T.MetricTable.state c.args.table.now).prefixes in
-    let shown = showing_of (g.T.MetricTable.state c.args.table.now) in
+    let shown = (g.T.MetricTable.state c.args.table.now) in
     let r = c.loop-router.router in
     let start : StartsAt c.args.after c.match-after.row.0 c.match-after.row.1 =
     elim c.match-after.branch [

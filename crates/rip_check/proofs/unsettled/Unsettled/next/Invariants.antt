@@ -1,5 +1,4 @@
 use Rattle.std.proofs.Common.{ℕ, ◌≤◌, ◌<◌, length}
-use Rattle.rip_check.specs.Captured.{showing_of}
 use Rattle.rip_check.specs.Firsts.{IsAfter}
 use Rattle.rip_check.specs.Verdicts.{IsSound}
 use Rattle.rip_check.proofs.unsettled.Unsettled.next.Given as goal
@@ -7,7 +6,7 @@ use Rattle.rip_check.proofs.unsettled.Unsettled.next.Given as goal
 abbrev pub invariant-loop-router : goal.invariant-loop-router
 invariant-loop-router g l = record {
   rows : (s q : ℕ) → s < l.router → q < length (g.T.MetricTable.state l.table).prefixes → IsAfter l.fn.after s q →
-      IsSound l.plan (showing_of (g.T.MetricTable.state l.table)) s q;
+      IsSound l.plan (g.T.MetricTable.state l.table) s q;
   front : (q : ℕ) → IsAfter l.fn.after l.router q → l.from ≤ q;
   back : (q : ℕ) → l.from ≤ q → IsAfter l.fn.after l.router q;
 }

@@ -2,7 +2,6 @@ use Rattle.std.proofs.Common.{◌≡◌, ◌*◌, ◌+◌, Option, None, Some, I
 use Rattle.std.proofs.lemmas.List.{get_or_read}
 use Rattle.std.proofs.lemmas.Nat.{mul-add-lt}
 use Rattle.rip_check.specs.declared.routes.Reading.{Reading}
-use Rattle.rip_check.specs.Captured.{showing_of}
 use Rattle.rip_check.specs.Verdicts.{route_of}
 use Rattle.rip_check.proofs.Reading.{one_route}
 use Rattle.rip_check.proofs.Readable.{fits_readable}
@@ -15,14 +14,14 @@ there P (Some t) none p = refl
 pub unwrap-route-requires : goal.unwrap-route-requires
 unwrap-route-requires g c =
     let n = c.args.plan.now in
-    let shown = showing_of (g.T.MetricTable.state c.args.table.now) in
+    let shown = (g.T.MetricTable.state c.args.table.now) in
     let unmet = (c.requires.places.marks c.args.router c.args.prefix c.requires.router c.requires.prefix).fails c.requires.marked in
     there _ c.read.result c.read.ensures.none (fits_readable n c.lawful.ensures shown c.in_range.ensures c.args.router c.args.prefix unmet.route c.requires.router unmet.fits)
 
 pub returns-clause-values : goal.returns-clause-values
 returns-clause-values g c =
     let n = c.args.plan.now in
-    let shown = showing_of (g.T.MetricTable.state c.args.table.now) in
+    let shown = (g.T.MetricTable.state c.args.table.now) in
     let r = c.args.router in
     let p = c.args.prefix in
     let w = length (g.T.MetricTable.state c.args.table.now).prefixes in
