@@ -11,7 +11,7 @@ use Rattle.rip_table.specs.State.{State}
 use Rattle.rip_check.specs.Settled.{IsChoice}
 use Rattle.rip_check.specs.Tables.{Offers}
 use Rattle.rip_check.specs.declared.links.TwoLeast.{TwoLeast}
-use Rattle.rip_check.specs.TwoLeasts.{IsSeen, IsTwoLeast}
+use Rattle.rip_check.specs.TwoLeasts.{IsSeen, IsTwoLeast, shown_of}
 use Rattle.rip_check.proofs.Owned.{its_link, within}
 use Rattle.rip_check.specs.Captured.{metric_at}
 
@@ -104,48 +104,49 @@ least_of n shown r p best most direct offers v (inr (inr h)) = offers h.2.here.0
 abbrev pub IsFor : TwoLeast → ℕ → ℕ → Type 0
 IsFor two r v = ((r ≡ two.by) × (v ≡ two.next)) ⊎ ((r ≡ two.by → ⊥) × (v ≡ two.least))
 
-module _ (n : Network) (shown : State) (r l p cost : ℕ) (two : TwoLeast) (own : HasCost n r l cost) (is : IsTwoLeast n shown l p (length n.interfaces) two) where
-  -- no neighbour shows less
-  pub told_below : IsLawful n → (v : ℕ) → IsFor two r v → (s w : ℕ) → (o : Offers n shown r l s p w) →
-      (v ≤ unwrap_or (metric_at shown o.interface p) 16) × (w ≡ min 16 (cost + unwrap_or (metric_at shown o.interface p) 16))
-  told_below plan v for s w o =
+module _ (n : Network) (seen : ℕ → ℕ → ℕ) (r l : ℕ) (two : TwoLeast) (is : IsTwoLeast n seen l (length n.interfaces) two) where
+  -- no neighbour has less
+  pub told_below : (v : ℕ) → IsFor two r v → (j s w : ℕ) → IsSeen n seen l j s w → s ≢ r → v ≤ w
+  told_below v (inl h) j s w has other = omega (arith, h.1, is.others j s w (within n j s l has.cost has.its) has (λ e. other (e ∙ sym h.0)))
+  told_below v (inr h) j s w has other = omega (arith, h.1, is.below j s w (within n j s l has.cost has.its) has)
+
+  -- and one has it, if it is below 16
+  pub told_seen : (v : ℕ) → IsFor two r v → v < 16 → (j s : ℕ) × IsSeen n seen l j s v × (s ≢ r)
+  told_seen v for small = go for
+    where
+      next_one : r ≡ two.by → v ≡ two.next → (two.next ≡ 16) ⊎ ((j s : ℕ) × IsSeen n seen l j s two.next × (s ≢ two.by)) → (j s : ℕ) × IsSeen n seen l j s v × (s ≢ r)
+      next_one mine is_next (inl big) = absurd (omega (arith, is_next, big, small))
+      next_one mine is_next (inr h) = (h.0, h.1, rw is_next h.2, λ same. h.3 (same ∙ mine))
+
+      least_one : (r ≡ two.by → ⊥) → v ≡ two.least → (two.least ≡ 16) ⊎ ((j : ℕ) × IsSeen n seen l j two.by two.least) → (j s : ℕ) × IsSeen n seen l j s v × (s ≢ r)
+      least_one not_mine is_least (inl big) = absurd (omega (arith, is_least, big, small))
+      least_one not_mine is_least (inr h) = (h.0, two.by, rw is_least h.1, λ same. not_mine (sym same))
+
+      go : IsFor two r v → (j s : ℕ) × IsSeen n seen l j s v × (s ≢ r)
+      go (inl h) = next_one h.0 h.1 is.next_is
+      go (inr h) = least_one h.0 h.1 is.least_is
+
+module _ (n : Network) (shown : State) (r l p cost : ℕ) (own : HasCost n r l cost) where
+  -- what a neighbour offers is seen there
+  pub offer_seen : IsLawful n → (s w : ℕ) → (o : Offers n shown r l s p w) →
+      (v : ℕ) × IsSeen n (shown_of shown p) l o.interface s v × (w ≡ min 16 (cost + v))
+  offer_seen plan s w o =
       let number = plan.one_on_link o.here.0 own.0 r l o.cost cost o.here.1 own.1 in
       let mine : IsInterface n own.0 r l o.cost = rw number at o.here.1 in
       let same : o.cost ≡ cost = (its_link n own.0 r l o.cost r l cost mine own.1).2 in
-      let seen : IsSeen n shown l p o.interface s (unwrap_or (metric_at shown o.interface p) 16) = record { cost = o.its_cost; its = o.there; value = refl } in
-      let lt = within n o.interface s l o.its_cost o.there in
-      (below for seen lt, rw same at o.value)
-    where
-      below : IsFor two r v → IsSeen n shown l p o.interface s (unwrap_or (metric_at shown o.interface p) 16) → o.interface < length n.interfaces → v ≤ unwrap_or (metric_at shown o.interface p) 16
-      below (inl h) seen lt = omega (arith, h.1, is.others o.interface s (unwrap_or (metric_at shown o.interface p) 16) lt seen (λ e. o.neighbour.other (e ∙ sym h.0)))
-      below (inr h) seen lt = omega (arith, h.1, is.below o.interface s (unwrap_or (metric_at shown o.interface p) 16) lt seen)
+      (unwrap_or (metric_at shown o.interface p) 16, record { cost = o.its_cost; its = o.there; value = refl }, rw same at o.value)
 
-  -- and one shows it, if it is below 16
-  pub told_offer : (v : ℕ) → IsFor two r v → v < 16 → (w : ℕ) → w ≡ min 16 (cost + v) → (s : ℕ) × Offers n shown r l s p w
-  told_offer v for small w e = go for
-    where
-      made : (j s : ℕ) → IsSeen n shown l p j s v → s ≢ r → (t : ℕ) × Offers n shown r l t p w
-      made j s seen other = (
-        s,
-        record {
-          neighbour = record { other = other; here = (cost, own); there = (seen.cost, (j, seen.its)) };
-          cost = cost;
-          here = own;
-          interface = j;
-          its_cost = seen.cost;
-          there = seen.its;
-          value = rw seen.value at e;
-        },
-      )
-
-      next_one : r ≡ two.by → v ≡ two.next → (two.next ≡ 16) ⊎ ((j s : ℕ) × IsSeen n shown l p j s two.next × (s ≢ two.by)) → (t : ℕ) × Offers n shown r l t p w
-      next_one mine is_next (inl big) = absurd (omega (arith, is_next, big, small))
-      next_one mine is_next (inr h) = made h.0 h.1 (rw is_next h.2) (λ same. h.3 (same ∙ mine))
-
-      least_one : (r ≡ two.by → ⊥) → v ≡ two.least → (two.least ≡ 16) ⊎ ((j : ℕ) × IsSeen n shown l p j two.by two.least) → (t : ℕ) × Offers n shown r l t p w
-      least_one not_mine is_least (inl big) = absurd (omega (arith, is_least, big, small))
-      least_one not_mine is_least (inr h) = made h.0 two.by (rw is_least h.1) (λ same. not_mine (sym same))
-
-      go : IsFor two r v → (t : ℕ) × Offers n shown r l t p w
-      go (inl h) = next_one h.0 h.1 is.next_is
-      go (inr h) = least_one h.0 h.1 is.least_is
+  -- and what is seen there is offered
+  pub seen_offer : (j s v w : ℕ) → IsSeen n (shown_of shown p) l j s v → s ≢ r → w ≡ min 16 (cost + v) → (t : ℕ) × Offers n shown r l t p w
+  seen_offer j s v w has other e = (
+    s,
+    record {
+      neighbour = record { other = other; here = (cost, own); there = (has.cost, (j, has.its)) };
+      cost = cost;
+      here = own;
+      interface = j;
+      its_cost = has.cost;
+      there = has.its;
+      value = rw has.value at e;
+    },
+  )

@@ -1,33 +1,41 @@
--- The two least metrics that different routers show on a link.
-use Rattle.std.specs.Prelude.{◌≡◌, ◌≢◌, ℕ, ◌≤◌, ◌<◌, ◌⊎◌, List, Some, length, slice_get, unwrap_or}
+-- The two least metrics that different routers have on a link.
+use Rattle.std.specs.Prelude.{◌≡◌, ◌≢◌, ℕ, ◌≤◌, ◌<◌, ◌⊎◌, List, Some, length, slice_get, slice_index, unwrap_or}
 use Rattle.rip_plan.specs.Network.{Network}
 use Rattle.rip_plan.specs.Relations.{IsInterface}
 use Rattle.rip_table.specs.State.{State}
 use Rattle.rip_check.specs.declared.links.TwoLeast.{TwoLeast}
 use Rattle.rip_check.specs.Captured.{metric_at}
 
--- interface j, router s's on link l, shows v of prefix p, 16 where it shows nothing
-pub record IsSeen (n : Network) (shown : State) (l p j s v : ℕ) : Type 0 where
+-- what interface j shows of prefix p, 16 where it shows nothing
+abbrev pub shown_of : State → ℕ → ℕ → ℕ → ℕ
+shown_of shown p j s = unwrap_or (metric_at shown j p) 16
+
+-- the metric of router s, by a list of all routers' metrics for a prefix
+abbrev pub metric_in : List ℕ → ℕ → ℕ → ℕ
+metric_in metrics j s = slice_index metrics s
+
+-- interface j, router s's on link l, has metric v, by what the interfaces show or the routers have
+pub record IsSeen (n : Network) (seen : ℕ → ℕ → ℕ) (l j s v : ℕ) : Type 0 where
   pub cost : ℕ
   pub its : IsInterface n j s l cost
-  pub value : v ≡ unwrap_or (metric_at shown j p) 16
+  pub value : v ≡ seen j s
 
--- of the interfaces on the link before the bound: the least that one shows, whose it is, and the
--- least of the other routers'
+-- of the interfaces on the link before the bound: the least metric that one has, whose it is, and
+-- the least of the other routers'
 pub record IsTwoLeast
-    (n : Network) (shown : State) (l p bound : ℕ) (two : TwoLeast)
+    (n : Network) (seen : ℕ → ℕ → ℕ) (l bound : ℕ) (two : TwoLeast)
     : Type 0 where
   pub most : two.next ≤ 16
   pub order : two.least ≤ two.next
-  pub least_is : (two.least ≡ 16) ⊎ ((j : ℕ) × IsSeen n shown l p j two.by two.least)
-  pub next_is : (two.next ≡ 16) ⊎ ((j s : ℕ) × IsSeen n shown l p j s two.next × (s ≢ two.by))
-  pub below : (j s v : ℕ) → j < bound → IsSeen n shown l p j s v → two.least ≤ v
-  pub others : (j s v : ℕ) → j < bound → IsSeen n shown l p j s v → s ≢ two.by → two.next ≤ v
+  pub least_is : (two.least ≡ 16) ⊎ ((j : ℕ) × IsSeen n seen l j two.by two.least)
+  pub next_is : (two.next ≡ 16) ⊎ ((j s : ℕ) × IsSeen n seen l j s two.next × (s ≢ two.by))
+  pub below : (j s v : ℕ) → j < bound → IsSeen n seen l j s v → two.least ≤ v
+  pub others : (j s v : ℕ) → j < bound → IsSeen n seen l j s v → s ≢ two.by → two.next ≤ v
 
 -- each element of the list is of the link of its place
-abbrev pub AreTwoLeastBefore : Network → State → ℕ → ℕ → List TwoLeast → Type 0
-AreTwoLeastBefore n shown p bound links =
-    (l : ℕ) (two : TwoLeast) → slice_get links l ≡ Some two → IsTwoLeast n shown l p bound two
+abbrev pub AreTwoLeastBefore : Network → (ℕ → ℕ → ℕ) → ℕ → List TwoLeast → Type 0
+AreTwoLeastBefore n seen bound links =
+    (l : ℕ) (two : TwoLeast) → slice_get links l ≡ Some two → IsTwoLeast n seen l bound two
 
-abbrev pub AreTwoLeast : Network → State → ℕ → List TwoLeast → Type 0
-AreTwoLeast n shown p links = AreTwoLeastBefore n shown p (length n.interfaces) links
+abbrev pub AreTwoLeast : Network → (ℕ → ℕ → ℕ) → List TwoLeast → Type 0
+AreTwoLeast n seen links = AreTwoLeastBefore n seen (length n.interfaces) links

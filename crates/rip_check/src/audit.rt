@@ -4,7 +4,7 @@ ghost use Rattle.std.specs.Prelude.{◌≡◌, ◌↔◌, ℕ, ◌≤◌, ◌<�
 ghost use Rattle.rip_table.specs.State.{Fits};
 ghost use Rattle.rip_check.specs.Tables.{IsHeard};
 ghost use Rattle.rip_check.specs.Firsts.{IsFirstBelow, IsFirstPlace, IsFirstUnheard, IsReadable, IsFirstTrouble};
-ghost use Rattle.rip_check.specs.TwoLeasts.{AreTwoLeast};
+ghost use Rattle.rip_check.specs.TwoLeasts.{AreTwoLeast, shown_of};
 ghost use Rattle.rip_check.specs.Verdicts.{IsRowFirst, IsSound, IsVerdict, ShowsTables, IsNextUnsettled, HoldsAfter, IsKnownPlace};
 ghost use Rattle.rip_check.specs.Laws.{ShowsRightTables, EachPlaceHolds};
 ghost use Rattle.rip_check.specs.Walks.{PacketsArrive};
@@ -98,7 +98,7 @@ fn narrow<T: MetricTable>(
 ) -> Bounds
     requires fits { Fits plan.now (T.state table.now) }
     requires prefix { prefix < length (T.state table.now).prefixes }
-    requires links { AreTwoLeast plan.now (T.state table.now) prefix links.now }
+    requires links { AreTwoLeast plan.now (shown_of (T.state table.now) prefix) links.now }
     requires known { bounds.unclear ≤ length plan.now.routers }
     requires order { bounds.failing ≤ bounds.unclear }
     ensures order { result.failing ≤ result.unclear }

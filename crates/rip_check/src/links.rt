@@ -1,17 +1,19 @@
-//! The two least metrics that are shown on each link, which serve every router there.
+//! The two least metrics on each link, of those that are shown or that the routers have: they serve
+//! every router there.
 
 ghost use Rattle.std.specs.Prelude.{◌≡◌, ℕ, ◌+◌, ◌<◌, ◌≤◌, length, unwrap_or};
 ghost use Rattle.rip_plan.specs.Network.{Network};
+ghost use Rattle.rip_plan.specs.Relations.{IsInterface};
 ghost use Rattle.rip_table.specs.State.{Fits, State};
-ghost use Rattle.rip_check.specs.TwoLeasts.{AreTwoLeast, IsSeen, IsTwoLeast};
+ghost use Rattle.rip_check.specs.TwoLeasts.{AreTwoLeast, AreTwoLeastBefore, IsSeen, IsTwoLeast, metric_in, shown_of};
 ghost use Rattle.rip_check.specs.Captured.{metric_at};
 
 use crate::lookup::shown_at;
 use rip_plan::Plan;
 use rip_table::MetricTable;
 
-/// The least metric that is shown on a link, whose it is, and the least of the other routers'. A
-/// plan has at most 128 routers, so that bytes serve.
+/// The least metric on a link, whose it is, and the least of the other routers'. A plan has at most
+/// 128 routers, so that bytes serve.
 #[derive(Clone, Copy)]
 pub(crate) struct TwoLeast {
     pub least: u8,
@@ -19,7 +21,7 @@ pub(crate) struct TwoLeast {
     pub next: u8,
 }
 
-/// Of a link on which nothing is shown.
+/// Of a link on which no metric is below 16.
 pub(crate) const NOTHING: TwoLeast = TwoLeast {
     least: 16,
     by: 0,
@@ -42,8 +44,8 @@ fn seen_at<T: MetricTable>(plan: &Plan, table: &T, interface: usize, prefix: usi
 
 /// The same with one more interface of the link.
 fn with(two: TwoLeast, router: u8, metric: u8) -> TwoLeast
-    ensures { (n : Network) (shown : State) (l p j : ℕ) → IsTwoLeast n shown l p j two →
-        IsSeen n shown l p j router metric → IsTwoLeast n shown l p (j + 1) result }
+    ensures { (n : Network) (seen : ℕ → ℕ → ℕ) (l j : ℕ) → IsTwoLeast n seen l j two →
+        IsSeen n seen l j router metric → IsTwoLeast n seen l (j + 1) result }
 {
     if router == two.by {
         return TwoLeast {
@@ -70,23 +72,56 @@ fn with(two: TwoLeast, router: u8, metric: u8) -> TwoLeast
     }
 }
 
-/// Writes the two least metrics of each link for one prefix. 16 is there to begin with.
-pub(crate) fn fill<T: MetricTable>(plan: &Plan, table: &T, prefix: usize, links: &mut [TwoLeast])
-    requires fits { Fits plan.now (T.state table.now) }
-    requires prefix { prefix < length (T.state table.now).prefixes }
-    requires size { length plan.now.links ≤ length links.old }
-    ensures { AreTwoLeast plan.now (T.state table.now) prefix links.new }
+/// Writes what holds of each link before any interface.
+fn reset(links: &mut [TwoLeast])
+    ensures { (n : Network) (seen : ℕ → ℕ → ℕ) → AreTwoLeastBefore n seen 0 links.new }
 {
-    plan.lawful();
     let none = NOTHING;
     for k in 0..links.len() {
         links[k] = none;
     }
+}
+
+/// Writes the two least metrics with one more interface, which has this metric.
+fn take(plan: &Plan, interface: usize, metric: u32, links: &mut [TwoLeast])
+    requires interface { interface < length plan.now.interfaces }
+    requires size { length plan.now.links ≤ length links.old }
+    ensures { (seen : ℕ → ℕ → ℕ) →
+        ((s l c : ℕ) → IsInterface plan.now interface s l c → metric ≡ seen interface s) →
+        AreTwoLeastBefore plan.now seen interface links.old →
+        AreTwoLeastBefore plan.now seen (interface + 1) links.new }
+{
+    plan.lawful();
+    let own = plan.interface(interface);
+    if metric < 16 {
+        links[own.link] = with(links[own.link], own.router as u8, metric as u8);
+    }
+}
+
+/// Writes the two least metrics that are shown of a prefix on each link. 16 is there to begin with.
+pub(crate) fn fill<T: MetricTable>(plan: &Plan, table: &T, prefix: usize, links: &mut [TwoLeast])
+    requires fits { Fits plan.now (T.state table.now) }
+    requires prefix { prefix < length (T.state table.now).prefixes }
+    requires size { length plan.now.links ≤ length links.old }
+    ensures { AreTwoLeast plan.now (shown_of (T.state table.now) prefix) links.new }
+{
+    reset(links);
+    for i in 0..plan.interfaces() {
+        let metric = seen_at(plan, table, i, prefix);
+        take(plan, i, metric, links);
+    }
+}
+
+/// Writes the two least metrics that the routers have on each link. 16 is there to begin with.
+pub(crate) fn fill_by_router(plan: &Plan, metrics: &[u8], links: &mut [TwoLeast])
+    requires routers { length plan.now.routers ≤ length metrics.now }
+    requires size { length plan.now.links ≤ length links.old }
+    ensures { AreTwoLeast plan.now (metric_in metrics.now) links.new }
+{
+    plan.lawful();
+    reset(links);
     for i in 0..plan.interfaces() {
         let own = plan.interface(i);
-        let metric = seen_at(plan, table, i, prefix);
-        if metric < 16 {
-            links[own.link] = with(links[own.link], own.router as u8, metric as u8);
-        }
+        take(plan, i, u32::from(metrics[own.router]), links);
     }
 }

@@ -1,12 +1,12 @@
 //! What the neighbours of a router offer, and the least that it can choose from.
 
-ghost use Rattle.std.specs.Prelude.{◌≡◌, ℕ, ◌+◌, ◌<◌, ◌≤◌, ◌⊎◌, IfSome, length, min, unwrap_or};
+ghost use Rattle.std.specs.Prelude.{◌≡◌, ◌≢◌, ℕ, ◌+◌, ◌<◌, ◌≤◌, ◌⊎◌, IfSome, length, min, unwrap_or};
 ghost use Rattle.rip_plan.specs.Network.{Network};
 ghost use Rattle.rip_plan.specs.Relations.{HasCost, IsDirect, IsLawful};
 ghost use Rattle.rip_table.specs.State.{Fits, State};
 ghost use Rattle.rip_check.specs.Settled.{IsChoice};
 ghost use Rattle.rip_check.specs.Tables.{Offers};
-ghost use Rattle.rip_check.specs.TwoLeasts.{AreTwoLeast, IsTwoLeast};
+ghost use Rattle.rip_check.specs.TwoLeasts.{AreTwoLeast, IsSeen, IsTwoLeast, shown_of};
 
 use crate::links::TwoLeast;
 use crate::lookup::shown_at;
@@ -58,20 +58,20 @@ fn least_asked<T: MetricTable>(
     least
 }
 
-/// The least of `best` and of what the neighbours over a link offer, by the two least metrics there.
-fn least_told(own: Interface, two: TwoLeast, best: u32) -> u32
+/// The least of `best` and of what the neighbours over a link give, by the two least metrics there: the
+/// cost of the interface and a neighbour's metric.
+pub(crate) fn least_told(own: Interface, two: TwoLeast, best: u32) -> u32
     requires most { best ≤ 16 }
     requires least { two.least ≤ 16 }
     requires next { two.next ≤ 16 }
     ensures at_most { result ≤ best }
-    ensures least { (n : Network) (shown : State) (s p v : ℕ) → IsLawful n →
-        HasCost n own.router own.link own.cost →
-        IsTwoLeast n shown own.link p (length n.interfaces) two →
-        Offers n shown own.router own.link s p v → result ≤ v }
-    ensures chosen { (n : Network) (shown : State) (p : ℕ) →
-        HasCost n own.router own.link own.cost →
-        IsTwoLeast n shown own.link p (length n.interfaces) two →
-        (result ≡ best) ⊎ ((s : ℕ) × Offers n shown own.router own.link s p result) }
+    ensures least { (n : Network) (seen : ℕ → ℕ → ℕ) (j s v : ℕ) →
+        IsTwoLeast n seen own.link (length n.interfaces) two → IsSeen n seen own.link j s v →
+        s ≢ own.router → result ≤ own.cost + v }
+    ensures chosen { (n : Network) (seen : ℕ → ℕ → ℕ) →
+        IsTwoLeast n seen own.link (length n.interfaces) two → (result ≡ best)
+        ⊎ ((j s v : ℕ) × IsSeen n seen own.link j s v × (s ≢ own.router)
+        × (result ≡ own.cost + v)) }
 {
     let shown = if own.router == usize::from(two.by) {
         two.next
@@ -94,7 +94,7 @@ pub(crate) fn best_over<T: MetricTable>(
 ) -> u32
     requires fits { Fits plan.now (T.state table.now) }
     requires prefix { prefix < length (T.state table.now).prefixes }
-    requires links { AreTwoLeast plan.now (T.state table.now) prefix links.now }
+    requires links { AreTwoLeast plan.now (shown_of (T.state table.now) prefix) links.now }
     requires own { HasCost plan.now own.router own.link own.cost }
     requires best { best ≤ 16 }
     ensures at_most { result ≤ best }
@@ -113,7 +113,7 @@ pub(crate) fn best_over<T: MetricTable>(
 }
 
 /// The cost at which a router has a prefix itself, or 16.
-fn direct_or_16(plan: &Plan, router: usize, prefix: usize) -> u32
+pub(crate) fn direct_or_16(plan: &Plan, router: usize, prefix: usize) -> u32
     ensures most { result ≤ 16 }
     ensures chosen { (result ≡ 16) ⊎ IsDirect plan.now router prefix result }
     ensures least { (c : ℕ) → IsDirect plan.now router prefix c → result ≤ c }
@@ -136,7 +136,7 @@ pub(crate) fn least_choice<T: MetricTable>(
     requires fits { Fits plan.now (T.state table.now) }
     requires router { router < length plan.now.routers }
     requires prefix { prefix < length (T.state table.now).prefixes }
-    requires links { AreTwoLeast plan.now (T.state table.now) prefix links.now }
+    requires links { AreTwoLeast plan.now (shown_of (T.state table.now) prefix) links.now }
     ensures most { result ≤ 16 }
     ensures chosen { IsChoice plan.now (T.state table.now) router prefix result }
     ensures least { (v : ℕ) → IsChoice plan.now (T.state table.now) router prefix v →

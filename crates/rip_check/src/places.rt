@@ -5,7 +5,7 @@ ghost use Rattle.rip_plan.specs.Relations.{IsDirect};
 ghost use Rattle.rip_table.specs.State.{Fits};
 ghost use Rattle.rip_check.specs.Settled.{Holds, IsChoice, IsGiven};
 ghost use Rattle.rip_check.specs.Tables.{FitsShown, FitsWay, Offers};
-ghost use Rattle.rip_check.specs.TwoLeasts.{AreTwoLeast};
+ghost use Rattle.rip_check.specs.TwoLeasts.{AreTwoLeast, shown_of};
 ghost use Rattle.rip_check.specs.Verdicts.{IsLeastChoice, IsFailing, IsSound, route_of, IsHidden};
 ghost use Rattle.rip_check.specs.Telling.{IsOnlyRoute};
 ghost use Rattle.rip_check.specs.Firsts.{IsReadable, IsReason};
@@ -43,7 +43,7 @@ fn is_offered<T: MetricTable>(
     requires fits { Fits plan.now (T.state table.now) }
     requires router { router < length plan.now.routers }
     requires prefix { prefix < length (T.state table.now).prefixes }
-    requires links { AreTwoLeast plan.now (T.state table.now) prefix links.now }
+    requires links { AreTwoLeast plan.now (shown_of (T.state table.now) prefix) links.now }
     requires small { metric < 16 }
     requires least { (v : ℕ) → IsChoice plan.now (T.state table.now) router prefix v →
         metric ≤ v }
@@ -73,7 +73,7 @@ fn is_given<T: MetricTable>(
     requires fits { Fits plan.now (T.state table.now) }
     requires router { router < length plan.now.routers }
     requires prefix { prefix < length (T.state table.now).prefixes }
-    requires links { AreTwoLeast plan.now (T.state table.now) prefix links.now }
+    requires links { AreTwoLeast plan.now (shown_of (T.state table.now) prefix) links.now }
     requires way { FitsWay plan.now router prefix metric way }
     requires least { (v : ℕ) → IsChoice plan.now (T.state table.now) router prefix v →
         metric ≤ v }
@@ -100,7 +100,7 @@ pub(crate) fn unmet<T: MetricTable>(
     requires fits { Fits plan.now (T.state table.now) }
     requires router { router < length plan.now.routers }
     requires prefix { prefix < length (T.state table.now).prefixes }
-    requires links { AreTwoLeast plan.now (T.state table.now) prefix links.now }
+    requires links { AreTwoLeast plan.now (shown_of (T.state table.now) prefix) links.now }
     requires route { FitsShown plan.now (T.state table.now) router prefix (route_of route) }
     ensures most { result ≤ 16 }
     ensures holds { result ≡ 0 → Holds plan.now (T.state table.now) router prefix

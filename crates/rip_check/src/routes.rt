@@ -5,7 +5,7 @@ ghost use Rattle.rip_plan.specs.Relations.{HasTwoInterfaces, IsLeaf};
 ghost use Rattle.rip_table.specs.State.{Fits};
 ghost use Rattle.rip_check.specs.Firsts.{IsFirstGap, IsReadable, IsReason, ShowsEach};
 ghost use Rattle.rip_check.specs.Tables.{FitsShown, Route as TableRoute, Tells};
-ghost use Rattle.rip_check.specs.TwoLeasts.{AreTwoLeast};
+ghost use Rattle.rip_check.specs.TwoLeasts.{AreTwoLeast, shown_of};
 ghost use Rattle.rip_check.specs.Verdicts.{IsHidden};
 
 use crate::links::TwoLeast;
@@ -130,7 +130,7 @@ fn leaf_route<T: MetricTable>(
     requires fits { Fits plan.now (T.state table.now) }
     requires router { router < length plan.now.routers }
     requires prefix { prefix < length (T.state table.now).prefixes }
-    requires links { AreTwoLeast plan.now (T.state table.now) prefix links.now }
+    requires links { AreTwoLeast plan.now (shown_of (T.state table.now) prefix) links.now }
     requires leaf { (i l c : ℕ) × IsLeaf plan.now router i l c }
     ensures most { result.metric ≤ 16 }
     ensures fits { FitsShown plan.now (T.state table.now) router prefix
@@ -187,7 +187,7 @@ pub(crate) fn read<T: MetricTable>(
     requires fits { Fits plan.now (T.state table.now) }
     requires router { router < length plan.now.routers }
     requires prefix { prefix < length (T.state table.now).prefixes }
-    requires links { AreTwoLeast plan.now (T.state table.now) prefix links.now }
+    requires links { AreTwoLeast plan.now (shown_of (T.state table.now) prefix) links.now }
     ensures most { IfSome result (λ t. t.metric ≤ 16) }
     ensures fits { IfSome result
         (λ t. FitsShown plan.now (T.state table.now) router prefix

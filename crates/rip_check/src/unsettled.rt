@@ -3,7 +3,7 @@
 ghost use Rattle.std.specs.Prelude.{◌≡◌, ◌≢◌, ℕ, ◌+◌, ◌*◌, ◌<◌, ◌≤◌, IfNone, IfOk, IfSome, length, slice_index};
 ghost use Rattle.rip_table.specs.State.{Fits};
 ghost use Rattle.rip_check.specs.Marks.{AreUnsettled, IsMark};
-ghost use Rattle.rip_check.specs.TwoLeasts.{AreTwoLeast};
+ghost use Rattle.rip_check.specs.TwoLeasts.{AreTwoLeast, shown_of};
 ghost use Rattle.rip_check.specs.Verdicts.{IsFailing, IsNextUnsettled, HoldsAfter, IsKnownPlace};
 
 use crate::links::{NOTHING, TwoLeast, fill};
@@ -34,7 +34,7 @@ fn mark_of<T: MetricTable>(
     requires fits { Fits plan.now (T.state table.now) }
     requires router { router < length plan.now.routers }
     requires prefix { prefix < length (T.state table.now).prefixes }
-    requires links { AreTwoLeast plan.now (T.state table.now) prefix links.now }
+    requires links { AreTwoLeast plan.now (shown_of (T.state table.now) prefix) links.now }
     ensures { IsMark plan.now (T.state table.now) router prefix result }
 {
     plan.lawful();
@@ -55,7 +55,7 @@ fn mark_prefix<T: MetricTable>(
 )
     requires fits { Fits plan.now (T.state table.now) }
     requires prefix { prefix < length (T.state table.now).prefixes }
-    requires links { AreTwoLeast plan.now (T.state table.now) prefix links.now }
+    requires links { AreTwoLeast plan.now (shown_of (T.state table.now) prefix) links.now }
     requires size { length marks.old
         ≡ length plan.now.routers * length (T.state table.now).prefixes }
     ensures marked { (r : ℕ) → r < length plan.now.routers →
