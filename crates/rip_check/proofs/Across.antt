@@ -33,7 +33,7 @@ module _ (n : Network) (l : ℕ) (numbers : List ℕ) (exact : (i : ℕ) → Con
       let same = its_link n (get_or numbers k 0) x.router x.link x.cost h.0 l h.1 is h.2 in
       rw same.1 at is
 
-  across_place : (i r c : ℕ) → IsInterface n i r l c → (k : ℕ) × (k < length numbers) × (get_or numbers k 0 ≡ i)
+  pub across_place : (i r c : ℕ) → IsInterface n i r l c → (k : ℕ) × (k < length numbers) × (get_or numbers k 0 ≡ i)
   across_place i r c its =
       let h = (exact i).1 (r, c, its) in
       (h.0, h.1, get_or_default numbers h.0 0 i h.1 ∙ h.2)

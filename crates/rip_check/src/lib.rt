@@ -2,7 +2,9 @@
 #![tactic(auto)]
 
 mod audit;
+mod expected;
 pub mod laws;
+mod least;
 mod links;
 mod lookup;
 mod offers;
@@ -14,6 +16,7 @@ mod verdict;
 mod way;
 
 pub use audit::{judge, next_unsettled};
+pub use expected::Expected;
 pub use places::{equation, route};
 pub use unsettled::Unsettled;
 pub use verdict::{Place2, Route, Unclear, Verdict};

@@ -21,7 +21,7 @@ use rip_table::MetricTable;
 use rip_wire::Metric;
 
 /// Whether a router has a prefix itself at this cost.
-fn is_direct(plan: &Plan, router: usize, prefix: usize, metric: u32) -> bool
+pub(crate) fn is_direct(plan: &Plan, router: usize, prefix: usize, metric: u32) -> bool
     ensures { Decides result (IsDirect plan.now router prefix metric) }
 {
     match plan.direct_cost(router, prefix) {

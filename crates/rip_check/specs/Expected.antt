@@ -1,0 +1,19 @@
+-- The right routes of a plan.
+use Rattle.std.specs.Prelude.{◌≡◌, ℕ, ◌+◌, ◌*◌, ◌<◌, length, slice_index}
+use Rattle.rip_plan.specs.Network.{Network}
+use Rattle.rip_check.specs.declared.expected.Expected.{Expected}
+use Rattle.rip_check.specs.Paths.{IsLeast}
+use Rattle.rip_check.specs.Tables.{Route, FitsWay}
+use Rattle.rip_check.specs.Settled.{IsRight}
+
+-- Router r's table has this route for prefix p, or one as good, once the network has settled: its
+-- metric is the least cost of a path, its way begins such a path, and the two go together.
+pub record IsExpected (n : Network) (r p : ℕ) (route : Route) : Type 0 where
+  pub right : IsRight n r p route
+  pub way_fits : FitsWay n r p route.metric route.way
+
+-- the least metric of each router for each prefix of the plan
+pub record AreExpected (n : Network) (expected : Expected) : Type 0 where
+  pub size : length expected.metrics.items ≡ length n.routers * length n.prefixes
+  pub least : (r p : ℕ) → r < length n.routers → p < length n.prefixes
+      → IsLeast n p r (slice_index expected.metrics.items (r * length n.prefixes + p))

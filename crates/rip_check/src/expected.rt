@@ -1,0 +1,147 @@
+//! The right routes of a plan: what the tables are once its network has settled.
+
+ghost use Rattle.std.specs.Prelude.{◌≡◌, ◌≢◌, ℕ, ◌+◌, ◌*◌, ◌<◌, ◌≤◌, Decides, IfOk, length, slice_index};
+ghost use Rattle.rip_plan.specs.Relations.{HasCost, IsNeighbour};
+ghost use Rattle.rip_check.specs.Expected.{AreExpected, IsExpected};
+ghost use Rattle.rip_check.specs.Paths.{HasPathOver, IsLeast};
+
+use crate::least::find_least;
+use crate::lookup::metric_of;
+use crate::places::is_direct;
+use crate::way::Way;
+use rip_plan::{Interface, MOST_ROUTERS, Plan};
+use rip_wire::Metric;
+use std::alloc::{AllocError, Global};
+
+/// The right routes of a plan: the least metrics of its routers, and the ways that go with them.
+#[derive(Drop)]
+pub struct Expected {
+    // Router by router a byte for each prefix: its least metric.
+    metrics: Vec<u8>,
+}
+
+/// Writes the least metrics of all routers for a prefix, where those of the routers are `row`.
+fn keep(row: &[u8], prefix: usize, count: usize, metrics: &mut [u8])
+    requires prefix { prefix < count }
+    requires size { length metrics.old ≡ length row.now * count }
+    ensures kept { (r : ℕ) → r < length row.now →
+        slice_index metrics.new (r * count + prefix) ≡ slice_index row.now r }
+    ensures others { (r q : ℕ) → q < count → q ≢ prefix →
+        slice_index metrics.new (r * count + q) ≡ slice_index metrics.old (r * count + q) }
+{
+    for router in 0..row.len() {
+        metrics[router * count + prefix] = row[router];
+    }
+}
+
+impl Expected {
+    /// Finds the right routes, in at most a pass over the interfaces for each hop of a path that costs
+    /// less than 16. It fails where there is no memory for a byte for each router and prefix.
+    pub fn find(alloc: Global, plan: &Plan) -> Result<Expected, AllocError>
+        ensures { IfOk result (λ expected. AreExpected plan.now expected) }
+    {
+        plan.lawful();
+        let count = plan.prefixes();
+        let mut metrics = vec![in alloc; 0u8; plan.routers() * count]?;
+        let mut room = [0u8; MOST_ROUTERS];
+        let row = &mut room[..plan.routers()];
+        for prefix in 0..count {
+            find_least(plan, prefix, row);
+            keep(row, prefix, count, metrics.as_mut_slice());
+        }
+        Ok(Expected { metrics })
+    }
+
+    /// The least metric, as a number.
+    fn number(&self, plan: &Plan, router: usize, prefix: usize) -> u32
+        requires expected { AreExpected plan.now self.now }
+        requires router { router < length plan.now.routers }
+        requires prefix { prefix < length plan.now.prefixes }
+        ensures { IsLeast plan.now prefix router result }
+    {
+        plan.lawful();
+        u32::from(self.metrics[router * plan.prefixes() + prefix])
+    }
+
+    /// The least metric of a router for a prefix, both by their numbers: the cost of the cheapest path,
+    /// or 16 where none costs less (RFC 2453, section 3.6).
+    pub fn metric(&self, plan: &Plan, router: usize, prefix: usize) -> Metric
+        requires expected { AreExpected plan.now self.now }
+        requires router { router < length plan.now.routers }
+        requires prefix { prefix < length plan.now.prefixes }
+        ensures { IsLeast plan.now prefix router result }
+    {
+        plan.lawful();
+        metric_of(self.number(plan, router, prefix))
+    }
+
+    /// Whether a neighbour over the link of an interface has the metric of the router, less the cost of
+    /// the interface: the first that has it is enough.
+    fn is_over(&self, plan: &Plan, own: Interface, prefix: usize, metric: u32) -> bool
+        requires expected { AreExpected plan.now self.now }
+        requires prefix { prefix < length plan.now.prefixes }
+        requires own { HasCost plan.now own.router own.link own.cost }
+        requires small { metric < 16 }
+        requires least { IsLeast plan.now prefix own.router metric }
+        ensures { Decides result (HasPathOver plan.now prefix own.router own.link metric) }
+    {
+        plan.lawful();
+        let numbers = plan.on_link(own.link);
+        for j in numbers {
+            let next = plan.interface(*j).router;
+            if next != own.router
+                && u32::from(own.cost) + self.number(plan, next, prefix) == metric
+            {
+                return true;
+            }
+        }
+        false
+    }
+
+    /// Whether a least path of a router begins over a link.
+    fn begins_over(
+        &self,
+        plan: &Plan,
+        router: usize,
+        prefix: usize,
+        metric: u32,
+        link: usize,
+    ) -> bool
+        requires expected { AreExpected plan.now self.now }
+        requires router { router < length plan.now.routers }
+        requires prefix { prefix < length plan.now.prefixes }
+        requires small { metric < 16 }
+        requires least { IsLeast plan.now prefix router metric }
+        ensures { Decides result (HasPathOver plan.now prefix router link metric) }
+    {
+        let numbers = plan.of_router(router);
+        for i in numbers {
+            let own = plan.interface(*i);
+            if own.link == link {
+                return self.is_over(plan, own, prefix, metric);
+            }
+        }
+        false
+    }
+
+    /// Whether a way is right for a router and a prefix: the route of the least metric that goes this
+    /// way is one of the right ones. There may be several, and there is none over a link that carries
+    /// the prefix or that the router is not on.
+    pub fn is_right(&self, plan: &Plan, router: usize, prefix: usize, way: Way) -> bool
+        requires expected { AreExpected plan.now self.now }
+        requires router { router < length plan.now.routers }
+        requires prefix { prefix < length plan.now.prefixes }
+        ensures { (m : ℕ) → IsLeast plan.now prefix router m → Decides result
+            (IsExpected plan.now router prefix (record { metric = m; way = way })) }
+    {
+        plan.lawful();
+        let metric = self.number(plan, router, prefix);
+        match way {
+            Way::Unreachable => metric == 16,
+            Way::Here => metric < 16 && is_direct(plan, router, prefix, metric),
+            Way::Over(link) => {
+                metric < 16 && self.begins_over(plan, router, prefix, metric, link)
+            }
+        }
+    }
+}

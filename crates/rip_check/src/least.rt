@@ -1,0 +1,71 @@
+//! The least metrics of all routers for a prefix, from the plan alone.
+
+ghost use Rattle.std.specs.Prelude.{◌≡◌, ℕ, ◌<◌, ◌≤◌, ◌⊎◌, false, length, slice_index};
+ghost use Rattle.rip_plan.specs.Relations.{IsDirect};
+ghost use Rattle.rip_check.specs.Passes.{IsPass};
+ghost use Rattle.rip_check.specs.Paths.{IsLeast};
+ghost use Rattle.rip_check.specs.TwoLeasts.{AreTwoLeast, metric_in};
+
+use crate::links::{NOTHING, TwoLeast, fill_by_router};
+use crate::offers::{direct_or_16, least_told};
+use rip_plan::{MOST_LINKS, Plan};
+
+/// The most hops of a path that costs less than 16: each hop costs at least 1, and so does the prefix at
+/// the last router (RFC 2453, section 3.5).
+const MOST_HOPS: usize = 14;
+
+/// Writes the cost at which each router has a prefix itself, or 16.
+fn fill_direct(plan: &Plan, prefix: usize, metrics: &mut [u8])
+    ensures most { (r : ℕ) → slice_index metrics.new r ≤ 16 }
+    ensures chosen { (r : ℕ) → r < length metrics.new →
+        (slice_index metrics.new r ≡ 16) ⊎ IsDirect plan.now r prefix (slice_index metrics.new r) }
+    ensures least { (r c : ℕ) → IsDirect plan.now r prefix c → slice_index metrics.new r ≤ c }
+{
+    for router in 0..metrics.len() {
+        metrics[router] = direct_or_16(plan, router, prefix) as u8;
+    }
+}
+
+/// One pass over the metrics, by the two least of them on each link: whether one has fallen.
+fn pass(plan: &Plan, links: &[TwoLeast], metrics: &mut [u8]) -> bool
+    requires links { AreTwoLeast plan.now (metric_in metrics.old) links.now }
+    requires size { length plan.now.links ≤ length links.now }
+    requires routers { length plan.now.routers ≤ length metrics.old }
+    requires most { (r : ℕ) → slice_index metrics.old r ≤ 16 }
+    ensures pass { IsPass plan.now metrics.old metrics.new }
+    ensures same { result ≡ false → metrics.new ≡ metrics.old }
+{
+    plan.lawful();
+    let mut fell = false;
+    for i in 0..plan.interfaces() {
+        let own = plan.interface(i);
+        let router = own.router;
+        let two = links[own.link];
+        let metric = u32::from(metrics[router]);
+        let least = least_told(own, two, metric);
+        if least < metric {
+            metrics[router] = least as u8;
+            fell = true;
+        }
+    }
+    fell
+}
+
+/// Writes the least metric of each router for a prefix: of the cost of the router itself, and then of
+/// paths of one hop more with each pass, until a pass changes nothing or no path is left.
+pub(crate) fn find_least(plan: &Plan, prefix: usize, metrics: &mut [u8])
+    requires { length metrics.old ≡ length plan.now.routers }
+    ensures { (r : ℕ) → r < length plan.now.routers →
+        IsLeast plan.now prefix r (slice_index metrics.new r) }
+{
+    plan.lawful();
+    fill_direct(plan, prefix, metrics);
+    let mut room = [NOTHING; MOST_LINKS];
+    let links = &mut room[..plan.links()];
+    for _hop in 0..MOST_HOPS {
+        fill_by_router(plan, metrics, links);
+        if !pass(plan, links, metrics) {
+            break;
+        }
+    }
+}
