@@ -6,6 +6,7 @@ use Rattle.rip_table.specs.State.{State}
 use Rattle.rip_check.specs.Paths.{Hop, IsPath}
 use Rattle.rip_check.specs.Tables.{Tables, Route, Shows, FitsShown, IsHeard}
 use Rattle.rip_check.specs.Settled.{Holds, HoldsAll, AllRight, GoesRight}
+use Rattle.rip_check.specs.Expected.{IsExpected}
 use Rattle.rip_check.specs.Walks.{IsFalling, IsWalk}
 
 -- a plan's network, what a log shows of it, and the tables that are shown
@@ -22,6 +23,14 @@ IsSettled k = HoldsAll k.net k.shown k.tables
 
 abbrev pub HasRightTables : Case → Type 0
 HasRightTables k = AllRight k.net (length k.shown.prefixes) k.tables
+
+-- each planned prefix's route is expected at every router, and a prefix that is not planned is
+-- unreachable
+pub record EachIsExpected (k : Case) : Type 0 where
+  pub planned : (r p : ℕ) → r < length k.net.routers → p < length k.shown.prefixes
+      → p < length k.net.prefixes → IsExpected k.net r p (k.tables r p)
+  pub unplanned : (r p : ℕ) → r < length k.net.routers → p < length k.shown.prefixes
+      → length k.net.prefixes ≤ p → (k.tables r p).metric ≡ 16
 
 -- no neighbour is a better way, though it may show 16
 abbrev pub PoisonHidesNothing : Case → Type 0

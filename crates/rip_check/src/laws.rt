@@ -3,10 +3,13 @@
 
 ghost use Rattle.std.specs.Prelude.{ℕ, ◌↔◌};
 ghost use Rattle.rip_plan.specs.Network.{Network};
-ghost use Rattle.rip_plan.specs.Relations.{IsLawful};
+ghost use Rattle.rip_plan.specs.Relations.{Carries, IsLawful};
 ghost use Rattle.rip_table.specs.State.{State};
-ghost use Rattle.rip_check.specs.Laws.{OneIsShown, OneRouteFits, EachPlaceHolds, ShowsRightTables, Case, IsSettled, HasRightTables, PoisonHidesNothing, MetricsAreReached, NoPathIsCheaper, WalksFall};
+ghost use Rattle.rip_check.specs.Expected.{IsExpected};
+ghost use Rattle.rip_check.specs.Laws.{Case, EachIsExpected, EachPlaceHolds, HasRightTables, IsSettled, MetricsAreReached, NoPathIsCheaper, OneIsShown, OneRouteFits, PoisonHidesNothing, ShowsRightTables, WalksFall};
+ghost use Rattle.rip_check.specs.Paths.{HasPathOver, IsLeast};
 ghost use Rattle.rip_check.specs.Walks.{EachCanGoOn, EachEndsThere, EachIsShort};
+ghost use Rattle.rip_check.specs.declared.way.Way.{Way};
 
 pub mod examples;
 
@@ -54,4 +57,22 @@ pub fn walks_arrive()
     ensures end { (k : Case) → EachIsShort k.net k.shown k.tables }
     ensures go_on { (k : Case) → IsSettled k → EachCanGoOn k.net k.shown k.tables }
     ensures there { (k : Case) → IsSettled k → EachEndsThere k.net k.shown k.tables }
+{}
+
+/// Where a log shows tables, they are right exactly where each planned prefix's route is an expected
+/// one and each other prefix is unreachable at every router.
+pub fn expected_routes()
+    ensures { (k : Case) → HasRightTables k ↔ EachIsExpected k }
+{}
+
+/// No least path of a prefix begins over a link that carries the prefix: the router is nearer itself.
+pub fn no_way_back()
+    ensures { (n : Network) (r p l m : ℕ) → IsLawful n → IsLeast n p r m →
+        HasPathOver n p r l m → ¬ Carries n l p }
+{}
+
+/// At each place some way is right for the least metric.
+pub fn some_route()
+    ensures { (n : Network) (r p m : ℕ) → IsLawful n → IsLeast n p r m →
+        (way : Way) × IsExpected n r p (record { metric = m; way = way }) }
 {}

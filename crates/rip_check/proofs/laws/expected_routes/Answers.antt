@@ -1,0 +1,5 @@
+use Rattle.rip_check.proofs.Expecting.{right_expected, expected_right}
+use Rattle.rip_check.proofs.laws.expected_routes.Goals as goal
+
+pub returns : goal.returns
+returns c k = (right_expected k, expected_right k)
