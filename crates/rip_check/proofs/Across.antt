@@ -13,7 +13,7 @@ use Rattle.rip_check.specs.Tables.{Offers}
 use Rattle.rip_check.specs.declared.links.TwoLeast.{TwoLeast}
 use Rattle.rip_check.specs.TwoLeasts.{IsSeen, IsTwoLeast, shown_of}
 use Rattle.rip_check.proofs.Owned.{its_link, within}
-use Rattle.rip_check.specs.Captured.{metric_at}
+use Rattle.rip_check.specs.Metrics.{metric_at}
 
 -- what interface j offers over a link of this cost
 abbrev pub heard_from : State → ℕ → ℕ → ℕ → ℕ

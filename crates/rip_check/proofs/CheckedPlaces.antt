@@ -13,7 +13,7 @@ use Rattle.rip_check.specs.declared.way.Way.TheVariants.{Unreachable, Here, Over
 use Rattle.rip_check.specs.Tables.{Tables, Route, FitsWay, IsSilent, MayShow, Offers, IsLeastOffer, IsHiddenRoute, FitsShown, Shows}
 use Rattle.rip_check.specs.Settled.{IsChoice, IsGiven, Holds, HoldsAll}
 use Rattle.rip_check.proofs.Checking.{each, each_gives, some, some_gives, some_holds, below, below_gives, when, when_gives, is_link, link_of}
-use Rattle.rip_check.specs.Captured.{metric_at}
+use Rattle.rip_check.specs.Metrics.{metric_at}
 
 same : (a : ℕ) → (a == a) ≡ true
 same a = eq-eqb a a refl
@@ -161,7 +161,7 @@ pub holds_gives : (n : Network) (shown : State) (r p : ℕ) (t : Route) → hold
 holds_gives n shown r p t ok =
     let h = and_parts (is_least n shown r p t.metric) (is_given n shown r p t.metric t.way) ok in
     let given = is_given_gives n shown r p t.metric t.way h.1 in
-    record { chosen = given.0; least = is_least_gives n shown r p t.metric h.0; given = given.1 }
+    record { choice = record { chosen = given.0; least = is_least_gives n shown r p t.metric h.0 }; given = given.1 }
 
 -- no choice is this metric
 abbrev pub is_no_choice : Network → State → ℕ → ℕ → ℕ → Bool

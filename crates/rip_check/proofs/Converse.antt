@@ -10,7 +10,7 @@ use Rattle.rip_check.specs.declared.way.Way.{Way}
 use Rattle.rip_check.specs.declared.way.Way.TheVariants.{Unreachable, Here, Over}
 use Rattle.rip_check.specs.Settled.{HoldsAll, IsGiven, IsChoice, AllRight, GoesRight}
 use Rattle.rip_check.proofs.Shown.{some_is, metric_most, offer_below, known_on}
-use Rattle.rip_check.specs.Captured.{metric_at}
+use Rattle.rip_check.specs.Metrics.{metric_at}
 
 module _ (n : Network) (shown : State) (T : Tables) (plan : IsLawful n) (shows : Shows n shown T) (right : AllRight n (length shown.prefixes) T) where
   -- a metric below 16 has a path
@@ -105,7 +105,6 @@ module _ (n : Network) (shown : State) (T : Tables) (plan : IsLawful n) (shows :
       let fits = (shows.fits r p at known).told.way_fits in
       let given = given_case r p at known (T r p).way fits (right r p at known).goes in
       record {
-        chosen = chosen_case r p (T r p).way fits given;
-        least = choice_least r p at known;
+        choice = record { chosen = chosen_case r p (T r p).way fits given; least = choice_least r p at known };
         given = given;
       }

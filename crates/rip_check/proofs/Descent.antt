@@ -49,7 +49,7 @@ module _ (n : Network) (shown : State) (T : Tables) (plan : IsLawful n) (shows :
 
   -- by induction on the path
   pub no_path_is_cheaper : (r p : ℕ) (hops : List Hop) (v : ℕ) → r < length n.routers → p < length shown.prefixes → IsPath n p r hops v → (T r p).metric ≤ v
-  no_path_is_cheaper r p [] v at known path = (holds r p at known).least v (inr (inl path))
+  no_path_is_cheaper r p [] v at known path = (holds r p at known).choice.least v (inr (inl path))
   no_path_is_cheaper r p (h ∷ hops) v at known path =
       let near = path.3 in
       let le = poison n shown T plan shows holds r h.link path.0 h.to p known path.2 near in

@@ -24,5 +24,5 @@ pub unsettled : (n : Network) (shown : State) (T : Tables) → Passes n → Name
 unsettled n shown T passes tested heard fit r p at known none =
     let plan = lawful n passes tested in
     let tables = shows n shown T heard fit in
-    let fails : HoldsAll n shown T → ⊥ = λ all. no_choice n shown r p (T r p).metric none (all r p at known).chosen in
+    let fails : HoldsAll n shown T → ⊥ = λ all. no_choice n shown r p (T r p).metric none (all r p at known).choice.chosen in
     record { lawful = plan; shows = tables; fails = fails; wrong = λ is. fails (holds n shown T plan tables is) }

@@ -1,12 +1,12 @@
 -- Tables that are right have the expected routes of the plan.
-use Rattle.std.proofs.Common.{◌≡◌, ℕ, ◌<◌, ◌≤◌, ◌⊎◌, inl, inr, List, [], ◌∷◌, length, refl, arith}
+use Rattle.std.proofs.Common.{◌≡◌, ℕ, ◌<◌, ◌≤◌, ◌⊎◌, inl, inr, List, [], ◌∷◌, length, arith}
 use Rattle.std.proofs.lemmas.Bool.{cases_lt}
 use Rattle.rip_plan.specs.Network.{Network}
-use Rattle.rip_plan.specs.Relations.{IsLawful, IsDirect, Touches}
+use Rattle.rip_plan.specs.Relations.{IsLawful, Touches}
 use Rattle.rip_check.specs.declared.way.Way.{Way}
 use Rattle.rip_check.specs.declared.way.Way.TheVariants.{Unreachable, Here, Over}
 use Rattle.rip_check.specs.Laws.{Case, HasRightTables, EachIsExpected}
-use Rattle.rip_check.specs.Paths.{Hop, IsPath, IsLeast}
+use Rattle.rip_check.specs.Paths.{Hop, IsPath}
 use Rattle.rip_check.specs.Settled.{GoesRight}
 use Rattle.rip_check.specs.Tables.{FitsWay}
 

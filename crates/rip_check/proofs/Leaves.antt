@@ -10,7 +10,7 @@ use Rattle.rip_check.specs.declared.way.Way.{Way}
 use Rattle.rip_check.specs.declared.way.Way.TheVariants.{Unreachable, Here, Over}
 use Rattle.rip_check.specs.Tables.{Route, FitsShown, FitsWay, MayShow, IsSilent, Offers, IsLeastOffer, IsHiddenRoute, Tells}
 use Rattle.rip_check.proofs.Reading.{carries_or_not}
-use Rattle.rip_check.specs.Captured.{IsInRange, metric_at}
+use Rattle.rip_check.specs.Metrics.{IsInRange, metric_at}
 use Rattle.rip_check.specs.Verdicts.{IsHidden}
 use Rattle.rip_check.proofs.Across.{heard_from}
 use Rattle.rip_check.proofs.Owned.{its_link}

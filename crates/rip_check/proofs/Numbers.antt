@@ -11,7 +11,7 @@ use Rattle.rip_plan.specs.declared.parts.Place.{Place}
 use Rattle.rip_plan.specs.declared.parts.Seat.{Seat}
 use Rattle.rip_plan.specs.Relations.{IsLawful, IsDirect, IsPlace, Touches}
 use Rattle.rip_table.specs.State.{Fits, IsState, State}
-use Rattle.rip_check.specs.Captured.{IsInRange}
+use Rattle.rip_check.specs.Metrics.{IsInRange}
 
 pub in_range : (n : Network) (s : State) → Fits n s → IsState s → IsInRange n s
 in_range n s fits is i r l c p m its shows = go (slice_get s.prefixes p) shows

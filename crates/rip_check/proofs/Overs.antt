@@ -4,10 +4,8 @@ use Rattle.std.specs.List.{Contains}
 use Rattle.std.proofs.lemmas.Bool.{cases_lt}
 use Rattle.rip_plan.specs.declared.parts.Interface.{Interface}
 use Rattle.rip_plan.specs.Network.{Network}
-use Rattle.rip_plan.specs.Relations.{IsLawful, IsInterface, HasCost, IsOn, IsNeighbour, IsDirect, Carries}
+use Rattle.rip_plan.specs.Relations.{IsLawful, IsInterface, HasCost, IsNeighbour, IsDirect, Carries}
 use Rattle.rip_check.specs.Paths.{Hop, IsPath, IsLeast, HasPathOver}
-use Rattle.rip_check.specs.Tables.{Route, FitsWay}
-use Rattle.rip_check.specs.Settled.{IsRight, GoesRight}
 use Rattle.rip_check.specs.Expected.{IsExpected}
 use Rattle.rip_check.specs.declared.way.Way.{Way}
 use Rattle.rip_check.specs.declared.way.Way.TheVariants.{Unreachable, Here, Over}

@@ -9,7 +9,7 @@ use Rattle.rip_check.specs.declared.way.Way.{Way}
 use Rattle.rip_check.specs.declared.way.Way.TheVariants.{Unreachable, Here, Over}
 use Rattle.rip_check.specs.Settled.{HoldsAll, IsGiven}
 use Rattle.rip_check.proofs.Shown.{some_is, metric_most, offer_below, known_on}
-use Rattle.rip_check.specs.Captured.{metric_at}
+use Rattle.rip_check.specs.Metrics.{metric_at}
 
 module _ (n : Network) (shown : State) (T : Tables) (plan : IsLawful n) (shows : Shows n shown T) (holds : HoldsAll n shown T) where
   -- the metric is at most what any neighbour shows makes it
@@ -18,7 +18,7 @@ module _ (n : Network) (shown : State) (T : Tables) (plan : IsLawful n) (shows :
   at_most_shown r l c s p j d known has near there =
       let o : Offers n shown r l s p (min 16 (c + unwrap_or (metric_at shown j p) 16)) =
       record { neighbour = near; cost = c; here = has; interface = j; its_cost = d; there = there; value = refl } in
-      let le = (holds r p (known_on n plan r l near.here) known).least _ (inr (inr (l, s, o))) in
+      let le = (holds r p (known_on n plan r l near.here) known).choice.least _ (inr (inr (l, s, o))) in
       omega (arith, le)
 
   -- the same of its metric, whatever way it goes
@@ -31,7 +31,7 @@ module _ (n : Network) (shown : State) (T : Tables) (plan : IsLawful n) (shows :
   poison_cases r l c s p j d known has near there Here (inl e) fits given =
       omega (arith, at_most_shown r l c s p j d known has near there, some_is (metric_at shown j p) _ e)
   poison_cases r l c s p j d known has near there Here (inr h) fits given =
-      let le = (holds r p (known_on n plan r l near.here) known).least c (inr (inl (h.0.0, inl (l, h.0.1, has)))) in
+      let le = (holds r p (known_on n plan r l near.here) known).choice.least c (inr (inl (h.0.0, inl (l, h.0.1, has)))) in
       omega (arith, le)
   poison_cases r l c s p j d known has near there (Over k) (inr h) fits given =
       omega (arith, at_most_shown r l c s p j d known has near there, some_is (metric_at shown j p) _ h.1)

@@ -5,7 +5,7 @@ use Rattle.rip_plan.specs.Relations.{IsLawful, IsLeaf, HasTwoInterfaces}
 use Rattle.rip_table.specs.State.{State}
 use Rattle.rip_check.specs.Tables.{Route, FitsShown, IsHeard, Tells}
 use Rattle.rip_check.proofs.Reading.{one_route, two_or_leaf, tables_of}
-use Rattle.rip_check.specs.Captured.{IsInRange}
+use Rattle.rip_check.specs.Metrics.{IsInRange}
 use Rattle.rip_check.specs.Firsts.{IsReadable, AreFine}
 use Rattle.rip_check.specs.Settled.{Holds}
 use Rattle.rip_check.specs.Verdicts.{IsSound, ShowsTables}

@@ -13,7 +13,7 @@ use Rattle.rip_check.specs.Tables.{Tables, FitsShown, Route, FitsWay, MayShow, I
 use Rattle.rip_check.specs.declared.way.Way.{Way}
 use Rattle.rip_check.specs.declared.way.Way.TheVariants.{Unreachable, Here, Over}
 use Rattle.rip_check.proofs.Shown.{some_is, shown_below, metric_most}
-use Rattle.rip_check.specs.Captured.{metric_at}
+use Rattle.rip_check.specs.Metrics.{metric_at}
 
 -- a place has one seat
 one_seat : (n : Network) (k p : ℕ) (s t : Seat) → IsPlace n k p s → IsPlace n k p t → s ≡ t

@@ -9,8 +9,9 @@ use Rattle.rip_check.specs.declared.way.Way.TheVariants.{Unreachable, Here, Over
 use Rattle.rip_check.specs.Tables.{Route, FitsWay, MayShow, IsSilent, IsAsTold, Tells}
 use Rattle.rip_check.proofs.Shown.{some_is, shown_below, metric_most}
 use Rattle.rip_check.proofs.Reading.{speaks_case}
-use Rattle.rip_check.specs.Telling.{IsMute, IsSpoken, IsSilentLink}
-use Rattle.rip_check.specs.Captured.{metric_at}
+use Rattle.rip_check.specs.Surveys.{IsSpoken}
+use Rattle.rip_check.proofs.Silence.{IsMute, IsSilentLink}
+use Rattle.rip_check.specs.Metrics.{metric_at}
 
 -- what is below 16 is no silence
 pub not_silent : (x : Option ℕ) (m : ℕ) → x ≡ Some m → (m ≡ 16 → ⊥) → IsSilent x → ⊥

@@ -10,7 +10,7 @@ use Rattle.rip_check.specs.Walks.{WalksArrive}
 use Rattle.rip_check.proofs.Reading.{one_route}
 use Rattle.rip_check.proofs.Judging.{places_are_settled, tables_are_right}
 use Rattle.rip_check.proofs.Walking.{walks_end, walks_end_there, walks_go_on}
-use Rattle.rip_check.specs.Captured.{IsInRange}
+use Rattle.rip_check.specs.Metrics.{IsInRange}
 use Rattle.rip_check.specs.declared.verdict.Unclear.{Unclear}
 use Rattle.rip_check.specs.declared.verdict.Verdict.{Verdict}
 use Rattle.rip_check.specs.declared.verdict.Verdict.TheVariants.{Settled, Unsettled, Unclear as IsUnclear}

@@ -6,7 +6,7 @@ use Rattle.rip_table.specs.State.{State}
 use Rattle.rip_check.specs.Tables.{Tables, Shows, MayShow, FitsWay, IsSilent, Offers}
 use Rattle.rip_check.specs.declared.way.Way.{Way}
 use Rattle.rip_check.specs.declared.way.Way.TheVariants.{Unreachable, Here, Over}
-use Rattle.rip_check.specs.Captured.{metric_at}
+use Rattle.rip_check.specs.Metrics.{metric_at}
 
 -- silence counts as 16
 pub silent_is_16 : (x : Option ℕ) → IsSilent x → unwrap_or x 16 ≡ 16

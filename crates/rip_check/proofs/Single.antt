@@ -8,17 +8,18 @@ use Rattle.rip_check.specs.Tables.{Route, FitsShown, IsHeard}
 use Rattle.rip_check.specs.Laws.{ShowsRightTables}
 use Rattle.rip_check.proofs.Reading.{one_route}
 use Rattle.rip_check.proofs.Judging.{places_are_settled, tables_are_right}
-use Rattle.rip_check.specs.Captured.{IsInRange}
+use Rattle.rip_check.specs.Metrics.{IsInRange}
 use Rattle.rip_check.specs.declared.verdict.Unclear.{Unclear}
 use Rattle.rip_check.specs.declared.verdict.Unclear.TheVariants.{NotHeard, TwoMetrics, Missing, TwoWays}
 use Rattle.rip_check.specs.declared.verdict.Place2.{Place2}
 use Rattle.rip_check.specs.declared.verdict.Verdict.{Verdict}
 use Rattle.rip_check.specs.declared.verdict.Verdict.TheVariants.{Settled, Unsettled, Unclear as IsUnclear}
 use Rattle.rip_check.specs.Firsts.{AreFine, IsReadable, IsReason, IsFirstGap, IsFirstUnheard, IsFirstUnclear, IsFirstTrouble}
-use Rattle.rip_check.specs.Verdicts.{ShowsTables, IsSound, IsNextUnsettled, IsVerdict, IsLeastChoice, IsHidden}
+use Rattle.rip_check.specs.Verdicts.{ShowsTables, IsSound, IsNextUnsettled, IsVerdict, IsHidden}
 use Rattle.rip_check.proofs.Order.{one_first, none_first}
 use Rattle.rip_check.proofs.Owned.{its_link}
 use Rattle.rip_check.proofs.Readable.{shown_readable, readable_fits}
+use Rattle.rip_check.specs.Settled.{IsLeastChoice}
 
 same_bool : (a b : Bool) (P : Type 0) → (IsTrue a ↔ P) → (IsTrue b ↔ P) → a ≡ b
 same_bool true true P h k = refl

@@ -6,11 +6,11 @@ use Rattle.rip_plan.specs.Network.{Network}
 use Rattle.rip_plan.specs.Relations.{IsLawful, Touches}
 use Rattle.rip_table.specs.State.{State}
 use Rattle.rip_check.specs.Tables.{Route, IsSilent, Offers}
-use Rattle.rip_check.specs.Settled.{IsChoice, Holds, IsGiven}
-use Rattle.rip_check.specs.Telling.{IsMute, IsSpoken}
+use Rattle.rip_check.specs.Settled.{IsChoice, Holds, IsGiven, IsLeastChoice}
+use Rattle.rip_check.specs.Surveys.{IsSpoken}
+use Rattle.rip_check.proofs.Silence.{IsMute}
 use Rattle.rip_check.specs.Firsts.{IsShownBelow, ShowsTwo}
-use Rattle.rip_check.specs.Verdicts.{IsLeastChoice}
-use Rattle.rip_check.specs.Captured.{metric_at}
+use Rattle.rip_check.specs.Metrics.{metric_at}
 
 pub two_shown : (n : Network) (shown : State) (r p m : ℕ) → m ≤ 16 → (m ≡ 16 → IsMute n shown r p) → (m < 16 → (1 ≤ m) × IsSpoken n shown r p m) →
     (i v : ℕ) × IsShownBelow n shown r p i v × (v ≢ m) → ShowsTwo n shown r p
@@ -52,10 +52,10 @@ poison_is o m (inr is) e = is
 
 pub all_hold : (n : Network) (shown : State) (r p v : ℕ) (t : Route) → IsLeastChoice n shown r p v → t.metric ≡ v → IsGiven n shown r p t.metric t.way → Holds n shown r p t
 all_hold n shown r p v t is e given =
-    record { chosen = rw e is.chosen; least = λ w c. omega (arith, e, is.least w c); given = given }
+    record { choice = rw e is; given = given }
 
 pub is_equation : (n : Network) (shown : State) (r p v : ℕ) (t : Route) → IsLeastChoice n shown r p v → Holds n shown r p t → t.metric ≡ v
-is_equation n shown r p v t is holds = omega (arith, is.least t.metric holds.chosen, holds.least v is.chosen)
+is_equation n shown r p v t is holds = omega (arith, is.least t.metric holds.choice.chosen, holds.choice.least v is.chosen)
 
 -- a choice is at least 1
 pub choice_low : (n : Network) (shown : State) → IsLawful n → (r p v : ℕ) → IsChoice n shown r p v → 1 ≤ v

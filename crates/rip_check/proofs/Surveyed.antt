@@ -7,9 +7,9 @@ use Rattle.rip_plan.specs.Relations.{IsLawful, IsInterface, HasTwoInterfaces}
 use Rattle.rip_table.specs.State.{State}
 use Rattle.rip_check.specs.declared.surveys.Survey.{Survey}
 use Rattle.rip_check.specs.declared.way.Way.TheVariants.{Unreachable, Here, Over}
-use Rattle.rip_check.specs.Captured.{IsInRange, metric_at}
+use Rattle.rip_check.specs.Metrics.{IsInRange, metric_at}
 use Rattle.rip_check.specs.Tables.{Route, IsSilent, Tells}
-use Rattle.rip_check.specs.Telling.{IsMute, IsSilentLink}
+use Rattle.rip_check.proofs.Silence.{IsMute, IsSilentLink}
 use Rattle.rip_check.specs.Firsts.{IsShownBelow}
 use Rattle.rip_check.specs.Surveys.{IsSurvey}
 use Rattle.rip_check.proofs.Owned.{within}

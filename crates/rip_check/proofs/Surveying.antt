@@ -7,13 +7,12 @@ use Rattle.rip_plan.specs.Relations.{IsLawful, IsInterface, Carries}
 use Rattle.rip_table.specs.State.{State}
 use Rattle.rip_check.specs.declared.way.Way.TheVariants.{Over}
 use Rattle.rip_check.specs.Tables.{IsSilent, MayShow, IsAsTold}
-use Rattle.rip_check.specs.Telling.{}
 use Rattle.rip_check.specs.Firsts.{IsShownBelow}
 use Rattle.rip_check.specs.declared.surveys.Survey.{Survey}
 use Rattle.rip_check.specs.Surveys.{IsSpeech, IsSilence, IsSurvey}
 use Rattle.rip_check.proofs.Owned.{its_link}
 use Rattle.rip_check.proofs.Rows.{not_silent}
-use Rattle.rip_check.specs.Captured.{metric_at}
+use Rattle.rip_check.specs.Metrics.{metric_at}
 
 -- what is shown below 16 is no silence
 pub below_not_silent : (x : Option ℕ) (v : ℕ) → x ≡ Some v → v < 16 → IsSilent x → ⊥

@@ -3,10 +3,10 @@ use Rattle.std.specs.Prelude.{◌≡◌, ◌≢◌, ℕ, ◌<◌, ◌≤◌, ◌
 use Rattle.rip_plan.specs.Network.{Network}
 use Rattle.rip_plan.specs.Relations.{IsInterface, IsLeaf}
 use Rattle.rip_table.specs.State.{State}
-use Rattle.rip_check.specs.Tables.{IsHeard, Route, Tells}
+use Rattle.rip_check.specs.Tables.{IsHeard, IsOnlyRoute, Route, Tells}
 use Rattle.rip_check.specs.declared.verdict.Unclear.{Unclear}
 use Rattle.rip_check.specs.declared.verdict.Unclear.TheVariants.{NotHeard, TwoMetrics, Missing, TwoWays}
-use Rattle.rip_check.specs.Captured.{metric_at}
+use Rattle.rip_check.specs.Metrics.{metric_at}
 
 -- place (s, q) comes before place (r, p): by router, then by prefix
 abbrev pub IsBefore : ℕ → ℕ → ℕ → ℕ → Type 0
@@ -48,7 +48,7 @@ pub record IsFirstPlace (n : Network) (count : ℕ) (Fine : ℕ → ℕ → Type
 -- exactly one route fits what router r shows of prefix p, or the router has one interface
 abbrev pub IsReadable : Network → State → ℕ → ℕ → Type 0
 IsReadable n shown r p =
-    ((t : Route) × Tells n shown r p t × ((u : Route) → Tells n shown r p u → u ≡ t))
+    ((t : Route) × Tells n shown r p t × IsOnlyRoute n shown r p t)
     ⊎ ((i l c : ℕ) × IsLeaf n r i l c)
 
 -- interface i of router r shows metric m, which is below 16

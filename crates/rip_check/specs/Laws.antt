@@ -21,6 +21,7 @@ pub record Case : Type 0 where
 abbrev pub IsSettled : Case → Type 0
 IsSettled k = HoldsAll k.net k.shown k.tables
 
+-- each route is right
 abbrev pub HasRightTables : Case → Type 0
 HasRightTables k = AllRight k.net (length k.shown.prefixes) k.tables
 

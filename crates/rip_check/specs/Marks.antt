@@ -3,8 +3,8 @@ use Rattle.std.specs.Prelude.{◌≡◌, ℕ, ◌+◌, ◌*◌, ◌≤◌, ◌<�
 use Rattle.rip_plan.specs.Network.{Network}
 use Rattle.rip_table.specs.State.{State}
 use Rattle.rip_check.specs.Tables.{Route, FitsShown}
-use Rattle.rip_check.specs.Settled.{Holds}
-use Rattle.rip_check.specs.Verdicts.{IsLeastChoice, IsSound}
+use Rattle.rip_check.specs.Settled.{Holds, IsLeastChoice}
+use Rattle.rip_check.specs.Verdicts.{IsSound}
 use Rattle.rip_check.specs.declared.unsettled.Unsettled.{Unsettled}
 
 -- a route fits at the place and does not hold, and the equation there gives v

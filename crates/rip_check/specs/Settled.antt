@@ -12,6 +12,11 @@ use Rattle.rip_check.specs.declared.way.Way.TheVariants.{Unreachable, Here, Over
 abbrev pub IsChoice : Network → State → ℕ → ℕ → ℕ → Type 0
 IsChoice n shown r p v = (v ≡ 16) ⊎ (IsDirect n r p v ⊎ ((l s : ℕ) × Offers n shown r l s p v))
 
+-- the least of 16, the direct cost and all offers
+pub record IsLeastChoice (n : Network) (shown : State) (r p v : ℕ) : Type 0 where
+  pub chosen : IsChoice n shown r p v
+  pub least : (w : ℕ) → IsChoice n shown r p w → v ≤ w
+
 -- the way gives the metric
 abbrev pub IsGiven : Network → State → ℕ → ℕ → ℕ → Way → Type 0
 IsGiven n shown r p m Unreachable = Unit {0}
@@ -20,8 +25,7 @@ IsGiven n shown r p m (Over l) = (s : ℕ) × Offers n shown r l s p m
 
 -- the place holds: the metric is the least choice, and the way gives it
 pub record Holds (n : Network) (shown : State) (r p : ℕ) (route : Route) : Type 0 where
-  pub chosen : IsChoice n shown r p route.metric
-  pub least : (v : ℕ) → IsChoice n shown r p v → route.metric ≤ v
+  pub choice : IsLeastChoice n shown r p route.metric
   pub given : IsGiven n shown r p route.metric route.way
 
 -- the way begins a path that costs the metric

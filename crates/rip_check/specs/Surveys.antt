@@ -6,9 +6,12 @@ use Rattle.rip_table.specs.State.{State}
 use Rattle.rip_check.specs.declared.surveys.Survey.{Survey}
 use Rattle.rip_check.specs.declared.way.Way.TheVariants.{Over}
 use Rattle.rip_check.specs.Tables.{IsAsTold, IsSilent}
-use Rattle.rip_check.specs.Telling.{IsSpoken}
 use Rattle.rip_check.specs.Firsts.{IsShownBelow}
-use Rattle.rip_check.specs.Captured.{metric_at}
+use Rattle.rip_check.specs.Metrics.{metric_at}
+
+-- router r shows this metric somewhere
+abbrev pub IsSpoken : Network → State → ℕ → ℕ → ℕ → Type 0
+IsSpoken n shown r p m = (i l c : ℕ) × IsInterface n i r l c × (metric_at shown i p ≡ Some m)
 
 -- a metric below 16 that the router shows, or 16 where it shows none, and whether it shows another
 -- one

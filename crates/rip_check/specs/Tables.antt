@@ -5,7 +5,7 @@ use Rattle.rip_check.specs.declared.way.Way.TheVariants.{Unreachable, Here, Over
 use Rattle.rip_plan.specs.Network.{Network}
 use Rattle.rip_plan.specs.Relations.{IsInterface, HasCost, IsNeighbour, IsDirect, IsOn, IsLeaf, Carries}
 use Rattle.rip_table.specs.State.{State}
-use Rattle.rip_check.specs.Captured.{metric_at}
+use Rattle.rip_check.specs.Metrics.{metric_at}
 
 -- a router's route for a prefix: 16 where it has none (RFC 2453, 3.6), and the way that a packet
 -- goes
@@ -75,7 +75,12 @@ pub record Tells (n : Network) (shown : State) (r p : ℕ) (route : Route) : Typ
   pub way_fits : FitsWay n r p route.metric route.way
   pub as_told : IsAsTold n shown r p route.metric route.way
 
--- it could, and where router r is a leaf that can't show its route, it is the hidden one
+-- no other route could be behind what router r shows of prefix p
+abbrev pub IsOnlyRoute : Network → State → ℕ → ℕ → Route → Type 0
+IsOnlyRoute n shown r p route = (other : Route) → Tells n shown r p other → other ≡ route
+
+-- the route could be behind what router r shows of prefix p, and of a leaf that can't show its
+-- route it is the hidden one
 pub record FitsShown (n : Network) (shown : State) (r p : ℕ) (route : Route) : Type 0 where
   pub told : Tells n shown r p route
   pub hidden : (i l c : ℕ) → IsLeaf n r i l c → IsHiddenRoute n shown r i l p route
@@ -84,8 +89,7 @@ pub record FitsShown (n : Network) (shown : State) (r p : ℕ) (route : Route) :
 abbrev pub IsHeard : Network → State → Type 0
 IsHeard n shown = (i r l c : ℕ) → IsInterface n i r l c → IsTrue (shown.heard i)
 
--- the log shows these route tables, for each prefix of its own table: those of the plan, and then
--- others that it names
+-- the log shows these route tables, for each prefix of its table's list
 pub record Shows (n : Network) (shown : State) (T : Tables) : Type 0 where
   pub heard : IsHeard n shown
   pub fits : (r p : ℕ) → r < length n.routers → p < length shown.prefixes

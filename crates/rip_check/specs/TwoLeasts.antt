@@ -4,7 +4,7 @@ use Rattle.rip_plan.specs.Network.{Network}
 use Rattle.rip_plan.specs.Relations.{IsInterface}
 use Rattle.rip_table.specs.State.{State}
 use Rattle.rip_check.specs.declared.links.TwoLeast.{TwoLeast}
-use Rattle.rip_check.specs.Captured.{metric_at}
+use Rattle.rip_check.specs.Metrics.{metric_at}
 
 -- what interface j shows of prefix p, 16 where it shows nothing
 abbrev pub shown_of : State → ℕ → ℕ → ℕ → ℕ

@@ -4,23 +4,18 @@ use Rattle.rip_plan.specs.Network.{Network}
 use Rattle.rip_plan.specs.Relations.{IsLeaf, Carries}
 use Rattle.rip_table.specs.State.{State}
 use Rattle.rip_check.specs.Tables.{Tables, Shows, Route, FitsShown, IsSilent}
-use Rattle.rip_check.specs.Settled.{IsChoice, Holds}
+use Rattle.rip_check.specs.Settled.{Holds, IsLeastChoice}
 use Rattle.rip_check.specs.Laws.{ShowsRightTables}
 use Rattle.rip_check.specs.Firsts.{AreFine, IsFirst, IsFirstTrouble}
 use Rattle.rip_check.specs.declared.routes.Reading.{Reading}
 use Rattle.rip_check.specs.declared.verdict.Place2.{Place2}
 use Rattle.rip_check.specs.declared.verdict.Verdict.{Verdict}
 use Rattle.rip_check.specs.declared.verdict.Verdict.TheVariants.{Settled, Unsettled, Unclear as IsUnclear}
-use Rattle.rip_check.specs.Captured.{metric_at}
+use Rattle.rip_check.specs.Metrics.{metric_at}
 
 -- the log shows tables
 abbrev pub ShowsTables : Network → State → Type 0
 ShowsTables n shown = (T : Tables) × Shows n shown T
-
--- the least of 16, the direct cost and all offers
-pub record IsLeastChoice (n : Network) (shown : State) (r p v : ℕ) : Type 0 where
-  pub chosen : IsChoice n shown r p v
-  pub least : (w : ℕ) → IsChoice n shown r p w → v ≤ w
 
 -- the router's metric is not in what it shows
 abbrev pub IsHidden : Network → State → ℕ → ℕ → Type 0

@@ -4,9 +4,9 @@
 ghost use Rattle.std.specs.Prelude.{◌≡◌, ℕ, ◌+◌, ◌<◌, ◌≤◌, length, unwrap_or};
 ghost use Rattle.rip_plan.specs.Network.{Network};
 ghost use Rattle.rip_plan.specs.Relations.{IsInterface};
-ghost use Rattle.rip_table.specs.State.{Fits, State};
+ghost use Rattle.rip_table.specs.State.{Fits};
 ghost use Rattle.rip_check.specs.TwoLeasts.{AreTwoLeast, AreTwoLeastBefore, IsSeen, IsTwoLeast, metric_in, shown_of};
-ghost use Rattle.rip_check.specs.Captured.{metric_at};
+ghost use Rattle.rip_check.specs.Metrics.{metric_at};
 
 use crate::lookup::shown_at;
 use rip_plan::Plan;

@@ -2,7 +2,7 @@
 
 ghost use Rattle.std.specs.Prelude.{◌≡◌, ◌<◌, ◌≤◌, IfSome, length};
 ghost use Rattle.rip_table.specs.State.{Fits};
-ghost use Rattle.rip_check.specs.Captured.{IsInRange, metric_at};
+ghost use Rattle.rip_check.specs.Metrics.{IsInRange, metric_at};
 
 use rip_plan::Plan;
 use rip_table::MetricTable;
@@ -36,7 +36,7 @@ pub(crate) fn shown_at<T: MetricTable>(
     requires fits { Fits plan.now (T.state table.now) }
     requires interface { interface < length plan.now.interfaces }
     requires prefix { prefix < length (T.state table.now).prefixes }
-    ensures cell { result ≡ metric_at (T.state table.now) interface prefix }
+    ensures metric { result ≡ metric_at (T.state table.now) interface prefix }
     ensures range { IfSome result (λ m. (1 ≤ m) × (m ≤ 16)) }
 {
     let _ = plan;

@@ -3,7 +3,7 @@
 ghost use Rattle.std.specs.Prelude.{◌≡◌, ◌≢◌, ℕ, ◌+◌, ◌<◌, ◌≤◌, ◌⊎◌, IfSome, length, min, unwrap_or};
 ghost use Rattle.rip_plan.specs.Network.{Network};
 ghost use Rattle.rip_plan.specs.Relations.{HasCost, IsDirect, IsLawful};
-ghost use Rattle.rip_table.specs.State.{Fits, State};
+ghost use Rattle.rip_table.specs.State.{Fits};
 ghost use Rattle.rip_check.specs.Settled.{IsChoice};
 ghost use Rattle.rip_check.specs.Tables.{Offers};
 ghost use Rattle.rip_check.specs.TwoLeasts.{AreTwoLeast, IsSeen, IsTwoLeast, shown_of};

@@ -3,11 +3,10 @@
 ghost use Rattle.std.specs.Prelude.{◌≡◌, ℕ, ◌<◌, ◌≤◌, ◌⊎◌, ◌↔◌, Decides, IfErr, IfNone, IfOk, IfSome, IsTrue, is_ok, length};
 ghost use Rattle.rip_plan.specs.Relations.{IsDirect};
 ghost use Rattle.rip_table.specs.State.{Fits};
-ghost use Rattle.rip_check.specs.Settled.{Holds, IsChoice, IsGiven};
-ghost use Rattle.rip_check.specs.Tables.{FitsShown, FitsWay, Offers};
+ghost use Rattle.rip_check.specs.Settled.{Holds, IsChoice, IsGiven, IsLeastChoice};
+ghost use Rattle.rip_check.specs.Tables.{IsOnlyRoute, FitsShown, FitsWay, Offers};
 ghost use Rattle.rip_check.specs.TwoLeasts.{AreTwoLeast, shown_of};
-ghost use Rattle.rip_check.specs.Verdicts.{IsLeastChoice, IsFailing, IsSound, route_of, IsHidden};
-ghost use Rattle.rip_check.specs.Telling.{IsOnlyRoute};
+ghost use Rattle.rip_check.specs.Verdicts.{IsFailing, IsSound, route_of, IsHidden};
 ghost use Rattle.rip_check.specs.Firsts.{IsReadable, IsReason};
 
 use crate::links::TwoLeast;

@@ -1,10 +1,10 @@
 //! From what a router shows of a prefix to its route.
 
-ghost use Rattle.std.specs.Prelude.{◌≡◌, ◌≢◌, ℕ, ◌<◌, ◌≤◌, ◌⊎◌, Decides, IfErr, IfNone, IfOk, IfSome, IsTrue, None, Some, false, length};
+ghost use Rattle.std.specs.Prelude.{◌≡◌, ◌≢◌, ℕ, ◌<◌, ◌≤◌, ◌⊎◌, Decides, IfNone, IfSome, IsTrue, None, Some, false, length};
 ghost use Rattle.rip_plan.specs.Relations.{HasTwoInterfaces, IsLeaf};
 ghost use Rattle.rip_table.specs.State.{Fits};
 ghost use Rattle.rip_check.specs.Firsts.{IsFirstGap, IsReadable, IsReason, ShowsEach};
-ghost use Rattle.rip_check.specs.Tables.{FitsShown, Route as TableRoute, Tells};
+ghost use Rattle.rip_check.specs.Tables.{FitsShown, IsOnlyRoute, Route as TableRoute, Tells};
 ghost use Rattle.rip_check.specs.TwoLeasts.{AreTwoLeast, shown_of};
 ghost use Rattle.rip_check.specs.Verdicts.{IsHidden};
 
@@ -138,8 +138,8 @@ fn leaf_route<T: MetricTable>(
     ensures hidden { Decides result.hidden
         (IsHidden plan.now (T.state table.now) router prefix) }
     ensures one { IsTrue result.hidden
-        ⊎ ((u : TableRoute) → Tells plan.now (T.state table.now) router prefix u →
-        u ≡ record { metric = result.metric; way = result.way }) }
+        ⊎ IsOnlyRoute plan.now (T.state table.now) router prefix
+        (record { metric = result.metric; way = result.way }) }
 {
     plan.lawful();
     let i = plan.of_router(router)[0];
@@ -195,9 +195,9 @@ pub(crate) fn read<T: MetricTable>(
     ensures hidden { IfSome result
         (λ t. Decides t.hidden (IsHidden plan.now (T.state table.now) router prefix)) }
     ensures one { IfSome result
-        (λ t. IsTrue t.hidden ⊎
-        ((u : TableRoute) → Tells plan.now (T.state table.now) router prefix u →
-        u ≡ record { metric = t.metric; way = t.way })) }
+        (λ t. IsTrue t.hidden
+        ⊎ IsOnlyRoute plan.now (T.state table.now) router prefix
+        (record { metric = t.metric; way = t.way })) }
     ensures none { IfNone result
         (IsReadable plan.now (T.state table.now) router prefix → ⊥) }
 {

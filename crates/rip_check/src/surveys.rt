@@ -4,7 +4,7 @@ ghost use Rattle.std.specs.Prelude.{◌≡◌, ℕ, ◌+◌, ◌<◌, ◌≤◌,
 ghost use Rattle.rip_plan.specs.Network.{Network};
 ghost use Rattle.rip_plan.specs.Relations.{IsInterface};
 ghost use Rattle.rip_table.specs.State.{Fits, State};
-ghost use Rattle.rip_check.specs.Captured.{metric_at};
+ghost use Rattle.rip_check.specs.Metrics.{metric_at};
 ghost use Rattle.rip_check.specs.Surveys.{IsSurvey};
 ghost use Rattle.rip_check.specs.Tables.{IsSilent};
 
@@ -27,7 +27,7 @@ pub(crate) struct Survey {
 }
 
 /// The survey with one more interface, which shows this metric below 16.
-fn with_metric(found: Survey, metric: u32) -> Survey
+fn with_speech(found: Survey, metric: u32) -> Survey
     requires low { 1 ≤ metric }
     requires high { metric < 16 }
     ensures { (n : Network) (t : State) (r i l c p : ℕ) → IsSurvey n t r p i found →
@@ -81,7 +81,7 @@ fn with_shown(plan: &Plan, found: Survey, link: usize, prefix: usize, shown: Opt
         IsSurvey plan.now t r prefix (i + 1) result }
 {
     match shown {
-        Some(metric) if metric < 16 => with_metric(found, metric),
+        Some(metric) if metric < 16 => with_speech(found, metric),
         _ => with_silence(plan, found, link, prefix, shown),
     }
 }

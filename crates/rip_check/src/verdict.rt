@@ -31,7 +31,7 @@ pub enum Unclear {
         /// The prefix.
         prefix: usize,
     },
-    /// A router shows nothing of a prefix on a link on which it should show something.
+    /// A router shows nothing of a prefix on a link, and no route of it can be read.
     Missing {
         /// The router.
         router: usize,

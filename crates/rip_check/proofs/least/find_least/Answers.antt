@@ -1,4 +1,4 @@
-use Rattle.std.proofs.Common.{◌≡◌, ◌≤◌, ℕ, List, get_or, length, refl, arith}
+use Rattle.std.proofs.Common.{◌≡◌, arith}
 use Rattle.rip_check.specs.Passes.{IsPass}
 use Rattle.rip_check.proofs.Passes.{pass_reached, pass_farther, enough_hops, at_rest}
 use Rattle.rip_check.proofs.least.find_least.Goals as goal

@@ -1,10 +1,10 @@
-use Rattle.std.proofs.Common.{◌≡◌, ◌<◌, ◌≤◌, ◌+◌, ◌⊎◌, ◌≢◌, ℕ, inl, inr, get_or, slice_set, length, refl, sym, ◌∙◌, arith}
+use Rattle.std.proofs.Common.{◌≡◌, ◌<◌, ◌≤◌, ◌+◌, ◌⊎◌, ◌≢◌, ℕ, get_or, slice_set, length, refl, arith}
 use Rattle.std.proofs.lemmas.Option.{slice_get-get_or}
 use Rattle.std.proofs.lemmas.List.{get_or-set_other}
 use Rattle.std.proofs.lemmas.Grind.{get_or-set_at}
 use Rattle.rip_check.specs.declared.links.TwoLeast.{TwoLeast}
-use Rattle.rip_check.specs.TwoLeasts.{IsSeen, IsTwoLeast, metric_in}
-use Rattle.rip_check.proofs.Passes.{IsPart, one_more, whole_pass}
+use Rattle.rip_check.specs.TwoLeasts.{IsSeen, metric_in}
+use Rattle.rip_check.proofs.Passes.{one_more, whole_pass}
 use Rattle.rip_check.proofs.Owned.{within}
 use Rattle.rip_check.proofs.least.pass.Goals as goal
 use Rattle.rip_check.proofs.least.pass.Goals.{then-least-metric, else-least-metric}

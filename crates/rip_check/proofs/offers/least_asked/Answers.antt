@@ -23,7 +23,7 @@ loop-j-preserved g c =
     let x = c.interface-across.result in
     elim c.if-across-own.branch [
       | then-across-own+then-offer-least w ↦
-          let e : w.offer_of-offer.result ≡ heard_from shown own.cost (get_or numbers k 0) c.args.prefix = rw w.shown_at.ensures.cell at w.offer_of-offer.ensures in
+          let e : w.offer_of-offer.result ≡ heard_from shown own.cost (get_or numbers k 0) c.args.prefix = rw w.shown_at.ensures.metric at w.offer_of-offer.ensures in
           rw w.least-is (record {
             at_most = omega (arith, w.if-offer-least.true, c.loop-j.invariant.at_most);
             below = one_more n own.link numbers exact shown own.router own.cost c.args.prefix k c.loop-j.least w.offer_of-offer.result x c.interface-across.ensures.is
@@ -32,7 +32,7 @@ loop-j-preserved g c =
                 w.if-across-own.true c.requires.own e);
           })
       | then-across-own+else-offer-least w ↦
-          let e : w.offer_of-offer.result ≡ heard_from shown own.cost (get_or numbers k 0) c.args.prefix = rw w.shown_at.ensures.cell at w.offer_of-offer.ensures in
+          let e : w.offer_of-offer.result ≡ heard_from shown own.cost (get_or numbers k 0) c.args.prefix = rw w.shown_at.ensures.metric at w.offer_of-offer.ensures in
           rw w.least-is (record {
             at_most = c.loop-j.invariant.at_most;
             below = one_more n own.link numbers exact shown own.router own.cost c.args.prefix k c.loop-j.least c.loop-j.least x c.interface-across.ensures.is

@@ -1,9 +1,10 @@
 use Rattle.std.proofs.Common.{arith}
 use Rattle.std.proofs.lemmas.Bool.Decides.{not_from_Decides}
-use Rattle.rip_check.specs.Verdicts.{IsLeastChoice, route_of}
+use Rattle.rip_check.specs.Verdicts.{route_of}
 use Rattle.rip_check.proofs.Standing.{all_hold, is_equation, choice_low}
 use Rattle.rip_check.proofs.places.unmet.Goals as goal
 use Rattle.rip_check.proofs.places.unmet.Goals.{else-route-equation-via-then-route-equation+else-is_given, else-route-equation-via-else-route-equation}
+use Rattle.rip_check.specs.Settled.{IsLeastChoice}
 
 pub is_given-requires-clause-least : goal.is_given-requires-clause-least
 is_given-requires-clause-least g c = λ v choice. omega (arith, c.if-route-equation.true, c.least_choice-equation.ensures.least v choice)

@@ -1,7 +1,7 @@
 use Rattle.std.proofs.Common.{◌≡◌, None, get_or, sym}
 use Rattle.rip_check.proofs.Owned.{its_number, its_own, each_more, every, all_before}
 use Rattle.rip_check.proofs.routes.first_gap.Goals as goal
-use Rattle.rip_check.specs.Captured.{metric_at}
+use Rattle.rip_check.specs.Metrics.{metric_at}
 
 pub interface-own-requires : goal.interface-own-requires
 interface-own-requires g c = its_number c.args.plan.now c.args.router c.of_router-numbers.result.now c.of_router-numbers.ensures.exact c.loop-i.i-index c.loop-i-test.true
@@ -20,7 +20,7 @@ returns-in-None-clause-some g c =
       interface = get_or numbers c.loop-i.i-index 0;
       cost = own.cost;
       its = its_own n c.args.router numbers exact c.loop-i.i-index own c.loop-i-test.true c.interface-own.ensures.is;
-      shows = sym c.in-None.ensures.cell;
+      shows = sym c.in-None.ensures.metric;
       before = λ j k d less its. all_before n c.args.router numbers exact c.of_router-numbers.ensures.ascending (λ j k. cell j c.args.prefix ≡ None → ⊥) c.loop-i.i-index c.loop-i-test.true
           c.loop-i.invariant j k d less its;
     }
@@ -29,7 +29,7 @@ pub loop-i-preserved : goal.loop-i-preserved
 loop-i-preserved g c =
     let cell = metric_at (g.T.MetricTable.state c.args.table.now) in
     each_more c.args.plan.now c.args.router c.of_router-numbers.result.now c.of_router-numbers.ensures.exact (λ j k. cell j c.args.prefix ≡ None → ⊥) c.loop-i.i-index
-    c.interface-own.result c.interface-own.ensures.is c.loop-i.invariant (λ e. cc (e, c.in-Some.ensures.cell))
+    c.interface-own.result c.interface-own.ensures.is c.loop-i.invariant (λ e. cc (e, c.in-Some.ensures.metric))
 
 pub returns-clause-none : goal.returns-clause-none
 returns-clause-none g c =

@@ -1,7 +1,7 @@
 use Rattle.std.proofs.Common.{◌≡◌, ℕ, ◌<◌, None, get_or}
 use Rattle.rip_plan.specs.Relations.{IsInterface}
 use Rattle.rip_check.proofs.routes.first_gap.Given as goal
-use Rattle.rip_check.specs.Captured.{metric_at}
+use Rattle.rip_check.specs.Metrics.{metric_at}
 
 abbrev pub invariant-loop-i : goal.invariant-loop-i
 invariant-loop-i g l =

@@ -1,6 +1,6 @@
 use Rattle.std.proofs.Common.{◌≡◌, get_or, inl, inr, Some, None, refl, sym, ◌∙◌, arith}
 use Rattle.std.proofs.lemmas.Bool.Decides.{not_from_Decides}
-use Rattle.rip_check.specs.Captured.{metric_at}
+use Rattle.rip_check.specs.Metrics.{metric_at}
 use Rattle.rip_check.specs.Tables.{IsLeastOffer, IsSilent}
 use Rattle.rip_check.proofs.Owned.{first_is_leaf, its_number, some_number, within}
 use Rattle.rip_check.proofs.Standing.{high_is_silent, poison_is}
@@ -29,7 +29,7 @@ returns-in-Some g c =
     let alone = c.requires.leaf in
     let only = first_is_leaf n c.args.router c.of_router.result.now c.of_router.ensures.exact alone.0 alone.1 alone.2 own alone.3 c.interface-own.ensures.is in
     let m = c.in-Some.metric in
-    let e = sym {b = metric_at shown i c.args.prefix} c.shown_at-shown.ensures.cell ∙ c.in-Some.is in
+    let e = sym {b = metric_at shown i c.args.prefix} c.shown_at-shown.ensures.metric ∙ c.in-Some.is in
     record {
       most = omega (arith, c.if-metric-lt16.true);
       fits = low_fits n shown c.args.router i c.args.prefix own only.0 only.1 m c.in-Some.ensures.range.0 c.if-metric-lt16.true e;
@@ -45,7 +45,7 @@ returns-in_default g c =
     let own = c.interface-own.result in
     let alone = c.requires.leaf in
     let only = first_is_leaf n c.args.router c.of_router.result.now c.of_router.ensures.exact alone.0 alone.1 alone.2 own alone.3 c.interface-own.ensures.is in
-    let silent : IsSilent (metric_at shown i c.args.prefix) = rw (← c.shown_at-shown.ensures.cell) (elim c.in_default.branch [
+    let silent : IsSilent (metric_at shown i c.args.prefix) = rw (← c.shown_at-shown.ensures.metric) (elim c.in_default.branch [
       | in_default-via-in-Some+else-metric-lt16 w ↦ high_is_silent c.shown_at-shown.result w.in-Some.metric c.shown_at-shown.ensures.range w.in-Some.is w.if-metric-lt16.false
       | in_default-via-in-None w ↦ inl w.in_default.is
     ]) in
@@ -69,7 +69,7 @@ returns-in-None g c =
       | in_default-via-in-Some+else-metric-lt16 w ↦ w.in-Some.is ∙ sym w.shown-is
       | in_default-via-in-None w ↦ sym w.shown-is
     ] in
-    let e : metric_at shown i c.args.prefix ≡ None = sym {b = metric_at shown i c.args.prefix} c.shown_at-shown.ensures.cell ∙ same ∙ c.in-None.is in
+    let e : metric_at shown i c.args.prefix ≡ None = sym {b = metric_at shown i c.args.prefix} c.shown_at-shown.ensures.metric ∙ same ∙ c.in-None.is in
     let off = not_from_Decides c.is_place.result c.is_place.ensures c.if-is_place.false in
     record {
       most = omega arith;
@@ -86,7 +86,7 @@ returns-then-least-lt16 g c =
     let own = c.interface-own.result in
     let alone = c.requires.leaf in
     let only = first_is_leaf n c.args.router c.of_router.result.now c.of_router.ensures.exact alone.0 alone.1 alone.2 own alone.3 c.interface-own.ensures.is in
-    let silent : IsSilent (metric_at shown i c.args.prefix) = rw (← c.shown_at-shown.ensures.cell) (elim c.in_default.branch [
+    let silent : IsSilent (metric_at shown i c.args.prefix) = rw (← c.shown_at-shown.ensures.metric) (elim c.in_default.branch [
       | in_default-via-in-Some+else-metric-lt16 w ↦ high_is_silent c.shown_at-shown.result w.in-Some.metric c.shown_at-shown.ensures.range w.in-Some.is w.if-metric-lt16.false
       | in_default-via-in-None w ↦ inl w.in_default.is
     ]) in
@@ -95,7 +95,7 @@ returns-then-least-lt16 g c =
       | in_default-via-in-None w ↦ sym w.shown-is
     ] in
     let e : metric_at shown i c.args.prefix ≡ Some 16 =
-    poison_is (metric_at shown i c.args.prefix) c.in-Some-2.field-0 silent (sym {b = metric_at shown i c.args.prefix} c.shown_at-shown.ensures.cell ∙ same ∙ c.in-Some-2.is) in
+    poison_is (metric_at shown i c.args.prefix) c.in-Some-2.field-0 silent (sym {b = metric_at shown i c.args.prefix} c.shown_at-shown.ensures.metric ∙ same ∙ c.in-Some-2.is) in
     let off = not_from_Decides c.is_place.result c.is_place.ensures c.if-is_place.false in
     let so = least_offer n shown c.args.router i c.args.prefix own only.0 only.1 c.best_over-least.result c.best_over-least.ensures.at_most c.best_over-least.ensures.least c.best_over-least.ensures.chosen in
     record {
@@ -113,7 +113,7 @@ returns-else-least-lt16 g c =
     let own = c.interface-own.result in
     let alone = c.requires.leaf in
     let only = first_is_leaf n c.args.router c.of_router.result.now c.of_router.ensures.exact alone.0 alone.1 alone.2 own alone.3 c.interface-own.ensures.is in
-    let silent : IsSilent (metric_at shown i c.args.prefix) = rw (← c.shown_at-shown.ensures.cell) (elim c.in_default.branch [
+    let silent : IsSilent (metric_at shown i c.args.prefix) = rw (← c.shown_at-shown.ensures.metric) (elim c.in_default.branch [
       | in_default-via-in-Some+else-metric-lt16 w ↦ high_is_silent c.shown_at-shown.result w.in-Some.metric c.shown_at-shown.ensures.range w.in-Some.is w.if-metric-lt16.false
       | in_default-via-in-None w ↦ inl w.in_default.is
     ]) in
@@ -122,7 +122,7 @@ returns-else-least-lt16 g c =
       | in_default-via-in-None w ↦ sym w.shown-is
     ] in
     let e : metric_at shown i c.args.prefix ≡ Some 16 =
-    poison_is (metric_at shown i c.args.prefix) c.in-Some-2.field-0 silent (sym {b = metric_at shown i c.args.prefix} c.shown_at-shown.ensures.cell ∙ same ∙ c.in-Some-2.is) in
+    poison_is (metric_at shown i c.args.prefix) c.in-Some-2.field-0 silent (sym {b = metric_at shown i c.args.prefix} c.shown_at-shown.ensures.metric ∙ same ∙ c.in-Some-2.is) in
     let off = not_from_Decides c.is_place.result c.is_place.ensures c.if-is_place.false in
     let so = least_offer n shown c.args.router i c.args.prefix own only.0 only.1 c.best_over-least.result c.best_over-least.ensures.at_most c.best_over-least.ensures.least c.best_over-least.ensures.chosen in
     let is : c.best_over-least.result ≡ 16 = omega (arith, c.best_over-least.ensures.at_most, c.if-least-lt16.false) in

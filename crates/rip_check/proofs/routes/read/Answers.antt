@@ -4,7 +4,7 @@ use Rattle.rip_plan.specs.Network.{Network}
 use Rattle.rip_plan.specs.Relations.{IsLawful, HasTwoInterfaces}
 use Rattle.rip_table.specs.State.{State}
 use Rattle.rip_check.specs.declared.routes.Reading.{Reading}
-use Rattle.rip_check.specs.Captured.{IsInRange}
+use Rattle.rip_check.specs.Metrics.{IsInRange}
 use Rattle.rip_check.specs.Firsts.{IsReadable}
 use Rattle.rip_check.specs.Tables.{FitsShown, Route, Tells}
 use Rattle.rip_check.specs.Verdicts.{IsHidden, route_of}

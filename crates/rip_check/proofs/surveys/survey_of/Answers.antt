@@ -3,7 +3,7 @@ use Rattle.rip_check.specs.Surveys.{IsSurvey}
 use Rattle.rip_check.proofs.Owned.{ascends, ascends_below, its_number, its_own, place_before}
 use Rattle.rip_check.proofs.Surveying.{nothing_yet, stretch}
 use Rattle.rip_check.proofs.surveys.survey_of.Goals as goal
-use Rattle.rip_check.specs.Captured.{metric_at}
+use Rattle.rip_check.specs.Metrics.{metric_at}
 
 pub loop-i-init : goal.loop-i-init
 loop-i-init g c = λ b above next.
@@ -34,7 +34,7 @@ loop-i-preserved g c = λ b above next.
     let i = get_or numbers k 0 in
     let own = c.interface-own.result in
     let its = its_own n r numbers exact k own c.loop-i-test.true c.interface-own.ensures.is in
-    let seen : metric_at shown i p ≡ c.shown_at-shown.result = sym {b = metric_at shown i p} c.shown_at-shown.ensures.cell in
+    let seen : metric_at shown i p ≡ c.shown_at-shown.result = sym {b = metric_at shown i p} c.shown_at-shown.ensures.metric in
     let was : IsSurvey n shown r p i c.loop-i.found = c.loop-i.invariant i (λ j sooner. ascends_below numbers up j k sooner c.loop-i-test.true) (λ lt. omega arith) in
     let is : IsSurvey n shown r p (i + 1) c.with_shown-found.result = c.with_shown-found.ensures shown r i own.cost was its seen in
     stretch n shown r p (i + 1) b c.with_shown-found.result (omega (arith, above k (omega arith)))

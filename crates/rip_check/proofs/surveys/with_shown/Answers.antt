@@ -3,7 +3,7 @@ use Rattle.rip_check.proofs.surveys.with_shown.Goals as goal
 use Rattle.rip_check.proofs.surveys.with_shown.Goals.{in_default-via-in-Some+else-metric-lt16, in_default-via-in_default}
 
 pub returns-in-Some : goal.returns-in-Some
-returns-in-Some c = λ t r i d was its seen. c.with_metric.ensures c.args.plan.now t r i c.args.link d c.args.prefix was its (seen ∙ c.in-Some.is)
+returns-in-Some c = λ t r i d was its seen. c.with_speech.ensures c.args.plan.now t r i c.args.link d c.args.prefix was its (seen ∙ c.in-Some.is)
 
 pub returns-in_default : goal.returns-in_default
 returns-in_default c = λ t r i d was its seen.

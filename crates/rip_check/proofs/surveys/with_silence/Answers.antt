@@ -1,7 +1,7 @@
 use Rattle.std.proofs.Common.{◌≡◌, ℕ, inl, inr, true, false, Option, None, Some, ap, is_some, not, refl, sym, ◌∙◌}
 use Rattle.std.proofs.lemmas.Bool.Decides.{not_from_Decides}
 use Rattle.rip_table.specs.State.{State}
-use Rattle.rip_check.specs.Captured.{metric_at}
+use Rattle.rip_check.specs.Metrics.{metric_at}
 use Rattle.rip_check.specs.Tables.{IsSilent}
 use Rattle.rip_check.proofs.Surveying.{no_speech, first_silent_link, more_silence}
 use Rattle.rip_check.proofs.surveys.with_silence.Goals as goal

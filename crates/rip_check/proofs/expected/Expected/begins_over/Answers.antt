@@ -1,6 +1,4 @@
-use Rattle.std.proofs.Common.{◌≡◌, ℕ, refl, sym}
-use Rattle.rip_plan.specs.Relations.{HasCost}
-use Rattle.rip_check.specs.Paths.{IsLeast, HasPathOver}
+use Rattle.std.proofs.Common.{◌≡◌, refl}
 use Rattle.rip_check.proofs.Owned.{its_number, its_router, each_more, every}
 use Rattle.rip_check.proofs.expected.Expected.begins_over.Goals as goal
 

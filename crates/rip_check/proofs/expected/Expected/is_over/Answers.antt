@@ -1,7 +1,6 @@
-use Rattle.std.proofs.Common.{◌≡◌, ◌+◌, ◌<◌, ℕ, get_or, length, ap, sym, ◌∙◌, refl, arith}
-use Rattle.rip_check.specs.Paths.{IsLeast}
+use Rattle.std.proofs.Common.{◌≡◌, get_or, refl, arith}
 use Rattle.rip_check.proofs.Across.{across_number, across_own}
-use Rattle.rip_check.proofs.Overs.{GivesNot, least_most, one_least, one_more_not, none_over, path_over}
+use Rattle.rip_check.proofs.Overs.{one_least, one_more_not, none_over, path_over}
 use Rattle.rip_check.proofs.expected.Expected.is_over.Goals as goal
 use Rattle.rip_check.proofs.expected.Expected.is_over.Goals.{else-next-own-via-then-next-own+else-from-number, else-next-own-via-else-next-own}
 

@@ -1,5 +1,5 @@
 use Rattle.rip_check.proofs.Surveying.{first_metric, same_metric, other_metric, no_silence}
-use Rattle.rip_check.proofs.surveys.with_metric.Goals as goal
+use Rattle.rip_check.proofs.surveys.with_speech.Goals as goal
 
 pub returns-then-found-eq16 : goal.returns-then-found-eq16
 returns-then-found-eq16 c = λ n t r i l d p was its shows.
