@@ -3,6 +3,7 @@
 
 mod draft;
 mod error;
+pub mod examples;
 mod fields;
 mod index;
 pub mod laws;

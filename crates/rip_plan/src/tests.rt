@@ -1,3 +1,4 @@
+use crate::examples::TRIANGLE;
 use crate::{At, PlanCode, PlanError};
 use std::alloc::{AllocError, Global};
 
@@ -5,55 +6,6 @@ mod answers;
 mod limits;
 mod order;
 mod refusals;
-
-/// Three links with a prefix each, and three routers with an interface on two of them.
-const TRIANGLE: &str = r#"version = 1
-
-[[link]]
-name = "a"
-prefixes = ["10.1.0.0/16"]
-
-[[link]]
-name = "b"
-prefixes = ["10.2.0.0/16"]
-
-[[link]]
-name = "c"
-prefixes = ["10.3.0.0/16"]
-
-[[router]]
-name = "r1"
-
-[[router.interface]]
-link = "a"
-address = "10.1.0.1"
-
-[[router.interface]]
-link = "c"
-address = "10.3.0.1"
-
-[[router]]
-name = "r2"
-
-[[router.interface]]
-link = "a"
-address = "10.1.0.2"
-
-[[router.interface]]
-link = "b"
-address = "10.2.0.2"
-
-[[router]]
-name = "r3"
-
-[[router.interface]]
-link = "b"
-address = "10.2.0.3"
-
-[[router.interface]]
-link = "c"
-address = "10.3.0.3"
-"#;
 
 /// The text with a part of it replaced by another.
 fn replaced(alloc: Global, text: &str, old: &str, new: &str) -> Result<String, AllocError> {

@@ -11,8 +11,9 @@ use Rattle.rip_check.specs.declared.verdict.Unclear.{Unclear}
 use Rattle.rip_check.specs.declared.verdict.Unclear.TheVariants.{NotHeard, TwoMetrics, Missing, TwoWays}
 use Rattle.rip_check.specs.declared.verdict.Verdict.{Verdict}
 use Rattle.rip_check.specs.declared.verdict.Verdict.TheVariants as verdicts
-use Rattle.ripaudit.specs.AuditText.{IsJudged, IsTold, IsTroubleOf, UnsettledLines, VerdictText, a_settled, an_unclear, an_unsettled, settled_line, unclear_line, verdict_status}
+use Rattle.ripaudit.specs.AuditText.{IsJudged, IsTroubleOf, UnsettledLines, VerdictText, a_settled, an_unclear, an_unsettled, settled_line, unclear_line, verdict_status}
 use Rattle.ripaudit.specs.Finished.{finished}
+use Rattle.ripaudit.specs.Sent.{WentOut}
 use Rattle.ripaudit.specs.declared.status.Status.{Status}
 use Rattle.ripaudit.specs.declared.status.Status.TheVariants.{Settled, Unsettled, Unclear as IsUnclear}
 use Rattle.ripaudit.specs.declared.status.RunError.{RunError}
@@ -94,8 +95,8 @@ ifok-map (Err e) f p = tt
 
 -- the headline, of what is judged and what is told
 abbrev pub IsHeadline : Network → State → Bool → Option (List ℕ) → Option (List ℕ) → Status → Type 0
-IsHeadline n s all a b status = ((status ≡ Settled) ↔ ShowsRightTables n s) × (status ≡ Settled → PacketsArrive n s) × IsTold n s all a b status
+IsHeadline n s all a b status = ((status ≡ Settled) ↔ ShowsRightTables n s) × (status ≡ Settled → PacketsArrive n s) × WentOut (VerdictText n s all) a b status
 
-pub headline : (n : Network) (s : State) (all : Bool) (a b : Option (List ℕ)) (outcome : Result Status RunError) → IfOk outcome (IsJudged n s) → IfOk outcome (IsTold n s all a b) → IfOk outcome (IsHeadline n s all a b)
+pub headline : (n : Network) (s : State) (all : Bool) (a b : Option (List ℕ)) (outcome : Result Status RunError) → IfOk outcome (IsJudged n s) → IfOk outcome (WentOut (VerdictText n s all) a b) → IfOk outcome (IsHeadline n s all a b)
 headline n s all a b (Ok status) j told = (j.settled, j.arrive, told)
 headline n s all a b (Err e) j told = tt

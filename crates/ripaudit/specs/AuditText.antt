@@ -12,7 +12,6 @@ use Rattle.rip_check.specs.declared.way.Way.{Way}
 use Rattle.rip_check.specs.declared.way.Way.TheVariants.{Unreachable, Here, Over}
 use Rattle.ripaudit.specs.Names.{name_of}
 use Rattle.ripaudit.specs.ReportText.{ReportText}
-use Rattle.ripaudit.specs.Sent.{WentOut}
 use Rattle.ripaudit.specs.Written.{Written, line}
 use Rattle.ripaudit.specs.declared.status.Status.{Status}
 use Rattle.ripaudit.specs.declared.status.Status.TheVariants.{Settled, Unsettled, Unclear as IsUnclear}
@@ -158,8 +157,3 @@ pub record IsJudged (n : Network) (s : State) (status : Status) : Type 0 where
       ↔ (ShowsTables n s × ((f : Place2) × IsNextUnsettled n s None f))
   pub unclear : (status ≡ IsUnclear) ↔ ((trouble : Unclear) × IsFirstTrouble n s trouble)
   pub no_tables : (status ≡ IsUnclear) ↔ (ShowsTables n s → ⊥)
-
--- the lines of the verdict on the table went out, which name its first place that fails or its
--- first trouble, and nothing else
-abbrev pub IsTold : Network → State → Bool → Option (List ℕ) → Option (List ℕ) → Status → Type 0
-IsTold n s all = WentOut (VerdictText n s all)

@@ -1,4 +1,5 @@
--- What has gone out of a text, by the bytes that a sink has taken before and after.
+-- What has gone out of a text, by the bytes that a sink has taken before and after, and what a run
+-- leaves of its source.
 use Rattle.std.specs.Prelude.{◌≡◌, ◌≢◌, ℕ, Bool, true, false, List, ◌++◌, Option, Result, Err, IfOk, OnErr, OnOk, is_err}
 use Rattle.std.specs.Io.KnownBytes.{Appends, Keeps}
 use Rattle.rip_log.specs.declared.device.Failed.{Failed}
@@ -74,5 +75,5 @@ pub record Reads
   pub read : result ≡ Err Read → broken new ≡ true
   -- every other answer leaves the source's mark as it was
   pub source : result ≢ Err Read → broken new ≡ broken old
-  -- what is printed of a log comes only where the source has come to its end
+  -- what is printed of a log's table comes only where the source has come to its end
   pub ended : IfOk result (λ status. status ≢ Refused → at_end new ≡ true)

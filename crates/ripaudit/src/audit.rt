@@ -9,10 +9,10 @@ ghost use Rattle.rip_plan.specs.declared.error.PlanError.{PlanError};
 ghost use Rattle.rip_table.specs.State.{Fits, State};
 ghost use Rattle.rip_check.specs.Marks.{AreUnsettled};
 ghost use Rattle.rip_check.specs.Verdicts.{IsVerdict, IsNextUnsettled};
-ghost use Rattle.ripaudit.specs.AuditText.{AuditText, FailureLines, IsJudged, IsPlaceOf, IsTold, UnsettledLines, VerdictText, unsettled_line, verdict_status};
+ghost use Rattle.ripaudit.specs.AuditText.{AuditText, FailureLines, IsJudged, IsPlaceOf, UnsettledLines, VerdictText, unsettled_line, verdict_status};
 ghost use Rattle.ripaudit.specs.Held.{held};
 ghost use Rattle.ripaudit.specs.ReportText.{IsAccepted};
-ghost use Rattle.ripaudit.specs.Sent.{Prints, Reads, Writes};
+ghost use Rattle.ripaudit.specs.Sent.{Prints, Reads, WentOut, Writes};
 ghost use Rattle.rip_check.specs.Laws.{ShowsRightTables};
 ghost use Rattle.rip_check.specs.Walks.{PacketsArrive};
 
@@ -179,6 +179,8 @@ fn places_of<T: MetricTable>(
         IfSome places (AreUnsettled plan.now (T.state table.now))) }
     ensures all { IfOk result (λ places. (place : Place2) → verdict.now ≡ Verdict.Unsettled place →
         is_some places ≡ all) }
+    ensures memory { is_err result ≡ true →
+        (all ≡ true) × (verdict_status verdict.now ≡ Status.Unsettled) }
 {
     match verdict {
         Verdict::Unsettled(_) if all => Ok(Some(Unsettled::find(alloc, plan, table)?)),
@@ -198,6 +200,8 @@ fn audit_table<T: MetricTable, K: Sink>(
     ensures prints { Prints K.taken K.broken out.old out.new result
         (VerdictText plan.now (T.state table.now) all) }
     ensures read { result ≢ Err RunError.Read }
+    ensures wanted { result ≡ Err RunError.Memory →
+        (all ≡ true) × IsJudged plan.now (T.state table.now) Status.Unsettled }
     ensures judged { IfOk result (IsJudged plan.now (T.state table.now)) }
 {
     let verdict = judge(plan, table);
@@ -248,14 +252,14 @@ pub fn run_audit<R: Source, K: Sink, S: BuildHasher + Drop>(
     ensures headline { (n : Network) (s : State) → IsAccepted plan.now (R.coming log) n s →
         IfOk result.1 (λ status. ((status ≡ Status.Settled) ↔ ShowsRightTables n s)
         × (status ≡ Status.Settled → PacketsArrive n s)
-        × IsTold n s all (K.taken out.old) (K.taken out.new) status) }
+        × WentOut (VerdictText n s all) (K.taken out.old) (K.taken out.new) status) }
     // What each verdict is answered for.
     ensures judged { (n : Network) (s : State) → IsAccepted plan.now (R.coming log) n s →
         IfOk result.1 (IsJudged n s) }
     // The whole text went out, or a beginning where the sink failed, or nothing.
     ensures prints { Prints K.taken K.broken out.old out.new result.1
         (AuditText plan.now (R.coming log) all) }
-    // The source was read to its end, or has failed, or the plan or the log is refused.
+    // What is printed of a table comes only at the source's end, and Read only where it has failed.
     ensures reads { Reads R.broken R.at_end log result.0 result.1 }
     // The source of a refused plan is as it was.
     ensures untouched { (e : PlanError) → first_fault plan.now ≡ Some e → result.0 ≡ log }

@@ -4,6 +4,7 @@ ghost use Rattle.std.specs.Prelude.{◌≡◌, ◌+◌, ◌≤◌, ◌%◌, ◌�
 ghost use Rattle.std.specs.List.{AllPass};
 ghost use Rattle.hex.specs.Hex.{decode_of, is_hex_digit};
 ghost use Rattle.rip_wire.specs.Datagram.{datagram_bytes, entries_of, kind_of, message_of};
+ghost use Rattle.ripaudit.specs.declared.limits.TheConstants.{LINE_BYTES};
 ghost use Rattle.ripaudit.specs.DecodeText.{DecodeText, entry_line, entry_lines, refused_wire, shown, shown_response, wire_code_text, wire_fault_text};
 ghost use Rattle.ripaudit.specs.Held.{held};
 ghost use Rattle.ripaudit.specs.Sent.{Prints, Writes};
@@ -16,7 +17,7 @@ use rip_log::{Failed, Sink, decode_digits};
 use rip_wire::{Datagram, Entry, Kind, MOST_BYTES, WireCode, WireError, read};
 
 /// How many bytes are looked at: one more than a datagram can have.
-const ROOM: usize = MOST_BYTES + 1;
+const KEPT_BYTES: usize = MOST_BYTES + 1;
 
 /// Whether the word is an even number of hexadecimal digits.
 fn is_hex(word: &[u8]) -> bool
@@ -27,15 +28,15 @@ fn is_hex(word: &[u8]) -> bool
 
 /// The bytes that a word spells in hexadecimal digits, or the first 505 of them. There are none
 /// where the number of digits is odd, or where a byte is no digit.
-fn bytes_of_hex<'a>(word: &[u8], room: &'a mut [u8; ROOM]) -> Option<&'a [u8]>
+fn bytes_of_hex<'a>(word: &[u8], room: &'a mut [u8; KEPT_BYTES]) -> Option<&'a [u8]>
     ensures { MatchOption result ((bytes : List ℕ) → decode_of word.now ≡ Ok bytes → ⊥)
         (λ front. (bytes : List ℕ) × (decode_of word.now ≡ Ok bytes)
-        × (front.now ≡ take ROOM bytes)) }
+        × (front.now ≡ take KEPT_BYTES bytes)) }
 {
     if !is_hex(word) {
         return None;
     }
-    let count = (word.len() / 2).min(ROOM);
+    let count = (word.len() / 2).min(KEPT_BYTES);
     if decode_digits(&word[..2 * count], room) {
         Some(&room[..count])
     } else {
@@ -67,7 +68,7 @@ fn code_text(code: WireCode) -> &'static str
 
 /// Adds a fault of a datagram.
 pub(crate) fn push_wire_fault(text: &mut Line, error: WireError)
-    requires { length text.old + 56 ≤ 256 }
+    requires { length text.old + 56 ≤ LINE_BYTES }
     ensures text { text.new ≡ text.old ++ wire_fault_text error.code error.at }
     ensures size { length text.new ≤ length text.old + 56 }
 {
@@ -162,7 +163,7 @@ pub fn run_decode<K: Sink>(hex: &str, out: &mut K) -> Result<Status, RunError>
     ensures prints { Prints K.taken K.broken out.old out.new result (DecodeText hex.now) }
     ensures write { IfErr result (λ e. e ≡ RunError.Write) }
 {
-    let mut room = [0; ROOM];
+    let mut room = [0; KEPT_BYTES];
     match bytes_of_hex(hex.as_bytes(), &mut room) {
         None => finish(write_all(out, b"refused: hex\n"), Status::Refused),
         Some(bytes) => match read(bytes) {

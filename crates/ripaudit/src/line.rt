@@ -3,30 +3,30 @@
 ghost use Rattle.std.specs.Prelude.{◌≡◌, ◌+◌, ◌^◌, ◌<◌, ◌≤◌, ◌∷◌, ◌++◌, [], decimal, length};
 ghost use Rattle.rip_wire.specs.Address.{address_text};
 ghost use Rattle.rip_wire.specs.Prefix.{prefix_text};
+ghost use Rattle.ripaudit.specs.declared.limits.TheConstants.{LINE_BYTES};
 ghost use Rattle.ripaudit.specs.Names.{numbered};
 
+use crate::limits::LINE_BYTES;
 use itoa::Buffer;
 use rip_wire::{Address, Metric, Prefix};
 use std::marker::Model;
 
-/// The most bytes of a line.
-const ROOM: usize = 256;
-
-/// The text of a line, of at most 256 bytes.
+/// The text of a line, of at most [`LINE_BYTES`] bytes.
 #[derive(Drop)]
 pub(crate) struct Line {
-    bytes: [u8; ROOM],
+    bytes: [u8; LINE_BYTES],
     used: usize,
 }
 
 impl Model for Line {
     ghost use Rattle.std.specs.Prelude.{List, ℕ, ◌≤◌, take};
+    ghost use Rattle.ripaudit.specs.declared.limits.TheConstants.{LINE_BYTES};
 
     ghost Value = { List ℕ };
 
     ghost view = { λ l. take l.used l.bytes };
 
-    ghost invariant = { λ l. l.used ≤ 256 };
+    ghost invariant = { λ l. l.used ≤ LINE_BYTES };
 }
 
 impl Line {
@@ -35,7 +35,7 @@ impl Line {
         ensures { result ≡ [] }
     {
         Line {
-            bytes: [0; ROOM],
+            bytes: [0; LINE_BYTES],
             used: 0,
         }
     }
@@ -49,7 +49,7 @@ impl Line {
 
     /// Adds text.
     pub(crate) fn push(&mut self, text: &str)
-        requires { length self.old + length text.now ≤ 256 }
+        requires { length self.old + length text.now ≤ LINE_BYTES }
         ensures text { self.new ≡ self.old ++ text.now }
         ensures size { length self.new ≡ length self.old + length text.now }
     {
@@ -60,7 +60,7 @@ impl Line {
 
     /// Adds a number in decimal digits, at most 20 of them.
     pub(crate) fn push_number(&mut self, number: u64)
-        requires { length self.old + 20 ≤ 256 }
+        requires { length self.old + 20 ≤ LINE_BYTES }
         ensures text { self.new ≡ self.old ++ decimal number }
         ensures size { length self.new ≤ length self.old + 20 }
     {
@@ -70,7 +70,7 @@ impl Line {
     /// Adds a word and a number.
     pub(crate) fn push_numbered(&mut self, word: &str, number: usize)
         requires short { length word.now ≤ 16 }
-        requires room { length self.old + 36 ≤ 256 }
+        requires room { length self.old + 36 ≤ LINE_BYTES }
         ensures text { self.new ≡ self.old ++ numbered word.now number }
         ensures size { length self.new ≤ length self.old + 36 }
     {
@@ -80,7 +80,7 @@ impl Line {
 
     /// Adds a metric.
     pub(crate) fn push_metric(&mut self, metric: Metric)
-        requires { length self.old + 20 ≤ 256 }
+        requires { length self.old + 20 ≤ LINE_BYTES }
         ensures text { self.new ≡ self.old ++ decimal metric }
         ensures size { length self.new ≤ length self.old + 20 }
     {
@@ -89,7 +89,7 @@ impl Line {
 
     /// Adds an address.
     pub(crate) fn push_address(&mut self, address: Address)
-        requires { length self.old + 15 ≤ 256 }
+        requires { length self.old + 15 ≤ LINE_BYTES }
         ensures text { self.new ≡ self.old ++ address_text address }
         ensures size { length self.new ≤ length self.old + 15 }
     {
@@ -98,7 +98,7 @@ impl Line {
 
     /// Adds a prefix.
     pub(crate) fn push_prefix(&mut self, prefix: Prefix)
-        requires { length self.old + 18 ≤ 256 }
+        requires { length self.old + 18 ≤ LINE_BYTES }
         ensures text { self.new ≡ self.old ++ prefix_text prefix }
         ensures size { length self.new ≤ length self.old + 18 }
     {
@@ -107,7 +107,7 @@ impl Line {
 
     /// Ends the line.
     pub(crate) fn end(&mut self)
-        requires { length self.old + 1 ≤ 256 }
+        requires { length self.old + 1 ≤ LINE_BYTES }
         ensures { self.new ≡ self.old ++ 10 ∷ [] }
     {
         self.push("\n");

@@ -1,9 +1,11 @@
 //! Writing text to a sink.
 
 ghost use Rattle.std.specs.Prelude.{◌≡◌, ◌+◌, ◌≤◌, ◌++◌, [], length};
+ghost use Rattle.ripaudit.specs.declared.limits.TheConstants.{PAGE_BYTES};
 ghost use Rattle.ripaudit.specs.Finished.{finished};
 ghost use Rattle.ripaudit.specs.Sent.{Writes};
 
+use crate::limits::PAGE_BYTES;
 use crate::status::{RunError, Status};
 use rip_log::{Failed, Sink};
 
@@ -28,15 +30,12 @@ pub(crate) fn finish(wrote: Result<(), Failed>, status: Status) -> Result<Status
     }
 }
 
-/// How many bytes a page holds.
-const ROOM: usize = 4096;
-
 /// Text that has not gone out yet.
 #[derive(Drop)]
 pub(crate) struct Page {
-    bytes: [u8; ROOM],
+    bytes: [u8; PAGE_BYTES],
     used: usize,
-    ghost within: { used ≤ 4096 },
+    ghost within: { used ≤ PAGE_BYTES },
 }
 
 impl Page {
@@ -47,14 +46,14 @@ impl Page {
         ensures { held result ≡ [] }
     {
         Page {
-            bytes: [0; ROOM],
+            bytes: [0; PAGE_BYTES],
             used: 0,
         }
     }
 
     /// Adds bytes that there is room for.
     fn add(&mut self, bytes: &[u8])
-        requires { self.old.used + length bytes.now ≤ 4096 }
+        requires { self.old.used + length bytes.now ≤ PAGE_BYTES }
         ensures held { held self.new ≡ held self.old ++ bytes.now }
         ensures used { self.new.used ≡ self.old.used + length bytes.now }
     {
@@ -82,11 +81,11 @@ impl Page {
         middle: &[u8],
         end: &[u8],
     ) -> Result<(), Failed>
-        requires { length front.now + length middle.now + length end.now ≤ 4096 }
+        requires { length front.now + length middle.now + length end.now ≤ PAGE_BYTES }
         ensures { Writes K.taken K.broken out.old out.new result
             (held self.old ++ (front.now ++ (middle.now ++ end.now))) (held self.new) }
     {
-        if front.len() + middle.len() + end.len() > ROOM - self.used {
+        if front.len() + middle.len() + end.len() > PAGE_BYTES - self.used {
             self.flush(out)?;
         }
         self.add(front);
@@ -100,9 +99,9 @@ impl Page {
         ensures { Writes K.taken K.broken out.old out.new result
             (held self.old ++ bytes.now) (held self.new) }
     {
-        if bytes.len() > ROOM - self.used {
+        if bytes.len() > PAGE_BYTES - self.used {
             self.flush(out)?;
-            if bytes.len() > ROOM {
+            if bytes.len() > PAGE_BYTES {
                 return write_all(out, bytes);
             }
         }

@@ -2,6 +2,7 @@
 
 ghost use Rattle.std.specs.Prelude.{◌≡◌, ◌≢◌, ◌+◌, ◌≤◌, ◌<◌, ◌↔◌, ◌++◌, [], Err, length};
 ghost use Rattle.std.specs.List.{flat_map};
+ghost use Rattle.ripaudit.specs.declared.limits.TheConstants.{LINE_BYTES};
 ghost use Rattle.ripaudit.specs.PlanText.{IsSeat, PlanText, at_text, counts_line, interface_line, place_line, plan_code_text, refused_plan, seat_text, shown_plan, word_of};
 ghost use Rattle.ripaudit.specs.Held.{held};
 ghost use Rattle.ripaudit.specs.Sent.{Prints, Writes};
@@ -41,7 +42,7 @@ fn word(code: PlanCode) -> &'static str
 
 /// Adds the number and the word of a code.
 fn push_code(text: &mut Line, code: PlanCode)
-    requires { length text.old + 53 ≤ 256 }
+    requires { length text.old + 53 ≤ LINE_BYTES }
     ensures text { text.new ≡ text.old ++ plan_code_text code }
     ensures size { length text.new ≤ length text.old + 53 }
 {
@@ -52,7 +53,7 @@ fn push_code(text: &mut Line, code: PlanCode)
 
 /// Adds a position in a plan's text.
 fn push_at(text: &mut Line, place: At)
-    requires { length text.old + 72 ≤ 256 }
+    requires { length text.old + 72 ≤ LINE_BYTES }
     ensures text { text.new ≡ text.old ++ at_text place }
     ensures size { length text.new ≤ length text.old + 72 }
 {
@@ -143,7 +144,7 @@ fn write_interfaces<K: Sink>(page: &mut Page, plan: &Plan, out: &mut K) -> Resul
 /// Adds the seat of a place.
 fn push_seat(text: &mut Line, plan: &Plan, seat: Seat)
     requires known { IsSeat plan.now seat }
-    requires room { length text.old + 80 ≤ 256 }
+    requires room { length text.old + 80 ≤ LINE_BYTES }
     ensures text { text.new ≡ text.old ++ seat_text plan.now seat }
     ensures size { length text.new ≤ length text.old + 80 }
 {

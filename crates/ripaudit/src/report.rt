@@ -91,7 +91,7 @@ pub(crate) fn run_report<C: Report, R: Source, K: Sink, S: BuildHasher + Drop>(
     // The whole text went out, or a beginning where the sink failed, or nothing.
     ensures prints { Prints K.taken K.broken out.old out.new result.1
         (ReportText (C.is_text command.now) plan.now (R.coming log)) }
-    // The source was read to its end, or has failed, or the plan or the log is refused.
+    // What is printed of a table comes only at the source's end, and Read only where it has failed.
     ensures reads { Reads R.broken R.at_end log result.0 result.1 }
     // Where plan and log are accepted, the text is that of the table that the log shows.
     ensures told { (n : Network) (s : State) → IsAccepted plan.now (R.coming log) n s →

@@ -5,6 +5,7 @@ ghost use Rattle.std.specs.List.{enumerate_from, flat_map};
 ghost use Rattle.rip_plan.specs.Answers.{first_fault};
 ghost use Rattle.rip_plan.specs.declared.error.PlanError.{PlanError};
 ghost use Rattle.rip_table.specs.State.{Fits, State};
+ghost use Rattle.ripaudit.specs.declared.limits.TheConstants.{LINE_BYTES};
 ghost use Rattle.ripaudit.specs.TableText.{TableText, interface_lines, interface_name, prefix_lines, shown_lines, shown_table, table_line, unheard_line};
 ghost use Rattle.ripaudit.specs.Held.{held};
 ghost use Rattle.ripaudit.specs.ReportText.{IsAccepted};
@@ -46,7 +47,7 @@ fn counts_text(interfaces: usize, prefixes: usize) -> Line
 fn push_interface(text: &mut Line, plan: &Plan, interface: Interface)
     requires router { interface.router < length plan.now.routers }
     requires link { interface.link < length plan.now.links }
-    requires room { length text.old + 65 ≤ 256 }
+    requires room { length text.old + 65 ≤ LINE_BYTES }
     ensures text { text.new ≡ text.old ++ interface_name plan.now interface }
     ensures size { length text.new ≤ length text.old + 65 }
 {
@@ -237,7 +238,7 @@ pub fn run_table<R: Source, K: Sink, S: BuildHasher + Drop>(
     // The whole text went out, or a beginning where the sink failed, or nothing.
     ensures prints { Prints K.taken K.broken out.old out.new result.1
         (TableText plan.now (R.coming log)) }
-    // The source was read to its end, or has failed, or the plan or the log is refused.
+    // What is printed of a table comes only at the source's end, and Read only where it has failed.
     ensures reads { Reads R.broken R.at_end log result.0 result.1 }
     // Where plan and log are accepted, it is the table that the log shows.
     ensures told { (n : Network) (s : State) → IsAccepted plan.now (R.coming log) n s →

@@ -2,44 +2,7 @@
 
 use super::networks::{Line, expect, expect_routes, failing, plan_of};
 use crate::{Verdict, Way};
-
-const SLOPE: &str = r#"version = 1
-
-[[link]]
-name = "p"
-prefixes = ["10.1.0.0/16"]
-
-[[link]]
-name = "m"
-prefixes = []
-
-[[link]]
-name = "q"
-prefixes = ["10.2.0.0/16"]
-
-[[router]]
-name = "x"
-
-[[router.interface]]
-link = "p"
-address = "10.1.0.1"
-
-[[router.interface]]
-link = "m"
-address = "192.168.0.1"
-cost = 5
-
-[[router]]
-name = "y"
-
-[[router.interface]]
-link = "m"
-address = "192.168.0.2"
-
-[[router.interface]]
-link = "q"
-address = "10.2.0.1"
-"#;
+use rip_plan::examples::SLOPE;
 
 const LOG: [Line<'static>; 4] = [
     ("p", "10.1.0.1", &[("10.2.0.0/16", 6)]),

@@ -1,4 +1,5 @@
-use super::{TRIANGLE, changed};
+use super::changed;
+use crate::examples::TRIANGLE;
 use crate::{Plan, Seat};
 use rip_wire::{Address, Prefix};
 use std::test::Fail;

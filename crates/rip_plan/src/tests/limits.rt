@@ -1,4 +1,5 @@
-use super::{TRIANGLE, refusal, replaced};
+use super::{refusal, replaced};
+use crate::examples::TRIANGLE;
 use crate::{At, Plan, PlanCode, PlanError};
 use std::alloc::{AllocError, Global};
 use std::test::Fail;

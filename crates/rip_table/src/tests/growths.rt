@@ -4,11 +4,12 @@
 ghost use Rattle.std.specs.Prelude.{◌≡◌};
 ghost use Rattle.rip_table.specs.State.{Fits};
 
-use super::logs::{SETTLED, TRIANGLE, push_line};
+use super::logs::{SETTLED, push_line};
 use super::{PLAN, agree, entry, new_grid, take};
 use crate::{CollectCause, CollectError, ListTable, MetricTable, TableError, collect};
 use rip_log::{FromRead, LogReader, Source};
 use rip_plan::Plan;
+use rip_plan::examples::TRIANGLE;
 use std::alloc::Global;
 use std::process::Abort;
 use std::test::Fail;

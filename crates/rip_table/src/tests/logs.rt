@@ -7,58 +7,10 @@ use super::{is_heard, metric, new_grid, prefix, shown};
 use crate::{CollectCause, CollectError, ListTable, MetricTable, TableError, collect};
 use rip_log::{FromRead, LogReader};
 use rip_plan::Plan;
+use rip_plan::examples::TRIANGLE;
 use std::alloc::{AllocError, Global};
 use std::process::Abort;
 use std::test::Fail;
-
-/// Three routers in a ring, with a prefix on each link.
-pub(super) const TRIANGLE: &str = r#"version = 1
-
-[[link]]
-name = "a"
-prefixes = ["10.1.0.0/16"]
-
-[[link]]
-name = "b"
-prefixes = ["10.2.0.0/16"]
-
-[[link]]
-name = "c"
-prefixes = ["10.3.0.0/16"]
-
-[[router]]
-name = "r1"
-
-[[router.interface]]
-link = "a"
-address = "10.1.0.1"
-
-[[router.interface]]
-link = "c"
-address = "10.3.0.1"
-
-[[router]]
-name = "r2"
-
-[[router.interface]]
-link = "a"
-address = "10.1.0.2"
-
-[[router.interface]]
-link = "b"
-address = "10.2.0.2"
-
-[[router]]
-name = "r3"
-
-[[router.interface]]
-link = "b"
-address = "10.2.0.3"
-
-[[router.interface]]
-link = "c"
-address = "10.3.0.3"
-"#;
 
 /// Its settled log.
 pub(super) const SETTLED: [&str; 6] = [

@@ -1,6 +1,7 @@
 //! The lines of verdicts.
 
 ghost use Rattle.std.specs.Prelude.{◌≡◌, ◌+◌, ◌≤◌, ◌<◌, ◌++◌, length};
+ghost use Rattle.ripaudit.specs.declared.limits.TheConstants.{LINE_BYTES};
 ghost use Rattle.ripaudit.specs.AuditText.{IsKnownWay, IsPlaceOf, IsTroubleOf, failure_part, has_one_interface, interface_part, leaf_part, leaves_of, metric_part, no_offer_part, place_part, settled_line, trouble_part, unclear_line, unsettled_line, way_part, wrong_way_part};
 
 use crate::line::Line;
@@ -26,7 +27,7 @@ fn leaves(plan: &Plan) -> usize
 
 /// Adds how many routers are leaves, where some are.
 fn push_leaves(text: &mut Line, leaves: usize)
-    requires { length text.old + 32 ≤ 256 }
+    requires { length text.old + 32 ≤ LINE_BYTES }
     ensures text { text.new ≡ text.old ++ leaf_part leaves }
     ensures size { length text.new ≤ length text.old + 32 }
 {
@@ -57,7 +58,7 @@ pub(crate) fn settled_text<T: MetricTable>(plan: &Plan, table: &T) -> Line
 fn push_place<T: MetricTable>(text: &mut Line, plan: &Plan, table: &T, router: usize, prefix: usize)
     requires router { router < length plan.now.routers }
     requires prefix { prefix < length (T.state table.now).prefixes }
-    requires room { length text.old + 67 ≤ 256 }
+    requires room { length text.old + 67 ≤ LINE_BYTES }
     ensures text { text.new ≡ text.old ++ place_part plan.now (T.state table.now) router prefix }
     ensures size { length text.new ≤ length text.old + 67 }
 {
@@ -70,7 +71,7 @@ fn push_place<T: MetricTable>(text: &mut Line, plan: &Plan, table: &T, router: u
 
 /// Adds a metric and what the equation gives.
 fn push_metrics(text: &mut Line, hidden: bool, metric: Metric, equation: Metric)
-    requires { length text.old + 63 ≤ 256 }
+    requires { length text.old + 63 ≤ LINE_BYTES }
     ensures text { text.new ≡ text.old ++ metric_part hidden metric equation }
     ensures size { length text.new ≤ length text.old + 63 }
 {
@@ -86,7 +87,7 @@ fn push_metrics(text: &mut Line, hidden: bool, metric: Metric, equation: Metric)
 /// Adds the link that does not give a metric.
 fn push_no_offer(text: &mut Line, plan: &Plan, link: usize)
     requires known { link < length plan.now.links }
-    requires room { length text.old + 56 ≤ 256 }
+    requires room { length text.old + 56 ≤ LINE_BYTES }
     ensures text { text.new ≡ text.old ++ no_offer_part plan.now link }
     ensures size { length text.new ≤ length text.old + 56 }
 {
@@ -98,7 +99,7 @@ fn push_no_offer(text: &mut Line, plan: &Plan, link: usize)
 /// Adds the way that does not give a metric.
 fn push_wrong_way(text: &mut Line, plan: &Plan, way: Way)
     requires way { IsKnownWay plan.now way }
-    requires room { length text.old + 56 ≤ 256 }
+    requires room { length text.old + 56 ≤ LINE_BYTES }
     ensures text { text.new ≡ text.old ++ wrong_way_part plan.now way }
     ensures size { length text.new ≤ length text.old + 56 }
 {
@@ -112,7 +113,7 @@ fn push_wrong_way(text: &mut Line, plan: &Plan, way: Way)
 /// Adds a metric and the way that does not give it.
 fn push_way(text: &mut Line, plan: &Plan, metric: Metric, way: Way)
     requires way { IsKnownWay plan.now way }
-    requires room { length text.old + 83 ≤ 256 }
+    requires room { length text.old + 83 ≤ LINE_BYTES }
     ensures text { text.new ≡ text.old ++ way_part plan.now metric way }
     ensures size { length text.new ≤ length text.old + 83 }
 {
@@ -124,7 +125,7 @@ fn push_way(text: &mut Line, plan: &Plan, metric: Metric, way: Way)
 /// Adds what fails at a place.
 fn push_failure(text: &mut Line, plan: &Plan, place: &Place2)
     requires way { IsKnownWay plan.now place.now.way }
-    requires room { length text.old + 83 ≤ 256 }
+    requires room { length text.old + 83 ≤ LINE_BYTES }
     ensures text { text.new ≡ text.old ++ failure_part plan.now place.now }
     ensures size { length text.new ≤ length text.old + 83 }
 {
@@ -153,7 +154,7 @@ pub(crate) fn unsettled_text<T: MetricTable>(plan: &Plan, table: &T, place: &Pla
 fn push_interface(text: &mut Line, plan: &Plan, router: usize, link: usize)
     requires router { router < length plan.now.routers }
     requires link { link < length plan.now.links }
-    requires room { length text.old + 77 ≤ 256 }
+    requires room { length text.old + 77 ≤ LINE_BYTES }
     ensures text { text.new ≡ text.old ++ interface_part plan.now router link }
     ensures size { length text.new ≤ length text.old + 77 }
 {
@@ -166,7 +167,7 @@ fn push_interface(text: &mut Line, plan: &Plan, router: usize, link: usize)
 /// Adds a trouble.
 fn push_trouble<T: MetricTable>(text: &mut Line, plan: &Plan, table: &T, trouble: &Unclear)
     requires known { IsTroubleOf plan.now (T.state table.now) trouble.now }
-    requires room { length text.old + 128 ≤ 256 }
+    requires room { length text.old + 128 ≤ LINE_BYTES }
     ensures text { text.new ≡ text.old ++ trouble_part plan.now (T.state table.now) trouble.now }
     ensures size { length text.new ≤ length text.old + 128 }
 {

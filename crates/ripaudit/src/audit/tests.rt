@@ -5,8 +5,9 @@ use crate::tests::captures::{
     entry, push_line, push_lines, push_response, settled, settled_and, settled_but,
 };
 use crate::tests::devices::Pieces;
-use crate::tests::triangle::{TRIANGLE, changed};
+use crate::tests::triangle::changed;
 use rip_log::{FromRead, IntoWrite, Sink, Source};
+use rip_plan::examples::{SLOPE, TRIANGLE};
 use rip_wire::Address;
 use std::alloc::{AllocError, Global};
 use std::hash::{BuildHasherDefault, FoldHasher};
@@ -329,42 +330,3 @@ fn the_cost_where_it_comes_in_counts(rt: HostRuntime) -> Result<(), Fail> {
     }
     Ok(())
 }
-
-/// Two routers, each with a prefix of its own side; the link between them costs the first 5.
-const SLOPE: &str = r#"version = 1
-
-[[link]]
-name = "p"
-prefixes = ["10.1.0.0/16"]
-
-[[link]]
-name = "m"
-prefixes = []
-
-[[link]]
-name = "q"
-prefixes = ["10.2.0.0/16"]
-
-[[router]]
-name = "x"
-
-[[router.interface]]
-link = "p"
-address = "10.1.0.1"
-
-[[router.interface]]
-link = "m"
-address = "192.168.0.1"
-cost = 5
-
-[[router]]
-name = "y"
-
-[[router.interface]]
-link = "m"
-address = "192.168.0.2"
-
-[[router.interface]]
-link = "q"
-address = "10.2.0.1"
-"#;

@@ -1,8 +1,9 @@
 use crate::audit::run_audit;
 use crate::plan::run_plan;
 use crate::status::{RunError, Status};
-use crate::tests::triangle::{TRIANGLE, changed};
+use crate::tests::triangle::changed;
 use rip_log::{FromRead, IntoWrite, Sink};
+use rip_plan::examples::TRIANGLE;
 use std::alloc::{AllocError, Global};
 use std::fmt::Write as _;
 use std::hash::{BuildHasherDefault, FoldHasher};

@@ -5,10 +5,10 @@ ghost use Rattle.rip_table.specs.State.{Fits};
 
 use crate::table::write_table;
 use crate::tests::captures::{push_line, settled, settled_and};
-use crate::tests::triangle::TRIANGLE;
 use rip_check::judge;
 use rip_log::{FromRead, IntoWrite, LogReader};
 use rip_plan::Plan;
+use rip_plan::examples::TRIANGLE;
 use rip_table::{CollectError, GridTable, ListTable, MetricTable, collect};
 use std::alloc::Global;
 use std::hash::{BuildHasherDefault, FoldHasher};

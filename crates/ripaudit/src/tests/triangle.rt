@@ -1,55 +1,8 @@
-//! A network of three routers in a ring, with a prefix on each link.
+//! The triangle with a part of its text replaced.
 
+use rip_plan::examples::TRIANGLE;
 use std::alloc::{AllocError, Global};
 use std::process::Abort;
-
-pub(crate) const TRIANGLE: &str = r#"version = 1
-
-[[link]]
-name = "a"
-prefixes = ["10.1.0.0/16"]
-
-[[link]]
-name = "b"
-prefixes = ["10.2.0.0/16"]
-
-[[link]]
-name = "c"
-prefixes = ["10.3.0.0/16"]
-
-[[router]]
-name = "r1"
-
-[[router.interface]]
-link = "a"
-address = "10.1.0.1"
-
-[[router.interface]]
-link = "c"
-address = "10.3.0.1"
-
-[[router]]
-name = "r2"
-
-[[router.interface]]
-link = "a"
-address = "10.1.0.2"
-
-[[router.interface]]
-link = "b"
-address = "10.2.0.2"
-
-[[router]]
-name = "r3"
-
-[[router.interface]]
-link = "b"
-address = "10.2.0.3"
-
-[[router.interface]]
-link = "c"
-address = "10.3.0.3"
-"#;
 
 /// The triangle with a part of its text replaced by another.
 pub(crate) fn changed(

@@ -1,18 +1,17 @@
 //! A short text.
 
 ghost use Rattle.std.specs.Prelude.{◌≡◌, ◌≤◌, [], length};
+ghost use Rattle.ripaudit.specs.declared.limits.TheConstants.{TEXT_BYTES};
 
+use crate::limits::TEXT_BYTES;
 use crate::line::Line;
 
-/// The most bytes of a text.
-const ROOM: usize = 24;
-
-/// A text of at most 24 bytes.
+/// A text of at most [`TEXT_BYTES`] bytes.
 #[derive(Clone, Copy)]
 pub(crate) struct Text {
-    bytes: [u8; ROOM],
+    bytes: [u8; TEXT_BYTES],
     used: usize,
-    ghost short: { used ≤ 24 },
+    ghost short: { used ≤ TEXT_BYTES },
 }
 
 impl Text {
@@ -23,18 +22,18 @@ impl Text {
         ensures { text_of result ≡ [] }
     {
         Text {
-            bytes: [0; ROOM],
+            bytes: [0; TEXT_BYTES],
             used: 0,
         }
     }
 
     /// The text of a line.
     pub(crate) fn of(line: &Line) -> Text
-        requires { length line.now ≤ 24 }
+        requires { length line.now ≤ TEXT_BYTES }
         ensures { text_of result ≡ line.now }
     {
         let text = line.as_bytes();
-        let mut bytes = [0; ROOM];
+        let mut bytes = [0; TEXT_BYTES];
         bytes[..text.len()].copy_from_slice(text);
         Text {
             bytes,
@@ -45,7 +44,7 @@ impl Text {
     /// The bytes of the text.
     pub(crate) fn as_bytes(&self) -> &[u8]
         ensures bytes { result.now ≡ text_of self.now }
-        ensures short { length result.now ≤ 24 }
+        ensures short { length result.now ≤ TEXT_BYTES }
     {
         &self.bytes[..self.used]
     }

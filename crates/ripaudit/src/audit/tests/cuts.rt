@@ -2,7 +2,7 @@
 
 use super::{PHANTOM, expect_line, expect_text, phantom};
 use crate::tests::captures::settled;
-use crate::tests::triangle::TRIANGLE;
+use rip_plan::examples::TRIANGLE;
 use std::alloc::{AllocError, Global};
 use std::process::Abort;
 use std::test::Fail;

@@ -2,7 +2,8 @@
 
 use super::{SETTLED, expect_line};
 use crate::tests::captures::{entry, push_response, settled};
-use crate::tests::triangle::{TRIANGLE, changed};
+use crate::tests::triangle::changed;
+use rip_plan::examples::TRIANGLE;
 use rip_wire::{Address, Entry, Prefix};
 use std::alloc::{AllocError, Global};
 use std::process::Abort;

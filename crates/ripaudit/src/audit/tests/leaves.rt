@@ -2,7 +2,8 @@
 
 use super::expect_line;
 use crate::tests::captures::{settled, settled_and};
-use crate::tests::triangle::{TRIANGLE, changed};
+use crate::tests::triangle::changed;
+use rip_plan::examples::TRIANGLE;
 use std::alloc::{AllocError, Global};
 use std::test::Fail;
 

@@ -5,8 +5,8 @@ use crate::audit::run_audit;
 use crate::status::Status;
 use crate::tests::captures::{entry, full, push_line, settled};
 use crate::tests::devices::Endless;
-use crate::tests::triangle::TRIANGLE;
 use rip_log::{FromRead, IntoWrite};
+use rip_plan::examples::TRIANGLE;
 use std::hash::{BuildHasherDefault, FoldHasher};
 use std::test::Fail;
 
