@@ -4,7 +4,7 @@ ghost use Rattle.std.specs.Prelude.{◌≡◌};
 ghost use Rattle.rip_table.specs.State.{Fits};
 ghost use Rattle.rip_check.specs.Verdicts.{route_of};
 
-use super::networks::{expect_on, failing, grid_in, hear_said, list_in, plan_of};
+use super::networks::{expect_on, expect_ways, failing, grid_in, hear_said, list_in, plan_of};
 use crate::{Verdict, Way, route};
 use rip_plan::Plan;
 use rip_table::MetricTable;
@@ -178,5 +178,27 @@ fn walk_of_fifteen(rt: HostRuntime) -> Result<(), Fail> {
     let plan = chain(&rt, rt.alloc(), 15)?;
     follow(&rt, &plan, &mut list_in(&rt, rt.alloc(), &plan));
     follow(&rt, &plan, &mut grid_in(&rt, rt.alloc(), &plan));
+    Ok(())
+}
+
+/// Each router is one farther than the one before, up to fifteen.
+#[test]
+fn ways_of_chains(rt: HostRuntime) -> Result<(), Fail> {
+    for n in 2..17u8 {
+        let plan = chain(&rt, rt.alloc(), n)?;
+        expect_ways(&rt, rt.alloc(), &plan, &[(0, 0, 1, &[Way::Here])]);
+        for i in 1..n.min(15) {
+            let router = usize::from(i);
+            let ways = [Way::Over(router)];
+            expect_ways(
+                &rt,
+                rt.alloc(),
+                &plan,
+                &[(router, 0, u32::from(i) + 1, &ways)],
+            );
+        }
+    }
+    let plan = chain(&rt, rt.alloc(), 16)?;
+    expect_ways(&rt, rt.alloc(), &plan, &[(15, 0, 16, &[Way::Unreachable])]);
     Ok(())
 }

@@ -1,6 +1,6 @@
 //! A prefix at two places.
 
-use super::networks::{Line, expect, expect_routes, failing, plan_of};
+use super::networks::{Line, expect, expect_routes, expect_ways, failing, plan_of};
 use super::triangle::{LINKS, R1, R2, R3, R3_ON_C, SETTLED};
 use crate::{Verdict, Way};
 
@@ -70,4 +70,33 @@ fn a_prefix_of_a_link_owned_elsewhere(rt: HostRuntime) {
     let plan = plan_of(&rt, alloc, &[LINKS, R1, R2, R3, R3_ON_C, PREFIX_OF_A]);
     let place = failing(&rt, (2, 0), (2, 1), Way::Over(2));
     expect(&rt, alloc, &plan, &[&SETTLED], Verdict::Unsettled(place));
+}
+
+#[test]
+fn ways_of_two_exits(rt: HostRuntime) {
+    let alloc = rt.alloc();
+    let plan = plan_of(&rt, alloc, &[LINKS, R1, DEFAULT, R2, R3, R3_ON_C, DEFAULT]);
+    let rows = [
+        (0, 3, 1, [Way::Here].as_slice()),
+        (1, 3, 2, &[Way::Over(0), Way::Over(1)]),
+        (2, 3, 1, &[Way::Here]),
+    ];
+    expect_ways(&rt, alloc, &plan, &rows);
+}
+
+/// An exit of its own that costs more is no way.
+#[test]
+fn ways_of_an_exit_that_costs_more(rt: HostRuntime) {
+    let alloc = rt.alloc();
+    let plan = plan_of(
+        &rt,
+        alloc,
+        &[LINKS, R1, DEFAULT, R2, R3, R3_ON_C, DEFAULT_AT_5],
+    );
+    let rows = [
+        (0, 3, 1, [Way::Here].as_slice()),
+        (1, 3, 2, &[Way::Over(0)]),
+        (2, 3, 2, &[Way::Over(2)]),
+    ];
+    expect_ways(&rt, alloc, &plan, &rows);
 }

@@ -1,9 +1,9 @@
-//! Judging where memory is refused: `tests/growths` runs this with each growth refused in turn, and
-//! wants the line that it prints.
+//! Judging, and finding the right routes, where memory is refused: `tests/growths` runs
+//! this with each growth refused in turn, and wants the lines that it prints.
 
 use super::networks::{hear, joined};
 use super::triangle::{SETTLED, TRIANGLE};
-use crate::{Verdict, judge};
+use crate::{Expected, Verdict, judge};
 use rip_plan::Plan;
 use rip_table::{GridTable, ListTable};
 use std::hash::{BuildHasherDefault, FoldHasher};
@@ -38,5 +38,24 @@ fn judge_takes_no_memory(rt: HostRuntime) -> Result<(), Fail> {
     if more.is_err() {
         println!(rt; "settled without memory")?;
     }
+    Ok(())
+}
+
+/// Finds the right routes where there is memory for a byte for each router and prefix, and else says so.
+#[test]
+fn routes_take_one_growth(rt: HostRuntime) -> Result<(), Fail> {
+    let alloc = rt.alloc();
+    let Ok(text) = joined(alloc, &TRIANGLE) else {
+        return Ok(());
+    };
+    let Ok(plan) = Plan::read(alloc, text.as_bytes()) else {
+        return Ok(());
+    };
+    let Ok(expected) = Expected::find(alloc, &plan) else {
+        println!(rt; "no memory for routes")?;
+        return Ok(());
+    };
+    assert!(rt; 1 < plan.routers() && 2 < plan.prefixes());
+    assert_eq!(rt; expected.metric(&plan, 1, 2).get(), 2);
     Ok(())
 }

@@ -1,6 +1,6 @@
 //! Routers with one interface.
 
-use super::networks::{Line, expect, expect_routes, failing, metric, plan_of};
+use super::networks::{Line, expect, expect_routes, expect_ways, failing, metric, plan_of};
 use super::triangle::{LINKS, R1, R2, R3, R3_ON_C, SETTLED};
 use crate::{Place2, Unclear, Verdict, Way};
 
@@ -106,4 +106,20 @@ fn a_leaf_that_shows_what_it_learned(rt: HostRuntime) {
         &[&SETTLED[..5]],
         Verdict::Unsettled(place),
     );
+}
+
+#[test]
+fn ways_of_leaves(rt: HostRuntime) {
+    let alloc = rt.alloc();
+    let plan = plan_of(&rt, alloc, &[LINKS, R1, R2, R3, R3_ON_C, R4, OWN]);
+    let rows = [
+        (0, 3, 3, [Way::Over(0), Way::Over(2)].as_slice()),
+        (1, 3, 2, &[Way::Over(1)]),
+        (2, 3, 2, &[Way::Over(1)]),
+        (3, 0, 2, &[Way::Over(1)]),
+        (3, 1, 1, &[Way::Here]),
+        (3, 2, 2, &[Way::Over(1)]),
+        (3, 3, 1, &[Way::Here]),
+    ];
+    expect_ways(&rt, alloc, &plan, &rows);
 }

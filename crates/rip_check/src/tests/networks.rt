@@ -2,9 +2,11 @@
 
 ghost use Rattle.std.specs.Prelude.{◌≡◌, ◌≤◌, ◌<◌, length};
 ghost use Rattle.rip_table.specs.State.{Fits};
+ghost use Rattle.rip_check.specs.Expected.{AreExpected};
 
 use crate::{
-    Place2, Route, Unclear, Unsettled, Verdict, Way, equation, judge, next_unsettled, route,
+    Expected, Place2, Route, Unclear, Unsettled, Verdict, Way, equation, judge, next_unsettled,
+    route,
 };
 use rip_plan::Plan;
 use rip_table::{GridTable, ListTable, MetricTable, TableError};
@@ -301,4 +303,42 @@ pub(super) fn expect_next<T: MetricTable>(
 {
     assert!(rt; after.1 < table.prefix_count());
     assert_eq!(rt; next_unsettled(plan, table, Some(after)), next);
+}
+
+/// A router and a prefix of the plan, with the least metric there and all ways that are right.
+pub(super) type Ways<'a> = (usize, usize, u32, &'a [Way]);
+
+/// Expects that a way is right exactly where it is among the ways.
+fn expect_way(rt: &impl Abort, plan: &Plan, expected: &Expected, row: Ways<'_>, way: Way)
+    requires { AreExpected plan.now expected.now }
+{
+    let (router, prefix, _, ways) = row;
+    assert!(rt; router < plan.routers() && prefix < plan.prefixes());
+    let listed = ways.contains(&way);
+    assert_eq!(rt; expected.is_right(plan, router, prefix, way), listed);
+}
+
+/// Expects the least metric of a place, and its right ways and no others.
+fn expect_place_ways(rt: &impl Abort, plan: &Plan, expected: &Expected, row: Ways<'_>)
+    requires { AreExpected plan.now expected.now }
+{
+    let (router, prefix, number, _) = row;
+    assert!(rt; router < plan.routers() && prefix < plan.prefixes());
+    assert_eq!(rt; expected.metric(plan, router, prefix).get(), number);
+    expect_way(rt, plan, expected, row, Way::Unreachable);
+    expect_way(rt, plan, expected, row, Way::Here);
+    for link in 0..plan.links() {
+        expect_way(rt, plan, expected, row, Way::Over(link));
+    }
+    expect_way(rt, plan, expected, row, Way::Over(plan.links()));
+}
+
+/// Expects least metrics of a plan and their ways.
+pub(super) fn expect_ways(rt: &impl Abort, alloc: Global, plan: &Plan, rows: &[Ways<'_>]) {
+    let Ok(expected) = Expected::find(alloc, plan) else {
+        panic!(rt; "no memory");
+    };
+    for row in rows {
+        expect_place_ways(rt, plan, &expected, *row);
+    }
 }

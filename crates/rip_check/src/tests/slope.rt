@@ -1,6 +1,6 @@
 //! A link that costs its two routers differently.
 
-use super::networks::{Line, expect, expect_routes, failing, plan_of};
+use super::networks::{Line, expect, expect_routes, expect_ways, failing, plan_of};
 use crate::{Verdict, Way};
 use rip_plan::examples::SLOPE;
 
@@ -33,4 +33,17 @@ fn the_cost_where_it_comes_in_counts(rt: HostRuntime) {
     flat[0] = ("p", "10.1.0.1", &[("10.2.0.0/16", 2)]);
     let place = failing(&rt, (0, 1), (2, 6), Way::Over(1));
     expect(&rt, alloc, &plan, &[&flat], Verdict::Unsettled(place));
+}
+
+#[test]
+fn ways_of_the_slope(rt: HostRuntime) {
+    let alloc = rt.alloc();
+    let plan = plan_of(&rt, alloc, &[SLOPE]);
+    let rows = [
+        (0, 0, 1, [Way::Here].as_slice()),
+        (0, 1, 6, &[Way::Over(1)]),
+        (1, 0, 2, &[Way::Over(1)]),
+        (1, 1, 1, &[Way::Here]),
+    ];
+    expect_ways(&rt, alloc, &plan, &rows);
 }

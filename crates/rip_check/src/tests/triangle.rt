@@ -4,8 +4,8 @@ ghost use Rattle.std.specs.Prelude.{◌<◌};
 ghost use Rattle.rip_table.specs.State.{Fits};
 
 use super::networks::{
-    Line, entry, expect, expect_next, expect_on, expect_routes, failing, grid_in, hear_all,
-    list_in, plan_of, take,
+    Line, entry, expect, expect_next, expect_on, expect_routes, expect_ways, failing, grid_in,
+    hear_all, list_in, plan_of, take,
 };
 use crate::{Unclear, Verdict, Way};
 use rip_plan::Plan;
@@ -357,4 +357,36 @@ fn phantom_prefix(rt: HostRuntime) {
     let plan = plan_of(&rt, rt.alloc(), &TRIANGLE);
     names_phantoms(&rt, &plan, &mut list_in(&rt, rt.alloc(), &plan));
     names_phantoms(&rt, &plan, &mut grid_in(&rt, rt.alloc(), &plan));
+}
+
+#[test]
+fn ways_of_the_triangle(rt: HostRuntime) {
+    let alloc = rt.alloc();
+    let plan = plan_of(&rt, alloc, &TRIANGLE);
+    let rows = [
+        (0, 0, 1, [Way::Here].as_slice()),
+        (0, 1, 2, &[Way::Over(0), Way::Over(2)]),
+        (0, 2, 1, &[Way::Here]),
+        (1, 0, 1, &[Way::Here]),
+        (1, 1, 1, &[Way::Here]),
+        (1, 2, 2, &[Way::Over(0), Way::Over(1)]),
+        (2, 0, 2, &[Way::Over(1), Way::Over(2)]),
+        (2, 1, 1, &[Way::Here]),
+        (2, 2, 1, &[Way::Here]),
+    ];
+    expect_ways(&rt, alloc, &plan, &rows);
+}
+
+/// Link c costs r1 two: its way there is no least one any more, and its own prefix there costs two.
+#[test]
+fn ways_of_a_dearer_link(rt: HostRuntime) {
+    let alloc = rt.alloc();
+    let plan = plan_of(&rt, alloc, &[LINKS, R1, "cost = 2\n", R2, R3, R3_ON_C]);
+    let rows = [
+        (0, 1, 2, [Way::Over(0)].as_slice()),
+        (0, 2, 2, &[Way::Here]),
+        (1, 2, 2, &[Way::Over(1)]),
+        (2, 0, 2, &[Way::Over(1), Way::Over(2)]),
+    ];
+    expect_ways(&rt, alloc, &plan, &rows);
 }
