@@ -88,9 +88,9 @@ impl Expected {
         plan.lawful();
         let numbers = plan.on_link(own.link);
         for j in numbers {
-            let next = plan.interface(*j).router;
-            if next != own.router
-                && u32::from(own.cost) + self.number(plan, next, prefix) == metric
+            let across = plan.interface(*j);
+            if across.router != own.router
+                && u32::from(own.cost) + self.number(plan, across.router, prefix) == metric
             {
                 return true;
             }
