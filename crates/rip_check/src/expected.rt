@@ -2,7 +2,7 @@
 
 ghost use Rattle.std.specs.Prelude.{◌≡◌, ◌≢◌, ℕ, ◌+◌, ◌*◌, ◌<◌, ◌≤◌, Decides, IfOk, length, slice_index};
 ghost use Rattle.rip_plan.specs.Relations.{HasCost, IsNeighbour};
-ghost use Rattle.rip_check.specs.Expected.{AreExpected, IsExpected};
+ghost use Rattle.rip_check.specs.Expected.{AreExpected, AreUnreachable, IsCount, IsExpected};
 ghost use Rattle.rip_check.specs.Paths.{HasPathOver, IsLeast};
 
 use crate::least::find_least;
@@ -73,6 +73,36 @@ impl Expected {
     {
         plan.lawful();
         metric_of(self.number(plan, router, prefix))
+    }
+
+    /// How many prefixes of the plan a router cannot reach.
+    fn unreachable_of(&self, plan: &Plan, router: usize) -> usize
+        requires expected { AreExpected plan.now self.now }
+        requires router { router < length plan.now.routers }
+        ensures count { IsCount (λ p. IsLeast plan.now p router 16)
+            (length plan.now.prefixes) result }
+        ensures most { result ≤ length plan.now.prefixes }
+    {
+        let mut count = 0;
+        for prefix in 0..plan.prefixes() {
+            if self.number(plan, router, prefix) == 16 {
+                count += 1;
+            }
+        }
+        count
+    }
+
+    /// How many pairs of a router and a prefix of the plan have no path that costs less than 16.
+    pub fn unreachable(&self, plan: &Plan) -> usize
+        requires { AreExpected plan.now self.now }
+        ensures { AreUnreachable plan.now result }
+    {
+        plan.lawful();
+        let mut total = 0;
+        for router in 0..plan.routers() {
+            total += self.unreachable_of(plan, router);
+        }
+        total
     }
 
     /// Whether a neighbour over the link of an interface has the metric of the router, less the cost of

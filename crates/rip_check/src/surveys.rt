@@ -26,63 +26,47 @@ pub(crate) struct Survey {
     pub blocked: bool,
 }
 
-/// The survey with one more interface, which shows this metric below 16.
-fn with_speech(found: Survey, metric: u32) -> Survey
+/// Adds an interface that shows this metric below 16.
+fn add_speech(found: &mut Survey, metric: u32)
     requires low { 1 ≤ metric }
     requires high { metric < 16 }
-    ensures { (n : Network) (t : State) (r i l c p : ℕ) → IsSurvey n t r p i found →
+    ensures { (n : Network) (t : State) (r i l c p : ℕ) → IsSurvey n t r p i found.old →
         IsInterface n i r l c → metric_at t i p ≡ Some metric →
-        IsSurvey n t r p (i + 1) result }
+        IsSurvey n t r p (i + 1) found.new }
 {
     if found.metric == 16 {
-        return Survey { metric, ..found };
-    }
-    if metric == found.metric {
-        return found;
-    }
-    Survey {
-        another: true,
-        ..found
+        found.metric = metric;
+    } else if metric != found.metric {
+        found.another = true;
     }
 }
 
-/// The survey with one more interface, which is on this link and shows nothing or 16.
-fn with_silence(
-    plan: &Plan,
-    found: Survey,
-    link: usize,
-    prefix: usize,
-    shown: Option<u32>,
-) -> Survey
+/// Adds an interface that is on this link and shows nothing or 16.
+fn add_silence(plan: &Plan, found: &mut Survey, link: usize, prefix: usize, shown: Option<u32>)
     requires { IsSilent shown }
-    ensures { (t : State) (r i c : ℕ) → IsSurvey plan.now t r prefix i found →
+    ensures { (t : State) (r i c : ℕ) → IsSurvey plan.now t r prefix i found.old →
         IsInterface plan.now i r link c → metric_at t i prefix ≡ shown →
-        IsSurvey plan.now t r prefix (i + 1) result }
+        IsSurvey plan.now t r prefix (i + 1) found.new }
 {
     plan.lawful();
     if found.silent.is_some() || plan.is_place(link, prefix) {
-        return Survey {
-            blocked: true,
-            ..found
-        };
-    }
-    Survey {
-        silent: Some(link),
-        blocked: found.blocked || shown.is_none(),
-        ..found
+        found.blocked = true;
+    } else {
+        found.silent = Some(link);
+        found.blocked = found.blocked || shown.is_none();
     }
 }
 
-/// The survey with one more interface, which is on this link and shows this.
-fn with_shown(plan: &Plan, found: Survey, link: usize, prefix: usize, shown: Option<u32>) -> Survey
+/// Adds an interface that is on this link and shows this.
+fn add_shown(plan: &Plan, found: &mut Survey, link: usize, prefix: usize, shown: Option<u32>)
     requires { IfSome shown (λ m. (1 ≤ m) × (m ≤ 16)) }
-    ensures { (t : State) (r i c : ℕ) → IsSurvey plan.now t r prefix i found →
+    ensures { (t : State) (r i c : ℕ) → IsSurvey plan.now t r prefix i found.old →
         IsInterface plan.now i r link c → metric_at t i prefix ≡ shown →
-        IsSurvey plan.now t r prefix (i + 1) result }
+        IsSurvey plan.now t r prefix (i + 1) found.new }
 {
     match shown {
-        Some(metric) if metric < 16 => with_speech(found, metric),
-        _ => with_silence(plan, found, link, prefix, shown),
+        Some(metric) if metric < 16 => add_speech(found, metric),
+        _ => add_silence(plan, found, link, prefix, shown),
     }
 }
 
@@ -109,7 +93,7 @@ pub(crate) fn survey_of<T: MetricTable>(
     for i in numbers {
         let own = plan.interface(*i);
         let shown = shown_at(plan, table, *i, prefix);
-        found = with_shown(plan, found, own.link, prefix, shown);
+        add_shown(plan, &mut found, own.link, prefix, shown);
     }
     found
 }

@@ -1,0 +1,22 @@
+use Rattle.std.proofs.Common.{◌≤◌, length, arith}
+use Rattle.rip_check.specs.Expected.{IsCount}
+use Rattle.rip_check.specs.Paths.{IsLeast}
+use Rattle.rip_check.proofs.Counts.{adds}
+use Rattle.rip_check.proofs.Numbers.{few_prefixes}
+use Rattle.rip_check.proofs.expected.Expected.unreachable.Goals as goal
+
+pub overflow_add-total : goal.overflow_add-total
+overflow_add-total c =
+    let n = c.args.plan.now in
+    let part : c.unreachable_of-total.result ≤ 1024 = omega (arith, c.unreachable_of-total.ensures.most, few_prefixes n c.lawful.ensures, c.lawful.ensures.few_places) in
+    let routers : c.loop-router.router ≤ 128 = omega (arith, c.loop-router-test.true, c.routers-router-end.ensures, c.lawful.ensures.few_routers) in
+    omega (arith, part, routers, c.loop-router.invariant.few)
+
+pub loop-router-preserved : goal.loop-router-preserved
+loop-router-preserved c =
+    let n = c.args.plan.now in
+    let part : c.unreachable_of-total.result ≤ 1024 = omega (arith, c.unreachable_of-total.ensures.most, few_prefixes n c.lawful.ensures, c.lawful.ensures.few_places) in
+    record {
+      summed = adds (λ r. IsCount (λ p. IsLeast n p r 16) (length n.prefixes)) c.loop-router.router c.loop-router.total c.unreachable_of-total.result c.unreachable_of-total.ensures.count c.loop-router.invariant.summed;
+      few = omega (arith, part, c.loop-router.invariant.few);
+    }

@@ -1,0 +1,63 @@
+use Rattle.std.proofs.Common.{◌≡◌, ℕ, inl, inr, true, false, Option, None, Some, ap, is_some, not, refl, sym, ◌∙◌}
+use Rattle.std.proofs.lemmas.Bool.Decides.{not_from_Decides}
+use Rattle.rip_plan.specs.Relations.{Carries}
+use Rattle.rip_table.specs.State.{State}
+use Rattle.rip_check.specs.Metrics.{metric_at}
+use Rattle.rip_check.specs.Tables.{IsSilent}
+use Rattle.rip_check.proofs.Surveying.{no_speech, first_silent_link, more_silence}
+use Rattle.rip_check.proofs.surveys.add_silence.Goals as goal
+use Rattle.rip_check.proofs.surveys.add_silence.Goals.{then-is_some, else-is_some, then-found, else-found}
+
+some_there : (o : Option ℕ) → is_some o ≡ true → o ≡ None → ⊥
+some_there None e none = cc e
+some_there (Some l) e none = cc none
+
+none_there : (o : Option ℕ) → is_some o ≡ false → o ≡ None
+none_there None e = refl
+none_there (Some l) e = cc e
+
+is_poison : (o : Option ℕ) → IsSilent o → is_some o ≡ true → o ≡ Some 16
+is_poison o (inl none) e = absurd (some_there o e none)
+is_poison o (inr is) e = is
+
+here : (t : State) (i p : ℕ) (shown : Option ℕ) → metric_at t i p ≡ shown → IsSilent shown → IsSilent (metric_at t i p)
+here t i p shown e silent = rw e silent
+
+pub returns-then-is_place : goal.returns-then-is_place
+returns-then-is_place c = λ t r i d was its seen.
+    let n = c.args.plan.now in
+    let old = c.args.found.now in
+    let silent = here t i c.args.prefix c.args.shown seen c.requires in
+    record {
+      speech = no_speech n t r c.args.prefix i c.args.link d its silent old.metric old.another was.speech;
+      silence = more_silence n t r c.args.prefix i c.args.link d its silent c.lawful.ensures old.silent old.blocked was.silence (elim c.if-is_some.branch [
+        | then-is_some w ↦ inl (some_there old.silent (sym c.is_some.ensures ∙ w.if-is_some.true))
+        | else-is_some w ↦ inr (w.is_place.ensures.0 (sym w.value-is ∙ c.if-is_place.true))
+      ]);
+    }
+
+pub returns-after-found : goal.returns-after-found
+returns-after-found c = λ t r i d was its seen.
+    let n = c.args.plan.now in
+    let old = c.args.found.now in
+    let silent = here t i c.args.prefix c.args.shown seen c.requires in
+    let none : old.silent ≡ None = elim c.if-is_some.branch [
+      | then-is_some w ↦ cc (w.value-is, c.if-is_place.false)
+      | else-is_some w ↦ none_there old.silent (sym c.is_some.ensures ∙ w.if-is_some.false)
+    ] in
+    let off : Carries n c.args.link c.args.prefix → ⊥ = elim c.if-is_some.branch [
+      | then-is_some w ↦ cc (w.value-is, c.if-is_place.false)
+      | else-is_some w ↦ not_from_Decides w.is_place.result w.is_place.ensures (sym w.value-is ∙ c.if-is_place.false)
+    ] in
+    record {
+      speech = no_speech n t r c.args.prefix i c.args.link d its silent old.metric old.another was.speech;
+      silence = first_silent_link n t r c.args.prefix i c.args.link d its silent off old.blocked (rw none at was.silence) c.if-found.found
+          (λ e. elim c.if-found.branch [
+            | then-found w ↦ inl w.if-found.true
+            | else-found w ↦ inr (seen ∙ none_there c.args.shown (w.is_none-found.ensures ∙ ap not (sym w.found-is ∙ e)))
+          ])
+          (λ e. elim c.if-found.branch [
+            | then-found w ↦ cc (w.found-is, e)
+            | else-found w ↦ (w.if-found.false, seen ∙ is_poison c.args.shown c.requires (w.is_none-found.ensures ∙ ap not (sym w.found-is ∙ e)))
+          ]);
+    }
