@@ -1,7 +1,7 @@
 //! The right routes of a plan: what the tables are once its network has settled.
 
 ghost use Rattle.std.specs.Prelude.{◌≡◌, ◌≢◌, ℕ, ◌+◌, ◌*◌, ◌<◌, ◌≤◌, Decides, IfOk, length, slice_index};
-ghost use Rattle.rip_plan.specs.Relations.{HasCost, IsNeighbour};
+ghost use Rattle.rip_plan.specs.Relations.{HasCost};
 ghost use Rattle.rip_check.specs.Expected.{AreExpected, AreUnreachable, IsCount, IsExpected};
 ghost use Rattle.rip_check.specs.Paths.{HasPathOver, IsLeast};
 
@@ -20,7 +20,7 @@ pub struct Expected {
     metrics: Vec<u8>,
 }
 
-/// Writes the least metrics of all routers for a prefix, where those of the routers are `row`.
+/// Keeps a prefix's metrics, which the row has router by router, among those of all prefixes.
 fn keep(row: &[u8], prefix: usize, count: usize, metrics: &mut [u8])
     requires prefix { prefix < count }
     requires size { length metrics.old ≡ length row.now * count }
