@@ -8,7 +8,8 @@ use Rattle.rip_check.specs.declared.verdict.Unclear.{Unclear}
 use Rattle.rip_check.specs.declared.verdict.Unclear.TheVariants.{NotHeard, TwoMetrics, Missing, TwoWays}
 use Rattle.rip_check.specs.Metrics.{metric_at}
 
--- place (s, q) comes before place (r, p): by router, then by prefix
+-- of two places, router s and prefix q, and router r and prefix p, the first comes before the
+-- second: by router, then by prefix
 abbrev pub IsBefore : ℕ → ℕ → ℕ → ℕ → Type 0
 IsBefore s q r p = (s < r) ⊎ ((s ≡ r) × (q < p))
 
@@ -76,7 +77,8 @@ pub record IsFirstGap (n : Network) (shown : State) (r p l : ℕ) : Type 0 where
 abbrev pub ShowsEach : Network → State → ℕ → ℕ → Type 0
 ShowsEach n shown r p = (i l c : ℕ) → IsInterface n i r l c → metric_at shown i p ≢ None
 
--- why no route of router r for prefix p can be read
+-- why no route of router r for prefix p can be read: it shows two metrics; else it shows nothing on
+-- a link; else it does neither, and would need two ways
 abbrev pub IsReason : Network → State → ℕ → ℕ → Unclear → Type 0
 IsReason n shown r p (NotHeard s l) = ⊥
 IsReason n shown r p (TwoMetrics s q) = (s ≡ r) × (q ≡ p) × ShowsTwo n shown r p

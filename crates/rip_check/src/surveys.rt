@@ -22,7 +22,8 @@ pub(crate) struct Survey {
     /// The link of the first interface that shows nothing or 16 and whose link does not carry the
     /// prefix.
     pub silent: Option<usize>,
-    /// Whether no route over that link may show this.
+    /// Whether no route over a link may show this: two interfaces are silent, or one on a link of the
+    /// prefix, or the one above shows nothing, and not 16.
     pub blocked: bool,
 }
 

@@ -73,6 +73,6 @@ pub enum Verdict {
     Settled,
     /// The log shows tables, and this is the first place that does not hold.
     Unsettled(Place2),
-    /// The log shows no tables, and this is the first trouble.
+    /// The log shows no tables, and this is the first reason.
     Unclear(Unclear),
 }
