@@ -9,7 +9,8 @@ use Rattle.rip_check.specs.declared.verdict.Place2.{Place2}
 use Rattle.rip_check.specs.declared.way.Way.{Way}
 use Rattle.rip_check.specs.declared.way.Way.TheVariants.{Unreachable, Here, Over}
 use Rattle.rip_check.specs.Tables.{FitsWay}
-use Rattle.ripaudit.specs.AuditText.{FailureLines, no_more, one_more, unsettled_line, IsPlaceOf, IsKnownWay}
+use Rattle.ripaudit.specs.AuditText.{FailureLines, no_more, one_more, unsettled_line, IsPlaceOf}
+use Rattle.ripaudit.specs.Names.{IsKnownWay}
 use Rattle.ripaudit.specs.Sent.{Began, Writes}
 use Rattle.rip_log.specs.declared.device.Failed.{Failed}
 use Rattle.ripaudit.proofs.SentLemmas.{Began-front, Writes-more, Writes-same}

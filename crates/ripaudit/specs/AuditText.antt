@@ -10,7 +10,7 @@ use Rattle.rip_check.specs.declared.verdict.Verdict.{Verdict}
 use Rattle.rip_check.specs.declared.verdict.Verdict.TheVariants as verdicts
 use Rattle.rip_check.specs.declared.way.Way.{Way}
 use Rattle.rip_check.specs.declared.way.Way.TheVariants.{Unreachable, Here, Over}
-use Rattle.ripaudit.specs.Names.{name_of}
+use Rattle.ripaudit.specs.Names.{IsKnownWay, name_of}
 use Rattle.ripaudit.specs.ReportText.{ReportText}
 use Rattle.ripaudit.specs.Written.{Written, line}
 use Rattle.ripaudit.specs.declared.status.Status.{Status}
@@ -71,12 +71,6 @@ abbrev pub failure_part : Network → Place2 → List ℕ
 failure_part n f =
     if f.metric == f.equation then way_part n f.metric f.way
     else metric_part f.hidden f.metric f.equation
-
--- the link of a way is one of the plan
-abbrev pub IsKnownWay : Network → Way → Type 0
-IsKnownWay n (Over l) = l < length n.links
-IsKnownWay n Here = Unit {0}
-IsKnownWay n Unreachable = Unit {0}
 
 -- the router, the prefix and the link of a place are known
 pub record IsPlaceOf (n : Network) (s : State) (f : Place2) : Type 0 where

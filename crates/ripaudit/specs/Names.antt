@@ -1,5 +1,8 @@
 -- Names of a plan's routers and links, and words with numbers.
-use Rattle.std.specs.Prelude.{ℕ, List, [], ◌++◌, decimal, slice_get, unwrap_or}
+use Rattle.std.specs.Prelude.{ℕ, ◌<◌, List, [], ◌++◌, decimal, length, slice_get, unwrap_or}
+use Rattle.rip_plan.specs.Network.{Network}
+use Rattle.rip_check.specs.declared.way.Way.{Way}
+use Rattle.rip_check.specs.declared.way.Way.TheVariants.{Unreachable, Here, Over}
 
 -- the name of a number, which is below their count in a plan
 abbrev pub name_of : List (List ℕ) → ℕ → List ℕ
@@ -8,3 +11,9 @@ name_of names k = unwrap_or (slice_get names k) []
 -- a word and a number
 abbrev pub numbered : List ℕ → ℕ → List ℕ
 numbered word n = word ++ decimal n
+
+-- the link of a way is one of the plan
+abbrev pub IsKnownWay : Network → Way → Type 0
+IsKnownWay n (Over l) = l < length n.links
+IsKnownWay n Here = Unit {0}
+IsKnownWay n Unreachable = Unit {0}

@@ -2,7 +2,8 @@
 
 ghost use Rattle.std.specs.Prelude.{◌≡◌, ◌+◌, ◌≤◌, ◌<◌, ◌++◌, length};
 ghost use Rattle.ripaudit.specs.declared.limits.TheConstants.{LINE_BYTES};
-ghost use Rattle.ripaudit.specs.AuditText.{IsKnownWay, IsPlaceOf, IsTroubleOf, failure_part, has_one_interface, interface_part, leaf_part, leaves_of, metric_part, no_offer_part, place_part, settled_line, trouble_part, unclear_line, unsettled_line, way_part, wrong_way_part};
+ghost use Rattle.ripaudit.specs.AuditText.{IsPlaceOf, IsTroubleOf, failure_part, has_one_interface, interface_part, leaf_part, leaves_of, metric_part, no_offer_part, place_part, settled_line, trouble_part, unclear_line, unsettled_line, way_part, wrong_way_part};
+ghost use Rattle.ripaudit.specs.Names.{IsKnownWay};
 
 use crate::line::Line;
 use crate::names::{push_link, push_router};

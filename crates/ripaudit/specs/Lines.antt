@@ -1,0 +1,18 @@
+-- The texts of numbered things, one after the other, and what goes on being written.
+use Rattle.std.specs.Prelude.{◌≡◌, ℕ, zero, suc, Bool, List, [], ◌++◌, Option}
+use Rattle.ripaudit.specs.Held.{held}
+use Rattle.ripaudit.specs.Sent.{Writes}
+use Rattle.ripaudit.specs.declared.lines.Lines.{Lines}
+
+-- the texts that the numbers below a bound have, in order
+abbrev pub TextsBelow : (ℕ → List ℕ → Type 0) → ℕ → List ℕ → Type 0
+TextsBelow IsText zero text = text ≡ []
+TextsBelow IsText (suc k) text =
+    (front part : List ℕ) × TextsBelow IsText k front × IsText k part × (text ≡ front ++ part)
+
+-- whatever was written before of lines, this text comes after it
+abbrev pub Adds
+    : {K : Type 0} → (K → Option (List ℕ)) → (K → Bool) → K → K → Lines → Lines → List ℕ → Type 0
+Adds {K} taken broken old new before after more =
+    (start : K) (text : List ℕ) → Writes taken broken start old before.wrote text (held before.page)
+    → Writes taken broken start new after.wrote (text ++ more) (held after.page)
