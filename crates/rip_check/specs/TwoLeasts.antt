@@ -32,7 +32,7 @@ pub record IsTwoLeast
   pub below : (j s v : ℕ) → j < bound → IsSeen n seen l j s v → two.least ≤ v
   pub others : (j s v : ℕ) → j < bound → IsSeen n seen l j s v → s ≢ two.by → two.next ≤ v
 
--- each element of the list is of the link of its place
+-- each element of the list is of the link with its number
 abbrev pub AreTwoLeastBefore : Network → (ℕ → ℕ → ℕ) → ℕ → List TwoLeast → Type 0
 AreTwoLeastBefore n seen bound links =
     (l : ℕ) (two : TwoLeast) → slice_get links l ≡ Some two → IsTwoLeast n seen l bound two

@@ -43,7 +43,7 @@ pub data WayLine (n : Network) (r p : ℕ) (way : Way) : List ℕ → Type 0 whe
   other : ((m : ℕ) → IsExpected n r p (record { metric = m; way = way }) → ⊥)
       → WayLine n r p way []
 
--- the link of a router's interface, by its place among the router's interfaces
+-- the link of a router's interface, by its number among the router's interfaces
 abbrev pub link_of : Network → ℕ → ℕ → ℕ
 link_of n r k =
     unwrap_or (option_map (λ i. i.link)
