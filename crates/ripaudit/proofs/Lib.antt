@@ -7,5 +7,5 @@ pub mod FinishLemmas
 pub mod ReportLemmas
 pub mod DecodeLemmas
 pub mod TextLemmas
-pub mod LinesLemmas
+pub mod ListingLemmas
 pub mod ExpectLemmas

@@ -7,7 +7,7 @@ use Rattle.rip_plan.specs.declared.error.PlanError.{PlanError}
 use Rattle.rip_check.specs.Expected.{AreUnreachable, IsExpected}
 use Rattle.rip_check.specs.declared.way.Way.{Way}
 use Rattle.rip_check.specs.declared.way.Way.TheVariants.{Unreachable, Here, Over}
-use Rattle.ripaudit.specs.Lines.{TextsBelow}
+use Rattle.ripaudit.specs.Listings.{TextsBelow}
 use Rattle.ripaudit.specs.Names.{name_of}
 use Rattle.ripaudit.specs.PlanText.{prefix_of, refused_plan}
 use Rattle.ripaudit.specs.Written.{Written, line}

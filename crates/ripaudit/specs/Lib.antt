@@ -12,5 +12,5 @@ pub mod Held
 pub mod Finished
 pub mod AuditText
 pub mod Texts
-pub mod Lines
+pub mod Listings
 pub mod ExpectText

@@ -2,6 +2,7 @@
 
 use crate::audit::run_audit;
 use crate::decode::run_decode;
+use crate::expect::run_expect;
 use crate::plan::run_plan;
 use crate::status::{RunError, Status, exit_code, fault_line};
 use crate::table::run_table;
@@ -56,6 +57,9 @@ fn commands<'a>(alloc: Global) -> Result<Command<'a>, Error> {
     let plan = Command::new(alloc, "plan")
         .about("Prints the parts of a plan")
         .arg(plan_word(alloc))?;
+    let expect = Command::new(alloc, "expect")
+        .about("Prints the right routes of a plan")
+        .arg(plan_word(alloc))?;
     let table = Command::new(alloc, "table")
         .about("Prints what each interface of a plan shows in a log")
         .arg(plan_word(alloc))?
@@ -66,6 +70,7 @@ fn commands<'a>(alloc: Global) -> Result<Command<'a>, Error> {
         .subcommand_required(true)
         .subcommand(audit_command(alloc)?)?
         .subcommand(table)?
+        .subcommand(expect)?
         .subcommand(plan)?
         .subcommand(decode)?;
     Ok(ripaudit)
@@ -112,15 +117,27 @@ fn read_plan<R: Files + AllocGlobal>(rt: &R, path: &str) -> io::Result<Vec<u8>> 
     Ok(bytes)
 }
 
-/// Runs `plan` on a file.
-fn plan_file<R: Files + AllocGlobal + Print>(rt: &R, path: &str) -> Result<Status, RunError> {
-    match read_plan(rt, path) {
-        Ok(bytes) => run_plan(
-            rt.alloc(),
-            bytes.as_slice(),
-            &mut IntoWrite::new(io::writer(rt)),
-        ),
-        Err(error) => Err(read_fault(&error)),
+/// The commands that read a plan alone.
+#[derive(Clone, Copy)]
+enum PlanCommand {
+    /// The parts of the plan.
+    Plan,
+    /// Its right routes.
+    Expect,
+}
+
+/// Runs a command on a file of a plan.
+fn plan_file<R: Files + AllocGlobal + Print>(
+    rt: &R,
+    command: PlanCommand,
+    path: &str,
+) -> Result<Status, RunError> {
+    let plan = read_plan(rt, path).map_err(|error| read_fault(&error))?;
+    let alloc = rt.alloc();
+    let mut out = IntoWrite::new(io::writer(rt));
+    match command {
+        PlanCommand::Plan => run_plan(alloc, plan.as_slice(), &mut out),
+        PlanCommand::Expect => run_expect(alloc, plan.as_slice(), &mut out),
     }
 }
 
@@ -189,7 +206,12 @@ fn run_command<R: Files + AllocGlobal + RandomSource + Input + Print + Eprint>(
             path,
             words.get_str("LOG"),
         )),
-        Some(("plan", words)) => words.get_str("PLAN").map(|path| plan_file(rt, path)),
+        Some(("plan", words)) => words
+            .get_str("PLAN")
+            .map(|path| plan_file(rt, PlanCommand::Plan, path)),
+        Some(("expect", words)) => words
+            .get_str("PLAN")
+            .map(|path| plan_file(rt, PlanCommand::Expect, path)),
         Some(("decode", words)) => words
             .get_str("HEX")
             .map(|hex| run_decode(hex, &mut IntoWrite::new(io::writer(rt)))),

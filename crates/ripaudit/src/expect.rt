@@ -5,12 +5,12 @@ ghost use Rattle.rip_check.specs.Expected.{AreExpected, AreUnreachable};
 ghost use Rattle.rip_check.specs.declared.way.Way.TheVariants.{Over};
 ghost use Rattle.ripaudit.specs.declared.limits.TheConstants.{LINE_BYTES};
 ghost use Rattle.ripaudit.specs.ExpectText.{ExpectText, OverLines, PairLines, RouterLines, RoutesText, WayLine, expect_line, route_line, unreachable_part, way_text};
-ghost use Rattle.ripaudit.specs.Lines.{Adds, TextsBelow};
+ghost use Rattle.ripaudit.specs.Listings.{Adds, TextsBelow};
 ghost use Rattle.ripaudit.specs.Names.{IsKnownWay};
 ghost use Rattle.ripaudit.specs.Sent.{Prints, Writes};
 
 use crate::line::Line;
-use crate::lines::Lines;
+use crate::listing::Listing;
 use crate::names::{push_link, push_router};
 use crate::output::finish;
 use crate::plan::refuse_plan;
@@ -89,7 +89,7 @@ fn route_text(plan: &Plan, router: usize, prefix: usize, metric: Metric, way: Wa
 
 /// Adds the line of a way, where it is right.
 fn add_way<K: Sink>(
-    lines: &mut Lines,
+    listing: &mut Listing,
     plan: &Plan,
     expected: &Expected,
     router: usize,
@@ -102,17 +102,17 @@ fn add_way<K: Sink>(
     requires prefix { prefix < length plan.now.prefixes }
     requires way { IsKnownWay plan.now way }
     ensures { (text : List ℕ) × WayLine plan.now router prefix way text
-        × Adds K.taken K.broken out.old out.new lines.old lines.new text }
+        × Adds K.taken K.broken out.old out.new listing.old listing.new text }
 {
     if expected.is_right(plan, router, prefix, way) {
         let metric = expected.metric(plan, router, prefix);
-        lines.add(&route_text(plan, router, prefix, metric, way), out);
+        listing.add(&route_text(plan, router, prefix, metric, way), out);
     }
 }
 
 /// Adds the lines of the ways over the links of a router, where they are right.
 fn add_over<K: Sink>(
-    lines: &mut Lines,
+    listing: &mut Listing,
     plan: &Plan,
     expected: &Expected,
     router: usize,
@@ -123,19 +123,27 @@ fn add_over<K: Sink>(
     requires router { router < length plan.now.routers }
     requires prefix { prefix < length plan.now.prefixes }
     ensures { (text : List ℕ) × OverLines plan.now router prefix text
-        × Adds K.taken K.broken out.old out.new lines.old lines.new text }
+        × Adds K.taken K.broken out.old out.new listing.old listing.new text }
 {
     plan.lawful();
     let numbers = plan.of_router(router);
     for k in 0..numbers.len() {
         let link = plan.interface(numbers[k]).link;
-        add_way(lines, plan, expected, router, prefix, Way::Over(link), out);
+        add_way(
+            listing,
+            plan,
+            expected,
+            router,
+            prefix,
+            Way::Over(link),
+            out,
+        );
     }
 }
 
 /// Adds the lines of a router and a prefix.
 fn add_pair<K: Sink>(
-    lines: &mut Lines,
+    listing: &mut Listing,
     plan: &Plan,
     expected: &Expected,
     router: usize,
@@ -146,16 +154,24 @@ fn add_pair<K: Sink>(
     requires router { router < length plan.now.routers }
     requires prefix { prefix < length plan.now.prefixes }
     ensures { (text : List ℕ) × PairLines plan.now router prefix text
-        × Adds K.taken K.broken out.old out.new lines.old lines.new text }
+        × Adds K.taken K.broken out.old out.new listing.old listing.new text }
 {
-    add_way(lines, plan, expected, router, prefix, Way::Here, out);
-    add_over(lines, plan, expected, router, prefix, out);
-    add_way(lines, plan, expected, router, prefix, Way::Unreachable, out);
+    add_way(listing, plan, expected, router, prefix, Way::Here, out);
+    add_over(listing, plan, expected, router, prefix, out);
+    add_way(
+        listing,
+        plan,
+        expected,
+        router,
+        prefix,
+        Way::Unreachable,
+        out,
+    );
 }
 
 /// Adds the lines of a router.
 fn add_router<K: Sink>(
-    lines: &mut Lines,
+    listing: &mut Listing,
     plan: &Plan,
     expected: &Expected,
     router: usize,
@@ -164,21 +180,21 @@ fn add_router<K: Sink>(
     requires expected { AreExpected plan.now expected.now }
     requires router { router < length plan.now.routers }
     ensures { (text : List ℕ) × RouterLines plan.now router text
-        × Adds K.taken K.broken out.old out.new lines.old lines.new text }
+        × Adds K.taken K.broken out.old out.new listing.old listing.new text }
 {
     for prefix in 0..plan.prefixes() {
-        add_pair(lines, plan, expected, router, prefix, out);
+        add_pair(listing, plan, expected, router, prefix, out);
     }
 }
 
 /// Adds the lines of all routers.
-fn add_routers<K: Sink>(lines: &mut Lines, plan: &Plan, expected: &Expected, out: &mut K)
+fn add_routers<K: Sink>(listing: &mut Listing, plan: &Plan, expected: &Expected, out: &mut K)
     requires { AreExpected plan.now expected.now }
     ensures { (text : List ℕ) × TextsBelow (RouterLines plan.now) (length plan.now.routers) text
-        × Adds K.taken K.broken out.old out.new lines.old lines.new text }
+        × Adds K.taken K.broken out.old out.new listing.old listing.new text }
 {
     for router in 0..plan.routers() {
-        add_router(lines, plan, expected, router, out);
+        add_router(listing, plan, expected, router, out);
     }
 }
 
@@ -189,10 +205,10 @@ fn write_expected<K: Sink>(plan: &Plan, expected: &Expected, out: &mut K) -> Res
         × TextsBelow (RouterLines plan.now) (length plan.now.routers) text
         × Writes K.taken K.broken out.old out.new result (expect_line plan.now pairs ++ text) [] }
 {
-    let mut lines = Lines::new();
-    lines.add(&counts_text(plan, expected.unreachable(plan)), out);
-    add_routers(&mut lines, plan, expected, out);
-    lines.finish(out)
+    let mut listing = Listing::new();
+    listing.add(&counts_text(plan, expected.unreachable(plan)), out);
+    add_routers(&mut listing, plan, expected, out);
+    listing.finish(out)
 }
 
 /// Prints the right routes of the plan that the bytes of a TOML document are, or their first fault: what

@@ -1,9 +1,9 @@
 use Rattle.rip_check.specs.declared.way.Way.TheVariants.{Over}
 use Rattle.ripaudit.specs.ExpectText.{WayLine, link_of}
-use Rattle.ripaudit.proofs.LinesLemmas.{SoFar}
+use Rattle.ripaudit.proofs.ListingLemmas.{SoFar}
 use Rattle.ripaudit.proofs.expect.add_over.Given as goal
 
 abbrev pub invariant-loop-k : goal.invariant-loop-k
 invariant-loop-k g l = record {
-  so_far : SoFar g.K.Sink.taken g.K.Sink.broken l.fn.out l.out l.fn.lines l.lines (λ k. WayLine l.plan l.router l.prefix (Over (link_of l.plan l.router k))) l.k;
+  so_far : SoFar g.K.Sink.taken g.K.Sink.broken l.fn.out l.out l.fn.listing l.listing (λ k. WayLine l.plan l.router l.prefix (Over (link_of l.plan l.router k))) l.k;
 }

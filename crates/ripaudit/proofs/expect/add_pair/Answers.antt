@@ -1,5 +1,5 @@
 use Rattle.std.proofs.Common.{◌++◌, refl}
-use Rattle.ripaudit.proofs.LinesLemmas.{adds_then}
+use Rattle.ripaudit.proofs.ListingLemmas.{adds_then}
 use Rattle.ripaudit.proofs.expect.add_pair.Goals as goal
 
 pub returns : goal.returns
@@ -11,6 +11,6 @@ returns g c =
     let nowhere = c.add_way-2.ensures in (
       (here.0 ++ over.0) ++ nowhere.0,
       record { here = here.0; over = over.0; nowhere = nowhere.0; here_line = here.1; over_lines = over.1; nowhere_line = nowhere.1; whole = refl },
-      adds_then taken broken c.args.out.now c.add_over.new.out c.add_way-2.new.out c.args.lines.now c.add_over.new.lines c.add_way-2.new.lines (here.0 ++ over.0) nowhere.0
-          (adds_then taken broken c.args.out.now c.add_way.new.out c.add_over.new.out c.args.lines.now c.add_way.new.lines c.add_over.new.lines here.0 over.0 here.2 over.2) nowhere.2,
+      adds_then taken broken c.args.out.now c.add_over.new.out c.add_way-2.new.out c.args.listing.now c.add_over.new.listing c.add_way-2.new.listing (here.0 ++ over.0) nowhere.0
+          (adds_then taken broken c.args.out.now c.add_way.new.out c.add_over.new.out c.args.listing.now c.add_way.new.listing c.add_over.new.listing here.0 over.0 here.2 over.2) nowhere.2,
     )

@@ -1,15 +1,15 @@
 use Rattle.std.proofs.Common.{◌≡◌, length, arith}
 use Rattle.ripaudit.specs.ExpectText.{RouterLines}
-use Rattle.ripaudit.proofs.LinesLemmas.{nothing_yet, one_more}
+use Rattle.ripaudit.proofs.ListingLemmas.{nothing_yet, one_more}
 use Rattle.ripaudit.proofs.expect.add_routers.Goals as goal
 
 pub loop-router-init : goal.loop-router-init
-loop-router-init g c = record { so_far = nothing_yet g.K.Sink.taken g.K.Sink.broken (RouterLines c.args.plan.now) c.args.out.now c.args.lines.now }
+loop-router-init g c = record { so_far = nothing_yet g.K.Sink.taken g.K.Sink.broken (RouterLines c.args.plan.now) c.args.out.now c.args.listing.now }
 
 pub loop-router-preserved : goal.loop-router-preserved
 loop-router-preserved g c =
     let more = c.add_router.ensures in
-    record { so_far = one_more g.K.Sink.taken g.K.Sink.broken (RouterLines c.args.plan.now) c.args.out.now c.loop-router.out c.add_router.new.out c.args.lines.now c.loop-router.lines c.add_router.new.lines c.loop-router.router c.loop-router.invariant.so_far more.0 more.1 more.2 }
+    record { so_far = one_more g.K.Sink.taken g.K.Sink.broken (RouterLines c.args.plan.now) c.args.out.now c.loop-router.out c.add_router.new.out c.args.listing.now c.loop-router.listing c.add_router.new.listing c.loop-router.router c.loop-router.invariant.so_far more.0 more.1 more.2 }
 
 pub returns : goal.returns
 returns g c =

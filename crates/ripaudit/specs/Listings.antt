@@ -2,7 +2,7 @@
 use Rattle.std.specs.Prelude.{◌≡◌, ℕ, zero, suc, Bool, List, [], ◌++◌, Option}
 use Rattle.ripaudit.specs.Held.{held}
 use Rattle.ripaudit.specs.Sent.{Writes}
-use Rattle.ripaudit.specs.declared.lines.Lines.{Lines}
+use Rattle.ripaudit.specs.declared.listing.Listing.{Listing}
 
 -- the texts that the numbers below a bound have, in order
 abbrev pub TextsBelow : (ℕ → List ℕ → Type 0) → ℕ → List ℕ → Type 0
@@ -12,7 +12,8 @@ TextsBelow IsText (suc k) text =
 
 -- whatever was written before of lines, this text comes after it
 abbrev pub Adds
-    : {K : Type 0} → (K → Option (List ℕ)) → (K → Bool) → K → K → Lines → Lines → List ℕ → Type 0
+    : {K : Type 0} → (K → Option (List ℕ)) → (K → Bool) → K → K → Listing → Listing → List ℕ
+    → Type 0
 Adds {K} taken broken old new before after more =
     (start : K) (text : List ℕ) → Writes taken broken start old before.wrote text (held before.page)
     → Writes taken broken start new after.wrote (text ++ more) (held after.page)

@@ -1,7 +1,7 @@
 use Rattle.std.proofs.Common.{[]}
 use Rattle.ripaudit.specs.Held.{held}
-use Rattle.ripaudit.proofs.LinesLemmas.{held_on}
-use Rattle.ripaudit.proofs.lines.Lines.finish.Goals as goal
+use Rattle.ripaudit.proofs.ListingLemmas.{held_on}
+use Rattle.ripaudit.proofs.listing.Listing.finish.Goals as goal
 
 pub returns : goal.returns
 returns g c = λ start text w.

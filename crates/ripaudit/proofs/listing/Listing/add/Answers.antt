@@ -1,8 +1,8 @@
 use Rattle.std.proofs.Common.{◌++◌, ◌∙◌, ap, sym}
 use Rattle.ripaudit.specs.Held.{held}
-use Rattle.ripaudit.proofs.LinesLemmas.{line_on}
+use Rattle.ripaudit.proofs.ListingLemmas.{line_on}
 use Rattle.ripaudit.proofs.SentLemmas.{Writes-same}
-use Rattle.ripaudit.proofs.lines.Lines.add.Goals as goal
+use Rattle.ripaudit.proofs.listing.Listing.add.Goals as goal
 
 pub returns-then-is_ok : goal.returns-then-is_ok
 returns-then-is_ok g c = λ start text w.

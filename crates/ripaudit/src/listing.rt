@@ -2,7 +2,7 @@
 
 ghost use Rattle.std.specs.Prelude.{◌≡◌, ◌++◌, [], List, Ok, ℕ};
 ghost use Rattle.ripaudit.specs.Held.{held};
-ghost use Rattle.ripaudit.specs.Lines.{Adds};
+ghost use Rattle.ripaudit.specs.Listings.{Adds};
 ghost use Rattle.ripaudit.specs.Sent.{Writes};
 
 use crate::line::Line;
@@ -12,18 +12,18 @@ use rip_log::{Failed, Sink};
 /// Lines that are gathered on a page. After a failed write the others are gone through unwritten, so
 /// that what went out is a beginning of all.
 #[derive(Drop)]
-pub(crate) struct Lines {
+pub(crate) struct Listing {
     page: Page,
     wrote: Result<(), Failed>,
 }
 
-impl Lines {
+impl Listing {
     /// No lines.
-    pub(crate) fn new() -> Lines
+    pub(crate) fn new() -> Listing
         ensures page { held result.page ≡ [] }
         ensures wrote { result.wrote ≡ Ok tt }
     {
-        Lines {
+        Listing {
             page: Page::new(),
             wrote: Ok(()),
         }
