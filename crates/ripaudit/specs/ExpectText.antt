@@ -1,15 +1,12 @@
 -- What `expect` prints.
-use Rattle.std.specs.Prelude.{◌≡◌, ℕ, nat_lt, if◌then◌else◌, List, [], ◌++◌, length, codes, decimal, option_map, slice_get, slice_index, unwrap_or, None, Some}
-use Rattle.rip_plan.specs.Answers.{first_fault}
+use Rattle.std.specs.Prelude.{◌≡◌, ℕ, nat_lt, if◌then◌else◌, List, [], ◌++◌, length, codes, decimal, option_map, slice_get, slice_index, unwrap_or}
 use Rattle.rip_plan.specs.Network.{Network, is_of, numbers_where}
-use Rattle.rip_plan.specs.PlanOf.{IsPlanOfText}
-use Rattle.rip_plan.specs.declared.error.PlanError.{PlanError}
 use Rattle.rip_check.specs.Expected.{AreUnreachable, IsExpected}
 use Rattle.rip_check.specs.declared.way.Way.{Way}
 use Rattle.rip_check.specs.declared.way.Way.TheVariants.{Unreachable, Here, Over}
 use Rattle.ripaudit.specs.Listings.{TextsBelow}
 use Rattle.ripaudit.specs.Names.{name_of}
-use Rattle.ripaudit.specs.PlanText.{prefix_of, refused_plan}
+use Rattle.ripaudit.specs.PlanText.{OfPlan, prefix_of}
 use Rattle.ripaudit.specs.Written.{Written, line}
 use Rattle.ripaudit.specs.declared.status.Status.TheVariants.{Done}
 
@@ -75,9 +72,5 @@ pub data RoutesText (n : Network) : Written → Type 0 where
       → TextsBelow (RouterLines n) (length n.routers) lines
       → RoutesText n (record { text = expect_line n pairs ++ lines; status = Done })
 
--- what is written for the bytes of a plan: their first fault, or the right routes of the plan that
--- their document is
-pub data ExpectText (bytes : List ℕ) : Written → Type 0 where
-  a_fault : (e : PlanError) → first_fault bytes ≡ Some e → ExpectText bytes (refused_plan e)
-  a_plan : (n : Network) (w : Written) → first_fault bytes ≡ None → IsPlanOfText bytes n
-      → RoutesText n w → ExpectText bytes w
+abbrev pub ExpectText : List ℕ → Written → Type 0
+ExpectText = OfPlan RoutesText

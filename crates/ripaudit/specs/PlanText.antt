@@ -99,8 +99,12 @@ shown_plan n = record {
   status = Done;
 }
 
--- what is written for the bytes of a plan: their first fault, or the plan that their document is
-pub data PlanText (bytes : List ℕ) : Written → Type 0 where
-  a_fault : (e : PlanError) → first_fault bytes ≡ Some e → PlanText bytes (refused_plan e)
-  a_plan : (n : Network) → first_fault bytes ≡ None → IsPlanOfText bytes n
-      → PlanText bytes (shown_plan n)
+-- what is written for the bytes of a plan: their first fault, or one of the texts that a command has
+-- for the plan that their document is
+pub data OfPlan (IsText : Network → Written → Type 0) (plan : List ℕ) : Written → Type 0 where
+  a_fault : (e : PlanError) → first_fault plan ≡ Some e → OfPlan IsText plan (refused_plan e)
+  of_plan : (n : Network) (w : Written) → first_fault plan ≡ None → IsPlanOfText plan n
+      → IsText n w → OfPlan IsText plan w
+
+abbrev pub PlanText : List ℕ → Written → Type 0
+PlanText = OfPlan (λ n w. w ≡ shown_plan n)

@@ -3,12 +3,11 @@ use Rattle.std.specs.Prelude.{◌≡◌, ℕ, List, Option, None, Some}
 use Rattle.rip_plan.specs.Answers.{first_fault}
 use Rattle.rip_plan.specs.Network.{Network}
 use Rattle.rip_plan.specs.PlanOf.{IsPlanOfText}
-use Rattle.rip_plan.specs.declared.error.PlanError.{PlanError}
 use Rattle.rip_log.specs.Logs.{log_in}
 use Rattle.rip_table.specs.Collects.{OutcomeKnown}
 use Rattle.rip_table.specs.State.{State, new_state}
 use Rattle.rip_table.specs.declared.error.CollectError.{CollectError}
-use Rattle.ripaudit.specs.PlanText.{refused_plan}
+use Rattle.ripaudit.specs.PlanText.{OfPlan}
 use Rattle.ripaudit.specs.RefusalText.{refused_log}
 use Rattle.ripaudit.specs.Written.{Written}
 
@@ -26,17 +25,10 @@ pub data ReportOf
       → OutcomeKnown n (new_state n) (log_in log) s None
       → IsText s w → ReportOf IsText n log w
 
--- the same for the bytes of a plan: their first fault, or what is written for the plan that their
--- document is
-pub data ReportText
-    (IsText : Network → State → Written → Type 0)
-    (plan : List ℕ)
-    (log : Option (List ℕ))
-    : Written → Type 0 where
-  a_fault : (e : PlanError) → first_fault plan ≡ Some e
-      → ReportText IsText plan log (refused_plan e)
-  of_plan : (n : Network) (w : Written) → first_fault plan ≡ None → IsPlanOfText plan n
-      → ReportOf (IsText n) n log w → ReportText IsText plan log w
+-- the same for the bytes of a plan
+abbrev pub ReportText
+    : (Network → State → Written → Type 0) → List ℕ → Option (List ℕ) → Written → Type 0
+ReportText IsText plan log = OfPlan (λ n. ReportOf (IsText n) n log) plan
 
 -- the bytes of the log are told, and nothing in them is refused; s is the table of their records
 pub record IsTable (n : Network) (log : Option (List ℕ)) (s : State) : Type 0 where

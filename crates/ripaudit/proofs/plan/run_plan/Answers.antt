@@ -1,10 +1,11 @@
-use Rattle.ripaudit.specs.PlanText.{PlanText, a_fault, a_plan, shown_plan}
+use Rattle.std.proofs.Common.{refl}
+use Rattle.ripaudit.specs.PlanText.{PlanText, a_fault, of_plan, shown_plan}
 use Rattle.ripaudit.proofs.FinishLemmas.{finished_prints, first_told, refused_prints}
 use Rattle.ripaudit.proofs.plan.run_plan.Goals as goal
 
 pub returns-in-Ok-clause-prints : goal.returns-in-Ok-clause-prints
 returns-in-Ok-clause-prints g c =
-    finished_prints (PlanText c.args.plan.now) (shown_plan c.in-Ok.plan) g.K.Sink.taken g.K.Sink.broken c.args.out.now c.write_plan.new.out c.write_plan.result c.finish.result (a_plan c.in-Ok.plan c.in-Ok.ensures.faultless c.in-Ok.ensures.plan) c.finish.ensures c.write_plan.ensures
+    finished_prints (PlanText c.args.plan.now) (shown_plan c.in-Ok.plan) g.K.Sink.taken g.K.Sink.broken c.args.out.now c.write_plan.new.out c.write_plan.result c.finish.result (of_plan c.in-Ok.plan (shown_plan c.in-Ok.plan) c.in-Ok.ensures.faultless c.in-Ok.ensures.plan refl) c.finish.ensures c.write_plan.ensures
 
 pub returns-in-Err-clause-prints : goal.returns-in-Err-clause-prints
 returns-in-Err-clause-prints g c =

@@ -1,5 +1,6 @@
 use Rattle.std.specs.Prelude.{IfOk}
-use Rattle.ripaudit.specs.ReportText.{ReportOf, ReportText, a_fault, of_plan}
+use Rattle.ripaudit.specs.PlanText.{a_fault, of_plan}
+use Rattle.ripaudit.specs.ReportText.{ReportOf, ReportText}
 use Rattle.ripaudit.specs.Sent.{WentOut}
 use Rattle.ripaudit.proofs.FinishLemmas.{first_told, prints_also, refused_prints}
 use Rattle.ripaudit.proofs.ReportLemmas.{of_read, of_refused}
