@@ -127,8 +127,8 @@ fn add_over<K: Sink>(
 {
     plan.lawful();
     let numbers = plan.of_router(router);
-    for k in 0..numbers.len() {
-        let link = plan.interface(numbers[k]).link;
+    for i in numbers {
+        let link = plan.interface(*i).link;
         add_way(
             listing,
             plan,

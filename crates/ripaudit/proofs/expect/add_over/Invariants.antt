@@ -3,7 +3,7 @@ use Rattle.ripaudit.specs.ExpectText.{WayLine, link_of}
 use Rattle.ripaudit.proofs.ListingLemmas.{SoFar}
 use Rattle.ripaudit.proofs.expect.add_over.Given as goal
 
-abbrev pub invariant-loop-k : goal.invariant-loop-k
-invariant-loop-k g l = record {
-  so_far : SoFar g.K.Sink.taken g.K.Sink.broken l.fn.out l.out l.fn.listing l.listing (λ k. WayLine l.plan l.router l.prefix (Over (link_of l.plan l.router k))) l.k;
+abbrev pub invariant-loop-i : goal.invariant-loop-i
+invariant-loop-i g l = record {
+  so_far : SoFar g.K.Sink.taken g.K.Sink.broken l.fn.out l.out l.fn.listing l.listing (λ k. WayLine l.plan l.router l.prefix (Over (link_of l.plan l.router k))) l.i-index;
 }
