@@ -11,7 +11,7 @@ use Rattle.rip_check.specs.Settled.{GoesRight}
 use Rattle.rip_check.specs.Tables.{FitsWay}
 
 -- a prefix that has a path is planned
-planned : (n : Network) → IsLawful n → (p r : ℕ) (hops : List Hop) (v : ℕ) → IsPath n p r hops v → p < length n.prefixes
+pub planned : (n : Network) → IsLawful n → (p r : ℕ) (hops : List Hop) (v : ℕ) → IsPath n p r hops v → p < length n.prefixes
 planned n plan p r [] v path = go path.1
   where
     go : Touches n path.0 p r v → p < length n.prefixes

@@ -75,6 +75,19 @@ impl Expected {
         metric_of(self.number(plan, router, prefix))
     }
 
+    /// The least metric of a router for a prefix of any number: 16 where the plan does not have the prefix.
+    pub fn least(&self, plan: &Plan, router: usize, prefix: usize) -> Metric
+        requires expected { AreExpected plan.now self.now }
+        requires router { router < length plan.now.routers }
+        ensures { IsLeast plan.now prefix router result }
+    {
+        plan.lawful();
+        if prefix < plan.prefixes() {
+            return self.metric(plan, router, prefix);
+        }
+        metric_of(16)
+    }
+
     /// How many prefixes of the plan a router cannot reach.
     fn unreachable_of(&self, plan: &Plan, router: usize) -> usize
         requires expected { AreExpected plan.now self.now }

@@ -65,7 +65,7 @@ pub all_lines : {K : Type 0} (taken : K → Option (List ℕ)) (broken : K → B
 all_lines taken broken n s after wrote a b front held holds so = subst (FailureLines n s None) (append-nil so.text) (so.goes_on [] (no_more after holds))
 
 -- the place and its way are known
-known_way : (n : Network) (r p m : ℕ) (way : Way) → IsLawful n → FitsWay n r p m way → IsKnownWay n way
+pub known_way : (n : Network) (r p m : ℕ) (way : Way) → IsLawful n → FitsWay n r p m way → IsKnownWay n way
 known_way n r p m (Over l) lawful fits =
     let on = fits.2 in
     lawful.link_known on.1.0 r l on.0 on.1.1

@@ -11,14 +11,14 @@ use Rattle.rip_check.specs.declared.verdict.Unclear.{Unclear}
 use Rattle.rip_check.specs.declared.verdict.Unclear.TheVariants.{NotHeard, TwoMetrics, Missing, TwoWays}
 use Rattle.rip_check.specs.declared.verdict.Verdict.{Verdict}
 use Rattle.rip_check.specs.declared.verdict.Verdict.TheVariants as verdicts
-use Rattle.ripaudit.specs.AuditText.{IsJudged, IsTroubleOf, UnsettledLines, VerdictText, a_settled, an_unclear, an_unsettled, settled_line, unclear_line, verdict_status}
+use Rattle.ripaudit.specs.AuditText.{IsJudged, IsKnownReason, IsTroubleOf, UnsettledLines, VerdictText, a_settled, an_unclear, an_unsettled, settled_line, unclear_line, verdict_status}
 use Rattle.ripaudit.specs.Finished.{finished}
 use Rattle.ripaudit.specs.Sent.{WentOut}
 use Rattle.ripaudit.specs.declared.status.Status.{Status}
 use Rattle.ripaudit.specs.declared.status.Status.TheVariants.{Settled, Unsettled, Unclear as IsUnclear}
 use Rattle.ripaudit.specs.declared.status.RunError.{RunError}
 use Rattle.rip_check.specs.Laws.{ShowsRightTables}
-use Rattle.rip_check.specs.Firsts.{IsFirstTrouble}
+use Rattle.rip_check.specs.Firsts.{IsFirstTrouble, IsReason}
 use Rattle.rip_check.specs.Walks.{PacketsArrive}
 
 -- what a trouble names is known
@@ -27,6 +27,13 @@ known_trouble n s (NotHeard r l) lawful h = (lawful.router_known h.interface r l
 known_trouble n s (TwoMetrics r p) lawful (heard, h) = (rw h.reason.0 h.first.router, rw h.reason.1 h.first.prefix)
 known_trouble n s (Missing r p l) lawful (heard, h) = (rw h.reason.0 h.first.router, rw h.reason.1 h.first.prefix, lawful.link_known h.reason.3.interface h.router l h.reason.3.cost h.reason.3.its)
 known_trouble n s (TwoWays r p) lawful (heard, h) = (rw h.reason.0 h.first.router, rw h.reason.1 h.first.prefix)
+
+-- the link of a reason is known
+pub known_reason : (n : Network) (s : State) (r p : ℕ) (trouble : Unclear) → IsLawful n → IsReason n s r p trouble → IsKnownReason n trouble
+known_reason n s r p (NotHeard t l) lawful h = tt
+known_reason n s r p (TwoMetrics t q) lawful h = tt
+known_reason n s r p (Missing t q l) lawful h = lawful.link_known h.3.interface r l h.3.cost h.3.its
+known_reason n s r p (TwoWays t q) lawful h = tt
 
 -- what judging answers, of each verdict
 pub record Judges (n : Network) (s : State) (v : Verdict) : Type 0 where

@@ -87,12 +87,26 @@ unsettled_line n s f =
 abbrev pub interface_part : Network → ℕ → ℕ → List ℕ
 interface_part n r l = codes "router " ++ name_of n.routers r ++ codes " link " ++ name_of n.links l
 
+-- why no route can be read
+abbrev pub reason_part : Network → Unclear → List ℕ
+reason_part n (NotHeard r l) = codes "not heard"
+reason_part n (TwoMetrics r p) = codes "two metrics"
+reason_part n (Missing r p l) = codes "missing on " ++ name_of n.links l
+reason_part n (TwoWays r p) = codes "two ways"
+
 -- `router r1 link a: not heard`, or a place and why its route can't be read
 abbrev pub trouble_part : Network → State → Unclear → List ℕ
 trouble_part n s (NotHeard r l) = interface_part n r l ++ codes ": not heard"
 trouble_part n s (TwoMetrics r p) = place_part n s r p ++ codes "two metrics"
 trouble_part n s (Missing r p l) = place_part n s r p ++ codes "missing on " ++ name_of n.links l
 trouble_part n s (TwoWays r p) = place_part n s r p ++ codes "two ways"
+
+-- the link of a reason is one of the plan
+abbrev pub IsKnownReason : Network → Unclear → Type 0
+IsKnownReason n (NotHeard r l) = Unit {0}
+IsKnownReason n (TwoMetrics r p) = Unit {0}
+IsKnownReason n (Missing r p l) = l < length n.links
+IsKnownReason n (TwoWays r p) = Unit {0}
 
 -- the router, the prefix and the link of a trouble are known
 abbrev pub IsTroubleOf : Network → State → Unclear → Type 0

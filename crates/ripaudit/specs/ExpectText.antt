@@ -5,7 +5,7 @@ use Rattle.rip_check.specs.Expected.{AreUnreachable, IsExpected}
 use Rattle.rip_check.specs.declared.way.Way.{Way}
 use Rattle.rip_check.specs.declared.way.Way.TheVariants.{Unreachable, Here, Over}
 use Rattle.ripaudit.specs.Listings.{TextsBelow}
-use Rattle.ripaudit.specs.Names.{name_of}
+use Rattle.ripaudit.specs.Names.{name_of, way_text}
 use Rattle.ripaudit.specs.PlanText.{OfPlan, prefix_of}
 use Rattle.ripaudit.specs.Written.{Written, line}
 use Rattle.ripaudit.specs.declared.status.Status.TheVariants.{Done}
@@ -20,12 +20,6 @@ unfoldable pub expect_line : Network → ℕ → List ℕ
 expect_line n pairs =
     line (codes "expect: " ++ decimal (length n.routers) ++ codes " routers, "
     ++ decimal (length n.prefixes) ++ codes " prefixes" ++ unreachable_part pairs)
-
--- `here`, `over a`, or `unreachable`
-abbrev pub way_text : Network → Way → List ℕ
-way_text n Unreachable = codes "unreachable"
-way_text n Here = codes "here"
-way_text n (Over l) = codes "over " ++ name_of n.links l
 
 -- `r1 10.2.0.0/16 2 over a`, by the numbers of router and prefix
 unfoldable pub route_line : Network → ℕ → ℕ → ℕ → Way → List ℕ
@@ -67,10 +61,10 @@ abbrev pub RouterLines : Network → ℕ → List ℕ → Type 0
 RouterLines n r = TextsBelow (PairLines n r) (length n.prefixes)
 
 -- the counts, and the lines of the right routes, router by router
-pub data RoutesText (n : Network) : Written → Type 0 where
+pub data ExpectedRoutes (n : Network) : Written → Type 0 where
   right_routes : (pairs : ℕ) (lines : List ℕ) → AreUnreachable n pairs
       → TextsBelow (RouterLines n) (length n.routers) lines
-      → RoutesText n (record { text = expect_line n pairs ++ lines; status = Done })
+      → ExpectedRoutes n (record { text = expect_line n pairs ++ lines; status = Done })
 
 abbrev pub ExpectText : List ℕ → Written → Type 0
-ExpectText = OfPlan RoutesText
+ExpectText = OfPlan ExpectedRoutes

@@ -14,3 +14,4 @@ pub mod AuditText
 pub mod Texts
 pub mod Listings
 pub mod ExpectText
+pub mod RoutesText

@@ -1,5 +1,5 @@
--- Names of a plan's routers and links, and words with numbers.
-use Rattle.std.specs.Prelude.{ℕ, ◌<◌, List, [], ◌++◌, decimal, length, slice_get, unwrap_or}
+-- Names of a plan's routers and links, ways, and words with numbers.
+use Rattle.std.specs.Prelude.{ℕ, ◌<◌, List, [], ◌++◌, codes, decimal, length, slice_get, unwrap_or}
 use Rattle.rip_plan.specs.Network.{Network}
 use Rattle.rip_check.specs.declared.way.Way.{Way}
 use Rattle.rip_check.specs.declared.way.Way.TheVariants.{Unreachable, Here, Over}
@@ -11,6 +11,12 @@ name_of names k = unwrap_or (slice_get names k) []
 -- a word and a number
 abbrev pub numbered : List ℕ → ℕ → List ℕ
 numbered word n = word ++ decimal n
+
+-- `here`, `over a`, or `unreachable`
+abbrev pub way_text : Network → Way → List ℕ
+way_text n Unreachable = codes "unreachable"
+way_text n Here = codes "here"
+way_text n (Over l) = codes "over " ++ name_of n.links l
 
 -- the link of a way is one of the plan
 abbrev pub IsKnownWay : Network → Way → Type 0

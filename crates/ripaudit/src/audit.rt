@@ -1,6 +1,6 @@
 //! The command `audit`: whether the tables that a log shows are right.
 
-mod lines;
+pub(crate) mod lines;
 
 ghost use Rattle.std.specs.Prelude.{◌≡◌, ◌≢◌, ◌↔◌, ◌++◌, ℕ, List, [], Err, IfOk, IfSome, None, Some, false, is_err, is_some, true, length};
 ghost use Rattle.rip_plan.specs.Answers.{first_fault};

@@ -4,6 +4,7 @@ use crate::audit::run_audit;
 use crate::decode::run_decode;
 use crate::expect::run_expect;
 use crate::plan::run_plan;
+use crate::routes::run_routes;
 use crate::status::{RunError, Status, exit_code, fault_line};
 use crate::table::run_table;
 use clap::error::ErrorKind;
@@ -57,6 +58,10 @@ fn commands<'a>(alloc: Global) -> Result<Command<'a>, Error> {
     let plan = Command::new(alloc, "plan")
         .about("Prints the parts of a plan")
         .arg(plan_word(alloc))?;
+    let routes = Command::new(alloc, "routes")
+        .about("Prints the routes that a log shows")
+        .arg(plan_word(alloc))?
+        .arg(log_word(alloc))?;
     let expect = Command::new(alloc, "expect")
         .about("Prints the right routes of a plan")
         .arg(plan_word(alloc))?;
@@ -69,6 +74,7 @@ fn commands<'a>(alloc: Global) -> Result<Command<'a>, Error> {
         .about("Audits the routes of a RIP version 2 network")
         .subcommand_required(true)
         .subcommand(audit_command(alloc)?)?
+        .subcommand(routes)?
         .subcommand(table)?
         .subcommand(expect)?
         .subcommand(plan)?
@@ -146,6 +152,8 @@ fn plan_file<R: Files + AllocGlobal + Print>(
 enum LogCommand {
     /// The verdict, with a line for each place that does not hold where all are asked for.
     Audit { all: bool },
+    /// The routes.
+    Routes,
     /// The table.
     Table,
 }
@@ -163,6 +171,7 @@ fn report_from<R: AllocGlobal + Print, L: Read + Drop>(
     let log = FromRead::new(log);
     let (_, outcome) = match command {
         LogCommand::Audit { all } => run_audit(alloc, plan, log, &mut out, all, hasher),
+        LogCommand::Routes => run_routes(alloc, plan, log, &mut out, hasher),
         LogCommand::Table => run_table(alloc, plan, log, &mut out, hasher),
     };
     outcome
@@ -200,6 +209,12 @@ fn run_command<R: Files + AllocGlobal + RandomSource + Input + Print + Eprint>(
             };
             report_file(rt, command, path, words.get_str("LOG"))
         }),
+        Some(("routes", words)) => words.get_str("PLAN").map(|path| report_file(
+            rt,
+            LogCommand::Routes,
+            path,
+            words.get_str("LOG"),
+        )),
         Some(("table", words)) => words.get_str("PLAN").map(|path| report_file(
             rt,
             LogCommand::Table,

@@ -4,14 +4,14 @@ ghost use Rattle.std.specs.Prelude.{◌≡◌, ◌≢◌, ◌+◌, ◌≤◌, �
 ghost use Rattle.rip_check.specs.Expected.{AreExpected, AreUnreachable};
 ghost use Rattle.rip_check.specs.declared.way.Way.TheVariants.{Over};
 ghost use Rattle.ripaudit.specs.declared.limits.TheConstants.{LINE_BYTES};
-ghost use Rattle.ripaudit.specs.ExpectText.{ExpectText, OverLines, PairLines, RouterLines, RoutesText, WayLine, expect_line, route_line, unreachable_part, way_text};
+ghost use Rattle.ripaudit.specs.ExpectText.{ExpectText, OverLines, PairLines, RouterLines, WayLine, expect_line, route_line, unreachable_part};
 ghost use Rattle.ripaudit.specs.Listings.{Adds, TextsBelow};
 ghost use Rattle.ripaudit.specs.Names.{IsKnownWay};
 ghost use Rattle.ripaudit.specs.Sent.{Prints, Writes};
 
 use crate::line::Line;
 use crate::listing::Listing;
-use crate::names::{push_link, push_router};
+use crate::names::{push_router, push_way};
 use crate::output::finish;
 use crate::plan::refuse_plan;
 use crate::status::{RunError, Status};
@@ -48,23 +48,6 @@ fn counts_text(plan: &Plan, pairs: usize) -> Line
     push_unreachable(&mut text, pairs);
     text.end();
     text
-}
-
-/// Adds a way.
-fn push_way(text: &mut Line, plan: &Plan, way: Way)
-    requires way { IsKnownWay plan.now way }
-    requires room { length text.old + 40 ≤ LINE_BYTES }
-    ensures text { text.new ≡ text.old ++ way_text plan.now way }
-    ensures size { length text.new ≤ length text.old + 40 }
-{
-    match way {
-        Way::Unreachable => text.push("unreachable"),
-        Way::Here => text.push("here"),
-        Way::Over(link) => {
-            text.push("over ");
-            push_link(text, plan, link);
-        }
-    }
 }
 
 /// The line of a route.

@@ -1,10 +1,11 @@
-//! The names of a plan's routers and links, in a line.
+//! The names of a plan's routers and links, and ways, in a line.
 
 ghost use Rattle.std.specs.Prelude.{◌≡◌, ◌+◌, ◌≤◌, ◌<◌, ◌++◌, length};
 ghost use Rattle.ripaudit.specs.declared.limits.TheConstants.{LINE_BYTES};
-ghost use Rattle.ripaudit.specs.Names.{name_of};
+ghost use Rattle.ripaudit.specs.Names.{IsKnownWay, name_of, way_text};
 
 use crate::line::Line;
+use rip_check::Way;
 use rip_plan::Plan;
 
 /// Adds the name of a router.
@@ -27,4 +28,21 @@ pub(crate) fn push_link(text: &mut Line, plan: &Plan, link: usize)
 {
     plan.lawful();
     text.push(plan.link_name(link));
+}
+
+/// Adds a way.
+pub(crate) fn push_way(text: &mut Line, plan: &Plan, way: Way)
+    requires way { IsKnownWay plan.now way }
+    requires room { length text.old + 40 ≤ LINE_BYTES }
+    ensures text { text.new ≡ text.old ++ way_text plan.now way }
+    ensures size { length text.new ≤ length text.old + 40 }
+{
+    match way {
+        Way::Unreachable => text.push("unreachable"),
+        Way::Here => text.push("here"),
+        Way::Over(link) => {
+            text.push("over ");
+            push_link(text, plan, link);
+        }
+    }
 }

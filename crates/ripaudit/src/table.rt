@@ -58,7 +58,7 @@ fn push_interface(text: &mut Line, plan: &Plan, interface: Interface)
 
 /// The line of an interface that was not heard.
 #[tactic(auto, unfolding(crate::specs::TableText::unheard_line))]
-fn unheard_text(plan: &Plan, interface: Interface) -> Line
+pub(crate) fn unheard_text(plan: &Plan, interface: Interface) -> Line
     requires router { interface.router < length plan.now.routers }
     requires link { interface.link < length plan.now.links }
     ensures { result ≡ unheard_line plan.now interface }

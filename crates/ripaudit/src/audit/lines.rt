@@ -2,7 +2,7 @@
 
 ghost use Rattle.std.specs.Prelude.{◌≡◌, ◌+◌, ◌≤◌, ◌<◌, ◌++◌, length};
 ghost use Rattle.ripaudit.specs.declared.limits.TheConstants.{LINE_BYTES};
-ghost use Rattle.ripaudit.specs.AuditText.{IsPlaceOf, IsTroubleOf, failure_part, has_one_interface, interface_part, leaf_part, leaves_of, metric_part, no_offer_part, place_part, settled_line, trouble_part, unclear_line, unsettled_line, way_part, wrong_way_part};
+ghost use Rattle.ripaudit.specs.AuditText.{IsKnownReason, IsPlaceOf, IsTroubleOf, failure_part, has_one_interface, interface_part, leaf_part, leaves_of, metric_part, no_offer_part, place_part, reason_part, settled_line, trouble_part, unclear_line, unsettled_line, way_part, wrong_way_part};
 ghost use Rattle.ripaudit.specs.Names.{IsKnownWay};
 
 use crate::line::Line;
@@ -163,6 +163,24 @@ fn push_interface(text: &mut Line, plan: &Plan, router: usize, link: usize)
     push_router(text, plan, router);
     text.push(" link ");
     push_link(text, plan, link);
+}
+
+/// Adds why no route can be read.
+pub(crate) fn push_reason(text: &mut Line, plan: &Plan, trouble: &Unclear)
+    requires known { IsKnownReason plan.now trouble.now }
+    requires room { length text.old + 43 ≤ LINE_BYTES }
+    ensures text { text.new ≡ text.old ++ reason_part plan.now trouble.now }
+    ensures size { length text.new ≤ length text.old + 43 }
+{
+    match *trouble {
+        Unclear::NotHeard { .. } => text.push("not heard"),
+        Unclear::TwoMetrics { .. } => text.push("two metrics"),
+        Unclear::Missing { link, .. } => {
+            text.push("missing on ");
+            push_link(text, plan, link);
+        }
+        Unclear::TwoWays { .. } => text.push("two ways"),
+    }
 }
 
 /// Adds a trouble.

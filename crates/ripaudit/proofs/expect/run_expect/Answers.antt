@@ -1,5 +1,5 @@
 use Rattle.std.proofs.Common.{◌++◌}
-use Rattle.ripaudit.specs.ExpectText.{ExpectText, RoutesText, expect_line, right_routes}
+use Rattle.ripaudit.specs.ExpectText.{ExpectText, ExpectedRoutes, expect_line, right_routes}
 use Rattle.ripaudit.specs.PlanText.{a_fault, of_plan}
 use Rattle.ripaudit.specs.Written.{Written}
 use Rattle.ripaudit.specs.declared.status.Status.TheVariants.{Done}
@@ -11,7 +11,7 @@ returns-in-Ok-find-clause-prints g c =
     let n = c.in-Ok.plan in
     let wrote = c.write_expected.ensures in
     let w : Written = record { text = expect_line n wrote.0 ++ wrote.1; status = Done } in
-    let told : RoutesText n w = right_routes wrote.0 wrote.1 wrote.2 wrote.3 in
+    let told : ExpectedRoutes n w = right_routes wrote.0 wrote.1 wrote.2 wrote.3 in
     finished_prints (ExpectText c.args.plan.now) w g.K.Sink.taken g.K.Sink.broken c.args.out.now c.write_expected.new.out c.write_expected.result c.finish.result (of_plan n w c.in-Ok.ensures.faultless c.in-Ok.ensures.plan told) c.finish.ensures wrote.4
 
 pub returns-in-Err-clause-prints : goal.returns-in-Err-clause-prints
