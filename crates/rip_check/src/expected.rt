@@ -1,4 +1,4 @@
-//! The right routes of a plan: what the tables are once its network has settled.
+//! The right routes of a plan: those of the tables that an audit would call settled.
 
 ghost use Rattle.std.specs.Prelude.{◌≡◌, ◌≢◌, ℕ, ◌+◌, ◌*◌, ◌<◌, ◌≤◌, Decides, IfOk, length, slice_index};
 ghost use Rattle.rip_plan.specs.Relations.{HasCost};
