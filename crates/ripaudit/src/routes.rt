@@ -306,3 +306,6 @@ pub fn run_routes<R: Source, K: Sink, S: BuildHasher + Drop>(
 {
     run_report(alloc, &Routes, plan, log, out, hasher)
 }
+
+#[cfg(test)]
+mod tests;

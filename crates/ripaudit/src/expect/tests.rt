@@ -5,6 +5,7 @@ use crate::tests::triangle::changed;
 use rip_log::{IntoWrite, Sink};
 use rip_plan::examples::{SLOPE, TRIANGLE};
 use std::alloc::Global;
+use std::fmt::Write as _;
 use std::process::Abort;
 use std::test::Fail;
 
@@ -102,4 +103,30 @@ fn a_sink_that_fails(rt: HostRuntime) {
         let slow = out.into_writer();
         assert_eq!(rt; slow.taken(), &ROUTES.as_bytes()[..most]);
     }
+}
+
+/// The text is longer than two pages.
+#[test]
+fn a_sink_that_fails_on_a_later_page(rt: HostRuntime) -> Result<(), Fail> {
+    let alloc = rt.alloc();
+    let mut owner = String::new(alloc);
+    owner.push_str("[[router]]\nname = \"r1\"\n")?;
+    for k in 0..200usize {
+        write!(owner, "[[router.own]]\nprefix = \"12.0.{k}.0/24\"\n")?;
+    }
+    let plan = changed(&rt, alloc, "[[router]]\nname = \"r1\"\n", owner.as_str())?;
+    let mut out = IntoWrite::new(Vec::new(alloc));
+    let outcome = run_expect(alloc, plan.as_bytes(), &mut out);
+    assert_eq!(rt; outcome, Ok(Status::Done));
+    let whole = out.into_writer();
+    assert!(rt; whole.len() > 8200);
+    for most in [4000usize, 4095, 4096, 4097, 8191, 8192, 8193] {
+        let mut out = IntoWrite::new(Slow::new(alloc, most));
+        let outcome = run_expect(alloc, plan.as_bytes(), &mut out);
+        assert_eq!(rt; outcome, Err(RunError::Write));
+        let slow = out.into_writer();
+        let begun = whole.as_slice().get(..most).expect(&rt, "a longer text");
+        assert_eq!(rt; slow.taken(), begun);
+    }
+    Ok(())
 }
