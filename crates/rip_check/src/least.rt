@@ -7,8 +7,10 @@ ghost use Rattle.rip_check.specs.Paths.{IsLeast};
 ghost use Rattle.rip_check.specs.TwoLeasts.{AreTwoLeast, metric_in};
 
 use crate::links::{NOTHING, TwoLeast, fill_by_router};
+use crate::lookup::metric_of;
 use crate::offers::{direct_or_16, least_told};
-use rip_plan::{MOST_LINKS, Plan};
+use rip_plan::{MOST_LINKS, MOST_ROUTERS, Plan};
+use rip_wire::Metric;
 
 /// The most hops of a path that costs less than 16: each hop costs at least 1, and so does the prefix at
 /// the last router (RFC 2453, section 3.5).
@@ -68,4 +70,18 @@ pub(crate) fn find_least(plan: &Plan, prefix: usize, metrics: &mut [u8])
             break;
         }
     }
+}
+
+/// The least metric of a router for a prefix, both by their numbers: the cost of the cheapest path, or
+/// 16 where none costs less (RFC 2453, section 3.6) or the plan does not have the prefix. It takes no
+/// memory; [`Expected`](crate::Expected) has the least metrics of all.
+pub fn least_metric(plan: &Plan, router: usize, prefix: usize) -> Metric
+    requires { router < length plan.now.routers }
+    ensures { IsLeast plan.now prefix router result }
+{
+    plan.lawful();
+    let mut room = [0u8; MOST_ROUTERS];
+    let row = &mut room[..plan.routers()];
+    find_least(plan, prefix, row);
+    metric_of(u32::from(row[router]))
 }

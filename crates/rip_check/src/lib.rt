@@ -17,6 +17,8 @@ mod way;
 
 pub use audit::{judge, next_unsettled};
 pub use expected::Expected;
+pub use least::least_metric;
+pub use offers::offer;
 pub use places::{equation, route};
 pub use unsettled::Unsettled;
 pub use verdict::{Place2, Route, Unclear, Verdict};

@@ -2,16 +2,17 @@
 
 ghost use Rattle.std.specs.Prelude.{◌≡◌, ◌≢◌, ℕ, ◌+◌, ◌<◌, ◌≤◌, ◌⊎◌, IfSome, length, min, unwrap_or};
 ghost use Rattle.rip_plan.specs.Network.{Network};
-ghost use Rattle.rip_plan.specs.Relations.{HasCost, IsDirect, IsLawful};
+ghost use Rattle.rip_plan.specs.Relations.{HasCost, IsDirect, IsInterface, IsLawful};
 ghost use Rattle.rip_table.specs.State.{Fits};
 ghost use Rattle.rip_check.specs.Settled.{IsChoice};
 ghost use Rattle.rip_check.specs.Tables.{Offers};
 ghost use Rattle.rip_check.specs.TwoLeasts.{AreTwoLeast, IsSeen, IsTwoLeast, shown_of};
 
 use crate::links::TwoLeast;
-use crate::lookup::shown_at;
+use crate::lookup::{metric_of, shown_at};
 use rip_plan::{Interface, Plan};
 use rip_table::MetricTable;
+use rip_wire::Metric;
 
 /// What a neighbour offers that shows this, over a link of this cost (RFC 2453, section 3.9.2).
 fn offer_of(cost: u8, shown: Option<u32>) -> u32
@@ -149,4 +150,25 @@ pub(crate) fn least_choice<T: MetricTable>(
         best = best_over(plan, table, links, own, prefix, best);
     }
     best
+}
+
+/// What a neighbour offers a router: what the neighbour's interface `across` shows of a prefix, or 16
+/// where it shows nothing, and the cost of the router's own interface on the same link, at most 16
+/// (RFC 2453, section 3.9.2).
+pub fn offer<T: MetricTable>(
+    plan: &Plan,
+    table: &T,
+    own: Interface,
+    across: usize,
+    prefix: usize,
+) -> Metric
+    requires fits { Fits plan.now (T.state table.now) }
+    requires prefix { prefix < length (T.state table.now).prefixes }
+    requires own { HasCost plan.now own.router own.link own.cost }
+    requires across { (s c : ℕ) × IsInterface plan.now across s own.link c × (s ≢ own.router) }
+    ensures { (s c : ℕ) → IsInterface plan.now across s own.link c →
+        Offers plan.now (T.state table.now) own.router own.link s prefix result }
+{
+    plan.lawful();
+    metric_of(offer_of(own.cost, shown_at(plan, table, across, prefix)))
 }

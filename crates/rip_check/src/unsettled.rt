@@ -4,7 +4,7 @@ ghost use Rattle.std.specs.Prelude.{◌≡◌, ◌≢◌, ℕ, ◌+◌, ◌*◌,
 ghost use Rattle.rip_table.specs.State.{Fits};
 ghost use Rattle.rip_check.specs.Marks.{AreUnsettled, IsMark};
 ghost use Rattle.rip_check.specs.TwoLeasts.{AreTwoLeast, shown_of};
-ghost use Rattle.rip_check.specs.Verdicts.{IsFailing, IsNextUnsettled, HoldsAfter, IsKnownPlace};
+ghost use Rattle.rip_check.specs.Verdicts.{IsFailing, IsSound, IsNextUnsettled, HoldsAfter, IsKnownPlace};
 
 use crate::links::{NOTHING, TwoLeast, fill};
 use crate::lookup::in_range;
@@ -131,6 +131,28 @@ impl Unsettled {
         let equation = self.marks[router * table.prefix_count() + prefix];
         let route = read(plan, table, &[], router, prefix).unwrap();
         place_of(router, prefix, route, u32::from(equation))
+    }
+
+    /// The place of a router and a prefix, both by their numbers, if it can be read and does not hold.
+    pub fn at<T: MetricTable>(
+        &self,
+        plan: &Plan,
+        table: &T,
+        router: usize,
+        prefix: usize,
+    ) -> Option<Place2>
+        requires fits { Fits plan.now (T.state table.now) }
+        requires places { AreUnsettled plan.now (T.state table.now) self.now }
+        requires router { router < length plan.now.routers }
+        requires prefix { prefix < length (T.state table.now).prefixes }
+        ensures some { IfSome result (λ f. (f.router ≡ router) × (f.prefix ≡ prefix)
+            × IsFailing plan.now (T.state table.now) f) }
+        ensures none { IfNone result (IsSound plan.now (T.state table.now) router prefix) }
+    {
+        if self.marks[router * table.prefix_count() + prefix] == 0 {
+            return None;
+        }
+        Some(self.place(plan, table, router, prefix))
     }
 
     /// The first place after the given one, by router and then by prefix, that does not hold. The

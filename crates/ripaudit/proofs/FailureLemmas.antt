@@ -14,7 +14,7 @@ use Rattle.ripaudit.specs.Names.{IsKnownWay}
 use Rattle.ripaudit.specs.Sent.{Began, Writes}
 use Rattle.rip_log.specs.declared.device.Failed.{Failed}
 use Rattle.ripaudit.proofs.SentLemmas.{Began-front, Writes-more, Writes-same}
-use Rattle.rip_check.specs.Verdicts.{IsNextUnsettled, HoldsAfter, IsKnownPlace}
+use Rattle.rip_check.specs.Verdicts.{IsFailing, IsNextUnsettled, HoldsAfter, IsKnownPlace}
 
 -- how many places are left
 abbrev pub places_left : ℕ → ℕ → Option (ℕ × ℕ) → ℕ
@@ -77,6 +77,14 @@ known_place n s after f lawful next = record {
   router = next.first.router;
   prefix = next.first.prefix;
   way = known_way n f.router f.prefix f.metric f.way lawful next.values.fits.told.way_fits;
+}
+
+-- a place that fails, by its router and its prefix
+pub failing_place : (n : Network) (s : State) (r p : ℕ) (f : Place2) → IsLawful n → r < length n.routers → p < length s.prefixes → f.router ≡ r → f.prefix ≡ p → IsFailing n s f → IsPlaceOf n s f
+failing_place n s r p f lawful router prefix same_router same_prefix failing = record {
+  router = rw same_router router;
+  prefix = rw same_prefix prefix;
+  way = known_way n f.router f.prefix f.metric f.way lawful failing.fits.told.way_fits;
 }
 
 -- fewer places are left

@@ -9,3 +9,4 @@ pub mod DecodeLemmas
 pub mod TextLemmas
 pub mod ListingLemmas
 pub mod ExpectLemmas
+pub mod ExplainLemmas

@@ -1,5 +1,5 @@
 -- Verdicts and their statuses.
-use Rattle.std.proofs.Common.{◌≡◌, ℕ, Bool, List, Option, None, Result, Ok, Err, refl, ap}
+use Rattle.std.proofs.Common.{◌≡◌, ℕ, ◌<◌, length, Bool, List, Option, None, Result, Ok, Err, refl, ap}
 use Rattle.std.specs.Prelude.{◌↔◌, IfOk}
 use Rattle.rip_plan.specs.Network.{Network}
 use Rattle.rip_plan.specs.Relations.{IsLawful}
@@ -14,6 +14,7 @@ use Rattle.rip_check.specs.declared.verdict.Verdict.TheVariants as verdicts
 use Rattle.ripaudit.specs.AuditText.{IsJudged, IsKnownReason, IsTroubleOf, UnsettledLines, VerdictText, a_settled, an_unclear, an_unsettled, settled_line, unclear_line, verdict_status}
 use Rattle.ripaudit.specs.Finished.{finished}
 use Rattle.ripaudit.specs.Sent.{WentOut}
+use Rattle.ripaudit.specs.Written.{Written}
 use Rattle.ripaudit.specs.declared.status.Status.{Status}
 use Rattle.ripaudit.specs.declared.status.Status.TheVariants.{Settled, Unsettled, Unclear as IsUnclear}
 use Rattle.ripaudit.specs.declared.status.RunError.{RunError}
@@ -34,6 +35,13 @@ known_reason n s r p (NotHeard t l) lawful h = tt
 known_reason n s r p (TwoMetrics t q) lawful h = tt
 known_reason n s r p (Missing t q l) lawful h = lawful.link_known h.3.interface r l h.3.cost h.3.its
 known_reason n s r p (TwoWays t q) lawful h = tt
+
+-- the router, the prefix and the link of a reason are known
+pub reason_known : (n : Network) (s : State) (r p : ℕ) (trouble : Unclear) → IsLawful n → r < length n.routers → p < length s.prefixes → IsReason n s r p trouble → IsTroubleOf n s trouble
+reason_known n s r p (NotHeard t l) lawful router prefix h = absurd h
+reason_known n s r p (TwoMetrics t q) lawful router prefix h = (rw h.0 router, rw h.1 prefix)
+reason_known n s r p (Missing t q l) lawful router prefix h = (rw h.0 router, rw h.1 prefix, lawful.link_known h.3.interface r l h.3.cost h.3.its)
+reason_known n s r p (TwoWays t q) lawful router prefix h = (rw h.0 router, rw h.1 prefix)
 
 -- what judging answers, of each verdict
 pub record Judges (n : Network) (s : State) (v : Verdict) : Type 0 where
@@ -101,9 +109,9 @@ ifok-map (Ok x) f p = f x p
 ifok-map (Err e) f p = tt
 
 -- the headline, of what is judged and what is told
-abbrev pub IsHeadline : Network → State → Bool → Option (List ℕ) → Option (List ℕ) → Status → Type 0
-IsHeadline n s all a b status = ((status ≡ Settled) ↔ ShowsRightTables n s) × (status ≡ Settled → PacketsArrive n s) × WentOut (VerdictText n s all) a b status
+abbrev pub IsHeadline : Network → State → (Written → Type 0) → Option (List ℕ) → Option (List ℕ) → Status → Type 0
+IsHeadline n s IsText a b status = ((status ≡ Settled) ↔ ShowsRightTables n s) × (status ≡ Settled → PacketsArrive n s) × WentOut IsText a b status
 
-pub headline : (n : Network) (s : State) (all : Bool) (a b : Option (List ℕ)) (outcome : Result Status RunError) → IfOk outcome (IsJudged n s) → IfOk outcome (WentOut (VerdictText n s all) a b) → IfOk outcome (IsHeadline n s all a b)
-headline n s all a b (Ok status) j told = (j.settled, j.arrive, told)
-headline n s all a b (Err e) j told = tt
+pub headline : (n : Network) (s : State) (IsText : Written → Type 0) (a b : Option (List ℕ)) (outcome : Result Status RunError) → IfOk outcome (IsJudged n s) → IfOk outcome (WentOut IsText a b) → IfOk outcome (IsHeadline n s IsText a b)
+headline n s IsText a b (Ok status) j told = (j.settled, j.arrive, told)
+headline n s IsText a b (Err e) j told = tt

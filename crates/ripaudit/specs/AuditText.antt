@@ -1,6 +1,5 @@
 -- What `audit` prints.
-use Rattle.std.specs.Prelude.{◌≡◌, ◌↔◌, ℕ, ◌==◌, ◌<◌, nat_lt, Bool, true, false, if◌then◌else◌, List, [], ◌++◌, length, filter, codes, decimal, Option, None, Some, option_map, unwrap_or, slice_get}
-use Rattle.rip_wire.specs.Prefix.{prefix_text}
+use Rattle.std.specs.Prelude.{◌≡◌, ◌↔◌, ℕ, ◌==◌, ◌<◌, nat_lt, Bool, true, false, if◌then◌else◌, List, [], ◌++◌, length, filter, codes, decimal, Option, None, Some}
 use Rattle.rip_plan.specs.Network.{Network, each_below, is_of, numbers_where}
 use Rattle.rip_table.specs.State.{State}
 use Rattle.rip_check.specs.declared.verdict.Place2.{Place2}
@@ -10,7 +9,7 @@ use Rattle.rip_check.specs.declared.verdict.Verdict.{Verdict}
 use Rattle.rip_check.specs.declared.verdict.Verdict.TheVariants as verdicts
 use Rattle.rip_check.specs.declared.way.Way.{Way}
 use Rattle.rip_check.specs.declared.way.Way.TheVariants.{Unreachable, Here, Over}
-use Rattle.ripaudit.specs.Names.{IsKnownWay, name_of}
+use Rattle.ripaudit.specs.Names.{IsKnownWay, name_of, prefix_name}
 use Rattle.ripaudit.specs.ReportText.{ReportText}
 use Rattle.ripaudit.specs.Written.{Written, line}
 use Rattle.ripaudit.specs.declared.status.Status.{Status}
@@ -43,8 +42,7 @@ settled_line n s =
 -- `router r1 prefix 10.2.0.0/16: `, by their numbers
 abbrev pub place_part : Network → State → ℕ → ℕ → List ℕ
 place_part n s r p =
-    codes "router " ++ name_of n.routers r ++ codes " prefix "
-    ++ unwrap_or (option_map prefix_text (slice_get s.prefixes p)) [] ++ codes ": "
+    codes "router " ++ name_of n.routers r ++ codes " prefix " ++ prefix_name s p ++ codes ": "
 
 -- `metric 3, equation 2`, or of a leaf that cannot show it `leaf metric 3, equation 2`
 abbrev pub metric_part : Bool → ℕ → ℕ → List ℕ

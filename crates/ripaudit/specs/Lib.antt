@@ -15,3 +15,4 @@ pub mod Texts
 pub mod Listings
 pub mod ExpectText
 pub mod RoutesText
+pub mod ExplainText

@@ -1,12 +1,18 @@
 -- Names of a plan's routers and links, ways, and words with numbers.
-use Rattle.std.specs.Prelude.{ℕ, ◌<◌, List, [], ◌++◌, codes, decimal, length, slice_get, unwrap_or}
+use Rattle.std.specs.Prelude.{ℕ, ◌<◌, List, [], ◌++◌, codes, decimal, length, option_map, slice_get, unwrap_or}
+use Rattle.rip_wire.specs.Prefix.{prefix_text}
 use Rattle.rip_plan.specs.Network.{Network}
+use Rattle.rip_table.specs.State.{State}
 use Rattle.rip_check.specs.declared.way.Way.{Way}
 use Rattle.rip_check.specs.declared.way.Way.TheVariants.{Unreachable, Here, Over}
 
 -- the name of a number, which is below their count in a plan
 abbrev pub name_of : List (List ℕ) → ℕ → List ℕ
 name_of names k = unwrap_or (slice_get names k) []
+
+-- the prefix of a number, which is below their count in a table
+abbrev pub prefix_name : State → ℕ → List ℕ
+prefix_name s p = unwrap_or (option_map prefix_text (slice_get s.prefixes p)) []
 
 -- a word and a number
 abbrev pub numbered : List ℕ → ℕ → List ℕ

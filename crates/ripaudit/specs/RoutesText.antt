@@ -1,6 +1,5 @@
 -- What `routes` prints.
-use Rattle.std.specs.Prelude.{◌≡◌, ℕ, ◌⊎◌, ◌==◌, Bool, if◌then◌else◌, Decides, IsTrue, List, [], ◌++◌, length, codes, decimal, option_map, slice_get, unwrap_or, Some}
-use Rattle.rip_wire.specs.Prefix.{prefix_text}
+use Rattle.std.specs.Prelude.{◌≡◌, ℕ, ◌⊎◌, ◌==◌, Bool, if◌then◌else◌, Decides, IsTrue, List, [], ◌++◌, length, codes, decimal, slice_get, Some}
 use Rattle.rip_plan.specs.Network.{Network}
 use Rattle.rip_plan.specs.declared.parts.Interface.{Interface}
 use Rattle.rip_table.specs.State.{State}
@@ -10,8 +9,8 @@ use Rattle.rip_check.specs.Tables.{FitsShown, IsOnlyRoute, Route}
 use Rattle.rip_check.specs.Verdicts.{IsHidden}
 use Rattle.rip_check.specs.declared.verdict.Unclear.{Unclear}
 use Rattle.ripaudit.specs.AuditText.{reason_part}
-use Rattle.ripaudit.specs.Listings.{TextsBelow}
-use Rattle.ripaudit.specs.Names.{name_of, way_text}
+use Rattle.ripaudit.specs.Listings.{TextsBelow, TextsOfPairs}
+use Rattle.ripaudit.specs.Names.{name_of, prefix_name, way_text}
 use Rattle.ripaudit.specs.TableText.{unheard_line}
 use Rattle.ripaudit.specs.Written.{Written, line}
 use Rattle.ripaudit.specs.declared.status.Status.TheVariants.{Done}
@@ -37,9 +36,7 @@ least_part metric least = if metric == least then [] else codes ", least " ++ de
 
 -- `r1 10.2.0.0/16 `, by the numbers of router and prefix
 abbrev pub pair_part : Network → State → ℕ → ℕ → List ℕ
-pair_part n s r p =
-    name_of n.routers r ++ codes " "
-    ++ unwrap_or (option_map prefix_text (slice_get s.prefixes p)) [] ++ codes " "
+pair_part n s r p = name_of n.routers r ++ codes " " ++ prefix_name s p ++ codes " "
 
 -- `r1 10.2.0.0/16 3 over a, least 2`
 unfoldable pub read_line : Network → State → ℕ → ℕ → Route → Bool → ℕ → List ℕ
@@ -75,5 +72,5 @@ pub data UnheardLine (n : Network) (s : State) (i : ℕ) : List ℕ → Type 0 w
 -- the counts, the interfaces that were not heard, and the routes, router by router
 pub data RoutesText (n : Network) (s : State) : Written → Type 0 where
   routes : (silent lines : List ℕ) → TextsBelow (UnheardLine n s) (length n.interfaces) silent
-      → TextsBelow (λ r. TextsBelow (RouteLine n s r) (length s.prefixes)) (length n.routers) lines
+      → TextsOfPairs (RouteLine n s) (length n.routers) (length s.prefixes) lines
       → RoutesText n s (record { text = (routes_line n s ++ silent) ++ lines; status = Done })

@@ -3,6 +3,7 @@
 use crate::audit::run_audit;
 use crate::decode::run_decode;
 use crate::expect::run_expect;
+use crate::explain::run_explain;
 use crate::plan::run_plan;
 use crate::routes::run_routes;
 use crate::status::{RunError, Status, exit_code, fault_line};
@@ -13,7 +14,7 @@ use rip_log::{FromRead, IntoWrite};
 use rip_plan::MOST_PLAN_BYTES;
 use std::alloc::Global;
 use std::collections::hash_map::RandomState;
-use std::io::Read;
+use std::io::{IsTerminal, Read};
 use std::random::RandomSource;
 use std::rt::Files;
 use std::{env, fs, io};
@@ -33,18 +34,21 @@ fn log_word<'a>(alloc: Global) -> Arg<'a> {
     Arg::new(alloc, "LOG").help("The file of the log; standard input where it is left out")
 }
 
-/// The command `audit`, with its words and its help.
-fn audit_command<'a>(alloc: Global) -> Result<Command<'a>, Error> {
-    let all = Arg::new(alloc, "all")
+/// A command that reads a plan and a log, with its words and its help.
+fn log_command<'a>(alloc: Global, name: &'a str, about: &'a str) -> Result<Command<'a>, Error> {
+    let command = Command::new(alloc, name)
+        .about(about)
+        .arg(plan_word(alloc))?
+        .arg(log_word(alloc))?;
+    Ok(command)
+}
+
+/// The word `--all`.
+fn all_word<'a>(alloc: Global, help: &'a str) -> Arg<'a> {
+    Arg::new(alloc, "all")
         .long("all")
         .action(ArgAction::SetTrue)
-        .help("Name each place that does not hold, not only the first");
-    let audit = Command::new(alloc, "audit")
-        .about("Tells whether the routes that a log shows are right")
-        .arg(plan_word(alloc))?
-        .arg(log_word(alloc))?
-        .arg(all)?;
-    Ok(audit)
+        .help(help)
 }
 
 /// The commands, with their words and their help.
@@ -58,22 +62,39 @@ fn commands<'a>(alloc: Global) -> Result<Command<'a>, Error> {
     let plan = Command::new(alloc, "plan")
         .about("Prints the parts of a plan")
         .arg(plan_word(alloc))?;
-    let routes = Command::new(alloc, "routes")
-        .about("Prints the routes that a log shows")
-        .arg(plan_word(alloc))?
-        .arg(log_word(alloc))?;
     let expect = Command::new(alloc, "expect")
         .about("Prints the right routes of a plan")
         .arg(plan_word(alloc))?;
-    let table = Command::new(alloc, "table")
-        .about("Prints what each interface of a plan shows in a log")
-        .arg(plan_word(alloc))?
-        .arg(log_word(alloc))?;
+    let audit = log_command(
+        alloc,
+        "audit",
+        "Tells whether the routes that a log shows are right",
+    )?
+    .arg(all_word(
+        alloc,
+        "Name each place that does not hold, not only the first",
+    ))?;
+    let explain = log_command(
+        alloc,
+        "explain",
+        "Tells the verdict of audit, and what it comes from",
+    )?
+    .arg(all_word(
+        alloc,
+        "Tell of each place that does not hold, not only of the first",
+    ))?;
+    let routes = log_command(alloc, "routes", "Prints the routes that a log shows")?;
+    let table = log_command(
+        alloc,
+        "table",
+        "Prints what each interface of a plan shows in a log",
+    )?;
     let ripaudit = Command::new(alloc, "ripaudit")
         .version("0.1.0")
         .about("Audits the routes of a RIP version 2 network")
         .subcommand_required(true)
-        .subcommand(audit_command(alloc)?)?
+        .subcommand(audit)?
+        .subcommand(explain)?
         .subcommand(routes)?
         .subcommand(table)?
         .subcommand(expect)?
@@ -152,6 +173,8 @@ fn plan_file<R: Files + AllocGlobal + Print>(
 enum LogCommand {
     /// The verdict, with a line for each place that does not hold where all are asked for.
     Audit { all: bool },
+    /// The verdict and what it comes from, for the first place that does not hold or for all.
+    Explain { all: bool },
     /// The routes.
     Routes,
     /// The table.
@@ -171,25 +194,42 @@ fn report_from<R: AllocGlobal + Print, L: Read + Drop>(
     let log = FromRead::new(log);
     let (_, outcome) = match command {
         LogCommand::Audit { all } => run_audit(alloc, plan, log, &mut out, all, hasher),
+        LogCommand::Explain { all } => run_explain(alloc, plan, log, &mut out, all, hasher),
         LogCommand::Routes => run_routes(alloc, plan, log, &mut out, hasher),
         LogCommand::Table => run_table(alloc, plan, log, &mut out, hasher),
     };
     outcome
 }
 
+/// Standard input as a log. Someone who sits at it is told so.
+fn log_of_input<R: Input + Eprint>(rt: &R) -> R::Reader
+where
+    R::Reader: IsTerminal,
+{
+    let input = rt.reader();
+    if input.is_terminal() {
+        // A standard error that fails changes no status.
+        let _ = rt.eprintln("reading the log from standard input");
+    }
+    input
+}
+
 /// Runs a command on a file of a plan and on a log, which is standard input where no file is named.
-fn report_file<R: Files + AllocGlobal + RandomSource + Input + Print>(
+fn report_file<R: Files + AllocGlobal + RandomSource + Input + Print + Eprint>(
     rt: &R,
     command: LogCommand,
     path: &str,
     log: Option<&str>,
-) -> Result<Status, RunError> {
+) -> Result<Status, RunError>
+where
+    R::Reader: IsTerminal,
+{
     let plan = read_plan(rt, path).map_err(|error| read_fault(&error))?;
     let Ok(hasher) = RandomState::new(rt) else {
         return Err(RunError::Read);
     };
     match log {
-        None => report_from(rt, command, plan.as_slice(), rt.reader(), hasher),
+        None => report_from(rt, command, plan.as_slice(), log_of_input(rt), hasher),
         Some(log) => match fs::open(rt, log) {
             Ok(file) => report_from(rt, command, plan.as_slice(), file, hasher),
             Err(error) => Err(read_fault(&error)),
@@ -197,30 +237,39 @@ fn report_file<R: Files + AllocGlobal + RandomSource + Input + Print>(
     }
 }
 
+/// Runs a command that reads a log, if the word is of one.
+fn run_on_log<R: Files + AllocGlobal + RandomSource + Input + Print + Eprint>(
+    rt: &R,
+    word: &str,
+    words: &ArgMatches<'_>,
+) -> Option<Result<Status, RunError>>
+where
+    R::Reader: IsTerminal,
+{
+    let command = match word {
+        "audit" => LogCommand::Audit {
+            all: words.get_flag("all"),
+        },
+        "explain" => LogCommand::Explain {
+            all: words.get_flag("all"),
+        },
+        "routes" => LogCommand::Routes,
+        "table" => LogCommand::Table,
+        _ => return None,
+    };
+    let path = words.get_str("PLAN")?;
+    Some(report_file(rt, command, path, words.get_str("LOG")))
+}
+
 /// Runs the command that was found.
 fn run_command<R: Files + AllocGlobal + RandomSource + Input + Print + Eprint>(
     rt: &R,
     matches: &ArgMatches<'_>,
-) -> u8 {
+) -> u8
+where
+    R::Reader: IsTerminal,
+{
     let outcome = match matches.subcommand() {
-        Some(("audit", words)) => words.get_str("PLAN").map(|path| {
-            let command = LogCommand::Audit {
-                all: words.get_flag("all"),
-            };
-            report_file(rt, command, path, words.get_str("LOG"))
-        }),
-        Some(("routes", words)) => words.get_str("PLAN").map(|path| report_file(
-            rt,
-            LogCommand::Routes,
-            path,
-            words.get_str("LOG"),
-        )),
-        Some(("table", words)) => words.get_str("PLAN").map(|path| report_file(
-            rt,
-            LogCommand::Table,
-            path,
-            words.get_str("LOG"),
-        )),
         Some(("plan", words)) => words
             .get_str("PLAN")
             .map(|path| plan_file(rt, PlanCommand::Plan, path)),
@@ -230,7 +279,8 @@ fn run_command<R: Files + AllocGlobal + RandomSource + Input + Print + Eprint>(
         Some(("decode", words)) => words
             .get_str("HEX")
             .map(|hex| run_decode(hex, &mut IntoWrite::new(io::writer(rt)))),
-        _ => None,
+        Some((word, words)) => run_on_log(rt, word, words),
+        None => None,
     };
     end_run(rt, outcome.unwrap_or(Ok(Status::Refused)))
 }

@@ -8,13 +8,14 @@ ghost use Rattle.rip_table.specs.State.{Fits, State};
 ghost use Rattle.rip_check.specs.Expected.{AreExpected};
 ghost use Rattle.ripaudit.specs.declared.limits.TheConstants.{LINE_BYTES};
 ghost use Rattle.ripaudit.specs.AuditText.{IsKnownReason};
-ghost use Rattle.ripaudit.specs.Listings.{Adds, TextsBelow};
+ghost use Rattle.ripaudit.specs.Listings.{TextsBelow, TextsOfPairs};
 ghost use Rattle.ripaudit.specs.Names.{IsKnownWay};
 ghost use Rattle.ripaudit.specs.ReportText.{IsAccepted, ReportText};
 ghost use Rattle.ripaudit.specs.RoutesText.{RouteLine, RoutesText, UnheardLine, leaf_word, least_part, pair_part, read_line, read_part, routes_line, unread_line};
 ghost use Rattle.ripaudit.specs.Sent.{Prints, Reads, WentOut, Writes};
 
 use crate::audit::lines::push_reason;
+use crate::entries::{Entry, PairEntry, add_entries, add_pairs};
 use crate::line::Line;
 use crate::listing::Listing;
 use crate::names::{push_router, push_way};
@@ -157,80 +158,53 @@ fn pair_text<T: MetricTable>(
     }
 }
 
-/// Adds the line of an interface, where it was not heard.
-fn add_unheard<T: MetricTable, K: Sink>(
-    listing: &mut Listing,
-    plan: &Plan,
-    table: &T,
-    number: usize,
-    out: &mut K,
-)
-    requires fits { Fits plan.now (T.state table.now) }
-    requires number { number < length plan.now.interfaces }
-    ensures { (text : List ℕ) × UnheardLine plan.now (T.state table.now) number text
-        × Adds K.taken K.broken out.old out.new listing.old listing.new text }
-{
-    plan.lawful();
-    if !table.heard(number) {
-        listing.add(&unheard_text(plan, plan.interface(number)), out);
+/// An interface, where it was not heard.
+#[derive(Clone, Copy)]
+struct Unheard;
+
+impl Entry for Unheard {
+    ghost fits = { λ _ _ _. Unit {0} };
+
+    ghost is_for = { λ _ n i. i < length n.interfaces };
+
+    ghost is_text = { λ _ n s i. UnheardLine n s i };
+
+    fn add<T: MetricTable, K: Sink>(
+        &self,
+        listing: &mut Listing,
+        plan: &Plan,
+        table: &T,
+        number: usize,
+        out: &mut K,
+    ) {
+        plan.lawful();
+        if !table.heard(number) {
+            listing.add(&unheard_text(plan, plan.interface(number)), out);
+        }
     }
 }
 
-/// Adds the lines of all interfaces that were not heard.
-fn add_all_unheard<T: MetricTable, K: Sink>(
-    listing: &mut Listing,
-    plan: &Plan,
-    table: &T,
-    out: &mut K,
-)
-    requires { Fits plan.now (T.state table.now) }
-    ensures { (text : List ℕ)
-        × TextsBelow (UnheardLine plan.now (T.state table.now)) (length plan.now.interfaces) text
-        × Adds K.taken K.broken out.old out.new listing.old listing.new text }
-{
-    for number in 0..plan.interfaces() {
-        add_unheard(listing, plan, table, number, out);
-    }
+/// The route of a router for a prefix, beside the least metric of the plan.
+#[derive(Drop)]
+struct RouteBeside {
+    expected: Expected,
 }
 
-/// Adds the lines of a router.
-fn add_router<T: MetricTable, K: Sink>(
-    listing: &mut Listing,
-    plan: &Plan,
-    expected: &Expected,
-    table: &T,
-    router: usize,
-    out: &mut K,
-)
-    requires fits { Fits plan.now (T.state table.now) }
-    requires expected { AreExpected plan.now expected.now }
-    requires router { router < length plan.now.routers }
-    ensures { (text : List ℕ) × TextsBelow (RouteLine plan.now (T.state table.now) router)
-        (length (T.state table.now).prefixes) text
-        × Adds K.taken K.broken out.old out.new listing.old listing.new text }
-{
-    for prefix in 0..table.prefix_count() {
-        listing.add(&pair_text(plan, expected, table, router, prefix), out);
-    }
-}
+impl PairEntry for RouteBeside {
+    ghost fits = { λ entry n _. AreExpected n entry.expected };
 
-/// Adds the lines of all routers.
-fn add_routers<T: MetricTable, K: Sink>(
-    listing: &mut Listing,
-    plan: &Plan,
-    expected: &Expected,
-    table: &T,
-    out: &mut K,
-)
-    requires fits { Fits plan.now (T.state table.now) }
-    requires expected { AreExpected plan.now expected.now }
-    ensures { (text : List ℕ)
-        × TextsBelow (λ r. TextsBelow (RouteLine plan.now (T.state table.now) r)
-        (length (T.state table.now).prefixes)) (length plan.now.routers) text
-        × Adds K.taken K.broken out.old out.new listing.old listing.new text }
-{
-    for router in 0..plan.routers() {
-        add_router(listing, plan, expected, table, router, out);
+    ghost is_text = { λ _ n s r p. RouteLine n s r p };
+
+    fn add<T: MetricTable, K: Sink>(
+        &self,
+        listing: &mut Listing,
+        plan: &Plan,
+        table: &T,
+        router: usize,
+        prefix: usize,
+        out: &mut K,
+    ) {
+        listing.add(&pair_text(plan, &self.expected, table, router, prefix), out);
     }
 }
 
@@ -238,23 +212,23 @@ fn add_routers<T: MetricTable, K: Sink>(
 /// router and prefix.
 fn write_routes<T: MetricTable, K: Sink>(
     plan: &Plan,
-    expected: &Expected,
+    expected: Expected,
     table: &T,
     out: &mut K,
 ) -> Result<(), Failed>
     requires fits { Fits plan.now (T.state table.now) }
-    requires expected { AreExpected plan.now expected.now }
+    requires expected { AreExpected plan.now expected }
     ensures { (silent text : List ℕ)
         × TextsBelow (UnheardLine plan.now (T.state table.now)) (length plan.now.interfaces) silent
-        × TextsBelow (λ r. TextsBelow (RouteLine plan.now (T.state table.now) r)
-        (length (T.state table.now).prefixes)) (length plan.now.routers) text
+        × TextsOfPairs (RouteLine plan.now (T.state table.now))
+        (length plan.now.routers) (length (T.state table.now).prefixes) text
         × Writes K.taken K.broken out.old out.new result
         ((routes_line plan.now (T.state table.now) ++ silent) ++ text) [] }
 {
     let mut listing = Listing::new();
     listing.add(&counts_text(plan, table), out);
-    add_all_unheard(&mut listing, plan, table, out);
-    add_routers(&mut listing, plan, expected, table, out);
+    add_entries(&Unheard, &mut listing, plan, table, out);
+    add_pairs(&RouteBeside { expected }, &mut listing, plan, table, out);
     listing.finish(out)
 }
 
@@ -277,7 +251,7 @@ impl Report for Routes {
         out: &mut K,
     ) -> Result<Status, RunError> {
         match Expected::find(alloc, plan) {
-            Ok(expected) => finish(write_routes(plan, &expected, table, out), Status::Done),
+            Ok(expected) => finish(write_routes(plan, expected, table, out), Status::Done),
             Err(_) => Err(RunError::Memory),
         }
     }

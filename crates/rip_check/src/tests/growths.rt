@@ -43,7 +43,7 @@ fn judge_takes_no_memory(rt: HostRuntime) -> Result<(), Fail> {
 
 /// Finds the right routes where there is memory for a byte for each router and prefix, and else says so.
 #[test]
-fn routes_take_one_growth(rt: HostRuntime) -> Result<(), Fail> {
+fn want_of_memory_finds_no_routes(rt: HostRuntime) -> Result<(), Fail> {
     let alloc = rt.alloc();
     let Ok(text) = joined(alloc, &TRIANGLE) else {
         return Ok(());

@@ -1,8 +1,0 @@
-use Rattle.ripaudit.specs.RoutesText.{RouteLine}
-use Rattle.ripaudit.proofs.ListingLemmas.{SoFar}
-use Rattle.ripaudit.proofs.routes.add_router.Given as goal
-
-abbrev pub invariant-loop-prefix : goal.invariant-loop-prefix
-invariant-loop-prefix g l = record {
-  so_far : SoFar g.K.Sink.taken g.K.Sink.broken l.fn.out l.out l.fn.listing l.listing (RouteLine l.plan (g.T.MetricTable.state l.table) l.router) l.prefix;
-}
