@@ -1,17 +1,13 @@
 //! The words of the command line, and what they ask for.
 
-use crate::audit::run_audit;
-use crate::decode::run_decode;
-use crate::expect::run_expect;
-use crate::explain::run_explain;
-use crate::plan::run_plan;
-use crate::routes::run_routes;
-use crate::status::{RunError, Status, exit_code, fault_line};
-use crate::table::run_table;
 use clap::error::ErrorKind;
 use clap::{Arg, ArgAction, ArgMatches, Command, Error};
 use rip_log::{FromRead, IntoWrite};
 use rip_plan::MOST_PLAN_BYTES;
+use rip_report::{
+    RunError, Status, exit_code, fault_line, run_audit, run_decode, run_expect, run_explain,
+    run_plan, run_routes, run_table,
+};
 use std::alloc::Global;
 use std::collections::hash_map::RandomState;
 use std::io::{IsTerminal, Read};

@@ -1,0 +1,76 @@
+-- The end of a run that wrote one of the texts that it may write.
+use Rattle.std.proofs.Common.{◌≡◌, ◌⊎◌, inl, inr, ℕ, Bool, List, [], Option, Some, Result, Ok, Err, refl, sym, ◌∙◌, ap, subst}
+use Rattle.std.specs.Prelude.{◌↔◌, IfOk}
+use Rattle.rip_plan.specs.Answers.{first_fault, out_of_memory}
+use Rattle.rip_plan.specs.declared.error.PlanCode.TheVariants.{Memory as OutOfMemory}
+use Rattle.rip_plan.specs.declared.error.PlanError.{PlanError}
+use Rattle.rip_log.specs.declared.device.Failed.{Failed}
+use Rattle.rip_report.specs.Finished.{finished}
+use Rattle.rip_report.specs.PlanText.{refused_plan}
+use Rattle.rip_report.specs.Sent.{Prints, WentOut, Writes}
+use Rattle.rip_report.specs.Written.{Written}
+use Rattle.rip_report.specs.declared.status.Status.{Status}
+use Rattle.rip_report.specs.declared.status.RunError.{RunError}
+use Rattle.rip_report.specs.declared.status.RunError.TheVariants.{Memory, Write}
+use Rattle.rip_report.proofs.SentLemmas.{Sent-whole}
+
+-- a run that has written one of its texts prints it
+pub finished_prints : {K : Type 0} (IsText : Written → Type 0) (w : Written) (taken : K → Option (List ℕ)) (broken : K → Bool) (a b : K) (r : Result (Unit {0}) Failed) (outcome : Result Status RunError)
+    → IsText w → outcome ≡ finished r w.status → Writes taken broken a b r w.text [] → Prints taken broken a b outcome IsText
+finished_prints IsText w taken broken a b (Ok done) outcome told is v = rw is (record {
+  text = (w.text, told, Sent-whole (taken a) (taken b) w.text v.ok);
+  write = λ e. cc e;
+  read = λ e. cc e;
+  memory = λ e. cc e;
+  sink = λ other. v.marks refl;
+})
+finished_prints IsText w taken broken a b (Err f) outcome told is v = rw is (record {
+  text = tt;
+  write = λ e. (v.failed refl, (w, told, v.err));
+  read = λ e. cc e;
+  memory = λ e. cc e;
+  sink = λ other. absurd (other refl);
+})
+
+-- what prints one of these texts prints one of more
+pub prints_also : {K : Type 0} (IsText IsAlso : Written → Type 0) (taken : K → Option (List ℕ)) (broken : K → Bool) (a b : K) (outcome : Result Status RunError)
+    → ((w : Written) → IsText w → IsAlso w) → Prints taken broken a b outcome IsText → Prints taken broken a b outcome IsAlso
+prints_also IsText IsAlso taken broken a b outcome also p = record {
+  text = went_on outcome p.text;
+  write = λ e. let h = p.write e in (h.0, (h.1.0, also h.1.0 h.1.1, h.1.2));
+  read = p.read;
+  memory = p.memory;
+  sink = p.sink;
+}
+  where
+    went_on : (o : Result Status RunError) → IfOk o (WentOut IsText (taken a) (taken b)) → IfOk o (WentOut IsAlso (taken a) (taken b))
+    went_on (Ok status) h = (h.0, also (record { text = h.0; status = status }) h.1, h.2)
+    went_on (Err e) h = tt
+
+-- the end of a run whose plan is refused
+not_memory : (status : Status) → ◌≡◌ {A = Result Status RunError} (Ok status) (Err Memory) → ⊥
+not_memory status h = absurd (cc)
+
+write_is_not_memory : ◌≡◌ {A = Result Status RunError} (Err Write) (Err Memory) → ⊥
+write_is_not_memory h = absurd (cc)
+
+pub refused_prints : {K : Type 0} (IsText : Written → Type 0) (e : PlanError) (taken : K → Option (List ℕ)) (broken : K → Bool) (a b : K) (outcome : Result Status RunError)
+    → ((e.code ≡ OutOfMemory → ⊥) → IsText (refused_plan e))
+    → (outcome ≡ Err Memory) ↔ (e.code ≡ OutOfMemory) → Prints taken broken a b outcome (λ w. w ≡ refused_plan e) → Prints taken broken a b outcome IsText
+refused_prints IsText e taken broken a b (Ok status) told wanted p =
+    prints_also (λ w. w ≡ refused_plan e) IsText taken broken a b (Ok status) (λ w is. subst IsText (sym is) (told (λ m. not_memory status (wanted.1 m)))) p
+refused_prints IsText e taken broken a b (Err f) told wanted p = record {
+  text = tt;
+  write = λ is.
+      let h = p.write is in
+      let other : e.code ≡ OutOfMemory → ⊥ = λ m. write_is_not_memory (sym is ∙ wanted.1 m) in
+      (h.0, (h.1.0, subst IsText (sym h.1.1) (told other), h.1.2));
+  read = p.read;
+  memory = p.memory;
+  sink = p.sink;
+}
+
+-- a fault that is not want of memory is the first one of the bytes
+pub first_told : (bytes : List ℕ) (e : PlanError) → (e ≡ out_of_memory) ⊎ (first_fault bytes ≡ Some e) → (e.code ≡ OutOfMemory → ⊥) → first_fault bytes ≡ Some e
+first_told bytes e (inl h) other = absurd (other (ap (λ (e : PlanError). e.code) h))
+first_told bytes e (inr h) other = h

@@ -1,0 +1,117 @@
+-- Verdicts and their statuses.
+use Rattle.std.proofs.Common.{◌≡◌, ℕ, ◌<◌, length, Bool, List, Option, None, Result, Ok, Err, refl, ap}
+use Rattle.std.specs.Prelude.{◌↔◌, IfOk}
+use Rattle.rip_plan.specs.Network.{Network}
+use Rattle.rip_plan.specs.Relations.{IsLawful}
+use Rattle.rip_log.specs.declared.device.Failed.{Failed}
+use Rattle.rip_table.specs.State.{State}
+use Rattle.rip_check.specs.Verdicts.{IsVerdict, ShowsTables, IsNextUnsettled}
+use Rattle.rip_check.specs.declared.verdict.Place2.{Place2}
+use Rattle.rip_check.specs.declared.verdict.Unclear.{Unclear}
+use Rattle.rip_check.specs.declared.verdict.Unclear.TheVariants.{NotHeard, TwoMetrics, Missing, TwoWays}
+use Rattle.rip_check.specs.declared.verdict.Verdict.{Verdict}
+use Rattle.rip_check.specs.declared.verdict.Verdict.TheVariants as verdicts
+use Rattle.rip_report.specs.AuditText.{IsJudged, IsKnownReason, IsTroubleOf, UnsettledLines, VerdictText, a_settled, an_unclear, an_unsettled, settled_line, unclear_line, verdict_status}
+use Rattle.rip_report.specs.Finished.{finished}
+use Rattle.rip_report.specs.Sent.{WentOut}
+use Rattle.rip_report.specs.Written.{Written}
+use Rattle.rip_report.specs.declared.status.Status.{Status}
+use Rattle.rip_report.specs.declared.status.Status.TheVariants.{Settled, Unsettled, Unclear as IsUnclear}
+use Rattle.rip_report.specs.declared.status.RunError.{RunError}
+use Rattle.rip_check.specs.Laws.{ShowsRightTables}
+use Rattle.rip_check.specs.Firsts.{IsFirstTrouble, IsReason}
+use Rattle.rip_check.specs.Walks.{PacketsArrive}
+
+-- what a trouble names is known
+pub known_trouble : (n : Network) (s : State) (trouble : Unclear) → IsLawful n → IsFirstTrouble n s trouble → IsTroubleOf n s trouble
+known_trouble n s (NotHeard r l) lawful h = (lawful.router_known h.interface r l h.cost h.its, lawful.link_known h.interface r l h.cost h.its)
+known_trouble n s (TwoMetrics r p) lawful (heard, h) = (rw h.reason.0 h.first.router, rw h.reason.1 h.first.prefix)
+known_trouble n s (Missing r p l) lawful (heard, h) = (rw h.reason.0 h.first.router, rw h.reason.1 h.first.prefix, lawful.link_known h.reason.3.interface h.router l h.reason.3.cost h.reason.3.its)
+known_trouble n s (TwoWays r p) lawful (heard, h) = (rw h.reason.0 h.first.router, rw h.reason.1 h.first.prefix)
+
+-- the link of a reason is known
+pub known_reason : (n : Network) (s : State) (r p : ℕ) (trouble : Unclear) → IsLawful n → IsReason n s r p trouble → IsKnownReason n trouble
+known_reason n s r p (NotHeard t l) lawful h = tt
+known_reason n s r p (TwoMetrics t q) lawful h = tt
+known_reason n s r p (Missing t q l) lawful h = lawful.link_known h.3.interface r l h.3.cost h.3.its
+known_reason n s r p (TwoWays t q) lawful h = tt
+
+-- the router, the prefix and the link of a reason are known
+pub reason_known : (n : Network) (s : State) (r p : ℕ) (trouble : Unclear) → IsLawful n → r < length n.routers → p < length s.prefixes → IsReason n s r p trouble → IsTroubleOf n s trouble
+reason_known n s r p (NotHeard t l) lawful router prefix h = absurd h
+reason_known n s r p (TwoMetrics t q) lawful router prefix h = (rw h.0 router, rw h.1 prefix)
+reason_known n s r p (Missing t q l) lawful router prefix h = (rw h.0 router, rw h.1 prefix, lawful.link_known h.3.interface r l h.3.cost h.3.its)
+reason_known n s r p (TwoWays t q) lawful router prefix h = (rw h.0 router, rw h.1 prefix)
+
+-- what judging answers, of each verdict
+pub record Judges (n : Network) (s : State) (v : Verdict) : Type 0 where
+  pub settled : (v ≡ verdicts.Settled) ↔ ShowsRightTables n s
+  pub unsettled : (f : Place2) → (v ≡ verdicts.Unsettled f) ↔ (ShowsTables n s × IsNextUnsettled n s None f)
+  pub unclear : (trouble : Unclear) → (v ≡ verdicts.Unclear trouble) ↔ IsFirstTrouble n s trouble
+  pub no_tables : ((trouble : Unclear) × (v ≡ verdicts.Unclear trouble)) ↔ (ShowsTables n s → ⊥)
+  pub arrive : v ≡ verdicts.Settled → PacketsArrive n s
+
+pub said : (n : Network) (s : State) (v : Verdict) → Judges n s v → IsVerdict n s v
+said n s verdicts.Settled j = j.settled.0 refl
+said n s (verdicts.Unsettled f) j = (j.unsettled f).0 refl
+said n s (verdicts.Unclear trouble) j = (j.unclear trouble).0 refl
+
+is_settled : (v : Verdict) → verdict_status v ≡ Settled → v ≡ verdicts.Settled
+is_settled verdicts.Settled h = refl
+is_settled (verdicts.Unsettled f) h = absurd (cc)
+is_settled (verdicts.Unclear trouble) h = absurd (cc)
+
+is_unsettled : (v : Verdict) → verdict_status v ≡ Unsettled → (f : Place2) × (v ≡ verdicts.Unsettled f)
+is_unsettled verdicts.Settled h = absurd (cc)
+is_unsettled (verdicts.Unsettled f) h = (f, refl)
+is_unsettled (verdicts.Unclear trouble) h = absurd (cc)
+
+is_unclear : (v : Verdict) → verdict_status v ≡ IsUnclear → (trouble : Unclear) × (v ≡ verdicts.Unclear trouble)
+is_unclear verdicts.Settled h = absurd (cc)
+is_unclear (verdicts.Unsettled f) h = absurd (cc)
+is_unclear (verdicts.Unclear trouble) h = (trouble, refl)
+
+pub judged : (n : Network) (s : State) (v : Verdict) → Judges n s v → IsJudged n s (verdict_status v)
+judged n s v j = record {
+  settled = (λ h. j.settled.0 (is_settled v h), λ h. ap verdict_status (j.settled.1 h));
+  arrive = λ h. j.arrive (is_settled v h);
+  unsettled = (
+    λ h. let found = is_unsettled v h in let both = (j.unsettled found.0).0 found.1 in (both.0, (found.0, both.1)),
+    λ h. ap verdict_status ((j.unsettled h.1.0).1 (h.0, h.1.1)),
+  );
+  unclear = (
+    λ h. let found = is_unclear v h in (found.0, (j.unclear found.0).0 found.1),
+    λ h. ap verdict_status ((j.unclear h.0).1 h.1),
+  );
+  no_tables = (
+    λ h. j.no_tables.0 (is_unclear v h),
+    λ h. ap verdict_status (j.no_tables.1 h).1,
+  );
+}
+
+-- the end of a run that wrote a verdict
+pub ended_judged : (n : Network) (s : State) (status : Status) (r : Result (Unit {0}) Failed) (outcome : Result Status RunError) → outcome ≡ finished r status → IsJudged n s status → IfOk outcome (λ status. IsJudged n s status)
+ended_judged n s status (Ok done) outcome is h = rw is h
+ended_judged n s status (Err e) outcome is h = rw is tt
+
+-- what each verdict writes
+pub settled_told : (n : Network) (s : State) (all : Bool) (v : Verdict) → v ≡ verdicts.Settled → IsVerdict n s v → VerdictText n s all (record { text = settled_line n s; status = verdict_status v })
+settled_told n s all v e h = rw e (a_settled (rw e at h))
+
+pub unclear_told : (n : Network) (s : State) (all : Bool) (v : Verdict) (trouble : Unclear) → v ≡ verdicts.Unclear trouble → IsVerdict n s v → VerdictText n s all (record { text = unclear_line n s trouble; status = verdict_status v })
+unclear_told n s all v trouble e h = rw e (an_unclear trouble (rw e at h))
+
+pub unsettled_told : (n : Network) (s : State) (all : Bool) (v : Verdict) (f : Place2) (text : List ℕ) → v ≡ verdicts.Unsettled f → IsVerdict n s v → UnsettledLines n s all f text → VerdictText n s all (record { text = text; status = verdict_status v })
+unsettled_told n s all v f text e h lines = let both = rw e at h in rw e (an_unsettled f text both.0 both.1 lines)
+
+pub ifok-map : {A E : Type 0} {P Q : A → Type 0} (r : Result A E) → ((x : A) → P x → Q x) → IfOk r P → IfOk r Q
+ifok-map (Ok x) f p = f x p
+ifok-map (Err e) f p = tt
+
+-- the headline, of what is judged and what is told
+abbrev pub IsHeadline : Network → State → (Written → Type 0) → Option (List ℕ) → Option (List ℕ) → Status → Type 0
+IsHeadline n s IsText a b status = ((status ≡ Settled) ↔ ShowsRightTables n s) × (status ≡ Settled → PacketsArrive n s) × WentOut IsText a b status
+
+pub headline : (n : Network) (s : State) (IsText : Written → Type 0) (a b : Option (List ℕ)) (outcome : Result Status RunError) → IfOk outcome (IsJudged n s) → IfOk outcome (WentOut IsText a b) → IfOk outcome (IsHeadline n s IsText a b)
+headline n s IsText a b (Ok status) j told = (j.settled, j.arrive, told)
+headline n s IsText a b (Err e) j told = tt

@@ -1,0 +1,165 @@
+-- What `audit` prints.
+use Rattle.std.specs.Prelude.{◌≡◌, ◌↔◌, ℕ, ◌==◌, ◌<◌, nat_lt, Bool, true, false, if◌then◌else◌, List, [], ◌++◌, length, filter, codes, decimal, Option, None, Some}
+use Rattle.rip_plan.specs.Network.{Network, each_below, is_of, numbers_where}
+use Rattle.rip_table.specs.State.{State}
+use Rattle.rip_check.specs.declared.verdict.Place2.{Place2}
+use Rattle.rip_check.specs.declared.verdict.Unclear.{Unclear}
+use Rattle.rip_check.specs.declared.verdict.Unclear.TheVariants.{NotHeard, TwoMetrics, Missing, TwoWays}
+use Rattle.rip_check.specs.declared.verdict.Verdict.{Verdict}
+use Rattle.rip_check.specs.declared.verdict.Verdict.TheVariants as verdicts
+use Rattle.rip_check.specs.declared.way.Way.{Way}
+use Rattle.rip_check.specs.declared.way.Way.TheVariants.{Unreachable, Here, Over}
+use Rattle.rip_report.specs.Names.{IsKnownWay, name_of, prefix_name}
+use Rattle.rip_report.specs.ReportText.{ReportText}
+use Rattle.rip_report.specs.Written.{Written, line}
+use Rattle.rip_report.specs.declared.status.Status.{Status}
+use Rattle.rip_report.specs.declared.status.Status.TheVariants.{Settled, Unsettled, Unclear as IsUnclear}
+use Rattle.rip_check.specs.Laws.{ShowsRightTables}
+use Rattle.rip_check.specs.Verdicts.{ShowsTables, IsNextUnsettled, HoldsAfter}
+use Rattle.rip_check.specs.Firsts.{IsFirstTrouble}
+use Rattle.rip_check.specs.Walks.{PacketsArrive}
+
+-- ---- Lines
+
+-- router r has one interface
+abbrev pub has_one_interface : Network → ℕ → Bool
+has_one_interface n r = length (numbers_where (is_of r) 0 n.interfaces) == 1
+
+-- how many routers are leaves
+abbrev pub leaves_of : Network → ℕ
+leaves_of n = length (filter (has_one_interface n) (each_below (length n.routers) (λ r. r)))
+
+-- `, 1 leaf`, where there are leaves
+abbrev pub leaf_part : ℕ → List ℕ
+leaf_part leaves = if nat_lt 0 leaves then codes ", " ++ decimal leaves ++ codes " leaf" else []
+
+-- `settled: 3 routers, 3 prefixes`
+unfoldable pub settled_line : Network → State → List ℕ
+settled_line n s =
+    line (codes "settled: " ++ decimal (length n.routers) ++ codes " routers, "
+    ++ decimal (length s.prefixes) ++ codes " prefixes" ++ leaf_part (leaves_of n))
+
+-- `router r1 prefix 10.2.0.0/16: `, by their numbers
+abbrev pub place_part : Network → State → ℕ → ℕ → List ℕ
+place_part n s r p =
+    codes "router " ++ name_of n.routers r ++ codes " prefix " ++ prefix_name s p ++ codes ": "
+
+-- `metric 3, equation 2`, or of a leaf that cannot show it `leaf metric 3, equation 2`
+abbrev pub metric_part : Bool → ℕ → ℕ → List ℕ
+metric_part hidden metric equation =
+    (if hidden then codes "leaf " else []) ++ codes "metric " ++ decimal metric
+    ++ codes ", equation " ++ decimal equation
+
+-- `, link c does not give it`
+abbrev pub no_offer_part : Network → ℕ → List ℕ
+no_offer_part n l = codes ", link " ++ name_of n.links l ++ codes " does not give it"
+
+-- the way that does not give what is expected of it
+abbrev pub wrong_way_part : Network → Way → List ℕ
+wrong_way_part n (Over l) = no_offer_part n l
+wrong_way_part n Here = codes ", no planned place gives it"
+wrong_way_part n Unreachable = codes ", no planned place gives it"
+
+-- `metric 2, link c does not give it`, where the metric is the equation's but the way gives another
+abbrev pub way_part : Network → ℕ → Way → List ℕ
+way_part n metric way = codes "metric " ++ decimal metric ++ wrong_way_part n way
+
+-- what fails at a place
+abbrev pub failure_part : Network → Place2 → List ℕ
+failure_part n f =
+    if f.metric == f.equation then way_part n f.metric f.way
+    else metric_part f.hidden f.metric f.equation
+
+-- the router, the prefix and the link of a place are known
+pub record IsPlaceOf (n : Network) (s : State) (f : Place2) : Type 0 where
+  pub router : f.router < length n.routers
+  pub prefix : f.prefix < length s.prefixes
+  pub way : IsKnownWay n f.way
+
+-- `unsettled: router r1 prefix 10.2.0.0/16: metric 3, equation 2`
+unfoldable pub unsettled_line : Network → State → Place2 → List ℕ
+unsettled_line n s f =
+    line (codes "unsettled: " ++ place_part n s f.router f.prefix ++ failure_part n f)
+
+-- `router r1 link a`, by their numbers
+abbrev pub interface_part : Network → ℕ → ℕ → List ℕ
+interface_part n r l = codes "router " ++ name_of n.routers r ++ codes " link " ++ name_of n.links l
+
+-- why no route can be read
+abbrev pub reason_part : Network → Unclear → List ℕ
+reason_part n (NotHeard r l) = codes "not heard"
+reason_part n (TwoMetrics r p) = codes "two metrics"
+reason_part n (Missing r p l) = codes "missing on " ++ name_of n.links l
+reason_part n (TwoWays r p) = codes "two ways"
+
+-- `router r1 link a: not heard`, or a place and why its route can't be read
+abbrev pub trouble_part : Network → State → Unclear → List ℕ
+trouble_part n s (NotHeard r l) = interface_part n r l ++ codes ": not heard"
+trouble_part n s (TwoMetrics r p) = place_part n s r p ++ codes "two metrics"
+trouble_part n s (Missing r p l) = place_part n s r p ++ codes "missing on " ++ name_of n.links l
+trouble_part n s (TwoWays r p) = place_part n s r p ++ codes "two ways"
+
+-- the link of a reason is one of the plan
+abbrev pub IsKnownReason : Network → Unclear → Type 0
+IsKnownReason n (NotHeard r l) = Unit {0}
+IsKnownReason n (TwoMetrics r p) = Unit {0}
+IsKnownReason n (Missing r p l) = l < length n.links
+IsKnownReason n (TwoWays r p) = Unit {0}
+
+-- the router, the prefix and the link of a trouble are known
+abbrev pub IsTroubleOf : Network → State → Unclear → Type 0
+IsTroubleOf n s (NotHeard r l) = (r < length n.routers) × (l < length n.links)
+IsTroubleOf n s (TwoMetrics r p) = (r < length n.routers) × (p < length s.prefixes)
+IsTroubleOf n s (Missing r p l) =
+    (r < length n.routers) × (p < length s.prefixes) × (l < length n.links)
+IsTroubleOf n s (TwoWays r p) = (r < length n.routers) × (p < length s.prefixes)
+
+-- `unclear: router r1 link a: not heard`
+unfoldable pub unclear_line : Network → State → Unclear → List ℕ
+unclear_line n s trouble = line (codes "unclear: " ++ trouble_part n s trouble)
+
+-- ---- Texts
+
+-- one line for each place after the given one that can be read and does not hold, in order
+pub data FailureLines (n : Network) (s : State) : Option (ℕ × ℕ) → List ℕ → Type 0 where
+  no_more : (after : Option (ℕ × ℕ)) → HoldsAfter n s after → FailureLines n s after []
+  one_more : (after : Option (ℕ × ℕ)) (f : Place2) (rest : List ℕ) → IsNextUnsettled n s after f
+      → FailureLines n s (Some (f.router, f.prefix)) rest
+      → FailureLines n s after (unsettled_line n s f ++ rest)
+
+-- the lines of an unsettled network: that of its first failing place, or those of all
+abbrev pub UnsettledLines : Network → State → Bool → Place2 → List ℕ → Type 0
+UnsettledLines n s true f text = FailureLines n s None text
+UnsettledLines n s false f text = text ≡ unsettled_line n s f
+
+-- what is written of a table
+pub data VerdictText (n : Network) (s : State) (all : Bool) : Written → Type 0 where
+  a_settled : ShowsRightTables n s
+      → VerdictText n s all (record { text = settled_line n s; status = Settled })
+  an_unclear : (trouble : Unclear) → IsFirstTrouble n s trouble
+      → VerdictText n s all (record { text = unclear_line n s trouble; status = IsUnclear })
+  an_unsettled : (f : Place2) (text : List ℕ) → ShowsTables n s → IsNextUnsettled n s None f
+      → UnsettledLines n s all f text
+      → VerdictText n s all (record { text = text; status = Unsettled })
+
+-- the status of a verdict
+abbrev pub verdict_status : Verdict → Status
+verdict_status verdicts.Settled = Settled
+verdict_status (verdicts.Unsettled f) = Unsettled
+verdict_status (verdicts.Unclear trouble) = IsUnclear
+
+-- what is written for the bytes of a plan and the text of a log, where it is told: what refuses
+-- them, or the verdict on the table of the log's records
+abbrev pub AuditText : List ℕ → Option (List ℕ) → Bool → Written → Type 0
+AuditText plan log all = ReportText (λ n s. VerdictText n s all) plan log
+
+-- ---- What the statuses mean
+
+-- what a verdict's status says of the table
+pub record IsJudged (n : Network) (s : State) (status : Status) : Type 0 where
+  pub settled : (status ≡ Settled) ↔ ShowsRightTables n s
+  pub arrive : status ≡ Settled → PacketsArrive n s
+  pub unsettled : (status ≡ Unsettled)
+      ↔ (ShowsTables n s × ((f : Place2) × IsNextUnsettled n s None f))
+  pub unclear : (status ≡ IsUnclear) ↔ ((trouble : Unclear) × IsFirstTrouble n s trouble)
+  pub no_tables : (status ≡ IsUnclear) ↔ (ShowsTables n s → ⊥)

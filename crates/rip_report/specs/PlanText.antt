@@ -1,0 +1,110 @@
+-- What `plan` prints.
+use Rattle.std.specs.Prelude.{◌≡◌, ℕ, ◌<◌, List, [], ◌++◌, length, codes, decimal, slice_get, option_map, unwrap_or, None, Some}
+use Rattle.std.specs.List.{flat_map}
+use Rattle.rip_wire.specs.Address.{address_text}
+use Rattle.rip_wire.specs.Prefix.{prefix_text}
+use Rattle.rip_plan.specs.Answers.{first_fault}
+use Rattle.rip_plan.specs.Codes.{number_of_code}
+use Rattle.rip_plan.specs.Network.{Network}
+use Rattle.rip_plan.specs.PlanOf.{IsPlanOfText}
+use Rattle.rip_plan.specs.declared.error.At.{At}
+use Rattle.rip_plan.specs.declared.error.At.TheVariants as places
+use Rattle.rip_plan.specs.declared.error.PlanCode.{PlanCode}
+use Rattle.rip_plan.specs.declared.error.PlanCode.TheVariants.{Syntax, Version, Key, Name, DuplicateName, Address, Prefix, Cost, DuplicatePrefix, UnknownLink, TwiceOnLink, DuplicateAddress, OutsidePrefix, NoInterface, Limit, Memory}
+use Rattle.rip_plan.specs.declared.error.PlanError.{PlanError}
+use Rattle.rip_plan.specs.declared.parts.Interface.{Interface}
+use Rattle.rip_plan.specs.declared.parts.Place.{Place}
+use Rattle.rip_plan.specs.declared.parts.Seat.{Seat}
+use Rattle.rip_plan.specs.declared.parts.Seat.TheVariants as seats
+use Rattle.rip_report.specs.Names.{name_of, numbered}
+use Rattle.rip_report.specs.Written.{Written, line}
+use Rattle.rip_report.specs.declared.status.Status.TheVariants.{Done, Refused}
+
+-- the word of a code
+abbrev pub word_of : PlanCode → List ℕ
+word_of Syntax = codes "Syntax"
+word_of Version = codes "Version"
+word_of Key = codes "Key"
+word_of Name = codes "Name"
+word_of DuplicateName = codes "DuplicateName"
+word_of Address = codes "Address"
+word_of Prefix = codes "Prefix"
+word_of Cost = codes "Cost"
+word_of DuplicatePrefix = codes "DuplicatePrefix"
+word_of UnknownLink = codes "UnknownLink"
+word_of TwiceOnLink = codes "TwiceOnLink"
+word_of DuplicateAddress = codes "DuplicateAddress"
+word_of OutsidePrefix = codes "OutsidePrefix"
+word_of NoInterface = codes "NoInterface"
+word_of Limit = codes "Limit"
+word_of Memory = codes "Memory"
+
+-- the number and the word of a code, as `10 UnknownLink`
+abbrev pub plan_code_text : PlanCode → List ℕ
+plan_code_text code = decimal (number_of_code code) ++ codes " " ++ word_of code
+
+-- a position in a plan's text, as `router 1 interface 2`
+abbrev pub at_text : At → List ℕ
+at_text places.Text = codes "text"
+at_text places.Version = codes "version"
+at_text (places.Link i) = numbered (codes "link ") i
+at_text (places.LinkPrefix i j) = numbered (codes "link ") i ++ numbered (codes " prefix ") j
+at_text (places.Router i) = numbered (codes "router ") i
+at_text (places.RouterInterface i j) =
+    numbered (codes "router ") i ++ numbered (codes " interface ") j
+at_text (places.RouterOwn i j) = numbered (codes "router ") i ++ numbered (codes " own ") j
+
+abbrev pub refused_plan : PlanError → Written
+refused_plan e = record {
+  text = line (codes "refused: plan " ++ plan_code_text e.code ++ codes " at " ++ at_text e.place);
+  status = Refused;
+}
+
+-- the text of the prefix of a number, which is below their count in a plan
+abbrev pub prefix_of : Network → ℕ → List ℕ
+prefix_of n k = unwrap_or (option_map prefix_text (slice_get n.prefixes k)) []
+
+-- `plan: 3 routers, 3 links, 6 interfaces, 3 prefixes`
+unfoldable pub counts_line : Network → List ℕ
+counts_line n =
+    line (codes "plan: " ++ decimal (length n.routers) ++ codes " routers, "
+    ++ decimal (length n.links) ++ codes " links, "
+    ++ decimal (length n.interfaces) ++ codes " interfaces, "
+    ++ decimal (length n.prefixes) ++ codes " prefixes")
+
+-- `interface r1 a 10.1.0.1 cost 1`
+unfoldable pub interface_line : Network → Interface → List ℕ
+interface_line n i =
+    line (codes "interface " ++ name_of n.routers i.router ++ codes " " ++ name_of n.links i.link
+    ++ codes " " ++ address_text i.address ++ codes " cost " ++ decimal i.cost)
+
+-- the link, or the router, is one of the plan
+abbrev pub IsSeat : Network → Seat → Type 0
+IsSeat n (seats.Link l) = l < length n.links
+IsSeat n (seats.Own r c) = r < length n.routers
+
+abbrev pub seat_text : Network → Seat → List ℕ
+seat_text n (seats.Link l) = codes " link " ++ name_of n.links l
+seat_text n (seats.Own r c) = codes " router " ++ name_of n.routers r ++ codes " cost " ++ decimal c
+
+-- `prefix 10.1.0.0/16 link a`, or `prefix 10.9.0.0/16 router r1 cost 1`
+unfoldable pub place_line : Network → Place → List ℕ
+place_line n p = line (codes "prefix " ++ prefix_of n p.prefix ++ seat_text n p.seat)
+
+-- a plan: its counts, its interfaces and its places
+abbrev pub shown_plan : Network → Written
+shown_plan n = record {
+  text = (counts_line n ++ flat_map (interface_line n) n.interfaces)
+      ++ flat_map (place_line n) n.places;
+  status = Done;
+}
+
+-- what is written for the bytes of a plan: their first fault, or one of the texts that a command has
+-- for the plan that their document is
+pub data OfPlan (IsText : Network → Written → Type 0) (plan : List ℕ) : Written → Type 0 where
+  a_fault : (e : PlanError) → first_fault plan ≡ Some e → OfPlan IsText plan (refused_plan e)
+  of_plan : (n : Network) (w : Written) → first_fault plan ≡ None → IsPlanOfText plan n
+      → IsText n w → OfPlan IsText plan w
+
+abbrev pub PlanText : List ℕ → Written → Type 0
+PlanText = OfPlan (λ n w. w ≡ shown_plan n)

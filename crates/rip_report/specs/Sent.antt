@@ -1,0 +1,79 @@
+-- What has gone out of a text, by the bytes that a sink has taken before and after, and what a run
+-- leaves of its source.
+use Rattle.std.specs.Prelude.{◌≡◌, ◌≢◌, ℕ, Bool, true, false, List, ◌++◌, Option, Result, Err, IfOk, OnErr, OnOk, is_err}
+use Rattle.std.specs.Io.KnownBytes.{Appends, Keeps}
+use Rattle.rip_log.specs.declared.device.Failed.{Failed}
+use Rattle.rip_report.specs.Written.{Written}
+use Rattle.rip_report.specs.declared.status.Status.{Status}
+use Rattle.rip_report.specs.declared.status.Status.TheVariants.{Refused}
+use Rattle.rip_report.specs.declared.status.RunError.{RunError}
+use Rattle.rip_report.specs.declared.status.RunError.TheVariants.{Read, Write, Memory}
+
+-- a front of the text went out, and `left` is the rest of it
+pub record Sent (old new : Option (List ℕ)) (text left : List ℕ) : Type 0 where
+  pub front : List ℕ
+  pub sent : Appends old new front
+  pub whole : text ≡ front ++ left
+
+-- a beginning of the text went out
+pub record Began (old new : Option (List ℕ)) (text : List ℕ) : Type 0 where
+  pub left : List ℕ
+  pub sent : Sent old new text left
+
+-- what a call leaves that writes a text: all but `left` went out; or the sink has failed, and a
+-- beginning went out
+pub record Writes
+    {K : Type 0}
+    (taken : K → Option (List ℕ))
+    (broken : K → Bool)
+    (old new : K)
+    (result : Result (Unit {0}) Failed)
+    (text left : List ℕ)
+    : Type 0 where
+  pub ok : OnOk result (Sent (taken old) (taken new) text left)
+  pub err : OnErr result (Began (taken old) (taken new) text)
+  pub failed : is_err result ≡ true → broken new ≡ true
+  pub marks : is_err result ≡ false → broken new ≡ broken old
+
+-- the whole of one of these texts went out, and its status is the one that is answered
+abbrev pub WentOut : (Written → Type 0) → Option (List ℕ) → Option (List ℕ) → Status → Type 0
+WentOut IsText old new status =
+    (text : List ℕ) × IsText (record { text = text; status = status }) × Appends old new text
+
+-- a beginning of one of these texts went out
+abbrev pub BeginningOut : (Written → Type 0) → Option (List ℕ) → Option (List ℕ) → Type 0
+BeginningOut IsText old new = (w : Written) × IsText w × Began old new w.text
+
+-- what a run leaves that prints one of these texts
+pub record Prints
+    {K : Type 0}
+    (taken : K → Option (List ℕ))
+    (broken : K → Bool)
+    (old new : K)
+    (result : Result Status RunError)
+    (IsText : Written → Type 0)
+    : Type 0 where
+  -- the whole text went out, and nothing else
+  pub text : IfOk result (WentOut IsText (taken old) (taken new))
+  -- the sink has failed, and a beginning of the text went out
+  pub write : result ≡ Err Write
+      → (broken new ≡ true) × BeginningOut IsText (taken old) (taken new)
+  -- with Read and with Memory nothing went out
+  pub read : result ≡ Err Read → Keeps (taken old) (taken new)
+  pub memory : result ≡ Err Memory → Keeps (taken old) (taken new)
+  -- every other answer leaves the sink's mark as it was
+  pub sink : result ≢ Err Write → broken new ≡ broken old
+
+-- what a run leaves that reads a log
+pub record Reads
+    {R : Type 0}
+    (broken at_end : R → Bool)
+    (old new : R)
+    (result : Result Status RunError)
+    : Type 0 where
+  -- the source has failed
+  pub read : result ≡ Err Read → broken new ≡ true
+  -- every other answer leaves the source's mark as it was
+  pub source : result ≢ Err Read → broken new ≡ broken old
+  -- what is printed of a log's table comes only where the source has come to its end
+  pub ended : IfOk result (λ status. status ≢ Refused → at_end new ≡ true)

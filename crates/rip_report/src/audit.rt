@@ -1,0 +1,271 @@
+//! The command `audit`: whether the tables that a log shows are right.
+
+pub(crate) mod lines;
+
+ghost use Rattle.std.specs.Prelude.{◌≡◌, ◌≢◌, ◌↔◌, ◌++◌, ℕ, List, [], Err, IfOk, IfSome, None, Some, false, is_err, is_some, true, length};
+ghost use Rattle.rip_plan.specs.Answers.{first_fault};
+ghost use Rattle.rip_plan.specs.Network.{Network};
+ghost use Rattle.rip_plan.specs.declared.error.PlanError.{PlanError};
+ghost use Rattle.rip_table.specs.State.{Fits, State};
+ghost use Rattle.rip_check.specs.Marks.{AreUnsettled};
+ghost use Rattle.rip_check.specs.Verdicts.{IsVerdict, IsNextUnsettled};
+ghost use Rattle.rip_report.specs.AuditText.{AuditText, FailureLines, IsJudged, IsPlaceOf, UnsettledLines, VerdictText, unsettled_line, verdict_status};
+ghost use Rattle.rip_report.specs.Held.{held};
+ghost use Rattle.rip_report.specs.ReportText.{IsAccepted};
+ghost use Rattle.rip_report.specs.Sent.{Prints, Reads, WentOut, Writes};
+ghost use Rattle.rip_check.specs.Laws.{ShowsRightTables};
+ghost use Rattle.rip_check.specs.Walks.{PacketsArrive};
+
+use crate::output::{Page, finish, write_all};
+use crate::report::{Report, run_report};
+use crate::status::{RunError, Status};
+use lines::{settled_text, unclear_text, unsettled_text};
+use rip_check::{Place2, Unsettled, Verdict, judge};
+use rip_log::{Failed, Sink, Source};
+use rip_plan::Plan;
+use rip_table::MetricTable;
+use std::alloc::{AllocError, Global};
+use std::hash::BuildHasher;
+
+/// Adds the line of a place to a page, unless a write before has failed.
+fn write_failure<T: MetricTable, K: Sink>(
+    before: Result<(), Failed>,
+    page: &mut Page,
+    plan: &Plan,
+    table: &T,
+    place: &Place2,
+    out: &mut K,
+) -> Result<(), Failed>
+    requires { IsPlaceOf plan.now (T.state table.now) place.now }
+    ensures writes { is_err before ≡ false →
+        Writes K.taken K.broken out.old out.new result
+        (held page.old ++ unsettled_line plan.now (T.state table.now) place.now) (held page.new) }
+    ensures kept { is_err before ≡ true → (is_err result ≡ true)
+        × (K.taken out.new ≡ K.taken out.old) × (K.broken out.new ≡ K.broken out.old) }
+{
+    before?;
+    page.write(out, unsettled_text(plan, table, place).as_bytes())
+}
+
+/// Writes the lines of all places that do not hold. After a failed write the others are gone through
+/// unwritten, so that what went out is a beginning of the lines of all.
+fn write_failures<T: MetricTable, K: Sink>(
+    page: &mut Page,
+    plan: &Plan,
+    table: &T,
+    places: &Unsettled,
+    out: &mut K,
+) -> Result<(), Failed>
+    requires fits { Fits plan.now (T.state table.now) }
+    requires places { AreUnsettled plan.now (T.state table.now) places.now }
+    ensures { (text : List ℕ) × FailureLines plan.now (T.state table.now) None text
+        × Writes K.taken K.broken out.old out.new result (held page.old ++ text) (held page.new) }
+{
+    plan.lawful();
+    let mut wrote = Ok(());
+    let mut after = None;
+    'places: while let Some(place) = places.next(plan, table, after) {
+        wrote = write_failure(wrote, page, plan, table, &place, out);
+        after = Some((place.router, place.prefix));
+    }
+    wrote
+}
+
+/// Writes the lines of all places that do not hold, to the last byte.
+fn write_each<T: MetricTable, K: Sink>(
+    plan: &Plan,
+    table: &T,
+    places: &Unsettled,
+    out: &mut K,
+) -> Result<(), Failed>
+    requires fits { Fits plan.now (T.state table.now) }
+    requires places { AreUnsettled plan.now (T.state table.now) places.now }
+    ensures { (text : List ℕ) × FailureLines plan.now (T.state table.now) None text
+        × Writes K.taken K.broken out.old out.new result text [] }
+{
+    let mut page = Page::new();
+    write_failures(&mut page, plan, table, places, out)?;
+    page.flush(out)
+}
+
+/// Writes the line of the first place that does not hold.
+fn write_first<T: MetricTable, K: Sink>(
+    plan: &Plan,
+    table: &T,
+    place: &Place2,
+    out: &mut K,
+) -> Result<(), Failed>
+    requires { IsNextUnsettled plan.now (T.state table.now) None place.now }
+    ensures { Writes K.taken K.broken out.old out.new result
+        (unsettled_line plan.now (T.state table.now) place.now) [] }
+{
+    plan.lawful();
+    write_all(out, unsettled_text(plan, table, place).as_bytes())
+}
+
+/// Writes the lines of an unsettled network: those of all places that do not hold, where they were
+/// found, or that of the first.
+fn write_unsettled<T: MetricTable, K: Sink>(
+    plan: &Plan,
+    table: &T,
+    all: bool,
+    places: &Option<Unsettled>,
+    place: &Place2,
+    out: &mut K,
+) -> Result<(), Failed>
+    requires fits { Fits plan.now (T.state table.now) }
+    requires places { IfSome places.now (AreUnsettled plan.now (T.state table.now)) }
+    requires all { is_some places.now ≡ all }
+    requires first { IsNextUnsettled plan.now (T.state table.now) None place.now }
+    ensures { (text : List ℕ) × UnsettledLines plan.now (T.state table.now) all place.now text
+        × Writes K.taken K.broken out.old out.new result text [] }
+{
+    match places {
+        Some(places) => write_each(plan, table, places, out),
+        None => write_first(plan, table, place, out),
+    }
+}
+
+/// The status of a verdict.
+fn status_of(verdict: &Verdict) -> Status
+    ensures { result ≡ verdict_status verdict.now }
+{
+    match verdict {
+        Verdict::Settled => Status::Settled,
+        Verdict::Unsettled(_) => Status::Unsettled,
+        Verdict::Unclear(_) => Status::Unclear,
+    }
+}
+
+/// Writes a verdict.
+fn write_verdict<T: MetricTable, K: Sink>(
+    plan: &Plan,
+    table: &T,
+    all: bool,
+    places: &Option<Unsettled>,
+    verdict: &Verdict,
+    out: &mut K,
+) -> Result<(), Failed>
+    requires fits { Fits plan.now (T.state table.now) }
+    requires places { IfSome places.now (AreUnsettled plan.now (T.state table.now)) }
+    requires all { (place : Place2) → verdict.now ≡ Verdict.Unsettled place →
+        is_some places.now ≡ all }
+    requires verdict { IsVerdict plan.now (T.state table.now) verdict.now }
+    ensures { (text : List ℕ) × VerdictText plan.now (T.state table.now) all
+        (record { text = text; status = verdict_status verdict.now })
+        × Writes K.taken K.broken out.old out.new result text [] }
+{
+    plan.lawful();
+    match verdict {
+        Verdict::Settled => write_all(out, settled_text(plan, table).as_bytes()),
+        Verdict::Unsettled(place) => write_unsettled(plan, table, all, places, place, out),
+        Verdict::Unclear(trouble) => {
+            write_all(out, unclear_text(plan, table, trouble).as_bytes())
+        }
+    }
+}
+
+/// The places that do not hold, where all of them are to be written: the verdict is Unsettled, and
+/// `all` is asked for.
+fn places_of<T: MetricTable>(
+    alloc: Global,
+    plan: &Plan,
+    table: &T,
+    all: bool,
+    verdict: &Verdict,
+) -> Result<Option<Unsettled>, AllocError>
+    requires { Fits plan.now (T.state table.now) }
+    ensures places { IfOk result (λ places.
+        IfSome places (AreUnsettled plan.now (T.state table.now))) }
+    ensures all { IfOk result (λ places. (place : Place2) → verdict.now ≡ Verdict.Unsettled place →
+        is_some places ≡ all) }
+    ensures memory { is_err result ≡ true →
+        (all ≡ true) × (verdict_status verdict.now ≡ Status.Unsettled) }
+{
+    match verdict {
+        Verdict::Unsettled(_) if all => Ok(Some(Unsettled::find(alloc, plan, table)?)),
+        _ => Ok(None),
+    }
+}
+
+/// Judges a table and writes the verdict.
+fn audit_table<T: MetricTable, K: Sink>(
+    alloc: Global,
+    plan: &Plan,
+    table: &T,
+    all: bool,
+    out: &mut K,
+) -> Result<Status, RunError>
+    requires { Fits plan.now (T.state table.now) }
+    ensures prints { Prints K.taken K.broken out.old out.new result
+        (VerdictText plan.now (T.state table.now) all) }
+    ensures read { result ≢ Err RunError.Read }
+    ensures wanted { result ≡ Err RunError.Memory →
+        (all ≡ true) × IsJudged plan.now (T.state table.now) Status.Unsettled }
+    ensures judged { IfOk result (IsJudged plan.now (T.state table.now)) }
+{
+    let verdict = judge(plan, table);
+    match places_of(alloc, plan, table, all, &verdict) {
+        Ok(places) => {
+            let wrote = write_verdict(plan, table, all, &places, &verdict, out);
+            finish(wrote, status_of(&verdict))
+        }
+        Err(_) => Err(RunError::Memory),
+    }
+}
+
+/// The command `audit`, for the first place that does not hold or for all.
+#[derive(Clone, Copy)]
+struct Audit {
+    all: bool,
+}
+
+impl Report for Audit {
+    ghost is_text = { λ audit n s. VerdictText n s audit.all };
+
+    ghost means = { λ audit n s. IsJudged n s };
+
+    fn write<T: MetricTable, K: Sink>(
+        &self,
+        alloc: Global,
+        plan: &Plan,
+        table: &T,
+        out: &mut K,
+    ) -> Result<Status, RunError> {
+        audit_table(alloc, plan, table, self.all, out)
+    }
+}
+
+/// Prints the verdict on a log for the plan that the bytes of a TOML document are, or what refuses the
+/// plan or the log. With `all` an unsettled network has one line for each place that does not hold. The
+/// source comes back. The hasher is for the prefixes, which strangers choose.
+pub fn run_audit<R: Source, K: Sink, S: BuildHasher + Drop>(
+    alloc: Global,
+    plan: &[u8],
+    log: R,
+    out: &mut K,
+    all: bool,
+    hasher: S,
+) -> (R, Result<Status, RunError>)
+    // Settled is answered exactly where the log shows tables that are right, and then packets arrive;
+    // otherwise the first place that does not hold is named, or the first trouble.
+    ensures headline { (n : Network) (s : State) → IsAccepted plan.now (R.coming log) n s →
+        IfOk result.1 (λ status. ((status ≡ Status.Settled) ↔ ShowsRightTables n s)
+        × (status ≡ Status.Settled → PacketsArrive n s)
+        × WentOut (VerdictText n s all) (K.taken out.old) (K.taken out.new) status) }
+    // What each verdict is answered for.
+    ensures judged { (n : Network) (s : State) → IsAccepted plan.now (R.coming log) n s →
+        IfOk result.1 (IsJudged n s) }
+    // The whole text went out, or a beginning where the sink failed, or nothing.
+    ensures prints { Prints K.taken K.broken out.old out.new result.1
+        (AuditText plan.now (R.coming log) all) }
+    // What is printed of a table comes only at the source's end, and Read only where it has failed.
+    ensures reads { Reads R.broken R.at_end log result.0 result.1 }
+    // The source of a refused plan is as it was.
+    ensures untouched { (e : PlanError) → first_fault plan.now ≡ Some e → result.0 ≡ log }
+{
+    run_report(alloc, &Audit { all }, plan, log, out, hasher)
+}
+
+#[cfg(test)]
+mod tests;

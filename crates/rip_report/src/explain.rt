@@ -1,0 +1,262 @@
+//! The command `explain`: the verdict on a log, and what it comes from.
+
+mod lines;
+mod places;
+mod troubles;
+
+ghost use Rattle.std.specs.Prelude.{◌≡◌, ◌≢◌, ◌↔◌, ◌++◌, ℕ, Bool, List, [], Err, IfOk, IsTrue, None, Some, false, true, length};
+ghost use Rattle.rip_plan.specs.Answers.{first_fault};
+ghost use Rattle.rip_plan.specs.Network.{Network};
+ghost use Rattle.rip_plan.specs.declared.error.PlanError.{PlanError};
+ghost use Rattle.rip_table.specs.State.{Fits, State};
+ghost use Rattle.rip_check.specs.Expected.{AreExpected};
+ghost use Rattle.rip_check.specs.Firsts.{IsFirstTrouble};
+ghost use Rattle.rip_check.specs.Laws.{ShowsRightTables};
+ghost use Rattle.rip_check.specs.Verdicts.{IsNextUnsettled, ShowsTables};
+ghost use Rattle.rip_check.specs.Walks.{PacketsArrive};
+ghost use Rattle.rip_report.specs.AuditText.{IsJudged};
+ghost use Rattle.rip_report.specs.ExplainText.{BeginsWithVerdict, ExplainText, UnreachableLine};
+ghost use Rattle.rip_report.specs.ReportText.{IsAccepted, ReportText};
+ghost use Rattle.rip_report.specs.Sent.{Prints, Reads, WentOut};
+
+use crate::audit::lines::settled_text;
+use crate::entries::{PairEntry, add_pairs};
+use crate::listing::Listing;
+use crate::output::finish;
+use crate::report::{Report, run_report};
+use crate::status::{RunError, Status};
+use lines::unreachable_text;
+use places::{Failures, add_place};
+use rip_check::{Expected, Place2, Unclear, Unsettled, Verdict, judge, least_metric};
+use rip_log::{Sink, Source};
+use rip_plan::Plan;
+use rip_table::MetricTable;
+use std::alloc::Global;
+use std::hash::BuildHasher;
+use troubles::add_unclear;
+
+/// The planned prefixes that routers cannot reach.
+#[derive(Drop)]
+struct Unreachable {
+    expected: Expected,
+}
+
+impl PairEntry for Unreachable {
+    ghost fits = { λ pair n _. AreExpected n pair.expected };
+
+    ghost is_text = { λ _ n s r p. UnreachableLine n s r p };
+
+    fn add<T: MetricTable, K: Sink>(
+        &self,
+        listing: &mut Listing,
+        plan: &Plan,
+        table: &T,
+        router: usize,
+        prefix: usize,
+        out: &mut K,
+    ) {
+        if prefix < plan.prefixes() && self.expected.metric(plan, router, prefix).get() == 16 {
+            listing.add(&unreachable_text(plan, table, router, prefix), out);
+        }
+    }
+}
+
+/// Writes that a network has settled, and which planned prefixes its routers cannot reach.
+fn explain_settled<T: MetricTable, K: Sink>(
+    alloc: Global,
+    plan: &Plan,
+    table: &T,
+    out: &mut K,
+) -> Result<Status, RunError>
+    requires fits { Fits plan.now (T.state table.now) }
+    requires right { ShowsRightTables plan.now (T.state table.now) }
+    ensures prints { (all : Bool) → Prints K.taken K.broken out.old out.new result
+        (ExplainText plan.now (T.state table.now) all) }
+    ensures read { result ≢ Err RunError.Read }
+{
+    let Ok(expected) = Expected::find(alloc, plan) else {
+        return Err(RunError::Memory);
+    };
+    let mut listing = Listing::new();
+    listing.add(&settled_text(plan, table), out);
+    add_pairs(&Unreachable { expected }, &mut listing, plan, table, out);
+    finish(listing.finish(out), Status::Settled)
+}
+
+/// Writes the first place that does not hold, and what it comes from.
+fn explain_place<T: MetricTable, K: Sink>(
+    plan: &Plan,
+    table: &T,
+    place: &Place2,
+    out: &mut K,
+) -> Result<Status, RunError>
+    requires fits { Fits plan.now (T.state table.now) }
+    requires shows { ShowsTables plan.now (T.state table.now) }
+    requires first { IsNextUnsettled plan.now (T.state table.now) None place.now }
+    ensures prints { Prints K.taken K.broken out.old out.new result
+        (ExplainText plan.now (T.state table.now) false) }
+    ensures read { result ≢ Err RunError.Read }
+{
+    plan.lawful();
+    let least = least_metric(plan, place.router, place.prefix);
+    let mut listing = Listing::new();
+    add_place(&mut listing, plan, table, place, least, out);
+    finish(listing.finish(out), Status::Unsettled)
+}
+
+/// Writes all places that do not hold, and what they come from.
+fn explain_places<T: MetricTable, K: Sink>(
+    alloc: Global,
+    plan: &Plan,
+    table: &T,
+    out: &mut K,
+) -> Result<Status, RunError>
+    requires fits { Fits plan.now (T.state table.now) }
+    requires shows { ShowsTables plan.now (T.state table.now) }
+    requires first { (place : Place2) × IsNextUnsettled plan.now (T.state table.now) None place }
+    ensures prints { Prints K.taken K.broken out.old out.new result
+        (ExplainText plan.now (T.state table.now) true) }
+    ensures read { result ≢ Err RunError.Read }
+{
+    let Ok(places) = Unsettled::find(alloc, plan, table) else {
+        return Err(RunError::Memory);
+    };
+    let Ok(expected) = Expected::find(alloc, plan) else {
+        return Err(RunError::Memory);
+    };
+    let mut listing = Listing::new();
+    add_pairs(
+        &Failures { places, expected },
+        &mut listing,
+        plan,
+        table,
+        out,
+    );
+    finish(listing.finish(out), Status::Unsettled)
+}
+
+/// Writes the first place that does not hold, or all, and what they come from.
+fn explain_unsettled<T: MetricTable, K: Sink>(
+    alloc: Global,
+    plan: &Plan,
+    table: &T,
+    all: bool,
+    first: &Place2,
+    out: &mut K,
+) -> Result<Status, RunError>
+    requires fits { Fits plan.now (T.state table.now) }
+    requires shows { ShowsTables plan.now (T.state table.now) }
+    requires first { IsNextUnsettled plan.now (T.state table.now) None first.now }
+    ensures prints { Prints K.taken K.broken out.old out.new result
+        (ExplainText plan.now (T.state table.now) all) }
+    ensures read { result ≢ Err RunError.Read }
+{
+    if all {
+        explain_places(alloc, plan, table, out)
+    } else {
+        explain_place(plan, table, first, out)
+    }
+}
+
+/// Writes the first trouble, or all of its kind, and what they come from.
+fn explain_unclear<T: MetricTable, K: Sink>(
+    plan: &Plan,
+    table: &T,
+    all: bool,
+    first: &Unclear,
+    out: &mut K,
+) -> Result<Status, RunError>
+    requires fits { Fits plan.now (T.state table.now) }
+    requires first { IsFirstTrouble plan.now (T.state table.now) first.now }
+    ensures prints { Prints K.taken K.broken out.old out.new result
+        (ExplainText plan.now (T.state table.now) all) }
+    ensures read { result ≢ Err RunError.Read }
+{
+    plan.lawful();
+    let mut listing = Listing::new();
+    add_unclear(&mut listing, plan, table, all, first, out);
+    finish(listing.finish(out), Status::Unclear)
+}
+
+/// Judges a table, and writes the verdict and what it comes from.
+fn explain_table<T: MetricTable, K: Sink>(
+    alloc: Global,
+    plan: &Plan,
+    table: &T,
+    all: bool,
+    out: &mut K,
+) -> Result<Status, RunError>
+    requires { Fits plan.now (T.state table.now) }
+    ensures prints { Prints K.taken K.broken out.old out.new result
+        (ExplainText plan.now (T.state table.now) all) }
+    ensures read { result ≢ Err RunError.Read }
+    ensures judged { IfOk result (IsJudged plan.now (T.state table.now)) }
+{
+    match judge(plan, table) {
+        Verdict::Settled => explain_settled(alloc, plan, table, out),
+        Verdict::Unsettled(place) => explain_unsettled(alloc, plan, table, all, &place, out),
+        Verdict::Unclear(trouble) => explain_unclear(plan, table, all, &trouble, out),
+    }
+}
+
+/// The command `explain`, for the first place or trouble, or for all.
+#[derive(Clone, Copy)]
+struct Explain {
+    all: bool,
+}
+
+impl Report for Explain {
+    ghost is_text = { λ explain n s. ExplainText n s explain.all };
+
+    ghost means = { λ explain n s. IsJudged n s };
+
+    fn write<T: MetricTable, K: Sink>(
+        &self,
+        alloc: Global,
+        plan: &Plan,
+        table: &T,
+        out: &mut K,
+    ) -> Result<Status, RunError> {
+        explain_table(alloc, plan, table, self.all, out)
+    }
+}
+
+/// Prints the verdict on a log and what it comes from, for the plan that the bytes of a TOML document
+/// are, or what refuses the plan or the log. Under a settled network's line are the planned prefixes that
+/// its routers cannot reach; under that of a place that does not hold, what the router shows, its route,
+/// its direct cost, each neighbour's offer, and the least metric of the plan; under that of a trouble,
+/// what was heard or shown there. With `all` each place that does not hold is told of, or each trouble of
+/// the kind of the first. The source comes back. The hasher is for the prefixes, which strangers choose.
+pub fn run_explain<R: Source, K: Sink, S: BuildHasher + Drop>(
+    alloc: Global,
+    plan: &[u8],
+    log: R,
+    out: &mut K,
+    all: bool,
+    hasher: S,
+) -> (R, Result<Status, RunError>)
+    // Settled is answered exactly where the log shows tables that are right, and then packets arrive.
+    ensures headline { (n : Network) (s : State) → IsAccepted plan.now (R.coming log) n s →
+        IfOk result.1 (λ status. ((status ≡ Status.Settled) ↔ ShowsRightTables n s)
+        × (status ≡ Status.Settled → PacketsArrive n s)
+        × WentOut (ExplainText n s all) (K.taken out.old) (K.taken out.new) status) }
+    // What each verdict is answered for.
+    ensures judged { (n : Network) (s : State) → IsAccepted plan.now (R.coming log) n s →
+        IfOk result.1 (IsJudged n s) }
+    // Without `all` the first line is that of `audit`.
+    ensures verdict { all ≡ false → (n : Network) (s : State) →
+        IsAccepted plan.now (R.coming log) n s →
+        IfOk result.1 (WentOut (BeginsWithVerdict n s) (K.taken out.old) (K.taken out.new)) }
+    // The whole text went out, or a beginning where the sink failed, or nothing.
+    ensures prints { Prints K.taken K.broken out.old out.new result.1
+        (ReportText (λ n s. ExplainText n s all) plan.now (R.coming log)) }
+    // What is printed of a table comes only at the source's end, and Read only where it has failed.
+    ensures reads { Reads R.broken R.at_end log result.0 result.1 }
+    // The source of a refused plan is as it was.
+    ensures untouched { (e : PlanError) → first_fault plan.now ≡ Some e → result.0 ≡ log }
+{
+    run_report(alloc, &Explain { all }, plan, log, out, hasher)
+}
+
+#[cfg(test)]
+mod tests;

@@ -1,0 +1,32 @@
+//! The texts of the commands that read a plan of a RIP-2 network, a log, or one datagram.
+#![tactic(auto)]
+
+mod audit;
+mod decode;
+mod entries;
+mod expect;
+mod explain;
+mod limits;
+mod line;
+mod listing;
+mod names;
+mod output;
+mod plan;
+mod reading;
+mod refusal;
+mod report;
+mod routes;
+mod status;
+mod table;
+#[cfg(test)]
+mod tests;
+mod texts;
+
+pub use audit::run_audit;
+pub use decode::run_decode;
+pub use expect::run_expect;
+pub use explain::run_explain;
+pub use plan::run_plan;
+pub use routes::run_routes;
+pub use status::{RunError, Status, exit_code, fault_line};
+pub use table::run_table;

@@ -1,0 +1,50 @@
+//! Lines on their way out.
+
+ghost use Rattle.std.specs.Prelude.{◌≡◌, ◌++◌, [], List, Ok, ℕ};
+ghost use Rattle.rip_report.specs.Held.{held};
+ghost use Rattle.rip_report.specs.Listings.{Adds};
+ghost use Rattle.rip_report.specs.Sent.{Writes};
+
+use crate::line::Line;
+use crate::output::Page;
+use rip_log::{Failed, Sink};
+
+/// Lines that are gathered on a page. After a failed write the others are still made, and not written:
+/// what went out is promised to be a beginning of all lines, which there are only once each is made.
+#[derive(Drop)]
+pub(crate) struct Listing {
+    page: Page,
+    wrote: Result<(), Failed>,
+}
+
+impl Listing {
+    /// No lines.
+    pub(crate) fn new() -> Listing
+        ensures page { held result.page ≡ [] }
+        ensures wrote { result.wrote ≡ Ok tt }
+    {
+        Listing {
+            page: Page::new(),
+            wrote: Ok(()),
+        }
+    }
+
+    /// Adds a line, unless a write before has failed.
+    pub(crate) fn add<K: Sink>(&mut self, line: &Line, out: &mut K)
+        ensures { Adds K.taken K.broken out.old out.new self.old self.new line.now }
+    {
+        if self.wrote.is_ok() {
+            self.wrote = self.page.write(out, line.as_bytes());
+        }
+    }
+
+    /// Sends what is left, and tells whether all lines went out.
+    pub(crate) fn finish<K: Sink>(mut self, out: &mut K) -> Result<(), Failed>
+        ensures { (start : K) (text : List ℕ) →
+            Writes K.taken K.broken start out.old self.wrote text (held self.page) →
+            Writes K.taken K.broken start out.new result text [] }
+    {
+        self.wrote?;
+        self.page.flush(out)
+    }
+}

@@ -1,0 +1,48 @@
+//! The names of a plan's routers and links, and ways, in a line.
+
+ghost use Rattle.std.specs.Prelude.{◌≡◌, ◌+◌, ◌≤◌, ◌<◌, ◌++◌, length};
+ghost use Rattle.rip_report.specs.declared.limits.TheConstants.{LINE_BYTES};
+ghost use Rattle.rip_report.specs.Names.{IsKnownWay, name_of, way_text};
+
+use crate::line::Line;
+use rip_check::Way;
+use rip_plan::Plan;
+
+/// Adds the name of a router.
+pub(crate) fn push_router(text: &mut Line, plan: &Plan, router: usize)
+    requires known { router < length plan.now.routers }
+    requires room { length text.old + 32 ≤ LINE_BYTES }
+    ensures text { text.new ≡ text.old ++ name_of plan.now.routers router }
+    ensures size { length text.new ≤ length text.old + 32 }
+{
+    plan.lawful();
+    text.push(plan.router_name(router));
+}
+
+/// Adds the name of a link.
+pub(crate) fn push_link(text: &mut Line, plan: &Plan, link: usize)
+    requires known { link < length plan.now.links }
+    requires room { length text.old + 32 ≤ LINE_BYTES }
+    ensures text { text.new ≡ text.old ++ name_of plan.now.links link }
+    ensures size { length text.new ≤ length text.old + 32 }
+{
+    plan.lawful();
+    text.push(plan.link_name(link));
+}
+
+/// Adds a way.
+pub(crate) fn push_way(text: &mut Line, plan: &Plan, way: Way)
+    requires way { IsKnownWay plan.now way }
+    requires room { length text.old + 40 ≤ LINE_BYTES }
+    ensures text { text.new ≡ text.old ++ way_text plan.now way }
+    ensures size { length text.new ≤ length text.old + 40 }
+{
+    match way {
+        Way::Unreachable => text.push("unreachable"),
+        Way::Here => text.push("here"),
+        Way::Over(link) => {
+            text.push("over ");
+            push_link(text, plan, link);
+        }
+    }
+}

@@ -1,0 +1,232 @@
+//! The command `plan`: the parts of a plan.
+
+ghost use Rattle.std.specs.Prelude.{◌≡◌, ◌≢◌, ◌+◌, ◌≤◌, ◌<◌, ◌↔◌, ◌++◌, [], Err, length};
+ghost use Rattle.std.specs.List.{flat_map};
+ghost use Rattle.rip_report.specs.declared.limits.TheConstants.{LINE_BYTES};
+ghost use Rattle.rip_report.specs.PlanText.{IsSeat, PlanText, at_text, counts_line, interface_line, place_line, plan_code_text, refused_plan, seat_text, shown_plan, word_of};
+ghost use Rattle.rip_report.specs.Held.{held};
+ghost use Rattle.rip_report.specs.Sent.{Prints, Writes};
+
+use crate::line::Line;
+use crate::names::{push_link, push_router};
+use crate::output::{Page, finish, write_all};
+use crate::status::{RunError, Status};
+use rip_log::{Failed, Sink};
+use rip_plan::{At, Interface, Place, Plan, PlanCode, PlanError, Seat};
+use std::alloc::Global;
+
+/// The word of a code.
+fn word(code: PlanCode) -> &'static str
+    ensures text { result.now ≡ word_of code }
+    ensures short { length result.now ≤ 32 }
+{
+    match code {
+        PlanCode::Syntax => "Syntax",
+        PlanCode::Version => "Version",
+        PlanCode::Key => "Key",
+        PlanCode::Name => "Name",
+        PlanCode::DuplicateName => "DuplicateName",
+        PlanCode::Address => "Address",
+        PlanCode::Prefix => "Prefix",
+        PlanCode::Cost => "Cost",
+        PlanCode::DuplicatePrefix => "DuplicatePrefix",
+        PlanCode::UnknownLink => "UnknownLink",
+        PlanCode::TwiceOnLink => "TwiceOnLink",
+        PlanCode::DuplicateAddress => "DuplicateAddress",
+        PlanCode::OutsidePrefix => "OutsidePrefix",
+        PlanCode::NoInterface => "NoInterface",
+        PlanCode::Limit => "Limit",
+        PlanCode::Memory => "Memory",
+    }
+}
+
+/// Adds the number and the word of a code.
+fn push_code(text: &mut Line, code: PlanCode)
+    requires { length text.old + 53 ≤ LINE_BYTES }
+    ensures text { text.new ≡ text.old ++ plan_code_text code }
+    ensures size { length text.new ≤ length text.old + 53 }
+{
+    text.push_number(u64::from(code.number()));
+    text.push(" ");
+    text.push(word(code));
+}
+
+/// Adds a position in a plan's text.
+fn push_at(text: &mut Line, place: At)
+    requires { length text.old + 72 ≤ LINE_BYTES }
+    ensures text { text.new ≡ text.old ++ at_text place }
+    ensures size { length text.new ≤ length text.old + 72 }
+{
+    match place {
+        At::Text => text.push("text"),
+        At::Version => text.push("version"),
+        At::Link(i) => text.push_numbered("link ", i),
+        At::LinkPrefix(i, j) => {
+            text.push_numbered("link ", i);
+            text.push_numbered(" prefix ", j);
+        }
+        At::Router(i) => text.push_numbered("router ", i),
+        At::RouterInterface(i, j) => {
+            text.push_numbered("router ", i);
+            text.push_numbered(" interface ", j);
+        }
+        At::RouterOwn(i, j) => {
+            text.push_numbered("router ", i);
+            text.push_numbered(" own ", j);
+        }
+    }
+}
+
+/// The line of a fault.
+fn fault_text(error: PlanError) -> Line
+    ensures { result ≡ (refused_plan error).text }
+{
+    let mut text = Line::new();
+    text.push("refused: plan ");
+    push_code(&mut text, error.code);
+    text.push(" at ");
+    push_at(&mut text, error.place);
+    text.end();
+    text
+}
+
+/// The line of the counts.
+#[tactic(auto, unfolding(crate::specs::PlanText::counts_line))]
+fn counts_text(plan: &Plan) -> Line
+    ensures { result ≡ counts_line plan.now }
+{
+    let mut text = Line::new();
+    text.push("plan: ");
+    text.push_number(plan.routers() as u64);
+    text.push(" routers, ");
+    text.push_number(plan.links() as u64);
+    text.push(" links, ");
+    text.push_number(plan.interfaces() as u64);
+    text.push(" interfaces, ");
+    text.push_number(plan.prefixes() as u64);
+    text.push(" prefixes");
+    text.end();
+    text
+}
+
+/// The line of an interface.
+#[tactic(auto, unfolding(crate::specs::PlanText::interface_line))]
+fn interface_text(plan: &Plan, interface: Interface) -> Line
+    requires router { interface.router < length plan.now.routers }
+    requires link { interface.link < length plan.now.links }
+    ensures { result ≡ interface_line plan.now interface }
+{
+    let mut text = Line::new();
+    text.push("interface ");
+    push_router(&mut text, plan, interface.router);
+    text.push(" ");
+    push_link(&mut text, plan, interface.link);
+    text.push(" ");
+    text.push_address(interface.address);
+    text.push(" cost ");
+    text.push_number(u64::from(interface.cost));
+    text.end();
+    text
+}
+
+/// Writes the lines of the interfaces.
+fn write_interfaces<K: Sink>(page: &mut Page, plan: &Plan, out: &mut K) -> Result<(), Failed>
+    ensures { Writes K.taken K.broken out.old out.new result
+        (held page.old ++ flat_map (interface_line plan.now) plan.now.interfaces) (held page.new) }
+{
+    plan.lawful();
+    for i in 0..plan.interfaces() {
+        page.write(out, interface_text(plan, plan.interface(i)).as_bytes())?;
+    }
+    Ok(())
+}
+
+/// Adds the seat of a place.
+fn push_seat(text: &mut Line, plan: &Plan, seat: Seat)
+    requires known { IsSeat plan.now seat }
+    requires room { length text.old + 80 ≤ LINE_BYTES }
+    ensures text { text.new ≡ text.old ++ seat_text plan.now seat }
+    ensures size { length text.new ≤ length text.old + 80 }
+{
+    match seat {
+        Seat::Link(link) => {
+            text.push(" link ");
+            push_link(text, plan, link);
+        }
+        Seat::Own { router, cost } => {
+            text.push(" router ");
+            push_router(text, plan, router);
+            text.push(" cost ");
+            text.push_number(u64::from(cost));
+        }
+    }
+}
+
+/// The line of a place.
+#[tactic(auto, unfolding(crate::specs::PlanText::place_line))]
+fn place_text(plan: &Plan, place: Place) -> Line
+    requires prefix { place.prefix < length plan.now.prefixes }
+    requires seat { IsSeat plan.now place.seat }
+    ensures { result ≡ place_line plan.now place }
+{
+    let mut text = Line::new();
+    text.push("prefix ");
+    text.push_prefix(plan.prefix(place.prefix));
+    push_seat(&mut text, plan, place.seat);
+    text.end();
+    text
+}
+
+/// Writes the lines of the places.
+fn write_places<K: Sink>(page: &mut Page, plan: &Plan, out: &mut K) -> Result<(), Failed>
+    ensures { Writes K.taken K.broken out.old out.new result
+        (held page.old ++ flat_map (place_line plan.now) plan.now.places) (held page.new) }
+{
+    plan.lawful();
+    for k in 0..plan.places() {
+        page.write(out, place_text(plan, plan.place(k)).as_bytes())?;
+    }
+    Ok(())
+}
+
+/// Writes a plan: its counts, its interfaces and its places.
+fn write_plan<K: Sink>(plan: &Plan, out: &mut K) -> Result<(), Failed>
+    ensures { Writes K.taken K.broken out.old out.new result (shown_plan plan.now).text [] }
+{
+    let mut page = Page::new();
+    page.write(out, counts_text(plan).as_bytes())?;
+    write_interfaces(&mut page, plan, out)?;
+    write_places(&mut page, plan, out)?;
+    page.flush(out)
+}
+
+/// Ends a run whose plan is refused, or for whose plan there is no memory.
+pub(crate) fn refuse_plan<K: Sink>(error: PlanError, out: &mut K) -> Result<Status, RunError>
+    ensures prints { Prints K.taken K.broken out.old out.new result
+        (λ w. w ≡ refused_plan error) }
+    ensures wanted { (result ≡ Err RunError.Memory) ↔ (error.code ≡ PlanCode.Memory) }
+    ensures read { result ≢ Err RunError.Read }
+{
+    if error.code == PlanCode::Memory {
+        return Err(RunError::Memory);
+    }
+    finish(
+        write_all(out, fault_text(error).as_bytes()),
+        Status::Refused,
+    )
+}
+
+/// Prints the plan that the bytes of a TOML document are, or their first fault.
+pub fn run_plan<K: Sink>(alloc: Global, plan: &[u8], out: &mut K) -> Result<Status, RunError>
+    // The whole text went out, or a beginning where the sink failed, or nothing.
+    ensures prints { Prints K.taken K.broken out.old out.new result (PlanText plan.now) }
+    ensures read { result ≢ Err RunError.Read }
+{
+    match Plan::read(alloc, plan) {
+        Ok(plan) => finish(write_plan(&plan, out), Status::Done),
+        Err(error) => refuse_plan(error, out),
+    }
+}
+
+#[cfg(test)]
+mod tests;

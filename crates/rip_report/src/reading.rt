@@ -1,0 +1,58 @@
+//! From a log to a table.
+
+ghost use Rattle.std.specs.Prelude.{◌≡◌, ◌≢◌, true, IfOk, Ok, Err, None};
+ghost use Rattle.rip_log.specs.Logs.{log_in};
+ghost use Rattle.rip_table.specs.Collects.{OutcomeKnown};
+ghost use Rattle.rip_table.specs.State.{Fits, new_state};
+ghost use Rattle.rip_report.specs.Readings.{refusal_in};
+
+use crate::status::RunError;
+use rip_log::{LogCode, LogError, LogReader, Source};
+use rip_plan::Plan;
+use rip_table::{CollectCause, CollectError, MetricTable, TableError, collect};
+use std::alloc::Global;
+
+/// What refuses a log, if anything does, or why it could not be read.
+fn refusal(collected: Result<(), CollectError>) -> Result<Option<CollectError>, RunError>
+    ensures { result ≡ refusal_in collected }
+{
+    match collected {
+        Ok(()) => Ok(None),
+        Err(error) => match error.cause {
+            CollectCause::Table(TableError::Memory) => Err(RunError::Memory),
+            CollectCause::Log(
+                LogError {
+                    code: LogCode::Read,
+                    ..
+                },
+            ) => Err(RunError::Read),
+            _ => Ok(Some(error)),
+        },
+    }
+}
+
+/// Joins a log into a new table of the plan, and answers what refuses it, if anything does; the
+/// table then holds what the lines before gave. The source comes back.
+pub(crate) fn read_log<R: Source, T: MetricTable>(
+    alloc: Global,
+    plan: &Plan,
+    log: R,
+    table: &mut T,
+) -> (R, Result<Option<CollectError>, RunError>)
+    requires { T.state table.old ≡ new_state plan.now }
+    ensures told { IfOk result.1 (OutcomeKnown plan.now (new_state plan.now)
+        (log_in (R.coming log)) (T.state table.new)) }
+    ensures fits { Fits plan.now (T.state table.new) }
+    ensures read { result.1 ≡ Err RunError.Read → R.broken result.0 ≡ true }
+    ensures write { result.1 ≢ Err RunError.Write }
+    ensures mark { result.1 ≢ Err RunError.Read → R.broken result.0 ≡ R.broken log }
+    ensures ended { result.1 ≡ Ok None → R.at_end result.0 ≡ true }
+{
+    match LogReader::new(alloc, log) {
+        Err((_, source)) => (source, Err(RunError::Memory)),
+        Ok(mut reader) => {
+            let collected = collect(plan, &mut reader, table);
+            (reader.into_source(), refusal(collected))
+        }
+    }
+}

@@ -1,0 +1,113 @@
+//! Reports on the table of a log: what the commands share that read a plan and a log.
+
+ghost use Rattle.std.specs.Prelude.{◌≡◌, ◌≢◌, Err, IfOk, Some};
+ghost use Rattle.rip_plan.specs.Answers.{first_fault};
+ghost use Rattle.rip_plan.specs.Network.{Network};
+ghost use Rattle.rip_plan.specs.declared.error.PlanError.{PlanError};
+ghost use Rattle.rip_table.specs.State.{Fits, State, new_state};
+ghost use Rattle.rip_report.specs.ReportText.{IsAccepted, IsTable, ReportOf, ReportText};
+ghost use Rattle.rip_report.specs.Sent.{Prints, Reads, WentOut};
+ghost use Rattle.rip_report.specs.Written.{Written};
+
+use crate::output::{finish, write_all};
+use crate::plan::refuse_plan;
+use crate::reading::read_log;
+use crate::refusal::refusal_text;
+use crate::status::{RunError, Status};
+use rip_log::{Sink, Source};
+use rip_plan::Plan;
+use rip_plan::laws::one_plan;
+use rip_table::{GridTable, MetricTable};
+use std::alloc::Global;
+use std::hash::BuildHasher;
+
+/// A command that reads a plan and a log: what it writes of the log's table.
+pub(crate) trait Report {
+    ghost use Rattle.rip_report.specs.declared.status.Status.{Status};
+
+    // The texts that it may write of a table, each with its status.
+    ghost is_text: { Self → Network → State → Written → Type 0 };
+
+    // What its status says of the table.
+    ghost means: { Self → Network → State → Status → Type 0 };
+
+    /// Writes what there is to say of a table.
+    fn write<T: MetricTable, K: Sink>(
+        &self,
+        alloc: Global,
+        plan: &Plan,
+        table: &T,
+        out: &mut K,
+    ) -> Result<Status, RunError>
+        requires { Fits plan.now (T.state table.now) }
+        ensures prints { Prints K.taken K.broken out.old out.new result
+            (is_text self.now plan.now (T.state table.now)) }
+        ensures meaning { IfOk result (means self.now plan.now (T.state table.now)) }
+        ensures read { result ≢ Err RunError.Read };
+}
+
+/// Writes the report on a log by its plan, or what refuses the log. The table is new.
+fn report_log<C: Report, R: Source, K: Sink, T: MetricTable>(
+    alloc: Global,
+    command: &C,
+    plan: &Plan,
+    log: R,
+    table: &mut T,
+    out: &mut K,
+) -> (R, Result<Status, RunError>)
+    requires { T.state table.old ≡ new_state plan.now }
+    ensures prints { Prints K.taken K.broken out.old out.new result.1
+        (ReportOf (C.is_text command.now plan.now) plan.now (R.coming log)) }
+    ensures reads { Reads R.broken R.at_end log result.0 result.1 }
+    ensures told { (s : State) → IsTable plan.now (R.coming log) s → IfOk result.1
+        (WentOut (C.is_text command.now plan.now s) (K.taken out.old) (K.taken out.new)) }
+    ensures meaning { (s : State) → IsTable plan.now (R.coming log) s →
+        IfOk result.1 (C.means command.now plan.now s) }
+{
+    let (source, read) = read_log(alloc, plan, log, table);
+    match read {
+        Ok(None) => (source, command.write(alloc, plan, table, out)),
+        Ok(Some(error)) => (
+            source,
+            finish(
+                write_all(out, refusal_text(error).as_bytes()),
+                Status::Refused,
+            ),
+        ),
+        Err(error) => (source, Err(error)),
+    }
+}
+
+/// Writes the report on a log for the plan that the bytes of a TOML document are, or what refuses
+/// the plan or the log. The source comes back. The hasher is for the prefixes, which strangers choose.
+pub(crate) fn run_report<C: Report, R: Source, K: Sink, S: BuildHasher + Drop>(
+    alloc: Global,
+    command: &C,
+    plan: &[u8],
+    log: R,
+    out: &mut K,
+    hasher: S,
+) -> (R, Result<Status, RunError>)
+    // The whole text went out, or a beginning where the sink failed, or nothing.
+    ensures prints { Prints K.taken K.broken out.old out.new result.1
+        (ReportText (C.is_text command.now) plan.now (R.coming log)) }
+    // What is printed of a table comes only at the source's end, and Read only where it has failed.
+    ensures reads { Reads R.broken R.at_end log result.0 result.1 }
+    // Where plan and log are accepted, the text is that of the table that the log shows.
+    ensures told { (n : Network) (s : State) → IsAccepted plan.now (R.coming log) n s →
+        IfOk result.1 (WentOut (C.is_text command.now n s) (K.taken out.old) (K.taken out.new)) }
+    ensures meaning { (n : Network) (s : State) → IsAccepted plan.now (R.coming log) n s →
+        IfOk result.1 (C.means command.now n s) }
+    // The source of a refused plan is as it was.
+    ensures untouched { (e : PlanError) → first_fault plan.now ≡ Some e → result.0 ≡ log }
+{
+    one_plan();
+    let plan = match Plan::read(alloc, plan) {
+        Ok(plan) => plan,
+        Err(error) => return (log, refuse_plan(error, out)),
+    };
+    match GridTable::with_hasher(alloc, &plan, hasher) {
+        Ok(mut table) => report_log(alloc, command, &plan, log, &mut table, out),
+        Err(_) => (log, Err(RunError::Memory)),
+    }
+}

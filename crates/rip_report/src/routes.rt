@@ -1,0 +1,285 @@
+//! The command `routes`: the routes that a log shows, beside the least metrics of the plan.
+
+ghost use Rattle.std.specs.Prelude.{◌≡◌, ◌+◌, ◌≤◌, ◌<◌, ◌⊎◌, ◌++◌, ◌==◌, [], IfOk, IsTrue, List, Some, ℕ, false, if◌then◌else◌, length};
+ghost use Rattle.rip_plan.specs.Answers.{first_fault};
+ghost use Rattle.rip_plan.specs.Network.{Network};
+ghost use Rattle.rip_plan.specs.declared.error.PlanError.{PlanError};
+ghost use Rattle.rip_table.specs.State.{Fits, State};
+ghost use Rattle.rip_check.specs.Expected.{AreExpected};
+ghost use Rattle.rip_report.specs.declared.limits.TheConstants.{LINE_BYTES};
+ghost use Rattle.rip_report.specs.AuditText.{IsKnownReason};
+ghost use Rattle.rip_report.specs.Listings.{TextsBelow, TextsOfPairs};
+ghost use Rattle.rip_report.specs.Names.{IsKnownWay};
+ghost use Rattle.rip_report.specs.ReportText.{IsAccepted, ReportText};
+ghost use Rattle.rip_report.specs.RoutesText.{RouteLine, RoutesText, UnheardLine, leaf_word, least_part, pair_part, read_line, read_part, routes_line, unread_line};
+ghost use Rattle.rip_report.specs.Sent.{Prints, Reads, WentOut, Writes};
+
+use crate::audit::lines::push_reason;
+use crate::entries::{Entry, PairEntry, add_entries, add_pairs};
+use crate::line::Line;
+use crate::listing::Listing;
+use crate::names::{push_router, push_way};
+use crate::output::finish;
+use crate::report::{Report, run_report};
+use crate::status::{RunError, Status};
+use crate::table::unheard_text;
+use rip_check::{Expected, Route, Unclear, route};
+use rip_log::{Failed, Sink, Source};
+use rip_plan::Plan;
+use rip_table::MetricTable;
+use rip_wire::Metric;
+use std::alloc::Global;
+use std::hash::BuildHasher;
+
+/// The line of the counts.
+#[tactic(auto, unfolding(crate::specs::RoutesText::routes_line))]
+fn counts_text<T: MetricTable>(plan: &Plan, table: &T) -> Line
+    ensures { result ≡ routes_line plan.now (T.state table.now) }
+{
+    let mut text = Line::new();
+    text.push("routes: ");
+    text.push_number(plan.routers() as u64);
+    text.push(" routers, ");
+    text.push_number(table.prefix_count() as u64);
+    text.push(" prefixes");
+    text.end();
+    text
+}
+
+/// Adds a router and a prefix of the table, by their numbers.
+fn push_pair<T: MetricTable>(text: &mut Line, plan: &Plan, table: &T, router: usize, prefix: usize)
+    requires router { router < length plan.now.routers }
+    requires prefix { prefix < length (T.state table.now).prefixes }
+    requires room { length text.old + 52 ≤ LINE_BYTES }
+    ensures text { text.new ≡ text.old ++ pair_part plan.now (T.state table.now) router prefix }
+    ensures size { length text.new ≤ length text.old + 52 }
+{
+    push_router(text, plan, router);
+    text.push(" ");
+    text.push_prefix(table.prefix(prefix));
+    text.push(" ");
+}
+
+/// Adds a route.
+pub(crate) fn push_route(text: &mut Line, plan: &Plan, route: &Route)
+    requires way { IsKnownWay plan.now route.now.way }
+    requires room { length text.old + 67 ≤ LINE_BYTES }
+    ensures text { text.new ≡ text.old ++ read_part plan.now
+        (record { metric = route.now.metric; way = route.now.way }) route.now.hidden }
+    ensures size { length text.new ≤ length text.old + 67 }
+{
+    text.push_metric(route.metric);
+    text.push(" ");
+    push_way(text, plan, route.way);
+    if route.hidden {
+        text.push(", leaf");
+    }
+}
+
+/// Adds the least metric, where the metric is another.
+fn push_least(text: &mut Line, metric: Metric, least: Metric)
+    requires { length text.old + 28 ≤ LINE_BYTES }
+    ensures text { text.new ≡ text.old ++ least_part metric least }
+    ensures size { length text.new ≤ length text.old + 28 }
+{
+    if metric != least {
+        text.push(", least ");
+        text.push_metric(least);
+    }
+}
+
+/// The line of a route.
+#[tactic(auto, unfolding(crate::specs::RoutesText::read_line))]
+fn read_text<T: MetricTable>(
+    plan: &Plan,
+    table: &T,
+    router: usize,
+    prefix: usize,
+    route: &Route,
+    least: Metric,
+) -> Line
+    requires router { router < length plan.now.routers }
+    requires prefix { prefix < length (T.state table.now).prefixes }
+    requires way { IsKnownWay plan.now route.now.way }
+    ensures { result ≡ read_line plan.now (T.state table.now) router prefix
+        (record { metric = route.now.metric; way = route.now.way }) route.now.hidden least }
+{
+    let mut text = Line::new();
+    push_pair(&mut text, plan, table, router, prefix);
+    push_route(&mut text, plan, route);
+    push_least(&mut text, route.metric, least);
+    text.end();
+    text
+}
+
+/// The line of a router and a prefix of which no route can be read.
+#[tactic(auto, unfolding(crate::specs::RoutesText::unread_line))]
+fn unread_text<T: MetricTable>(
+    plan: &Plan,
+    table: &T,
+    router: usize,
+    prefix: usize,
+    trouble: &Unclear,
+) -> Line
+    requires router { router < length plan.now.routers }
+    requires prefix { prefix < length (T.state table.now).prefixes }
+    requires known { IsKnownReason plan.now trouble.now }
+    ensures { result ≡ unread_line plan.now (T.state table.now) router prefix trouble.now }
+{
+    let mut text = Line::new();
+    push_pair(&mut text, plan, table, router, prefix);
+    text.push("unclear: ");
+    push_reason(&mut text, plan, trouble);
+    text.end();
+    text
+}
+
+/// The line of a router and a prefix.
+fn pair_text<T: MetricTable>(
+    plan: &Plan,
+    expected: &Expected,
+    table: &T,
+    router: usize,
+    prefix: usize,
+) -> Line
+    requires fits { Fits plan.now (T.state table.now) }
+    requires expected { AreExpected plan.now expected.now }
+    requires router { router < length plan.now.routers }
+    requires prefix { prefix < length (T.state table.now).prefixes }
+    ensures { RouteLine plan.now (T.state table.now) router prefix result }
+{
+    plan.lawful();
+    match route(plan, table, router, prefix) {
+        Ok(found) => {
+            let least = expected.least(plan, router, prefix);
+            read_text(plan, table, router, prefix, &found, least)
+        }
+        Err(trouble) => unread_text(plan, table, router, prefix, &trouble),
+    }
+}
+
+/// An interface, where it was not heard.
+#[derive(Clone, Copy)]
+struct Unheard;
+
+impl Entry for Unheard {
+    ghost fits = { λ _ _ _. Unit {0} };
+
+    ghost is_for = { λ _ n i. i < length n.interfaces };
+
+    ghost is_text = { λ _ n s i. UnheardLine n s i };
+
+    fn add<T: MetricTable, K: Sink>(
+        &self,
+        listing: &mut Listing,
+        plan: &Plan,
+        table: &T,
+        number: usize,
+        out: &mut K,
+    ) {
+        plan.lawful();
+        if !table.heard(number) {
+            listing.add(&unheard_text(plan, plan.interface(number)), out);
+        }
+    }
+}
+
+/// The route of a router for a prefix, beside the least metric of the plan.
+#[derive(Drop)]
+struct RouteBeside {
+    expected: Expected,
+}
+
+impl PairEntry for RouteBeside {
+    ghost fits = { λ entry n _. AreExpected n entry.expected };
+
+    ghost is_text = { λ _ n s r p. RouteLine n s r p };
+
+    fn add<T: MetricTable, K: Sink>(
+        &self,
+        listing: &mut Listing,
+        plan: &Plan,
+        table: &T,
+        router: usize,
+        prefix: usize,
+        out: &mut K,
+    ) {
+        listing.add(&pair_text(plan, &self.expected, table, router, prefix), out);
+    }
+}
+
+/// Writes the routes of a table: the counts, the interfaces that were not heard, and a line for each
+/// router and prefix.
+fn write_routes<T: MetricTable, K: Sink>(
+    plan: &Plan,
+    expected: Expected,
+    table: &T,
+    out: &mut K,
+) -> Result<(), Failed>
+    requires fits { Fits plan.now (T.state table.now) }
+    requires expected { AreExpected plan.now expected }
+    ensures { (silent text : List ℕ)
+        × TextsBelow (UnheardLine plan.now (T.state table.now)) (length plan.now.interfaces) silent
+        × TextsOfPairs (RouteLine plan.now (T.state table.now))
+        (length plan.now.routers) (length (T.state table.now).prefixes) text
+        × Writes K.taken K.broken out.old out.new result
+        ((routes_line plan.now (T.state table.now) ++ silent) ++ text) [] }
+{
+    let mut listing = Listing::new();
+    listing.add(&counts_text(plan, table), out);
+    add_entries(&Unheard, &mut listing, plan, table, out);
+    add_pairs(&RouteBeside { expected }, &mut listing, plan, table, out);
+    listing.finish(out)
+}
+
+/// The command `routes`.
+#[derive(Clone, Copy)]
+struct Routes;
+
+impl Report for Routes {
+    ghost use Rattle.rip_report.specs.declared.status.Status.{Status};
+
+    ghost is_text = { λ _ n s. RoutesText n s };
+
+    ghost means = { λ _ n s status. status ≡ Status.Done };
+
+    fn write<T: MetricTable, K: Sink>(
+        &self,
+        alloc: Global,
+        plan: &Plan,
+        table: &T,
+        out: &mut K,
+    ) -> Result<Status, RunError> {
+        match Expected::find(alloc, plan) {
+            Ok(expected) => finish(write_routes(plan, expected, table, out), Status::Done),
+            Err(_) => Err(RunError::Memory),
+        }
+    }
+}
+
+/// Prints the routes that a log shows, for the plan that the bytes of a TOML document are, or what
+/// refuses the plan or the log. The source comes back. The hasher is for the prefixes, which strangers
+/// choose. It takes a byte of memory for each router and planned prefix, beside what `table` takes.
+pub fn run_routes<R: Source, K: Sink, S: BuildHasher + Drop>(
+    alloc: Global,
+    plan: &[u8],
+    log: R,
+    out: &mut K,
+    hasher: S,
+) -> (R, Result<Status, RunError>)
+    // The whole text went out, or a beginning where the sink failed, or nothing.
+    ensures prints { Prints K.taken K.broken out.old out.new result.1
+        (ReportText RoutesText plan.now (R.coming log)) }
+    // What is printed of a table comes only at the source's end, and Read only where it has failed.
+    ensures reads { Reads R.broken R.at_end log result.0 result.1 }
+    // Where plan and log are accepted, they are the routes of the table that the log shows.
+    ensures told { (n : Network) (s : State) → IsAccepted plan.now (R.coming log) n s →
+        IfOk result.1 (WentOut (RoutesText n s) (K.taken out.old) (K.taken out.new)) }
+    // The source of a refused plan is as it was.
+    ensures untouched { (e : PlanError) → first_fault plan.now ≡ Some e → result.0 ≡ log }
+{
+    run_report(alloc, &Routes, plan, log, out, hasher)
+}
+
+#[cfg(test)]
+mod tests;

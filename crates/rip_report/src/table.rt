@@ -1,0 +1,254 @@
+//! The command `table`: what the interfaces of a plan showed in a log.
+
+ghost use Rattle.std.specs.Prelude.{◌≡◌, ◌+◌, ◌≤◌, ◌<◌, ◌++◌, [], IfOk, Some, length, codes};
+ghost use Rattle.std.specs.List.{enumerate_from, flat_map};
+ghost use Rattle.rip_plan.specs.Answers.{first_fault};
+ghost use Rattle.rip_plan.specs.declared.error.PlanError.{PlanError};
+ghost use Rattle.rip_table.specs.State.{Fits, State};
+ghost use Rattle.rip_report.specs.declared.limits.TheConstants.{LINE_BYTES};
+ghost use Rattle.rip_report.specs.TableText.{TableText, interface_lines, interface_name, prefix_lines, shown_lines, shown_table, table_line, unheard_line};
+ghost use Rattle.rip_report.specs.Held.{held};
+ghost use Rattle.rip_report.specs.ReportText.{IsAccepted};
+ghost use Rattle.rip_report.specs.Sent.{Prints, Reads, WentOut, Writes};
+ghost use Rattle.rip_report.specs.Texts.{AreOfMetrics, AreTexts, text_of};
+ghost use Rattle.rip_plan.specs.Network.{Network};
+ghost use Rattle.rip_plan.specs.declared.parts.Interface.{Interface};
+ghost use Rattle.rip_wire.specs.Prefix.{Block, prefix_text};
+
+use crate::line::Line;
+use crate::names::{push_link, push_router};
+use crate::output::{Page, finish};
+use crate::report::{Report, run_report};
+use crate::status::{RunError, Status};
+use crate::texts::{METRICS, Text, Texts};
+use rip_log::{Failed, Sink, Source};
+use rip_plan::{Interface, Plan};
+use rip_table::MetricTable;
+use rip_wire::Metric;
+use std::alloc::Global;
+use std::hash::BuildHasher;
+
+/// The line of the counts.
+#[tactic(auto, unfolding(crate::specs::TableText::table_line))]
+fn counts_text(interfaces: usize, prefixes: usize) -> Line
+    ensures { result ≡ table_line interfaces prefixes }
+{
+    let mut text = Line::new();
+    text.push("table: ");
+    text.push_number(interfaces as u64);
+    text.push(" interfaces, ");
+    text.push_number(prefixes as u64);
+    text.push(" prefixes");
+    text.end();
+    text
+}
+
+/// Adds an interface by its router and its link.
+fn push_interface(text: &mut Line, plan: &Plan, interface: Interface)
+    requires router { interface.router < length plan.now.routers }
+    requires link { interface.link < length plan.now.links }
+    requires room { length text.old + 65 ≤ LINE_BYTES }
+    ensures text { text.new ≡ text.old ++ interface_name plan.now interface }
+    ensures size { length text.new ≤ length text.old + 65 }
+{
+    push_router(text, plan, interface.router);
+    text.push(" ");
+    push_link(text, plan, interface.link);
+}
+
+/// The line of an interface that was not heard.
+#[tactic(auto, unfolding(crate::specs::TableText::unheard_line))]
+pub(crate) fn unheard_text(plan: &Plan, interface: Interface) -> Line
+    requires router { interface.router < length plan.now.routers }
+    requires link { interface.link < length plan.now.links }
+    ensures { result ≡ unheard_line plan.now interface }
+{
+    let mut text = Line::new();
+    push_interface(&mut text, plan, interface);
+    text.push(" not heard");
+    text.end();
+    text
+}
+
+/// An interface and a blank: what each of its lines begins with.
+fn front_text(plan: &Plan, interface: Interface) -> Line
+    requires router { interface.router < length plan.now.routers }
+    requires link { interface.link < length plan.now.links }
+    ensures text { result ≡ interface_name plan.now interface ++ codes " " }
+    ensures size { length result ≤ 66 }
+{
+    let mut text = Line::new();
+    push_interface(&mut text, plan, interface);
+    text.push(" ");
+    text
+}
+
+/// Writes the line of a prefix, if the interface shows it, by the texts of both.
+fn write_prefix<K: Sink>(
+    page: &mut Page,
+    front: &Line,
+    prefix: &Text,
+    metrics: &[Text; METRICS],
+    metric: Option<Metric>,
+    out: &mut K,
+) -> Result<(), Failed>
+    requires front { length front.now ≤ 66 }
+    requires metrics { AreOfMetrics metrics.now }
+    ensures { (n : Network) (i : Interface) (p : Block) →
+        front.now ≡ interface_name n i ++ codes " " →
+        text_of prefix.now ≡ prefix_text p ++ codes " " →
+        Writes K.taken K.broken out.old out.new result
+        (held page.old ++ prefix_lines n i p metric) (held page.new) }
+{
+    let Some(metric) = metric else {
+        return Ok(());
+    };
+    let end = &metrics[metric.get() as usize];
+    page.write_line(out, front.as_bytes(), prefix.as_bytes(), end.as_bytes())
+}
+
+/// Writes the lines of the prefixes that the interface of a number shows.
+fn write_shown<T: MetricTable, K: Sink>(
+    page: &mut Page,
+    plan: &Plan,
+    table: &T,
+    texts: &Texts,
+    number: usize,
+    interface: &Interface,
+    out: &mut K,
+) -> Result<(), Failed>
+    requires texts { AreTexts (T.state table.now).prefixes texts.now }
+    requires number { number < (T.state table.now).interfaces }
+    requires router { interface.now.router < length plan.now.routers }
+    requires link { interface.now.link < length plan.now.links }
+    ensures { Writes K.taken K.broken out.old out.new result
+        (held page.old ++ shown_lines plan.now (T.state table.now) number interface.now)
+        (held page.new) }
+{
+    let front = front_text(plan, *interface);
+    for k in 0..table.prefix_count() {
+        let metric = table.metric(number, k);
+        write_prefix(
+            page,
+            &front,
+            &texts.prefixes[k],
+            &texts.metrics,
+            metric,
+            out,
+        )?;
+    }
+    Ok(())
+}
+
+/// Writes the lines of the interface of a number.
+fn write_interface<T: MetricTable, K: Sink>(
+    page: &mut Page,
+    plan: &Plan,
+    table: &T,
+    texts: &Texts,
+    number: usize,
+    interface: Interface,
+    out: &mut K,
+) -> Result<(), Failed>
+    requires texts { AreTexts (T.state table.now).prefixes texts.now }
+    requires number { number < (T.state table.now).interfaces }
+    requires router { interface.router < length plan.now.routers }
+    requires link { interface.link < length plan.now.links }
+    ensures { Writes K.taken K.broken out.old out.new result
+        (held page.old ++ interface_lines plan.now (T.state table.now) (number, interface))
+        (held page.new) }
+{
+    if table.heard(number) {
+        write_shown(page, plan, table, texts, number, &interface, out)
+    } else {
+        page.write(out, unheard_text(plan, interface).as_bytes())
+    }
+}
+
+/// Writes the lines of the interfaces.
+fn write_interfaces<T: MetricTable, K: Sink>(
+    page: &mut Page,
+    plan: &Plan,
+    table: &T,
+    texts: &Texts,
+    out: &mut K,
+) -> Result<(), Failed>
+    requires fits { Fits plan.now (T.state table.now) }
+    requires texts { AreTexts (T.state table.now).prefixes texts.now }
+    ensures { Writes K.taken K.broken out.old out.new result
+        (held page.old ++ flat_map (interface_lines plan.now (T.state table.now))
+        (enumerate_from 0 plan.now.interfaces)) (held page.new) }
+{
+    plan.lawful();
+    for i in 0..plan.interfaces() {
+        write_interface(page, plan, table, texts, i, plan.interface(i), out)?;
+    }
+    Ok(())
+}
+
+/// Writes a table: its counts and its interfaces.
+pub(crate) fn write_table<T: MetricTable, K: Sink>(
+    plan: &Plan,
+    table: &T,
+    out: &mut K,
+) -> Result<(), Failed>
+    requires { Fits plan.now (T.state table.now) }
+    ensures { Writes K.taken K.broken out.old out.new result
+        (shown_table plan.now (T.state table.now)).text [] }
+{
+    let mut page = Page::new();
+    let counts = counts_text(plan.interfaces(), table.prefix_count());
+    page.write(out, counts.as_bytes())?;
+    let texts = Texts::of(table);
+    write_interfaces(&mut page, plan, table, &texts, out)?;
+    page.flush(out)
+}
+
+/// The command `table`.
+#[derive(Clone, Copy)]
+struct Table;
+
+impl Report for Table {
+    ghost use Rattle.rip_report.specs.declared.status.Status.{Status};
+
+    ghost is_text = { λ _ n s w. w ≡ shown_table n s };
+
+    ghost means = { λ _ n s status. status ≡ Status.Done };
+
+    fn write<T: MetricTable, K: Sink>(
+        &self,
+        _: Global,
+        plan: &Plan,
+        table: &T,
+        out: &mut K,
+    ) -> Result<Status, RunError> {
+        finish(write_table(plan, table, out), Status::Done)
+    }
+}
+
+/// Prints the table of a log for the plan that the bytes of a TOML document are, or what refuses the
+/// plan or the log. The source comes back. The hasher is for the prefixes, which strangers choose.
+pub fn run_table<R: Source, K: Sink, S: BuildHasher + Drop>(
+    alloc: Global,
+    plan: &[u8],
+    log: R,
+    out: &mut K,
+    hasher: S,
+) -> (R, Result<Status, RunError>)
+    // The whole text went out, or a beginning where the sink failed, or nothing.
+    ensures prints { Prints K.taken K.broken out.old out.new result.1
+        (TableText plan.now (R.coming log)) }
+    // What is printed of a table comes only at the source's end, and Read only where it has failed.
+    ensures reads { Reads R.broken R.at_end log result.0 result.1 }
+    // Where plan and log are accepted, it is the table that the log shows.
+    ensures told { (n : Network) (s : State) → IsAccepted plan.now (R.coming log) n s →
+        IfOk result.1
+        (WentOut (λ w. w ≡ shown_table n s) (K.taken out.old) (K.taken out.new)) }
+    // The source of a refused plan is as it was.
+    ensures untouched { (e : PlanError) → first_fault plan.now ≡ Some e → result.0 ≡ log }
+{
+    run_report(alloc, &Table, plan, log, out, hasher)
+}
+
+#[cfg(test)]
+mod tests;

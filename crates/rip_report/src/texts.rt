@@ -1,0 +1,77 @@
+//! Short texts that are made once and written many times.
+
+ghost use Rattle.std.specs.Prelude.{◌≡◌, ◌≤◌, ◌++◌, codes, decimal};
+ghost use Rattle.rip_wire.specs.Prefix.{prefix_text};
+ghost use Rattle.rip_report.specs.Texts.{AreOfMetrics, AreOfPrefixes, AreTexts, text_of};
+ghost use Rattle.rip_report.specs.Written.{line};
+
+mod text;
+
+pub(crate) use self::text::Text;
+use crate::line::Line;
+use rip_table::{MOST_PREFIXES, MetricTable};
+use rip_wire::Prefix;
+
+/// Room for each metric at its number, up to 16.
+pub(crate) const METRICS: usize = 17;
+
+/// The texts of a table's prefixes, by their numbers, and of all metrics.
+#[derive(Drop)]
+pub(crate) struct Texts {
+    pub(crate) prefixes: [Text; MOST_PREFIXES],
+    pub(crate) metrics: [Text; METRICS],
+}
+
+impl Texts {
+    /// The texts for a table.
+    pub(crate) fn of<T: MetricTable>(table: &T) -> Texts
+        ensures { AreTexts (T.state table.now).prefixes result }
+    {
+        let mut texts = Texts {
+            prefixes: [Text::empty(); MOST_PREFIXES],
+            metrics: [Text::empty(); METRICS],
+        };
+        make_prefixes(table, &mut texts.prefixes);
+        make_metrics(&mut texts.metrics);
+        texts
+    }
+}
+
+/// A prefix and a blank.
+fn of_prefix(prefix: Prefix) -> Text
+    ensures { text_of result ≡ prefix_text prefix ++ codes " " }
+{
+    let mut text = Line::new();
+    text.push_prefix(prefix);
+    text.push(" ");
+    Text::of(&text)
+}
+
+/// A metric, by its number, and the end of its line.
+fn of_metric(number: usize) -> Text
+    requires { number ≤ 16 }
+    ensures { text_of result ≡ line (decimal number) }
+{
+    let mut text = Line::new();
+    text.push_number(number as u64);
+    text.end();
+    Text::of(&text)
+}
+
+/// Makes the texts of a table's prefixes.
+fn make_prefixes<T: MetricTable>(table: &T, texts: &mut [Text; MOST_PREFIXES])
+    ensures { AreOfPrefixes (T.state table.now).prefixes texts.new }
+{
+    for k in 0..table.prefix_count() {
+        texts[k] = of_prefix(table.prefix(k));
+    }
+}
+
+/// Makes the texts of all metrics.
+fn make_metrics(texts: &mut [Text; METRICS])
+    ensures { AreOfMetrics texts.new }
+{
+    for number in 1..METRICS {
+        texts[number] = of_metric(number);
+    }
+}
