@@ -7,7 +7,8 @@ ghost use Rattle.std.specs.Io.KnownBytes.{IsAtEnd, ReadConsumes};
 use crate::device::Failed;
 use std::io::Read;
 
-/// A device that gives bytes. Once it has failed, or come to its end, it gives no more.
+/// A device that gives bytes. Once it has failed, or come to its end, it gives no more, and asking it
+/// again changes nothing: what lies beneath it is left alone.
 pub trait Source {
     // The bytes still to come, where they are told.
     ghost coming: { Self → Option (List ℕ) };
@@ -31,7 +32,11 @@ pub trait Source {
 
         // Nothing comes into room for some exactly where the end is reached.
         ensures ended { 0 < length buffer.new → (at_end self.new ≡ true) ↔ (result ≡ Ok 0) }
-        ensures ends_on { at_end self.old ≡ true → (at_end self.new ≡ true) × (result ≡ Ok 0) };
+        ensures ends_on { at_end self.old ≡ true → (at_end self.new ≡ true) × (result ≡ Ok 0) }
+
+        // Past its end, and once it has failed, a pull changes nothing.
+        ensures rests_ended { at_end self.old ≡ true → self.new ≡ self.old }
+        ensures rests_failed { broken self.old ≡ true → self.new ≡ self.old };
 
     /// Whether the device has failed.
     fn failed(&self) -> bool

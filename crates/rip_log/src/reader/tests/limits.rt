@@ -79,6 +79,7 @@ fn the_last_lines(rt: HostRuntime) -> Result<(), Fail> {
 fn endless_sources(rt: HostRuntime) {
     for (byte, piece, code, line, calls) in [
         (b'x', 1, LogCode::LongLine, 1, 2049),
+        (b'x', 100, LogCode::LongLine, 1, 21),
         (b'\n', 1000, LogCode::TooManyLines, 1_000_001, 1001),
     ] {
         let source = FromRead::new(Endless {

@@ -1,75 +1,50 @@
-//! When a reader pulls, and what a pull that fails leaves.
+//! When the reader beneath is read, and what a read that fails leaves.
 
 use super::{FIRST_LINE, Pieces, expect_outcome, reader_in, settled};
-use crate::{Failed, FromRead, LogCode, LogError, LogReader, Source};
+use crate::{FromRead, LogCode, LogError, LogReader, Source};
 use std::test::Fail;
 
-/// A source that counts the pulls.
-#[derive(Drop)]
-struct Counted<'a> {
-    source: FromRead<Pieces<'a>>,
-    pulls: usize,
-}
+/// How many reads a text takes in pieces of so many bytes, after so many calls.
+const READS: [(usize, [(usize, usize); 5]); 4] = [
+    (1, [(0, 0), (1, 100), (6, 600), (7, 601), (9, 601)]),
+    (100, [(0, 0), (1, 1), (6, 6), (7, 7), (9, 7)]),
+    (250, [(2, 1), (5, 2), (6, 3), (7, 4), (9, 4)]),
+    (600, [(0, 0), (1, 1), (6, 1), (7, 2), (9, 2)]),
+];
 
-impl Source for Counted<'_> {
-    ghost use Rattle.rip_log.specs.Readers.{has_ended, has_failed};
-    ghost use Rattle.std.specs.Prelude.{None};
-
-    ghost coming = { λ s. None };
-
-    ghost broken = { λ s. has_failed s.source };
-
-    ghost at_end = { λ s. has_ended s.source };
-
-    ghost nothing_left = { λ s h. tt };
-
-    fn pull(&mut self, buffer: &mut [u8]) -> Result<usize, Failed> {
-        self.pulls = self.pulls.wrapping_add(1);
-        self.source.pull(buffer)
-    }
-
-    fn failed(&self) -> bool {
-        self.source.failed()
-    }
-
-    fn ended(&self) -> bool {
-        self.source.ended()
-    }
+/// How often the reader beneath was read.
+fn reads_of(reader: LogReader<FromRead<Pieces<'_>>>) -> usize {
+    reader.into_source().into_reader().calls
 }
 
 #[test]
-fn pulls_what_a_line_needs(rt: HostRuntime) -> Result<(), Fail> {
+fn reads_what_a_line_needs(rt: HostRuntime) -> Result<(), Fail> {
     let whole = settled(&rt, rt.alloc(), "\n")?;
-    for (records, calls) in [(0, 0), (1, 100), (6, 600), (7, 601), (9, 601)] {
-        let mut reader = reader_in(&rt, rt.alloc(), whole.as_bytes(), 1, 0);
-        for _ in 0..records {
-            assert!(rt; reader.next().is_ok());
+    for (piece, counts) in READS {
+        for (calls, reads) in counts {
+            let mut reader = reader_in(&rt, rt.alloc(), whole.as_bytes(), piece, 0);
+            for _ in 0..calls {
+                assert!(rt; reader.next().is_ok());
+            }
+            assert_eq!(rt;
+                reads_of(reader),
+                reads,
+                "{calls} calls, in pieces of {piece}"
+            );
         }
-        assert_eq!(rt; reader.into_source().into_reader().calls, calls);
     }
     Ok(())
 }
 
 #[test]
-fn pulls_nothing_after_the_end(rt: HostRuntime) -> Result<(), Fail> {
-    for (more, records, pulls) in [("", 3, 101), ("#", 3, 102), ("#\n", 3, 103), ("x", 4, 102)] {
+fn reads_nothing_after_the_end(rt: HostRuntime) -> Result<(), Fail> {
+    for (more, calls, reads) in [("", 3, 101), ("#", 3, 102), ("#\n", 3, 103), ("x", 4, 102)] {
         let log = format!(in rt.alloc(); "{FIRST_LINE}{more}")?;
-        let source = Counted {
-            source: FromRead::new(Pieces {
-                left: log.as_bytes(),
-                piece: 1,
-                calls: 0,
-                fails_at: 0,
-            }),
-            pulls: 0,
-        };
-        let Ok(mut reader) = LogReader::new(rt.alloc(), source) else {
-            panic!(rt; "no memory");
-        };
-        for _ in 0..records {
+        let mut reader = reader_in(&rt, rt.alloc(), log.as_bytes(), 1, 0);
+        for _ in 0..calls {
             let _answer = reader.next();
         }
-        assert_eq!(rt; reader.into_source().pulls, pulls, "after {more}");
+        assert_eq!(rt; reads_of(reader), reads, "after {more}");
     }
     Ok(())
 }
