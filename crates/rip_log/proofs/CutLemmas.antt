@@ -17,7 +17,7 @@ range-front : (items : List ℕ) (start end at : ℕ) → start + at ≤ end →
 range-front items start end at h =
     take-take at (end - start) (drop start items) (omega arith) ∙ ap (λ n. take n (drop start items)) (omega arith)
 
-range-back : (items : List ℕ) (start end at : ℕ) → start + at + 1 ≤ end → drop (suc at) (slice_range items start end) ≡ slice_range items (start + at + 1) end
+pub range-back : (items : List ℕ) (start end at : ℕ) → start + at + 1 ≤ end → drop (suc at) (slice_range items start end) ≡ slice_range items (start + at + 1) end
 range-back items start end at h =
     let split : end - start ≡ suc at + (end - (start + at + 1)) = omega arith in
     ap (λ n. drop (suc at) (take n (drop start items))) split

@@ -1,6 +1,7 @@
 pub mod FieldLemmas
 pub mod LinesLemmas
 pub mod HeldLemmas
+pub mod ReadyLemmas
 pub mod CutLemmas
 pub mod DigitLemmas
 pub mod JudgeLemmas

@@ -12,7 +12,7 @@ lines_of-other b bytes h = grind arith
 lines_of-feed_first : (b : ℕ) (bytes : List ℕ) → b ≡ 10 → lines_of (b ∷ bytes) ≡ [] ∷ lines_of bytes
 lines_of-feed_first b bytes h = grind arith
 
-below-rest : (b : ℕ) (xs : List ℕ) (n : ℕ) → NoFeedBelow (b ∷ xs) (suc n) → NoFeedBelow xs n
+pub below-rest : (b : ℕ) (xs : List ℕ) (n : ℕ) → NoFeedBelow (b ∷ xs) (suc n) → NoFeedBelow xs n
 below-rest b xs n before k h feed = before (suc k) (omega arith) feed
 
 -- the bytes before the first line feed are the first line

@@ -1,5 +1,6 @@
 -- What taking the first line off a text leaves.
 use Rattle.std.specs.Prelude.{◌≡◌, ◌<◌, ◌≤◌, ◌+◌, ℕ, Bool, true, false, List, [], ◌∷◌, ◌++◌, Option, Some, None, length}
+use Rattle.rip_log.specs.Held.{ready_lines}
 use Rattle.rip_log.specs.Lines.{lines_of}
 use Rattle.rip_log.specs.Spans.{IsWithin, slice_of}
 use Rattle.rip_log.specs.declared.limits.TheConstants.{MOST_LINE_BYTES}
@@ -34,6 +35,11 @@ Cuts old new items Long = LongFirst old
 abbrev pub LiesWithin : ℕ → RawLine → Type 0
 LiesWithin n (Line span) = IsWithin n span × (span.to ≤ span.from + MOST_LINE_BYTES)
 LiesWithin n Long = Unit {0}
+
+-- one of the lines that were ready was taken, and the others are ready still
+abbrev pub TakesReady : List ℕ → List ℕ → RawLine → Type 0
+TakesReady old new (Line span) = ready_lines old ≡ ready_lines new + 1
+TakesReady old new Long = Unit {0}
 
 -- these many lines of known text, of which n others come before, were passed
 abbrev pub PassesLines : Option (List ℕ) → ℕ → Option (List ℕ) → ℕ → Type 0

@@ -1,6 +1,7 @@
 -- The bytes that a window holds and no line has taken, and the text to come.
-use Rattle.std.specs.Prelude.{ℕ, List, Option, slice_range}
+use Rattle.std.specs.Prelude.{ℕ, ◌+◌, ◌==◌, nat_lt, if◌then◌else◌, List, [], ◌∷◌, Option, slice_range}
 use Rattle.std.specs.Io.KnownBytes.{prepend_known}
+use Rattle.rip_log.specs.declared.limits.TheConstants.{MOST_LINE_BYTES}
 use Rattle.rip_log.specs.declared.window.Window.{Window}
 
 -- the bytes that the window holds and no line has taken
@@ -10,3 +11,14 @@ held w = slice_range w.buffer.items w.start w.end
 -- the text to come: what is held, and then what the source still gives
 abbrev pub text : {R : Type 0} → (R → Option (List ℕ)) → Window R → Option (List ℕ)
 text coming w = prepend_known (held w) (coming w.source)
+
+-- the lines that are ready in these bytes, where n more of the first one come before them
+abbrev pub ready_behind : ℕ → List ℕ → ℕ
+ready_behind n [] = if nat_lt MOST_LINE_BYTES n then 1 else 0
+ready_behind n (b ∷ bytes) =
+    if b == 10 then ready_behind 0 bytes + 1 else ready_behind (n + 1) bytes
+
+-- how many lines these bytes tell, whatever comes after them: those that a line feed ends, and one
+-- after them that is too long already
+abbrev pub ready_lines : List ℕ → ℕ
+ready_lines bytes = ready_behind 0 bytes

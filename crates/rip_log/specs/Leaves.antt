@@ -1,9 +1,9 @@
 -- What a reader stands for, and what a call of `next` answers and leaves.
-use Rattle.std.specs.Prelude.{◌≡◌, ◌+◌, ◌≤◌, ℕ, Bool, true, false, not, List, [], Option, None, Result, Ok, Err, IfOk, IfErr, IfSome, is_err}
+use Rattle.std.specs.Prelude.{◌≡◌, ◌+◌, ◌≤◌, ℕ, Bool, true, false, not, List, [], Option, Some, None, Result, Ok, Err, IfOk, IfErr, IfSome, OnOk, is_err}
 use Rattle.rip_wire.specs.Datagram.{datagram_bytes}
 use Rattle.rip_log.specs.Codes.{is_read}
 use Rattle.rip_log.specs.Cuts.{PassesLines}
-use Rattle.rip_log.specs.Held.{held, text as window_text}
+use Rattle.rip_log.specs.Held.{held, ready_lines, text as window_text}
 use Rattle.rip_log.specs.Lines.{Capture}
 use Rattle.rip_log.specs.Logs.{Log, log_at, Gives}
 use Rattle.rip_log.specs.declared.error.LogCode.TheVariants.{Ended}
@@ -43,6 +43,17 @@ capture_of r = record { link = r.link.now; sender = r.sender; datagram = datagra
 -- the number of a record's line
 abbrev pub line_of : Record → ℕ
 line_of r = r.line
+
+-- the last line that a call asked for: that of the record or of the error, or the one after those
+-- behind
+abbrev pub line_asked : {R X : Type 0} → (X → ℕ) → LogReader R → Result (Option X) LogError → ℕ
+line_asked number new (Ok (Some x)) = number x
+line_asked number new (Ok None) = lines_behind new + 1
+line_asked number new (Err e) = e.line
+
+-- the number of the last line that is ready in what the reader holds, or that is behind it
+abbrev pub last_ready : {R : Type 0} → LogReader R → ℕ
+last_ready reader = lines_behind reader + ready_lines (held reader.window)
 
 -- the call failed since the source did
 abbrev pub is_unreadable : {A : Type 0} → Result A LogError → Bool
@@ -89,3 +100,8 @@ pub record Leaves {R X : Type 0} (coming : R → Option (List ℕ)) (broken at_e
   pub onward : IfOk result (λ found. IfSome found (λ x.
       (lines_behind old + 1 ≤ lines_behind new) × (number x ≡ lines_behind new)))
   pub few : lines_behind new ≤ MOST_LINES
+  -- where each line that the call asked for was ready nothing is pulled, and the lines after them
+  -- are ready still
+  pub ready : line_asked number new result ≤ last_ready old → source_of new ≡ source_of old
+  pub still_ready : line_asked number new result ≤ last_ready old →
+      OnOk result (last_ready new ≡ last_ready old)

@@ -1,6 +1,7 @@
 -- What one line does to a reader, and the record that is found in it.
-use Rattle.std.specs.Prelude.{◌≡◌, ◌+◌, ℕ, Bool, true, List, Option, Some, None, Result, Ok, Err, vec_len}
-use Rattle.rip_log.specs.Leaves.{source_of, log_to_come, lines_behind}
+use Rattle.std.specs.Prelude.{◌≡◌, ◌+◌, ◌<◌, ℕ, Bool, true, List, Option, Some, None, Result, Ok, Err, vec_len}
+use Rattle.rip_log.specs.Held.{held, ready_lines}
+use Rattle.rip_log.specs.Leaves.{source_of, log_to_come, lines_behind, last_ready}
 use Rattle.rip_log.specs.Lines.{Capture}
 use Rattle.rip_log.specs.Logs.{Gives, SameLog}
 use Rattle.rip_log.specs.Parts.{AreParts, capture_of_parts}
@@ -45,3 +46,23 @@ LineSays coming at_end old new (Ok (Found found)) =
 LineSays coming at_end old new (Ok End) =
     GivesFound coming old new (Ok None) × (at_end (source_of new) ≡ true)
 LineSays coming at_end old new (Err e) = GivesFound coming old new (Err e)
+
+-- how many lines a step takes
+abbrev pub lines_taken : Result Step LogError → ℕ
+lines_taken (Ok Skipped) = 1
+lines_taken (Ok (Found found)) = 1
+lines_taken (Ok End) = 0
+lines_taken (Err e) = 0
+
+-- where a line was ready it was taken, or it is bad, and the others are ready still
+abbrev pub TakesOne : {R : Type 0} → LogReader R → LogReader R → Result Step LogError → Type 0
+TakesOne old new (Ok Skipped) = last_ready new ≡ last_ready old
+TakesOne old new (Ok (Found found)) = last_ready new ≡ last_ready old
+TakesOne old new (Ok End) = ⊥
+TakesOne old new (Err e) = Unit {0}
+
+-- how a step moves on, and that it pulls nothing where a line is ready
+pub record StepsOn {R : Type 0} (old new : LogReader R) (result : Result Step LogError) : Type 0 where
+  pub behind : lines_behind new ≡ lines_behind old + lines_taken result
+  pub unpulled : 0 < ready_lines (held old.window) → source_of new ≡ source_of old
+  pub takes : 0 < ready_lines (held old.window) → TakesOne old new result

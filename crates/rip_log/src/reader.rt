@@ -88,7 +88,7 @@ impl<R: Source> LogReader<R> {
     ghost use Rattle.rip_log.specs.contracts.reader.LogReader.{the_row};
     ghost use Rattle.rip_log.specs.Leaves.{IsOver, Leaves, Moves, capture_of, has_stopped, line_of, lines_behind, log_to_come, source_of, text};
     ghost use Rattle.rip_log.specs.Logs.{log_in};
-    ghost use Rattle.rip_log.specs.Steps.{IsGood, LineSays, capture_at};
+    ghost use Rattle.rip_log.specs.Steps.{IsGood, LineSays, StepsOn, capture_at};
     ghost use Rattle.rip_log.specs.Held.{held};
 
     /// The error at the line that is being read. From now on there are no more records.
@@ -114,6 +114,7 @@ impl<R: Source> LogReader<R> {
         requires held { 0 < length (held self.old.window) }
         ensures says { LineSays R.coming R.at_end self.old self.new result }
         ensures moves { Moves R.coming R.broken R.at_end self.old self.new result }
+        ensures steps { StepsOn self.old self.new result }
         ensures some { result ≢ Ok Step.End }
     {
         let line = match self.window.take_line() {
@@ -139,6 +140,7 @@ impl<R: Source> LogReader<R> {
         requires { has_stopped self.old ≡ false }
         ensures says { LineSays R.coming R.at_end self.old self.new result }
         ensures moves { Moves R.coming R.broken R.at_end self.old self.new result }
+        ensures steps { StepsOn self.old self.new result }
         ensures over { result ≡ Ok Step.End → IsOver R.at_end self.new }
         ensures stays_over { IsOver R.at_end self.old → result ≡ Ok Step.End }
     {
@@ -218,7 +220,8 @@ impl<R: Source> LogReader<R> {
 
     /// The next record, which borrows the reader's buffers, or None at the end of the text. It takes
     /// no memory. An error is the fault of the first bad line, or Read where the source failed while a
-    /// line was read; after an error each call answers Ended at the same line.
+    /// line was read; after an error each call answers Ended at the same line. It pulls nothing for a
+    /// line that it holds whole, or of which it holds more bytes than a line may have.
     pub fn next(&mut self) -> Result<Option<Record<'_>>, LogError>
         ensures* leaves { sem 𝓛 (Rests (the_row R.row) self.entry
             (λ new. Leaves R.coming R.broken R.at_end capture_of line_of self.old new result)) }

@@ -58,9 +58,9 @@ fn pull_behind<R: Source>(source: &mut R, buffer: &mut Vec<u8>, len: usize) -> R
 }
 
 impl<R: Source> Window<R> {
-    ghost use Rattle.rip_log.specs.Held.{held, text};
+    ghost use Rattle.rip_log.specs.Held.{held, ready_lines, text};
     ghost use Rattle.rip_log.specs.Ends.{NoFeedBelow, FirstFeed, Ends};
-    ghost use Rattle.rip_log.specs.Cuts.{Cuts, HasLine, LiesWithin};
+    ghost use Rattle.rip_log.specs.Cuts.{Cuts, HasLine, LiesWithin, TakesReady};
     ghost use Rattle.rip_log.specs.Spans.{IsWithin, slice_of};
 
     /// A window that holds nothing yet.
@@ -137,6 +137,7 @@ impl<R: Source> Window<R> {
         ensures ok { OnOk result (R.broken self.new.source ≡ R.broken self.old.source) }
         ensures err { OnErr result (R.broken self.new.source ≡ true) }
         ensures unpulled { R.at_end self.old.source ≡ true → self.new.source ≡ self.old.source }
+        ensures unchanged { 0 < length (held self.old) → (result ≡ Ok true) × (self.new ≡ self.old) }
     {
         if self.start < self.end {
             return Ok(true);
@@ -170,6 +171,7 @@ impl<R: Source> Window<R> {
         ensures ok { OnOk result (R.broken self.new.source ≡ R.broken self.old.source) }
         ensures err { OnErr result (R.broken self.new.source ≡ true) }
         ensures unpulled { R.at_end self.old.source ≡ true → self.new.source ≡ self.old.source }
+        ensures unchanged { 0 < ready_lines (held self.old) → self.new ≡ self.old }
     {
         let mut seen = 0;
         loop {
@@ -190,7 +192,8 @@ impl<R: Source> Window<R> {
         }
     }
 
-    /// Takes the first line off the text, where bytes of it are held.
+    /// Takes the first line off the text, where bytes of it are held. Pulls nothing where a whole line
+    /// is held, or more bytes than a line may have.
     pub fn take_line(&mut self) -> Result<RawLine, Failed>
         requires { 0 < length (held self.old) }
         ensures cut { IfOk result
@@ -200,6 +203,9 @@ impl<R: Source> Window<R> {
         ensures ok { OnOk result (R.broken self.new.source ≡ R.broken self.old.source) }
         ensures err { OnErr result (R.broken self.new.source ≡ true) }
         ensures unpulled { R.at_end self.old.source ≡ true → self.new.source ≡ self.old.source }
+        ensures ready { 0 < ready_lines (held self.old) → self.new.source ≡ self.old.source }
+        ensures others { 0 < ready_lines (held self.old) →
+            IfOk result (TakesReady (held self.old) (held self.new)) }
     {
         match self.find_end()? {
             LineEnd::Feed(at) => {

@@ -18,4 +18,6 @@ returns-in-Found-clause-leaves g c = record {
   stays_over = search rules;
   onward = search rules;
   few = search rules;
+  ready = search rules;
+  still_ready = search rules;
 }

@@ -1,5 +1,5 @@
 use Rattle.std.proofs.Common.{◌≡◌, ◌-◌, ◌≤◌, false, true}
-use Rattle.rip_log.specs.Leaves.{IsOver, text, log_to_come, lines_behind, has_stopped, source_of}
+use Rattle.rip_log.specs.Leaves.{IsOver, text, log_to_come, lines_behind, last_ready, has_stopped, source_of}
 use Rattle.rip_log.specs.Cuts.{PassesLines}
 use Rattle.rip_log.specs.Logs.{SameLog}
 use Rattle.rip_log.proofs.reader.LogReader.advance.Given as goal
@@ -13,6 +13,7 @@ invariant-lines g l = record {
   marks : g.R.Source.broken (source_of l.self) ≡ g.R.Source.broken (source_of l.fn.self);
   unpulled : g.R.Source.at_end (source_of l.fn.self) ≡ true → source_of l.self ≡ source_of l.fn.self;
   over : IsOver g.R.Source.at_end l.fn.self → IsOver g.R.Source.at_end l.self;
+  ready : lines_behind l.self ≤ last_ready l.fn.self → (source_of l.self ≡ source_of l.fn.self) × (last_ready l.self ≡ last_ready l.fn.self);
   was_running : has_stopped l.fn.self ≡ false;
 }
 

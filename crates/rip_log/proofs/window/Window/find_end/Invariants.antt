@@ -1,6 +1,6 @@
-use Rattle.std.proofs.Common.{◌≡◌, ◌≤◌, ◌-◌, length, true}
+use Rattle.std.proofs.Common.{◌≡◌, ◌≤◌, ◌-◌, ◌<◌, length, true}
 use Rattle.std.specs.Io.KnownBytes.{Keeps}
-use Rattle.rip_log.specs.Held.{held, text}
+use Rattle.rip_log.specs.Held.{held, ready_lines, text}
 use Rattle.rip_log.specs.Ends.{NoFeedBelow}
 use Rattle.rip_log.proofs.window.Window.find_end.Given as goal
 
@@ -12,6 +12,7 @@ invariant-loop-at g l = record {
   before : NoFeedBelow (held l.self) l.seen;
   marks : g.R.Source.broken l.self.source ≡ g.R.Source.broken l.fn.self.source;
   unpulled : g.R.Source.at_end l.fn.self.source ≡ true → l.self.source ≡ l.fn.self.source;
+  unchanged : 0 < ready_lines (held l.fn.self) → l.self ≡ l.fn.self;
 }
 
 abbrev pub decreases-loop-at : goal.decreases-loop-at

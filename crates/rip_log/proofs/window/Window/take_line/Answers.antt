@@ -1,5 +1,7 @@
-use Rattle.std.proofs.Common.{arith}
-use Rattle.rip_log.proofs.CutLemmas.{length-range, feed-cut, last-cut, long-cut, range-nothing}
+use Rattle.std.proofs.Common.{arith, ◌∙◌, ◌+◌, ap, sym}
+use Rattle.rip_log.proofs.CutLemmas.{length-range, feed-cut, last-cut, long-cut, range-back, range-nothing}
+use Rattle.rip_log.specs.Held.{held, ready_lines}
+use Rattle.rip_log.proofs.ReadyLemmas.{ready-feed, none-ready}
 use Rattle.rip_log.proofs.window.Window.take_line.Goals as goal
 
 pub invariant_of-self : goal.invariant_of-self
@@ -26,3 +28,17 @@ returns-in-Long-clause-cut g c =
     let w = c.find_end.new.self in
     let end = rw c.in-Long.is at c.in_ok-at.ensures.end in
     long-cut _ _ _ c.find_end.ensures.text end.0 end.1
+
+pub returns-in-Feed-clause-others : goal.returns-in-Feed-clause-others
+returns-in-Feed-clause-others g c = λ ready.
+    let w = c.find_end.new.self in
+    let end = rw c.in-Feed.is at c.in_ok-at.ensures.end in
+    let len = length-range w.buffer.items w.start w.end w.ordered (omega (arith, w.within, w.room, w.buffer.ok.0)) in
+    ap (λ v. ready_lines (held v)) (sym (c.find_end.ensures.unchanged ready))
+    ∙ ready-feed (held w) c.in-Feed.at end.0
+    ∙ ap (λ l. ready_lines l + 1) (range-back w.buffer.items w.start w.end c.in-Feed.at (omega (arith, end.0.inside, len)))
+
+pub returns-in-Last-clause-others : goal.returns-in-Last-clause-others
+returns-in-Last-clause-others g c = λ ready.
+    let end = rw c.in-Last.is at c.in_ok-at.ensures.end in
+    absurd (none-ready held _ _ (c.find_end.ensures.unchanged ready) end.0 end.2 ready)
