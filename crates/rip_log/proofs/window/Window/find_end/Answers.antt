@@ -1,14 +1,14 @@
 use Rattle.std.proofs.Common.{rules, length, arith, ap}
 use Rattle.std.proofs.lemmas.Grind.{common_steps}
 use Rattle.rip_log.specs.Held.{held}
-use Rattle.rip_log.proofs.ReadyLemmas.{none-ready}
+use Rattle.rip_log.proofs.ReadyLemmas.{none-before}
 use Rattle.rip_log.proofs.window.Window.find_end.Goals as goal
 
 pub returns-in_err-refill-clause-unchanged : goal.returns-in_err-refill-clause-unchanged
-returns-in_err-refill-clause-unchanged g c = λ ready. absurd (none-ready held _ _ (c.loop-at.invariant.unchanged ready) c.in_default.ensures (omega (arith, ap length c.held-seen.ensures)) ready)
+returns-in_err-refill-clause-unchanged g c = λ ready. absurd (none-before held _ _ (c.loop-at.invariant.unchanged ready) c.in_default.ensures (omega (arith, ap length c.held-seen.ensures)) ready)
 
 pub returns-then-ended-clause-unchanged : goal.returns-then-ended-clause-unchanged
-returns-then-ended-clause-unchanged g c = λ ready. absurd (none-ready held _ _ (c.loop-at.invariant.unchanged ready) c.in_default.ensures (omega (arith, ap length c.held-seen.ensures)) ready)
+returns-then-ended-clause-unchanged g c = λ ready. absurd (none-before held _ _ (c.loop-at.invariant.unchanged ready) c.in_default.ensures (omega (arith, ap length c.held-seen.ensures)) ready)
 
 pub loop-at-preserved : goal.loop-at-preserved
 loop-at-preserved g c = record {
@@ -18,5 +18,5 @@ loop-at-preserved g c = record {
   before = grind (arith, common_steps);
   marks = search rules;
   unpulled = search rules;
-  unchanged = λ ready. absurd (none-ready held _ _ (c.loop-at.invariant.unchanged ready) c.in_default.ensures (omega (arith, ap length c.held-seen.ensures)) ready);
+  unchanged = λ ready. absurd (none-before held _ _ (c.loop-at.invariant.unchanged ready) c.in_default.ensures (omega (arith, ap length c.held-seen.ensures)) ready);
 }

@@ -1,7 +1,7 @@
 use Rattle.std.proofs.Common.{arith, ◌∙◌, ◌+◌, ap, sym}
 use Rattle.rip_log.proofs.CutLemmas.{length-range, feed-cut, last-cut, long-cut, range-back, range-nothing}
 use Rattle.rip_log.specs.Held.{held, ready_lines}
-use Rattle.rip_log.proofs.ReadyLemmas.{ready-feed, none-ready}
+use Rattle.rip_log.proofs.ReadyLemmas.{ready-feed, none-before}
 use Rattle.rip_log.proofs.window.Window.take_line.Goals as goal
 
 pub invariant_of-self : goal.invariant_of-self
@@ -41,4 +41,4 @@ returns-in-Feed-clause-others g c = λ ready.
 pub returns-in-Last-clause-others : goal.returns-in-Last-clause-others
 returns-in-Last-clause-others g c = λ ready.
     let end = rw c.in-Last.is at c.in_ok-at.ensures.end in
-    absurd (none-ready held _ _ (c.find_end.ensures.unchanged ready) end.0 end.2 ready)
+    absurd (none-before held _ _ (c.find_end.ensures.unchanged ready) end.0 end.2 ready)
