@@ -1,6 +1,6 @@
 use Rattle.std.proofs.Common.{rules, length, arith, ap}
-use Rattle.std.proofs.lemmas.Grind.{common_steps}
 use Rattle.rip_log.specs.Held.{held}
+use Rattle.rip_log.proofs.HeldLemmas.{none-among}
 use Rattle.rip_log.proofs.ReadyLemmas.{none-before}
 use Rattle.rip_log.proofs.window.Window.find_end.Goals as goal
 
@@ -15,7 +15,7 @@ loop-at-preserved g c = record {
   kept = search rules;
   more = search rules;
   within = search rules;
-  before = grind (arith, common_steps);
+  before = none-among _ _ _ (ap length c.held-seen.ensures) c.in_ok-refill.ensures.held c.in_default.ensures;
   marks = search rules;
   unpulled = search rules;
   unchanged = λ ready. absurd (none-before held _ _ (c.loop-at.invariant.unchanged ready) c.in_default.ensures (omega (arith, ap length c.held-seen.ensures)) ready);
