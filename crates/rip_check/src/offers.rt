@@ -152,9 +152,9 @@ pub(crate) fn least_choice<T: MetricTable>(
     best
 }
 
-/// What a neighbour offers a router: what the neighbour's interface `across` shows of a prefix, or 16
-/// where it shows nothing, and the cost of the router's own interface on the same link, at most 16
-/// (RFC 2453, section 3.9.2).
+/// What a neighbour offers a router: the sum of what the neighbour's interface `across` shows of a
+/// prefix, or of 16 where it shows nothing, and of the cost of the router's own interface on the same
+/// link; 16 where that is more (RFC 2453, section 3.9.2).
 pub fn offer<T: MetricTable>(
     plan: &Plan,
     table: &T,

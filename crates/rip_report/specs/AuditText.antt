@@ -61,13 +61,13 @@ wrong_way_part n Here = codes ", no planned place gives it"
 wrong_way_part n Unreachable = codes ", no planned place gives it"
 
 -- `metric 2, link c does not give it`, where the metric is the equation's but the way gives another
-abbrev pub way_part : Network → ℕ → Way → List ℕ
-way_part n metric way = codes "metric " ++ decimal metric ++ wrong_way_part n way
+abbrev pub wrong_metric_part : Network → ℕ → Way → List ℕ
+wrong_metric_part n metric way = codes "metric " ++ decimal metric ++ wrong_way_part n way
 
 -- what fails at a place
 abbrev pub failure_part : Network → Place2 → List ℕ
 failure_part n f =
-    if f.metric == f.equation then way_part n f.metric f.way
+    if f.metric == f.equation then wrong_metric_part n f.metric f.way
     else metric_part f.hidden f.metric f.equation
 
 -- the router, the prefix and the link of a place are known

@@ -29,7 +29,8 @@ shown_word (Some m) = decimal m
 
 -- `  shown on a: 2`, or `  shown on a: nothing`
 unfoldable pub shown_line : Network → ℕ → Option ℕ → List ℕ
-shown_line n l shown = line (codes "  shown on " ++ name_of n.links l ++ codes ": " ++ shown_word shown)
+shown_line n l shown =
+    line (codes "  shown on " ++ name_of n.links l ++ codes ": " ++ shown_word shown)
 
 -- `  read: 2 over a`
 unfoldable pub reading_line : Network → Route → Bool → List ℕ
@@ -130,10 +131,10 @@ pub record PlaceLines (n : Network) (s : State) (f : Place2) (text : List ℕ) :
       ++ (direct ++ (offers ++ least_line n f.prefix least))))
 
 -- the lines of router r and prefix p, where they do not hold
-pub data FailureLines (n : Network) (s : State) (r p : ℕ) : List ℕ → Type 0 where
+pub data UnsoundLines (n : Network) (s : State) (r p : ℕ) : List ℕ → Type 0 where
   fails : (f : Place2) (text : List ℕ) → f.router ≡ r → f.prefix ≡ p → IsFailing n s f
-      → PlaceLines n s f text → FailureLines n s r p text
-  holds : IsSound n s r p → FailureLines n s r p []
+      → PlaceLines n s f text → UnsoundLines n s r p text
+  holds : IsSound n s r p → UnsoundLines n s r p []
 
 -- ---- What a trouble comes from
 
@@ -178,7 +179,7 @@ pub data UnreadLines (n : Network) (s : State) (r p : ℕ) : List ℕ → Type 0
 
 -- ---- Texts
 
--- the line of router r and prefix p, where the prefix is planned and no path to it costs less than 16
+-- the line of router r and prefix p, where the prefix is planned and no path costs less than 16
 pub data UnreachableLine (n : Network) (s : State) (r p : ℕ) : List ℕ → Type 0 where
   unreachable : p < length n.prefixes → IsLeast n p r 16
       → UnreachableLine n s r p (unreachable_line n s r p)
@@ -186,15 +187,19 @@ pub data UnreachableLine (n : Network) (s : State) (r p : ℕ) : List ℕ → Ty
 
 -- an unsettled network: its first place that does not hold, or all of them
 abbrev pub UnsettledText : Network → State → Bool → Place2 → List ℕ → Type 0
-UnsettledText n s true f = TextsOfPairs (FailureLines n s) (length n.routers) (length s.prefixes)
+UnsettledText n s true f = TextsOfPairs (UnsoundLines n s) (length n.routers) (length s.prefixes)
 UnsettledText n s false f = PlaceLines n s f
+
+-- all places of which no route can be read
+abbrev pub AllUnread : Network → State → List ℕ → Type 0
+AllUnread n s = TextsOfPairs (UnreadLines n s) (length n.routers) (length s.prefixes)
 
 -- all troubles of the kind of the first: interfaces that were not heard, or places
 abbrev pub AllTroubles : Network → State → Unclear → List ℕ → Type 0
 AllTroubles n s (NotHeard r l) = TextsBelow (UnheardLines n s) (length n.interfaces)
-AllTroubles n s (TwoMetrics r p) = TextsOfPairs (UnreadLines n s) (length n.routers) (length s.prefixes)
-AllTroubles n s (Missing r p l) = TextsOfPairs (UnreadLines n s) (length n.routers) (length s.prefixes)
-AllTroubles n s (TwoWays r p) = TextsOfPairs (UnreadLines n s) (length n.routers) (length s.prefixes)
+AllTroubles n s (TwoMetrics r p) = AllUnread n s
+AllTroubles n s (Missing r p l) = AllUnread n s
+AllTroubles n s (TwoWays r p) = AllUnread n s
 
 -- a log that shows no tables: the first trouble, or all of its kind
 abbrev pub UnclearText : Network → State → Bool → Unclear → List ℕ → Type 0

@@ -20,13 +20,13 @@ ghost use Rattle.rip_report.specs.ReportText.{IsAccepted, ReportText};
 ghost use Rattle.rip_report.specs.Sent.{Prints, Reads, WentOut};
 
 use crate::audit::lines::settled_text;
-use crate::entries::{PairEntry, add_pairs};
+use crate::each::{PairText, add_pairs};
 use crate::listing::Listing;
 use crate::output::finish;
 use crate::report::{Report, run_report};
 use crate::status::{RunError, Status};
 use lines::unreachable_text;
-use places::{Failures, add_place};
+use places::{Unsound, add_place};
 use rip_check::{Expected, Place2, Unclear, Unsettled, Verdict, judge, least_metric};
 use rip_log::{Sink, Source};
 use rip_plan::Plan;
@@ -41,7 +41,7 @@ struct Unreachable {
     expected: Expected,
 }
 
-impl PairEntry for Unreachable {
+impl PairText for Unreachable {
     ghost fits = { λ pair n _. AreExpected n pair.expected };
 
     ghost is_text = { λ _ n s r p. UnreachableLine n s r p };
@@ -126,7 +126,7 @@ fn explain_places<T: MetricTable, K: Sink>(
     };
     let mut listing = Listing::new();
     add_pairs(
-        &Failures { places, expected },
+        &Unsound { places, expected },
         &mut listing,
         plan,
         table,

@@ -3,7 +3,7 @@
 
 mod audit;
 mod decode;
-mod entries;
+mod each;
 mod expect;
 mod explain;
 mod limits;

@@ -15,7 +15,7 @@ ghost use Rattle.rip_report.specs.RoutesText.{RouteLine, RoutesText, UnheardLine
 ghost use Rattle.rip_report.specs.Sent.{Prints, Reads, WentOut, Writes};
 
 use crate::audit::lines::push_reason;
-use crate::entries::{Entry, PairEntry, add_entries, add_pairs};
+use crate::each::{InterfaceText, PairText, add_interfaces, add_pairs};
 use crate::line::Line;
 use crate::listing::Listing;
 use crate::names::{push_router, push_way};
@@ -162,7 +162,7 @@ fn pair_text<T: MetricTable>(
 #[derive(Clone, Copy)]
 struct Unheard;
 
-impl Entry for Unheard {
+impl InterfaceText for Unheard {
     ghost fits = { λ _ _ _. Unit {0} };
 
     ghost is_for = { λ _ n i. i < length n.interfaces };
@@ -186,12 +186,12 @@ impl Entry for Unheard {
 
 /// The route of a router for a prefix, beside the least metric of the plan.
 #[derive(Drop)]
-struct RouteBeside {
+struct RouteAndLeast {
     expected: Expected,
 }
 
-impl PairEntry for RouteBeside {
-    ghost fits = { λ entry n _. AreExpected n entry.expected };
+impl PairText for RouteAndLeast {
+    ghost fits = { λ texts n _. AreExpected n texts.expected };
 
     ghost is_text = { λ _ n s r p. RouteLine n s r p };
 
@@ -227,8 +227,8 @@ fn write_routes<T: MetricTable, K: Sink>(
 {
     let mut listing = Listing::new();
     listing.add(&counts_text(plan, table), out);
-    add_entries(&Unheard, &mut listing, plan, table, out);
-    add_pairs(&RouteBeside { expected }, &mut listing, plan, table, out);
+    add_interfaces(&Unheard, &mut listing, plan, table, out);
+    add_pairs(&RouteAndLeast { expected }, &mut listing, plan, table, out);
     listing.finish(out)
 }
 

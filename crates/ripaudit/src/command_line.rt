@@ -47,20 +47,8 @@ fn all_word<'a>(alloc: Global, help: &'a str) -> Arg<'a> {
         .help(help)
 }
 
-/// The commands, with their words and their help.
-fn commands<'a>(alloc: Global) -> Result<Command<'a>, Error> {
-    let hex = Arg::new(alloc, "HEX").required(true).help(
-        "The datagram's bytes in hexadecimal digits of either case",
-    );
-    let decode = Command::new(alloc, "decode")
-        .about("Prints one datagram of RIP version 2")
-        .arg(hex)?;
-    let plan = Command::new(alloc, "plan")
-        .about("Prints the parts of a plan")
-        .arg(plan_word(alloc))?;
-    let expect = Command::new(alloc, "expect")
-        .about("Prints the right routes of a plan")
-        .arg(plan_word(alloc))?;
+/// The commands that read a plan and a log, the first of which is the verdict.
+fn log_commands<'a>(alloc: Global, ripaudit: Command<'a>) -> Result<Command<'a>, Error> {
     let audit = log_command(
         alloc,
         "audit",
@@ -85,14 +73,33 @@ fn commands<'a>(alloc: Global) -> Result<Command<'a>, Error> {
         "table",
         "Prints what each interface of a plan shows in a log",
     )?;
-    let ripaudit = Command::new(alloc, "ripaudit")
-        .version("0.1.0")
-        .about("Audits the routes of a RIP version 2 network")
-        .subcommand_required(true)
+    let ripaudit = ripaudit
         .subcommand(audit)?
         .subcommand(explain)?
         .subcommand(routes)?
-        .subcommand(table)?
+        .subcommand(table)?;
+    Ok(ripaudit)
+}
+
+/// The commands, with their words and their help.
+fn commands<'a>(alloc: Global) -> Result<Command<'a>, Error> {
+    let hex = Arg::new(alloc, "HEX").required(true).help(
+        "The datagram's bytes in hexadecimal digits of either case",
+    );
+    let decode = Command::new(alloc, "decode")
+        .about("Prints one datagram of RIP version 2")
+        .arg(hex)?;
+    let plan = Command::new(alloc, "plan")
+        .about("Prints the parts of a plan")
+        .arg(plan_word(alloc))?;
+    let expect = Command::new(alloc, "expect")
+        .about("Prints the right routes of a plan")
+        .arg(plan_word(alloc))?;
+    let ripaudit = Command::new(alloc, "ripaudit")
+        .version("0.1.0")
+        .about("Audits the routes of a RIP version 2 network")
+        .subcommand_required(true);
+    let ripaudit = log_commands(alloc, ripaudit)?
         .subcommand(expect)?
         .subcommand(plan)?
         .subcommand(decode)?;

@@ -2,7 +2,7 @@
 
 ghost use Rattle.std.specs.Prelude.{◌≡◌, ◌+◌, ◌≤◌, ◌<◌, ◌++◌, length};
 ghost use Rattle.rip_report.specs.declared.limits.TheConstants.{LINE_BYTES};
-ghost use Rattle.rip_report.specs.AuditText.{IsKnownReason, IsPlaceOf, IsTroubleOf, failure_part, has_one_interface, interface_part, leaf_part, leaves_of, metric_part, no_offer_part, place_part, reason_part, settled_line, trouble_part, unclear_line, unsettled_line, way_part, wrong_way_part};
+ghost use Rattle.rip_report.specs.AuditText.{IsKnownReason, IsPlaceOf, IsTroubleOf, failure_part, has_one_interface, interface_part, leaf_part, leaves_of, metric_part, no_offer_part, place_part, reason_part, settled_line, trouble_part, unclear_line, unsettled_line, wrong_metric_part, wrong_way_part};
 ghost use Rattle.rip_report.specs.Names.{IsKnownWay};
 
 use crate::line::Line;
@@ -112,10 +112,10 @@ fn push_wrong_way(text: &mut Line, plan: &Plan, way: Way)
 }
 
 /// Adds a metric and the way that does not give it.
-fn push_way(text: &mut Line, plan: &Plan, metric: Metric, way: Way)
+fn push_wrong_metric(text: &mut Line, plan: &Plan, metric: Metric, way: Way)
     requires way { IsKnownWay plan.now way }
     requires room { length text.old + 83 ≤ LINE_BYTES }
-    ensures text { text.new ≡ text.old ++ way_part plan.now metric way }
+    ensures text { text.new ≡ text.old ++ wrong_metric_part plan.now metric way }
     ensures size { length text.new ≤ length text.old + 83 }
 {
     text.push("metric ");
@@ -131,7 +131,7 @@ fn push_failure(text: &mut Line, plan: &Plan, place: &Place2)
     ensures size { length text.new ≤ length text.old + 83 }
 {
     if place.metric == place.equation {
-        push_way(text, plan, place.metric, place.way);
+        push_wrong_metric(text, plan, place.metric, place.way);
     } else {
         push_metrics(text, place.hidden, place.metric, place.equation);
     }

@@ -1,4 +1,4 @@
-//! What a place comes from that does not hold.
+//! What a place that does not hold comes from.
 
 ghost use Rattle.std.specs.Prelude.{◌≡◌, ◌≢◌, ◌<◌, List, Some, length, slice_get, ℕ};
 ghost use Rattle.rip_plan.specs.Relations.{IsDirect};
@@ -7,11 +7,11 @@ ghost use Rattle.rip_check.specs.Expected.{AreExpected};
 ghost use Rattle.rip_check.specs.Marks.{AreUnsettled};
 ghost use Rattle.rip_check.specs.Paths.{IsLeast};
 ghost use Rattle.rip_report.specs.AuditText.{IsPlaceOf};
-ghost use Rattle.rip_report.specs.ExplainText.{DirectLine, FailureLines, OfferLine, OfferLines, OffersOver, PlaceLines, ShownLine, ShownLines};
+ghost use Rattle.rip_report.specs.ExplainText.{DirectLine, UnsoundLines, OfferLine, OfferLines, OffersOver, PlaceLines, ShownLine, ShownLines};
 ghost use Rattle.rip_report.specs.Listings.{Adds};
 
 use crate::audit::lines::unsettled_text;
-use crate::entries::{Entry, PairEntry, add_listed};
+use crate::each::{InterfaceText, PairText, add_listed};
 use crate::explain::lines::{direct_text, least_text, offer_text, reading_text, shown_text};
 use crate::listing::Listing;
 use rip_check::{Expected, Place2, Unsettled, offer};
@@ -26,12 +26,12 @@ pub(crate) struct Shown {
     prefix: usize,
 }
 
-impl Entry for Shown {
-    ghost fits = { λ entry _ s. entry.prefix < length s.prefixes };
+impl InterfaceText for Shown {
+    ghost fits = { λ texts _ s. texts.prefix < length s.prefixes };
 
     ghost is_for = { λ _ n i. i < length n.interfaces };
 
-    ghost is_text = { λ entry n s i. ShownLine n s entry.prefix i };
+    ghost is_text = { λ texts n s i. ShownLine n s texts.prefix i };
 
     fn add<T: MetricTable, K: Sink>(
         &self,
@@ -67,22 +67,22 @@ pub(crate) fn add_shown<T: MetricTable, K: Sink>(
     add_listed(&Shown { prefix }, listing, plan, table, numbers, out);
 }
 
-/// What is offered to a router over the link of its interface, by the router of another.
+/// What is offered to a router over the link of its interface, by the router of another interface there.
 #[derive(Clone, Copy)]
 struct OfferTo {
     own: Interface,
     prefix: usize,
 }
 
-impl Entry for OfferTo {
+impl InterfaceText for OfferTo {
     ghost use Rattle.rip_plan.specs.Relations.{HasCost, IsInterface};
 
-    ghost fits = { λ entry n s. (entry.prefix < length s.prefixes)
-        × HasCost n entry.own.router entry.own.link entry.own.cost };
+    ghost fits = { λ texts n s. (texts.prefix < length s.prefixes)
+        × HasCost n texts.own.router texts.own.link texts.own.cost };
 
-    ghost is_for = { λ entry n j. (r c : ℕ) × IsInterface n j r entry.own.link c };
+    ghost is_for = { λ texts n j. (r c : ℕ) × IsInterface n j r texts.own.link c };
 
-    ghost is_text = { λ entry n s j. OfferLine n s entry.own entry.prefix j };
+    ghost is_text = { λ texts n s j. OfferLine n s texts.own texts.prefix j };
 
     fn add<T: MetricTable, K: Sink>(
         &self,
@@ -104,16 +104,16 @@ impl Entry for OfferTo {
 
 /// What is offered over the link of a router's interface.
 #[derive(Clone, Copy)]
-struct OffersOn {
+struct OffersOverLink {
     prefix: usize,
 }
 
-impl Entry for OffersOn {
-    ghost fits = { λ entry _ s. entry.prefix < length s.prefixes };
+impl InterfaceText for OffersOverLink {
+    ghost fits = { λ texts _ s. texts.prefix < length s.prefixes };
 
     ghost is_for = { λ _ n i. i < length n.interfaces };
 
-    ghost is_text = { λ entry n s i. OffersOver n s entry.prefix i };
+    ghost is_text = { λ texts n s i. OffersOver n s texts.prefix i };
 
     fn add<T: MetricTable, K: Sink>(
         &self,
@@ -127,11 +127,11 @@ impl Entry for OffersOn {
         let own = plan.interface(number);
         let link = own.link;
         let numbers = plan.on_link(link);
-        let entry = OfferTo {
+        let texts = OfferTo {
             own,
             prefix: self.prefix,
         };
-        add_listed(&entry, listing, plan, table, numbers, out);
+        add_listed(&texts, listing, plan, table, numbers, out);
     }
 }
 
@@ -151,7 +151,8 @@ fn add_offers<T: MetricTable, K: Sink>(
         × Adds K.taken K.broken out.old out.new listing.old listing.new text }
 {
     let numbers = plan.of_router(router);
-    add_listed(&OffersOn { prefix }, listing, plan, table, numbers, out);
+    let offers = OffersOverLink { prefix };
+    add_listed(&offers, listing, plan, table, numbers, out);
 }
 
 /// Adds the cost at which a router has a prefix itself, if it does.
@@ -193,17 +194,19 @@ pub(crate) fn add_place<T: MetricTable, K: Sink>(
     listing.add(&least_text(plan, place.prefix, least), out);
 }
 
-/// The places that do not hold.
+/// A router and a prefix that do not hold.
 #[derive(Drop)]
-pub(crate) struct Failures {
+pub(crate) struct Unsound {
+    /// Which pairs do not hold.
     pub places: Unsettled,
+    /// The least metrics of the plan.
     pub expected: Expected,
 }
 
-impl PairEntry for Failures {
-    ghost fits = { λ entry n s. AreUnsettled n s entry.places × AreExpected n entry.expected };
+impl PairText for Unsound {
+    ghost fits = { λ texts n s. AreUnsettled n s texts.places × AreExpected n texts.expected };
 
-    ghost is_text = { λ _ n s r p. FailureLines n s r p };
+    ghost is_text = { λ _ n s r p. UnsoundLines n s r p };
 
     fn add<T: MetricTable, K: Sink>(
         &self,

@@ -8,7 +8,7 @@ ghost use Rattle.rip_report.specs.ExplainText.{AllTroubles, HeardLine, HeardLine
 ghost use Rattle.rip_report.specs.Listings.{Adds};
 
 use crate::audit::lines::unclear_text;
-use crate::entries::{Entry, PairEntry, add_entries, add_listed, add_pairs};
+use crate::each::{InterfaceText, PairText, add_interfaces, add_listed, add_pairs};
 use crate::explain::lines::{heard_text, none_heard_text};
 use crate::explain::places::add_shown;
 use crate::listing::Listing;
@@ -21,7 +21,7 @@ use rip_table::MetricTable;
 #[derive(Clone, Copy)]
 struct Heard;
 
-impl Entry for Heard {
+impl InterfaceText for Heard {
     ghost fits = { λ _ _ _. Unit {0} };
 
     ghost is_for = { λ _ n i. i < length n.interfaces };
@@ -94,13 +94,9 @@ fn add_under<T: MetricTable, K: Sink>(
 {
     match *trouble {
         Unclear::NotHeard { link, .. } => add_heard(listing, plan, table, link, out),
-        Unclear::TwoMetrics { router, prefix } => {
-            add_shown(listing, plan, table, router, prefix, out);
-        }
-        Unclear::Missing { router, prefix, .. } => {
-            add_shown(listing, plan, table, router, prefix, out);
-        }
-        Unclear::TwoWays { router, prefix } => {
+        Unclear::TwoMetrics { router, prefix }
+        | Unclear::Missing { router, prefix, .. }
+        | Unclear::TwoWays { router, prefix } => {
             add_shown(listing, plan, table, router, prefix, out);
         }
     }
@@ -127,7 +123,7 @@ fn add_trouble<T: MetricTable, K: Sink>(
 #[derive(Clone, Copy)]
 struct Unheard;
 
-impl Entry for Unheard {
+impl InterfaceText for Unheard {
     ghost fits = { λ _ _ _. Unit {0} };
 
     ghost is_for = { λ _ n i. i < length n.interfaces };
@@ -158,7 +154,7 @@ impl Entry for Unheard {
 #[derive(Clone, Copy)]
 struct Unread;
 
-impl PairEntry for Unread {
+impl PairText for Unread {
     ghost fits = { λ _ _ _. Unit {0} };
 
     ghost is_text = { λ _ n s r p. UnreadLines n s r p };
@@ -192,10 +188,10 @@ fn add_troubles<T: MetricTable, K: Sink>(
         × Adds K.taken K.broken out.old out.new listing.old listing.new text }
 {
     match first {
-        Unclear::NotHeard { .. } => add_entries(&Unheard, listing, plan, table, out),
-        Unclear::TwoMetrics { .. } => add_pairs(&Unread, listing, plan, table, out),
-        Unclear::Missing { .. } => add_pairs(&Unread, listing, plan, table, out),
-        Unclear::TwoWays { .. } => add_pairs(&Unread, listing, plan, table, out),
+        Unclear::NotHeard { .. } => add_interfaces(&Unheard, listing, plan, table, out),
+        Unclear::TwoMetrics { .. } | Unclear::Missing { .. } | Unclear::TwoWays { .. } => {
+            add_pairs(&Unread, listing, plan, table, out);
+        }
     }
 }
 

@@ -1,0 +1,17 @@
+use Rattle.std.proofs.Common.{[]}
+use Rattle.rip_report.specs.ExplainText.{is_heard, unheard}
+use Rattle.rip_report.proofs.ListingLemmas.{adds_none}
+use Rattle.rip_report.proofs.explain.troubles.UnheardInterfaceText.add.Goals as goal
+
+pub add_trouble-requires-clause-trouble : goal.add_trouble-requires-clause-trouble
+add_trouble-requires-clause-trouble g c =
+    let x = c.interface-own.result in
+    (c.lawful.ensures.router_known _ x.router x.link x.cost c.interface-own.ensures.is, c.lawful.ensures.link_known _ x.router x.link x.cost c.interface-own.ensures.is)
+
+pub returns-then-not-heard : goal.returns-then-not-heard
+returns-then-not-heard g c =
+    let more = c.add_trouble.ensures in
+    (more.0, unheard c.interface-own.result more.0 c.interface-own.ensures.exact (λ h. cc (h, c.heard.ensures, c.if-not-heard.true)) more.1, more.2)
+
+pub returns-else-not-heard : goal.returns-else-not-heard
+returns-else-not-heard g c = ([], is_heard (cc (c.heard.ensures, c.if-not-heard.false)), adds_none g.K.Sink.taken g.K.Sink.broken c.args.out.now c.args.listing.now)
