@@ -5,8 +5,8 @@ ghost use Rattle.rip_table.specs.State.{Fits};
 ghost use Rattle.rip_check.specs.Expected.{AreExpected};
 
 use crate::{
-    Expected, Place2, Route, Unclear, Unsettled, Verdict, Way, equation, judge, next_unsettled,
-    route,
+    Expected, Place2, Route, Unclear, Unsettled, Verdict, Way, equation, judge, least_metric,
+    next_unsettled, offer, route,
 };
 use rip_plan::Plan;
 use rip_table::{GridTable, ListTable, MetricTable, TableError};
@@ -213,6 +213,27 @@ fn expect_same_places<T: MetricTable>(rt: &impl Abort, alloc: Global, plan: &Pla
     }
 }
 
+/// Expects from `Unsettled::at` exactly the places that `next` answers one after the other.
+fn expect_at_each<T: MetricTable>(rt: &impl Abort, alloc: Global, plan: &Plan, table: &T)
+    requires { Fits plan.now (T.state table.now) }
+{
+    let Ok(unsettled) = Unsettled::find(alloc, plan, table) else {
+        panic!(rt; "no memory");
+    };
+    let mut next = unsettled.next(plan, table, None);
+    for router in 0..plan.routers() {
+        for prefix in 0..table.prefix_count() {
+            let at = unsettled.at(plan, table, router, prefix);
+            let due = next.is_some_and(|place| place.router == router && place.prefix == prefix);
+            assert_eq!(rt; at, if due { next } else { None });
+            if due {
+                next = unsettled.next(plan, table, Some((router, prefix)));
+            }
+        }
+    }
+    assert_eq!(rt; next, None);
+}
+
 /// Expects a verdict on what these logs say.
 pub(super) fn expect(
     rt: &impl Abort,
@@ -225,6 +246,7 @@ pub(super) fn expect(
     hear_all(rt, plan, &mut list, logs);
     expect_on(rt, plan, &list, &verdict);
     expect_same_places(rt, alloc, plan, &list);
+    expect_at_each(rt, alloc, plan, &list);
     let mut grid = grid_in(rt, alloc, plan);
     hear_all(rt, plan, &mut grid, logs);
     expect_on(rt, plan, &grid, &verdict);
@@ -325,6 +347,9 @@ fn expect_place_ways(rt: &impl Abort, plan: &Plan, expected: &Expected, row: Way
     let (router, prefix, number, _) = row;
     assert!(rt; router < plan.routers() && prefix < plan.prefixes());
     assert_eq!(rt; expected.metric(plan, router, prefix).get(), number);
+    assert_eq!(rt; expected.least(plan, router, prefix).get(), number);
+    assert_eq!(rt; expected.least(plan, router, plan.prefixes()).get(), 16);
+    assert_eq!(rt; least_metric(plan, router, prefix).get(), number);
     expect_way(rt, plan, expected, row, Way::Unreachable);
     expect_way(rt, plan, expected, row, Way::Here);
     for link in 0..plan.links() {
@@ -340,5 +365,37 @@ pub(super) fn expect_ways(rt: &impl Abort, alloc: Global, plan: &Plan, rows: &[W
     };
     for row in rows {
         expect_place_ways(rt, plan, &expected, *row);
+    }
+}
+
+/// An interface, another router's on the same link, a prefix, and what the other offers there.
+pub(super) type Offered = (usize, usize, usize, u32);
+
+/// Expects what is offered.
+fn expect_offer<T: MetricTable>(rt: &impl Abort, plan: &Plan, table: &T, offered: Offered)
+    requires { Fits plan.now (T.state table.now) }
+{
+    plan.lawful();
+    let (number, across, prefix, value) = offered;
+    assert!(rt; number < plan.interfaces() && across < plan.interfaces());
+    assert!(rt; prefix < table.prefix_count());
+    let own = plan.interface(number);
+    let other = plan.interface(across);
+    assert!(rt; other.link == own.link && other.router != own.router);
+    assert_eq!(rt; offer(plan, table, own, across, prefix).get(), value);
+}
+
+/// Expects offers of what these logs say.
+pub(super) fn expect_offers(
+    rt: &impl Abort,
+    alloc: Global,
+    plan: &Plan,
+    logs: &[&[Line<'_>]],
+    rows: &[Offered],
+) {
+    let mut grid = grid_in(rt, alloc, plan);
+    hear_all(rt, plan, &mut grid, logs);
+    for row in rows {
+        expect_offer(rt, plan, &grid, *row);
     }
 }

@@ -1,6 +1,6 @@
 //! A link that costs its two routers differently.
 
-use super::networks::{Line, expect, expect_routes, expect_ways, failing, plan_of};
+use super::networks::{Line, expect, expect_offers, expect_routes, expect_ways, failing, plan_of};
 use crate::{Verdict, Way};
 use rip_plan::examples::SLOPE;
 
@@ -46,4 +46,16 @@ fn ways_of_the_slope(rt: HostRuntime) {
         (1, 1, 1, &[Way::Here]),
     ];
     expect_ways(&rt, alloc, &plan, &rows);
+}
+
+/// The interfaces are r1's on p and m, and r2's on m and q: r1 pays 5 on m, and r2 pays 1.
+#[test]
+fn offers_of_the_slope(rt: HostRuntime) {
+    let alloc = rt.alloc();
+    let plan = plan_of(&rt, alloc, &[SLOPE]);
+    let rows = [(1, 2, 1, 6), (1, 2, 0, 16), (2, 1, 0, 2), (2, 1, 1, 16)];
+    expect_offers(&rt, alloc, &plan, &[&LOG], &rows);
+    let silent = [LOG[0], LOG[3]];
+    let rows = [(1, 2, 1, 16), (2, 1, 0, 16)];
+    expect_offers(&rt, alloc, &plan, &[&silent], &rows);
 }
