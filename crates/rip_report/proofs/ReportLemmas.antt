@@ -1,32 +1,91 @@
 -- What is said of a plan and a log that were read, and of those that were refused.
-use Rattle.std.proofs.Common.{◌≡◌, ℕ, List, Option, Some, None, Result, Ok, Err, sym, ap, subst, ◌∙◌}
-use Rattle.std.specs.Prelude.{◌↔◌, IfOk}
+use Rattle.std.proofs.Common.{◌≡◌, ℕ, List, Bool, true, false, Option, Some, None, Result, Ok, Err, ◌⊎◌, inl, inr, refl, sym, ap, subst, ◌∙◌}
+use Rattle.std.specs.Prelude.{◌↔◌, if◌then◌else◌, IfOk}
 use Rattle.std.proofs.lemmas.Option.{same_Some}
 use Rattle.rip_plan.specs.Answers.{first_fault}
 use Rattle.rip_plan.specs.Network.{Network}
 use Rattle.rip_plan.specs.PlanOf.{IsPlanOfText, PlanOf}
 use Rattle.rip_plan.specs.declared.error.PlanCode.TheVariants.{Memory as OutOfMemory}
 use Rattle.rip_plan.specs.declared.error.PlanError.{PlanError}
-use Rattle.rip_log.specs.Logs.{log_in}
-use Rattle.rip_table.specs.Collects.{OutcomeKnown}
-use Rattle.rip_table.specs.Joined.{Outcome}
-use Rattle.rip_table.specs.State.{State, new_state}
+use Rattle.rip_log.specs.LogText.{LogFault, LogText}
+use Rattle.rip_log.specs.Logs.{Log, Numbered, log_in}
+use Rattle.rip_log.specs.declared.error.LogError.{LogError}
+use Rattle.rip_table.specs.Collects.{SaidOutcome, is_read_cause}
+use Rattle.rip_table.specs.Joined.{is_memory}
+use Rattle.rip_table.specs.LogJoin.{IsJoin, IsJoined, IsOutcome}
+use Rattle.rip_table.specs.State.{IsState, State, new_state}
 use Rattle.rip_table.specs.declared.error.CollectError.{CollectError}
-use Rattle.rip_report.specs.ReportText.{IsAccepted, IsTable}
+use Rattle.rip_report.specs.Readings.{refusal_in}
+use Rattle.rip_report.specs.ReportText.{IsAccepted, IsTable, LogMakes, LogSays}
 use Rattle.rip_report.specs.declared.status.Status.{Status}
 use Rattle.rip_report.specs.declared.status.RunError.{RunError}
-use Rattle.rip_report.specs.declared.status.RunError.TheVariants.{Memory}
+use Rattle.rip_report.specs.declared.status.RunError.TheVariants.{Memory, Read}
 
--- the records of a log have one table, and one fault
-pub same_table : (n : Network) (log : Option (List ℕ)) (s t : State) (fault : Option CollectError) → OutcomeKnown n (new_state n) (log_in log) s fault → IsTable n log t → (s ≡ t) × (fault ≡ None)
-same_table n log s t fault known h =
-    let one = rw h.told at known in
-    let both = sym one ∙ h.joined in
-    (ap (λ (o : Outcome). o.state) both, ap (λ (o : Outcome). o.fault) both)
+-- what the words of a log's format say, as the reader has it
+pub record LogWords : Type 0 where
+  pub text : (text : List ℕ) (records : List Numbered) → (log_in (Some text) ≡ Some (record { records = records; fault = None })) ↔ LogText text records
+  pub fault : (text : List ℕ) (records : List Numbered) (e : LogError) → (log_in (Some text) ≡ Some (record { records = records; fault = Some e })) ↔ LogFault text records e.line e.code
+
+pub in_words : (words : LogWords) (text : List ℕ) (records : List Numbered) (fault : Option LogError) → log_in (Some text) ≡ Some (record { records = records; fault = fault }) → LogSays text records fault
+in_words words text records None h = (words.text text records).0 h
+in_words words text records (Some e) h = (words.fault text records e).0 h
+
+pub as_read : (words : LogWords) (text : List ℕ) (records : List Numbered) (fault : Option LogError) → LogSays text records fault → log_in (Some text) ≡ Some (record { records = records; fault = fault })
+as_read words text records None h = (words.text text records).1 h
+as_read words text records (Some e) h = (words.fault text records e).1 h
+
+-- what refuses a log is what the joining of its records answered
+of_causes : (P : Option CollectError → Type 0) (e : CollectError) (memory read : Bool) → (memory ≡ false → read ≡ false → P (Some e))
+    → IfOk (if memory then Err Memory else if read then Err Read else Ok (Some e)) P
+of_causes P e true read h = tt
+of_causes P e false true h = tt
+of_causes P e false false h = h refl refl
+
+pub refusal_said : (n : Network) (old : State) (log : Log) (s : State) (collected : Result (Unit {0}) CollectError) → SaidOutcome n old log s collected → IfOk (refusal_in collected) (IsOutcome n old log s)
+refusal_said n old log s (Ok done) h = h
+refusal_said n old log s (Err e) h = of_causes (IsOutcome n old log s) e (is_memory e.cause) (is_read_cause e.cause) h
+
+-- what is made of a log that is told
+pub made_of : (words : LogWords) (n : Network) (text : Option (List ℕ)) (s : State) (collected : Result (Unit {0}) CollectError) → ((log : Log) → log_in text ≡ Some log → SaidOutcome n (new_state n) log s collected)
+    → IfOk (refusal_in collected) (LogMakes n text s)
+made_of words n None s collected said = untold (refusal_in collected)
+  where
+    untold : (r : Result (Option CollectError) RunError) → IfOk r (LogMakes n None s)
+    untold (Ok refusal) = tt
+    untold (Err f) = tt
+made_of words n (Some text) s collected said = found (log_in (Some text)) refl
+  where
+    of_log : (log : Log) → log_in (Some text) ≡ Some log → (r : Result (Option CollectError) RunError) → IfOk r (IsOutcome n (new_state n) log s) → IfOk r (LogMakes n (Some text) s)
+    of_log log h (Ok refusal) made = (log, in_words words text log.records log.fault h, made)
+    of_log log h (Err f) made = tt
+
+    found : (log : Option Log) → log_in (Some text) ≡ log → IfOk (refusal_in collected) (LogMakes n (Some text) s)
+    found None h = absurd (cc)
+    found (Some log) h = of_log log h (refusal_in collected) (refusal_said n (new_state n) log s collected (said log h))
+
+-- records make one table of an old one
+abbrev pub OneJoin : Type 0
+OneJoin = (n : Network) (old s t : State) (log : List Numbered) → IsState s → IsState t → IsJoin n old log s → IsJoin n old log t → s ≡ t
+
+joined_alone : (one : OneJoin) (n : Network) (s t : State) (log : Log) (refusal : Option CollectError) → log.fault ≡ None → IsOutcome n (new_state n) log s refusal → IsJoined n (new_state n) log.records t → (s ≡ t) × (refusal ≡ None)
+joined_alone one n s t log None whole (no_fault, is) h = (one n (new_state n) s t log.records is.state h.state is.join h.join, refl)
+joined_alone one n s t log (Some e) whole (inl first) h = absurd (h.accepted first.before first.after _ s e.cause first.split first.joined.join first.joined.state first.refused)
+joined_alone one n s t log (Some e) whole (inr own) h = absurd (never own.fault (sym own.has ∙ whole))
+  where
+    never : (f : LogError) → ◌≡◌ {A = Option LogError} (Some f) None → ⊥
+    never f h = absurd (cc)
+
+-- a log makes one table, and where it has one nothing refuses it
+pub same_table : (words : LogWords) (one : OneJoin) (n : Network) (text : Option (List ℕ)) (s t : State) (refusal : Option CollectError) → LogMakes n text s refusal → IsTable n text t → (s ≡ t) × (refusal ≡ None)
+same_table words one n text s t refusal made h =
+    let (log, says, outcome) = rw h.told at made in
+    let read = as_read words h.bytes log.records log.fault says in
+    let both = same_Some _ _ (sym read ∙ (words.text h.bytes h.records).1 h.text) in
+    joined_alone one n s t log refusal (ap (λ (o : Log). o.fault) both) outcome (subst (λ rs. IsJoined n (new_state n) rs t) (sym (ap (λ (o : Log). o.records) both)) h.joined)
 
 -- a log that is refused has no table
-pub no_table : (P : Type 0) (n : Network) (log : Option (List ℕ)) (s t : State) (e : CollectError) → OutcomeKnown n (new_state n) (log_in log) s (Some e) → IsTable n log t → P
-no_table P n log s t e known h = absurd (never (same_table n log s t (Some e) known h).1)
+pub no_table : (P : Type 0) (words : LogWords) (one : OneJoin) (n : Network) (text : Option (List ℕ)) (s t : State) (e : CollectError) → LogMakes n text s (Some e) → IsTable n text t → P
+no_table P words one n text s t e made h = absurd (never (same_table words one n text s t (Some e) made h).1)
   where
     never : ◌≡◌ {A = Option CollectError} (Some e) None → ⊥
     never h = absurd (cc)

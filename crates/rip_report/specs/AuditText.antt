@@ -9,7 +9,7 @@ use Rattle.rip_check.specs.declared.verdict.Verdict.{Verdict}
 use Rattle.rip_check.specs.declared.verdict.Verdict.TheVariants as verdicts
 use Rattle.rip_check.specs.declared.way.Way.{Way}
 use Rattle.rip_check.specs.declared.way.Way.TheVariants.{Unreachable, Here, Over}
-use Rattle.rip_report.specs.Names.{IsKnownWay, name_of, prefix_name}
+use Rattle.rip_report.specs.Names.{IsKnownWay, counts_part, name_of, prefix_name}
 use Rattle.rip_report.specs.ReportText.{ReportText}
 use Rattle.rip_report.specs.Written.{Written, line}
 use Rattle.rip_report.specs.declared.status.Status.{Status}
@@ -36,8 +36,8 @@ leaf_part leaves = if nat_lt 0 leaves then codes ", " ++ decimal leaves ++ codes
 -- `settled: 3 routers, 3 prefixes`
 unfoldable pub settled_line : Network → State → List ℕ
 settled_line n s =
-    line (codes "settled: " ++ decimal (length n.routers) ++ codes " routers, "
-    ++ decimal (length s.prefixes) ++ codes " prefixes" ++ leaf_part (leaves_of n))
+    line (codes "settled: " ++ counts_part (length n.routers) (length s.prefixes)
+    ++ leaf_part (leaves_of n))
 
 -- `router r1 prefix 10.2.0.0/16: `, by their numbers
 abbrev pub place_part : Network → State → ℕ → ℕ → List ℕ

@@ -5,7 +5,7 @@ use Rattle.rip_check.specs.Expected.{AreUnreachable, IsExpected}
 use Rattle.rip_check.specs.declared.way.Way.{Way}
 use Rattle.rip_check.specs.declared.way.Way.TheVariants.{Unreachable, Here, Over}
 use Rattle.rip_report.specs.Listings.{TextsBelow}
-use Rattle.rip_report.specs.Names.{name_of, way_text}
+use Rattle.rip_report.specs.Names.{counts_part, name_of, way_text}
 use Rattle.rip_report.specs.PlanText.{OfPlan, prefix_of}
 use Rattle.rip_report.specs.Written.{Written, line}
 use Rattle.rip_report.specs.declared.status.Status.TheVariants.{Done}
@@ -18,8 +18,8 @@ unreachable_part pairs =
 -- `expect: 3 routers, 3 prefixes`
 unfoldable pub expect_line : Network → ℕ → List ℕ
 expect_line n pairs =
-    line (codes "expect: " ++ decimal (length n.routers) ++ codes " routers, "
-    ++ decimal (length n.prefixes) ++ codes " prefixes" ++ unreachable_part pairs)
+    line (codes "expect: " ++ counts_part (length n.routers) (length n.prefixes)
+    ++ unreachable_part pairs)
 
 -- `r1 10.2.0.0/16 2 over a`, by the numbers of router and prefix
 unfoldable pub route_line : Network → ℕ → ℕ → ℕ → Way → List ℕ

@@ -14,6 +14,11 @@ name_of names k = unwrap_or (slice_get names k) []
 abbrev pub prefix_name : State → ℕ → List ℕ
 prefix_name s p = unwrap_or (option_map prefix_text (slice_get s.prefixes p)) []
 
+-- `3 routers, 4 prefixes`
+abbrev pub counts_part : ℕ → ℕ → List ℕ
+counts_part routers prefixes =
+    decimal routers ++ codes " routers, " ++ decimal prefixes ++ codes " prefixes"
+
 -- a word and a number
 abbrev pub numbered : List ℕ → ℕ → List ℕ
 numbered word n = word ++ decimal n

@@ -10,7 +10,7 @@ use Rattle.rip_check.specs.Verdicts.{IsHidden}
 use Rattle.rip_check.specs.declared.verdict.Unclear.{Unclear}
 use Rattle.rip_report.specs.AuditText.{reason_part}
 use Rattle.rip_report.specs.Listings.{TextsBelow, TextsOfPairs}
-use Rattle.rip_report.specs.Names.{name_of, prefix_name, way_text}
+use Rattle.rip_report.specs.Names.{counts_part, name_of, prefix_name, way_text}
 use Rattle.rip_report.specs.TableText.{unheard_line}
 use Rattle.rip_report.specs.Written.{Written, line}
 use Rattle.rip_report.specs.declared.status.Status.TheVariants.{Done}
@@ -18,8 +18,7 @@ use Rattle.rip_report.specs.declared.status.Status.TheVariants.{Done}
 -- `routes: 3 routers, 3 prefixes`
 unfoldable pub routes_line : Network → State → List ℕ
 routes_line n s =
-    line (codes "routes: " ++ decimal (length n.routers) ++ codes " routers, "
-    ++ decimal (length s.prefixes) ++ codes " prefixes")
+    line (codes "routes: " ++ counts_part (length n.routers) (length s.prefixes))
 
 -- `, leaf`, where a leaf cannot show its route
 abbrev pub leaf_word : Bool → List ℕ

@@ -11,7 +11,7 @@ ghost use Rattle.rip_report.specs.Sent.{Prints, Writes};
 
 use crate::line::Line;
 use crate::listing::Listing;
-use crate::names::{push_router, push_way};
+use crate::names::{push_counts, push_router, push_way};
 use crate::output::finish;
 use crate::plan::refuse_plan;
 use crate::status::{RunError, Status};
@@ -41,10 +41,7 @@ fn counts_text(plan: &Plan, pairs: usize) -> Line
 {
     let mut text = Line::new();
     text.push("expect: ");
-    text.push_number(plan.routers() as u64);
-    text.push(" routers, ");
-    text.push_number(plan.prefixes() as u64);
-    text.push(" prefixes");
+    push_counts(&mut text, plan.routers(), plan.prefixes());
     push_unreachable(&mut text, pairs);
     text.end();
     text

@@ -2,11 +2,23 @@
 
 ghost use Rattle.std.specs.Prelude.{◌≡◌, ◌+◌, ◌≤◌, ◌<◌, ◌++◌, length};
 ghost use Rattle.rip_report.specs.declared.limits.TheConstants.{LINE_BYTES};
-ghost use Rattle.rip_report.specs.Names.{IsKnownWay, name_of, way_text};
+ghost use Rattle.rip_report.specs.Names.{IsKnownWay, counts_part, name_of, way_text};
 
 use crate::line::Line;
 use rip_check::Way;
 use rip_plan::Plan;
+
+/// Adds how many routers and prefixes there are.
+pub(crate) fn push_counts(text: &mut Line, routers: usize, prefixes: usize)
+    requires room { length text.old + 59 ≤ LINE_BYTES }
+    ensures text { text.new ≡ text.old ++ counts_part routers prefixes }
+    ensures size { length text.new ≤ length text.old + 59 }
+{
+    text.push_number(routers as u64);
+    text.push(" routers, ");
+    text.push_number(prefixes as u64);
+    text.push(" prefixes");
+}
 
 /// Adds the name of a router.
 pub(crate) fn push_router(text: &mut Line, plan: &Plan, router: usize)

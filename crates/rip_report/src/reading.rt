@@ -1,12 +1,12 @@
 //! From a log to a table.
 
 ghost use Rattle.std.specs.Prelude.{◌≡◌, ◌≢◌, true, IfOk, Ok, Err, None};
-ghost use Rattle.rip_log.specs.Logs.{log_in};
-ghost use Rattle.rip_table.specs.Collects.{OutcomeKnown};
 ghost use Rattle.rip_table.specs.State.{Fits, new_state};
 ghost use Rattle.rip_report.specs.Readings.{refusal_in};
+ghost use Rattle.rip_report.specs.ReportText.{LogMakes};
 
 use crate::status::RunError;
+use rip_log::laws::log_texts;
 use rip_log::{LogCode, LogError, LogReader, Source};
 use rip_plan::Plan;
 use rip_table::{CollectCause, CollectError, MetricTable, TableError, collect};
@@ -40,14 +40,14 @@ pub(crate) fn read_log<R: Source, T: MetricTable>(
     table: &mut T,
 ) -> (R, Result<Option<CollectError>, RunError>)
     requires { T.state table.old ≡ new_state plan.now }
-    ensures told { IfOk result.1 (OutcomeKnown plan.now (new_state plan.now)
-        (log_in (R.coming log)) (T.state table.new)) }
+    ensures told { IfOk result.1 (LogMakes plan.now (R.coming log) (T.state table.new)) }
     ensures fits { Fits plan.now (T.state table.new) }
     ensures read { result.1 ≡ Err RunError.Read → R.broken result.0 ≡ true }
     ensures write { result.1 ≢ Err RunError.Write }
     ensures mark { result.1 ≢ Err RunError.Read → R.broken result.0 ≡ R.broken log }
     ensures ended { result.1 ≡ Ok None → R.at_end result.0 ≡ true }
 {
+    log_texts();
     match LogReader::new(alloc, log) {
         Err((_, source)) => (source, Err(RunError::Memory)),
         Ok(mut reader) => {

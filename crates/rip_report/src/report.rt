@@ -14,9 +14,11 @@ use crate::plan::refuse_plan;
 use crate::reading::read_log;
 use crate::refusal::refusal_text;
 use crate::status::{RunError, Status};
+use rip_log::laws::log_texts;
 use rip_log::{Sink, Source};
 use rip_plan::Plan;
 use rip_plan::laws::one_plan;
+use rip_table::laws::one_join;
 use rip_table::{GridTable, MetricTable};
 use std::alloc::Global;
 use std::hash::BuildHasher;
@@ -64,6 +66,8 @@ fn report_log<C: Report, R: Source, K: Sink, T: MetricTable>(
     ensures meaning { (s : State) → IsTable plan.now (R.coming log) s →
         IfOk result.1 (C.means command.now plan.now s) }
 {
+    log_texts();
+    one_join();
     let (source, read) = read_log(alloc, plan, log, table);
     match read {
         Ok(None) => (source, command.write(alloc, plan, table, out)),

@@ -18,7 +18,7 @@ use crate::audit::lines::push_reason;
 use crate::each::{InterfaceText, PairText, add_interfaces, add_pairs};
 use crate::line::Line;
 use crate::listing::Listing;
-use crate::names::{push_router, push_way};
+use crate::names::{push_counts, push_router, push_way};
 use crate::output::finish;
 use crate::report::{Report, run_report};
 use crate::status::{RunError, Status};
@@ -38,10 +38,7 @@ fn counts_text<T: MetricTable>(plan: &Plan, table: &T) -> Line
 {
     let mut text = Line::new();
     text.push("routes: ");
-    text.push_number(plan.routers() as u64);
-    text.push(" routers, ");
-    text.push_number(table.prefix_count() as u64);
-    text.push(" prefixes");
+    push_counts(&mut text, plan.routers(), table.prefix_count());
     text.end();
     text
 }

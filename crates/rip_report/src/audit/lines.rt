@@ -6,7 +6,7 @@ ghost use Rattle.rip_report.specs.AuditText.{IsKnownReason, IsPlaceOf, IsTrouble
 ghost use Rattle.rip_report.specs.Names.{IsKnownWay};
 
 use crate::line::Line;
-use crate::names::{push_link, push_router};
+use crate::names::{push_counts, push_link, push_router};
 use rip_check::{Place2, Unclear, Way};
 use rip_plan::Plan;
 use rip_table::MetricTable;
@@ -46,10 +46,7 @@ pub(crate) fn settled_text<T: MetricTable>(plan: &Plan, table: &T) -> Line
 {
     let mut text = Line::new();
     text.push("settled: ");
-    text.push_number(plan.routers() as u64);
-    text.push(" routers, ");
-    text.push_number(table.prefix_count() as u64);
-    text.push(" prefixes");
+    push_counts(&mut text, plan.routers(), table.prefix_count());
     push_leaves(&mut text, leaves(plan));
     text.end();
     text

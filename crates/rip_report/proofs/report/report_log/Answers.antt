@@ -23,14 +23,14 @@ returns-in-Ok-None-clause-told g c =
     let a = g.K.Sink.taken c.args.out.now in
     let b = g.K.Sink.taken c.write.new.out in
     let told = rw (c.in-Ok-None.is, c.in-Ok-None.field-0-is) at c.read_log-source.ensures.told in
-    λ t table. subst (λ (u : State). IfOk c.write.result (WentOut (g.C.Report.is_text c.args.command.now n u) a b)) (same_table n (g.R.Source.coming c.args.log) s t None told table).0 c.write.ensures.prints.text
+    λ t table. subst (λ (u : State). IfOk c.write.result (WentOut (g.C.Report.is_text c.args.command.now n u) a b)) (same_table (record { text = c.log_texts.ensures.text; fault = c.log_texts.ensures.fault }) c.one_join.ensures n (g.R.Source.coming c.args.log) s t None told table).0 c.write.ensures.prints.text
 
 pub returns-in-Ok-None-clause-meaning : goal.returns-in-Ok-None-clause-meaning
 returns-in-Ok-None-clause-meaning g c =
     let n = c.args.plan.now in
     let s = g.T.MetricTable.state c.read_log-source.new.table in
     let told = rw (c.in-Ok-None.is, c.in-Ok-None.field-0-is) at c.read_log-source.ensures.told in
-    λ t table. subst (λ (u : State). IfOk c.write.result (g.C.Report.means c.args.command.now n u)) (same_table n (g.R.Source.coming c.args.log) s t None told table).0 c.write.ensures.meaning
+    λ t table. subst (λ (u : State). IfOk c.write.result (g.C.Report.means c.args.command.now n u)) (same_table (record { text = c.log_texts.ensures.text; fault = c.log_texts.ensures.fault }) c.one_join.ensures n (g.R.Source.coming c.args.log) s t None told table).0 c.write.ensures.meaning
 
 pub returns-in-Ok-Some-clause-prints : goal.returns-in-Ok-Some-clause-prints
 returns-in-Ok-Some-clause-prints g c =
@@ -45,9 +45,9 @@ returns-in-Ok-Some-clause-prints g c =
 pub returns-in-Ok-Some-clause-told : goal.returns-in-Ok-Some-clause-told
 returns-in-Ok-Some-clause-told g c =
     let told = rw (c.in-Ok-Some.is, c.in-Ok-Some.field-0-is) at c.read_log-source.ensures.told in
-    λ t table. no_table _ c.args.plan.now (g.R.Source.coming c.args.log) (g.T.MetricTable.state c.read_log-source.new.table) t c.in-Ok-Some.error told table
+    λ t table. no_table _ (record { text = c.log_texts.ensures.text; fault = c.log_texts.ensures.fault }) c.one_join.ensures c.args.plan.now (g.R.Source.coming c.args.log) (g.T.MetricTable.state c.read_log-source.new.table) t c.in-Ok-Some.error told table
 
 pub returns-in-Ok-Some-clause-meaning : goal.returns-in-Ok-Some-clause-meaning
 returns-in-Ok-Some-clause-meaning g c =
     let told = rw (c.in-Ok-Some.is, c.in-Ok-Some.field-0-is) at c.read_log-source.ensures.told in
-    λ t table. no_table _ c.args.plan.now (g.R.Source.coming c.args.log) (g.T.MetricTable.state c.read_log-source.new.table) t c.in-Ok-Some.error told table
+    λ t table. no_table _ (record { text = c.log_texts.ensures.text; fault = c.log_texts.ensures.fault }) c.one_join.ensures c.args.plan.now (g.R.Source.coming c.args.log) (g.T.MetricTable.state c.read_log-source.new.table) t c.in-Ok-Some.error told table
