@@ -7,7 +7,7 @@ use Rattle.rip_log.specs.Logs.{Numbered, Log, onto_log, Gives, IfElse}
 use Rattle.rip_log.specs.declared.error.LogError.{LogError}
 use Rattle.rip_table.specs.State.{State}
 use Rattle.rip_table.specs.Joined.{joined_capture, joined_records, and_then, outcome, outcome_of, with_record, Outcome, WantsFor}
-use Rattle.rip_table.specs.Collects.{Passed, PassedKnown, StuckKnown, OutcomeKnown}
+use Rattle.rip_table.specs.Collects.{Passed, PassedKnown, StandsBehind, StandsBehindKnown, StuckKnown, OutcomeKnown}
 use Rattle.rip_table.specs.declared.error.CollectCause.{CollectCause}
 use Rattle.rip_table.specs.declared.error.CollectCause.TheVariants.{Log as OfLog}
 
@@ -55,6 +55,13 @@ Passed-more n old log mid new r left p k = record {
   joined = joined_records-snoc n old p.taken r mid new p.joined k;
 }
 
+behind : (n : Network) (old : State) (log : Log) (mid : State) (r : Numbered) (left : Log) → Passed n old log mid (onto_log r left) → StandsBehind log r.line left
+behind n old log mid r left p = record { before = p.taken; capture = r.capture; records = p.records; fault = p.fault }
+
+pub when_memory : {P : Type 0} (Q : Type 0) (b : Bool) → b ≡ true → IfElse b P Q → P
+when_memory Q true is p = p
+when_memory Q false is q = absurd (cc is)
+
 module _ {X : Type 0} (view : X → Capture) (number : X → ℕ) where
   pub PassedKnown-more : (n : Network) (old : State) (log : Option Log) (mid new : State) (here left : Option Log) (x : X)
       → PassedKnown n old log mid here → Gives view number here left (Ok (Some x)) → joined_capture n mid (view x) ≡ Ok new → PassedKnown n old log new left
@@ -97,6 +104,14 @@ module _ {X : Type 0} (view : X → Capture) (number : X → ℕ) where
   OutcomeKnown-refused n old (Some log) mid (Some m) left x cause p gives k =
       outcome-passed n old log mid _ p ∙ ap (outcome n mid) gives.2
       ∙ ap (λ (r : Result State CollectCause). with_record mid (number x) r (λ t. outcome n t gives.0)) k
+
+  pub stands_behind : (n : Network) (old : State) (log : Option Log) (mid : State) (here left : Option Log) (x : X)
+      → PassedKnown n old log mid here → Gives view number here left (Ok (Some x)) → StandsBehindKnown log (number x) left
+  stands_behind n old None mid here left x p gives = tt
+  stands_behind n old (Some log) mid None left x p gives = absurd p
+  stands_behind n old (Some log) mid (Some m) left x p gives =
+      subst (λ (l : Option Log). StandsBehindKnown (Some log) (number x) l) (sym gives.1)
+      (behind n old log mid (record { line = number x; capture = view x }) gives.0 (subst (λ (l : Log). Passed n old log mid l) gives.2 p))
 
   pub StuckKnown-wants : (n : Network) (old : State) (log : Option Log) (mid : State) (here left : Option Log) (x : X)
       → PassedKnown n old log mid here → Gives view number here left (Ok (Some x)) → WantsFor n mid (view x)

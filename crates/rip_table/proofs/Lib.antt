@@ -20,3 +20,4 @@ pub mod RefusedLemmas
 pub mod OneJoin
 pub mod UpdateLemmas
 pub mod OutcomeLemmas
+pub mod PairLemmas

@@ -1,5 +1,5 @@
 -- What refuses a log.
-use Rattle.std.proofs.Common.{inl, inr, ◌≡◌, ◌≢◌, ℕ, ◌<◌, ◌≤◌, ◌==◌, Bool, true, false, cond, ◌&&◌, ◌||◌, not, nat_le, nat_lt, List, [], ◌∷◌, ◌++◌, length, Option, Some, None, Result, Ok, Err, refl, sym, ap, ◌∙◌, arith, subst, append-nil}
+use Rattle.std.proofs.Common.{◌↔◌, inl, inr, ◌≡◌, ◌≢◌, ℕ, ◌<◌, ◌≤◌, ◌==◌, Bool, true, false, cond, ◌&&◌, ◌||◌, not, nat_le, nat_lt, List, [], ◌∷◌, ◌++◌, length, Option, Some, None, Result, Ok, Err, refl, sym, ap, ◌∙◌, arith, subst, append-nil}
 use Rattle.std.proofs.lemmas.Bool.{eqb-true, eq-eqb}
 use Rattle.std.proofs.lemmas.Bool.Decides.{nat_tests}
 use Rattle.rip_wire.specs.Prefix.{Block}
@@ -14,7 +14,7 @@ use Rattle.rip_log.specs.Logs.{Log, Numbered}
 use Rattle.rip_log.specs.declared.error.LogError.{LogError}
 use Rattle.rip_table.specs.State.{Fits, IsState, State, is_among}
 use Rattle.rip_table.specs.Joined.{Outcome, and_then, as_cause, interface_of, is_foreign, is_past, joined_at, joined_capture, joined_entries, joined_from, joined_message, joined_records, log_fault, outcome, outcome_of, with_heard, with_metric, with_record}
-use Rattle.rip_table.specs.LogJoin.{AreAccepted, AreGood, AreJoined, HasBadEntry, IsBadEntry, IsElsewhere, IsFirstRefused, IsJoin, IsJoined, IsListed, IsOutcome, IsRefused, KeepsMetric}
+use Rattle.rip_table.specs.LogJoin.{AreAccepted, AreGood, AreJoined, HasBadEntry, IsBadEntry, IsElsewhere, IsFirstRefused, IsJoin, IsJoined, IsListed, IsOutcome, IsRefused, IsResponse, KeepsMetric}
 use Rattle.rip_table.specs.declared.error.TableError.{TableError}
 use Rattle.rip_table.specs.declared.error.TableError.TheVariants.{Changed, NextHop, TooManyPrefixes, Memory}
 use Rattle.rip_table.specs.declared.error.CollectCause.{CollectCause}
@@ -292,6 +292,22 @@ refused_at bounds n s c (Table error) lawful valid fits h =
     ap (λ (m : Result Message WireError). joined_from c.sender s (message_or_request m) (interface_of n c)) (h.response).says
     ∙ ap (joined_from c.sender s (response es)) (IsAt-found n c.link c.sender i lawful at)
     ∙ ap as_cause (bad_entries c.sender i (with_heard s i) h.state h.front h.rest h.entry error metrics (heard_valid s i valid) lt joined h.bad)
+
+-- what a response of an interface makes of a table
+response_joined : (n : Network) (s : State) (c : Capture) (i : ℕ) (es : List Entry) → IsLawful n → IsResponse n c i es → joined_capture n s c ≡ as_cause (joined_message c.sender i s (response es))
+response_joined n s c i es lawful is =
+    ap (λ (m : Result Message WireError). joined_from c.sender s (message_or_request m) (interface_of n c)) is.says
+    ∙ ap (joined_from c.sender s (response es)) (IsAt-found n c.link c.sender i lawful is.from)
+
+pub response_refused : (bounds : MetricBounds) (n : Network) (s : State) (c : Capture) (i : ℕ) (es : List Entry) (error : TableError) → IsLawful n → IsState s → Fits n s → IsResponse n c i es
+    → (joined_message c.sender i s (response es) ≡ Err error) ↔ HasBadEntry n s c error
+response_refused bounds n s c i es error lawful valid fits is = (
+  bad_entry bounds n s c i es error valid (interface_below n s c.link c.sender i fits is.from) is.says (IsAt-found n c.link c.sender i lawful is.from),
+  λ h.
+      let (e, is_error, same) = from_cause (joined_message c.sender i s (response es)) (Table error) (sym (response_joined n s c i es lawful is) ∙ refused_at bounds n s c (Table error) lawful valid fits h) in
+      let one : e ≡ error = cc same in
+      subst (λ (x : TableError). joined_message c.sender i s (response es) ≡ Err x) one is_error,
+)
 
 -- ---- a log
 

@@ -2,7 +2,7 @@
 use Rattle.std.specs.Prelude.{◌≡◌, ℕ, ◌+◌, Bool, true, false, List, ◌∷◌, ◌++◌, Option, Some, None, is_ok, Result, Ok, Err, IfErr}
 use Rattle.rip_plan.specs.Network.{Network}
 use Rattle.rip_log.specs.Codes.{is_read}
-use Rattle.rip_log.specs.Leaves.{has_stopped, lines_behind, log_to_come, source_of}
+use Rattle.rip_log.specs.Leaves.{IsOver, has_stopped, lines_behind, log_to_come, source_of}
 use Rattle.rip_log.specs.Lines.{Capture}
 use Rattle.rip_log.specs.Logs.{Log, Numbered, IfElse}
 use Rattle.rip_log.specs.declared.error.LogCode.TheVariants as codes
@@ -41,6 +41,19 @@ abbrev pub StuckKnown : Network → State → Option Log → State → Option Lo
 StuckKnown n old None new left line = Unit {0}
 StuckKnown n old (Some log) new None line = ⊥
 StuckKnown n old (Some log) new (Some left) line = Stuck n old log new left line
+
+-- the reader stands behind the record of this line: the records after it are left, and the fault
+pub record StandsBehind (log : Log) (line : ℕ) (left : Log) : Type 0 where
+  pub before : List Numbered
+  pub capture : Capture
+  pub records : log.records ≡ before ++ (record { line = line; capture = capture }) ∷ left.records
+  pub fault : log.fault ≡ left.fault
+
+-- the same where bytes are told
+abbrev pub StandsBehindKnown : Option Log → ℕ → Option Log → Type 0
+StandsBehindKnown None line left = Unit {0}
+StandsBehindKnown (Some log) line None = ⊥
+StandsBehindKnown (Some log) line (Some left) = StandsBehind log line left
 
 -- the whole log was joined, or what comes before its first refusal
 abbrev pub OutcomeKnown : Network → State → Option Log → State → Option CollectError → Type 0
@@ -106,7 +119,13 @@ pub record Collects {R : Type 0} (coming : R → Option (List ℕ)) (broken at_e
   pub refused : has_stopped before ≡ false → has_stopped after ≡ reader_refused result
   pub here : IfErr result (λ e. IsAtLine (lines_behind after) e.line e.cause)
   pub fits : Fits n new
-  -- an Ok only where the source has come to its end, Read only where it has failed
-  pub ended : is_ok result ≡ true → at_end (source_of after) ≡ true
+  -- a record that is not joined is taken from the reader, and no other
+  pub behind : has_stopped before ≡ false → IfErr result (λ e. is_log_cause e.cause ≡ false →
+      StandsBehindKnown (log_to_come coming before) e.line (log_to_come coming after))
+  -- Memory only at a record that brings a pair, whether bytes are told or not
+  pub wanted : IfErr result (λ e. is_memory e.cause ≡ true → (c : Capture) × WantsFor n new c)
+  -- an Ok only where the source has come to its end and nothing is held, Read only where it has
+  -- failed
+  pub over : is_ok result ≡ true → IsOver at_end after
   pub failed : failed_to_read result ≡ true → broken (source_of after) ≡ true
   pub marks : failed_to_read result ≡ false → broken (source_of after) ≡ broken (source_of before)

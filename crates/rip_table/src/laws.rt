@@ -1,18 +1,19 @@
 //! Laws of the definitions alone: functions that do nothing, whose contracts hold of every plan and
 //! every log.
 
-ghost use Rattle.std.specs.Prelude.{◌≡◌, ◌≢◌, ◌↔◌, ℕ, true, List, [], ◌∷◌, ◌++◌, Option, Some, Ok, Err};
-ghost use Rattle.rip_wire.specs.Message.{request, message_in};
+ghost use Rattle.std.specs.Prelude.{◌≡◌, ◌≢◌, ◌↔◌, ℕ, true, List, [], ◌∷◌, ◌++◌, Option, None, Some, Ok, Err, slice_get};
+ghost use Rattle.rip_wire.specs.Message.{request, response, message_in};
 ghost use Rattle.rip_wire.specs.declared.entry.Entry.{Entry};
 ghost use Rattle.rip_plan.specs.Network.{Network, found_at};
 ghost use Rattle.rip_plan.specs.Relations.{IsAt, IsLawful};
 ghost use Rattle.rip_log.specs.Lines.{Capture};
 ghost use Rattle.rip_log.specs.Logs.{Log, Numbered};
 ghost use Rattle.rip_table.specs.State.{Fits, IsState, State};
-ghost use Rattle.rip_table.specs.Joined.{joined_capture, joined_entries, joined_records, outcome, refused_at};
-ghost use Rattle.rip_table.specs.LogJoin.{AreJoined, IsFirstRefused, IsJoin, IsJoined, IsListed, IsOutcome, IsResponse};
+ghost use Rattle.rip_table.specs.Joined.{brings_pair, joined_capture, joined_entries, joined_message, joined_records, outcome, refused_at};
+ghost use Rattle.rip_table.specs.LogJoin.{AreJoined, HasBadEntry, IsFirstRefused, IsJoin, IsJoined, IsListed, IsOutcome, IsResponse};
 ghost use Rattle.rip_table.specs.declared.error.CollectCause.{CollectCause};
 ghost use Rattle.rip_table.specs.declared.error.CollectCause.TheVariants.{Table};
+ghost use Rattle.rip_table.specs.declared.error.TableError.{TableError};
 ghost use Rattle.rip_table.specs.declared.error.TableError.TheVariants.{Changed};
 ghost use Rattle.rip_table.specs.declared.error.CollectError.{CollectError};
 
@@ -69,6 +70,23 @@ pub fn refused_logs()
 {
     laws::metric_bounds();
 }
+
+/// A response of an interface is refused exactly by its first bad entry.
+pub fn refused_responses()
+    ensures { (n : Network) (s : State) (c : Capture) (i : ℕ) (entries : List Entry)
+        (error : TableError) → IsLawful n → IsState s → Fits n s → IsResponse n c i entries →
+        (joined_message c.sender i s (response entries) ≡ Err error) ↔ HasBadEntry n s c error }
+{
+    laws::metric_bounds();
+}
+
+/// A response brings a pair of interface and prefix, for which memory may be wanted, exactly where an
+/// entry is of a prefix that its interface did not show.
+pub fn new_pairs()
+    ensures { (i : ℕ) (s : State) (entries : List Entry) →
+        (brings_pair i s (response entries) ≡ true)
+        ↔ ((k : ℕ) × (e : Entry) × (slice_get entries k ≡ Some e) × (s.shows i e.prefix ≡ None)) }
+{}
 
 /// A request changes nothing, whoever sent it.
 pub fn kept_requests()

@@ -1,11 +1,11 @@
 use Rattle.std.proofs.Common.{◌≡◌, ◌∙◌, sym, refl, false, subst, Some, Ok, Err}
 use Rattle.rip_log.specs.Leaves.{capture_of, line_of, lines_behind, log_to_come, has_stopped}
 use Rattle.rip_table.specs.State.{State, Fits}
-use Rattle.rip_table.specs.Joined.{is_memory}
+use Rattle.rip_table.specs.Joined.{WantsFor, is_memory}
 use Rattle.rip_table.specs.Collects.{is_read_cause, StuckKnown, OutcomeKnown, PassedKnown, ToldOutcome}
 use Rattle.rip_table.specs.declared.error.CollectCause.TheVariants.{Log as OfLog}
 use Rattle.rip_table.specs.declared.error.CollectError.{CollectError}
-use Rattle.rip_table.proofs.JoinLemmas.{PassedKnown-more, told_bad, OutcomeKnown-none, OutcomeKnown-refused, StuckKnown-wants}
+use Rattle.rip_table.proofs.JoinLemmas.{PassedKnown-more, told_bad, OutcomeKnown-none, OutcomeKnown-refused, StuckKnown-wants, stands_behind, when_memory}
 use Rattle.rip_table.proofs.FitLemmas.{Fits-joined}
 use Rattle.rip_table.proofs.BlameLemmas.{Joins-blame, not_log-not_read, at_last, tell, runs, again}
 use Rattle.rip_table.proofs.OutcomeLemmas.{said_outcome}
@@ -62,7 +62,9 @@ returns-in-Err-join g c =
       refused = λ was. h.moves.stopped ∙ sym blame;
       here = at_last (lines_behind after) c.in-Ok-Some.record.line cause blame h.onward.1;
       fits = subst (λ (s : State). Fits plan s) (sym joins.0) inv.fits;
-      ended = λ fine. cc fine;
+      behind = λ was is_record. stands_behind capture_of line_of plan old log (state c.records.table) (log_to_come coming before) (log_to_come coming after) c.in-Ok-Some.record (inv.passed was) (h.gives run);
+      wanted = λ w. (entry, subst (λ (s : State). WantsFor plan s entry) (sym joins.0) (when_memory _ (is_memory cause) w joins.1));
+      over = λ fine. cc fine;
       failed = λ bad. cc (bad, not_read);
       marks = λ fine. h.moves.marks refl ∙ inv.marks;
     }
@@ -85,7 +87,9 @@ returns-in-Ok-None g c =
       refused = λ was. h.moves.stopped;
       here = tt;
       fits = c.records.invariant.fits;
-      ended = λ fine. (h.over refl).1;
+      behind = λ was. tt;
+      wanted = tt;
+      over = λ fine. h.over refl;
       failed = λ bad. cc bad;
       marks = λ fine. h.moves.marks refl ∙ c.records.invariant.marks;
     }
@@ -108,7 +112,9 @@ returns-in-Err g c =
       refused = λ was. h.moves.stopped;
       here = (h.moves.here, h.moves.here);
       fits = inv.fits;
-      ended = λ fine. cc fine;
+      behind = λ was is_record. cc is_record;
+      wanted = λ w. cc w;
+      over = λ fine. cc fine;
       failed = λ bad. h.moves.failed bad;
       marks = λ fine. h.moves.marks fine ∙ inv.marks;
     }
