@@ -1,10 +1,11 @@
 -- No neighbour is a better way, though it may show 16.
-use Rattle.std.proofs.Common.{◌≡◌, ℕ, ◌+◌, ◌<◌, ◌≤◌, ◌⊎◌, inl, inr, min, unwrap_or, refl, ap, arith, length}
+use Rattle.std.proofs.Common.{◌≡◌, ℕ, ◌+◌, ◌<◌, ◌≤◌, ◌⊎◌, inl, inr, min, unwrap_or, Option, Some, None, refl, sym, ap, subst, ◌∙◌, arith, length}
 use Rattle.std.proofs.lemmas.Bool.{cases_eq}
 use Rattle.rip_plan.specs.Network.{Network}
-use Rattle.rip_plan.specs.Relations.{IsLawful, IsInterface, HasCost, IsNeighbour}
+use Rattle.rip_plan.specs.Relations.{IsLawful, IsDirect, IsInterface, HasCost, IsNeighbour}
 use Rattle.rip_table.specs.State.{State}
-use Rattle.rip_check.specs.Tables.{Tables, Shows, MayShow, FitsWay, Offers}
+use Rattle.rip_check.specs.Laws.{Case, Gives, GiversAreNear, IsSettled, SilenceIsShared}
+use Rattle.rip_check.specs.Tables.{Tables, Shows, MayShow, FitsWay, IsSilent, Offers}
 use Rattle.rip_check.specs.declared.way.Way.{Way}
 use Rattle.rip_check.specs.declared.way.Way.TheVariants.{Unreachable, Here, Over}
 use Rattle.rip_check.specs.Settled.{HoldsAll, IsGiven}
@@ -55,3 +56,50 @@ module _ (n : Network) (shown : State) (T : Tables) (plan : IsLawful n) (shows :
       let s_known = known_on n plan s l on in
       poison_cases r l c s p on.1.0 on.0 known has near on.1.1 (T s p).way
       ((shows.fits s p s_known known).told.as_told on.1.0 l on.0 on.1.1) (shows.fits s p s_known known).told.way_fits (holds s p s_known known).given
+
+-- who gives its metric to a neighbour that goes over the link
+giver : (k : Case) → IsSettled k → (r l c s p : ℕ) → p < length k.shown.prefixes → HasCost k.net r l c → IsNeighbour k.net r l s
+    → (w : Way) → w ≡ Over l → FitsWay k.net s p (k.tables s p).metric w → IsGiven k.net k.shown s p (k.tables s p).metric w → (t : ℕ) × Gives k r l c s t p
+giver k settled r l c s p known has near Unreachable is fits given = absurd (cc is)
+giver k settled r l c s p known has near Here is fits given = absurd (cc is)
+giver k settled r l c s p known has near (Over m) is fits given =
+    let same : m ≡ l = cc is in
+    let t = given.0 in
+    let o : Offers k.net k.shown s l t p (k.tables s p).metric = subst (λ x. Offers k.net k.shown s x t p (k.tables s p).metric) same given.1 in
+    let least = k.plan.cost_least o.here.0 s l o.cost o.here.1 in
+    let near_or : (t ≡ r) ⊎ (t ≡ r → ⊥) = cases_eq t r in (
+      t,
+      record {
+        offer = o;
+        near = elim near_or [
+          | inl is_r ↦ inl is_r
+          | inr not ↦
+              let v = min 16 (c + unwrap_or (metric_at k.shown o.interface p) 16) in
+              let near_too : IsNeighbour k.net r l t = record { other = not; here = near.here; there = (o.its_cost, (o.interface, o.there)) } in
+              let offer : Offers k.net k.shown r l t p v = record { neighbour = near_too; cost = c; here = has; interface = o.interface; its_cost = o.its_cost; there = o.there; value = refl } in
+              inr (v, offer, omega (arith, o.value, fits.1, least))
+        ];
+      },
+    )
+
+pub givers : (k : Case) → IsSettled k → GiversAreNear k
+givers k settled r l c s p known has near is =
+    let s_known = known_on k.net k.plan s l near.there in
+    giver k settled r l c s p known has near (k.tables s p).way is (k.shows.fits s p s_known known).told.way_fits (settled s p s_known known).given
+
+-- a direct route that is silent on a link is one of the link
+direct_there : (k : Case) (r l c s p j : ℕ) → HasCost k.net r l c → (w : Way) → w ≡ Here → MayShow k.net l p (k.tables s p).metric w (metric_at k.shown j p) → FitsWay k.net s p (k.tables s p).metric w
+    → IsSilent (metric_at k.shown j p) → IsDirect k.net r p c
+direct_there k r l c s p j has Unreachable is told fits silent = absurd (cc is)
+direct_there k r l c s p j has (Over m) is told fits silent = absurd (cc is)
+direct_there k r l c s p j has Here is (inr h) fits silent = (h.0.0, inl (l, h.0.1, has))
+direct_there k r l c s p j has Here is (inl e) fits (inl none) = absurd (let clash : None ≡ Some (k.tables s p).metric = sym none ∙ e in cc clash)
+direct_there k r l c s p j has Here is (inl e) fits (inr poison) =
+    let sixteen : 16 ≡ (k.tables s p).metric = let clash : ◌≡◌ {A = Option ℕ} (Some 16) (Some (k.tables s p).metric) = sym poison ∙ e in cc clash in
+    absurd (omega (arith, sixteen, fits.1))
+
+pub silence : (k : Case) → SilenceIsShared k
+silence k r l c s p j d known has near there is silent =
+    let s_known = known_on k.net k.plan s l near.there in
+    let fits = (k.shows.fits s p s_known known).told in
+    direct_there k r l c s p j has (k.tables s p).way is (fits.as_told j l d there) fits.way_fits silent

@@ -1,10 +1,12 @@
 -- The laws of settled tables, each as one statement.
-use Rattle.std.specs.Prelude.{◌≡◌, ℕ, ◌+◌, ◌≤◌, ◌<◌, List, length, map}
+use Rattle.std.specs.Prelude.{◌≡◌, ◌⊎◌, ℕ, ◌+◌, ◌≤◌, ◌<◌, List, length, map}
 use Rattle.rip_plan.specs.Network.{Network}
-use Rattle.rip_plan.specs.Relations.{IsLawful, HasCost, IsNeighbour}
+use Rattle.rip_plan.specs.Relations.{IsLawful, HasCost, IsDirect, IsInterface, IsNeighbour}
 use Rattle.rip_table.specs.State.{State}
 use Rattle.rip_check.specs.Paths.{Hop, IsPath}
-use Rattle.rip_check.specs.Tables.{Tables, Route, Shows, FitsShown, IsHeard}
+use Rattle.rip_check.specs.Metrics.{metric_at}
+use Rattle.rip_check.specs.Tables.{Tables, Route, Shows, FitsShown, IsHeard, IsSilent, Offers}
+use Rattle.rip_check.specs.declared.way.Way.TheVariants.{Here, Over}
 use Rattle.rip_check.specs.Settled.{Holds, HoldsAll, AllRight, GoesRight}
 use Rattle.rip_check.specs.Expected.{IsExpected}
 use Rattle.rip_check.specs.Walks.{IsFalling, IsWalk}
@@ -38,6 +40,26 @@ abbrev pub PoisonHidesNothing : Case → Type 0
 PoisonHidesNothing k =
     (r l c s p : ℕ) → p < length k.shown.prefixes → HasCost k.net r l c → IsNeighbour k.net r l s →
     (k.tables r p).metric ≤ c + (k.tables s p).metric
+
+-- router t gives neighbour s of router r its metric over link l: it is r itself, or r hears it there
+-- too and is served more cheaply than by s
+pub record Gives (k : Case) (r l c s t p : ℕ) : Type 0 where
+  pub offer : Offers k.net k.shown s l t p (k.tables s p).metric
+  pub near : (t ≡ r) ⊎ ((v : ℕ) × Offers k.net k.shown r l t p v × (v < c + (k.tables s p).metric))
+
+-- a neighbour that goes over the link has a giver there
+abbrev pub GiversAreNear : Case → Type 0
+GiversAreNear k =
+    (r l c s p : ℕ) → p < length k.shown.prefixes → HasCost k.net r l c → IsNeighbour k.net r l s
+    → (k.tables s p).way ≡ Over l → (t : ℕ) × Gives k r l c s t p
+
+-- where a neighbour has a prefix itself and is silent of it on the link, the router has it at what
+-- the link costs it
+abbrev pub SilenceIsShared : Case → Type 0
+SilenceIsShared k =
+    (r l c s p j d : ℕ) → p < length k.shown.prefixes → HasCost k.net r l c
+    → IsNeighbour k.net r l s → IsInterface k.net j s l d → (k.tables s p).way ≡ Here
+    → IsSilent (metric_at k.shown j p) → IsDirect k.net r p c
 
 -- a metric below 16 is the cost of a path that begins as the route says
 abbrev pub MetricsAreReached : Case → Type 0

@@ -6,7 +6,7 @@ ghost use Rattle.rip_plan.specs.Network.{Network};
 ghost use Rattle.rip_plan.specs.Relations.{Carries, IsLawful};
 ghost use Rattle.rip_table.specs.State.{State};
 ghost use Rattle.rip_check.specs.Expected.{IsExpected};
-ghost use Rattle.rip_check.specs.Laws.{Case, EachIsExpected, EachPlaceHolds, HasRightTables, IsSettled, MetricsAreReached, NoPathIsCheaper, OneIsShown, OneRouteFits, PoisonHidesNothing, ShowsRightTables, WalksFall};
+ghost use Rattle.rip_check.specs.Laws.{Case, EachIsExpected, EachPlaceHolds, GiversAreNear, HasRightTables, IsSettled, MetricsAreReached, NoPathIsCheaper, OneIsShown, OneRouteFits, PoisonHidesNothing, ShowsRightTables, SilenceIsShared, WalksFall};
 ghost use Rattle.rip_check.specs.Paths.{HasPathOver, IsLeast};
 ghost use Rattle.rip_check.specs.Walks.{EachCanGoOn, EachEndsThere, EachIsShort};
 ghost use Rattle.rip_check.specs.declared.way.Way.{Way};
@@ -17,6 +17,14 @@ pub mod examples;
 /// router by more than the link costs, though what it shows there may be 16 (RFC 2453, section 3.4.3).
 pub fn poison_hides_nothing()
     ensures { (k : Case) → IsSettled k → PoisonHidesNothing k }
+{}
+
+/// What a neighbour may hide behind a 16 is no better for the router: where the neighbour goes over
+/// their link, its giver there is the router itself or serves the router more cheaply; where it has
+/// the prefix itself, on that link, so has the router.
+pub fn hidden_is_no_better()
+    ensures over { (k : Case) → IsSettled k → GiversAreNear k }
+    ensures here { (k : Case) → SilenceIsShared k }
 {}
 
 /// Where every equation holds, the metrics are the least costs of paths that begin as the routes say.

@@ -10,6 +10,18 @@ use rip_plan::examples::TRIANGLE;
 use std::hash::{BuildHasherDefault, FoldHasher};
 use std::test::Fail;
 
+/// The prefixes of 8 links, at a router that is on all of them.
+const DIRECT: [(u8, u32); 8] = [
+    (0, 1),
+    (1, 1),
+    (2, 1),
+    (3, 1),
+    (4, 1),
+    (5, 1),
+    (6, 1),
+    (7, 1),
+];
+
 #[test]
 fn of_prefixes(rt: HostRuntime) -> Result<(), Fail> {
     let alloc = rt.alloc();
@@ -19,6 +31,42 @@ fn of_prefixes(rt: HostRuntime) -> Result<(), Fail> {
     push_line(&rt, alloc, &mut log, "a 10.1.0.1", &[(100, 16)])?;
     let line = "refused: table line 89: 3 TooManyPrefixes";
     expect_line(&rt, alloc, TRIANGLE, log.as_bytes(), line)?;
+    Ok(())
+}
+
+/// 128 routers, each on 8 links, with a prefix on each link: 1,024 interfaces.
+#[test]
+fn of_interfaces(rt: HostRuntime) -> Result<(), Fail> {
+    let alloc = rt.alloc();
+    let mut plan = String::new(alloc);
+    let mut log = String::new(alloc);
+    plan.push_str("version = 1\n")?;
+    for link in 0..8usize {
+        write!(
+            plan,
+            "[[link]]\nname = \"{link}\"\nprefixes = [\"10.{link}.0.0/16\"]\n"
+        )?;
+    }
+    for router in 0..128usize {
+        write!(plan, "[[router]]\nname = \"{router}\"\n")?;
+        for link in 0..8usize {
+            write!(
+                plan,
+                "[[router.interface]]\nlink = \"{link}\"\naddress = \"10.{link}.0.{router}\"\n"
+            )?;
+            let sender = format!(in alloc; "{link} 10.{link}.0.{router}")?;
+            push_line(&rt, alloc, &mut log, sender.as_str(), &DIRECT)?;
+        }
+    }
+    let text = "settled: 128 routers, 8 prefixes\n";
+    expect_text(
+        &rt,
+        alloc,
+        plan.as_str(),
+        (log.as_bytes(), 4096),
+        false,
+        text,
+    );
     Ok(())
 }
 
