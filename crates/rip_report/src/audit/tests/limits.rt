@@ -7,6 +7,7 @@ use crate::tests::captures::{entry, full, push_line, settled};
 use crate::tests::devices::Endless;
 use rip_log::{FromRead, IntoWrite};
 use rip_plan::examples::TRIANGLE;
+use std::fmt::Write as _;
 use std::hash::{BuildHasherDefault, FoldHasher};
 use std::test::Fail;
 
