@@ -1,6 +1,7 @@
 //! A plan, and what it answers.
 
-ghost use Rattle.std.specs.Prelude.{◌≡◌, ◌≢◌, ◌==◌, ◌<◌, ◌↔◌, ◌⊎◌, ℕ, Contains, Decides, IfErr, IfOk, IfSome, None, Some, false, is_some, length, not, option_and_then, slice_get};
+ghost use Rattle.std.specs.Prelude.{◌≡◌, ◌≢◌, ◌==◌, ◌<◌, ◌≤◌, ◌↔◌, ◌⊎◌, ℕ, Contains, Decides, IfErr, IfOk, IfSome, IsErrOf, None, Some, false, is_some, length, not, option_and_then, slice_get};
+ghost use Rattle.std.specs.Str.{is_utf8};
 ghost use Rattle.std.specs.List.Sorted.{IsStrictlyIncreasing};
 ghost use Rattle.rip_plan.specs.declared.error.PlanCode.TheVariants.{Memory};
 ghost use Rattle.rip_plan.specs.Answers.{IsAnswer, first_fault, out_of_memory};
@@ -13,6 +14,7 @@ ghost use Rattle.rip_plan.specs.Relations.{Carries, HasTwoInterfaces, IsAt, IsDi
 use crate::draft::Draft;
 use crate::error::{At, PlanCode, PlanError, ReadError};
 use crate::index;
+use crate::limits::MOST_PLAN_BYTES;
 use crate::numbers::{interfaces_of, with_numbers};
 use crate::parts::{Interface, Place};
 use crate::reading::read_draft;
@@ -91,7 +93,11 @@ fn plan_of(alloc: Global, draft: Draft) -> Result<Plan, AllocError>
 
 /// The plan that the bytes are, a fault, or want of memory.
 fn read_plan(alloc: Global, bytes: &[u8]) -> Result<Plan, ReadError>
-    ensures { Gives (λ plan. plan) result (network_in bytes.now) }
+    ensures gives { Gives (λ plan. plan) result (network_in bytes.now) }
+    ensures long { MOST_PLAN_BYTES < length bytes.now
+        → IsErrOf result (ReadError.Fault (record { code = PlanCode.Limit; place = At.Text })) }
+    ensures not_utf8 { length bytes.now ≤ MOST_PLAN_BYTES → is_utf8 bytes.now ≡ false
+        → IsErrOf result (ReadError.Fault (record { code = PlanCode.Syntax; place = At.Text })) }
 {
     laws::names();
     laws::address_texts();
@@ -103,12 +109,17 @@ fn read_plan(alloc: Global, bytes: &[u8]) -> Result<Plan, ReadError>
 impl Plan {
     /// Reads the text of a plan: a TOML document of at most 1,048,576 bytes. The answer is the plan
     /// of the document where the text has no fault; else the first fault with its place, or Memory at
-    /// the text where a growth was refused.
+    /// the text where a growth was refused. A text that is too long or not UTF-8 is refused without
+    /// memory.
     pub fn read(alloc: Global, bytes: &[u8]) -> Result<Plan, PlanError>
         ensures exact { IsAnswer result (network_in bytes.now) }
         ensures faultless { IfOk result (λ plan. first_fault bytes.now ≡ None) }
         ensures plan { IfOk result (λ plan. IsPlanOfText bytes.now plan) }
         ensures fault { IfErr result (λ e. (e ≡ out_of_memory) ⊎ (first_fault bytes.now ≡ Some e)) }
+        ensures long { MOST_PLAN_BYTES < length bytes.now
+            → IsErrOf result (record { code = PlanCode.Limit; place = At.Text }) }
+        ensures not_utf8 { length bytes.now ≤ MOST_PLAN_BYTES → is_utf8 bytes.now ≡ false
+            → IsErrOf result (record { code = PlanCode.Syntax; place = At.Text }) }
         ensures apart { (e : PlanError) → first_fault bytes.now ≡ Some e → e.code ≢ Memory }
     {
         match read_plan(alloc, bytes) {

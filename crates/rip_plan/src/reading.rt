@@ -1,6 +1,7 @@
 //! Reading the text of a plan.
 
-ghost use Rattle.std.specs.Prelude.{◌≡◌, IfErr, IfOk, option_map};
+ghost use Rattle.std.specs.Prelude.{◌≡◌, ◌<◌, ◌≤◌, IfErr, IfOk, IsErrOf, None, Ok, false, length, option_map};
+ghost use Rattle.std.specs.Str.{is_utf8};
 ghost use Rattle.toml.specs.View.{table_view};
 ghost use Rattle.rip_plan.specs.Draft.{sketch};
 ghost use Rattle.rip_plan.specs.Fault.{Gives};
@@ -46,6 +47,7 @@ fn draft_of(alloc: Global, table: &Table) -> Result<Draft, ReadError>
 /// The table that the bytes are, where they are a TOML document in UTF-8.
 fn table_of(alloc: Global, bytes: &[u8]) -> Result<Option<Table>, ReadError>
     ensures ok { IfOk result (λ t. option_map table_view t ≡ document_of bytes.now) }
+    ensures not_utf8 { is_utf8 bytes.now ≡ false → result ≡ Ok None }
     ensures err { IfErr result (λ e. e ≡ ReadError.OutOfMemory) }
 {
     match std::str::from_utf8(bytes) {
@@ -66,7 +68,11 @@ fn table_of(alloc: Global, bytes: &[u8]) -> Result<Option<Table>, ReadError>
 /// What the bytes of a plan say, or their first fault.
 #[tactic(auto, unfolding(crate::specs::PlanText::sketch_of))]
 pub(crate) fn read_draft(alloc: Global, bytes: &[u8]) -> Result<Draft, ReadError>
-    ensures { Gives sketch result (sketch_of bytes.now) }
+    ensures gives { Gives sketch result (sketch_of bytes.now) }
+    ensures long { MOST_PLAN_BYTES < length bytes.now
+        → IsErrOf result (ReadError.Fault (record { code = PlanCode.Limit; place = At.Text })) }
+    ensures not_utf8 { length bytes.now ≤ MOST_PLAN_BYTES → is_utf8 bytes.now ≡ false
+        → IsErrOf result (ReadError.Fault (record { code = PlanCode.Syntax; place = At.Text })) }
 {
     if MOST_PLAN_BYTES < bytes.len() {
         return Err(fault(PlanCode::Limit, At::Text));

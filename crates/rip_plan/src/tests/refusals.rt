@@ -204,3 +204,11 @@ fn router_without_interface(rt: HostRuntime) -> Result<(), Fail> {
     assert_eq!(rt; fault, refusal(PlanCode::NoInterface, At::Router(3)));
     Ok(())
 }
+
+#[test]
+fn not_utf8(rt: HostRuntime) -> Result<(), Fail> {
+    let alloc = rt.alloc();
+    let fault = Plan::read(alloc, &[0xFF]).err();
+    assert_eq!(rt; fault, refusal(PlanCode::Syntax, At::Text));
+    Ok(())
+}

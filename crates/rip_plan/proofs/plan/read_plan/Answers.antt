@@ -10,4 +10,4 @@ plan_of-requires c =
       address = λ text a h. ((c.address_texts.ensures.exact text a).0 h).0;
       prefix = λ text p h. ((c.prefix_texts.ensures.exact text p).0 h).0;
     } in
-    lawful laws c.args.bytes.now (sketch c.in_ok-draft.draft) c.in_ok-draft.ensures
+    lawful laws c.args.bytes.now (sketch c.in_ok-draft.draft) c.in_ok-draft.ensures.gives

@@ -1,4 +1,4 @@
-use Rattle.std.proofs.Common.{◌≡◌, true, inl, inr, sym, Some}
+use Rattle.std.proofs.Common.{◌≡◌, true, false, inl, inr, sym, Some}
 use Rattle.std.specs.Str.{is_utf8}
 use Rattle.std.proofs.lemmas.Str.{is_utf8-from_IsUtf8, IsUtf8-from_is_utf8}
 use Rattle.std.proofs.lemmas.Bool.{cases_Bool}
@@ -18,3 +18,13 @@ returns-in-Err-clause-ok c =
       | inl is_text ↦ absurd (c.in-Err.ensures.cases.0 (IsUtf8-from_is_utf8 c.args.bytes.now is_text))
       | inr is_none ↦ rw is_none
     ]
+
+pub returns-in-Ok-table_from_str-clause-not_utf8 : goal.returns-in-Ok-table_from_str-clause-not_utf8
+returns-in-Ok-table_from_str-clause-not_utf8 c none =
+    let text : is_utf8 c.args.bytes.now ≡ true = is_utf8-from_IsUtf8 c.args.bytes.now c.in-Ok.ensures.cases.1 in
+    absurd cc
+
+pub returns-then-is_memory-clause-not_utf8 : goal.returns-then-is_memory-clause-not_utf8
+returns-then-is_memory-clause-not_utf8 c none =
+    let text : is_utf8 c.args.bytes.now ≡ true = is_utf8-from_IsUtf8 c.args.bytes.now c.in-Ok.ensures.cases.1 in
+    absurd cc
