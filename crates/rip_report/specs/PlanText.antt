@@ -1,6 +1,7 @@
 -- What `plan` prints.
-use Rattle.std.specs.Prelude.{◌≡◌, ℕ, ◌<◌, List, [], ◌++◌, length, codes, decimal, slice_get, option_map, unwrap_or, None, Some}
+use Rattle.std.specs.Prelude.{◌≡◌, ◌⊎◌, ℕ, ◌<◌, ◌≤◌, false, List, [], ◌++◌, length, codes, decimal, slice_get, option_map, unwrap_or, None, Some}
 use Rattle.std.specs.List.{flat_map}
+use Rattle.std.specs.Str.{is_utf8}
 use Rattle.rip_wire.specs.Address.{address_text}
 use Rattle.rip_wire.specs.Prefix.{prefix_text}
 use Rattle.rip_plan.specs.Answers.{first_fault}
@@ -12,6 +13,7 @@ use Rattle.rip_plan.specs.declared.error.At.TheVariants as places
 use Rattle.rip_plan.specs.declared.error.PlanCode.{PlanCode}
 use Rattle.rip_plan.specs.declared.error.PlanCode.TheVariants.{Syntax, Version, Key, Name, DuplicateName, Address, Prefix, Cost, DuplicatePrefix, UnknownLink, TwiceOnLink, DuplicateAddress, OutsidePrefix, NoInterface, Limit, Memory}
 use Rattle.rip_plan.specs.declared.error.PlanError.{PlanError}
+use Rattle.rip_plan.specs.declared.limits.TheConstants.{MOST_PLAN_BYTES}
 use Rattle.rip_plan.specs.declared.parts.Interface.{Interface}
 use Rattle.rip_plan.specs.declared.parts.Place.{Place}
 use Rattle.rip_plan.specs.declared.parts.Seat.{Seat}
@@ -53,6 +55,13 @@ at_text (places.Router i) = numbered (codes "router ") i
 at_text (places.RouterInterface i j) =
     numbered (codes "router ") i ++ numbered (codes " interface ") j
 at_text (places.RouterOwn i j) = numbered (codes "router ") i ++ numbered (codes " own ") j
+
+-- bytes that are no text of a plan, which is known before any memory is asked for: too many, or no
+-- UTF-8
+abbrev pub IsNoText : List ℕ → Type 0
+IsNoText bytes =
+    (MOST_PLAN_BYTES < length bytes)
+    ⊎ ((length bytes ≤ MOST_PLAN_BYTES) × (is_utf8 bytes ≡ false))
 
 abbrev pub refused_plan : PlanError → Written
 refused_plan e = record {

@@ -11,6 +11,7 @@ ghost use Rattle.rip_check.specs.Marks.{AreUnsettled};
 ghost use Rattle.rip_check.specs.Verdicts.{IsVerdict, IsNextUnsettled};
 ghost use Rattle.rip_report.specs.AuditText.{AuditText, FailureLines, IsJudged, IsPlaceOf, UnsettledLines, VerdictText, unsettled_line, verdict_status};
 ghost use Rattle.rip_report.specs.Held.{held};
+ghost use Rattle.rip_report.specs.PlanText.{IsNoText};
 ghost use Rattle.rip_report.specs.ReportText.{IsAccepted};
 ghost use Rattle.rip_report.specs.Sent.{Prints, Reads, WentOut, Writes};
 ghost use Rattle.rip_check.specs.Laws.{ShowsRightTables};
@@ -263,6 +264,8 @@ pub fn run_audit<R: Source, K: Sink, S: BuildHasher + Drop>(
     ensures reads { Reads R.broken R.at_end log result.0 result.1 }
     // The source of a refused plan is as it was.
     ensures untouched { (e : PlanError) → first_fault plan.now ≡ Some e → result.0 ≡ log }
+    // Bytes that are no text of a plan are refused without memory.
+    ensures no_text { IsNoText plan.now → result.1 ≢ Err RunError.Memory }
 {
     run_report(alloc, &Audit { all }, plan, log, out, hasher)
 }

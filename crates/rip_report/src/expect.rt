@@ -7,6 +7,7 @@ ghost use Rattle.rip_report.specs.declared.limits.TheConstants.{LINE_BYTES};
 ghost use Rattle.rip_report.specs.ExpectText.{ExpectText, OverLines, PairLines, RouterLines, WayLine, expect_line, route_line, unreachable_part};
 ghost use Rattle.rip_report.specs.Listings.{Adds, TextsBelow};
 ghost use Rattle.rip_report.specs.Names.{IsKnownWay};
+ghost use Rattle.rip_report.specs.PlanText.{IsNoText};
 ghost use Rattle.rip_report.specs.Sent.{Prints, Writes};
 
 use crate::line::Line;
@@ -198,6 +199,8 @@ pub fn run_expect<K: Sink>(alloc: Global, plan: &[u8], out: &mut K) -> Result<St
     // The whole text went out, or a beginning where the sink failed, or nothing.
     ensures prints { Prints K.taken K.broken out.old out.new result (ExpectText plan.now) }
     ensures read { result ≢ Err RunError.Read }
+    // Bytes that are no text of a plan are refused without memory.
+    ensures no_text { IsNoText plan.now → result ≢ Err RunError.Memory }
 {
     let plan = match Plan::read(alloc, plan) {
         Ok(plan) => plan,

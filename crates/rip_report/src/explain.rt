@@ -16,6 +16,7 @@ ghost use Rattle.rip_check.specs.Verdicts.{IsNextUnsettled, ShowsTables};
 ghost use Rattle.rip_check.specs.Walks.{PacketsArrive};
 ghost use Rattle.rip_report.specs.AuditText.{IsJudged};
 ghost use Rattle.rip_report.specs.ExplainText.{BeginsWithVerdict, ExplainText, UnreachableLine};
+ghost use Rattle.rip_report.specs.PlanText.{IsNoText};
 ghost use Rattle.rip_report.specs.ReportText.{IsAccepted, ReportText};
 ghost use Rattle.rip_report.specs.Sent.{Prints, Reads, WentOut};
 
@@ -254,6 +255,8 @@ pub fn run_explain<R: Source, K: Sink, S: BuildHasher + Drop>(
     ensures reads { Reads R.broken R.at_end log result.0 result.1 }
     // The source of a refused plan is as it was.
     ensures untouched { (e : PlanError) → first_fault plan.now ≡ Some e → result.0 ≡ log }
+    // Bytes that are no text of a plan are refused without memory.
+    ensures no_text { IsNoText plan.now → result.1 ≢ Err RunError.Memory }
 {
     run_report(alloc, &Explain { all }, plan, log, out, hasher)
 }

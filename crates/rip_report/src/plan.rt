@@ -3,7 +3,7 @@
 ghost use Rattle.std.specs.Prelude.{◌≡◌, ◌≢◌, ◌+◌, ◌≤◌, ◌<◌, ◌↔◌, ◌++◌, [], Err, length};
 ghost use Rattle.std.specs.List.{flat_map};
 ghost use Rattle.rip_report.specs.declared.limits.TheConstants.{LINE_BYTES};
-ghost use Rattle.rip_report.specs.PlanText.{IsSeat, PlanText, at_text, counts_line, interface_line, place_line, plan_code_text, refused_plan, seat_text, shown_plan, word_of};
+ghost use Rattle.rip_report.specs.PlanText.{IsNoText, IsSeat, PlanText, at_text, counts_line, interface_line, place_line, plan_code_text, refused_plan, seat_text, shown_plan, word_of};
 ghost use Rattle.rip_report.specs.Held.{held};
 ghost use Rattle.rip_report.specs.Sent.{Prints, Writes};
 
@@ -221,6 +221,8 @@ pub fn run_plan<K: Sink>(alloc: Global, plan: &[u8], out: &mut K) -> Result<Stat
     // The whole text went out, or a beginning where the sink failed, or nothing.
     ensures prints { Prints K.taken K.broken out.old out.new result (PlanText plan.now) }
     ensures read { result ≢ Err RunError.Read }
+    // Bytes that are no text of a plan are refused without memory.
+    ensures no_text { IsNoText plan.now → result ≢ Err RunError.Memory }
 {
     match Plan::read(alloc, plan) {
         Ok(plan) => finish(write_plan(&plan, out), Status::Done),

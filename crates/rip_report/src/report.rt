@@ -5,6 +5,7 @@ ghost use Rattle.rip_plan.specs.Answers.{first_fault};
 ghost use Rattle.rip_plan.specs.Network.{Network};
 ghost use Rattle.rip_plan.specs.declared.error.PlanError.{PlanError};
 ghost use Rattle.rip_table.specs.State.{Fits, State, new_state};
+ghost use Rattle.rip_report.specs.PlanText.{IsNoText};
 ghost use Rattle.rip_report.specs.ReportText.{IsAccepted, IsTable, ReportOf, ReportText};
 ghost use Rattle.rip_report.specs.Sent.{Prints, Reads, WentOut};
 ghost use Rattle.rip_report.specs.Written.{Written};
@@ -104,6 +105,8 @@ pub(crate) fn run_report<C: Report, R: Source, K: Sink, S: BuildHasher + Drop>(
         IfOk result.1 (C.means command.now n s) }
     // The source of a refused plan is as it was.
     ensures untouched { (e : PlanError) → first_fault plan.now ≡ Some e → result.0 ≡ log }
+    // Bytes that are no text of a plan are refused without memory.
+    ensures no_text { IsNoText plan.now → result.1 ≢ Err RunError.Memory }
 {
     one_plan();
     let plan = match Plan::read(alloc, plan) {

@@ -1,6 +1,6 @@
 //! The command `routes`: the routes that a log shows, beside the least metrics of the plan.
 
-ghost use Rattle.std.specs.Prelude.{◌≡◌, ◌+◌, ◌≤◌, ◌<◌, ◌⊎◌, ◌++◌, ◌==◌, [], IfOk, IsTrue, List, Some, ℕ, false, if◌then◌else◌, length};
+ghost use Rattle.std.specs.Prelude.{◌≡◌, ◌≢◌, Err, ◌+◌, ◌≤◌, ◌<◌, ◌⊎◌, ◌++◌, ◌==◌, [], IfOk, IsTrue, List, Some, ℕ, false, if◌then◌else◌, length};
 ghost use Rattle.rip_plan.specs.Answers.{first_fault};
 ghost use Rattle.rip_plan.specs.Network.{Network};
 ghost use Rattle.rip_plan.specs.declared.error.PlanError.{PlanError};
@@ -10,6 +10,7 @@ ghost use Rattle.rip_report.specs.declared.limits.TheConstants.{LINE_BYTES};
 ghost use Rattle.rip_report.specs.AuditText.{IsKnownReason};
 ghost use Rattle.rip_report.specs.Listings.{TextsBelow, TextsOfPairs};
 ghost use Rattle.rip_report.specs.Names.{IsKnownWay};
+ghost use Rattle.rip_report.specs.PlanText.{IsNoText};
 ghost use Rattle.rip_report.specs.ReportText.{IsAccepted, ReportText};
 ghost use Rattle.rip_report.specs.RoutesText.{RouteLine, RoutesText, UnheardLine, leaf_word, least_part, pair_part, read_line, read_part, routes_line, unread_line};
 ghost use Rattle.rip_report.specs.Sent.{Prints, Reads, WentOut, Writes};
@@ -274,6 +275,8 @@ pub fn run_routes<R: Source, K: Sink, S: BuildHasher + Drop>(
         IfOk result.1 (WentOut (RoutesText n s) (K.taken out.old) (K.taken out.new)) }
     // The source of a refused plan is as it was.
     ensures untouched { (e : PlanError) → first_fault plan.now ≡ Some e → result.0 ≡ log }
+    // Bytes that are no text of a plan are refused without memory.
+    ensures no_text { IsNoText plan.now → result.1 ≢ Err RunError.Memory }
 {
     run_report(alloc, &Routes, plan, log, out, hasher)
 }
