@@ -23,3 +23,12 @@ pub mod Tables
 pub mod PlanMatches
 pub mod OnePlan
 pub mod NoMemory
+pub mod Orders
+pub mod Finding
+pub mod Spots
+pub mod FaultRows
+pub mod Standing
+pub mod LinkFaults
+pub mod RouterFaults
+pub mod PassFaults
+pub mod TextFaults

@@ -19,16 +19,16 @@ use Rattle.rip_plan.proofs.Numbering.{same_self}
 use Rattle.rip_plan.proofs.Matching.{matched_same}
 use Rattle.rip_plan.proofs.EachOnce.{once_distinct}
 
-text_same : (key : List ℕ) (d : Data) (s t : List ℕ) → HasText key d s → HasText key d t → s ≡ t
+pub text_same : (key : List ℕ) (d : Data) (s t : List ℕ) → HasText key d s → HasText key d t → s ≡ t
 text_same key d s t h k = let same : string s ≡ string t = same_Some (string s) (string t) (sym h ∙ k) in cc
 
-items_same : (key : List ℕ) (d : Data) (xs ys : List Data) → HasItems key d xs → HasItems key d ys → xs ≡ ys
+pub items_same : (key : List ℕ) (d : Data) (xs ys : List Data) → HasItems key d xs → HasItems key d ys → xs ≡ ys
 items_same key d xs ys (i, h, e) (j, k, f) =
     let same : array i ≡ array j = same_Some (array i) (array j) (sym h ∙ k) in
     let one : i ≡ j = cc in
     sym e ∙ ap list_of one ∙ f
 
-cost_same : (d : Data) (b c : ℕ) → IsCostOf d b → IsCostOf d c → b ≡ c
+pub cost_same : (d : Data) (b c : ℕ) → IsCostOf d b → IsCostOf d c → b ≡ c
 cost_same d b c (inl h) (inl k) = let same : integer (pos b) ≡ integer (pos c) = same_Some _ _ (sym h ∙ k) in let whole : pos b ≡ pos c = cc in cc
 cost_same d b c (inl h) (inr k) = absurd (none-some _ (sym k.0 ∙ h))
 cost_same d b c (inr h) (inl k) = absurd (none-some _ (sym h.0 ∙ k))

@@ -17,33 +17,33 @@ use Rattle.rip_plan.specs.PlanText.{empty, sketch_of}
 use Rattle.rip_plan.specs.Network.{Network, network_in, network_of_sketch}
 use Rattle.rip_plan.specs.PlanOf.{Matched, HasItems, IsNameOf, items_under, IsInterfaceOf, Placement, IsOnLink, IsOwned, IsPlaceOf, each_once, PlanOf, IsPlanOfText}
 use Rattle.rip_plan.proofs.Binds.{bind_ok, ok_same}
-use Rattle.rip_plan.proofs.StepsTaken.{with_link, with_router, prefix_taken, link_taken, interface_taken, own_taken, router_taken, DocumentTaken, text_taken}
+use Rattle.rip_plan.proofs.StepsTaken.{with_link, with_router, prefix_taken, link_taken, interface_taken, own_taken, router_taken, text_taken}
 use Rattle.rip_plan.proofs.Numbering.{numbers}
 use Rattle.rip_plan.proofs.Matching.{matched_append, matched_at, map_append}
 use Rattle.rip_plan.proofs.EachOnce.{numbered_once}
 use Rattle.rip_plan.proofs.Items.{get_seen}
 use Rattle.rip_plan.proofs.Tables.{link_table, interface_table, own_table, router_table, then_some, chosen, items_there, text_is}
 
-abbrev placement : DraftPlace → Placement
+abbrev pub placement : DraftPlace → Placement
 placement d = record { prefix = d.prefix; seat = d.seat }
 
-abbrev its_interface : DraftInterface → Interface
+abbrev pub its_interface : DraftInterface → Interface
 its_interface d = d.interface
 
-abbrev with_number : ℕ → Data → ℕ × Data
+abbrev pub with_number : ℕ → Data → ℕ × Data
 with_number n d = (n, d)
 
-back : (n : ℕ) → n + 1 - 1 ≡ n
+pub back : (n : ℕ) → n + 1 - 1 ≡ n
 back n = omega arith
 
 -- ---- the prefixes of a link
 
-record PrefixesAdded (l : ℕ) (xs : List Data) (s t : Sketch) : Type 0 where
-  added : List DraftPlace
-  made : t ≡ record s { places = s.places ++ added }
-  match : Matched IsOnLink (map placement added) (map (with_number l) xs)
+pub record PrefixesAdded (l : ℕ) (xs : List Data) (s t : Sketch) : Type 0 where
+  pub added : List DraftPlace
+  pub made : t ≡ record s { places = s.places ++ added }
+  pub match : Matched IsOnLink (map placement added) (map (with_number l) xs)
 
-prefixes_added : (l j : ℕ) (xs : List Data) (s t : Sketch) → steps (prefix_step (l + 1)) j xs s ≡ Ok t → PrefixesAdded l xs s t
+pub prefixes_added : (l j : ℕ) (xs : List Data) (s t : Sketch) → steps (prefix_step (l + 1)) j xs s ≡ Ok t → PrefixesAdded l xs s t
 prefixes_added l j [] s t h = record { added = []; made = sym (ok_same s t h) ∙ ap (λ (ps : List DraftPlace). record s { places = ps }) (sym (append-nil s.places)); match = tt }
 prefixes_added l j (x ∷ xs) s t h =
     let (u, first, others) = bind_ok (prefix_step (l + 1) j x s) (steps (prefix_step (l + 1)) (j + 1) xs) t h in
@@ -58,14 +58,14 @@ prefixes_added l j (x ∷ xs) s t h =
 
 -- ---- links
 
-record LinksAdded (k : ℕ) (xs : List Data) (s t : Sketch) : Type 0 where
-  names : List (List ℕ)
-  added : List DraftPlace
-  made : t ≡ record s { links = s.links ++ names; places = s.places ++ added }
-  named : Matched IsNameOf names xs
-  placed : Matched IsOnLink (map placement added) (items_under (codes_of "prefixes") k xs)
+pub record LinksAdded (k : ℕ) (xs : List Data) (s t : Sketch) : Type 0 where
+  pub names : List (List ℕ)
+  pub added : List DraftPlace
+  pub made : t ≡ record s { links = s.links ++ names; places = s.places ++ added }
+  pub named : Matched IsNameOf names xs
+  pub placed : Matched IsOnLink (map placement added) (items_under (codes_of "prefixes") k xs)
 
-links_added : (k : ℕ) (xs : List Data) (s t : Sketch) → steps link_step (k + 1) xs s ≡ Ok t → LinksAdded k xs s t
+pub links_added : (k : ℕ) (xs : List Data) (s t : Sketch) → steps link_step (k + 1) xs s ≡ Ok t → LinksAdded k xs s t
 links_added k [] s t h = record {
   names = [];
   added = [];
@@ -93,12 +93,12 @@ links_added k (x ∷ xs) s t h =
 
 -- ---- the interfaces and the own prefixes of a router
 
-record InterfacesAdded (r : ℕ) (xs : List Data) (s t : Sketch) : Type 0 where
-  added : List DraftInterface
-  made : t ≡ record s { interfaces = s.interfaces ++ added }
-  match : Matched (IsInterfaceOf s.links) (map its_interface added) (map (with_number r) xs)
+pub record InterfacesAdded (r : ℕ) (xs : List Data) (s t : Sketch) : Type 0 where
+  pub added : List DraftInterface
+  pub made : t ≡ record s { interfaces = s.interfaces ++ added }
+  pub match : Matched (IsInterfaceOf s.links) (map its_interface added) (map (with_number r) xs)
 
-interfaces_added : (r j : ℕ) (xs : List Data) (s t : Sketch) → steps (interface_step (r + 1)) j xs s ≡ Ok t → InterfacesAdded r xs s t
+pub interfaces_added : (r j : ℕ) (xs : List Data) (s t : Sketch) → steps (interface_step (r + 1)) j xs s ≡ Ok t → InterfacesAdded r xs s t
 interfaces_added r j [] s t h = record { added = []; made = sym (ok_same s t h) ∙ ap (λ (is : List DraftInterface). record s { interfaces = is }) (sym (append-nil s.interfaces)); match = tt }
 interfaces_added r j (x ∷ xs) s t h =
     let (u, first, others) = bind_ok (interface_step (r + 1) j x s) (steps (interface_step (r + 1)) (j + 1) xs) t h in
@@ -115,12 +115,12 @@ interfaces_added r j (x ∷ xs) s t h =
       );
     }
 
-record OwnsAdded (r : ℕ) (xs : List Data) (s t : Sketch) : Type 0 where
-  added : List DraftPlace
-  made : t ≡ record s { places = s.places ++ added }
-  match : Matched IsOwned (map placement added) (map (with_number r) xs)
+pub record OwnsAdded (r : ℕ) (xs : List Data) (s t : Sketch) : Type 0 where
+  pub added : List DraftPlace
+  pub made : t ≡ record s { places = s.places ++ added }
+  pub match : Matched IsOwned (map placement added) (map (with_number r) xs)
 
-owns_added : (r j : ℕ) (xs : List Data) (s t : Sketch) → steps (own_step (r + 1)) j xs s ≡ Ok t → OwnsAdded r xs s t
+pub owns_added : (r j : ℕ) (xs : List Data) (s t : Sketch) → steps (own_step (r + 1)) j xs s ≡ Ok t → OwnsAdded r xs s t
 owns_added r j [] s t h = record { added = []; made = sym (ok_same s t h) ∙ ap (λ (ps : List DraftPlace). record s { places = ps }) (sym (append-nil s.places)); match = tt }
 owns_added r j (x ∷ xs) s t h =
     let (u, first, others) = bind_ok (own_step (r + 1) j x s) (steps (own_step (r + 1)) (j + 1) xs) t h in
@@ -139,16 +139,16 @@ owns_added r j (x ∷ xs) s t h =
 
 -- ---- routers
 
-record RoutersAdded (k : ℕ) (xs : List Data) (s t : Sketch) : Type 0 where
-  names : List (List ℕ)
-  interfaces : List DraftInterface
-  owned : List DraftPlace
-  made : t ≡ record s { routers = s.routers ++ names; interfaces = s.interfaces ++ interfaces; places = s.places ++ owned }
-  named : Matched IsNameOf names xs
-  on_links : Matched (IsInterfaceOf s.links) (map its_interface interfaces) (items_under (codes_of "interface") k xs)
-  own : Matched IsOwned (map placement owned) (items_under (codes_of "own") k xs)
+pub record RoutersAdded (k : ℕ) (xs : List Data) (s t : Sketch) : Type 0 where
+  pub names : List (List ℕ)
+  pub interfaces : List DraftInterface
+  pub owned : List DraftPlace
+  pub made : t ≡ record s { routers = s.routers ++ names; interfaces = s.interfaces ++ interfaces; places = s.places ++ owned }
+  pub named : Matched IsNameOf names xs
+  pub on_links : Matched (IsInterfaceOf s.links) (map its_interface interfaces) (items_under (codes_of "interface") k xs)
+  pub own : Matched IsOwned (map placement owned) (items_under (codes_of "own") k xs)
 
-routers_added : (k : ℕ) (xs : List Data) (s t : Sketch) → steps router_step (k + 1) xs s ≡ Ok t → RoutersAdded k xs s t
+pub routers_added : (k : ℕ) (xs : List Data) (s t : Sketch) → steps router_step (k + 1) xs s ≡ Ok t → RoutersAdded k xs s t
 routers_added k [] s t h = record {
   names = [];
   interfaces = [];
@@ -189,15 +189,15 @@ routers_added k (x ∷ xs) s t h =
 
 -- ---- the document
 
-some_items_same : (xs ys : List Data) → some_items xs ≡ Some ys → xs ≡ ys
+pub some_items_same : (xs ys : List Data) → some_items xs ≡ Some ys → xs ≡ ys
 some_items_same [] ys h = absurd (none-some ys h)
 some_items_same (x ∷ xs) ys h = same_Some (x ∷ xs) ys h
 
-record IsRoot (doc : Members) (links routers : List Data) : Type 0 where
-  has_links : HasItems (codes_of "link") (table doc) links
-  has_routers : HasItems (codes_of "router") (table doc) routers
+pub record IsRoot (doc : Members) (links routers : List Data) : Type 0 where
+  pub has_links : HasItems (codes_of "link") (table doc) links
+  pub has_routers : HasItems (codes_of "router") (table doc) routers
 
-root_table : (doc : Members) (links routers : List Data) → root_fields doc ≡ Some (links, routers) → IsRoot doc links routers
+pub root_table : (doc : Members) (links routers : List Data) → root_fields doc ≡ Some (links, routers) → IsRoot doc links routers
 unfolding root_fields
 root_table doc links routers h =
     let h1 = chosen (has_only root_keys doc) _ (links, routers) h in
@@ -221,7 +221,16 @@ places_match s =
     let placed : placement d ≡ p = ap placement one ∙ same in
     record { prefix = prefix ∙ ap (λ (x : Placement). Some x.prefix) placed; seat = seat ∙ ap (λ (x : Placement). x.seat) placed })
 
-document_matches : (doc : Members) (s : Sketch) → DocumentTaken doc s → PlanOf doc (network_of_sketch s)
+-- the tables of a document were taken, and no later pass was asked yet
+pub record TablesTaken (doc : Members) (t : Sketch) : Type 0 where
+  pub links : List Data
+  pub routers : List Data
+  pub root : root_fields doc ≡ Some (links, routers)
+  pub between : Sketch
+  pub first : steps link_step 1 links empty ≡ Ok between
+  pub second : steps router_step 1 routers between ≡ Ok t
+
+pub document_matches : (doc : Members) (s : Sketch) → TablesTaken doc s → PlanOf doc (network_of_sketch s)
 document_matches doc s taken =
     let root = root_table doc taken.links taken.routers taken.root in
     let links = links_added 0 taken.links empty taken.between taken.first in
@@ -249,7 +258,7 @@ document_matches doc s taken =
     blocks_seen [] = refl
     blocks_seen (d ∷ ds) = ap (λ (l : List Block). d.prefix ∷ l) (blocks_seen ds)
 
-    interfaces_match : (m : Members) (v : Sketch) (was : DocumentTaken m v) → Matched (IsInterfaceOf v.links) (map its_interface v.interfaces) (items_under (codes_of "interface") 0 was.routers)
+    interfaces_match : (m : Members) (v : Sketch) (was : TablesTaken m v) → Matched (IsInterfaceOf v.links) (map its_interface v.interfaces) (items_under (codes_of "interface") 0 was.routers)
     interfaces_match m v was =
         let links = links_added 0 was.links empty was.between was.first in
         let routers = routers_added 0 was.routers was.between v was.second in
@@ -262,7 +271,7 @@ document_matches doc s taken =
 matches : (bytes : List ℕ) (s : Sketch) → sketch_of bytes ≡ Ok s → IsPlanOfText bytes (network_of_sketch s)
 matches bytes s h =
     let taken = text_taken bytes s h in
-    record { document = taken.document; reads = taken.read; plan = document_matches taken.document s taken.taken }
+    record { document = taken.document; reads = taken.read; plan = document_matches taken.document s (record { links = taken.taken.links; routers = taken.taken.routers; root = taken.taken.root; between = taken.taken.between; first = taken.taken.first; second = taken.taken.second }) }
 
 -- of a network that the bytes are
 pub network_matches : (bytes : List ℕ) (n : Network) → network_in bytes ≡ Ok n → IsPlanOfText bytes n

@@ -14,7 +14,7 @@ pub chosen : {A : Type 0} (b : Bool) (o : Option A) (x : A) → cond b o None �
 chosen true o x h = h
 chosen false o x h = absurd (none-some x h)
 
-table_is : (d : Data) (ms : Members) → as_table d ≡ Some ms → d ≡ table ms
+pub table_is : (d : Data) (ms : Members) → as_table d ≡ Some ms → d ≡ table ms
 table_is (table ms) ns h = ap table (same_Some ms ns h)
 table_is (string s) ns h = absurd (none-some ns h)
 table_is (integer z) ns h = absurd (none-some ns h)
@@ -32,7 +32,7 @@ text_is (boolean b) t h = absurd (none-some t h)
 text_is (datetime u) t h = absurd (none-some t h)
 text_is (array ds) t h = absurd (none-some t h)
 
-integer_is : (d : Data) (z : ℤ) → as_integer d ≡ Some z → d ≡ integer z
+pub integer_is : (d : Data) (z : ℤ) → as_integer d ≡ Some z → d ≡ integer z
 integer_is (integer y) z h = ap integer (same_Some y z h)
 integer_is (string s) z h = absurd (none-some z h)
 integer_is (table ms) z h = absurd (none-some z h)
@@ -50,7 +50,7 @@ array_is (float x) xs h = absurd (none-some xs h)
 array_is (boolean b) xs h = absurd (none-some xs h)
 array_is (datetime u) xs h = absurd (none-some xs h)
 
-text_there : (o : Option Data) (t : List ℕ) → option_and_then as_str o ≡ Some t → o ≡ Some (string t)
+pub text_there : (o : Option Data) (t : List ℕ) → option_and_then as_str o ≡ Some t → o ≡ Some (string t)
 text_there None t h = absurd (none-some t h)
 text_there (Some d) t h = ap (λ (x : Data). Some x) (text_is d t h)
 
@@ -156,3 +156,60 @@ router_table d name interfaces owns h =
       interfaces_are = items_are (get_member (codes_of "interface") ms) interfaces (second ∙ ap (λ (f : List ℕ × List Data × List Data). Some f.1) same);
       owns_are = items_given (get_member (codes_of "own") ms) owns (third ∙ ap (λ (f : List ℕ × List Data × List Data). Some f.2) same);
     })
+
+-- ---- tables whose cost was not asked yet
+
+pub record HasInterfaceFields (d : Data) (link text : List ℕ) (given : Option ℤ) : Type 0 where
+  pub has_link : HasText (codes_of "link") d link
+  pub has_address : HasText (codes_of "address") d text
+  pub cost : integer_if (get (codes_of "cost") d) ≡ Some given
+
+pub interface_texts : (d : Data) (link text : List ℕ) (given : Option ℤ) → (as_table d &> interface_fields) ≡ Some (link, text, given) → HasInterfaceFields d link text given
+unfolding interface_fields
+interface_texts d link text given h =
+    let (ms, is, h1) = then_some (as_table d) interface_fields (link, text, given) h in
+    let h2 = chosen (has_only interface_keys ms) _ (link, text, given) h1 in
+    let (a, first, h3) = then_some (text_at (codes_of "link") ms) _ (link, text, given) h2 in
+    let (b, second, h4) = then_some (text_at (codes_of "address") ms) _ (link, text, given) h3 in
+    let (g, third, h5) = then_some (integer_if (get_member (codes_of "cost") ms)) _ (link, text, given) h4 in
+    let same = same_Some (a, b, g) (link, text, given) h5 in
+    let there : d ≡ table ms = table_is d ms is in
+    rw there (record {
+      has_link = text_there (get_member (codes_of "link") ms) link (first ∙ ap (λ (f : List ℕ × List ℕ × Option ℤ). Some f.0) same);
+      has_address = text_there (get_member (codes_of "address") ms) text (second ∙ ap (λ (f : List ℕ × List ℕ × Option ℤ). Some f.1) same);
+      cost = third ∙ ap (λ (f : List ℕ × List ℕ × Option ℤ). Some f.2) same;
+    })
+
+pub record HasOwnFields (d : Data) (text : List ℕ) (given : Option ℤ) : Type 0 where
+  pub has_prefix : HasText (codes_of "prefix") d text
+  pub cost : integer_if (get (codes_of "cost") d) ≡ Some given
+
+pub own_texts : (d : Data) (text : List ℕ) (given : Option ℤ) → (as_table d &> own_fields) ≡ Some (text, given) → HasOwnFields d text given
+unfolding own_fields
+own_texts d text given h =
+    let (ms, is, h1) = then_some (as_table d) own_fields (text, given) h in
+    let h2 = chosen (has_only own_keys ms) _ (text, given) h1 in
+    let (a, first, h3) = then_some (text_at (codes_of "prefix") ms) _ (text, given) h2 in
+    let (g, second, h4) = then_some (integer_if (get_member (codes_of "cost") ms)) _ (text, given) h3 in
+    let same = same_Some (a, g) (text, given) h4 in
+    let there : d ≡ table ms = table_is d ms is in
+    rw there (record {
+      has_prefix = text_there (get_member (codes_of "prefix") ms) text (first ∙ ap (λ (f : List ℕ × Option ℤ). Some f.0) same);
+      cost = second ∙ ap (λ (f : List ℕ × Option ℤ). Some f.1) same;
+    })
+
+-- a cost that is given, and is none
+pub cost_told : (o : Option Data) (given : Option ℤ) → integer_if o ≡ Some given → cost_of given ≡ None → (z : ℤ) × (o ≡ Some (integer z)) × (cost_of (Some z) ≡ None)
+cost_told None given h e = let same : None ≡ given = same_Some None given h in absurd (none-some 1 (sym e ∙ ap cost_of (sym same)))
+cost_told (Some d) given h e = by_given (as_integer d) refl h
+  where
+    by_given : (i : Option ℤ) → as_integer d ≡ i → option_map Some i ≡ Some given → (z : ℤ) × (Some d ≡ Some (integer z)) × (cost_of (Some z) ≡ None)
+    by_given None f g = absurd (none-some given g)
+    by_given (Some z) f g =
+        let same : Some z ≡ given = same_Some (Some z) given g in
+        (z, ap (λ (x : Data). Some x) (integer_is d z f), ap cost_of same ∙ e)
+
+pub cost_clear : (o : Option Data) (given : Option ℤ) (c : ℕ) → integer_if o ≡ Some given → cost_of given ≡ Some c → (z : ℤ) → o ≡ Some (integer z) → cost_of (Some z) ≡ None → ⊥
+cost_clear o given c h e z is none =
+    let same : Some z ≡ given = same_Some (Some z) given (ap integer_if (sym is) ∙ h) in
+    none-some c (sym none ∙ ap cost_of same ∙ e)

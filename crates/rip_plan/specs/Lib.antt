@@ -13,3 +13,4 @@ pub mod Relations
 pub mod Rows
 pub mod Indexed
 pub mod PlanOf
+pub mod PlanFaults

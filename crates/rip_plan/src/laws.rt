@@ -1,10 +1,14 @@
-//! Laws of the definitions alone: functions that do nothing, whose contracts hold of every
-//! document.
+//! Laws of the definitions alone: functions that do nothing, whose contracts hold of all bytes and
+//! every document.
 
-ghost use Rattle.std.specs.Prelude.{◌≡◌};
+ghost use Rattle.std.specs.Prelude.{◌≡◌, ◌↔◌, ℕ, List, None, Some};
 ghost use Rattle.toml.specs.Data.{Members};
 ghost use Rattle.rip_plan.specs.Network.{Network};
-ghost use Rattle.rip_plan.specs.PlanOf.{PlanOf};
+ghost use Rattle.rip_plan.specs.Answers.{first_fault};
+ghost use Rattle.rip_plan.specs.PlanFaults.{IsFault, PlanFault};
+ghost use Rattle.rip_plan.specs.PlanOf.{IsPlanOfText, PlanOf};
+ghost use Rattle.rip_plan.specs.Relations.{IsLawful};
+ghost use Rattle.rip_plan.specs.declared.error.PlanError.{PlanError};
 
 use crate::limits::{
     MOST_COST, MOST_INTERFACES, MOST_LINKS, MOST_PLACES, MOST_PLAN_BYTES, MOST_ROUTERS,
@@ -24,3 +28,18 @@ pub fn limits()
 pub fn one_plan()
     ensures { (document : Members) (n m : Network) → PlanOf document n → PlanOf document m → n ≡ m }
 {}
+
+/// Bytes are refused exactly by the first of their faults; and where they have none, they have a
+/// plan, which is lawful.
+pub fn first_faults()
+    ensures told { (bytes : List ℕ) (e : PlanError) →
+        (first_fault bytes ≡ Some e) ↔ PlanFault bytes e }
+    ensures none { (bytes : List ℕ) →
+        (first_fault bytes ≡ None) ↔ ((e : PlanError) → IsFault bytes e → ⊥) }
+    ensures plan { (bytes : List ℕ) → ((e : PlanError) → IsFault bytes e → ⊥) →
+        (n : Network) × IsPlanOfText bytes n × IsLawful n }
+{
+    rip_wire::laws::names();
+    rip_wire::laws::address_texts();
+    rip_wire::laws::prefix_texts();
+}

@@ -5,6 +5,7 @@ ghost use Rattle.std.specs.Str.{is_utf8};
 ghost use Rattle.std.specs.List.Sorted.{IsStrictlyIncreasing};
 ghost use Rattle.rip_plan.specs.declared.error.PlanCode.TheVariants.{Memory};
 ghost use Rattle.rip_plan.specs.Answers.{IsAnswer, first_fault, out_of_memory};
+ghost use Rattle.rip_plan.specs.PlanFaults.{IsFault, PlanFault};
 ghost use Rattle.rip_plan.specs.PlanOf.{IsPlanOfText};
 ghost use Rattle.rip_plan.specs.Fault.{Gives};
 ghost use Rattle.rip_plan.specs.Network.{direct_at, first_carrying, found_at, is_of, is_on, network_in, network_of_sketch, number_of_prefix, numbers_where};
@@ -14,6 +15,7 @@ ghost use Rattle.rip_plan.specs.Relations.{Carries, HasTwoInterfaces, IsAt, IsDi
 use crate::draft::Draft;
 use crate::error::{At, PlanCode, PlanError, ReadError};
 use crate::index;
+use crate::laws::first_faults;
 use crate::limits::MOST_PLAN_BYTES;
 use crate::numbers::{interfaces_of, with_numbers};
 use crate::parts::{Interface, Place};
@@ -116,12 +118,15 @@ impl Plan {
         ensures faultless { IfOk result (λ plan. first_fault bytes.now ≡ None) }
         ensures plan { IfOk result (λ plan. IsPlanOfText bytes.now plan) }
         ensures fault { IfErr result (λ e. (e ≡ out_of_memory) ⊎ (first_fault bytes.now ≡ Some e)) }
+        ensures told { IfErr result (λ e. (e ≡ out_of_memory) ⊎ PlanFault bytes.now e) }
+        ensures no_fault { IfOk result (λ plan. (e : PlanError) → IsFault bytes.now e → ⊥) }
         ensures long { MOST_PLAN_BYTES < length bytes.now
             → IsErrOf result (record { code = PlanCode.Limit; place = At.Text }) }
         ensures not_utf8 { length bytes.now ≤ MOST_PLAN_BYTES → is_utf8 bytes.now ≡ false
             → IsErrOf result (record { code = PlanCode.Syntax; place = At.Text }) }
         ensures apart { (e : PlanError) → first_fault bytes.now ≡ Some e → e.code ≢ Memory }
     {
+        first_faults();
         match read_plan(alloc, bytes) {
             Ok(plan) => Ok(plan),
             Err(ReadError::Fault(fault)) => Err(fault),

@@ -1,0 +1,256 @@
+-- What is wrong with a plan's text, each fault by itself and in the words of its document, and
+-- which of them is told.
+use Rattle.std.specs.Prelude.{◌≡◌, ◌≢◌, ◌⊎◌, ℕ, zero, suc, ◌+◌, ◌<◌, ◌≤◌, ℤ, pos, List, [], ◌∷◌, ◌++◌, length, codes, Option, Some, None, slice_get}
+use Rattle.toml.specs.Data.{Data, Members, as_str, as_table, get, integer, string, table}
+use Rattle.rip_wire.specs.Address.{address_in}
+use Rattle.rip_wire.specs.Name.{IsName}
+use Rattle.rip_wire.specs.Prefix.{Block, ContainsAddress, prefix_in}
+use Rattle.rip_plan.specs.declared.error.PlanCode.{PlanCode}
+use Rattle.rip_plan.specs.declared.error.PlanCode.TheVariants as codes
+use Rattle.rip_plan.specs.declared.error.PlanError.{PlanError}
+use Rattle.rip_plan.specs.declared.error.At.{At}
+use Rattle.rip_plan.specs.declared.error.At.TheVariants.{Text, Version, Link, LinkPrefix, Router, RouterInterface, RouterOwn}
+use Rattle.rip_plan.specs.declared.limits.TheConstants.{MOST_INTERFACES, MOST_LINKS, MOST_PLACES, MOST_PLAN_BYTES, MOST_ROUTERS}
+use Rattle.rip_plan.specs.declared.parts.Seat.TheVariants as seats
+use Rattle.rip_plan.specs.Codes.{number_of_code}
+use Rattle.rip_plan.specs.Fields.{◌&>◌, cost_of, interface_fields, link_fields, own_fields, root_fields, router_fields}
+use Rattle.rip_plan.specs.Network.{Network}
+use Rattle.rip_plan.specs.PlanOf.{HasItems, HasText, IsNameOf, PlanOf, items_in, items_under}
+use Rattle.rip_plan.specs.PlanText.{document_of}
+use Rattle.rip_plan.specs.Relations.{HasAddress, IsInterface, IsPlace, Touches}
+
+-- ---- the tables of a document and their items, numbered from 1
+
+abbrev pub nth : {A : Type 0} → List A → ℕ → Option A
+nth xs zero = None
+nth xs (suc n) = slice_get xs n
+
+-- item j of the list at the key of table i
+abbrev pub IsItem : List ℕ → List Data → ℕ → ℕ → Data → Type 0
+IsItem key ds i j item =
+    (d : Data) × (nth ds i ≡ Some d) × (nth (items_in (get key d)) j ≡ Some item)
+
+-- the bytes are a document, and not too many
+pub record IsText (bytes : List ℕ) (document : Members) : Type 0 where
+  pub short : length bytes ≤ MOST_PLAN_BYTES
+  pub reads : document_of bytes ≡ Some document
+
+-- the bytes are a document with these tables of links and of routers
+pub record HasTables (bytes : List ℕ) (document : Members) (links routers : List Data)
+    : Type 0 where
+  pub text : IsText bytes document
+  pub has_links : HasItems (codes "link") (table document) links
+  pub has_routers : HasItems (codes "router") (table document) routers
+
+-- where each item of a list stands, from item j on
+abbrev pub spots_of : (ℕ → At) → ℕ → List Data → List At
+spots_of at j [] = []
+spots_of at j (d ∷ ds) = at j ∷ spots_of at (j + 1) ds
+
+-- where each item of the lists at the key stands, from table i on
+abbrev pub spots_under : List ℕ → (ℕ → ℕ → At) → ℕ → List Data → List At
+spots_under key at i [] = []
+spots_under key at i (d ∷ ds) =
+    spots_of (at i) 1 (items_in (get key d)) ++ spots_under key at (i + 1) ds
+
+-- where the places of prefixes stand: those on links, and then those of routers' own
+abbrev pub place_spots : List Data → List Data → List At
+place_spots links routers =
+    spots_under (codes "prefixes") LinkPrefix 1 links
+    ++ spots_under (codes "own") RouterOwn 1 routers
+
+abbrev pub interface_spots : List Data → List At
+interface_spots routers = spots_under (codes "interface") RouterInterface 1 routers
+
+-- ---- what is wrong with one table or item
+
+-- the table's name has another form
+abbrev pub IsMisnamed : List Data → ℕ → Type 0
+IsMisnamed ds i =
+    (d : Data) × (name : List ℕ) × (nth ds i ≡ Some d) × IsNameOf name d × (IsName name → ⊥)
+
+-- an earlier table has the name
+abbrev pub IsNamedAgain : List Data → ℕ → Type 0
+IsNamedAgain ds i =
+    (d earlier : Data) × (k : ℕ) × (name : List ℕ)
+    × (nth ds i ≡ Some d) × IsNameOf name d × (k < i) × (nth ds k ≡ Some earlier)
+    × IsNameOf name earlier
+
+-- so many or more stand before
+abbrev pub IsPast : ℕ → List At → At → Type 0
+IsPast most spots at = (k : ℕ) × (slice_get spots k ≡ Some at) × (most ≤ k)
+
+-- the text is no prefix, or a host bit is set
+abbrev pub IsNoPrefix : List ℕ → Type 0
+IsNoPrefix text = prefix_in text ≡ None
+
+-- the cost is an integer outside 1 to 15
+abbrev pub HasWrongCost : Data → Type 0
+HasWrongCost d = (z : ℤ) × (get (codes "cost") d ≡ Some (integer z)) × (cost_of (Some z) ≡ None)
+
+-- a text in the list of link l, which is counted from 0, is this prefix
+abbrev pub HasPrefix : List Data → ℕ → Block → Type 0
+HasPrefix links l p =
+    (k : ℕ) × (text : List ℕ)
+    × (slice_get (items_under (codes "prefixes") 0 links) k ≡ Some (l, string text))
+    × (prefix_in text ≡ Some p)
+
+-- the link that the interface names has prefixes, and none contains the interface's address
+pub record IsOutside (links : List Data) (d : Data) : Type 0 where
+  pub text : List ℕ
+  pub has_address : HasText (codes "address") d text
+  pub address : ℕ
+  pub parsed : address_in text ≡ Some address
+  pub name : List ℕ
+  pub has_link : HasText (codes "link") d name
+  pub link : ℕ
+  pub link_table : Data
+  pub listed : slice_get links link ≡ Some link_table
+  pub named : IsNameOf name link_table
+  pub some : (p : Block) × HasPrefix links link p
+  pub none : (p : Block) → HasPrefix links link p → ContainsAddress p address → ⊥
+
+-- no link has the name that the interface gives
+abbrev pub NamesNoLink : List Data → Data → Type 0
+NamesNoLink links d =
+    (name : List ℕ) × HasText (codes "link") d name
+    × ((l : ℕ) (link : Data) → slice_get links l ≡ Some link → IsNameOf name link → ⊥)
+
+-- ---- what is wrong with two items of the plan
+
+-- places j and k of one prefix are on one link, or touch one router
+abbrev pub DoMeet : Network → ℕ → ℕ → Type 0
+DoMeet n j k =
+    (p : ℕ) × (((l : ℕ) × IsPlace n j p (seats.Link l) × IsPlace n k p (seats.Link l))
+    ⊎ ((r c d : ℕ) × Touches n j p r c × Touches n k p r d))
+
+-- interfaces i and j are one router's on one link
+abbrev pub AreTwice : Network → ℕ → ℕ → Type 0
+AreTwice n i j = (r l c d : ℕ) × IsInterface n i r l c × IsInterface n j r l d
+
+-- interfaces i and j are on one link with one address
+abbrev pub HaveOneAddress : Network → ℕ → ℕ → Type 0
+HaveOneAddress n i j = (l a : ℕ) × HasAddress n i l a × HasAddress n j l a
+
+-- an earlier item clashes with what stands here
+abbrev pub IsClash : (ℕ → ℕ → Type 0) → List At → At → Type 0
+IsClash Clash spots at =
+    (j k : ℕ) × (slice_get spots k ≡ Some at) × (j < k) × Clash j k
+
+-- the document's plan has no interface of router r, which is counted from 1
+abbrev pub IsBare : Network → ℕ → Type 0
+IsBare n r =
+    (k : ℕ) × (r ≡ k + 1) × (k < length n.routers)
+    × ((i l c : ℕ) → IsInterface n i k l c → ⊥)
+
+-- ---- the rows of the table of codes
+
+-- what each code says of the tables of a document, and of what stands at this place
+abbrev pub TableFault : Members → List Data → List Data → PlanCode → At → Type 0
+TableFault document links routers codes.Key (Link i) =
+    (d : Data) × (nth links i ≡ Some d) × ((as_table d &> link_fields) ≡ None)
+TableFault document links routers codes.Name (Link i) = IsMisnamed links i
+TableFault document links routers codes.DuplicateName (Link i) = IsNamedAgain links i
+TableFault document links routers codes.Key (LinkPrefix i j) =
+    (d : Data) × IsItem (codes "prefixes") links i j d × (as_str d ≡ None)
+TableFault document links routers codes.Prefix (LinkPrefix i j) =
+    (text : List ℕ) × IsItem (codes "prefixes") links i j (string text) × IsNoPrefix text
+TableFault document links routers codes.Limit (LinkPrefix i j) =
+    IsPast MOST_PLACES (place_spots links routers) (LinkPrefix i j)
+TableFault document links routers codes.Key (Router r) =
+    (d : Data) × (nth routers r ≡ Some d) × ((as_table d &> router_fields) ≡ None)
+TableFault document links routers codes.Name (Router r) = IsMisnamed routers r
+TableFault document links routers codes.DuplicateName (Router r) = IsNamedAgain routers r
+TableFault document links routers codes.Key (RouterInterface r j) =
+    (d : Data) × IsItem (codes "interface") routers r j d
+    × ((as_table d &> interface_fields) ≡ None)
+TableFault document links routers codes.Address (RouterInterface r j) =
+    (d : Data) × (text : List ℕ) × IsItem (codes "interface") routers r j d
+    × HasText (codes "address") d text × (address_in text ≡ None)
+TableFault document links routers codes.Cost (RouterInterface r j) =
+    (d : Data) × IsItem (codes "interface") routers r j d × HasWrongCost d
+TableFault document links routers codes.UnknownLink (RouterInterface r j) =
+    (d : Data) × IsItem (codes "interface") routers r j d × NamesNoLink links d
+TableFault document links routers codes.OutsidePrefix (RouterInterface r j) =
+    (d : Data) × IsItem (codes "interface") routers r j d × IsOutside links d
+TableFault document links routers codes.Limit (RouterInterface r j) =
+    IsPast MOST_INTERFACES (interface_spots routers) (RouterInterface r j)
+TableFault document links routers codes.Key (RouterOwn r j) =
+    (d : Data) × IsItem (codes "own") routers r j d × ((as_table d &> own_fields) ≡ None)
+TableFault document links routers codes.Prefix (RouterOwn r j) =
+    (d : Data) × (text : List ℕ) × IsItem (codes "own") routers r j d
+    × HasText (codes "prefix") d text × IsNoPrefix text
+TableFault document links routers codes.Cost (RouterOwn r j) =
+    (d : Data) × IsItem (codes "own") routers r j d × HasWrongCost d
+TableFault document links routers codes.Limit (RouterOwn r j) =
+    IsPast MOST_PLACES (place_spots links routers) (RouterOwn r j)
+TableFault document links routers codes.DuplicatePrefix (LinkPrefix i j) =
+    (n : Network) × PlanOf document n
+    × IsClash (DoMeet n) (place_spots links routers) (LinkPrefix i j)
+TableFault document links routers codes.DuplicatePrefix (RouterOwn r j) =
+    (n : Network) × PlanOf document n
+    × IsClash (DoMeet n) (place_spots links routers) (RouterOwn r j)
+TableFault document links routers codes.TwiceOnLink (RouterInterface r j) =
+    (n : Network) × PlanOf document n
+    × IsClash (AreTwice n) (interface_spots routers) (RouterInterface r j)
+TableFault document links routers codes.DuplicateAddress (RouterInterface r j) =
+    (n : Network) × PlanOf document n
+    × IsClash (HaveOneAddress n) (interface_spots routers) (RouterInterface r j)
+TableFault document links routers codes.NoInterface (Router r) =
+    (n : Network) × PlanOf document n × IsBare n r
+TableFault document links routers code at = ⊥
+
+-- what each code says of the bytes, and of what stands at this place
+abbrev pub FaultAt : List ℕ → PlanCode → At → Type 0
+FaultAt bytes codes.Syntax Text = (length bytes ≤ MOST_PLAN_BYTES) × (document_of bytes ≡ None)
+FaultAt bytes codes.Version Version =
+    (document : Members) × IsText bytes document
+    × (get (codes "version") (table document) ≢ Some (integer (pos 1)))
+FaultAt bytes codes.Key Text =
+    (document : Members) × IsText bytes document × (root_fields document ≡ None)
+FaultAt bytes codes.Limit Text =
+    (MOST_PLAN_BYTES < length bytes)
+    ⊎ ((document : Members) × (links routers : List Data) × HasTables bytes document links routers
+    × ((MOST_LINKS < length links) ⊎ (MOST_ROUTERS < length routers)))
+FaultAt bytes code at =
+    (document : Members) × (links routers : List Data) × HasTables bytes document links routers
+    × TableFault document links routers code at
+
+abbrev pub IsFault : List ℕ → PlanError → Type 0
+IsFault bytes e = FaultAt bytes e.code e.place
+
+-- ---- the order
+
+-- the pass over the text that finds it
+abbrev pub pass_of : PlanCode → ℕ
+pass_of codes.DuplicatePrefix = 1
+pass_of codes.TwiceOnLink = 2
+pass_of codes.DuplicateAddress = 3
+pass_of codes.NoInterface = 4
+pass_of code = 0
+
+-- the order of the text: the text as a whole, links, routers; of each its number, the table before
+-- its lists, and in a list the number of the item
+abbrev pub position : At → List ℕ
+position Text = 0 ∷ 0 ∷ 0 ∷ 0 ∷ []
+position Version = 0 ∷ 0 ∷ 0 ∷ 0 ∷ []
+position (Link i) = 1 ∷ i ∷ 0 ∷ 0 ∷ []
+position (LinkPrefix i j) = 1 ∷ i ∷ 1 ∷ j ∷ []
+position (Router r) = 2 ∷ r ∷ 0 ∷ 0 ∷ []
+position (RouterInterface r j) = 2 ∷ r ∷ 1 ∷ j ∷ []
+position (RouterOwn r j) = 2 ∷ r ∷ 2 ∷ j ∷ []
+
+-- the pass, the place, and at one place the code
+abbrev pub rank : PlanError → List ℕ
+rank e = pass_of e.code ∷ position e.place ++ number_of_code e.code ∷ []
+
+-- the first numbers that differ are in this order
+abbrev pub Before : List ℕ → List ℕ → Type 0
+Before (x ∷ xs) (y ∷ ys) = (x < y) ⊎ ((x ≡ y) × Before xs ys)
+Before xs ys = ⊥
+
+-- a fault of the bytes, such that any other comes after it
+pub record PlanFault (bytes : List ℕ) (e : PlanError) : Type 0 where
+  pub fault : IsFault bytes e
+  pub first : (other : PlanError) → IsFault bytes other
+      → (other ≡ e) ⊎ Before (rank e) (rank other)
