@@ -14,16 +14,18 @@ ghost use Rattle.rip_report.specs.Held.{held};
 ghost use Rattle.rip_report.specs.PlanText.{IsNoText};
 ghost use Rattle.rip_report.specs.ReportText.{IsAccepted};
 ghost use Rattle.rip_report.specs.Sent.{Prints, Reads, WentOut, Writes};
-ghost use Rattle.rip_check.specs.Laws.{ShowsRightTables};
+ghost use Rattle.rip_check.specs.Laws.{OneIsShown, ShowsRightTables};
 ghost use Rattle.rip_check.specs.Walks.{PacketsArrive};
 
 use crate::output::{Page, finish, write_all};
 use crate::report::{Report, run_report};
 use crate::status::{RunError, Status};
 use lines::{settled_text, unclear_text, unsettled_text};
+use rip_check::laws::one_set_of_tables;
 use rip_check::{Place2, Unsettled, Verdict, judge};
 use rip_log::{Failed, Sink, Source};
 use rip_plan::Plan;
+use rip_plan::laws::{first_faults, one_plan};
 use rip_table::MetricTable;
 use std::alloc::{AllocError, Global};
 use std::hash::BuildHasher;
@@ -254,6 +256,9 @@ pub fn run_audit<R: Source, K: Sink, S: BuildHasher + Drop>(
         IfOk result.1 (λ status. ((status ≡ Status.Settled) ↔ ShowsRightTables n s)
         × (status ≡ Status.Settled → PacketsArrive n s)
         × WentOut (VerdictText n s all) (K.taken out.old) (K.taken out.new) status) }
+    // No two sets of tables are shown.
+    ensures one_set { (n : Network) (s : State) → IsAccepted plan.now (R.coming log) n s →
+        OneIsShown n s }
     // What each verdict is answered for.
     ensures judged { (n : Network) (s : State) → IsAccepted plan.now (R.coming log) n s →
         IfOk result.1 (IsJudged n s) }
@@ -267,6 +272,9 @@ pub fn run_audit<R: Source, K: Sink, S: BuildHasher + Drop>(
     // Bytes that are no text of a plan are refused without memory.
     ensures no_text { IsNoText plan.now → result.1 ≢ Err RunError.Memory }
 {
+    first_faults();
+    one_plan();
+    one_set_of_tables();
     run_report(alloc, &Audit { all }, plan, log, out, hasher)
 }
 
