@@ -1,7 +1,6 @@
 -- What is found of the faults of a document's links.
-use Rattle.std.proofs.Common.{◌≡◌, ℕ, zero, suc, ◌+◌, ◌<◌, ◌≤◌, ◌⊎◌, inl, inr, List, [], ◌∷◌, ◌++◌, length, Bool, true, false, not, Option, Some, None, Result, Ok, Err, refl, sym, ap, subst, ◌∙◌, arith, length-append}
-use Rattle.std.specs.Prelude.{slice_get, nat_le, codes as codes_of, map}
-use Rattle.std.specs.List.{list_any}
+use Rattle.std.proofs.Common.{◌≡◌, ℕ, zero, suc, ◌+◌, ◌<◌, ◌≤◌, inl, inr, List, [], ◌∷◌, ◌++◌, length, Bool, true, false, not, Some, Ok, refl, sym, ap, subst, ◌∙◌, arith, length-append}
+use Rattle.std.specs.Prelude.{slice_get, nat_le, codes as codes_of}
 use Rattle.std.specs.Str.{bytes_eq}
 use Rattle.std.proofs.lemmas.Option.{none-some, same_Some, slice_get_within}
 use Rattle.std.proofs.lemmas.List.{length-map}
@@ -9,9 +8,8 @@ use Rattle.std.proofs.lemmas.Bool.Decides.{nat_tests}
 use Rattle.std.proofs.lemmas.Slice.Eq.{bytes_eq-Decides}
 use Rattle.toml.specs.Data.{Data, Members, string, get, as_str, as_table}
 use Rattle.rip_wire.specs.Name.{is_name, IsName}
-use Rattle.rip_wire.specs.Prefix.{Block, prefix_in}
+use Rattle.rip_wire.specs.Prefix.{prefix_in}
 use Rattle.rip_plan.specs.declared.error.PlanCode.TheVariants as codes
-use Rattle.rip_plan.specs.declared.error.PlanError.{PlanError}
 use Rattle.rip_plan.specs.declared.error.At.{At}
 use Rattle.rip_plan.specs.declared.error.At.TheVariants.{Link, LinkPrefix}
 use Rattle.rip_plan.specs.declared.draft.DraftPlace.{DraftPlace}
@@ -21,8 +19,8 @@ use Rattle.rip_plan.specs.Names.{is_one_of}
 use Rattle.rip_plan.specs.Draft.{Sketch, prefix_step, link_step}
 use Rattle.rip_plan.specs.PlanOf.{Matched, IsNameOf, items_in}
 use Rattle.rip_plan.specs.PlanText.{empty}
-use Rattle.rip_plan.specs.PlanFaults.{nth, IsItem, IsMisnamed, IsNamedAgain, IsPast, spots_of, spots_under, place_spots}
-use Rattle.rip_plan.proofs.Finding.{Finds, FindsAt, no_rows, guard_finds, want_finds, steps_finds}
+use Rattle.rip_plan.specs.PlanFaults.{nth, IsItem, IsMisnamed, IsNamedAgain, spots_of, spots_under, place_spots}
+use Rattle.rip_plan.proofs.Finding.{Finds, no_rows, guard_finds, want_finds, steps_finds}
 use Rattle.rip_plan.proofs.FaultRows.{by_code, IsTold, prefix_from_limit, prefix_from_prefix, prefix_rows, prefix_starts, prefixes_rows, link_from_duplicate, link_from_name, link_rows, link_starts, links_rows, prefix_row_item, link_row_within}
 use Rattle.rip_plan.proofs.Spots.{nth_from, get_split, get_before, place_once, prefix_here, nth_here, item_once, count_of}
 use Rattle.rip_plan.proofs.Standing.{place_ats, links_stand, prefixes_stand}

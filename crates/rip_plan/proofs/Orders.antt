@@ -1,8 +1,7 @@
 -- The order in which faults are told.
-use Rattle.std.proofs.Common.{◌≡◌, ℕ, ◌+◌, ◌<◌, ◌≤◌, ◌⊎◌, inl, inr, List, [], ◌∷◌, ◌++◌, length, refl, sym, ap, subst, arith}
+use Rattle.std.proofs.Common.{◌≡◌, ℕ, ◌<◌, ◌≤◌, ◌⊎◌, inl, inr, List, [], ◌∷◌, ◌++◌, length, refl, sym, arith}
 use Rattle.std.proofs.lemmas.Bool.{cases_lt}
-use Rattle.rip_plan.specs.declared.error.PlanError.{PlanError}
-use Rattle.rip_plan.specs.PlanFaults.{Before, rank}
+use Rattle.rip_plan.specs.PlanFaults.{Before}
 
 pub before_trans : (xs ys zs : List ℕ) → Before xs ys → Before ys zs → Before xs zs
 before_trans [] ys zs h k = absurd h

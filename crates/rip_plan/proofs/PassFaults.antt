@@ -1,39 +1,38 @@
 -- What the later passes find of the faults of a plan.
-use Rattle.std.proofs.Common.{◌≡◌, ℕ, zero, suc, ◌+◌, ◌<◌, ◌≤◌, ◌⊎◌, inl, inr, List, [], ◌∷◌, ◌++◌, length, Bool, true, false, cond, not, ◌&&◌, ◌||◌, Option, Some, None, Result, Ok, Err, refl, sym, ap, subst, ◌∙◌, arith, length-append, append_assoc}
+use Rattle.std.proofs.Common.{◌≡◌, ℕ, zero, suc, ◌+◌, ◌<◌, ◌≤◌, ◌⊎◌, inl, inr, List, [], ◌∷◌, ◌++◌, length, Bool, true, false, cond, not, ◌||◌, Option, Some, None, refl, sym, ap, subst, ◌∙◌, arith, length-append, append_assoc}
 use Rattle.std.specs.Prelude.{slice_get, option_map, map, filter, ◌==◌}
-use Rattle.std.specs.List.{list_any, IsDistinct}
+use Rattle.std.specs.List.{list_any}
 use Rattle.std.proofs.lemmas.Option.{none-some, same_Some, slice_get_within}
 use Rattle.std.proofs.lemmas.List.{append-nil}
 use Rattle.std.proofs.lemmas.Bool.{cases_lt}
 use Rattle.std.proofs.lemmas.Bool.Decides.{nat_tests}
 use Rattle.toml.specs.Data.{Data, Members}
-use Rattle.rip_wire.specs.Prefix.{Block}
 use Rattle.rip_plan.specs.declared.error.PlanCode.{PlanCode}
 use Rattle.rip_plan.specs.declared.error.PlanCode.TheVariants as codes
 use Rattle.rip_plan.specs.declared.error.PlanError.{PlanError}
 use Rattle.rip_plan.specs.declared.error.At.{At}
-use Rattle.rip_plan.specs.declared.error.At.TheVariants.{Text, Version, Link, LinkPrefix, Router, RouterInterface, RouterOwn}
+use Rattle.rip_plan.specs.declared.error.At.TheVariants.{LinkPrefix, Router, RouterInterface, RouterOwn}
 use Rattle.rip_plan.specs.declared.draft.DraftPlace.{DraftPlace}
 use Rattle.rip_plan.specs.declared.draft.DraftInterface.{DraftInterface}
 use Rattle.rip_plan.specs.declared.parts.Interface.{Interface}
 use Rattle.rip_plan.specs.declared.parts.Seat.{Seat}
 use Rattle.rip_plan.specs.declared.parts.Seat.TheVariants as seats
 use Rattle.rip_plan.specs.Codes.{number_of_code}
-use Rattle.rip_plan.specs.Fault.{fault, ◌>>=◌}
+use Rattle.rip_plan.specs.Fault.{fault}
 use Rattle.rip_plan.specs.Draft.{Sketch}
 use Rattle.rip_plan.specs.Passes.{Touching, first_clash, touched, touching, same_prefix, do_meet, is_same_link, have_common, are_twice, have_one_address, is_bare, first_bare, none_found, second_passes, duplicate_in, twice_in, taken_address_in, bare_in}
 use Rattle.rip_plan.specs.Network.{Network, network_of_sketch}
-use Rattle.rip_plan.specs.Relations.{IsPrefix, IsInterface, HasAddress, IsPlace, Touches}
+use Rattle.rip_plan.specs.Relations.{IsPrefix, IsInterface, IsPlace, Touches}
 use Rattle.rip_plan.specs.PlanOf.{PlanOf}
 use Rattle.rip_plan.specs.PlanFaults.{TableFault, IsClash, IsBare, DoMeet, AreTwice, HaveOneAddress, Before, rank, position, place_spots, interface_spots}
 use Rattle.rip_plan.proofs.Orders.{before_trans, before_not}
-use Rattle.rip_plan.proofs.Finding.{Finds, bind_rows, finds_in}
+use Rattle.rip_plan.proofs.Finding.{Finds, bind_rows}
 use Rattle.rip_plan.proofs.FaultRows.{IsTold, code_rows, code_high, last_two, last_three, pass_rows}
 use Rattle.rip_plan.proofs.OnePlan.{one_plan}
 use Rattle.rip_plan.proofs.Spots.{place_ahead, interface_ahead, place_spot, interface_spot}
 use Rattle.rip_plan.proofs.Standing.{place_ats, interface_ats}
-use Rattle.rip_plan.proofs.Items.{both, or_false, any_at, any_finds, none_at, distinct_at, get_seen, see_got, get_push, get_some}
-use Rattle.rip_plan.proofs.Numbering.{numbers, same_is, same_from, same_self}
+use Rattle.rip_plan.proofs.Items.{both, any_at, any_finds, none_at, distinct_at, get_seen, see_got, get_some}
+use Rattle.rip_plan.proofs.Numbering.{numbers, same_is, same_from}
 use Rattle.rip_plan.proofs.SecondPasses.{on_touched, own_touched, common}
 
 -- ---- the first clash

@@ -1,20 +1,19 @@
 -- What is found of the faults of a document's routers.
-use Rattle.std.proofs.Common.{◌≡◌, ℕ, zero, suc, ◌+◌, ◌-◌, ◌<◌, ◌≤◌, ◌⊎◌, inl, inr, List, [], ◌∷◌, ◌++◌, length, Bool, true, false, not, ◌&&◌, Option, Some, None, Result, Ok, Err, refl, sym, ap, subst, ◌∙◌, arith, length-append}
+use Rattle.std.proofs.Common.{◌≡◌, ℕ, ◌+◌, ◌≤◌, inl, inr, List, [], ◌∷◌, ◌++◌, length, Bool, true, false, not, ◌&&◌, Some, None, Ok, refl, sym, ap, subst, ◌∙◌, arith, length-append}
 use Rattle.std.specs.Prelude.{slice_get, nat_le, codes as codes_of, map}
 use Rattle.std.specs.List.{list_any, IsDistinct}
 use Rattle.std.specs.Str.{bytes_eq}
-use Rattle.std.proofs.lemmas.Option.{none-some, same_Some, slice_get_within}
+use Rattle.std.proofs.lemmas.Option.{none-some, same_Some}
 use Rattle.std.proofs.lemmas.List.{length-map}
 use Rattle.std.proofs.lemmas.Bool.Decides.{nat_tests}
 use Rattle.std.proofs.lemmas.Slice.Eq.{bytes_eq-Decides}
-use Rattle.toml.specs.Data.{Data, Members, string, get, as_str, as_table}
+use Rattle.toml.specs.Data.{Data, Members, string, get, as_table}
 use Rattle.rip_wire.specs.Address.{address_in}
-use Rattle.rip_wire.specs.Name.{is_name, IsName}
+use Rattle.rip_wire.specs.Name.{is_name}
 use Rattle.rip_wire.specs.Prefix.{Block, prefix_in, ContainsAddress}
 use Rattle.rip_plan.specs.declared.error.PlanCode.TheVariants as codes
-use Rattle.rip_plan.specs.declared.error.PlanError.{PlanError}
 use Rattle.rip_plan.specs.declared.error.At.{At}
-use Rattle.rip_plan.specs.declared.error.At.TheVariants.{Link, LinkPrefix, Router, RouterInterface, RouterOwn}
+use Rattle.rip_plan.specs.declared.error.At.TheVariants.{LinkPrefix, Router, RouterInterface, RouterOwn}
 use Rattle.rip_plan.specs.declared.draft.DraftPlace.{DraftPlace}
 use Rattle.rip_plan.specs.declared.draft.DraftInterface.{DraftInterface}
 use Rattle.rip_plan.specs.declared.parts.Seat.TheVariants as seats
@@ -25,17 +24,17 @@ use Rattle.rip_plan.specs.Seats.{is_on}
 use Rattle.rip_plan.specs.Draft.{Sketch, prefix_step, link_step, interface_step, own_step, router_step, is_outside, has_address}
 use Rattle.rip_plan.specs.PlanOf.{Matched, IsNameOf, items_in, items_under, IsOnLink, IsOwned, Placement}
 use Rattle.rip_plan.specs.PlanText.{empty}
-use Rattle.rip_plan.specs.PlanFaults.{rank, nth, IsItem, IsMisnamed, IsNamedAgain, IsPast, NamesNoLink, IsOutside, HasPrefix, spots_of, spots_under, place_spots, interface_spots}
+use Rattle.rip_plan.specs.PlanFaults.{rank, nth, IsItem, NamesNoLink, IsOutside, HasPrefix, spots_of, spots_under, place_spots, interface_spots}
 use Rattle.rip_plan.proofs.Finding.{Finds, no_rows, guard_finds, want_finds, steps_finds, bind_rows}
 use Rattle.rip_plan.proofs.FaultRows.{by_code, IsTold, interface_from_address, interface_from_cost, interface_from_link, interface_from_outside, interface_from_limit, interface_rows, interface_starts, interfaces_rows, own_from_prefix, own_from_cost, own_from_limit, own_rows, own_starts, owns_rows, router_lists, router_from_duplicate, router_from_name, router_rows, router_starts, routers_rows, interface_row_item, own_row_item, router_row_within, starts_shorter}
 use Rattle.rip_plan.proofs.Orders.{starts_high}
 use Rattle.rip_plan.proofs.Spots.{nth_from, get_split, get_before, place_once, interface_once, own_here, under_here, nth_here, item_once, count_of}
 use Rattle.rip_plan.proofs.Standing.{place_ats, interface_ats, links_stand, interfaces_stand, owns_stand, routers_stand}
-use Rattle.rip_plan.proofs.Items.{both, any_at, any_finds, none_at, position_finds, position_none, distinct_at, distinct_push, get_seen, see_got}
-use Rattle.rip_plan.proofs.Tables.{text_is, router_table, interface_texts, own_texts, cost_told, cost_clear}
+use Rattle.rip_plan.proofs.Items.{both, any_at, any_finds, position_finds, position_none, distinct_at, distinct_push, get_seen, see_got}
+use Rattle.rip_plan.proofs.Tables.{router_table, interface_texts, own_texts, cost_told, cost_clear}
 use Rattle.rip_plan.proofs.OnePlan.{text_same}
 use Rattle.rip_plan.proofs.PlanMatches.{placement, links_added, routers_added}
-use Rattle.rip_plan.proofs.Binds.{bind_ok, ok_same, steps_keep}
+use Rattle.rip_plan.proofs.Binds.{bind_ok, ok_same}
 use Rattle.rip_plan.proofs.StepsTaken.{with_link, with_router, prefix_taken, link_taken, interface_taken}
 use Rattle.rip_plan.proofs.Lookups.{name_same, on_seat}
 use Rattle.rip_plan.proofs.LinkFaults.{NameLaws, matched_left, matched_right, table_here, table_same, misnamed_told, misnamed_clear, again_told, again_clear}

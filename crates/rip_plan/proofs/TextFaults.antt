@@ -1,10 +1,10 @@
 -- The first fault of a text is the one that is told, and a text that is read has none.
-use Rattle.std.proofs.Common.{◌≡◌, ◌≢◌, ℕ, ◌+◌, ◌<◌, ◌≤◌, ◌⊎◌, ◌↔◌, inl, inr, List, [], ◌∷◌, ◌++◌, length, Bool, true, false, cond, not, ◌&&◌, ◌||◌, Option, Some, None, Result, Ok, Err, refl, sym, ap, subst, ◌∙◌, arith}
-use Rattle.std.specs.Prelude.{ℤ, pos, negsuc, nat_lt, ◌==◌, codes as codes_of}
+use Rattle.std.proofs.Common.{◌≡◌, ◌≢◌, ℕ, ◌<◌, ◌≤◌, ◌⊎◌, ◌↔◌, inl, inr, List, [], ◌∷◌, ◌++◌, length, Bool, true, false, cond, not, ◌||◌, Option, Some, None, Result, Ok, Err, refl, sym, ap, subst, ◌∙◌, arith}
+use Rattle.std.specs.Prelude.{pos, negsuc, nat_lt, ◌==◌, codes as codes_of}
 use Rattle.std.specs.Result.{result_err}
 use Rattle.std.proofs.lemmas.Option.{none-some, same_Some}
 use Rattle.std.proofs.lemmas.Bool.Decides.{nat_tests}
-use Rattle.toml.specs.Data.{Data, Members, get, get_member, table, string, integer, float, boolean, datetime, array}
+use Rattle.toml.specs.Data.{Data, Members, get_member, table, string, integer, float, boolean, datetime, array}
 use Rattle.rip_plan.specs.declared.error.PlanCode.{PlanCode}
 use Rattle.rip_plan.specs.declared.error.PlanCode.TheVariants as codes
 use Rattle.rip_plan.specs.declared.error.PlanError.{PlanError}
@@ -15,14 +15,14 @@ use Rattle.rip_plan.specs.Codes.{number_of_code}
 use Rattle.rip_plan.specs.Draft.{Sketch, link_step, router_step}
 use Rattle.rip_plan.specs.Fault.{fault, ◌>>=◌, steps, wanted}
 use Rattle.rip_plan.specs.Fields.{is_version, root_fields}
-use Rattle.rip_plan.specs.Network.{Network, network_in, network_of_sketch}
+use Rattle.rip_plan.specs.Network.{Network, network_of_sketch}
 use Rattle.rip_plan.specs.Passes.{second_passes}
 use Rattle.rip_plan.specs.PlanOf.{HasItems, PlanOf, IsPlanOfText}
 use Rattle.rip_plan.specs.PlanText.{empty, document_of, sketch_of_document, sketch_of}
-use Rattle.rip_plan.specs.PlanFaults.{IsText, HasTables, TableFault, FaultAt, IsFault, PlanFault, Before, rank, position, pass_of, place_spots, interface_spots, spots_under}
+use Rattle.rip_plan.specs.PlanFaults.{IsText, HasTables, TableFault, FaultAt, IsFault, PlanFault, Before, rank, place_spots, interface_spots, spots_under}
 use Rattle.rip_plan.specs.Relations.{IsLawful}
-use Rattle.rip_plan.proofs.Binds.{bind_ok, ok_same}
-use Rattle.rip_plan.proofs.FaultRows.{IsTold, by_code, covers, first_rows, first_high, links_rows, links_high, routers_rows, pass_rows, table_rows}
+use Rattle.rip_plan.proofs.Binds.{bind_ok}
+use Rattle.rip_plan.proofs.FaultRows.{IsTold, covers, first_rows, first_high, links_rows, links_high, routers_rows, pass_rows, table_rows}
 use Rattle.rip_plan.proofs.Finding.{Rows, row_then, Finds, finds_in, guard_finds, want_finds, bind_rows}
 use Rattle.rip_plan.proofs.FirstPass.{TextLaws}
 use Rattle.rip_plan.proofs.Items.{or_false}
