@@ -17,6 +17,7 @@ $(PROGRAM): $(shell find crates -name out -prune -o -type f -print)
 test:
 	rt ci
 	sh tests/run $(PROGRAM)
+	sh tests/limits $(PROGRAM)
 	sh tests/growths
 
 install: $(PROGRAM)

@@ -1,0 +1,52 @@
+# What the scripts of tests/ share: the program, a folder for what a run writes, and how a run is judged. A script gives its
+# own words to `begin` first, and `end` is its last line: `N passed, M failed`.
+
+begin() {
+    here=$(cd "$(dirname "$0")/.." && pwd)
+    program=${1:-crates/ripaudit/out/ripaudit}
+    case $program in
+    /*) ;;
+    *) program=$here/$program ;;
+    esac
+    scratch=$(mktemp -d) || exit 1
+    trap 'rm -rf "$scratch"' EXIT
+    out=$scratch/out
+    err=$scratch/err
+    passed=0
+    failed=0
+}
+
+end() {
+    echo "$passed passed, $failed failed"
+    [ "$failed" = 0 ]
+}
+
+pass() {
+    passed=$((passed + 1))
+}
+
+fail() {
+    failed=$((failed + 1))
+    echo "$1"
+}
+
+# run WORD ..: runs the program, with what it writes in $out and $err.
+run() {
+    "$program" "$@" > "$out" 2> "$err" < /dev/null
+    status=$?
+}
+
+# expect NAME STATUS STDOUT STDERR: what the last run left. STDOUT and STDERR are a text, `*` for any, or `+` for some.
+expect() {
+    matches "$3" "$out" && matches "$4" "$err" && [ "$status" = "$2" ] && { pass; return; }
+    fail "$1: status $status, stdout $(head -c 200 "$out"), stderr $(head -c 200 "$err")"
+}
+
+matches() {
+    case $1 in
+    '*') true ;;
+    '+') [ -s "$2" ] ;;
+    '') [ ! -s "$2" ] ;;
+    *) [ "$(cat "$2")" = "$1" ] ;;
+    esac
+}
