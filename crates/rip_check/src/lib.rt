@@ -23,6 +23,3 @@ pub use places::{equation, route};
 pub use unsettled::Unsettled;
 pub use verdict::{Place2, Route, Unclear, Verdict};
 pub use way::Way;
-
-#[cfg(test)]
-mod tests;

@@ -72,6 +72,3 @@ pub(crate) fn decode(digits: &[u8], room: &mut [u8; MOST_BYTES]) -> Result<usize
         Err(LogCode::Hex)
     }
 }
-
-#[cfg(test)]
-mod tests;

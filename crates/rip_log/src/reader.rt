@@ -240,6 +240,3 @@ impl<R: Source> LogReader<R> {
         self.window.into_source()
     }
 }
-
-#[cfg(test)]
-mod tests;

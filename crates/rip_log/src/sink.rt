@@ -87,6 +87,3 @@ impl<W: Write> Sink for IntoWrite<W> {
         self.failed
     }
 }
-
-#[cfg(test)]
-mod tests;

@@ -132,6 +132,3 @@ impl<R: Read> Source for FromRead<R> {
         matches!(self.mark, Mark::Ended)
     }
 }
-
-#[cfg(test)]
-mod tests;

@@ -3,7 +3,6 @@
 
 mod draft;
 mod error;
-pub mod examples;
 mod fields;
 mod index;
 pub mod laws;
@@ -20,6 +19,3 @@ pub use limits::{
 };
 pub use parts::{Interface, Place, Seat};
 pub use plan::Plan;
-
-#[cfg(test)]
-mod tests;

@@ -277,6 +277,3 @@ pub fn run_audit<R: Source, K: Sink, S: BuildHasher + Drop>(
     one_set_of_tables();
     run_report(alloc, &Audit { all }, plan, log, out, hasher)
 }
-
-#[cfg(test)]
-mod tests;

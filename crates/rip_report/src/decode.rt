@@ -175,6 +175,3 @@ pub fn run_decode<K: Sink>(hex: &str, out: &mut K) -> Result<Status, RunError>
         },
     }
 }
-
-#[cfg(test)]
-mod tests;

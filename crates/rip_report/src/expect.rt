@@ -211,6 +211,3 @@ pub fn run_expect<K: Sink>(alloc: Global, plan: &[u8], out: &mut K) -> Result<St
         Err(_) => Err(RunError::Memory),
     }
 }
-
-#[cfg(test)]
-mod tests;

@@ -260,6 +260,3 @@ pub fn run_explain<R: Source, K: Sink, S: BuildHasher + Drop>(
 {
     run_report(alloc, &Explain { all }, plan, log, out, hasher)
 }
-
-#[cfg(test)]
-mod tests;

@@ -18,8 +18,6 @@ mod report;
 mod routes;
 mod status;
 mod table;
-#[cfg(test)]
-mod tests;
 mod texts;
 
 pub use audit::run_audit;

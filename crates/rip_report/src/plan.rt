@@ -229,6 +229,3 @@ pub fn run_plan<K: Sink>(alloc: Global, plan: &[u8], out: &mut K) -> Result<Stat
         Err(error) => refuse_plan(error, out),
     }
 }
-
-#[cfg(test)]
-mod tests;

@@ -280,6 +280,3 @@ pub fn run_routes<R: Source, K: Sink, S: BuildHasher + Drop>(
 {
     run_report(alloc, &Routes, plan, log, out, hasher)
 }
-
-#[cfg(test)]
-mod tests;

@@ -57,6 +57,3 @@ pub fn fault_line(error: &RunError) -> &'static str
         RunError::Memory => "failed: memory",
     }
 }
-
-#[cfg(test)]
-mod tests;

@@ -252,6 +252,3 @@ pub fn run_table<R: Source, K: Sink, S: BuildHasher + Drop>(
 {
     run_report(alloc, &Table, plan, log, out, hasher)
 }
-
-#[cfg(test)]
-mod tests;

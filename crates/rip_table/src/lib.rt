@@ -16,6 +16,3 @@ pub use joining::collect;
 pub use limits::MOST_PREFIXES;
 pub use list::ListTable;
 pub use table::MetricTable;
-
-#[cfg(test)]
-mod tests;

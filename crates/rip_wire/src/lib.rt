@@ -13,8 +13,6 @@ mod metric;
 mod name;
 mod prefix;
 mod reading;
-#[cfg(test)]
-mod tests;
 mod text;
 mod writing;
 

@@ -1,0 +1,7 @@
+//! The callers that the pages `CALLING.md` of the libraries show.
+
+mod check;
+mod log;
+mod plan;
+mod table;
+mod wire;

@@ -1,0 +1,32 @@
+//! The caller of `rip_table`.
+
+ghost use Rattle.std.specs.Prelude.{◌≡◌, IfOk};
+ghost use Rattle.rip_table.specs.State.{Fits};
+
+use crate::examples::{SETTLED, TRIANGLE};
+use rip_log::{FromRead, LogReader};
+use rip_plan::Plan;
+use rip_table::{ListTable, MetricTable, TableError, collect};
+use std::alloc::Global;
+use std::test::Fail;
+
+/// The table of a log, and whether the log was taken to its end.
+fn table_of(alloc: Global, plan: &Plan, log: &[u8]) -> Result<(ListTable, bool), TableError>
+    ensures { IfOk result (λ made. Fits plan.now (⟦<ListTable as MetricTable>⟧.state made.0)) }
+{
+    let mut table = ListTable::new(alloc, plan)?;
+    let Ok(mut reader) = LogReader::new(alloc, FromRead::new(log)) else {
+        return Err(TableError::Memory);
+    };
+    let is_whole = collect(plan, &mut reader, &mut table).is_ok();
+    Ok((table, is_whole))
+}
+
+#[test]
+fn a_table_is_filled(rt: HostRuntime) -> Result<(), Fail> {
+    let plan = Plan::read(rt.alloc(), TRIANGLE.as_bytes())?;
+    let (table, is_whole) = table_of(rt.alloc(), &plan, SETTLED.as_bytes())?;
+    assert!(rt; is_whole && table.interface_count() == 6 && table.prefix_count() == 3);
+    assert_eq!(rt; table.metric(1, 1).map(|metric| metric.get()), Some(2));
+    Ok(())
+}

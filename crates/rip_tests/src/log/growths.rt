@@ -1,0 +1,34 @@
+//! Reading where memory is refused: `tests/growths` runs these with each growth refused in turn, and
+//! wants the lines that they print.
+
+use super::{expect_outcome, expect_settled};
+use crate::devices::Pieces;
+use crate::examples::SETTLED;
+use rip_log::{FromRead, LogCode, LogError, LogReader};
+use std::test::Fail;
+
+#[test]
+fn new_hands_back(rt: HostRuntime) -> Result<(), Fail> {
+    let source = FromRead::new(Pieces::new(b"", 1));
+    if let Err((error, source)) = LogReader::new(rt.alloc(), source) {
+        let memory = LogError {
+            code: LogCode::Memory,
+            line: 0,
+        };
+        assert_eq!(rt; error, memory);
+        assert_eq!(rt; source.into_reader().calls(), 0);
+        println!(rt; "handed back")?;
+    }
+    Ok(())
+}
+
+#[test]
+fn next_takes_no_memory(rt: HostRuntime) -> Result<(), Fail> {
+    let source = FromRead::new(Pieces::new(SETTLED.as_bytes(), 7));
+    if let Ok(mut reader) = LogReader::new(rt.alloc(), source) {
+        expect_settled(&rt, &mut reader);
+        expect_outcome(&rt, &mut reader, 0, None);
+        println!(rt; "six records")?;
+    }
+    Ok(())
+}

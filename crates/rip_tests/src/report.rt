@@ -1,0 +1,5 @@
+//! Each command as it is called. What the commands print of many more plans, logs and datagrams is tried with the built program.
+
+mod plans;
+mod reports;
+mod statuses;
