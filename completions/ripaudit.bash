@@ -1,0 +1,40 @@
+# Completes the words of ripaudit in bash.
+
+_ripaudit() {
+    local current=${COMP_WORDS[COMP_CWORD]} command='' given=0 word
+    COMPREPLY=()
+    for word in "${COMP_WORDS[@]:1:COMP_CWORD-1}"; do
+        if [[ $word == -* ]]; then
+            continue
+        elif [[ $command ]]; then
+            given=$((given + 1))
+        else
+            command=$word
+        fi
+    done
+    case $command:$given:$current in
+    :0:-*) _ripaudit_words --help --version ;;
+    audit:*:-* | explain:*:-*) _ripaudit_words --all --help ;;
+    *:-*) _ripaudit_words --help ;;
+    :0:* | help:0:*) _ripaudit_words audit explain routes table expect plan decode help ;;
+    audit:0:* | explain:0:* | routes:0:* | table:0:* | expect:0:* | plan:0:*) _ripaudit_files '*.toml' ;;
+    audit:1:* | explain:1:* | routes:1:* | table:1:*) _ripaudit_files '*' ;;
+    esac
+}
+
+_ripaudit_words() {
+    mapfile -t COMPREPLY < <(compgen -W "$*" -- "$current")
+}
+
+# The files that a pattern takes, and folders; or all, where it takes none.
+_ripaudit_files() {
+    compopt -o filenames 2> /dev/null
+    mapfile -t COMPREPLY < <(compgen -f -X "!$1" -- "$current")
+    if [[ ${#COMPREPLY[@]} = 0 ]]; then
+        mapfile -t COMPREPLY < <(compgen -f -- "$current")
+    elif [[ $1 != '*' ]]; then
+        mapfile -t -O "${#COMPREPLY[@]}" COMPREPLY < <(compgen -d -- "$current")
+    fi
+}
+
+complete -F _ripaudit ripaudit

@@ -1,0 +1,28 @@
+# Completes the words of ripaudit in fish.
+
+# Whether the word at the cursor is the one that is asked for, options not counted: 1 for the command, 2 for what follows it.
+function __ripaudit_word
+    test (count (string match -v -- '-*' (commandline -opc))) = $argv[1]
+end
+
+function __ripaudit_commands
+    printf '%s\t%s\n' \
+        audit 'tell whether the routes that a log shows are right' \
+        explain 'tell the verdict of audit, and what it comes from' \
+        routes 'print the routes that a log shows' \
+        table 'print what each interface of a plan shows in a log' \
+        expect 'print the right routes of a plan' \
+        plan 'print the parts of a plan' \
+        decode 'print one datagram' \
+        help 'print the commands, or the words of one'
+end
+
+complete -c ripaudit -f
+complete -c ripaudit -l help -d 'print the words that are taken'
+complete -c ripaudit -n '__ripaudit_word 1' -l version -d 'print the version'
+complete -c ripaudit -n '__ripaudit_word 1' -a '(__ripaudit_commands)'
+complete -c ripaudit -n '__ripaudit_word 2; and __fish_seen_subcommand_from help' -a '(__ripaudit_commands)'
+complete -c ripaudit -n '__fish_seen_subcommand_from audit explain' -l all -d 'tell of each place, not only of the first'
+complete -c ripaudit -n '__ripaudit_word 2; and __fish_seen_subcommand_from audit explain routes table expect plan' \
+    -k -a '(__fish_complete_suffix .toml)'
+complete -c ripaudit -n '__ripaudit_word 3; and __fish_seen_subcommand_from audit explain routes table' -F
