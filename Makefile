@@ -1,8 +1,11 @@
-# `make demo` audits a first network, `make test` proves and tests everything, `make install PREFIX=..` installs.
+# `make demo` audits a first network, `make test` proves and tests everything, `make install PREFIX=..` installs, `make deb`
+# makes a Debian package.
 PREFIX ?= /usr/local
 PROGRAM = crates/ripaudit/out/ripaudit
+SHARE = $(DESTDIR)$(PREFIX)/share
+DOC = $(SHARE)/doc/ripaudit
 
-.PHONY: demo test install clean
+.PHONY: demo test install uninstall deb clean
 
 demo: $(PROGRAM)
 	sh examples/demo
@@ -19,14 +22,28 @@ test:
 	sh tests/run $(PROGRAM)
 	sh tests/limits $(PROGRAM)
 	sh tests/growths
+	sh tests/completions
 
+# The demo stays out of what is installed: it runs the program of the checkout.
 install: $(PROGRAM)
-	install -d $(DESTDIR)$(PREFIX)/bin
-	install $(PROGRAM) $(DESTDIR)$(PREFIX)/bin/ripaudit
-	install -d $(DESTDIR)$(PREFIX)/share/man/man1
-	install -m 644 docs/ripaudit.1 $(DESTDIR)$(PREFIX)/share/man/man1/ripaudit.1
-	install -d $(DESTDIR)$(PREFIX)/share/doc/ripaudit
-	install -m 644 README.md docs/OPERATING.md docs/CODES.md docs/tcpdump-to-log.awk $(DESTDIR)$(PREFIX)/share/doc/ripaudit
+	install -D $(PROGRAM) $(DESTDIR)$(PREFIX)/bin/ripaudit
+	install -D -m 644 docs/ripaudit.1 $(SHARE)/man/man1/ripaudit.1
+	install -D -m 644 docs/tcpdump-to-log.awk $(SHARE)/ripaudit/tcpdump-to-log.awk
+	install -D -m 644 completions/ripaudit.bash $(SHARE)/bash-completion/completions/ripaudit
+	install -D -m 644 completions/_ripaudit $(SHARE)/zsh/site-functions/_ripaudit
+	install -D -m 644 completions/ripaudit.fish $(SHARE)/fish/vendor_completions.d/ripaudit.fish
+	install -d $(DOC)
+	install -m 644 README.md docs/OPERATING.md docs/CODES.md $(DOC)
+	cp -R examples $(DOC)
+	rm $(DOC)/examples/demo
+	chmod -R u=rwX,go=rX $(DOC)/examples
+
+uninstall:
+	rm -rf $(DESTDIR)$(PREFIX)/bin/ripaudit $(SHARE)/man/man1/ripaudit.1 $(SHARE)/ripaudit $(DOC)
+	cd $(SHARE) && rm -f bash-completion/completions/ripaudit zsh/site-functions/_ripaudit fish/vendor_completions.d/ripaudit.fish
+
+deb: $(PROGRAM)
+	sh packaging/deb $(PROGRAM)
 
 clean:
 	rm -rf out crates/*/out
