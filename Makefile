@@ -21,6 +21,7 @@ test:
 	rt ci
 	sh tests/run $(PROGRAM)
 	sh tests/limits $(PROGRAM)
+	sh tests/pages $(PROGRAM)
 	sh tests/growths
 	sh tests/completions
 
