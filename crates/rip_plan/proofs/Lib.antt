@@ -32,3 +32,4 @@ pub mod LinkFaults
 pub mod RouterFaults
 pub mod PassFaults
 pub mod TextFaults
+pub mod WellFormedTexts

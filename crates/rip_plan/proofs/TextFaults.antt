@@ -71,8 +71,50 @@ kind bytes codes.Key Text h = of_document h.0 h.1
 kind bytes codes.Limit Text h = long refl
 kind bytes c place h = of_document h.0 h.3.text
 
-same_document : (bytes : List ℕ) (document other : Members) → document_of bytes ≡ Some document → IsText bytes other → other ≡ document
+-- ---- the version
+
+pub version_is : (o : Option Data) → is_version o ≡ true → o ≡ Some (integer (pos 1))
+version_is None h = absurd cc
+version_is (Some (integer (pos n))) h = let one : n ≡ 1 = grind (arith, nat_tests) in ap (λ (m : ℕ). Some (integer (pos m))) one
+version_is (Some (integer (negsuc n))) h = absurd cc
+version_is (Some (string t)) h = absurd cc
+version_is (Some (table ms)) h = absurd cc
+version_is (Some (float x)) h = absurd cc
+version_is (Some (boolean b)) h = absurd cc
+version_is (Some (datetime t)) h = absurd cc
+version_is (Some (array ds)) h = absurd cc
+
+pub version_told : (o : Option Data) → not (is_version o) ≡ true → o ≢ Some (integer (pos 1))
+version_told o h same = by_test (is_version o) (ap is_version same) h
+  where
+    by_test : (b : Bool) → b ≡ true → not b ≡ true → ⊥
+    by_test true e f = cc
+    by_test false e f = cc
+
+pub not_false : (b : Bool) → not b ≡ false → b ≡ true
+not_false true e = refl
+not_false false e = absurd cc
+
+-- ---- all faults of a document
+
+pub same_document : (bytes : List ℕ) (document other : Members) → document_of bytes ≡ Some document → IsText bytes other → other ≡ document
 same_document bytes document other h text = same_Some other document (sym text.reads ∙ h)
+
+-- bytes have one document, with one list of links and one of routers
+module _ (bytes : List ℕ) (document : Members) (links routers : List Data) (has : HasTables bytes document links routers) where
+  pub one_tables : (other : Members) (ls rs : List Data) → HasTables bytes other ls rs → (other ≡ document) × (ls ≡ links) × (rs ≡ routers)
+  one_tables other ls rs h =
+      let same = same_document bytes document other has.text.reads h.text in
+      let its_links : HasItems (codes_of "link") (table document) ls = subst (λ (m : Members). HasItems (codes_of "link") (table m) ls) same h.has_links in
+      let its_routers : HasItems (codes_of "router") (table document) rs = subst (λ (m : Members). HasItems (codes_of "router") (table m) rs) same h.has_routers in
+      (same, items_same (codes_of "link") (table document) ls links its_links has.has_links, items_same (codes_of "router") (table document) rs routers its_routers has.has_routers)
+
+  pub one_fault : (c : PlanCode) (place : At) (other : Members) (ls rs : List Data) → HasTables bytes other ls rs → TableFault other ls rs c place → TableFault document links routers c place
+  one_fault c place other ls rs h f =
+      let (one, two, three) = one_tables other ls rs h in
+      subst (λ (l : List Data). TableFault document links l c place) three
+      (subst (λ (l : List Data). TableFault document l rs c place) two
+      (subst (λ (m : Members). TableFault m ls rs c place) one f))
 
 module _ (laws : NameLaws) (bytes : List ℕ) (document : Members) (short : length bytes ≤ 1048576) (reads : document_of bytes ≡ Some document) where
   text : IsText bytes document
@@ -83,27 +125,13 @@ module _ (laws : NameLaws) (bytes : List ℕ) (document : Members) (short : leng
     tables : HasTables bytes document links routers
     tables = let r = root_table document links routers root in record { text = text; has_links = r.has_links; has_routers = r.has_routers }
 
-    only_links : (other : Members) (ls rs : List Data) → HasTables bytes other ls rs → (other ≡ document) × (ls ≡ links) × (rs ≡ routers)
-    only_links other ls rs h =
-        let same = same_document bytes document other reads h.text in
-        let its_links : HasItems (codes_of "link") (table document) ls = subst (λ (m : Members). HasItems (codes_of "link") (table m) ls) same h.has_links in
-        let its_routers : HasItems (codes_of "router") (table document) rs = subst (λ (m : Members). HasItems (codes_of "router") (table m) rs) same h.has_routers in
-        (same, items_same (codes_of "link") (table document) ls links its_links tables.has_links, items_same (codes_of "router") (table document) rs routers its_routers tables.has_routers)
-
-    only : (c : PlanCode) (place : At) (other : Members) (ls rs : List Data) → HasTables bytes other ls rs → TableFault other ls rs c place → TableFault document links routers c place
-    only c place other ls rs h f =
-        let (one, two, three) = only_links other ls rs h in
-        subst (λ (l : List Data). TableFault document links l c place) three
-        (subst (λ (l : List Data). TableFault document l rs c place) two
-        (subst (λ (m : Members). TableFault m ls rs c place) one f))
-
     -- a fault is one of the text as a whole, or of the tables
     split_fault : (c : PlanCode) (place : At) → FaultAt bytes c place → Before (rank (fault c place)) (0 ∷ 1 ∷ 1 ∷ []) ⊎ TableFault document links routers c place
     split_fault codes.Syntax Text h = inl (inr (refl, inl (omega arith)))
     split_fault codes.Version Version h = inl (inr (refl, inl (omega arith)))
     split_fault codes.Key Text h = inl (inr (refl, inl (omega arith)))
     split_fault codes.Limit Text h = inl (inr (refl, inl (omega arith)))
-    split_fault c place h = inr (only c place h.0 h.1 h.2 h.3 h.4)
+    split_fault c place h = inr (one_fault bytes document links routers tables c place h.0 h.1 h.2 h.3 h.4)
 
     -- a fault of the tables is a fault of the bytes
     whole_fault : (c : PlanCode) (place : At) → TableFault document links routers c place → FaultAt bytes c place
@@ -121,28 +149,6 @@ module _ (laws : NameLaws) (bytes : List ℕ) (document : Members) (short : leng
 
   abbrev from_version : Rows
   from_version = row_then (fault codes.Version Version) from_key (inr (refl, inr (refl, inr (refl, inr (refl, inr (refl, inl (omega arith)))))))
-
-  version_is : (o : Option Data) → is_version o ≡ true → o ≡ Some (integer (pos 1))
-  version_is None h = absurd cc
-  version_is (Some (integer (pos n))) h = let one : n ≡ 1 = grind (arith, nat_tests) in ap (λ (m : ℕ). Some (integer (pos m))) one
-  version_is (Some (integer (negsuc n))) h = absurd cc
-  version_is (Some (string t)) h = absurd cc
-  version_is (Some (table ms)) h = absurd cc
-  version_is (Some (float x)) h = absurd cc
-  version_is (Some (boolean b)) h = absurd cc
-  version_is (Some (datetime t)) h = absurd cc
-  version_is (Some (array ds)) h = absurd cc
-
-  version_told : (o : Option Data) → not (is_version o) ≡ true → o ≢ Some (integer (pos 1))
-  version_told o h same = by_test (is_version o) (ap is_version same) h
-    where
-      by_test : (b : Bool) → b ≡ true → not b ≡ true → ⊥
-      by_test true e f = cc
-      by_test false e f = cc
-
-  not_false : (b : Bool) → not b ≡ false → b ≡ true
-  not_false true e = refl
-  not_false false e = absurd cc
 
   over_told : (links routers : List Data) → (nat_lt 512 (length links) || nat_lt 128 (length routers)) ≡ true → (512 < length links) ⊎ (128 < length routers)
   over_told links routers h = by_test (nat_lt 512 (length links)) refl h
@@ -180,7 +186,7 @@ module _ (laws : NameLaws) (bytes : List ℕ) (document : Members) (short : leng
       limit_clear : (links routers : List Data) → root_fields document ≡ Some (links, routers) → (nat_lt 512 (length links) || nat_lt 128 (length routers)) ≡ false → FaultAt bytes codes.Limit Text → ⊥
       limit_clear links routers is room (inl more) = let past : 1048576 < length bytes = more in omega arith
       limit_clear links routers is room (inr (other, ls, rs, has, over)) =
-          let (one, two, three) = only_links links routers is other ls rs has in
+          let (one, two, three) = one_tables bytes document links routers (tables links routers is) other ls rs has in
           over_clear links routers room (subst (λ (l : List Data). (512 < length links) ⊎ (128 < length l)) three (subst (λ (l : List Data). (512 < length l) ⊎ (128 < length rs)) two over))
 
       by_fault : (links routers : List Data) (o : PlanError) → table_rows.has o → Before (rank o) (0 ∷ 1 ∷ 1 ∷ []) ⊎ IsTold document links routers o → IsTold document links routers o × table_rows.has o

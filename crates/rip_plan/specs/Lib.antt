@@ -14,3 +14,4 @@ pub mod Rows
 pub mod Indexed
 pub mod PlanOf
 pub mod PlanFaults
+pub mod WellFormed

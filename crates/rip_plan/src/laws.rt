@@ -8,6 +8,7 @@ ghost use Rattle.rip_plan.specs.Answers.{first_fault};
 ghost use Rattle.rip_plan.specs.PlanFaults.{IsFault, PlanFault};
 ghost use Rattle.rip_plan.specs.PlanOf.{IsPlanOfText, PlanOf};
 ghost use Rattle.rip_plan.specs.Relations.{IsLawful};
+ghost use Rattle.rip_plan.specs.WellFormed.{IsWellFormed};
 ghost use Rattle.rip_plan.specs.declared.error.PlanError.{PlanError};
 
 use crate::limits::{
@@ -42,4 +43,13 @@ pub fn first_faults()
     rip_wire::laws::names();
     rip_wire::laws::address_texts();
     rip_wire::laws::prefix_texts();
+}
+
+/// Bytes have no fault exactly where they are well formed: a document of version 1 with the known keys,
+/// not too long, whose plan keeps the laws.
+pub fn well_formed_texts()
+    ensures { (bytes : List ℕ) →
+        ((e : PlanError) → IsFault bytes e → ⊥) ↔ IsWellFormed bytes }
+{
+    first_faults();
 }
