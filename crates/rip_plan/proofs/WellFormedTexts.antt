@@ -132,9 +132,6 @@ again_not names ds named differ (suc i) (d, earlier, suc k, name, at, its, less,
 -- ---- a plan that keeps the laws
 
 module _ (document : Members) (n : Network) (plan : PlanOf document n) (lawful : IsLawful n) where
-  placements : List Placement
-  placements = plan.on_links ++ plan.owned
-
   places_count : length n.places ≡ length (place_spots plan.links plan.routers)
   places_count =
       omega (
