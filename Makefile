@@ -35,6 +35,7 @@ install: $(PROGRAM)
 	install -D -m 644 completions/ripaudit.fish $(SHARE)/fish/vendor_completions.d/ripaudit.fish
 	install -d $(DOC)
 	install -m 644 README.md docs/OPERATING.md docs/CODES.md $(DOC)
+	rm -rf $(DOC)/examples
 	cp -R examples $(DOC)
 	rm $(DOC)/examples/demo
 	chmod -R u=rwX,go=rX $(DOC)/examples
