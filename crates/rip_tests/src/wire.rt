@@ -190,16 +190,23 @@ fn adds_costs(rt: HostRuntime) {
     }
 }
 
+/// Expects that a text is a name, or that it is none.
+fn expect_name(rt: &impl Abort, text: &[u8], is: bool) {
+    assert_eq!(rt; is_name(text), is);
+}
+
 #[test]
 fn tells_names(rt: HostRuntime) {
     let long = [b'x'; 33];
-    assert!(rt; is_name(&long[..1]) && is_name(&long[..32]));
-    assert!(rt; !is_name(&long) && !is_name(&long[..0]));
-    assert!(rt; is_name(b"Core-1_a.Z09"));
+    expect_name(&rt, &long[..1], true);
+    expect_name(&rt, &long[..32], true);
+    expect_name(&rt, &long, false);
+    expect_name(&rt, &long[..0], false);
+    expect_name(&rt, b"Core-1_a.Z09", true);
     for byte in [
         0, b' ', b'/', b':', b'@', b'[', b'`', b'{', b'"', 0x7F, 0x80, 0xFF,
     ] {
-        assert!(rt; !is_name(&[b'a', byte, b'b']), "{byte}");
+        expect_name(&rt, &[b'a', byte, b'b'], false);
     }
 }
 
@@ -245,17 +252,20 @@ fn reads_what_was_written(rt: HostRuntime) {
     assert!(rt; datagram.entries(&mut [Entry::FILLER; 25]) == &entries[..]);
 }
 
+/// Expects that the bytes are a request of so many entries.
+fn expect_request(rt: &impl Abort, bytes: &[u8], count: usize) {
+    let datagram = read(bytes).expect(rt, "a request");
+    assert!(rt; datagram.kind() == Kind::Request);
+    assert_eq!(rt; datagram.len(), count);
+    assert_eq!(rt; Some(datagram.body()), bytes.get(4..));
+}
+
 #[test]
 fn reads_requests(rt: HostRuntime) {
     let mut bytes = [0xA5; 24];
     bytes[..4].copy_from_slice(&[1, 2, 0, 0]);
-    let datagram = read(&bytes).expect(&rt, "a request");
-    assert!(rt; datagram.kind() == Kind::Request);
-    assert_eq!(rt; datagram.len(), 1);
-    assert!(rt; datagram.body() == &[0xA5; 20][..]);
-    let empty = read(&bytes[..4]).expect(&rt, "a request");
-    assert_eq!(rt; empty.len(), 0);
-    assert!(rt; empty.body().is_empty());
+    expect_request(&rt, &bytes, 1);
+    expect_request(&rt, &bytes[..4], 0);
 }
 
 /// Expects that the bytes are a response of this entry.

@@ -18,16 +18,23 @@ use std::{env, fs, io};
 /// The most bytes of a plan's file that are read: one more than a plan may have.
 const MOST_FILE_BYTES: u64 = MOST_PLAN_BYTES as u64 + 1;
 
+/// The word of a file.
+fn file_word<'a>(alloc: Global, name: &'a str, help: &'a str) -> Arg<'a> {
+    Arg::new(alloc, name).help(help)
+}
+
 /// The word of a plan's file.
 fn plan_word<'a>(alloc: Global) -> Arg<'a> {
-    Arg::new(alloc, "PLAN")
-        .required(true)
-        .help("The file of the plan, a TOML document")
+    file_word(alloc, "PLAN", "The file of the plan, a TOML document").required(true)
 }
 
 /// The word of a log's file.
 fn log_word<'a>(alloc: Global) -> Arg<'a> {
-    Arg::new(alloc, "LOG").help("The file of the log; standard input where it is left out")
+    file_word(
+        alloc,
+        "LOG",
+        "The file of the log; standard input where it is left out",
+    )
 }
 
 /// A command that reads a plan and a log, with its words and its help.

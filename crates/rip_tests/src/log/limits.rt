@@ -4,29 +4,33 @@ use super::{expect_outcome, reader_of};
 use crate::devices::{Endless, Pieces};
 use crate::examples::SETTLED;
 use rip_log::{FromRead, LogCode, LogError, LogReader};
+use std::alloc::{AllocError, Global};
 use std::test::Fail;
+
+/// The settled log after a comment of so many bytes and this end.
+fn after_comment(alloc: Global, size: usize, end: &str) -> Result<Vec<u8>, AllocError> {
+    let mut log = Vec::new(alloc);
+    log.push(b'#')?;
+    log.resize(size, b'x')?;
+    log.extend_from_slice(end.as_bytes())?;
+    log.extend_from_slice(SETTLED.as_bytes())?;
+    Ok(log)
+}
 
 #[test]
 fn the_longest_line(rt: HostRuntime) -> Result<(), Fail> {
-    let alloc = rt.alloc();
-    for (x, end, fits) in [
-        (2047, "\n", true),
-        (2046, "\r\n", true),
-        (2048, "\n", false),
-        (2047, "\r\n", false),
+    let long = LogError {
+        code: LogCode::LongLine,
+        line: 1,
+    };
+    for (size, end, records, fault) in [
+        (2048, "\n", 6, None),
+        (2047, "\r\n", 6, None),
+        (2049, "\n", 0, Some(long)),
+        (2048, "\r\n", 0, Some(long)),
     ] {
-        let mut log = Vec::new(alloc);
-        log.push(b'#')?;
-        log.resize(1 + x, b'x')?;
-        log.extend_from_slice(end.as_bytes())?;
-        log.extend_from_slice(SETTLED.as_bytes())?;
-        let (records, fault) = if fits {
-            (6, None)
-        } else {
-            let code = LogCode::LongLine;
-            (0, Some(LogError { code, line: 1 }))
-        };
-        let mut reader = reader_of(&rt, alloc, Pieces::new(log.as_slice(), 2049));
+        let log = after_comment(rt.alloc(), size, end)?;
+        let mut reader = reader_of(&rt, rt.alloc(), Pieces::new(log.as_slice(), 2049));
         expect_outcome(&rt, &mut reader, records, fault);
     }
     Ok(())
