@@ -24,7 +24,7 @@ one_seat n k p s t a b =
     the_same e = cc e
 
 -- a search below a bound
-find_below : (P : ℕ → Type 0) → ((k : ℕ) → P k ⊎ (P k → ⊥)) → (bound : ℕ) → ((k : ℕ) × (k < bound) × P k) ⊎ ((k : ℕ) → k < bound → P k → ⊥)
+pub find_below : (P : ℕ → Type 0) → ((k : ℕ) → P k ⊎ (P k → ⊥)) → (bound : ℕ) → ((k : ℕ) × (k < bound) × P k) ⊎ ((k : ℕ) → k < bound → P k → ⊥)
 find_below P test zero = inr (λ k lt h. absurd (omega arith))
 find_below P test (suc b) = go (test b) (find_below P test b)
   where

@@ -1,14 +1,17 @@
 //! Laws of settled tables: functions that do nothing, whose contracts hold of every plan and every
 //! table.
 
-ghost use Rattle.std.specs.Prelude.{ℕ, ◌↔◌};
+ghost use Rattle.std.specs.Prelude.{ℕ, ◌↔◌, ◌<◌, length};
 ghost use Rattle.rip_plan.specs.Network.{Network};
 ghost use Rattle.rip_plan.specs.Relations.{Carries, IsLawful};
 ghost use Rattle.rip_table.specs.State.{State};
 ghost use Rattle.rip_check.specs.Expected.{IsExpected};
+ghost use Rattle.rip_check.specs.Firsts.{IsReadable, IsReason, ShowsTwoWays};
 ghost use Rattle.rip_check.specs.Laws.{Case, EachIsExpected, EachPlaceHolds, GiversAreNear, HasRightTables, IsSettled, MetricsAreReached, NoPathIsCheaper, OneIsShown, OneRouteFits, PoisonHidesNothing, ShowsRightTables, SilenceIsShared, WalksFall};
+ghost use Rattle.rip_check.specs.Metrics.{IsInRange};
 ghost use Rattle.rip_check.specs.Paths.{HasPathOver, IsLeast};
 ghost use Rattle.rip_check.specs.Walks.{EachCanGoOn, EachEndsThere, EachIsShort};
+ghost use Rattle.rip_check.specs.declared.verdict.Unclear.TheVariants.{TwoWays};
 ghost use Rattle.rip_check.specs.declared.way.Way.{Way};
 
 pub mod examples;
@@ -83,4 +86,11 @@ pub fn no_way_back()
 pub fn some_route()
     ensures { (n : Network) (r p m : ℕ) → IsLawful n → IsLeast n p r m →
         (way : Way) × IsExpected n r p (record { metric = m; way = way }) }
+{}
+
+/// Where `two ways` is the reason why no route can be read, the router shows 16 on two of its interfaces.
+pub fn two_ways()
+    ensures { (n : Network) (shown : State) (r p : ℕ) → IsLawful n → IsInRange n shown →
+        r < length n.routers → IsReason n shown r p (TwoWays r p) →
+        (IsReadable n shown r p → ⊥) → ShowsTwoWays n shown r p }
 {}
