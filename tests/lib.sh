@@ -1,5 +1,6 @@
 # What the scripts of tests/ share: the program, a folder for what a run writes, and how a run is judged. A script gives its
-# own words to `begin` first, and `end` is its last line: `N passed, M failed`.
+# own words to `begin` first, and `end` is its last line: `N passed, M failed`. A run that tried nothing
+# fails.
 
 begin() {
     here=$(cd "$(dirname "$0")/.." && pwd)
@@ -18,7 +19,7 @@ begin() {
 
 end() {
     echo "$passed passed, $failed failed"
-    [ "$failed" = 0 ]
+    [ "$failed" = 0 ] && [ "$passed" != 0 ]
 }
 
 pass() {

@@ -76,7 +76,7 @@ pub record Moves {R A : Type 0} (coming : R → Option (List ℕ)) (broken at_en
       PassesLines (text coming old) (lines_behind old) (text coming new) (lines_behind new)
   pub here : IfErr result (λ e. e.line ≡ lines_behind new + 1)
   pub stopped : has_stopped new ≡ is_err result
-  -- past its end the source is not pulled
+  -- past its end the source stays as it is
   pub unpulled : at_end (source_of old) ≡ true → source_of new ≡ source_of old
 
 -- what a call of `next` answers, seen by view and number, and leaves
@@ -87,7 +87,8 @@ pub record Leaves {R X : Type 0} (coming : R → Option (List ℕ)) (broken at_e
   pub gives : has_stopped old ≡ false →
       Gives view number (log_to_come coming old) (log_to_come coming new) result
   pub moves : Moves coming broken at_end old new result
-  -- after an error there is none but Ended, at the same line, and the source is not pulled
+  -- after an error there is none but Ended, at the same line, and the source stays as it
+  -- is
   pub ended : has_stopped old ≡ true →
       (result ≡ Err (record { code = Ended; line = lines_behind old + 1 }))
       × (lines_behind new ≡ lines_behind old)
@@ -100,8 +101,8 @@ pub record Leaves {R X : Type 0} (coming : R → Option (List ℕ)) (broken at_e
   pub onward : IfOk result (λ found. IfSome found (λ x.
       (lines_behind old + 1 ≤ lines_behind new) × (number x ≡ lines_behind new)))
   pub few : lines_behind new ≤ MOST_LINES
-  -- where each line that the call asked for was ready nothing is pulled, and the lines after them
-  -- are ready still
+  -- where each line that the call asked for was ready the source stays as it is, and the lines
+  -- after them are ready still
   pub ready : line_asked number new result ≤ last_ready old → source_of new ≡ source_of old
   pub still_ready : line_asked number new result ≤ last_ready old →
       OnOk result (last_ready new ≡ last_ready old)

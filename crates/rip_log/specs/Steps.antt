@@ -61,7 +61,7 @@ TakesOne old new (Ok (Found found)) = last_ready new ≡ last_ready old
 TakesOne old new (Ok End) = ⊥
 TakesOne old new (Err e) = Unit {0}
 
--- how a step moves on, and that it pulls nothing where a line is ready
+-- how a step moves on, and that it leaves the source as it is where a line is ready
 pub record StepsOn {R : Type 0} (old new : LogReader R) (result : Result Step LogError) : Type 0 where
   pub behind : lines_behind new ≡ lines_behind old + lines_taken result
   pub unpulled : 0 < ready_lines (held old.window) → source_of new ≡ source_of old

@@ -220,8 +220,8 @@ impl<R: Source> LogReader<R> {
 
     /// The next record, which borrows the reader's buffers, or None at the end of the text. It takes
     /// no memory. An error is the fault of the first bad line, or Read where the source failed while a
-    /// line was read; after an error each call answers Ended at the same line. It pulls nothing for a
-    /// line that it holds whole, or of which it holds more bytes than a line may have.
+    /// line was read; after an error each call answers Ended at the same line. It pulls nothing where it
+    /// holds each line that it comes to: whole, or more bytes of it than a line may have.
     pub fn next(&mut self) -> Result<Option<Record<'_>>, LogError>
         ensures* leaves { sem 𝓛 (Rests (the_row R.row) self.entry
             (λ new. Leaves R.coming R.broken R.at_end capture_of line_of self.old new result)) }

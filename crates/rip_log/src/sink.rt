@@ -7,7 +7,8 @@ ghost use Rattle.std.specs.Io.KnownBytes.{WriteAppends};
 use crate::device::Failed;
 use std::io::Write;
 
-/// A device that takes bytes. Once it has failed it takes no more.
+/// A device that takes bytes. Once it has failed it takes no more, and what lies beneath it is left
+/// alone.
 pub trait Sink {
     // The bytes that it has taken, where they are told.
     ghost taken: { Self → Option (List ℕ) };
@@ -25,7 +26,10 @@ pub trait Sink {
 
         // An error comes exactly where the device has failed, then or before.
         ensures failed { is_err result ≡ broken self.new }
-        ensures fails_on { broken self.old ≡ true → broken self.new ≡ true };
+        ensures fails_on { broken self.old ≡ true → broken self.new ≡ true }
+
+        // Once it has failed, a push changes nothing.
+        ensures rests_failed { broken self.old ≡ true → self.new ≡ self.old };
 
     /// Whether the device has failed.
     fn failed(&self) -> bool

@@ -137,7 +137,8 @@ impl<R: Source> Window<R> {
         ensures ok { OnOk result (R.broken self.new.source ≡ R.broken self.old.source) }
         ensures err { OnErr result (R.broken self.new.source ≡ true) }
         ensures unpulled { R.at_end self.old.source ≡ true → self.new.source ≡ self.old.source }
-        ensures unchanged { 0 < length (held self.old) → (result ≡ Ok true) × (self.new ≡ self.old) }
+        ensures unchanged { 0 < length (held self.old) →
+            (result ≡ Ok true) × (self.new ≡ self.old) }
     {
         if self.start < self.end {
             return Ok(true);

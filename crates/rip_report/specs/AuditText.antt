@@ -81,9 +81,17 @@ unfoldable pub unsettled_line : Network → State → Place2 → List ℕ
 unsettled_line n s f =
     line (codes "unsettled: " ++ place_part n s f.router f.prefix ++ failure_part n f)
 
--- `router r1 link a`, by their numbers
+-- `router r1 link a: `, by their numbers
 abbrev pub interface_part : Network → ℕ → ℕ → List ℕ
-interface_part n r l = codes "router " ++ name_of n.routers r ++ codes " link " ++ name_of n.links l
+interface_part n r l =
+    codes "router " ++ name_of n.routers r ++ codes " link " ++ name_of n.links l ++ codes ": "
+
+-- what a trouble is about: an interface, or a place
+abbrev pub subject_part : Network → State → Unclear → List ℕ
+subject_part n s (NotHeard r l) = interface_part n r l
+subject_part n s (TwoMetrics r p) = place_part n s r p
+subject_part n s (Missing r p l) = place_part n s r p
+subject_part n s (TwoWays r p) = place_part n s r p
 
 -- why no route can be read
 abbrev pub reason_part : Network → Unclear → List ℕ
@@ -94,10 +102,7 @@ reason_part n (TwoWays r p) = codes "two ways"
 
 -- `router r1 link a: not heard`, or a place and why its route can't be read
 abbrev pub trouble_part : Network → State → Unclear → List ℕ
-trouble_part n s (NotHeard r l) = interface_part n r l ++ codes ": not heard"
-trouble_part n s (TwoMetrics r p) = place_part n s r p ++ codes "two metrics"
-trouble_part n s (Missing r p l) = place_part n s r p ++ codes "missing on " ++ name_of n.links l
-trouble_part n s (TwoWays r p) = place_part n s r p ++ codes "two ways"
+trouble_part n s trouble = subject_part n s trouble ++ reason_part n trouble
 
 -- the link of a reason is one of the plan
 abbrev pub IsKnownReason : Network → Unclear → Type 0

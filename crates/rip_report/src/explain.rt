@@ -253,8 +253,9 @@ pub fn run_explain<R: Source, K: Sink, S: BuildHasher + Drop>(
         (ReportText (λ n s. ExplainText n s all) plan.now (R.coming log)) }
     // What is printed of a table comes only at the source's end, and Read only where it has failed.
     ensures reads { Reads R.broken R.at_end log result.0 result.1 }
-    // The source of a refused plan is as it was.
-    ensures untouched { (e : PlanError) → first_fault plan.now ≡ Some e → result.0 ≡ log }
+    // The source of a refused plan is as it was, and its failure is not told.
+    ensures untouched { (e : PlanError) → first_fault plan.now ≡ Some e →
+        (result.0 ≡ log) × (result.1 ≢ Err RunError.Read) }
     // Bytes that are no text of a plan are refused without memory.
     ensures no_text { IsNoText plan.now → result.1 ≢ Err RunError.Memory }
 {

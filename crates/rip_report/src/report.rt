@@ -103,8 +103,9 @@ pub(crate) fn run_report<C: Report, R: Source, K: Sink, S: BuildHasher + Drop>(
         IfOk result.1 (WentOut (C.is_text command.now n s) (K.taken out.old) (K.taken out.new)) }
     ensures meaning { (n : Network) (s : State) → IsAccepted plan.now (R.coming log) n s →
         IfOk result.1 (C.means command.now n s) }
-    // The source of a refused plan is as it was.
-    ensures untouched { (e : PlanError) → first_fault plan.now ≡ Some e → result.0 ≡ log }
+    // The source of a refused plan is as it was, and its failure is not told.
+    ensures untouched { (e : PlanError) → first_fault plan.now ≡ Some e →
+        (result.0 ≡ log) × (result.1 ≢ Err RunError.Read) }
     // Bytes that are no text of a plan are refused without memory.
     ensures no_text { IsNoText plan.now → result.1 ≢ Err RunError.Memory }
 {

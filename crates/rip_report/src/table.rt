@@ -245,8 +245,9 @@ pub fn run_table<R: Source, K: Sink, S: BuildHasher + Drop>(
     ensures told { (n : Network) (s : State) → IsAccepted plan.now (R.coming log) n s →
         IfOk result.1
         (WentOut (λ w. w ≡ shown_table n s) (K.taken out.old) (K.taken out.new)) }
-    // The source of a refused plan is as it was.
-    ensures untouched { (e : PlanError) → first_fault plan.now ≡ Some e → result.0 ≡ log }
+    // The source of a refused plan is as it was, and its failure is not told.
+    ensures untouched { (e : PlanError) → first_fault plan.now ≡ Some e →
+        (result.0 ≡ log) × (result.1 ≢ Err RunError.Read) }
     // Bytes that are no text of a plan are refused without memory.
     ensures no_text { IsNoText plan.now → result.1 ≢ Err RunError.Memory }
 {

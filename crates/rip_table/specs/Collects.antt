@@ -1,5 +1,5 @@
 -- What `collect` answers and leaves.
-use Rattle.std.specs.Prelude.{◌≡◌, ℕ, ◌+◌, Bool, true, false, List, ◌∷◌, ◌++◌, Option, Some, None, is_ok, Result, Ok, Err, IfErr}
+use Rattle.std.specs.Prelude.{◌≡◌, ◌<◌, ℕ, ◌+◌, Bool, true, false, List, ◌∷◌, ◌++◌, Option, Some, None, is_ok, Result, Ok, Err, IfErr}
 use Rattle.rip_plan.specs.Network.{Network}
 use Rattle.rip_log.specs.Codes.{is_read}
 use Rattle.rip_log.specs.Leaves.{IsOver, has_stopped, lines_behind, log_to_come, source_of}
@@ -122,8 +122,10 @@ pub record Collects {R : Type 0} (coming : R → Option (List ℕ)) (broken at_e
   -- a record that is not joined is taken from the reader, and no other
   pub behind : has_stopped before ≡ false → IfErr result (λ e. is_log_cause e.cause ≡ false →
       StandsBehindKnown (log_to_come coming before) e.line (log_to_come coming after))
-  -- Memory only at a record that brings a pair, whether bytes are told or not
-  pub wanted : IfErr result (λ e. is_memory e.cause ≡ true → (c : Capture) × WantsFor n new c)
+  -- Memory only behind a further line, and only where a record can bring a pair, whether bytes are
+  -- told or not; where they are, it is the record of that line
+  pub wanted : IfErr result (λ e. is_memory e.cause ≡ true →
+      (lines_behind before < lines_behind after) × ((c : Capture) × WantsFor n new c))
   -- an Ok only where the source has come to its end and nothing is held, Read only where it has
   -- failed
   pub over : is_ok result ≡ true → IsOver at_end after

@@ -62,6 +62,32 @@ const TWO_METRICS: &str =
     "a 10.1.0.1 02020000000200000a030000ffff00000000000000000001000200000a020000ffff00000000000000000003
 ";
 
+/// The second router has a prefix behind it, and the first reaches it over a and over d.
+const TWO_EXITS: &str = r#"version = 1
+link = [{ name = "a", prefixes = [] }, { name = "c", prefixes = [] }, { name = "d", prefixes = [] }]
+
+[[router]]
+name = "r1"
+interface = [
+    { link = "a", address = "10.1.0.1" },
+    { link = "c", address = "10.3.0.1" },
+    { link = "d", address = "10.4.0.1" },
+]
+
+[[router]]
+name = "r2"
+interface = [{ link = "a", address = "10.1.0.2" }, { link = "d", address = "10.4.0.2" }]
+own = [{ prefix = "10.2.0.0/16" }]
+"#;
+
+/// The first router shows 16 on both links to the second.
+const TWO_WAYS: &str = "a 10.1.0.1 02020000000200000a020000ffff00000000000000000010
+c 10.3.0.1 02020000000200000a020000ffff00000000000000000002
+d 10.4.0.1 02020000000200000a020000ffff00000000000000000010
+a 10.1.0.2 02020000000200000a020000ffff00000000000000000001
+d 10.4.0.2 02020000000200000a020000ffff00000000000000000001
+";
+
 /// The text of two parts.
 fn joined(alloc: Global, front: &str, back: &str) -> Result<String, AllocError> {
     format!(in alloc; "{front}{back}")
@@ -102,7 +128,8 @@ pub(crate) fn list_of(rt: &impl Abort, alloc: Global, plan: &Plan, log: &str) ->
 
 /// The grid of a log.
 fn grid_of(rt: &impl Abort, alloc: Global, plan: &Plan, log: &str) -> Grid
-    ensures { Fits plan.now (⟦<GridTable<BuildHasherDefault<FoldHasher>> as MetricTable>⟧.state result) }
+    ensures { Fits plan.now
+        (⟦<GridTable<BuildHasherDefault<FoldHasher>> as MetricTable>⟧.state result) }
 {
     let Ok(mut table) = new_grid(alloc, plan) else {
         panic!(rt; "no table");
@@ -396,6 +423,21 @@ fn what_is_unclear(rt: HostRuntime) {
     ] {
         expect(&rt, alloc, (&plan, log), &Verdict::Unclear(trouble));
     }
+}
+
+#[test]
+fn two_ways(rt: HostRuntime) {
+    let plan = plan_of(&rt, rt.alloc(), TWO_EXITS);
+    let trouble = Unclear::TwoWays {
+        router: 0,
+        prefix: 0,
+    };
+    expect(
+        &rt,
+        rt.alloc(),
+        (&plan, TWO_WAYS),
+        &Verdict::Unclear(trouble),
+    );
 }
 
 #[test]

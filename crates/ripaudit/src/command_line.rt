@@ -8,7 +8,7 @@ use rip_report::{
     RunError, Status, exit_code, fault_line, run_audit, run_decode, run_expect, run_explain,
     run_plan, run_routes, run_table,
 };
-use std::alloc::Global;
+use std::alloc::{AllocError, Global};
 use std::collections::hash_map::RandomState;
 use std::io::{IsTerminal, Read};
 use std::random::RandomSource;
@@ -18,32 +18,24 @@ use std::{env, fs, io};
 /// The most bytes of a plan's file that are read: one more than a plan may have.
 const MOST_FILE_BYTES: u64 = MOST_PLAN_BYTES as u64 + 1;
 
-/// The word of a file.
-fn file_word<'a>(alloc: Global, name: &'a str, help: &'a str) -> Arg<'a> {
-    Arg::new(alloc, name).help(help)
+/// A word that stands in its place.
+fn word<'a>(alloc: Global, name: &'a str, help: &'a str, is_required: bool) -> Arg<'a> {
+    Arg::new(alloc, name).help(help).required(is_required)
 }
 
 /// The word of a plan's file.
 fn plan_word<'a>(alloc: Global) -> Arg<'a> {
-    file_word(alloc, "PLAN", "The file of the plan, a TOML document").required(true)
+    word(alloc, "PLAN", "The file of the plan, a TOML document", true)
 }
 
 /// The word of a log's file.
 fn log_word<'a>(alloc: Global) -> Arg<'a> {
-    file_word(
+    word(
         alloc,
         "LOG",
         "The file of the log; standard input where it is left out",
+        false,
     )
-}
-
-/// A command that reads a plan and a log, with its words and its help.
-fn log_command<'a>(alloc: Global, name: &'a str, about: &'a str) -> Result<Command<'a>, Error> {
-    let command = Command::new(alloc, name)
-        .about(about)
-        .arg(plan_word(alloc))?
-        .arg(log_word(alloc))?;
-    Ok(command)
 }
 
 /// The word `--all`.
@@ -54,63 +46,73 @@ fn all_word<'a>(alloc: Global, help: &'a str) -> Arg<'a> {
         .help(help)
 }
 
-/// The commands that read a plan and a log, the first of which is the verdict.
-fn log_commands<'a>(alloc: Global, ripaudit: Command<'a>) -> Result<Command<'a>, Error> {
-    let audit = log_command(
-        alloc,
-        "audit",
-        "Tells whether the routes that a log shows are right",
-    )?
-    .arg(all_word(
-        alloc,
-        "Name each place that does not hold, not only the first",
-    ))?;
-    let explain = log_command(
-        alloc,
-        "explain",
-        "Tells the verdict of audit, and what it comes from",
-    )?
-    .arg(all_word(
-        alloc,
-        "Tell of each place that does not hold, not only of the first",
-    ))?;
-    let routes = log_command(alloc, "routes", "Prints the routes that a log shows")?;
-    let table = log_command(
-        alloc,
-        "table",
-        "Prints what each interface of a plan shows in a log",
-    )?;
-    let ripaudit = ripaudit
-        .subcommand(audit)?
-        .subcommand(explain)?
-        .subcommand(routes)?
-        .subcommand(table)?;
-    Ok(ripaudit)
+/// A command that reads a plan.
+fn plan_command<'a>(
+    alloc: Global,
+    name: &'a str,
+    about: &'a str,
+) -> Result<Command<'a>, AllocError> {
+    Command::new(alloc, name).about(about).arg(plan_word(alloc))
+}
+
+/// A command that reads a plan and a log.
+fn log_command<'a>(
+    alloc: Global,
+    name: &'a str,
+    about: &'a str,
+) -> Result<Command<'a>, AllocError> {
+    plan_command(alloc, name, about)?.arg(log_word(alloc))
+}
+
+/// A command that reads a plan and a log, and tells of all places where `--all` is given.
+fn all_command<'a>(
+    alloc: Global,
+    name: &'a str,
+    about: &'a str,
+    all: &'a str,
+) -> Result<Command<'a>, AllocError> {
+    log_command(alloc, name, about)?.arg(all_word(alloc, all))
+}
+
+/// The command that reads a datagram.
+fn decode_command<'a>(alloc: Global) -> Result<Command<'a>, AllocError> {
+    let hex = "The datagram's bytes in hexadecimal digits of either case";
+    Command::new(alloc, "decode")
+        .about("Prints one datagram of RIP version 2")
+        .arg(word(alloc, "HEX", hex, true))
+}
+
+/// Adds a command, if there was memory for all.
+fn add<'a>(
+    ripaudit: Result<Command<'a>, AllocError>,
+    command: Result<Command<'a>, AllocError>,
+) -> Result<Command<'a>, AllocError> {
+    ripaudit?.subcommand(command?)
 }
 
 /// The commands, with their words and their help.
-fn commands<'a>(alloc: Global) -> Result<Command<'a>, Error> {
-    let hex = Arg::new(alloc, "HEX").required(true).help(
-        "The datagram's bytes in hexadecimal digits of either case",
+fn commands<'a>(alloc: Global) -> Result<Command<'a>, AllocError> {
+    let ripaudit = Ok(
+        Command::new(alloc, "ripaudit")
+            .version("0.1.0")
+            .about("Audits the routes of a RIP version 2 network")
+            .subcommand_required(true),
     );
-    let decode = Command::new(alloc, "decode")
-        .about("Prints one datagram of RIP version 2")
-        .arg(hex)?;
-    let plan = Command::new(alloc, "plan")
-        .about("Prints the parts of a plan")
-        .arg(plan_word(alloc))?;
-    let expect = Command::new(alloc, "expect")
-        .about("Prints the right routes of a plan")
-        .arg(plan_word(alloc))?;
-    let ripaudit = Command::new(alloc, "ripaudit")
-        .version("0.1.0")
-        .about("Audits the routes of a RIP version 2 network")
-        .subcommand_required(true);
-    let ripaudit = log_commands(alloc, ripaudit)?
-        .subcommand(expect)?
-        .subcommand(plan)?
-        .subcommand(decode)?;
-    Ok(ripaudit)
+    let audit = "Tells whether the routes that a log shows are right";
+    let each = "Name each place that does not hold, not only the first";
+    let ripaudit = add(ripaudit, all_command(alloc, "audit", audit, each));
+    let explain = "Tells the verdict of audit, and what it comes from";
+    let of_each = "Tell of each place that does not hold, not only of the first";
+    let ripaudit = add(ripaudit, all_command(alloc, "explain", explain, of_each));
+    let routes = "Prints the routes that a log shows";
+    let ripaudit = add(ripaudit, log_command(alloc, "routes", routes));
+    let table = "Prints what each interface of a plan shows in a log";
+    let ripaudit = add(ripaudit, log_command(alloc, "table", table));
+    let expect = "Prints the right routes of a plan";
+    let ripaudit = add(ripaudit, plan_command(alloc, "expect", expect));
+    let plan = "Prints the parts of a plan";
+    let ripaudit = add(ripaudit, plan_command(alloc, "plan", plan));
+    add(ripaudit, decode_command(alloc))
 }
 
 /// The outcome of a run, as an exit status. A fault is told on standard error.
@@ -307,7 +309,7 @@ pub(crate) fn run(rt: &HostRuntime) -> u8 {
     };
     let command = match commands(alloc) {
         Ok(command) => command,
-        Err(error) => return end_words(rt, &error),
+        Err(AllocError) => return end_run(rt, Err(RunError::Memory)),
     };
     match command.try_get_matches_from(words.as_slice()) {
         Ok(matches) => run_command(rt, &matches),

@@ -2,7 +2,7 @@
 
 ghost use Rattle.std.specs.Prelude.{◌≡◌, ◌+◌, ◌≤◌, ◌<◌, ◌++◌, length};
 ghost use Rattle.rip_report.specs.declared.limits.TheConstants.{LINE_BYTES};
-ghost use Rattle.rip_report.specs.AuditText.{IsKnownReason, IsPlaceOf, IsTroubleOf, failure_part, has_one_interface, interface_part, leaf_part, leaves_of, metric_part, no_offer_part, place_part, reason_part, settled_line, trouble_part, unclear_line, unsettled_line, wrong_metric_part, wrong_way_part};
+ghost use Rattle.rip_report.specs.AuditText.{IsKnownReason, IsPlaceOf, IsTroubleOf, failure_part, has_one_interface, interface_part, leaf_part, leaves_of, metric_part, no_offer_part, place_part, reason_part, settled_line, subject_part, trouble_part, unclear_line, unsettled_line, wrong_metric_part, wrong_way_part};
 ghost use Rattle.rip_report.specs.Names.{IsKnownWay};
 
 use crate::line::Line;
@@ -152,14 +152,30 @@ pub(crate) fn unsettled_text<T: MetricTable>(plan: &Plan, table: &T, place: &Pla
 fn push_interface(text: &mut Line, plan: &Plan, router: usize, link: usize)
     requires router { router < length plan.now.routers }
     requires link { link < length plan.now.links }
-    requires room { length text.old + 77 ≤ LINE_BYTES }
+    requires room { length text.old + 79 ≤ LINE_BYTES }
     ensures text { text.new ≡ text.old ++ interface_part plan.now router link }
-    ensures size { length text.new ≤ length text.old + 77 }
+    ensures size { length text.new ≤ length text.old + 79 }
 {
     text.push("router ");
     push_router(text, plan, router);
     text.push(" link ");
     push_link(text, plan, link);
+    text.push(": ");
+}
+
+/// Adds what a trouble is about: an interface, or a router and a prefix.
+fn push_subject<T: MetricTable>(text: &mut Line, plan: &Plan, table: &T, trouble: &Unclear)
+    requires known { IsTroubleOf plan.now (T.state table.now) trouble.now }
+    requires room { length text.old + 79 ≤ LINE_BYTES }
+    ensures text { text.new ≡ text.old ++ subject_part plan.now (T.state table.now) trouble.now }
+    ensures size { length text.new ≤ length text.old + 79 }
+{
+    match *trouble {
+        Unclear::NotHeard { router, link } => push_interface(text, plan, router, link),
+        Unclear::TwoMetrics { router, prefix }
+        | Unclear::Missing { router, prefix, .. }
+        | Unclear::TwoWays { router, prefix } => push_place(text, plan, table, router, prefix),
+    }
 }
 
 /// Adds why no route can be read.
@@ -183,33 +199,12 @@ pub(crate) fn push_reason(text: &mut Line, plan: &Plan, trouble: &Unclear)
 /// Adds a trouble.
 fn push_trouble<T: MetricTable>(text: &mut Line, plan: &Plan, table: &T, trouble: &Unclear)
     requires known { IsTroubleOf plan.now (T.state table.now) trouble.now }
-    requires room { length text.old + 128 ≤ LINE_BYTES }
+    requires room { length text.old + 122 ≤ LINE_BYTES }
     ensures text { text.new ≡ text.old ++ trouble_part plan.now (T.state table.now) trouble.now }
-    ensures size { length text.new ≤ length text.old + 128 }
+    ensures size { length text.new ≤ length text.old + 122 }
 {
-    match *trouble {
-        Unclear::NotHeard { router, link } => {
-            push_interface(text, plan, router, link);
-            text.push(": not heard");
-        }
-        Unclear::TwoMetrics { router, prefix } => {
-            push_place(text, plan, table, router, prefix);
-            text.push("two metrics");
-        }
-        Unclear::Missing {
-            router,
-            prefix,
-            link,
-        } => {
-            push_place(text, plan, table, router, prefix);
-            text.push("missing on ");
-            push_link(text, plan, link);
-        }
-        Unclear::TwoWays { router, prefix } => {
-            push_place(text, plan, table, router, prefix);
-            text.push("two ways");
-        }
-    }
+    push_subject(text, plan, table, trouble);
+    push_reason(text, plan, trouble);
 }
 
 /// The line of a log that shows no tables.

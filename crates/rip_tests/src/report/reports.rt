@@ -152,11 +152,10 @@ fn run<L: Read + Drop, W: Write>(
     }
 }
 
-/// Expects the answer and the text of a row, with the log in pieces of this size.
-fn expect_row(rt: &impl Abort, alloc: Global, row: Row, piece: usize) {
-    let (command, log, status, text) = row;
+/// Expects the answer and the text of a row, with its log from this reader.
+fn expect_row(rt: &impl Abort, alloc: Global, row: Row, log: Pieces<'_>) {
+    let (command, _, status, text) = row;
     let mut out = IntoWrite::new(Vec::new(alloc));
-    let log = Pieces::new(log.as_bytes(), piece);
     let (source, outcome) = run(alloc, command, (TRIANGLE, log), &mut out);
     assert_eq!(rt; outcome, Ok(status), "{text}");
     assert!(rt; !source.failed() && !out.failed());
@@ -168,7 +167,12 @@ fn expect_row(rt: &impl Abort, alloc: Global, row: Row, piece: usize) {
 fn logs_in_pieces(rt: HostRuntime) {
     for row in ROWS {
         for piece in [1, 2, 3, 7, 99, 100, 101, 2049] {
-            expect_row(&rt, rt.alloc(), row, piece);
+            expect_row(
+                &rt,
+                rt.alloc(),
+                row,
+                Pieces::new(row.1.as_bytes(), piece),
+            );
         }
     }
 }
@@ -183,12 +187,28 @@ fn expect_read_fault(rt: &impl Abort, alloc: Global, command: Command, fails_at:
     assert!(rt; out.into_writer().is_empty());
 }
 
+/// The log has 600 bytes, and the pull after them is the one that finds its end.
 #[test]
 fn a_source_that_fails(rt: HostRuntime) {
     for (command, _, _, _) in ROWS {
-        for fails_at in 1..SETTLED.len() {
+        for fails_at in 1..602 {
             expect_read_fault(&rt, rt.alloc(), command, fails_at);
         }
+    }
+}
+
+/// A failure that lies behind the end of a log, or behind the line that refuses it, is not met.
+#[test]
+fn a_source_that_would_fail_later(rt: HostRuntime) {
+    for row in ROWS {
+        let log = row.1.as_bytes();
+        let fails_at = log.len().wrapping_add(2);
+        expect_row(&rt, rt.alloc(), row, Pieces::failing(log, fails_at));
+    }
+    let (log, text) = ("a 10.1.0.1\n", "refused: log line 1: 2 Fields\n");
+    for (command, _, _, _) in ROWS {
+        let row = (command, log, Status::Refused, text);
+        expect_row(&rt, rt.alloc(), row, Pieces::failing(log.as_bytes(), 12));
     }
 }
 

@@ -1,4 +1,4 @@
-use Rattle.std.proofs.Common.{◌≡◌, ◌∙◌, sym, refl, false, subst, Some, Ok, Err}
+use Rattle.std.proofs.Common.{◌≡◌, ◌∙◌, arith, sym, refl, false, subst, Some, Ok, Err}
 use Rattle.rip_log.specs.Leaves.{capture_of, line_of, lines_behind, log_to_come, has_stopped}
 use Rattle.rip_table.specs.State.{State, Fits}
 use Rattle.rip_table.specs.Joined.{WantsFor, is_memory}
@@ -24,6 +24,7 @@ records-preserved g c =
       marks = h.moves.marks refl ∙ c.records.invariant.marks;
       still = λ was. cc (was, was_run);
       here = λ was. cc (was, was_run);
+      lines = let later = h.onward.1 in let first = c.records.invariant.lines in omega arith;
     }
 
 pub returns-in-Err-join : goal.returns-in-Err-join
@@ -63,7 +64,7 @@ returns-in-Err-join g c =
       here = at_last (lines_behind after) c.in-Ok-Some.record.line cause blame h.onward.1;
       fits = subst (λ (s : State). Fits plan s) (sym joins.0) inv.fits;
       behind = λ was is_record. stands_behind capture_of line_of plan old log (state c.records.table) (log_to_come coming before) (log_to_come coming after) c.in-Ok-Some.record (inv.passed was) (h.gives run);
-      wanted = λ w. (entry, subst (λ (s : State). WantsFor plan s entry) (sym joins.0) (when_memory _ (is_memory cause) w joins.1));
+      wanted = λ w. (let later = h.onward.1 in let first = inv.lines in omega arith, (entry, subst (λ (s : State). WantsFor plan s entry) (sym joins.0) (when_memory _ (is_memory cause) w joins.1)));
       over = λ fine. cc fine;
       failed = λ bad. cc (bad, not_read);
       marks = λ fine. h.moves.marks refl ∙ inv.marks;

@@ -1,4 +1,4 @@
-use Rattle.std.proofs.Common.{◌≡◌, ◌-◌, true, false}
+use Rattle.std.proofs.Common.{◌≡◌, ◌-◌, ◌≤◌, true, false}
 use Rattle.rip_log.specs.Leaves.{log_to_come, lines_behind, has_stopped, source_of}
 use Rattle.rip_table.specs.State.{Fits}
 use Rattle.rip_table.specs.Collects.{PassedKnown}
@@ -15,6 +15,7 @@ invariant-records g l =
       marks : g.R.Source.broken (source_of l.reader) ≡ g.R.Source.broken (source_of l.fn.reader);
       still : has_stopped l.fn.reader ≡ true → (state l.table ≡ state l.fn.table);
       here : has_stopped l.fn.reader ≡ true → (lines_behind l.reader ≡ lines_behind l.fn.reader);
+      lines : lines_behind l.fn.reader ≤ lines_behind l.reader;
     }
 
 abbrev pub decreases-records : goal.decreases-records
