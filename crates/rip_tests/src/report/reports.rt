@@ -167,12 +167,7 @@ fn expect_row(rt: &impl Abort, alloc: Global, row: Row, log: Pieces<'_>) {
 fn logs_in_pieces(rt: HostRuntime) {
     for row in ROWS {
         for piece in [1, 2, 3, 7, 99, 100, 101, 2049] {
-            expect_row(
-                &rt,
-                rt.alloc(),
-                row,
-                Pieces::new(row.1.as_bytes(), piece),
-            );
+            expect_row(&rt, rt.alloc(), row, Pieces::new(row.1.as_bytes(), piece));
         }
     }
 }
