@@ -11,7 +11,7 @@ demo: $(PROGRAM)
 	sh examples/demo
 
 # The first build proves the program and the libraries below it: 10 minutes on four cores. The prover's lines go to out/build.log.
-$(PROGRAM): $(shell find crates -name out -prune -o -type f -print)
+$(PROGRAM): $(shell find crates/*/src crates/*/specs crates/*/proofs -type f ! -path 'crates/rip_tests/*')
 	@mkdir -p out
 	@echo "building $(PROGRAM); a first build proves it and takes 10 minutes on four cores (lines in out/build.log)"
 	@cd crates/ripaudit && rt run --jobs "$$(nproc)" -- --version > ../../out/build.log 2>&1 || { tail -n 20 ../../out/build.log; exit 1; }
@@ -33,8 +33,9 @@ install: $(PROGRAM)
 	install -D -m 644 completions/ripaudit.bash $(SHARE)/bash-completion/completions/ripaudit
 	install -D -m 644 completions/_ripaudit $(SHARE)/zsh/site-functions/_ripaudit
 	install -D -m 644 completions/ripaudit.fish $(SHARE)/fish/vendor_completions.d/ripaudit.fish
-	install -d $(DOC)
-	install -m 644 README.md docs/OPERATING.md docs/CODES.md $(DOC)
+	install -d $(DOC)/docs
+	install -m 644 README.md $(DOC)
+	install -m 644 docs/*.md $(DOC)/docs
 	rm -rf $(DOC)/examples
 	cp -R examples $(DOC)
 	rm $(DOC)/examples/demo
@@ -42,7 +43,8 @@ install: $(PROGRAM)
 
 uninstall:
 	rm -rf $(DESTDIR)$(PREFIX)/bin/ripaudit $(SHARE)/man/man1/ripaudit.1 $(SHARE)/ripaudit $(DOC)
-	cd $(SHARE) && rm -f bash-completion/completions/ripaudit zsh/site-functions/_ripaudit fish/vendor_completions.d/ripaudit.fish
+	rm -f $(SHARE)/bash-completion/completions/ripaudit $(SHARE)/zsh/site-functions/_ripaudit
+	rm -f $(SHARE)/fish/vendor_completions.d/ripaudit.fish
 
 deb: $(PROGRAM)
 	sh packaging/deb $(PROGRAM)

@@ -3,5 +3,6 @@
 mod check;
 mod log;
 mod plan;
+mod report;
 mod table;
 mod wire;
