@@ -9,7 +9,7 @@ use Rattle.rip_check.specs.Metrics.{IsInRange}
 use Rattle.rip_check.specs.Firsts.{IsReadable, AreFine}
 use Rattle.rip_check.specs.Settled.{Holds}
 use Rattle.rip_check.specs.Verdicts.{IsSound, ShowsTables}
-use Rattle.rip_check.proofs.Leaves.{leaf_route}
+use Rattle.rip_check.proofs.LeafRouters.{leaf_route}
 
 pub two_not_leaf : (n : Network) (r i l c : ℕ) → HasTwoInterfaces n r → IsLeaf n r i l c → ⊥
 two_not_leaf n r i l c two leaf = two.8 (leaf.only two.0 two.2 two.4 two.6 ∙ sym (leaf.only two.1 two.3 two.5 two.7))

@@ -25,7 +25,7 @@ pub fn poison_hides_nothing()
 /// What a neighbour may hide behind a 16 is no better for the router: where the neighbour goes over
 /// their link, its giver there is the router itself or serves the router more cheaply; where it has
 /// the prefix itself, on that link, so has the router.
-pub fn hidden_is_no_better()
+pub fn poisoned_is_no_better()
     ensures over { (k : Case) → IsSettled k → GiversAreNear k }
     ensures here { (k : Case) → SilenceIsShared k }
 {}

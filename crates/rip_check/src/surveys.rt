@@ -19,11 +19,13 @@ pub(crate) struct Survey {
     pub metric: u32,
     /// Whether another metric below 16 is shown.
     pub another: bool,
-    /// The link of the first interface that shows nothing or 16 and whose link does not carry the
-    /// prefix.
+    /// The link of the first silent interface (nothing or 16) on a link that does not carry the prefix.
+    /// Where there is none the route may be the router's own, which may be held back on a link that
+    /// carries the prefix.
     pub silent: Option<usize>,
-    /// Whether no route over a link may show this: two interfaces are silent, or one on a link of the
-    /// prefix, or the one above shows nothing, and not 16.
+    /// Whether this cannot come from a route over one link, which is poisoned there and shown
+    /// everywhere else: two interfaces are silent, or one on a link that carries the prefix, or the one
+    /// above shows nothing, and not 16.
     pub blocked: bool,
 }
 

@@ -7,7 +7,7 @@ use Rattle.rip_log.specs.Fields.{onto}
 use Rattle.rip_log.specs.Leaves.{capture_of, line_of}
 use Rattle.rip_log.specs.Lines.{lines_of}
 use Rattle.rip_log.specs.Logs.{Numbered, Log, log_of, log_at, log_in, Gives, IfElse}
-use Rattle.rip_log.specs.LogText.{AreLines, AreRecords, IsBad, IsFault, too_many, bad, LogFault, LogCut}
+use Rattle.rip_log.specs.LogText.{AreLines, AreRecords, IsBad, IsFault, too_many, bad, LogFault, LogFailed}
 use Rattle.rip_log.specs.Runs.{IsTaken}
 use Rattle.rip_log.specs.declared.error.LogCode.{LogCode}
 use Rattle.rip_log.specs.declared.error.LogCode.TheVariants.{LongLine, TooManyLines}
@@ -180,7 +180,7 @@ module _ (judges : Judges) where
       absurd (omega (arith, (fault-line 0 passed f (fault-of 0 passed f (omega arith) h)).1, (fault-line (0 + length passed) rest f (fault-of (0 + length passed) rest f few later)).0))
 
   pub IsTaken-read : (text left : List ℕ) (taken : List Numbered) (log rest : Log) (n : ℕ) (e : LogError) → log_in (Some text) ≡ Some log → IsTaken taken log rest → is_read e.code ≡ true
-      → Gives capture_of line_of (Some rest) (log_at n (Some left)) (Err e) → PassesLines (Some text) 0 (Some left) n → n ≤ 1000000 → LogCut text left taken (n + 1)
+      → Gives capture_of line_of (Some rest) (log_at n (Some left)) (Err e) → PassesLines (Some text) 0 (Some left) n → n ≤ 1000000 → LogFailed text left taken (n + 1)
   IsTaken-read text left taken log rest n e told is failed gives passes few =
       let same : log_of n (lines_of left) ≡ rest = some-log _ _ (read-same _ _ (is_read e.code) failed gives) in
       let count : n ≡ 0 + length passes.0 = omega (arith, passes.2) in

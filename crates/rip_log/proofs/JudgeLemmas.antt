@@ -5,7 +5,7 @@ use Rattle.std.specs.Io.BufRead.{strip_last, ends_with_byte}
 use Rattle.rip_wire.specs.Name.{is_name}
 use Rattle.rip_log.specs.Fields.{fields_of}
 use Rattle.rip_log.specs.Lines.{Capture, judge, judge_short, unless_skipped}
-use Rattle.rip_log.specs.Parts.{Tells, AreParts, capture_of_parts}
+use Rattle.rip_log.specs.Parts.{IsSaid, AreParts, capture_of_parts}
 use Rattle.rip_log.specs.declared.error.LogCode.{LogCode}
 use Rattle.rip_log.specs.declared.error.LogCode.TheVariants.{LongLine}
 use Rattle.rip_log.specs.Spans.{slice_of}
@@ -42,12 +42,12 @@ parts-front line front room m p fits is parts =
       record { link = record { ordered = parts.link.ordered; within = omega arith }; name = ap is_name (sym same) ∙ parts.name; count = parts.count; valid = parts.valid },
     )
 
-pub Tells-line : (line room : List ℕ) (r : Result (Option Parts) LogCode) → length line ≤ 2048 → Tells (unless_skipped (fields_of (strip_last 13 line))) (strip_last 13 line) room r → Tells (judge line) line room r
+pub IsSaid-line : (line room : List ℕ) (r : Result (Option Parts) LogCode) → length line ≤ 2048 → IsSaid (unless_skipped (fields_of (strip_last 13 line))) (strip_last 13 line) room r → IsSaid (judge line) line room r
 unfolding Front
-Tells-line line room (Ok None) h said = judge-short line h ∙ said
-Tells-line line room (Ok (Some p)) h said =
+IsSaid-line line room (Ok None) h said = judge-short line h ∙ said
+IsSaid-line line room (Ok (Some p)) h said =
     let front = front-of (ends_with_byte 13 line) line in
     let moved = parts-front line (strip_last 13 line) room front.0 p front.1 front.2 said.1 in
     let said_of : Capture → Result (Option Capture) LogCode = λ e. Ok (Some e) in
     (judge-short line h ∙ said.0 ∙ ap said_of moved.0, moved.1)
-Tells-line line room (Err code) h said = judge-short line h ∙ said
+IsSaid-line line room (Err code) h said = judge-short line h ∙ said

@@ -13,7 +13,7 @@ use Rattle.rip_wire.specs.declared.error.WireCode.{WireCode}
 use Rattle.rip_log.proofs.FieldRelations.{AreFields-fields_of, fields_of-AreFields, IsBare-strip_last, strip_last-IsBare}
 use Rattle.rip_log.specs.Fields.{fields_of, is_comment}
 use Rattle.rip_log.specs.Lines.{Capture, sized, bytes_of, checked, capture_in, with_sender, three_fields, said_by, unless_skipped, judge_short, judge}
-use Rattle.rip_log.specs.LogText.{HasFields, SaysNothing, HasThree, IsSender, HasSender, HasOthers, IsBad, IsJudged}
+use Rattle.rip_log.specs.LogText.{HasFields, SaysNothing, HasThree, IsSender, HasSender, HasOthers, IsBad, IsLineJudged}
 use Rattle.rip_log.proofs.DigitLemmas.{sized-long}
 use Rattle.rip_log.proofs.JudgeLemmas.{judge-long, judge-short}
 use Rattle.rip_log.specs.declared.error.LogCode.{LogCode}
@@ -100,20 +100,20 @@ module _ (laws : WireLaws) where
   no_fault bytes m e code at fault = cc (e, (laws.faults bytes code at).1 fault)
 
   says-checked : (line link digits bytes : List ℕ) (sender : ℕ) (r : Result Message WireError) → HasSender line link digits sender → decode_of digits ≡ Ok bytes → length bytes ≤ 504 → message_in bytes ≡ r
-      → IsJudged line (checked link sender bytes r)
+      → IsLineJudged line (checked link sender bytes r)
   says-checked line link digits bytes sender (Ok m) front e few read = record { digits = digits; front = front; bytes = e; few = few; no_fault = no_fault bytes m read }
   says-checked line link digits bytes sender (Err f) front e few read = (link, digits, bytes, sender, front, e, few, (laws.faults bytes f.code f.at).0 read)
 
   says-sized : (line link digits bytes : List ℕ) (sender : ℕ) (x : Bool) → HasSender line link digits sender → decode_of digits ≡ Ok bytes → nat_lt 504 (length bytes) ≡ x
-      → IsJudged line (capture_in link sender (cond x (Err codes.LongDatagram) (Ok bytes)))
+      → IsLineJudged line (capture_in link sender (cond x (Err codes.LongDatagram) (Ok bytes)))
   says-sized line link digits bytes sender true front e h = (link, digits, bytes, sender, front, e, many-of bytes h)
   says-sized line link digits bytes sender false front e h = says-checked line link digits bytes sender (message_in bytes) front e (few-of bytes h) refl
 
-  says-digits : (line link digits : List ℕ) (sender : ℕ) (r : Result (List ℕ) FromHexError) → HasSender line link digits sender → decode_of digits ≡ r → IsJudged line (capture_in link sender (sized r))
+  says-digits : (line link digits : List ℕ) (sender : ℕ) (r : Result (List ℕ) FromHexError) → HasSender line link digits sender → decode_of digits ≡ r → IsLineJudged line (capture_in link sender (sized r))
   says-digits line link digits sender (Ok bytes) front e = says-sized line link digits bytes sender (nat_lt 504 (length bytes)) front e refl
   says-digits line link digits sender (Err f) front e = (link, digits, sender, front, λ bytes is. cc (e, is))
 
-  says-sender : (line link sender digits : List ℕ) (o : Option ℕ) → HasThree line link sender digits → IsName link → address_in sender ≡ o → IsJudged line (with_sender link o digits)
+  says-sender : (line link sender digits : List ℕ) (o : Option ℕ) → HasThree line link sender digits → IsName link → address_in sender ≡ o → IsLineJudged line (with_sender link o digits)
   says-sender line link sender digits None three name e =
       (link, sender, digits, three, name, λ address is. cc (e, (laws.addresses sender address).1 (is.fits, is.spelled)))
   says-sender line link sender digits (Some a) three name e =
@@ -124,34 +124,34 @@ module _ (laws : WireLaws) where
   no-name link e is = cc (e, (laws.names link).1 is)
 
   says-three : (line link sender digits : List ℕ) (x : Bool) → HasThree line link sender digits → is_name link ≡ x
-      → IsJudged line (cond x (with_sender link (address_in sender) digits) (Err codes.LinkName))
+      → IsLineJudged line (cond x (with_sender link (address_in sender) digits) (Err codes.LinkName))
   says-three line link sender digits true three e = says-sender line link sender digits (address_in sender) three ((laws.names link).0 e) refl
   says-three line link sender digits false three e = (link, sender, digits, three, no-name link e)
 
-  says-said : (line : List ℕ) (fields : List (List ℕ)) → HasFields line fields → ¬ SaysNothing fields → IsJudged line (said_by fields)
+  says-said : (line : List ℕ) (fields : List (List ℕ)) → HasFields line fields → ¬ SaysNothing fields → IsLineJudged line (said_by fields)
   says-said line [] has says = absurd (says tt)
   says-said line (a ∷ []) has says = others line (a ∷ []) has says (λ e. omega (arith, e))
   says-said line (a ∷ b ∷ []) has says = others line (a ∷ b ∷ []) has says (λ e. omega (arith, e))
   says-said line (a ∷ b ∷ c ∷ []) has says = says-three line a b c (is_name a) (record { has_fields = has; says = says }) refl
   says-said line (a ∷ b ∷ c ∷ d ∷ more) has says = others line (a ∷ b ∷ c ∷ d ∷ more) has says (λ e. omega (arith, e))
 
-  says-comment : (line first : List ℕ) (rest : List (List ℕ)) (x : Bool) → HasFields line (first ∷ rest) → is_comment (first ∷ rest) ≡ x → IsJudged line (cond x (Ok None) (said_by (first ∷ rest)))
+  says-comment : (line first : List ℕ) (rest : List (List ℕ)) (x : Bool) → HasFields line (first ∷ rest) → is_comment (first ∷ rest) ≡ x → IsLineJudged line (cond x (Ok None) (said_by (first ∷ rest)))
   says-comment line first rest true has e = record { fields = first ∷ rest; has_fields = has; says_nothing = says-yes first rest e }
   says-comment line first rest false has e = says-said line (first ∷ rest) has (says-no first rest e)
 
-  says-fields : (line : List ℕ) (fields : List (List ℕ)) → HasFields line fields → IsJudged line (unless_skipped fields)
+  says-fields : (line : List ℕ) (fields : List (List ℕ)) → HasFields line fields → IsLineJudged line (unless_skipped fields)
   says-fields line [] has = record { fields = []; has_fields = has; says_nothing = tt }
   says-fields line (first ∷ rest) has = says-comment line first rest (is_comment (first ∷ rest)) has refl
 
-  says-line : (line : List ℕ) (x : Bool) → nat_lt 2048 (length line) ≡ x → IsJudged line (cond x (Err codes.LongLine) (judge_short line))
+  says-line : (line : List ℕ) (x : Bool) → nat_lt 2048 (length line) ≡ x → IsLineJudged line (cond x (Err codes.LongLine) (judge_short line))
   says-line line true e = long-of line e
   says-line line false e = says-fields line (fields_of (strip_last 13 line)) (HasFields-line line (short-of line e))
 
-  IsJudged-judge : (line : List ℕ) → IsJudged line (judge line)
-  IsJudged-judge line = says-line line (nat_lt 2048 (length line)) refl
+  IsLineJudged-judge : (line : List ℕ) → IsLineJudged line (judge line)
+  IsLineJudged-judge line = says-line line (nat_lt 2048 (length line)) refl
 
-  pub judged-line : (line : List ℕ) (judged : Result (Option Capture) LogCode) → judge line ≡ judged → IsJudged line judged
-  judged-line line judged e = subst (IsJudged line) e (IsJudged-judge line)
+  pub judged-line : (line : List ℕ) (judged : Result (Option Capture) LogCode) → judge line ≡ judged → IsLineJudged line judged
+  judged-line line judged e = subst (IsLineJudged line) e (IsLineJudged-judge line)
 
   -- from the words to the computed
   name-no : (link : List ℕ) (x : Bool) → is_name link ≡ x → ¬ IsName link → x ≡ false
@@ -200,9 +200,9 @@ module _ (laws : WireLaws) where
   bad-line line codes.Ended bad = absurd bad
   bad-line line codes.Memory bad = absurd bad
 
-  pub judge-IsJudged : (line : List ℕ) (r : Result (Option Capture) LogCode) → IsJudged line r → judge line ≡ r
-  judge-IsJudged line (Ok None) skipped = judge-fields line skipped.fields skipped.has_fields ∙ skipped-fields skipped.fields skipped.says_nothing
-  judge-IsJudged line (Ok (Some capture)) is =
+  pub judge-IsLineJudged : (line : List ℕ) (r : Result (Option Capture) LogCode) → IsLineJudged line r → judge line ≡ r
+  judge-IsLineJudged line (Ok None) skipped = judge-fields line skipped.fields skipped.has_fields ∙ skipped-fields skipped.fields skipped.says_nothing
+  judge-IsLineJudged line (Ok (Some capture)) is =
       judge-bytes line capture.link is.digits capture.datagram capture.sender is.front is.bytes is.few
       ∙ checked-none capture.link capture.datagram capture.sender (message_in capture.datagram) refl is.no_fault
-  judge-IsJudged line (Err code) bad = bad-line line code bad
+  judge-IsLineJudged line (Err code) bad = bad-line line code bad

@@ -5,7 +5,7 @@ use Rattle.rip_log.specs.Codes.{is_read}
 use Rattle.rip_log.specs.Leaves.{capture_of, line_of}
 use Rattle.rip_log.specs.Lines.{Capture, lines_of, judge}
 use Rattle.rip_log.specs.Logs.{Numbered, Log, log_of, log_in, with_line, faulty_log, onto_log, Gives, IfElse}
-use Rattle.rip_log.specs.LogText.{AreLines, AreRecords, IsSkipped, IsFault, too_many, bad, IsJudged, LogText, LogFault}
+use Rattle.rip_log.specs.LogText.{AreLines, AreRecords, IsSkipped, IsFault, too_many, bad, IsLineJudged, LogText, LogFault}
 use Rattle.rip_log.specs.Runs.{IsTaken, numbered}
 use Rattle.rip_log.specs.declared.error.LogCode.{LogCode}
 use Rattle.rip_log.specs.declared.error.LogCode.TheVariants.{TooManyLines}
@@ -57,7 +57,7 @@ outcome-later : (n : ℕ) (line : List ℕ) (lines : List (List ℕ)) (records a
 outcome-later n line lines records all None onto t = (onto lines t.0, omega (arith, t.1))
 outcome-later n line lines records all (Some e) onto t = later-fault n line lines records all e onto t
 
-outcome-line : (n : ℕ) (line : List ℕ) (lines : List (List ℕ)) (later : Log) (x : Result (Option Capture) LogCode) → n < 1000000 → IsJudged line x → IsOutcome (n + 1) lines later.records later.fault
+outcome-line : (n : ℕ) (line : List ℕ) (lines : List (List ℕ)) (later : Log) (x : Result (Option Capture) LogCode) → n < 1000000 → IsLineJudged line x → IsOutcome (n + 1) lines later.records later.fault
     → IsOutcome n (line ∷ lines) (with_line (n + 1) x later).records (with_line (n + 1) x later).fault
 outcome-line n line lines later (Ok None) few says t = outcome-later n line lines later.records later.records later.fault (λ before are. skip n line before later.records says are) t
 outcome-line n line lines later (Ok (Some capture)) few says t =
@@ -80,7 +80,7 @@ fault-few n line code (bad few is) = omega (arith, few)
 
 -- the law `judged_lines`
 abbrev pub Judges : Type 0
-Judges = (line : List ℕ) (judged : Result (Option Capture) LogCode) → (judge line ≡ judged) ↔ IsJudged line judged
+Judges = (line : List ℕ) (judged : Result (Option Capture) LogCode) → (judge line ≡ judged) ↔ IsLineJudged line judged
 
 module _ (judges : Judges) where
   -- lines whose records these are, in front of others

@@ -141,10 +141,10 @@ IsBad line (Wire e) =
 IsBad line other = ⊥
 
 -- a line is judged: it is skipped, or is a record, or is bad
-abbrev pub IsJudged : List ℕ → Result (Option Capture) LogCode → Type 0
-IsJudged line (Ok None) = IsSkipped line
-IsJudged line (Ok (Some capture)) = IsRecord line capture
-IsJudged line (Err code) = IsBad line code
+abbrev pub IsLineJudged : List ℕ → Result (Option Capture) LogCode → Type 0
+IsLineJudged line (Ok None) = IsSkipped line
+IsLineJudged line (Ok (Some capture)) = IsRecord line capture
+IsLineJudged line (Err code) = IsBad line code
 
 -- the records of lines, of which n others come before: of each that is not skipped, in order
 abbrev pub AreRecords : ℕ → List (List ℕ) → List Numbered → Type 0
@@ -179,7 +179,7 @@ pub record LogFault (text : List ℕ) (records : List Numbered) (line : ℕ) (co
 
 -- a log whose source failed while this line was read, this text being still to come; the records
 -- are those of the lines before it
-pub record LogCut (text left : List ℕ) (records : List Numbered) (line : ℕ) : Type 0 where
+pub record LogFailed (text left : List ℕ) (records : List Numbered) (line : ℕ) : Type 0 where
   pub before : List (List ℕ)
   pub after : List (List ℕ)
   pub are_lines : AreLines text (before ++ after)

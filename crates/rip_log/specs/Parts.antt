@@ -25,9 +25,9 @@ pub record AreParts (line room : List ℕ) (parts : Parts) : Type 0 where
   pub valid : is_ok (message_in (take parts.count room)) ≡ true
 
 -- what is said of a line is what the parts and the room say
-abbrev pub Tells : Result (Option Capture) LogCode → List ℕ → List ℕ →
+abbrev pub IsSaid : Result (Option Capture) LogCode → List ℕ → List ℕ →
     Result (Option Parts) LogCode → Type 0
-Tells said line room (Ok None) = said ≡ Ok None
-Tells said line room (Ok (Some parts)) =
+IsSaid said line room (Ok None) = said ≡ Ok None
+IsSaid said line room (Ok (Some parts)) =
     (said ≡ Ok (Some (capture_of_parts line room parts))) × AreParts line room parts
-Tells said line room (Err code) = said ≡ Err code
+IsSaid said line room (Err code) = said ≡ Err code

@@ -7,7 +7,7 @@ ghost use Rattle.rip_log.specs.Cuts.{PassesLines};
 ghost use Rattle.rip_log.specs.Leaves.{capture_of, line_of};
 ghost use Rattle.rip_log.specs.Lines.{Capture, judge};
 ghost use Rattle.rip_log.specs.Logs.{Gives, Log, Numbered, log_at, log_in};
-ghost use Rattle.rip_log.specs.LogText.{AreLines, IsJudged, LogCut, LogFault, LogText};
+ghost use Rattle.rip_log.specs.LogText.{AreLines, IsLineJudged, LogFailed, LogFault, LogText};
 ghost use Rattle.rip_log.specs.Runs.{IsTaken, numbered};
 ghost use Rattle.rip_log.specs.declared.error.LogCode.{LogCode};
 ghost use Rattle.rip_log.specs.declared.error.LogError.{LogError};
@@ -26,7 +26,7 @@ pub fn limits()
 /// is bad by the first of its faults.
 pub fn judged_lines()
     ensures { (line : List ℕ) (judged : Result (Option Capture) LogCode) →
-        (judge line ≡ judged) ↔ IsJudged line judged }
+        (judge line ≡ judged) ↔ IsLineJudged line judged }
 {
     laws::names();
     laws::address_texts();
@@ -89,7 +89,7 @@ pub fn lines_of_runs()
         is_read e.code ≡ true →
         Gives capture_of line_of (Some rest) (log_at n (Some left)) (Err e) →
         PassesLines (Some text) 0 (Some left) n → n ≤ MOST_LINES →
-        LogCut text left taken (n + 1) }
+        LogFailed text left taken (n + 1) }
 {
     judged_lines();
 }

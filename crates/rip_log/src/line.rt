@@ -4,7 +4,7 @@ ghost use Rattle.std.specs.Prelude.{◌≡◌, ◌≤◌, length};
 ghost use Rattle.std.specs.Io.BufRead.{strip_last};
 ghost use Rattle.rip_log.specs.Fields.{fields_of};
 ghost use Rattle.rip_log.specs.Lines.{judge, three_fields, unless_skipped};
-ghost use Rattle.rip_log.specs.Parts.{Tells};
+ghost use Rattle.rip_log.specs.Parts.{IsSaid};
 ghost use Rattle.rip_log.specs.Spans.{IsWithin, slice_of};
 
 use crate::digits::decode;
@@ -45,7 +45,7 @@ fn judge_fields(
     requires link { IsWithin (length line.now) link }
     requires sender { IsWithin (length line.now) sender }
     requires digits { IsWithin (length line.now) digits }
-    ensures { Tells (three_fields
+    ensures { IsSaid (three_fields
         (slice_of line.now link) (slice_of line.now sender) (slice_of line.now digits))
         line.now room.new result }
 {
@@ -68,7 +68,7 @@ fn judge_fields(
 
 /// Judges a line without its carriage return, and writes its datagram to the room.
 fn judge_bare(bare: &[u8], room: &mut [u8; MOST_BYTES]) -> Result<Option<Parts>, LogCode>
-    ensures { Tells (unless_skipped (fields_of bare.now)) bare.now room.new result }
+    ensures { IsSaid (unless_skipped (fields_of bare.now)) bare.now room.new result }
 {
     match split(bare) {
         Fields::Nothing | Fields::Comment => Ok(None),
@@ -80,7 +80,7 @@ fn judge_bare(bare: &[u8], room: &mut [u8; MOST_BYTES]) -> Result<Option<Parts>,
 /// Judges a line of at most 2,048 bytes, and writes its datagram to the room.
 pub fn judge_line(line: &[u8], room: &mut [u8; MOST_BYTES]) -> Result<Option<Parts>, LogCode>
     requires { length line.now ≤ MOST_LINE_BYTES }
-    ensures { Tells (judge line.now) line.now room.new result }
+    ensures { IsSaid (judge line.now) line.now room.new result }
 {
     judge_bare(without_return(line), room)
 }

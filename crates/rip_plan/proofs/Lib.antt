@@ -14,7 +14,7 @@ pub mod LawfulPlan
 pub mod Cells
 pub mod NumbersWhere
 pub mod Lookups
-pub mod Leaves
+pub mod LeafRouters
 pub mod PlanAnswers
 pub mod WithinPlan
 pub mod Matching

@@ -1,11 +1,11 @@
--- Exit statuses, and the lines of faults.
+-- Exit statuses, and the lines of failures.
 use Rattle.std.specs.Prelude.{ℕ, List, codes, Result, Ok, Err}
 use Rattle.rip_report.specs.declared.status.Status.{Status}
 use Rattle.rip_report.specs.declared.status.Status.TheVariants.{Settled, Done, Unsettled, Unclear, Refused}
 use Rattle.rip_report.specs.declared.status.RunError.{RunError}
 use Rattle.rip_report.specs.declared.status.RunError.TheVariants.{Read, Write, Memory}
 
--- 0 for what is well, 1 unsettled, 2 unclear, 3 refused, 4 a fault of a device or want of memory
+-- 0 for what is well, 1 unsettled, 2 unclear, 3 refused, 4 a failure of a device or want of memory
 abbrev pub exit_code_of : Result Status RunError → ℕ
 exit_code_of (Ok Settled) = 0
 exit_code_of (Ok Done) = 0

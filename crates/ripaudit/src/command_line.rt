@@ -115,7 +115,7 @@ fn commands<'a>(alloc: Global) -> Result<Command<'a>, AllocError> {
     add(ripaudit, decode_command(alloc))
 }
 
-/// The outcome of a run, as an exit status. A fault is told on standard error.
+/// The outcome of a run, as an exit status. A failure is told on standard error.
 fn end_run(rt: &impl Eprint, outcome: Result<Status, RunError>) -> u8 {
     if let Err(error) = &outcome {
         // A standard error that fails changes no status.
@@ -141,7 +141,7 @@ fn end_words(rt: &(impl Print + Eprint), error: &Error) -> u8 {
 }
 
 /// Want of memory, or a failure of reading.
-fn read_fault(error: &io::Error) -> RunError {
+fn read_failure(error: &io::Error) -> RunError {
     match error.kind() {
         io::ErrorKind::OutOfMemory => RunError::Memory,
         _ => RunError::Read,
@@ -171,7 +171,7 @@ fn plan_file<R: Files + AllocGlobal + Print>(
     command: PlanCommand,
     path: &str,
 ) -> Result<Status, RunError> {
-    let plan = read_plan(rt, path).map_err(|error| read_fault(&error))?;
+    let plan = read_plan(rt, path).map_err(|error| read_failure(&error))?;
     let alloc = rt.alloc();
     let mut out = IntoWrite::new(io::writer(rt));
     match command {
@@ -236,7 +236,7 @@ fn report_file<R: Files + AllocGlobal + RandomSource + Input + Print + Eprint>(
 where
     R::Reader: IsTerminal,
 {
-    let plan = read_plan(rt, path).map_err(|error| read_fault(&error))?;
+    let plan = read_plan(rt, path).map_err(|error| read_failure(&error))?;
     let Ok(hasher) = RandomState::new(rt) else {
         return Err(RunError::Read);
     };
@@ -244,7 +244,7 @@ where
         None => report_from(rt, command, plan.as_slice(), log_of_input(rt), hasher),
         Some(log) => match fs::open(rt, log) {
             Ok(file) => report_from(rt, command, plan.as_slice(), file, hasher),
-            Err(error) => Err(read_fault(&error)),
+            Err(error) => Err(read_failure(&error)),
         },
     }
 }
@@ -323,5 +323,5 @@ fn end_arguments(rt: &impl Eprint, error: &io::Error) -> u8 {
         let _ = rt.eprintln("error: an argument is no text");
         return exit_code(&Ok(Status::Refused));
     }
-    end_run(rt, Err(read_fault(error)))
+    end_run(rt, Err(read_failure(error)))
 }

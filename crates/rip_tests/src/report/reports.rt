@@ -173,7 +173,7 @@ fn logs_in_pieces(rt: HostRuntime) {
 }
 
 /// Expects that nothing is printed where the source fails in its pull of this number.
-fn expect_read_fault(rt: &impl Abort, alloc: Global, command: Command, fails_at: usize) {
+fn expect_read_failure(rt: &impl Abort, alloc: Global, command: Command, fails_at: usize) {
     let mut out = IntoWrite::new(Vec::new(alloc));
     let log = Pieces::failing(SETTLED.as_bytes(), fails_at);
     let (source, outcome) = run(alloc, command, (TRIANGLE, log), &mut out);
@@ -187,7 +187,7 @@ fn expect_read_fault(rt: &impl Abort, alloc: Global, command: Command, fails_at:
 fn a_source_that_fails(rt: HostRuntime) {
     for (command, _, _, _) in ROWS {
         for fails_at in 1..602 {
-            expect_read_fault(&rt, rt.alloc(), command, fails_at);
+            expect_read_failure(&rt, rt.alloc(), command, fails_at);
         }
     }
 }

@@ -18,7 +18,7 @@ fn exit_statuses(rt: HostRuntime) {
 }
 
 #[test]
-fn fault_lines(rt: HostRuntime) {
+fn failure_lines(rt: HostRuntime) {
     assert_eq!(rt; fault_line(&RunError::Read), "failed: read");
     assert_eq!(rt; fault_line(&RunError::Write), "failed: write");
     assert_eq!(rt; fault_line(&RunError::Memory), "failed: memory");

@@ -4,7 +4,7 @@ use Rattle.rip_check.specs.Metrics.{metric_at}
 use Rattle.rip_check.specs.Tables.{IsLeastOffer, IsSilent}
 use Rattle.rip_check.proofs.Owned.{first_is_leaf, its_number, some_number, within}
 use Rattle.rip_check.proofs.Standing.{high_is_silent, poison_is}
-use Rattle.rip_check.proofs.Leaves.{low_fits, here_fits, nowhere_fits, over_fits, least_offer, low_one, nowhere_one, low_shows, nowhere_shows}
+use Rattle.rip_check.proofs.LeafRouters.{low_fits, here_fits, nowhere_fits, over_fits, least_offer, low_one, nowhere_one, low_shows, nowhere_shows}
 use Rattle.rip_check.proofs.routes.leaf_route.Goals as goal
 use Rattle.rip_check.proofs.routes.leaf_route.Goals.{in_default-via-in-Some+else-metric-lt16, in_default-via-in-None}
 

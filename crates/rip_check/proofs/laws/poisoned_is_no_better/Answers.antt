@@ -1,5 +1,5 @@
 use Rattle.rip_check.proofs.Poison.{givers, silence}
-use Rattle.rip_check.proofs.laws.hidden_is_no_better.Goals as goal
+use Rattle.rip_check.proofs.laws.poisoned_is_no_better.Goals as goal
 
 pub returns-clause-over : goal.returns-clause-over
 returns-clause-over c k settled = givers k settled
