@@ -1,4 +1,4 @@
--- Places that are settled one by one make tables that are right.
+-- Places that are settled one by one make right tables.
 use Rattle.std.proofs.Common.{length}
 use Rattle.rip_plan.specs.Network.{Network}
 use Rattle.rip_plan.specs.Relations.{IsLawful}

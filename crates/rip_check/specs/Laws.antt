@@ -98,7 +98,7 @@ pub record EachPlaceHolds (n : Network) (shown : State) : Type 0 where
   pub places : (r p : ℕ) → r < length n.routers → p < length shown.prefixes
       → (t : Route) × FitsShown n shown r p t × Holds n shown r p t
 
--- the table shows tables that are right: each metric the least cost of a path, or 16, each way the
--- beginning of such a path
+-- the table shows right tables: each metric the least cost of a path, or 16, each way the beginning
+-- of such a path
 abbrev pub ShowsRightTables : Network → State → Type 0
 ShowsRightTables n shown = (T : Tables) × Shows n shown T × AllRight n (length shown.prefixes) T

@@ -205,9 +205,9 @@ fn decide<T: MetricTable>(plan: &Plan, table: &T) -> Verdict
     Verdict::Settled
 }
 
-/// The verdict on a table that fits a plan. Settled is answered exactly where the table shows tables
-/// that are right; then what follows them arrives. Unsettled names the first place that does not
-/// hold, by router and then by prefix, and Unclear the first reason why no tables are shown.
+/// The verdict on a table that fits a plan. Settled is answered exactly where the table shows right
+/// tables; then what follows them arrives. Unsettled names the first place that does not hold, by
+/// router and then by prefix, and Unclear the first reason why no tables are shown.
 pub fn judge<T: MetricTable>(plan: &Plan, table: &T) -> Verdict
     requires { Fits plan.now (T.state table.now) }
     ensures settled { (result ≡ Verdict.Settled) ↔ ShowsRightTables plan.now (T.state table.now) }

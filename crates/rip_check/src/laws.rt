@@ -55,7 +55,7 @@ pub fn one_set_of_tables()
 {}
 
 /// Every interface was heard and each place has a route that fits and holds exactly where the log
-/// shows tables that are right.
+/// shows right tables.
 pub fn settled_places()
     ensures { (n : Network) (shown : State) → IsLawful n →
         EachPlaceHolds n shown ↔ ShowsRightTables n shown }

@@ -25,8 +25,9 @@ use std::alloc::{AllocError, Global};
 use std::collections::HashMap;
 use std::marker::Model;
 
-/// The plan of a RIP-2 network. Its numbers of links, routers, interfaces, prefixes and places start
-/// at 0, in the order of the plan's text.
+/// The plan of a RIP-2 network. Its links, routers and interfaces are numbered from 0 in the order
+/// of the plan's text, its places likewise, those of links before those of routers, and its prefixes
+/// in the order of their first place.
 #[derive(Drop)]
 pub struct Plan {
     links: Vec<String>,

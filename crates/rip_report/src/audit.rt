@@ -250,7 +250,7 @@ pub fn run_audit<R: Source, K: Sink, S: BuildHasher + Drop>(
     all: bool,
     hasher: S,
 ) -> (R, Result<Status, RunError>)
-    // Settled is answered exactly where the log shows tables that are right, and then packets arrive;
+    // Settled is answered exactly where the log shows right tables, and then packets arrive;
     // otherwise the first place that does not hold is named, or the first trouble.
     ensures headline { (n : Network) (s : State) → IsAccepted plan.now (R.coming log) n s →
         IfOk result.1 (λ status. ((status ≡ Status.Settled) ↔ ShowsRightTables n s)

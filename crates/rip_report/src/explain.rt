@@ -236,7 +236,7 @@ pub fn run_explain<R: Source, K: Sink, S: BuildHasher + Drop>(
     all: bool,
     hasher: S,
 ) -> (R, Result<Status, RunError>)
-    // Settled is answered exactly where the log shows tables that are right, and then packets arrive.
+    // Settled is answered exactly where the log shows right tables, and then packets arrive.
     ensures headline { (n : Network) (s : State) → IsAccepted plan.now (R.coming log) n s →
         IfOk result.1 (λ status. ((status ≡ Status.Settled) ↔ ShowsRightTables n s)
         × (status ≡ Status.Settled → PacketsArrive n s)

@@ -102,7 +102,8 @@ fn commands<'a>(alloc: Global) -> Result<Command<'a>, AllocError> {
     let each = "Name each place that does not hold, not only the first";
     let ripaudit = add(ripaudit, all_command(alloc, "audit", audit, each));
     let explain = "Tells the verdict of audit, and what it comes from";
-    let of_each = "Tell of each place that does not hold, or of each reason, not only of the first";
+    let of_each =
+        "Tell of each place that does not hold, or of each reason of the first one's kind";
     let ripaudit = add(ripaudit, all_command(alloc, "explain", explain, of_each));
     let routes = "Prints the routes that a log shows";
     let ripaudit = add(ripaudit, log_command(alloc, "routes", routes));
