@@ -11,7 +11,7 @@ demo: $(PROGRAM)
 	sh examples/demo
 
 # The first build proves the program and the libraries below it: 10 to 20 minutes on four cores. The prover's lines go to out/build.log.
-$(PROGRAM): $(shell find crates/*/src crates/*/specs crates/*/proofs -type f ! -path 'crates/rip_tests/*')
+$(PROGRAM): crates.txt HANDLES $(shell find crates/*/src crates/*/specs crates/*/proofs -type f ! -path 'crates/rip_tests/*')
 	@mkdir -p out
 	@echo "building $(PROGRAM); a first build proves it and takes 10 to 20 minutes on four cores (lines in out/build.log)"
 	@cd crates/ripaudit && rt run --jobs "$$(nproc)" -- --version > ../../out/build.log 2>&1 || { tail -n 20 ../../out/build.log; exit 1; }

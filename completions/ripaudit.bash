@@ -33,7 +33,7 @@ _ripaudit_files() {
     if [[ ${#COMPREPLY[@]} = 0 ]]; then
         mapfile -t COMPREPLY < <(compgen -f -- "$current")
     elif [[ $1 != '*' ]]; then
-        mapfile -t -O "${#COMPREPLY[@]}" COMPREPLY < <(compgen -d -- "$current")
+        mapfile -t -O "${#COMPREPLY[@]}" COMPREPLY < <(compgen -d -X "$1" -- "$current")
     fi
 }
 

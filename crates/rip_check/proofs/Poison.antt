@@ -4,7 +4,7 @@ use Rattle.std.proofs.lemmas.Bool.{cases_eq}
 use Rattle.rip_plan.specs.Network.{Network}
 use Rattle.rip_plan.specs.Relations.{IsLawful, IsDirect, IsInterface, HasCost, IsNeighbour}
 use Rattle.rip_table.specs.State.{State}
-use Rattle.rip_check.specs.Laws.{Case, Gives, GiversAreNear, IsSettled, SilenceIsShared}
+use Rattle.rip_check.specs.Laws.{Case, GiversAreNear, IsGiver, IsNear, IsSettled, SilenceIsShared}
 use Rattle.rip_check.specs.Tables.{Tables, Shows, MayShow, FitsWay, IsSilent, Offers}
 use Rattle.rip_check.specs.declared.way.Way.{Way}
 use Rattle.rip_check.specs.declared.way.Way.TheVariants.{Unreachable, Here, Over}
@@ -57,35 +57,34 @@ module _ (n : Network) (shown : State) (T : Tables) (plan : IsLawful n) (shows :
       poison_cases r l c s p on.1.0 on.0 known has near on.1.1 (T s p).way
       ((shows.fits s p s_known known).told.as_told on.1.0 l on.0 on.1.1) (shows.fits s p s_known known).told.way_fits (holds s p s_known known).given
 
--- who gives its metric to a neighbour that goes over the link
-giver : (k : Case) → IsSettled k → (r l c s p : ℕ) → p < length k.shown.prefixes → HasCost k.net r l c → IsNeighbour k.net r l s
-    → (w : Way) → w ≡ Over l → FitsWay k.net s p (k.tables s p).metric w → IsGiven k.net k.shown s p (k.tables s p).metric w → (t : ℕ) × Gives k r l c s t p
-giver k settled r l c s p known has near Unreachable is fits given = absurd (cc is)
-giver k settled r l c s p known has near Here is fits given = absurd (cc is)
-giver k settled r l c s p known has near (Over m) is fits given =
-    let same : m ≡ l = cc is in
-    let t = given.0 in
-    let o : Offers k.net k.shown s l t p (k.tables s p).metric = subst (λ x. Offers k.net k.shown s x t p (k.tables s p).metric) same given.1 in
+-- whoever gives its metric to a neighbour over the link is near
+near_giver : (k : Case) (r l c s t p : ℕ) → HasCost k.net r l c → IsNeighbour k.net r l s → (k.tables s p).metric < 16 → IsGiver k l s t p → IsNear k r l c s t p
+near_giver k r l c s t p has near small o =
     let least = k.plan.cost_least o.here.0 s l o.cost o.here.1 in
-    let near_or : (t ≡ r) ⊎ (t ≡ r → ⊥) = cases_eq t r in (
-      t,
-      record {
-        offer = o;
-        near = elim near_or [
-          | inl is_r ↦ inl is_r
-          | inr not ↦
-              let v = min 16 (c + unwrap_or (metric_at k.shown o.interface p) 16) in
-              let near_too : IsNeighbour k.net r l t = record { other = not; here = near.here; there = (o.its_cost, (o.interface, o.there)) } in
-              let offer : Offers k.net k.shown r l t p v = record { neighbour = near_too; cost = c; here = has; interface = o.interface; its_cost = o.its_cost; there = o.there; value = refl } in
-              inr (v, offer, omega (arith, o.value, fits.1, least))
-        ];
-      },
-    )
+    let near_or : (t ≡ r) ⊎ (t ≡ r → ⊥) = cases_eq t r in
+    elim near_or [
+      | inl is_r ↦ inl is_r
+      | inr not ↦
+          let v = min 16 (c + unwrap_or (metric_at k.shown o.interface p) 16) in
+          let near_too : IsNeighbour k.net r l t = record { other = not; here = near.here; there = (o.its_cost, (o.interface, o.there)) } in
+          let offer : Offers k.net k.shown r l t p v = record { neighbour = near_too; cost = c; here = has; interface = o.interface; its_cost = o.its_cost; there = o.there; value = refl } in
+          inr (v, offer, omega (arith, o.value, small, least))
+    ]
+
+giver : (k : Case) (r l c s p : ℕ) → HasCost k.net r l c → IsNeighbour k.net r l s
+    → (w : Way) → w ≡ Over l → FitsWay k.net s p (k.tables s p).metric w → IsGiven k.net k.shown s p (k.tables s p).metric w
+    → ((t : ℕ) × IsGiver k l s t p) × ((t : ℕ) → IsGiver k l s t p → IsNear k r l c s t p)
+giver k r l c s p has near Unreachable is fits given = absurd (cc is)
+giver k r l c s p has near Here is fits given = absurd (cc is)
+giver k r l c s p has near (Over m) is fits given =
+    let same : m ≡ l = cc is in
+    let gives : IsGiver k l s given.0 p = subst (λ x. Offers k.net k.shown s x given.0 p (k.tables s p).metric) same given.1 in
+    ((given.0, gives), λ t o. near_giver k r l c s t p has near fits.1 o)
 
 pub givers : (k : Case) → IsSettled k → GiversAreNear k
 givers k settled r l c s p known has near is =
     let s_known = known_on k.net k.plan s l near.there in
-    giver k settled r l c s p known has near (k.tables s p).way is (k.shows.fits s p s_known known).told.way_fits (settled s p s_known known).given
+    giver k r l c s p has near (k.tables s p).way is (k.shows.fits s p s_known known).told.way_fits (settled s p s_known known).given
 
 -- a direct route that is silent on a link is one of the link
 direct_there : (k : Case) (r l c s p j : ℕ) → HasCost k.net r l c → (w : Way) → w ≡ Here → MayShow k.net l p (k.tables s p).metric w (metric_at k.shown j p) → FitsWay k.net s p (k.tables s p).metric w

@@ -1,4 +1,5 @@
--- Where a router shows something on each interface and no two metrics, and no route can be read, two interfaces show 16.
+-- Where a router shows something on each interface and no two metrics, and no route can be read, two interfaces show 16
+-- and another a metric below.
 use Rattle.std.proofs.Common.{◌≡◌, ◌≢◌, ℕ, length, slice_get, ◌<◌, ◌≤◌, ◌⊎◌, inl, inr, Option, None, Some, refl, sym, ◌∙◌, ap, arith}
 use Rattle.std.proofs.lemmas.Bool.{cases_eq}
 use Rattle.std.proofs.lemmas.Option.{slice_get_within}
@@ -6,10 +7,10 @@ use Rattle.rip_plan.specs.declared.parts.Interface.{Interface}
 use Rattle.rip_plan.specs.Network.{Network}
 use Rattle.rip_plan.specs.Relations.{IsLawful, IsInterface, IsLeaf, HasTwoInterfaces, Carries}
 use Rattle.rip_table.specs.State.{State}
-use Rattle.rip_check.specs.Firsts.{IsReadable, ShowsEach, ShowsTwo, ShowsTwoWays}
+use Rattle.rip_check.specs.Firsts.{IsReadable, IsShownBelow, Shows16Twice, ShowsEach, ShowsTwo, ShowsTwoWays}
 use Rattle.rip_check.specs.Metrics.{IsInRange, metric_at}
 use Rattle.rip_check.specs.Tables.{Route, Tells}
-use Rattle.rip_check.specs.declared.way.Way.TheVariants.{Here, Over}
+use Rattle.rip_check.specs.declared.way.Way.TheVariants.{Here, Over, Unreachable}
 use Rattle.rip_check.proofs.Readable.{fits_readable, two_fits}
 use Rattle.rip_check.proofs.Reading.{carries_or_not, find_below, two_or_leaf}
 
@@ -19,6 +20,13 @@ record IsPoisoned (n : Network) (shown : State) (r p i : ℕ) : Type 0 where
   listed : slice_get n.interfaces i ≡ Some own
   its : own.router ≡ r
   shows : metric_at shown i p ≡ Some 16
+
+-- interface i is router r's, and does not show 16
+record IsOther (n : Network) (shown : State) (r p i : ℕ) : Type 0 where
+  own : Interface
+  listed : slice_get n.interfaces i ≡ Some own
+  its : own.router ≡ r
+  shows : metric_at shown i p ≡ Some 16 → ⊥
 
 same_one : {A : Type 0} {x y : A} → Some x ≡ Some y → x ≡ y
 same_one e = cc e
@@ -42,6 +50,19 @@ poisoned_or_not n shown r p i = go (slice_get n.interfaces i) refl (is_16 (metri
         elim (cases_eq x.router r) [
           | inl its ↦ inl (record { own = x; listed = e; its = its; shows = shows })
           | inr not ↦ inr (λ h. not (ap (λ (y : Interface). y.router) (same_one (sym e ∙ h.listed)) ∙ h.its))
+        ]
+
+other_or_not : (n : Network) (shown : State) (r p i : ℕ) → IsOther n shown r p i ⊎ (IsOther n shown r p i → ⊥)
+other_or_not n shown r p i = go (slice_get n.interfaces i) refl (is_16 (metric_at shown i p))
+  where
+    go : (x : Option Interface) → slice_get n.interfaces i ≡ x → (metric_at shown i p ≡ Some 16) ⊎ (metric_at shown i p ≡ Some 16 → ⊥) →
+        IsOther n shown r p i ⊎ (IsOther n shown r p i → ⊥)
+    go None e s = inr (λ h. cc (h.listed, e))
+    go (Some x) e (inl is) = inr (λ h. h.shows is)
+    go (Some x) e (inr not) =
+        elim (cases_eq x.router r) [
+          | inl its ↦ inl (record { own = x; listed = e; its = its; shows = not })
+          | inr differs ↦ inr (λ h. differs (ap (λ (y : Interface). y.router) (same_one (sym e ∙ h.listed)) ∙ h.its))
         ]
 
 another_or_not : (n : Network) (shown : State) (r p i j : ℕ) → (IsPoisoned n shown r p j × (j ≢ i)) ⊎ (IsPoisoned n shown r p j × (j ≢ i) → ⊥)
@@ -175,14 +196,14 @@ module _ (n : Network) (plan : IsLawful n) (shown : State) (range : IsInRange n 
             let link : h.own.link ≡ k = ap (λ (y : Interface). y.link) (same_one (sym its.listed ∙ there'.listed)) in
             rw link at on
 
-    two_shown : ShowsTwoWays n shown r p
+    two_shown : Shows16Twice n shown r p
     two_shown =
         elim (find_below (IsPoisoned n shown r p) (poisoned_or_not n shown r p) (length n.interfaces)) [
           | inr none ↦ absurd (some_16 (λ j g. none j (slice_get_within n.interfaces j _ g.listed) g))
           | inl h ↦ second h.0 h.2
         ]
       where
-        second : (o : ℕ) → IsPoisoned n shown r p o → ShowsTwoWays n shown r p
+        second : (o : ℕ) → IsPoisoned n shown r p o → Shows16Twice n shown r p
         second o h =
             elim (find_below (λ j. IsPoisoned n shown r p j × (j ≢ o)) (another_or_not n shown r p o) (length n.interfaces)) [
               | inl g ↦
@@ -209,11 +230,37 @@ module _ (n : Network) (plan : IsLawful n) (shown : State) (range : IsInRange n 
                   | inr differs ↦ absurd (none j (slice_get_within n.interfaces j _ g.listed) (g, differs))
                 ]
 
+    -- where each shows 16, the route is unreachable
+    all_tell : ((j k d : ℕ) → IsInterface n j r k d → metric_at shown j p ≡ Some 16) → Tells n shown r p (record { metric = 16; way = Unreachable })
+    all_tell each_16 = record {
+      way_fits = refl;
+      as_told = λ j k d there. inr (each_16 j k d there);
+    }
+
+    below_shown : (i m : ℕ) × IsShownBelow n shown r p i m
+    below_shown =
+        elim (find_below (IsOther n shown r p) (other_or_not n shown r p) (length n.interfaces)) [
+          | inl h ↦
+              let o = h.2 in
+              let its : IsInterface n h.0 o.own.router o.own.link o.own.cost = record { address = o.own.address; listed = o.listed } in
+              let there : IsInterface n h.0 r o.own.link o.own.cost = rw o.its at its in
+              let b = below h.0 o.own.link o.own.cost there (λ g. o.shows g.shows) in
+              (h.0, b.0, record { link = o.own.link; cost = o.own.cost; its = there; shows = b.1; below = b.3 })
+          | inr none ↦ absurd (no_route _ (all_tell (λ j k d there. each_16 j k d there none)))
+        ]
+      where
+        each_16 : (j k d : ℕ) → IsInterface n j r k d → ((i : ℕ) → i < length n.interfaces → IsOther n shown r p i → ⊥) → metric_at shown j p ≡ Some 16
+        each_16 j k d there none =
+            elim (is_16 (metric_at shown j p)) [
+              | inl is ↦ is
+              | inr not ↦ absurd (none j (slice_get_within n.interfaces j _ there.listed) (record { own = _; listed = there.listed; its = refl; shows = not }))
+            ]
+
   pub two_ways_shown : r < length n.routers → (IsReadable n shown r p → ⊥) → ShowsTwoWays n shown r p
   two_ways_shown at unread =
       let has = plan.one_interface r at in
       let kind : HasTwoInterfaces n r ⊎ IsLeaf n r has.0 has.1 has.2 = two_or_leaf n r has.0 has.1 has.2 has.3 in
       elim kind [
-        | inl two ↦ two_shown at two unread
+        | inl two ↦ (two_shown at two unread, below_shown at two unread)
         | inr leaf ↦ absurd (unread (inr (has.0, has.1, has.2, leaf)))
       ]

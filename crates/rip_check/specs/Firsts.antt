@@ -78,10 +78,15 @@ abbrev pub ShowsEach : Network → State → ℕ → ℕ → Type 0
 ShowsEach n shown r p = (i l c : ℕ) → IsInterface n i r l c → metric_at shown i p ≢ None
 
 -- the router shows 16 on two of its interfaces
-abbrev pub ShowsTwoWays : Network → State → ℕ → ℕ → Type 0
-ShowsTwoWays n shown r p =
+abbrev pub Shows16Twice : Network → State → ℕ → ℕ → Type 0
+Shows16Twice n shown r p =
     (i j l k c d : ℕ) × (i ≢ j) × IsInterface n i r l c × IsInterface n j r k d
     × (metric_at shown i p ≡ Some 16) × (metric_at shown j p ≡ Some 16)
+
+-- and a metric below 16 on another
+abbrev pub ShowsTwoWays : Network → State → ℕ → ℕ → Type 0
+ShowsTwoWays n shown r p =
+    Shows16Twice n shown r p × ((i m : ℕ) × IsShownBelow n shown r p i m)
 
 -- why no route of router r for prefix p can be read: it shows two metrics; else it shows nothing on
 -- a link; else it does neither, and would need two ways

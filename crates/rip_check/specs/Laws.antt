@@ -41,17 +41,21 @@ PoisonHidesNothing k =
     (r l c s p : ℕ) → p < length k.shown.prefixes → HasCost k.net r l c → IsNeighbour k.net r l s →
     (k.tables r p).metric ≤ c + (k.tables s p).metric
 
--- router t gives neighbour s of router r its metric over link l: it is r itself, or r hears it there
--- too and is served more cheaply than by s
-pub record Gives (k : Case) (r l c s t p : ℕ) : Type 0 where
-  pub offer : Offers k.net k.shown s l t p (k.tables s p).metric
-  pub near : (t ≡ r) ⊎ ((v : ℕ) × Offers k.net k.shown r l t p v × (v < c + (k.tables s p).metric))
+-- router t gives neighbour s its metric over link l
+abbrev pub IsGiver : Case → ℕ → ℕ → ℕ → ℕ → Type 0
+IsGiver k l s t p = Offers k.net k.shown s l t p (k.tables s p).metric
 
--- a neighbour that goes over the link has a giver there
+-- router t is router r itself, or offers r less over link l than neighbour s would
+abbrev pub IsNear : Case → ℕ → ℕ → ℕ → ℕ → ℕ → ℕ → Type 0
+IsNear k r l c s t p =
+    (t ≡ r) ⊎ ((v : ℕ) × Offers k.net k.shown r l t p v × (v < c + (k.tables s p).metric))
+
+-- a neighbour that goes over the link is given its metric there, and whoever gives it is near
 abbrev pub GiversAreNear : Case → Type 0
 GiversAreNear k =
     (r l c s p : ℕ) → p < length k.shown.prefixes → HasCost k.net r l c → IsNeighbour k.net r l s
-    → (k.tables s p).way ≡ Over l → (t : ℕ) × Gives k r l c s t p
+    → (k.tables s p).way ≡ Over l
+    → ((t : ℕ) × IsGiver k l s t p) × ((t : ℕ) → IsGiver k l s t p → IsNear k r l c s t p)
 
 -- where a neighbour has a prefix itself and is silent of it on the link, the router has it at what
 -- the link costs it

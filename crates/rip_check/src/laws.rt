@@ -23,8 +23,8 @@ pub fn poison_hides_nothing()
 {}
 
 /// What a neighbour may hide behind a 16 is no better for the router: where the neighbour goes over
-/// their link, its giver there is the router itself or serves the router more cheaply; where it has
-/// the prefix itself, on that link, so has the router.
+/// their link, a router gives it its metric there, and each that does is the router itself or offers
+/// it less; where the neighbour has the prefix itself, on that link, so has the router.
 pub fn poisoned_is_no_better()
     ensures over { (k : Case) → IsSettled k → GiversAreNear k }
     ensures here { (k : Case) → SilenceIsShared k }
@@ -88,7 +88,8 @@ pub fn some_route()
         (way : Way) × IsExpected n r p (record { metric = m; way = way }) }
 {}
 
-/// Where `two ways` is the reason why no route can be read, the router shows 16 on two of its interfaces.
+/// Where `two ways` is the reason why no route can be read, the router shows 16 on two of its interfaces
+/// and a metric below 16 on another.
 pub fn two_ways()
     ensures { (n : Network) (shown : State) (r p : ℕ) → IsLawful n → IsInRange n shown →
         r < length n.routers → IsReason n shown r p (TwoWays r p) →

@@ -24,8 +24,8 @@ pub(crate) struct Survey {
     /// carries the prefix.
     pub silent: Option<usize>,
     /// Whether this cannot come from a route over one link, which is poisoned there and shown
-    /// everywhere else: two interfaces are silent, or one on a link that carries the prefix, or the one
-    /// above shows nothing, and not 16.
+    /// everywhere else: two interfaces are silent, or one on a link that carries the prefix, or the
+    /// interface on the link of `silent` shows nothing, and not 16.
     pub blocked: bool,
 }
 

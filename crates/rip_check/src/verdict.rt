@@ -40,7 +40,8 @@ pub enum Unclear {
         /// The first link on which it shows nothing.
         link: usize,
     },
-    /// A router shows 16 for a prefix on two links, as if it had two ways.
+    /// A router shows 16 for a prefix on two links and a metric below 16 on another, as if it had two
+    /// ways.
     TwoWays {
         /// The router.
         router: usize,

@@ -1,7 +1,7 @@
 //! Laws of the definitions alone: functions that do nothing, whose contracts hold of all bytes and
 //! every document.
 
-ghost use Rattle.std.specs.Prelude.{◌≡◌, ◌↔◌, ℕ, List, None, Some};
+ghost use Rattle.std.specs.Prelude.{◌≡◌, ◌≢◌, ◌↔◌, ℕ, List, None, Some};
 ghost use Rattle.toml.specs.Data.{Members};
 ghost use Rattle.rip_plan.specs.Network.{Network};
 ghost use Rattle.rip_plan.specs.Answers.{first_fault};
@@ -9,6 +9,7 @@ ghost use Rattle.rip_plan.specs.PlanFaults.{IsFault, PlanFault};
 ghost use Rattle.rip_plan.specs.PlanOf.{IsPlanOfText, PlanOf};
 ghost use Rattle.rip_plan.specs.Relations.{IsLawful};
 ghost use Rattle.rip_plan.specs.WellFormed.{IsWellFormed};
+ghost use Rattle.rip_plan.specs.declared.error.PlanCode.TheVariants.{Memory};
 ghost use Rattle.rip_plan.specs.declared.error.PlanError.{PlanError};
 
 use crate::limits::{
@@ -30,8 +31,8 @@ pub fn one_plan()
     ensures { (document : Members) (n m : Network) → PlanOf document n → PlanOf document m → n ≡ m }
 {}
 
-/// Bytes are refused exactly by the first of their faults; and where they have none, they have a
-/// plan, which is lawful.
+/// Bytes are refused exactly by the first of their faults, which is never Memory; and where they have
+/// none, they have a plan, which is lawful.
 pub fn first_faults()
     ensures told { (bytes : List ℕ) (e : PlanError) →
         (first_fault bytes ≡ Some e) ↔ PlanFault bytes e }
@@ -39,6 +40,7 @@ pub fn first_faults()
         (first_fault bytes ≡ None) ↔ ((e : PlanError) → IsFault bytes e → ⊥) }
     ensures plan { (bytes : List ℕ) → ((e : PlanError) → IsFault bytes e → ⊥) →
         (n : Network) × IsPlanOfText bytes n × IsLawful n }
+    ensures memory { (bytes : List ℕ) (e : PlanError) → PlanFault bytes e → e.code ≢ Memory }
 {
     rip_wire::laws::names();
     rip_wire::laws::address_texts();

@@ -1,10 +1,9 @@
 //! A plan, and what it answers.
 
-ghost use Rattle.std.specs.Prelude.{◌≡◌, ◌≢◌, ◌==◌, ◌<◌, ◌≤◌, ◌↔◌, ◌⊎◌, ℕ, Contains, Decides, IfErr, IfOk, IfSome, IsErrOf, None, Some, false, is_some, length, not, option_and_then, slice_get};
+ghost use Rattle.std.specs.Prelude.{◌≡◌, ◌==◌, ◌<◌, ◌≤◌, ◌↔◌, ◌⊎◌, ℕ, Contains, Decides, IfErr, IfOk, IfSome, IsErrOf, None, Some, false, is_some, length, not, option_and_then, slice_get};
 ghost use Rattle.std.specs.Str.{is_utf8};
 ghost use Rattle.std.specs.List.Sorted.{IsStrictlyIncreasing};
-ghost use Rattle.rip_plan.specs.declared.error.PlanCode.TheVariants.{Memory};
-ghost use Rattle.rip_plan.specs.Answers.{IsAnswer, first_fault, out_of_memory};
+ghost use Rattle.rip_plan.specs.Answers.{IsAnswer, out_of_memory};
 ghost use Rattle.rip_plan.specs.PlanFaults.{IsFault, PlanFault};
 ghost use Rattle.rip_plan.specs.PlanOf.{IsPlanOfText};
 ghost use Rattle.rip_plan.specs.Fault.{Gives};
@@ -116,16 +115,13 @@ impl Plan {
     /// memory.
     pub fn read(alloc: Global, bytes: &[u8]) -> Result<Plan, PlanError>
         ensures exact { IsAnswer result (network_in bytes.now) }
-        ensures faultless { IfOk result (λ plan. first_fault bytes.now ≡ None) }
         ensures plan { IfOk result (λ plan. IsPlanOfText bytes.now plan) }
-        ensures fault { IfErr result (λ e. (e ≡ out_of_memory) ⊎ (first_fault bytes.now ≡ Some e)) }
         ensures told { IfErr result (λ e. (e ≡ out_of_memory) ⊎ PlanFault bytes.now e) }
         ensures no_fault { IfOk result (λ plan. (e : PlanError) → IsFault bytes.now e → ⊥) }
         ensures long { MOST_PLAN_BYTES < length bytes.now
             → IsErrOf result (record { code = PlanCode.Limit; place = At.Text }) }
         ensures not_utf8 { length bytes.now ≤ MOST_PLAN_BYTES → is_utf8 bytes.now ≡ false
             → IsErrOf result (record { code = PlanCode.Syntax; place = At.Text }) }
-        ensures apart { (e : PlanError) → first_fault bytes.now ≡ Some e → e.code ≢ Memory }
     {
         first_faults();
         match read_plan(alloc, bytes) {

@@ -1,7 +1,8 @@
 -- The end of a run that wrote one of the texts that it may write.
 use Rattle.std.proofs.Common.{◌≡◌, ◌⊎◌, inl, inr, ℕ, Bool, List, [], Option, Some, Result, Ok, Err, refl, sym, ◌∙◌, ap, subst}
 use Rattle.std.specs.Prelude.{◌↔◌, IfOk}
-use Rattle.rip_plan.specs.Answers.{first_fault, out_of_memory}
+use Rattle.rip_plan.specs.Answers.{out_of_memory}
+use Rattle.rip_plan.specs.PlanFaults.{PlanFault}
 use Rattle.rip_plan.specs.declared.error.PlanCode.TheVariants.{Memory as OutOfMemory}
 use Rattle.rip_plan.specs.declared.error.PlanError.{PlanError}
 use Rattle.rip_log.specs.declared.device.Failed.{Failed}
@@ -71,6 +72,6 @@ refused_prints IsText e taken broken a b (Err f) told wanted p = record {
 }
 
 -- a fault that is not want of memory is the first one of the bytes
-pub first_told : (bytes : List ℕ) (e : PlanError) → (e ≡ out_of_memory) ⊎ (first_fault bytes ≡ Some e) → (e.code ≡ OutOfMemory → ⊥) → first_fault bytes ≡ Some e
+pub first_told : (bytes : List ℕ) (e : PlanError) → (e ≡ out_of_memory) ⊎ PlanFault bytes e → (e.code ≡ OutOfMemory → ⊥) → PlanFault bytes e
 first_told bytes e (inl h) other = absurd (other (ap (λ (e : PlanError). e.code) h))
 first_told bytes e (inr h) other = h

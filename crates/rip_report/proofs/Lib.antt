@@ -1,7 +1,7 @@
 pub mod SentLemmas
 pub mod HexLemmas
 pub mod LineLemmas
-pub mod FailureLemmas
+pub mod UnsettledLemmas
 pub mod VerdictLemmas
 pub mod FinishLemmas
 pub mod ReportLemmas

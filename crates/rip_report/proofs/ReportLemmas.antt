@@ -2,8 +2,8 @@
 use Rattle.std.proofs.Common.{◌≡◌, ℕ, List, Bool, true, false, Option, Some, None, Result, Ok, Err, ◌⊎◌, inl, inr, refl, sym, ap, subst, ◌∙◌}
 use Rattle.std.specs.Prelude.{◌↔◌, if◌then◌else◌, IfOk}
 use Rattle.std.proofs.lemmas.Option.{same_Some}
-use Rattle.rip_plan.specs.Answers.{first_fault}
 use Rattle.rip_plan.specs.Network.{Network}
+use Rattle.rip_plan.specs.PlanFaults.{PlanFault}
 use Rattle.rip_plan.specs.PlanOf.{IsPlanOfText, PlanOf}
 use Rattle.rip_plan.specs.declared.error.PlanCode.TheVariants.{Memory as OutOfMemory}
 use Rattle.rip_plan.specs.declared.error.PlanError.{PlanError}
@@ -107,13 +107,10 @@ of_read IsSaid bytes log n m s one_plan is told h =
     subst (λ (k : Network). IsSaid k s) (sym same) (told s (subst (λ (k : Network). IsTable k log s) same h.table))
 
 -- the bytes of a plan that is refused have a fault
-pub of_refused : (IsSaid : Status → Type 0) (bytes : List ℕ) (log : Option (List ℕ)) (n : Network) (s : State) (e : PlanError) (outcome : Result Status RunError) → ((e.code ≡ OutOfMemory → ⊥) → first_fault bytes ≡ Some e)
+pub of_refused : (IsSaid : Status → Type 0) (bytes : List ℕ) (log : Option (List ℕ)) (n : Network) (s : State) (e : PlanError) (outcome : Result Status RunError) → ((e.code ≡ OutOfMemory → ⊥) → PlanFault bytes e)
     → (outcome ≡ Err Memory) ↔ (e.code ≡ OutOfMemory) → IsAccepted bytes log n s → IfOk outcome IsSaid
-of_refused IsSaid bytes log n s e (Ok status) told wanted k = absurd (never (sym (told (λ m. other (wanted.1 m))) ∙ k.faultless))
+of_refused IsSaid bytes log n s e (Ok status) told wanted k = absurd (k.faultless e (told (λ m. other (wanted.1 m))).fault)
   where
-    never : ◌≡◌ {A = Option PlanError} (Some e) None → ⊥
-    never h = absurd (cc)
-
     other : ◌≡◌ {A = Result Status RunError} (Ok status) (Err Memory) → ⊥
     other h = absurd (cc)
 of_refused IsSaid bytes log n s e (Err f) told wanted k = tt

@@ -65,13 +65,13 @@ abbrev pub wrong_metric_part : Network → ℕ → Way → List ℕ
 wrong_metric_part n metric way = codes "metric " ++ decimal metric ++ wrong_way_part n way
 
 -- what fails at a place
-abbrev pub failure_part : Network → Place2 → List ℕ
-failure_part n f =
+abbrev pub unsettled_part : Network → Place2 → List ℕ
+unsettled_part n f =
     if f.metric == f.equation then wrong_metric_part n f.metric f.way
     else metric_part f.hidden f.metric f.equation
 
 -- the router, the prefix and the link of a place are known
-pub record IsPlaceOf (n : Network) (s : State) (f : Place2) : Type 0 where
+pub record AreKnown (n : Network) (s : State) (f : Place2) : Type 0 where
   pub router : f.router < length n.routers
   pub prefix : f.prefix < length s.prefixes
   pub way : IsKnownWay n f.way
@@ -79,7 +79,7 @@ pub record IsPlaceOf (n : Network) (s : State) (f : Place2) : Type 0 where
 -- `unsettled: router r1 prefix 10.2.0.0/16: metric 3, equation 2`
 unfoldable pub unsettled_line : Network → State → Place2 → List ℕ
 unsettled_line n s f =
-    line (codes "unsettled: " ++ place_part n s f.router f.prefix ++ failure_part n f)
+    line (codes "unsettled: " ++ place_part n s f.router f.prefix ++ unsettled_part n f)
 
 -- `router r1 link a: `, by their numbers
 abbrev pub interface_part : Network → ℕ → ℕ → List ℕ
@@ -126,15 +126,15 @@ unclear_line n s trouble = line (codes "unclear: " ++ trouble_part n s trouble)
 -- ---- Texts
 
 -- one line for each place after the given one that can be read and does not hold, in order
-pub data FailureLines (n : Network) (s : State) : Option (ℕ × ℕ) → List ℕ → Type 0 where
-  no_more : (after : Option (ℕ × ℕ)) → HoldsAfter n s after → FailureLines n s after []
+pub data AllUnsettled (n : Network) (s : State) : Option (ℕ × ℕ) → List ℕ → Type 0 where
+  no_more : (after : Option (ℕ × ℕ)) → HoldsAfter n s after → AllUnsettled n s after []
   one_more : (after : Option (ℕ × ℕ)) (f : Place2) (rest : List ℕ) → IsNextUnsettled n s after f
-      → FailureLines n s (Some (f.router, f.prefix)) rest
-      → FailureLines n s after (unsettled_line n s f ++ rest)
+      → AllUnsettled n s (Some (f.router, f.prefix)) rest
+      → AllUnsettled n s after (unsettled_line n s f ++ rest)
 
 -- the lines of an unsettled network: that of its first failing place, or those of all
 abbrev pub UnsettledLines : Network → State → Bool → Place2 → List ℕ → Type 0
-UnsettledLines n s true f text = FailureLines n s None text
+UnsettledLines n s true f text = AllUnsettled n s None text
 UnsettledLines n s false f text = text ≡ unsettled_line n s f
 
 -- what is written of a table

@@ -4,7 +4,7 @@ use Rattle.std.specs.List.{flat_map}
 use Rattle.std.specs.Str.{is_utf8}
 use Rattle.rip_wire.specs.Address.{address_text}
 use Rattle.rip_wire.specs.Prefix.{prefix_text}
-use Rattle.rip_plan.specs.Answers.{first_fault}
+use Rattle.rip_plan.specs.PlanFaults.{IsFault, PlanFault}
 use Rattle.rip_plan.specs.Codes.{number_of_code}
 use Rattle.rip_plan.specs.Network.{Network}
 use Rattle.rip_plan.specs.PlanOf.{IsPlanOfText}
@@ -111,9 +111,9 @@ shown_plan n = record {
 -- what is written for the bytes of a plan: their first fault, or one of the texts that a command has
 -- for the plan that their document is
 pub data OfPlan (IsText : Network → Written → Type 0) (plan : List ℕ) : Written → Type 0 where
-  a_fault : (e : PlanError) → first_fault plan ≡ Some e → OfPlan IsText plan (refused_plan e)
-  of_plan : (n : Network) (w : Written) → first_fault plan ≡ None → IsPlanOfText plan n
-      → IsText n w → OfPlan IsText plan w
+  a_fault : (e : PlanError) → PlanFault plan e → OfPlan IsText plan (refused_plan e)
+  of_plan : (n : Network) (w : Written) → ((e : PlanError) → IsFault plan e → ⊥)
+      → IsPlanOfText plan n → IsText n w → OfPlan IsText plan w
 
 abbrev pub PlanText : List ℕ → Written → Type 0
 PlanText = OfPlan (λ n w. w ≡ shown_plan n)

@@ -1,8 +1,9 @@
 -- What the commands print that read a plan and a log.
 use Rattle.std.specs.Prelude.{◌≡◌, ℕ, List, Option, None, Some}
-use Rattle.rip_plan.specs.Answers.{first_fault}
 use Rattle.rip_plan.specs.Network.{Network}
+use Rattle.rip_plan.specs.PlanFaults.{IsFault}
 use Rattle.rip_plan.specs.PlanOf.{IsPlanOfText}
+use Rattle.rip_plan.specs.declared.error.PlanError.{PlanError}
 use Rattle.rip_log.specs.Logs.{Log, Numbered}
 use Rattle.rip_log.specs.LogText.{LogFault, LogText}
 use Rattle.rip_log.specs.declared.error.LogError.{LogError}
@@ -60,6 +61,6 @@ pub record IsAccepted
     (n : Network)
     (s : State)
     : Type 0 where
-  pub faultless : first_fault plan ≡ None
+  pub faultless : (e : PlanError) → IsFault plan e → ⊥
   pub plan_of : IsPlanOfText plan n
   pub table : IsTable n log s

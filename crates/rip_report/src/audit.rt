@@ -2,14 +2,14 @@
 
 pub(crate) mod lines;
 
-ghost use Rattle.std.specs.Prelude.{◌≡◌, ◌≢◌, ◌↔◌, ◌++◌, ℕ, List, [], Err, IfOk, IfSome, None, Some, false, is_err, is_some, true, length};
-ghost use Rattle.rip_plan.specs.Answers.{first_fault};
+ghost use Rattle.std.specs.Prelude.{◌≡◌, ◌≢◌, ◌↔◌, ◌++◌, ℕ, List, [], Err, IfOk, IfSome, None, false, is_err, is_some, true, length};
 ghost use Rattle.rip_plan.specs.Network.{Network};
+ghost use Rattle.rip_plan.specs.PlanFaults.{PlanFault};
 ghost use Rattle.rip_plan.specs.declared.error.PlanError.{PlanError};
 ghost use Rattle.rip_table.specs.State.{Fits, State};
 ghost use Rattle.rip_check.specs.Marks.{AreUnsettled};
 ghost use Rattle.rip_check.specs.Verdicts.{IsVerdict, IsNextUnsettled};
-ghost use Rattle.rip_report.specs.AuditText.{AuditText, FailureLines, IsJudged, IsPlaceOf, UnsettledLines, VerdictText, unsettled_line, verdict_status};
+ghost use Rattle.rip_report.specs.AuditText.{AllUnsettled, AreKnown, AuditText, IsJudged, UnsettledLines, VerdictText, unsettled_line, verdict_status};
 ghost use Rattle.rip_report.specs.Held.{held};
 ghost use Rattle.rip_report.specs.PlanText.{IsNoText};
 ghost use Rattle.rip_report.specs.ReportText.{IsAccepted};
@@ -31,7 +31,7 @@ use std::alloc::{AllocError, Global};
 use std::hash::BuildHasher;
 
 /// Adds the line of a place to a page, unless a write before has failed.
-fn write_failure<T: MetricTable, K: Sink>(
+fn write_unsettled_line<T: MetricTable, K: Sink>(
     before: Result<(), Failed>,
     page: &mut Page,
     plan: &Plan,
@@ -39,7 +39,7 @@ fn write_failure<T: MetricTable, K: Sink>(
     place: &Place2,
     out: &mut K,
 ) -> Result<(), Failed>
-    requires { IsPlaceOf plan.now (T.state table.now) place.now }
+    requires { AreKnown plan.now (T.state table.now) place.now }
     ensures writes { is_err before ≡ false →
         Writes K.taken K.broken out.old out.new result
         (held page.old ++ unsettled_line plan.now (T.state table.now) place.now) (held page.new) }
@@ -52,7 +52,7 @@ fn write_failure<T: MetricTable, K: Sink>(
 
 /// Writes the lines of all places that do not hold. After a failed write the others are gone through
 /// unwritten, so that what went out is a beginning of the lines of all.
-fn write_failures<T: MetricTable, K: Sink>(
+fn write_unsettled_lines<T: MetricTable, K: Sink>(
     page: &mut Page,
     plan: &Plan,
     table: &T,
@@ -61,14 +61,14 @@ fn write_failures<T: MetricTable, K: Sink>(
 ) -> Result<(), Failed>
     requires fits { Fits plan.now (T.state table.now) }
     requires places { AreUnsettled plan.now (T.state table.now) places.now }
-    ensures { (text : List ℕ) × FailureLines plan.now (T.state table.now) None text
+    ensures { (text : List ℕ) × AllUnsettled plan.now (T.state table.now) None text
         × Writes K.taken K.broken out.old out.new result (held page.old ++ text) (held page.new) }
 {
     plan.lawful();
     let mut wrote = Ok(());
     let mut after = None;
     'places: while let Some(place) = places.next(plan, table, after) {
-        wrote = write_failure(wrote, page, plan, table, &place, out);
+        wrote = write_unsettled_line(wrote, page, plan, table, &place, out);
         after = Some((place.router, place.prefix));
     }
     wrote
@@ -83,11 +83,11 @@ fn write_each<T: MetricTable, K: Sink>(
 ) -> Result<(), Failed>
     requires fits { Fits plan.now (T.state table.now) }
     requires places { AreUnsettled plan.now (T.state table.now) places.now }
-    ensures { (text : List ℕ) × FailureLines plan.now (T.state table.now) None text
+    ensures { (text : List ℕ) × AllUnsettled plan.now (T.state table.now) None text
         × Writes K.taken K.broken out.old out.new result text [] }
 {
     let mut page = Page::new();
-    write_failures(&mut page, plan, table, places, out)?;
+    write_unsettled_lines(&mut page, plan, table, places, out)?;
     page.flush(out)
 }
 
@@ -182,8 +182,6 @@ fn places_of<T: MetricTable>(
         IfSome places (AreUnsettled plan.now (T.state table.now))) }
     ensures all { IfOk result (λ places. (place : Place2) → verdict.now ≡ Verdict.Unsettled place →
         is_some places ≡ all) }
-    ensures memory { is_err result ≡ true →
-        (all ≡ true) × (verdict_status verdict.now ≡ Status.Unsettled) }
 {
     match verdict {
         Verdict::Unsettled(_) if all => Ok(Some(Unsettled::find(alloc, plan, table)?)),
@@ -203,8 +201,6 @@ fn audit_table<T: MetricTable, K: Sink>(
     ensures prints { Prints K.taken K.broken out.old out.new result
         (VerdictText plan.now (T.state table.now) all) }
     ensures read { result ≢ Err RunError.Read }
-    ensures wanted { result ≡ Err RunError.Memory →
-        (all ≡ true) × IsJudged plan.now (T.state table.now) Status.Unsettled }
     ensures judged { IfOk result (IsJudged plan.now (T.state table.now)) }
 {
     let verdict = judge(plan, table);
@@ -268,7 +264,7 @@ pub fn run_audit<R: Source, K: Sink, S: BuildHasher + Drop>(
     // What is printed of a table comes only at the source's end, and Read only where it has failed.
     ensures reads { Reads R.broken R.at_end log result.0 result.1 }
     // The source of a refused plan is as it was, and its failure is not told.
-    ensures untouched { (e : PlanError) → first_fault plan.now ≡ Some e →
+    ensures untouched { (e : PlanError) → PlanFault plan.now e →
         (result.0 ≡ log) × (result.1 ≢ Err RunError.Read) }
     // Bytes that are no text of a plan are refused without memory.
     ensures no_text { IsNoText plan.now → result.1 ≢ Err RunError.Memory }

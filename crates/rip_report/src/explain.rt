@@ -4,9 +4,9 @@ mod lines;
 mod places;
 mod troubles;
 
-ghost use Rattle.std.specs.Prelude.{◌≡◌, ◌≢◌, ◌↔◌, ◌++◌, ℕ, Bool, List, [], Err, IfOk, IsTrue, None, Some, false, true, length};
-ghost use Rattle.rip_plan.specs.Answers.{first_fault};
+ghost use Rattle.std.specs.Prelude.{◌≡◌, ◌≢◌, ◌↔◌, ◌++◌, ℕ, Bool, List, [], Err, IfOk, IsTrue, None, false, true, length};
 ghost use Rattle.rip_plan.specs.Network.{Network};
+ghost use Rattle.rip_plan.specs.PlanFaults.{PlanFault};
 ghost use Rattle.rip_plan.specs.declared.error.PlanError.{PlanError};
 ghost use Rattle.rip_table.specs.State.{Fits, State};
 ghost use Rattle.rip_check.specs.Expected.{AreExpected};
@@ -254,7 +254,7 @@ pub fn run_explain<R: Source, K: Sink, S: BuildHasher + Drop>(
     // What is printed of a table comes only at the source's end, and Read only where it has failed.
     ensures reads { Reads R.broken R.at_end log result.0 result.1 }
     // The source of a refused plan is as it was, and its failure is not told.
-    ensures untouched { (e : PlanError) → first_fault plan.now ≡ Some e →
+    ensures untouched { (e : PlanError) → PlanFault plan.now e →
         (result.0 ≡ log) × (result.1 ≢ Err RunError.Read) }
     // Bytes that are no text of a plan are refused without memory.
     ensures no_text { IsNoText plan.now → result.1 ≢ Err RunError.Memory }

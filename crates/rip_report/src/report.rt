@@ -1,8 +1,8 @@
 //! Reports on the table of a log: what the commands share that read a plan and a log.
 
-ghost use Rattle.std.specs.Prelude.{◌≡◌, ◌≢◌, Err, IfOk, Some};
-ghost use Rattle.rip_plan.specs.Answers.{first_fault};
+ghost use Rattle.std.specs.Prelude.{◌≡◌, ◌≢◌, Err, IfOk};
 ghost use Rattle.rip_plan.specs.Network.{Network};
+ghost use Rattle.rip_plan.specs.PlanFaults.{PlanFault};
 ghost use Rattle.rip_plan.specs.declared.error.PlanError.{PlanError};
 ghost use Rattle.rip_table.specs.State.{Fits, State, new_state};
 ghost use Rattle.rip_report.specs.PlanText.{IsNoText};
@@ -31,7 +31,7 @@ pub(crate) trait Report {
     // The texts that it may write of a table, each with its status.
     ghost is_text: { Self → Network → State → Written → Type 0 };
 
-    // What its status says of the table.
+    // What its status says of the table, beside its text.
     ghost means: { Self → Network → State → Status → Type 0 };
 
     /// Writes what there is to say of a table.
@@ -104,7 +104,7 @@ pub(crate) fn run_report<C: Report, R: Source, K: Sink, S: BuildHasher + Drop>(
     ensures meaning { (n : Network) (s : State) → IsAccepted plan.now (R.coming log) n s →
         IfOk result.1 (C.means command.now n s) }
     // The source of a refused plan is as it was, and its failure is not told.
-    ensures untouched { (e : PlanError) → first_fault plan.now ≡ Some e →
+    ensures untouched { (e : PlanError) → PlanFault plan.now e →
         (result.0 ≡ log) × (result.1 ≢ Err RunError.Read) }
     // Bytes that are no text of a plan are refused without memory.
     ensures no_text { IsNoText plan.now → result.1 ≢ Err RunError.Memory }

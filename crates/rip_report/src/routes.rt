@@ -1,8 +1,8 @@
 //! The command `routes`: the routes that a log shows, beside the least metrics of the plan.
 
-ghost use Rattle.std.specs.Prelude.{◌≡◌, ◌≢◌, Err, ◌+◌, ◌≤◌, ◌<◌, ◌⊎◌, ◌++◌, ◌==◌, [], IfOk, IsTrue, List, Some, ℕ, false, if◌then◌else◌, length};
-ghost use Rattle.rip_plan.specs.Answers.{first_fault};
+ghost use Rattle.std.specs.Prelude.{◌≡◌, ◌≢◌, Err, ◌+◌, ◌≤◌, ◌<◌, ◌⊎◌, ◌++◌, ◌==◌, [], IfOk, IsTrue, List, ℕ, false, if◌then◌else◌, length};
 ghost use Rattle.rip_plan.specs.Network.{Network};
+ghost use Rattle.rip_plan.specs.PlanFaults.{PlanFault};
 ghost use Rattle.rip_plan.specs.declared.error.PlanError.{PlanError};
 ghost use Rattle.rip_table.specs.State.{Fits, State};
 ghost use Rattle.rip_check.specs.Expected.{AreExpected};
@@ -239,7 +239,7 @@ impl Report for Routes {
 
     ghost is_text = { λ _ n s. RoutesText n s };
 
-    ghost means = { λ _ n s status. status ≡ Status.Done };
+    ghost means = { λ _ n s status. Unit {0} };
 
     fn write<T: MetricTable, K: Sink>(
         &self,
@@ -274,7 +274,7 @@ pub fn run_routes<R: Source, K: Sink, S: BuildHasher + Drop>(
     ensures told { (n : Network) (s : State) → IsAccepted plan.now (R.coming log) n s →
         IfOk result.1 (WentOut (RoutesText n s) (K.taken out.old) (K.taken out.new)) }
     // The source of a refused plan is as it was, and its failure is not told.
-    ensures untouched { (e : PlanError) → first_fault plan.now ≡ Some e →
+    ensures untouched { (e : PlanError) → PlanFault plan.now e →
         (result.0 ≡ log) × (result.1 ≢ Err RunError.Read) }
     // Bytes that are no text of a plan are refused without memory.
     ensures no_text { IsNoText plan.now → result.1 ≢ Err RunError.Memory }

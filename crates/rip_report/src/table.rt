@@ -1,8 +1,7 @@
 //! The command `table`: what the interfaces of a plan showed in a log.
 
-ghost use Rattle.std.specs.Prelude.{◌≡◌, ◌≢◌, Err, ◌+◌, ◌≤◌, ◌<◌, ◌++◌, [], IfOk, Some, length, codes};
+ghost use Rattle.std.specs.Prelude.{◌≡◌, ◌≢◌, Err, ◌+◌, ◌≤◌, ◌<◌, ◌++◌, [], IfOk, length, codes};
 ghost use Rattle.std.specs.List.{enumerate_from, flat_map};
-ghost use Rattle.rip_plan.specs.Answers.{first_fault};
 ghost use Rattle.rip_plan.specs.declared.error.PlanError.{PlanError};
 ghost use Rattle.rip_table.specs.State.{Fits, State};
 ghost use Rattle.rip_report.specs.declared.limits.TheConstants.{LINE_BYTES};
@@ -13,6 +12,7 @@ ghost use Rattle.rip_report.specs.ReportText.{IsAccepted};
 ghost use Rattle.rip_report.specs.Sent.{Prints, Reads, WentOut, Writes};
 ghost use Rattle.rip_report.specs.Texts.{AreOfMetrics, AreTexts, text_of};
 ghost use Rattle.rip_plan.specs.Network.{Network};
+ghost use Rattle.rip_plan.specs.PlanFaults.{PlanFault};
 ghost use Rattle.rip_plan.specs.declared.parts.Interface.{Interface};
 ghost use Rattle.rip_wire.specs.Prefix.{Block, prefix_text};
 
@@ -214,7 +214,7 @@ impl Report for Table {
 
     ghost is_text = { λ _ n s w. w ≡ shown_table n s };
 
-    ghost means = { λ _ n s status. status ≡ Status.Done };
+    ghost means = { λ _ n s status. Unit {0} };
 
     fn write<T: MetricTable, K: Sink>(
         &self,
@@ -246,7 +246,7 @@ pub fn run_table<R: Source, K: Sink, S: BuildHasher + Drop>(
         IfOk result.1
         (WentOut (λ w. w ≡ shown_table n s) (K.taken out.old) (K.taken out.new)) }
     // The source of a refused plan is as it was, and its failure is not told.
-    ensures untouched { (e : PlanError) → first_fault plan.now ≡ Some e →
+    ensures untouched { (e : PlanError) → PlanFault plan.now e →
         (result.0 ≡ log) × (result.1 ≢ Err RunError.Read) }
     // Bytes that are no text of a plan are refused without memory.
     ensures no_text { IsNoText plan.now → result.1 ≢ Err RunError.Memory }

@@ -122,8 +122,8 @@ pub record Collects {R : Type 0} (coming : R → Option (List ℕ)) (broken at_e
   -- a record that is not joined is taken from the reader, and no other
   pub behind : has_stopped before ≡ false → IfErr result (λ e. is_log_cause e.cause ≡ false →
       StandsBehindKnown (log_to_come coming before) e.line (log_to_come coming after))
-  -- Memory only behind a further line, and only where a record can bring a pair, whether bytes are
-  -- told or not; where they are, it is the record of that line
+  -- Memory only behind a further line, and only of a table to which some record would bring a pair,
+  -- whether bytes are told or not; where they are told, it is the record of that line (`told`)
   pub wanted : IfErr result (λ e. is_memory e.cause ≡ true →
       (lines_behind before < lines_behind after) × ((c : Capture) × WantsFor n new c))
   -- an Ok only where the source has come to its end and nothing is held, Read only where it has

@@ -2,7 +2,7 @@
 
 ghost use Rattle.std.specs.Prelude.{◌≡◌, ◌+◌, ◌≤◌, ◌<◌, ◌++◌, length};
 ghost use Rattle.rip_report.specs.declared.limits.TheConstants.{LINE_BYTES};
-ghost use Rattle.rip_report.specs.AuditText.{IsKnownReason, IsPlaceOf, IsTroubleOf, failure_part, has_one_interface, interface_part, leaf_part, leaves_of, metric_part, no_offer_part, place_part, reason_part, settled_line, subject_part, trouble_part, unclear_line, unsettled_line, wrong_metric_part, wrong_way_part};
+ghost use Rattle.rip_report.specs.AuditText.{AreKnown, IsKnownReason, IsTroubleOf, has_one_interface, interface_part, leaf_part, leaves_of, metric_part, no_offer_part, place_part, reason_part, settled_line, subject_part, trouble_part, unclear_line, unsettled_line, unsettled_part, wrong_metric_part, wrong_way_part};
 ghost use Rattle.rip_report.specs.Names.{IsKnownWay};
 
 use crate::line::Line;
@@ -121,10 +121,10 @@ fn push_wrong_metric(text: &mut Line, plan: &Plan, metric: Metric, way: Way)
 }
 
 /// Adds what fails at a place.
-fn push_failure(text: &mut Line, plan: &Plan, place: &Place2)
+fn push_unsettled(text: &mut Line, plan: &Plan, place: &Place2)
     requires way { IsKnownWay plan.now place.now.way }
     requires room { length text.old + 83 ≤ LINE_BYTES }
-    ensures text { text.new ≡ text.old ++ failure_part plan.now place.now }
+    ensures text { text.new ≡ text.old ++ unsettled_part plan.now place.now }
     ensures size { length text.new ≤ length text.old + 83 }
 {
     if place.metric == place.equation {
@@ -137,13 +137,13 @@ fn push_failure(text: &mut Line, plan: &Plan, place: &Place2)
 /// The line of a place that does not hold.
 #[tactic(auto, unfolding(crate::specs::AuditText::unsettled_line))]
 pub(crate) fn unsettled_text<T: MetricTable>(plan: &Plan, table: &T, place: &Place2) -> Line
-    requires { IsPlaceOf plan.now (T.state table.now) place.now }
+    requires { AreKnown plan.now (T.state table.now) place.now }
     ensures { result ≡ unsettled_line plan.now (T.state table.now) place.now }
 {
     let mut text = Line::new();
     text.push("unsettled: ");
     push_place(&mut text, plan, table, place.router, place.prefix);
-    push_failure(&mut text, plan, place);
+    push_unsettled(&mut text, plan, place);
     text.end();
     text
 }

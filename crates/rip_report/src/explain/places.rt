@@ -6,7 +6,7 @@ ghost use Rattle.rip_table.specs.State.{Fits};
 ghost use Rattle.rip_check.specs.Expected.{AreExpected};
 ghost use Rattle.rip_check.specs.Marks.{AreUnsettled};
 ghost use Rattle.rip_check.specs.Paths.{IsLeast};
-ghost use Rattle.rip_report.specs.AuditText.{IsPlaceOf};
+ghost use Rattle.rip_report.specs.AuditText.{AreKnown};
 ghost use Rattle.rip_report.specs.ExplainText.{DirectLine, UnsoundLines, OfferLine, OfferLines, OffersOver, PlaceLines, ShownLine, ShownLines};
 ghost use Rattle.rip_report.specs.Listings.{Adds};
 
@@ -181,7 +181,7 @@ pub(crate) fn add_place<T: MetricTable, K: Sink>(
     out: &mut K,
 )
     requires fits { Fits plan.now (T.state table.now) }
-    requires place { IsPlaceOf plan.now (T.state table.now) place.now }
+    requires place { AreKnown plan.now (T.state table.now) place.now }
     requires least { IsLeast plan.now place.now.prefix place.now.router least }
     ensures { (text : List ℕ) × PlaceLines plan.now (T.state table.now) place.now text
         × Adds K.taken K.broken out.old out.new listing.old listing.new text }

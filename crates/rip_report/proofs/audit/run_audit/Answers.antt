@@ -14,7 +14,6 @@ pub returns-clause-one_set : goal.returns-clause-one_set
 returns-clause-one_set g c =
     let bytes = c.args.plan.now in
     λ n s accepted.
-    let faultless = (c.first_faults.ensures.none bytes).0 accepted.faultless in
-    let (m, is, lawful) = c.first_faults.ensures.plan bytes faultless in
+    let (m, is, lawful) = c.first_faults.ensures.plan bytes accepted.faultless in
     let same = same_plan bytes m n (λ k l q. c.one_plan.ensures q.document k l) is accepted.plan_of in
     c.one_set_of_tables.ensures.tables n s (subst IsLawful same lawful)

@@ -1,5 +1,5 @@
 use Rattle.std.proofs.Common.{None}
-use Rattle.rip_report.proofs.FailureLemmas.{known_place}
+use Rattle.rip_report.proofs.UnsettledLemmas.{known_place}
 use Rattle.rip_report.proofs.audit.write_first.Goals as goal
 
 pub unsettled_text-requires : goal.unsettled_text-requires

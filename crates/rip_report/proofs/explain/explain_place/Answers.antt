@@ -2,7 +2,7 @@ use Rattle.rip_report.specs.ExplainText.{ExplainText, an_unsettled}
 use Rattle.rip_report.specs.Written.{Written}
 use Rattle.rip_report.specs.declared.status.Status.TheVariants.{Unsettled}
 use Rattle.std.proofs.Common.{None, false}
-use Rattle.rip_report.proofs.FailureLemmas.{known_place}
+use Rattle.rip_report.proofs.UnsettledLemmas.{known_place}
 use Rattle.rip_report.proofs.FinishLemmas.{finished_prints}
 use Rattle.rip_report.proofs.ListingLemmas.{writes_none}
 use Rattle.rip_report.proofs.explain.explain_place.Goals as goal

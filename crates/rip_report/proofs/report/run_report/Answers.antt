@@ -10,7 +10,7 @@ pub returns-in-Ok-with_hasher-clause-prints : goal.returns-in-Ok-with_hasher-cla
 returns-in-Ok-with_hasher-clause-prints g c =
     let says = g.C.Report.is_text c.args.command.now in
     let log = g.R.Source.coming c.args.log in
-    prints_also (ReportOf (says c.in-Ok.plan) c.in-Ok.plan log) (ReportText says c.args.plan.now log) g.K.Sink.taken g.K.Sink.broken c.args.out.now c.report_log.new.out c.report_log.result.1 (λ w h. of_plan c.in-Ok.plan w c.in-Ok.ensures.faultless c.in-Ok.ensures.plan h) c.report_log.ensures.prints
+    prints_also (ReportOf (says c.in-Ok.plan) c.in-Ok.plan log) (ReportText says c.args.plan.now log) g.K.Sink.taken g.K.Sink.broken c.args.out.now c.report_log.new.out c.report_log.result.1 (λ w h. of_plan c.in-Ok.plan w c.in-Ok.ensures.no_fault c.in-Ok.ensures.plan h) c.report_log.ensures.prints
 
 pub returns-in-Ok-with_hasher-clause-told : goal.returns-in-Ok-with_hasher-clause-told
 returns-in-Ok-with_hasher-clause-told g c =
@@ -24,14 +24,14 @@ returns-in-Ok-with_hasher-clause-meaning g c =
 
 pub returns-in-Err-clause-prints : goal.returns-in-Err-clause-prints
 returns-in-Err-clause-prints g c =
-    refused_prints (ReportText (g.C.Report.is_text c.args.command.now) c.args.plan.now (g.R.Source.coming c.args.log)) c.in-Err.error g.K.Sink.taken g.K.Sink.broken c.args.out.now c.refuse_plan.new.out c.refuse_plan.result (λ other. a_fault c.in-Err.error (first_told c.args.plan.now c.in-Err.error c.in-Err.ensures.fault other)) c.refuse_plan.ensures.wanted c.refuse_plan.ensures.prints
+    refused_prints (ReportText (g.C.Report.is_text c.args.command.now) c.args.plan.now (g.R.Source.coming c.args.log)) c.in-Err.error g.K.Sink.taken g.K.Sink.broken c.args.out.now c.refuse_plan.new.out c.refuse_plan.result (λ other. a_fault c.in-Err.error (first_told c.args.plan.now c.in-Err.error c.in-Err.ensures.told other)) c.refuse_plan.ensures.wanted c.refuse_plan.ensures.prints
 
 pub returns-in-Err-clause-told : goal.returns-in-Err-clause-told
 returns-in-Err-clause-told g c =
     let e = c.in-Err.error in
-    λ n s accepted. of_refused (WentOut (g.C.Report.is_text c.args.command.now n s) (g.K.Sink.taken c.args.out.now) (g.K.Sink.taken c.refuse_plan.new.out)) c.args.plan.now (g.R.Source.coming c.args.log) n s e c.refuse_plan.result (first_told c.args.plan.now e c.in-Err.ensures.fault) c.refuse_plan.ensures.wanted accepted
+    λ n s accepted. of_refused (WentOut (g.C.Report.is_text c.args.command.now n s) (g.K.Sink.taken c.args.out.now) (g.K.Sink.taken c.refuse_plan.new.out)) c.args.plan.now (g.R.Source.coming c.args.log) n s e c.refuse_plan.result (first_told c.args.plan.now e c.in-Err.ensures.told) c.refuse_plan.ensures.wanted accepted
 
 pub returns-in-Err-clause-meaning : goal.returns-in-Err-clause-meaning
 returns-in-Err-clause-meaning g c =
     let e = c.in-Err.error in
-    λ n s accepted. of_refused (g.C.Report.means c.args.command.now n s) c.args.plan.now (g.R.Source.coming c.args.log) n s e c.refuse_plan.result (first_told c.args.plan.now e c.in-Err.ensures.fault) c.refuse_plan.ensures.wanted accepted
+    λ n s accepted. of_refused (g.C.Report.means c.args.command.now n s) c.args.plan.now (g.R.Source.coming c.args.log) n s e c.refuse_plan.result (first_told c.args.plan.now e c.in-Err.ensures.told) c.refuse_plan.ensures.wanted accepted

@@ -1,7 +1,7 @@
 use Rattle.std.proofs.Common.{IsTrue, false}
 use Rattle.rip_check.specs.Tables.{Route}
 use Rattle.rip_report.specs.RoutesText.{IsRead, a_route, unclear}
-use Rattle.rip_report.proofs.FailureLemmas.{known_way}
+use Rattle.rip_report.proofs.UnsettledLemmas.{known_way}
 use Rattle.rip_report.proofs.VerdictLemmas.{known_reason}
 use Rattle.rip_report.proofs.routes.pair_text.Goals as goal
 

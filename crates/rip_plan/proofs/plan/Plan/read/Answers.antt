@@ -1,12 +1,5 @@
-use Rattle.rip_plan.proofs.NoMemory.{never_memory}
 use Rattle.rip_plan.proofs.PlanMatches.{network_matches}
 use Rattle.rip_plan.proofs.plan.Plan.read.Goals as goal
 
 pub returns-in-Ok-clause-plan : goal.returns-in-Ok-clause-plan
 returns-in-Ok-clause-plan c = network_matches c.args.bytes.now c.in-Ok.plan c.in-Ok.ensures.gives
-
-pub returns-in-Err-Fault-clause-apart : goal.returns-in-Err-Fault-clause-apart
-returns-in-Err-Fault-clause-apart c = never_memory c.args.bytes.now
-
-pub returns-in-Err-OutOfMemory-clause-apart : goal.returns-in-Err-OutOfMemory-clause-apart
-returns-in-Err-OutOfMemory-clause-apart c = never_memory c.args.bytes.now

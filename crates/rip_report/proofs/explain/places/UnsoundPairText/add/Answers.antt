@@ -1,6 +1,6 @@
 use Rattle.std.proofs.Common.{[]}
 use Rattle.rip_report.specs.ExplainText.{fails, holds}
-use Rattle.rip_report.proofs.FailureLemmas.{failing_place}
+use Rattle.rip_report.proofs.UnsettledLemmas.{failing_place}
 use Rattle.rip_report.proofs.ListingLemmas.{adds_none}
 use Rattle.rip_report.proofs.explain.places.UnsoundPairText.add.Goals as goal
 

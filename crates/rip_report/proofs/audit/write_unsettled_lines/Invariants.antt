@@ -1,7 +1,7 @@
 use Rattle.std.proofs.Common.{length}
 use Rattle.rip_report.specs.Held.{held}
-use Rattle.rip_report.proofs.FailureLemmas.{LinesSoFar, places_left}
-use Rattle.rip_report.proofs.audit.write_failures.Given as goal
+use Rattle.rip_report.proofs.UnsettledLemmas.{LinesSoFar, places_left}
+use Rattle.rip_report.proofs.audit.write_unsettled_lines.Given as goal
 use Rattle.rip_check.specs.Verdicts.{IsKnownPlace}
 
 abbrev pub invariant-places : goal.invariant-places

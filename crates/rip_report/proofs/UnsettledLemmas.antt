@@ -9,7 +9,7 @@ use Rattle.rip_check.specs.declared.verdict.Place2.{Place2}
 use Rattle.rip_check.specs.declared.way.Way.{Way}
 use Rattle.rip_check.specs.declared.way.Way.TheVariants.{Unreachable, Here, Over}
 use Rattle.rip_check.specs.Tables.{FitsWay}
-use Rattle.rip_report.specs.AuditText.{FailureLines, no_more, one_more, unsettled_line, IsPlaceOf}
+use Rattle.rip_report.specs.AuditText.{AllUnsettled, no_more, one_more, unsettled_line, AreKnown}
 use Rattle.rip_report.specs.Names.{IsKnownWay}
 use Rattle.rip_report.specs.Sent.{Began, Writes}
 use Rattle.rip_log.specs.declared.device.Failed.{Failed}
@@ -24,7 +24,7 @@ places_left routers prefixes (Some a) = routers * prefixes - (a.0 * prefixes + a
 -- the lines so far: whatever lines come after a place, with those before they are the lines of all; and what went out of them
 pub record LinesSoFar {K : Type 0} (taken : K → Option (List ℕ)) (broken : K → Bool) (n : Network) (s : State) (after : Option (ℕ × ℕ)) (wrote : Result (Unit {0}) Failed) (old new : K) (front left : List ℕ) : Type 0 where
   pub text : List ℕ
-  pub goes_on : (rest : List ℕ) → FailureLines n s after rest → FailureLines n s None (text ++ rest)
+  pub goes_on : (rest : List ℕ) → AllUnsettled n s after rest → AllUnsettled n s None (text ++ rest)
   pub writes : Writes taken broken old new wrote (front ++ text) left
 
 -- a write that was left out, since one before has failed
@@ -55,14 +55,14 @@ pub one_line : {K : Type 0} (taken : K → Option (List ℕ)) (broken : K → Bo
 one_line taken broken n s after f a b c front held left before now next so wrote kept =
     let line = unsettled_line n s f in record {
       text = so.text ++ line;
-      goes_on = λ rest lines. subst (FailureLines n s None) (sym (append_assoc so.text line rest)) (so.goes_on (line ++ rest) (one_more after f rest next lines));
+      goes_on = λ rest lines. subst (AllUnsettled n s None) (sym (append_assoc so.text line rest)) (so.goes_on (line ++ rest) (one_more after f rest next lines));
       writes = Writes-same taken broken a c now ((front ++ so.text) ++ line) (front ++ (so.text ++ line)) left (append_assoc front so.text line) (went_on taken broken a b c before now (front ++ so.text) line held left so.writes wrote kept);
     }
 
 -- no more lines
 pub all_lines : {K : Type 0} (taken : K → Option (List ℕ)) (broken : K → Bool) (n : Network) (s : State) (after : Option (ℕ × ℕ)) (wrote : Result (Unit {0}) Failed) (a b : K) (front held : List ℕ) → HoldsAfter n s after
-    → (so : LinesSoFar taken broken n s after wrote a b front held) → FailureLines n s None so.text
-all_lines taken broken n s after wrote a b front held holds so = subst (FailureLines n s None) (append-nil so.text) (so.goes_on [] (no_more after holds))
+    → (so : LinesSoFar taken broken n s after wrote a b front held) → AllUnsettled n s None so.text
+all_lines taken broken n s after wrote a b front held holds so = subst (AllUnsettled n s None) (append-nil so.text) (so.goes_on [] (no_more after holds))
 
 -- the place and its way are known
 pub known_way : (n : Network) (r p m : ℕ) (way : Way) → IsLawful n → FitsWay n r p m way → IsKnownWay n way
@@ -72,7 +72,7 @@ known_way n r p m (Over l) lawful fits =
 known_way n r p m Here lawful fits = tt
 known_way n r p m Unreachable lawful fits = tt
 
-pub known_place : (n : Network) (s : State) (after : Option (ℕ × ℕ)) (f : Place2) → IsLawful n → IsNextUnsettled n s after f → IsPlaceOf n s f
+pub known_place : (n : Network) (s : State) (after : Option (ℕ × ℕ)) (f : Place2) → IsLawful n → IsNextUnsettled n s after f → AreKnown n s f
 known_place n s after f lawful next = record {
   router = next.first.router;
   prefix = next.first.prefix;
@@ -80,7 +80,7 @@ known_place n s after f lawful next = record {
 }
 
 -- a place that fails, by its router and its prefix
-pub failing_place : (n : Network) (s : State) (r p : ℕ) (f : Place2) → IsLawful n → r < length n.routers → p < length s.prefixes → f.router ≡ r → f.prefix ≡ p → IsFailing n s f → IsPlaceOf n s f
+pub failing_place : (n : Network) (s : State) (r p : ℕ) (f : Place2) → IsLawful n → r < length n.routers → p < length s.prefixes → f.router ≡ r → f.prefix ≡ p → IsFailing n s f → AreKnown n s f
 failing_place n s r p f lawful router prefix same_router same_prefix failing = record {
   router = rw same_router router;
   prefix = rw same_prefix prefix;
