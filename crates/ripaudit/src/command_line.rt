@@ -103,7 +103,7 @@ fn commands<'a>(alloc: Global) -> Result<Command<'a>, AllocError> {
     let ripaudit = add(ripaudit, all_command(alloc, "audit", audit, each));
     let explain = "Tells the verdict of audit, and what it comes from";
     let of_each =
-        "Tell of each place that does not hold, or of each reason of the first one's kind";
+        "Tell of each place that does not hold or cannot be read, or of each interface not heard";
     let ripaudit = add(ripaudit, all_command(alloc, "explain", explain, of_each));
     let routes = "Prints the routes that a log shows";
     let ripaudit = add(ripaudit, log_command(alloc, "routes", routes));
