@@ -14,19 +14,19 @@ use Rattle.rip_check.specs.declared.way.Way.TheVariants.{Here, Over, Unreachable
 use Rattle.rip_check.proofs.Readable.{fits_readable, two_fits}
 use Rattle.rip_check.proofs.Reading.{carries_or_not, find_below, two_or_leaf}
 
--- interface i is router r's, and shows 16
-record IsPoisoned (n : Network) (shown : State) (r p i : ℕ) : Type 0 where
+-- interface i is router r's, and this holds
+record IsOwn (n : Network) (r i : ℕ) (Q : Type 0) : Type 0 where
   own : Interface
   listed : slice_get n.interfaces i ≡ Some own
   its : own.router ≡ r
-  shows : metric_at shown i p ≡ Some 16
+  shows : Q
 
--- interface i is router r's, and does not show 16
-record IsOther (n : Network) (shown : State) (r p i : ℕ) : Type 0 where
-  own : Interface
-  listed : slice_get n.interfaces i ≡ Some own
-  its : own.router ≡ r
-  shows : metric_at shown i p ≡ Some 16 → ⊥
+-- it shows 16, or it does not
+abbrev IsPoisoned : Network → State → ℕ → ℕ → ℕ → Type 0
+IsPoisoned n shown r p i = IsOwn n r i (metric_at shown i p ≡ Some 16)
+
+abbrev IsOther : Network → State → ℕ → ℕ → ℕ → Type 0
+IsOther n shown r p i = IsOwn n r i (metric_at shown i p ≡ Some 16 → ⊥)
 
 same_one : {A : Type 0} {x y : A} → Some x ≡ Some y → x ≡ y
 same_one e = cc e
@@ -39,11 +39,10 @@ is_16 (Some m) = go (cases_eq m 16)
     go (inl e) = inl (ap Some e)
     go (inr differs) = inr (λ e. differs (same_one e))
 
-poisoned_or_not : (n : Network) (shown : State) (r p i : ℕ) → IsPoisoned n shown r p i ⊎ (IsPoisoned n shown r p i → ⊥)
-poisoned_or_not n shown r p i = go (slice_get n.interfaces i) refl (is_16 (metric_at shown i p))
+own_or_not : (n : Network) (r i : ℕ) (Q : Type 0) → Q ⊎ (Q → ⊥) → IsOwn n r i Q ⊎ (IsOwn n r i Q → ⊥)
+own_or_not n r i Q s = go (slice_get n.interfaces i) refl s
   where
-    go : (x : Option Interface) → slice_get n.interfaces i ≡ x → (metric_at shown i p ≡ Some 16) ⊎ (metric_at shown i p ≡ Some 16 → ⊥) →
-        IsPoisoned n shown r p i ⊎ (IsPoisoned n shown r p i → ⊥)
+    go : (x : Option Interface) → slice_get n.interfaces i ≡ x → Q ⊎ (Q → ⊥) → IsOwn n r i Q ⊎ (IsOwn n r i Q → ⊥)
     go None e s = inr (λ h. cc (h.listed, e))
     go (Some x) e (inr not) = inr (λ h. not h.shows)
     go (Some x) e (inl shows) =
@@ -52,18 +51,15 @@ poisoned_or_not n shown r p i = go (slice_get n.interfaces i) refl (is_16 (metri
           | inr not ↦ inr (λ h. not (ap (λ (y : Interface). y.router) (same_one (sym e ∙ h.listed)) ∙ h.its))
         ]
 
+poisoned_or_not : (n : Network) (shown : State) (r p i : ℕ) → IsPoisoned n shown r p i ⊎ (IsPoisoned n shown r p i → ⊥)
+poisoned_or_not n shown r p i = own_or_not n r i _ (is_16 (metric_at shown i p))
+
 other_or_not : (n : Network) (shown : State) (r p i : ℕ) → IsOther n shown r p i ⊎ (IsOther n shown r p i → ⊥)
-other_or_not n shown r p i = go (slice_get n.interfaces i) refl (is_16 (metric_at shown i p))
+other_or_not n shown r p i = own_or_not n r i _ (turned (is_16 (metric_at shown i p)))
   where
-    go : (x : Option Interface) → slice_get n.interfaces i ≡ x → (metric_at shown i p ≡ Some 16) ⊎ (metric_at shown i p ≡ Some 16 → ⊥) →
-        IsOther n shown r p i ⊎ (IsOther n shown r p i → ⊥)
-    go None e s = inr (λ h. cc (h.listed, e))
-    go (Some x) e (inl is) = inr (λ h. h.shows is)
-    go (Some x) e (inr not) =
-        elim (cases_eq x.router r) [
-          | inl its ↦ inl (record { own = x; listed = e; its = its; shows = not })
-          | inr differs ↦ inr (λ h. differs (ap (λ (y : Interface). y.router) (same_one (sym e ∙ h.listed)) ∙ h.its))
-        ]
+    turned : {Q : Type 0} → Q ⊎ (Q → ⊥) → (Q → ⊥) ⊎ ((Q → ⊥) → ⊥)
+    turned (inl h) = inr (λ not. not h)
+    turned (inr not) = inl not
 
 another_or_not : (n : Network) (shown : State) (r p i j : ℕ) → (IsPoisoned n shown r p j × (j ≢ i)) ⊎ (IsPoisoned n shown r p j × (j ≢ i) → ⊥)
 another_or_not n shown r p i j = go (cases_eq j i) (poisoned_or_not n shown r p j)

@@ -182,6 +182,8 @@ fn places_of<T: MetricTable>(
         IfSome places (AreUnsettled plan.now (T.state table.now))) }
     ensures all { IfOk result (λ places. (place : Place2) → verdict.now ≡ Verdict.Unsettled place →
         is_some places ≡ all) }
+    ensures memory { is_err result ≡ true →
+        (all ≡ true) × (verdict_status verdict.now ≡ Status.Unsettled) }
 {
     match verdict {
         Verdict::Unsettled(_) if all => Ok(Some(Unsettled::find(alloc, plan, table)?)),
@@ -201,6 +203,8 @@ fn audit_table<T: MetricTable, K: Sink>(
     ensures prints { Prints K.taken K.broken out.old out.new result
         (VerdictText plan.now (T.state table.now) all) }
     ensures read { result ≢ Err RunError.Read }
+    ensures wanted { result ≡ Err RunError.Memory →
+        (all ≡ true) × IsJudged plan.now (T.state table.now) Status.Unsettled }
     ensures judged { IfOk result (IsJudged plan.now (T.state table.now)) }
 {
     let verdict = judge(plan, table);
