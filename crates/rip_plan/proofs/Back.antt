@@ -16,3 +16,6 @@ back_at xs i d some within =
     let lt : i - 1 < length xs = omega arith in
     let back : i - 1 + 1 ≡ i = omega arith in
     drop_more xs (i - 1) d lt ∙ rw back refl
+
+pub back_is : {A : Type 0} (xs : List A) (i : ℕ) (x : A) → 0 < i → i ≤ length xs → x ≡ get_or xs (i - 1) x → drop (i - 1) xs ≡ x ∷ drop i xs
+back_is {A} xs i x some within is = back_at xs i x some within ∙ ap (λ (y : A). y ∷ drop i xs) (sym is)

@@ -1,6 +1,6 @@
 -- The first item that clashes with an earlier one, as a loop finds it.
 use Rattle.std.proofs.Common.{◌≡◌, ℕ, suc, ◌+◌, ◌-◌, ◌<◌, List, [], ◌∷◌, ◌++◌, Bool, true, false, cond, not, ◌&&◌, ◌||◌, length, map, take, drop, get_or, Option, Some, None, refl, sym, ap, ◌∙◌, arith}
-use Rattle.std.specs.Prelude.{option_map, filter}
+use Rattle.std.specs.Prelude.{find, option_map, filter}
 use Rattle.std.specs.List.{list_any}
 use Rattle.std.proofs.lemmas.List.{drop_more, take_more}
 use Rattle.std.proofs.lemmas.List.Folds.{list_any_more}
@@ -8,19 +8,20 @@ use Rattle.rip_plan.specs.Passes.{Touching, do_meet, first_clash, first_bare, is
 use Rattle.rip_plan.specs.declared.draft.DraftPlace.{DraftPlace}
 use Rattle.rip_plan.specs.declared.draft.DraftInterface.{DraftInterface}
 
-module _ {A : Type 0} (clash : A → A → Bool) (xs : List A) (k : ℕ) (x : A) (lt : k < length xs) (is : x ≡ get_or xs k x) where
-  next : drop k xs ≡ x ∷ drop (k + 1) xs
-  next = drop_more xs k x lt ∙ ap (λ y. y ∷ drop (k + 1) xs) (sym is)
+-- what is left of a list from an item on
+pub rest_from : {A : Type 0} (xs : List A) (k : ℕ) (x : A) → k < length xs → x ≡ get_or xs k x → drop k xs ≡ x ∷ drop (k + 1) xs
+rest_from xs k x lt is = drop_more xs k x lt ∙ ap (λ y. y ∷ drop (k + 1) xs) (sym is)
 
+module _ {A : Type 0} (clash : A → A → Bool) (xs : List A) (k : ℕ) (x : A) (lt : k < length xs) (is : x ≡ get_or xs k x) where
   -- an item that clashes is the first
   pub clash_here : (total : Option A) → list_any (λ y. clash y x) (take k xs) ≡ true → first_clash clash (take k xs) (drop k xs) ≡ total → Some x ≡ total
-  clash_here total found so_far = let here : first_clash clash (take k xs) (drop k xs) ≡ Some x = rw (next, found) refl in sym here ∙ so_far
+  clash_here total found so_far = let here : first_clash clash (take k xs) (drop k xs) ≡ Some x = rw (rest_from xs k x lt is, found) refl in sym here ∙ so_far
 
   -- after one that does not, the search goes on
   pub clash_later : (total : Option A) → list_any (λ y. clash y x) (take k xs) ≡ false → first_clash clash (take k xs) (drop k xs) ≡ total → first_clash clash (take (k + 1) xs) (drop (k + 1) xs) ≡ total
   clash_later total none so_far =
       let front : take (k + 1) xs ≡ take k xs ++ x ∷ [] = take_more xs k x lt ∙ ap (λ y. take k xs ++ y ∷ []) (sym is) in
-      let here : first_clash clash (take k xs) (drop k xs) ≡ first_clash clash (take k xs ++ x ∷ []) (drop (k + 1) xs) = rw (next, none) refl in
+      let here : first_clash clash (take k xs) (drop k xs) ≡ first_clash clash (take k xs ++ x ∷ []) (drop (k + 1) xs) = rw (rest_from xs k x lt is, none) refl in
       rw front (sym here ∙ so_far)
 
 -- the items seen by a function
@@ -99,6 +100,15 @@ or_turned false false = refl
 -- one more item that a set was given
 pub seen_more : {A : Type 0} (test : A → Bool) (xs : List A) (k : ℕ) (x : A) → k < length xs → x ≡ get_or xs k x → cond (test x) true (list_any test (take k xs)) ≡ list_any test (take (k + 1) xs)
 seen_more test xs k x lt is = or_turned (test x) (list_any test (take k xs)) ∙ ap (λ y. list_any test (take k xs) || test y) is ∙ sym (list_any_more test xs k x lt)
+
+-- ---- the first item that passes
+
+module _ {A : Type 0} (test : A → Bool) (xs : List A) (k : ℕ) (x : A) (lt : k < length xs) (is : x ≡ get_or xs k x) where
+  pub found_here : (total : Option A) → test x ≡ true → find test (drop k xs) ≡ total → Some x ≡ total
+  found_here total passes so_far = let here : find test (drop k xs) ≡ Some x = rw (rest_from xs k x lt is, passes) refl in sym here ∙ so_far
+
+  pub found_later : (total : Option A) → test x ≡ false → find test (drop k xs) ≡ total → find test (drop (k + 1) xs) ≡ total
+  found_later total fails so_far = let here : find test (drop k xs) ≡ find test (drop (k + 1) xs) = rw (rest_from xs k x lt is, fails) refl in sym here ∙ so_far
 
 -- ---- the first router without an interface
 

@@ -88,6 +88,21 @@ get_left [] ys i x h = absurd (none-some x h)
 get_left (z ∷ zs) ys zero x h = h
 get_left (z ∷ zs) ys (suc i) x h = get_left zs ys i x h
 
+pub get_right : {A : Type 0} (xs ys : List A) (i k : ℕ) (x : A) → k ≡ length xs + i → slice_get ys i ≡ Some x → slice_get (xs ++ ys) k ≡ Some x
+get_right [] ys i k x e h = let same : k ≡ i = omega arith in ap (slice_get ys) same ∙ h
+get_right (z ∷ zs) ys i zero x e h = absurd (omega arith)
+get_right (z ∷ zs) ys i (suc k) x e h = get_right zs ys i k x (omega arith) h
+
+-- an item of two lists is in the first or in the second
+pub get_split : {A : Type 0} (xs ys : List A) (k : ℕ) (a : A) → slice_get (xs ++ ys) k ≡ Some a → ((slice_get xs k ≡ Some a) × (k < length xs)) ⊎ ((m : ℕ) × (k ≡ length xs + m) × (slice_get ys m ≡ Some a))
+get_split [] ys k a h = inr (k, omega arith, h)
+get_split (x ∷ xs) ys zero a h = inl (h, omega arith)
+get_split (x ∷ xs) ys (suc k) a h =
+    elim (get_split xs ys k a h) [
+      | inl e ↦ let less : k < length xs = e.1 in inl (e.0, omega arith)
+      | inr e ↦ let same : k ≡ length xs + e.0 = e.1 in inr (e.0, omega arith, e.2)
+    ]
+
 pub get_last : {A : Type 0} (xs : List A) (x : A) → slice_get (xs ++ x ∷ []) (length xs) ≡ Some x
 get_last [] x = refl
 get_last (z ∷ zs) x = get_last zs x

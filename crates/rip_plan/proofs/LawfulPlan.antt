@@ -1,14 +1,16 @@
 -- A plan that was read keeps the laws.
-use Rattle.std.proofs.Common.{◌≡◌, ℕ, ◌+◌, ◌^◌, ◌<◌, ◌≤◌, inl, inr, List, [], ◌∷◌, length, map, Bool, true, false, not, ◌&&◌, ◌||◌, Option, Some, None, Ok, refl, sym, ◌∙◌, ap, subst, arith}
-use Rattle.std.specs.Prelude.{slice_get, ◌==◌, nat_lt, codes as codes_of}
+use Rattle.std.proofs.Common.{◌≡◌, ℕ, zero, suc, ◌+◌, ◌^◌, ◌<◌, ◌≤◌, inl, inr, List, [], ◌∷◌, length, map, Bool, true, false, cond, not, ◌&&◌, ◌||◌, Option, Some, None, Ok, refl, sym, ◌∙◌, ap, subst, arith}
+use Rattle.std.specs.Prelude.{slice_get, find, ◌==◌, nat_lt, codes as codes_of}
 use Rattle.std.specs.List.{IsDistinct, list_any}
 use Rattle.std.specs.Str.{bytes_eq}
 use Rattle.std.proofs.lemmas.Option.{none-some, same_Some, slice_get_within}
 use Rattle.std.proofs.lemmas.List.{length-map}
+use Rattle.std.proofs.lemmas.List.Sums.{sum-map}
 use Rattle.std.proofs.lemmas.Bool.Decides.{nat_tests}
 use Rattle.toml.specs.Data.{Data, Members}
 use Rattle.rip_wire.specs.Name.{IsName}
 use Rattle.rip_wire.specs.Prefix.{Block, IsBlock}
+use Rattle.rip_plan.specs.declared.addresses.Held.{Held}
 use Rattle.rip_plan.specs.declared.draft.DraftInterface.{DraftInterface}
 use Rattle.rip_plan.specs.declared.draft.DraftPlace.{DraftPlace}
 use Rattle.rip_plan.specs.declared.parts.Interface.{Interface}
@@ -17,17 +19,21 @@ use Rattle.rip_plan.specs.declared.parts.Seat.TheVariants as seats
 use Rattle.rip_plan.specs.Fields.{some_items, root_fields, items_at, root_keys, has_only, ◌&>◌}
 use Rattle.rip_plan.specs.Seats.{is_on}
 use Rattle.rip_plan.specs.Draft.{Sketch, link_step, router_step, is_outside, has_address}
-use Rattle.rip_plan.specs.Passes.{same_prefix, touched, touching, do_meet, is_same_link, have_common, are_twice, have_one_address}
+use Rattle.rip_plan.specs.Passes.{same_prefix, touched, touching, do_meet, is_same_link, have_common, are_twice, is_astray, is_there}
+use Rattle.rip_plan.specs.Addresses.{have_one_address}
 use Rattle.rip_plan.specs.PlanText.{empty, sketch_of}
-use Rattle.rip_plan.specs.Network.{network_of_sketch}
-use Rattle.rip_plan.specs.Relations.{IsPrefix, IsInterface, HasAddress, IsPlace, Carries, Touches, IsInside, IsLawful}
+use Rattle.rip_plan.specs.Network.{addresses_of, network_of_sketch}
+use Rattle.rip_plan.specs.Relations.{IsPrefix, IsInterface, IsConnected, HasAddress, HasAddresses, HasOwnAddress, IsAttached, IsEachOnce, IsOn, IsPlace, Carries, Touches, IsInside, IsLawful}
 use Rattle.rip_plan.proofs.Binds.{steps_keep}
 use Rattle.rip_plan.proofs.Items.{both, or_false, all_at, any_at, any_finds, distinct_at, get_seen, see_got, get_some}
 use Rattle.rip_plan.proofs.StepsTaken.{DocumentTaken, text_taken}
-use Rattle.rip_plan.proofs.FirstPass.{TextLaws, Kept, IsFit, IsFitPlace, IsFitSeat, IsInsideOf, BetweenLinks, BetweenRouters, link_keeps, router_keeps}
+use Rattle.rip_plan.proofs.FirstPass.{AreAddresses, TextLaws, Kept, IsFit, IsFitPlace, IsFitSeat, IsInsideOf, BetweenLinks, BetweenRouters, link_keeps, router_keeps}
 use Rattle.rip_plan.proofs.Numbering.{numbers, same_from, same_self}
 use Rattle.rip_plan.proofs.Tables.{chosen}
+use Rattle.rip_plan.proofs.HeldAddresses.{address_held}
+use Rattle.rip_plan.proofs.HeldOrder.{stands_from}
 use Rattle.rip_plan.proofs.Lookups.{name_same, on_seat}
+use Rattle.rip_plan.proofs.NumbersWhere.{at_contains}
 use Rattle.rip_plan.proofs.SecondPasses.{Clear, passes_clear, has_one, on_touched, own_touched, common}
 
 -- what the passes leave
@@ -38,6 +44,25 @@ record Good (s : Sketch) : Type 0 where
   few_links : length s.links ≤ 512
   some_router : 1 ≤ length s.routers
   few_routers : length s.routers ≤ 128
+
+-- ---- tests
+
+pub not_false : (b : Bool) → not b ≡ false → b ≡ true
+not_false true e = refl
+not_false false e = absurd cc
+
+none_found_at : {A : Type 0} (test : A → Bool) (xs : List A) (k : ℕ) (x : A) → find test xs ≡ None → slice_get xs k ≡ Some x → test x ≡ false
+none_found_at test [] k x h at = absurd (none-some x at)
+none_found_at {A} test (y ∷ ys) zero x h at = ap test (sym (same_Some y x at)) ∙ by_test (test y) refl h
+  where
+    by_test : (b : Bool) → test y ≡ b → cond b (Some y) (find test ys) ≡ None → test y ≡ false
+    by_test true e f = absurd cc
+    by_test false e f = e
+none_found_at {A} test (y ∷ ys) (suc k) x h at = by_test (test y) h (λ e. none_found_at test ys k x e at)
+  where
+    by_test : (b : Bool) → cond b (Some y) (find test ys) ≡ None → (find test ys ≡ None → test x ≡ false) → test x ≡ false
+    by_test true f later = absurd cc
+    by_test false f later = later f
 
 -- ---- the parts of the plan of a draft
 
@@ -67,7 +92,7 @@ module _ (s : Sketch) (good : Good s) where
   one_interface r h =
       let (i, x, at, of) = has_one s.interfaces (length s.routers) r good.clear.bare h in
       let listed = see_got (λ (y : DraftInterface). y.interface) s.interfaces i x at in
-      (i, x.interface.link, x.interface.cost, record { address = x.interface.address; listed = listed ∙ ap (λ m. Some (record x.interface { router = m })) of })
+      (i, x.interface.link, x.interface.cost, record { address = x.interface.address; direct = x.interface.direct; listed = listed ∙ ap (λ m. Some (record x.interface { router = m })) of })
 
   one_on_link : (i j r l c d : ℕ) → IsInterface (network_of_sketch s) i r l c → IsInterface (network_of_sketch s) j r l d → i ≡ j
   one_on_link i j r l c d h k =
@@ -77,13 +102,47 @@ module _ (s : Sketch) (good : Good s) where
       let links : x.interface.link ≡ y.interface.link = ap (λ (v : Interface). v.link) same ∙ ap (λ (v : Interface). v.link) (sym other) in
       distinct_at are_twice s.interfaces i j x y good.clear.links at there (grind (arith, nat_tests)) (grind (arith, nat_tests))
 
+  direct_most : (i r l c d : ℕ) → IsInterface (network_of_sketch s) i r l c → IsConnected (network_of_sketch s) i r l d → d ≤ c
+  direct_most i r l c d h k =
+      let (x, at, same, fit) = fit_at i _ h.listed in
+      let (y, there, other) = interface_in s i _ k.listed in
+      let one : y.interface ≡ x.interface = ap (λ (w : DraftInterface). w.interface) (same_Some y x (sym there ∙ at)) in
+      let direct : x.interface.direct ≡ d = ap (λ (v : Interface). v.direct) (sym one ∙ other) in
+      let cost : x.interface.cost ≡ c = ap (λ (v : Interface). v.cost) same in
+      omega (arith, fit.direct_most)
+
+  -- ---- addresses
+
+  address_known : (i l a : ℕ) → HasAddress (network_of_sketch s) i l a → a < 2 ^ 32
+  address_known i l a (all, has, holds) =
+      let (j, at) = at_contains all a holds in
+      let (x, there, same, fit) = fit_at i _ has.listed in
+      let own : has.interface.address < 2 ^ 32 = subst (λ (v : Interface). v.address < 2 ^ 32) same fit.address in
+      by_number j has.interface.address has.also (ap (λ (l : List ℕ). slice_get l j) (sym has.all) ∙ at) own (all_at AreAddresses s.also i has.also good.kept.also has.further)
+    where
+      by_number : (j first : ℕ) (others : List ℕ) → slice_get (first ∷ others) j ≡ Some a → first < 2 ^ 32 → AreAddresses others → a < 2 ^ 32
+      by_number zero first others e own more = subst (λ (b : ℕ). b < 2 ^ 32) (same_Some first a e) own
+      by_number (suc j) first others e own more = all_at (λ b. b < 2 ^ 32) others j a more e
+
   addresses_differ : (i j l a : ℕ) → HasAddress (network_of_sketch s) i l a → HasAddress (network_of_sketch s) j l a → i ≡ j
   addresses_differ i j l a h k =
-      let (x, at, same) = interface_in s i _ h.listed in
-      let (y, there, other) = interface_in s j _ k.listed in
-      let links : x.interface.link ≡ y.interface.link = ap (λ (v : Interface). v.link) same ∙ ap (λ (v : Interface). v.link) (sym other) in
-      let addresses : x.interface.address ≡ y.interface.address = ap (λ (v : Interface). v.address) same ∙ ap (λ (v : Interface). v.address) (sym other) in
-      distinct_at have_one_address s.interfaces i j x y good.clear.addresses at there (grind (arith, nat_tests)) (grind (arith, nat_tests))
+      let (p, at) = address_held (network_of_sketch s) i l a h in
+      let (q, there) = address_held (network_of_sketch s) j l a k in
+      let one : Held = record { interface = i; link = l; address = a } in
+      let two : Held = record { interface = j; link = l; address = a } in
+      let same : p ≡ q = distinct_at have_one_address (addresses_of (network_of_sketch s)) p q one two good.clear.addresses at there (grind (arith, nat_tests)) (grind (arith, nat_tests)) in
+      ap (λ (h : Held). h.interface) (same_Some one two (sym at ∙ ap (slice_get (addresses_of (network_of_sketch s))) same ∙ there))
+
+  addresses_once : (i l : ℕ) (addresses : List ℕ) → HasAddresses (network_of_sketch s) i l addresses → IsEachOnce addresses
+  addresses_once i l addresses has j k a h g =
+      let n = network_of_sketch s in
+      let stands = stands_from 0 n.interfaces n.also i has.interface has.also has.listed has.further in
+      let one : Held = record { interface = 0 + i; link = has.interface.link; address = a } in
+      let at = stands.each j a (ap (λ (xs : List ℕ). slice_get xs j) (sym has.all) ∙ h) in
+      let there = stands.each k a (ap (λ (xs : List ℕ). slice_get xs k) (sym has.all) ∙ g) in
+      let same : stands.first + j ≡ stands.first + k =
+      distinct_at have_one_address (addresses_of n) (stands.first + j) (stands.first + k) one one good.clear.addresses at there (grind (arith, nat_tests)) (grind (arith, nat_tests)) in
+      omega arith
 
   -- ---- places
 
@@ -114,7 +173,7 @@ module _ (s : Sketch) (good : Good s) where
   touch k p r c (inl (l, place, (i, is))) =
       let (x, at, same) = interface_in s i _ is.listed in
       (seats.Link l, place, on_touched s.interfaces l r i x at (ap (λ (v : Interface). v.link) same) (ap (λ (v : Interface). v.router) same))
-  touch k p r c (inr place) = (seats.Own r c, place, own_touched s.interfaces r c)
+  touch k p r c (inr own) = (seats.Own r c own.kept own.link own.via, own.place, own_touched s.interfaces r c own.kept own.link own.via)
 
   touched_once : (k j p r c d : ℕ) → Touches (network_of_sketch s) k p r c → Touches (network_of_sketch s) j p r d → k ≡ j
   touched_once k j p r c d h h' =
@@ -128,7 +187,30 @@ module _ (s : Sketch) (good : Good s) where
       or_right true c e = refl
       or_right false c e = e
 
-  inside : (i l a p : ℕ) → HasAddress (network_of_sketch s) i l a → Carries (network_of_sketch s) l p → IsInside (network_of_sketch s) l a
+  -- the router of an attached prefix is on its link
+  attached_there : (r p l : ℕ) → IsAttached (network_of_sketch s) r p l → IsOn (network_of_sketch s) r l
+  attached_there r p l (k, h) =
+      let (d, at, prefix, same) = place_in s k p (seats.Own r h.cost h.kept (Some l) h.via) h.place in
+      let off : is_astray s.interfaces d.seat ≡ false = none_found_at (λ (q : DraftPlace). is_astray s.interfaces q.seat) s.places k d good.clear.astray at in
+      let there : is_there s.interfaces r l ≡ true = not_false (is_there s.interfaces r l) (ap (is_astray s.interfaces) same ∙ off) in
+      let (i, x, listed, test) = any_finds (λ (y : DraftInterface). y.interface.router == r && y.interface.link == l) s.interfaces there in
+      let (routers, links) = both (x.interface.router == r) (x.interface.link == l) test in
+      let router : x.interface.router ≡ r = grind (arith, nat_tests) in
+      let link : x.interface.link ≡ l = grind (arith, nat_tests) in (
+        x.interface.cost,
+        (
+          i,
+          record {
+            address = x.interface.address;
+            direct = x.interface.direct;
+            listed = see_got (λ (y : DraftInterface). y.interface) s.interfaces i x listed
+                ∙ ap (λ (m : ℕ). Some (record x.interface { router = m })) router
+                ∙ ap (λ (m : ℕ). Some (record x.interface { router = r; link = m })) link;
+          },
+        ),
+      )
+
+  inside : (i l a p : ℕ) → HasOwnAddress (network_of_sketch s) i l a → Carries (network_of_sketch s) l p → IsInside (network_of_sketch s) l a
   inside i l a p h (k, place) =
       let (x, at, same) = interface_in s i _ h.listed in
       let not_outside : is_outside l a s.places ≡ false =
@@ -160,6 +242,7 @@ module _ (s : Sketch) (good : Good s) where
     some_router = good.some_router;
     few_routers = good.few_routers;
     few_interfaces = omega (arith, good.kept.few_interfaces, length-map s.interfaces (λ (x : DraftInterface). x.interface));
+    few_also = omega (arith, good.kept.few_also, sum-map length s.also);
     few_places = omega (arith, good.kept.few_places, (numbers s.places).count);
     link_named = λ l name h. all_at IsName s.links l name good.kept.link_names h;
     router_named = λ r name h. all_at IsName s.routers r name good.kept.router_names h;
@@ -171,17 +254,23 @@ module _ (s : Sketch) (good : Good s) where
     cost_most = λ i r l c h. let (x, at, same, fit) = fit_at i _ h.listed in rw (ap (λ (v : Interface). v.cost) same) at fit.most;
     one_interface = one_interface;
     one_on_link = one_on_link;
-    address_known = λ i l a h. let (x, at, same, fit) = fit_at i _ h.listed in subst (λ (b : ℕ). b < 2 ^ 32) (ap (λ (v : Interface). v.address) same) fit.address;
+    direct_least = λ i r l d h. let (x, at, same, fit) = fit_at i _ h.listed in rw (ap (λ (v : Interface). v.direct) same) at fit.direct_least;
+    direct_most = direct_most;
+    also_listed = good.kept.also_listed ∙ sym (length-map s.interfaces (λ (x : DraftInterface). x.interface));
+    address_known = address_known;
     addresses_differ = addresses_differ;
+    addresses_once = addresses_once;
     inside = inside;
     prefix_is = is_block;
     prefixes_differ = λ p q b h k. distinct_at same_prefix (network_of_sketch s).prefixes p q b b (numbers s.places).distinct h k (same_self b) (same_self b);
     one_place = λ p h. let (k, seat, place) = (numbers s.places).used p h in (k, seat, record { listed = place });
     prefix_known = λ k p seat h. let (d, at, prefix, same) = place_in s k p seat h in slice_get_within (network_of_sketch s).prefixes p d.prefix prefix;
     seat_known = λ k p l h. seat_at k p (seats.Link l) h;
-    owner_known = λ k p r c h. (seat_at k p (seats.Own r c) h).0;
-    own_cost_least = λ k p r c h. (seat_at k p (seats.Own r c) h).1;
-    own_cost_most = λ k p r c h. (seat_at k p (seats.Own r c) h).2;
+    owner_known = λ k p r c h. (seat_at k p (seats.Own r c h.kept h.link h.via) h.place).0;
+    own_cost_least = λ k p r c h. (seat_at k p (seats.Own r c h.kept h.link h.via) h.place).1;
+    own_cost_most = λ k p r c h. (seat_at k p (seats.Own r c h.kept h.link h.via) h.place).2;
+    attached_there = attached_there;
+    gateway_known = λ r p a h. (seat_at h.0 p (seats.Own r h.1.cost h.1.kept h.1.link (Some a)) h.1.place).3;
     carried_once = carried_once;
     touched_once = touched_once;
   }
@@ -209,7 +298,7 @@ good_document : (laws : TextLaws) (doc : Members) (s : Sketch) → DocumentTaken
 unfolding IsDistinct
 good_document laws doc s taken =
     let nothing : BetweenLinks 1 empty = record {
-      kept = record { link_names = tt; links_differ = tt; router_names = tt; routers_differ = tt; interfaces = tt; inside = tt; places = tt; few_interfaces = omega arith; few_places = omega arith };
+      kept = record { link_names = tt; links_differ = tt; router_names = tt; routers_differ = tt; interfaces = tt; inside = tt; places = tt; also = tt; also_listed = refl; few_interfaces = omega arith; few_also = omega arith; few_places = omega arith };
       interfaces = refl;
       routers = refl;
       next = refl;

@@ -13,6 +13,8 @@ pub mod SecondPasses
 pub mod LawfulPlan
 pub mod Cells
 pub mod NumbersWhere
+pub mod HeldAddresses
+pub mod HeldOrder
 pub mod Lookups
 pub mod LeafRouters
 pub mod PlanAnswers
@@ -26,6 +28,7 @@ pub mod NoMemory
 pub mod Orders
 pub mod Finding
 pub mod Spots
+pub mod AlsoSpots
 pub mod FaultRows
 pub mod Standing
 pub mod LinkFaults

@@ -13,19 +13,20 @@ use Rattle.rip_plan.specs.declared.error.PlanCode.TheVariants as codes
 use Rattle.rip_plan.specs.declared.error.At.{At}
 use Rattle.rip_plan.specs.declared.error.At.TheVariants.{Link, LinkPrefix}
 use Rattle.rip_plan.specs.declared.draft.DraftPlace.{DraftPlace}
-use Rattle.rip_plan.specs.Fault.{fault, steps}
+use Rattle.rip_plan.specs.Fault.{steps}
 use Rattle.rip_plan.specs.Fields.{◌&>◌, link_fields}
 use Rattle.rip_plan.specs.Names.{is_one_of}
 use Rattle.rip_plan.specs.Draft.{Sketch, prefix_step, link_step}
 use Rattle.rip_plan.specs.PlanOf.{Matched, IsNameOf, items_in}
 use Rattle.rip_plan.specs.PlanText.{empty}
 use Rattle.rip_plan.specs.PlanFaults.{nth, IsItem, IsMisnamed, IsNamedAgain, spots_of, spots_under, place_spots}
-use Rattle.rip_plan.proofs.Finding.{Finds, no_rows, guard_finds, want_finds, steps_finds}
-use Rattle.rip_plan.proofs.FaultRows.{by_code, IsTold, prefix_from_limit, prefix_from_prefix, prefix_rows, prefix_starts, prefixes_rows, link_from_duplicate, link_from_name, link_rows, link_starts, links_rows, prefix_row_item, link_row_within}
-use Rattle.rip_plan.proofs.Spots.{nth_from, get_split, get_before, place_once, prefix_here, nth_here, item_once, count_of}
+use Rattle.rip_plan.proofs.Finding.{Finds, no_rows, steps_finds}
+use Rattle.rip_plan.proofs.FaultRows.{by_code, IsTold, guard_told, want_told, prefix_from_limit, prefix_from_prefix, prefix_rows, prefix_starts, prefixes_rows, link_from_duplicate, link_from_name, link_rows, link_starts, links_rows, prefix_row_item, link_row_within}
+use Rattle.rip_plan.proofs.Spots.{nth_from, get_before, place_once, prefix_here, nth_here, item_once, count_of}
 use Rattle.rip_plan.proofs.Standing.{place_ats, links_stand, prefixes_stand}
-use Rattle.rip_plan.proofs.Items.{any_at, any_finds}
+use Rattle.rip_plan.proofs.Items.{any_at, any_finds, get_split}
 use Rattle.rip_plan.proofs.Tables.{text_is, link_table}
+use Rattle.rip_plan.proofs.Matching.{matched_left, matched_right}
 use Rattle.rip_plan.proofs.OnePlan.{text_same}
 use Rattle.rip_plan.proofs.PlanMatches.{links_added}
 use Rattle.rip_plan.proofs.StepsTaken.{with_link}
@@ -35,18 +36,6 @@ use Rattle.rip_plan.proofs.Lookups.{name_same}
 pub record NameLaws : Type 0 where
   pub good : (text : List ℕ) → is_name text ≡ true → IsName text
   pub tested : (text : List ℕ) → IsName text → is_name text ≡ true
-
-pub matched_left : {A B : Type 0} (R : A → B → Type 0) (xs : List A) (ys : List B) (k : ℕ) (x : A) → Matched R xs ys → slice_get xs k ≡ Some x → (y : B) × (slice_get ys k ≡ Some y) × R x y
-matched_left R [] ys k x m h = absurd (none-some x h)
-matched_left R (z ∷ zs) [] k x m h = absurd m
-matched_left R (z ∷ zs) (y ∷ ys) zero x m h = (y, refl, subst (λ w. R w y) (same_Some z x h) m.0)
-matched_left R (z ∷ zs) (y ∷ ys) (suc k) x m h = matched_left R zs ys k x m.1 h
-
-pub matched_right : {A B : Type 0} (R : A → B → Type 0) (xs : List A) (ys : List B) (k : ℕ) (y : B) → Matched R xs ys → slice_get ys k ≡ Some y → (x : A) × (slice_get xs k ≡ Some x) × R x y
-matched_right R xs [] k y m h = absurd (none-some y h)
-matched_right R [] (z ∷ zs) k y m h = absurd m
-matched_right R (x ∷ xs) (z ∷ zs) zero y m h = (x, refl, subst (λ w. R x w) (same_Some z y h) m.0)
-matched_right R (x ∷ xs) (z ∷ zs) (suc k) y m h = matched_right R xs zs k y m.1 h
 
 -- ---- names
 
@@ -107,18 +96,18 @@ module _ (document : Members) (links routers done : List Data) (d : Data) (rest 
       → Finds (IsTold document links routers) (prefix_rows (1 + length done) (1 + length front)).has (prefix_step (1 + length done) (1 + length front) x v)
   unfolding prefix_step
   prefix_finds front x back v items count =
-      want_finds (IsTold document links routers) (fault codes.Key (LinkPrefix i j)) (as_str x) (prefix_from_prefix i j) (by_code (LinkPrefix i j) codes.Key codes.Prefix refl (omega arith)) _
+      want_told document links routers codes.Key (LinkPrefix i j) (as_str x) (prefix_from_prefix i j) (by_code (LinkPrefix i j) codes.Key codes.Prefix refl (omega arith)) _
       (λ none. (x, item, none))
       (λ text is h. none-some text (sym h.2 ∙ ap as_str (item_once (codes_of "prefixes") links i j h.0 x h.1 item) ∙ is))
       (λ text is.
-      want_finds (IsTold document links routers) (fault codes.Prefix (LinkPrefix i j)) (prefix_in text) (prefix_from_limit i j) (by_code (LinkPrefix i j) codes.Prefix codes.Limit refl (omega arith)) _
+      want_told document links routers codes.Prefix (LinkPrefix i j) (prefix_in text) (prefix_from_limit i j) (by_code (LinkPrefix i j) codes.Prefix codes.Limit refl (omega arith)) _
       (λ none. (text, subst (IsItem (codes_of "prefixes") links i j) (text_is x text is) item, none))
       (λ p parsed h.
       let same : string h.0 ≡ string text = item_once (codes_of "prefixes") links i j (string h.0) x h.1 item ∙ text_is x text is in
       let one : h.0 ≡ text = cc in
       none-some p (sym h.2 ∙ ap prefix_in one ∙ parsed))
       (λ p parsed.
-      guard_finds (IsTold document links routers) (nat_le 1024 (length v.places)) (fault codes.Limit (LinkPrefix i j)) (no_rows (1 ∷ [])) (inl (omega arith)) _
+      guard_told document links routers (nat_le 1024 (length v.places)) codes.Limit (LinkPrefix i j) (no_rows (1 ∷ [])) (inl (omega arith)) _
       (λ full. (length v.places, here, grind (arith, nat_tests)))
       (λ free h. let same : h.0 ≡ length v.places = place_once links routers h.0 (length v.places) (LinkPrefix i j) h.1 here in let le : 1024 ≤ h.0 = h.2 in past (length v.places) free (omega arith))
       (λ free o h f. h)))
@@ -169,16 +158,16 @@ module _ (document : Members) (links routers done : List Data) (d : Data) (rest 
       let added = links_added 0 done empty u taken in
       let names : u.links ≡ added.names = ap (λ (v : Sketch). v.links) added.made in
       let named : Matched IsNameOf u.links done = subst (λ (l : List (List ℕ)). Matched IsNameOf l done) (sym names) added.named in
-      want_finds (IsTold document links routers) (fault codes.Key (Link i)) (as_table d &> link_fields) (link_from_name i) (by_code (Link i) codes.Key codes.Name refl (omega arith)) _
+      want_told document links routers codes.Key (Link i) (as_table d &> link_fields) (link_from_name i) (by_code (Link i) codes.Key codes.Name refl (omega arith)) _
       (λ none. (d, table_here laws links done d rest split, none))
       (λ f is h. none-some f (sym h.2 ∙ ap (λ (t : Data). as_table t &> link_fields) (table_same laws links done d rest split h.0 h.1) ∙ is))
       (λ f is.
       let table = link_table d f.0 f.1 is in
-      guard_finds (IsTold document links routers) (not (is_name f.0)) (fault codes.Name (Link i)) (link_from_duplicate i) (by_code (Link i) codes.Name codes.DuplicateName refl (omega arith)) _
+      guard_told document links routers (not (is_name f.0)) codes.Name (Link i) (link_from_duplicate i) (by_code (Link i) codes.Name codes.DuplicateName refl (omega arith)) _
       (λ bad. misnamed_told laws links done d rest split f.0 table.named bad)
       (λ good h. misnamed_clear laws links done d rest split f.0 table.named good h)
       (λ good.
-      guard_finds (IsTold document links routers) (is_one_of f.0 u.links) (fault codes.DuplicateName (Link i)) (prefixes_rows i) (inr (refl, inr (refl, inr (refl, inl (omega arith))))) _
+      guard_told document links routers (is_one_of f.0 u.links) codes.DuplicateName (Link i) (prefixes_rows i) (inr (refl, inr (refl, inr (refl, inl (omega arith))))) _
       (λ again. again_told laws links done d rest split u.links named f.0 table.named again)
       (λ fresh h. again_clear laws links done d rest split u.links named f.0 table.named fresh h)
       (λ fresh. prefixes_find u f.0 taken f.1 table.prefixes_are)))

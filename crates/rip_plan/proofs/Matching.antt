@@ -1,6 +1,7 @@
 -- Lists that are matched item by item.
-use Rattle.std.proofs.Common.{◌≡◌, ℕ, suc, List, [], ◌∷◌, ◌++◌, length, map, filter, Bool, true, false, ◌&&◌, Some, refl, ◌∙◌, ap, arith}
+use Rattle.std.proofs.Common.{◌≡◌, ℕ, zero, suc, List, [], ◌∷◌, ◌++◌, length, map, filter, Bool, true, false, ◌&&◌, Some, refl, ◌∙◌, ap, subst, arith}
 use Rattle.std.specs.Prelude.{slice_get}
+use Rattle.std.proofs.lemmas.Option.{none-some, same_Some}
 use Rattle.rip_plan.specs.PlanOf.{Matched}
 
 pub matched_append : {A B : Type 0} (R : A → B → Type 0) (xs us : List A) (ys vs : List B) → Matched R xs ys → Matched R us vs → Matched R (xs ++ us) (ys ++ vs)
@@ -29,6 +30,26 @@ matched_at R (x ∷ xs) (y ∷ ys) e f = (f 0 x y refl refl, matched_at R xs ys 
 pub map_append : {A B : Type 0} (see : A → B) (xs ys : List A) → map see (xs ++ ys) ≡ map see xs ++ map see ys
 map_append see [] ys = refl
 map_append {A} {B} see (x ∷ xs) ys = ap (λ (l : List B). see x ∷ l) (map_append see xs ys)
+
+-- ---- partners
+
+pub matched_left : {A B : Type 0} (R : A → B → Type 0) (xs : List A) (ys : List B) (k : ℕ) (x : A) → Matched R xs ys → slice_get xs k ≡ Some x → (y : B) × (slice_get ys k ≡ Some y) × R x y
+matched_left R [] ys k x m h = absurd (none-some x h)
+matched_left R (z ∷ zs) [] k x m h = absurd m
+matched_left R (z ∷ zs) (y ∷ ys) zero x m h = (y, refl, subst (λ w. R w y) (same_Some z x h) m.0)
+matched_left R (z ∷ zs) (y ∷ ys) (suc k) x m h = matched_left R zs ys k x m.1 h
+
+pub matched_right : {A B : Type 0} (R : A → B → Type 0) (xs : List A) (ys : List B) (k : ℕ) (y : B) → Matched R xs ys → slice_get ys k ≡ Some y → (x : A) × (slice_get xs k ≡ Some x) × R x y
+matched_right R xs [] k y m h = absurd (none-some y h)
+matched_right R [] (z ∷ zs) k y m h = absurd m
+matched_right R (x ∷ xs) (z ∷ zs) zero y m h = (x, refl, subst (λ w. R x w) (same_Some z y h) m.0)
+matched_right R (x ∷ xs) (z ∷ zs) (suc k) y m h = matched_right R xs zs k y m.1 h
+
+pub matched_length : {A B : Type 0} (R : A → B → Type 0) (xs : List A) (ys : List B) → Matched R xs ys → length xs ≡ length ys
+matched_length R [] [] m = refl
+matched_length R [] (y ∷ ys) m = absurd m
+matched_length R (x ∷ xs) [] m = absurd m
+matched_length R (x ∷ xs) (y ∷ ys) m = let more : length xs ≡ length ys = matched_length R xs ys m.1 in omega arith
 
 -- ---- filters
 

@@ -1,6 +1,6 @@
 -- The faults of a text are never want of memory.
-use Rattle.std.proofs.Common.{◌≡◌, ◌≢◌, ℕ, ◌+◌, ◌-◌, List, [], ◌∷◌, ◌++◌, length, map, Bool, true, false, cond, not, ◌||◌, Option, Some, None, Result, Ok, Err, ap, ◌∙◌}
-use Rattle.std.specs.Prelude.{nat_le, nat_lt, option_map, codes as codes_of}
+use Rattle.std.proofs.Common.{◌≡◌, ◌≢◌, ℕ, ◌+◌, ◌-◌, List, [], ◌∷◌, ◌++◌, length, Bool, true, false, cond, not, ◌||◌, Option, Some, None, Result, Ok, Err, ap, ◌∙◌}
+use Rattle.std.specs.Prelude.{nat_le, nat_lt, codes as codes_of}
 use Rattle.std.specs.Result.{result_err}
 use Rattle.std.proofs.lemmas.Option.{none-some, same_Some}
 use Rattle.toml.specs.Data.{Data, Members, as_str, as_table, get_member}
@@ -12,14 +12,13 @@ use Rattle.rip_plan.specs.declared.error.PlanCode.TheVariants as codes
 use Rattle.rip_plan.specs.declared.error.PlanError.{PlanError}
 use Rattle.rip_plan.specs.declared.error.At.{At}
 use Rattle.rip_plan.specs.declared.error.At.TheVariants.{Text, Version, Link, LinkPrefix, Router, RouterInterface, RouterOwn}
-use Rattle.rip_plan.specs.declared.draft.DraftInterface.{DraftInterface}
 use Rattle.rip_plan.specs.declared.parts.Seat.{Seat}
 use Rattle.rip_plan.specs.declared.parts.Seat.TheVariants as seats
 use Rattle.rip_plan.specs.Fault.{fault, ◌>>=◌, wanted, steps}
-use Rattle.rip_plan.specs.Fields.{◌&>◌, link_fields, interface_fields, own_fields, router_fields, root_fields, cost_of, is_version}
-use Rattle.rip_plan.specs.Draft.{Sketch, prefix_step, link_step, interface_step, own_step, router_step, is_outside, with_place}
+use Rattle.rip_plan.specs.Fields.{◌&>◌, link_fields, interface_fields, own_fields, router_fields, root_fields, cost_of, direct_of, addresses_in, address_if, link_if, is_version}
+use Rattle.rip_plan.specs.Draft.{Sketch, prefix_step, link_step, interface_step, own_step, router_step, is_full, is_outside, with_place}
 use Rattle.rip_plan.specs.Names.{is_one_of, number_of_name}
-use Rattle.rip_plan.specs.Passes.{Touching, touching, first_clash, do_meet, are_twice, have_one_address, first_bare, none_found, second_passes}
+use Rattle.rip_plan.specs.Passes.{astray_in, bare_in, duplicate_in, none_found, second_passes, taken_address_in, twice_in}
 use Rattle.rip_plan.specs.PlanText.{sketch_of_document, document_of, sketch_of}
 use Rattle.rip_plan.specs.Network.{Network, network_in, network_of_sketch}
 use Rattle.rip_plan.specs.Answers.{first_fault}
@@ -71,19 +70,23 @@ interface_apart : (r j : ℕ) (d : Data) (s : Sketch) → Apart (interface_step 
 unfolding interface_step
 interface_apart r j d s =
     want codes.Key (RouterInterface r j) (as_table d &> interface_fields) _ (λ e. cc) (λ f.
-    want codes.Address (RouterInterface r j) (address_in f.1) _ (λ e. cc) (λ address.
-    want codes.Cost (RouterInterface r j) (cost_of f.2) _ (λ e. cc) (λ cost.
-    want codes.UnknownLink (RouterInterface r j) (number_of_name f.0 s.links) _ (λ e. cc) (λ link.
+    want codes.Address (RouterInterface r j) (address_in f.address) _ (λ e. cc) (λ address.
+    want codes.Address (RouterInterface r j) (addresses_in f.also) _ (λ e. cc) (λ also.
+    want codes.Cost (RouterInterface r j) (cost_of f.cost) _ (λ e. cc) (λ cost.
+    want codes.Cost (RouterInterface r j) (direct_of cost f.direct) _ (λ e. cc) (λ direct.
+    want codes.UnknownLink (RouterInterface r j) (number_of_name f.link s.links) _ (λ e. cc) (λ link.
     guard (is_outside link address s.places) codes.OutsidePrefix (RouterInterface r j) _ (λ e. cc)
-    (guard (nat_le 1024 (length s.interfaces)) codes.Limit (RouterInterface r j) _ (λ e. cc) tt)))))
+    (guard (is_full s also) codes.Limit (RouterInterface r j) _ (λ e. cc) tt)))))))
 
 own_apart : (r j : ℕ) (d : Data) (s : Sketch) → Apart (own_step r j d s)
 unfolding own_step
 own_apart r j d s =
     want codes.Key (RouterOwn r j) (as_table d &> own_fields) _ (λ e. cc) (λ f.
-    want codes.Prefix (RouterOwn r j) (prefix_in f.0) _ (λ e. cc) (λ prefix.
-    want codes.Cost (RouterOwn r j) (cost_of f.1) _ (λ e. cc) (λ cost.
-    placed (RouterOwn r j) prefix (seats.Own (r - 1) cost) s)))
+    want codes.Address (RouterOwn r j) (address_if f.via) _ (λ e. cc) (λ via.
+    want codes.Prefix (RouterOwn r j) (prefix_in f.prefix) _ (λ e. cc) (λ prefix.
+    want codes.Cost (RouterOwn r j) (cost_of f.cost) _ (λ e. cc) (λ cost.
+    want codes.UnknownLink (RouterOwn r j) (link_if f.link s.links) _ (λ e. cc) (λ link.
+    placed (RouterOwn r j) prefix (seats.Own (r - 1) cost f.kept link via) s)))))
 
 router_apart : (r : ℕ) (d : Data) (s : Sketch) → Apart (router_step r d s)
 unfolding router_step
@@ -97,15 +100,16 @@ router_apart r d s =
 passes_apart : (s : Sketch) → Apart (second_passes s)
 unfolding second_passes
 passes_apart s =
-    let meetings = option_map (λ (t : Touching). t.place.at) (first_clash do_meet [] (map (touching s.interfaces) s.places)) in
-    let twice = option_map (λ (i : DraftInterface). i.at) (first_clash are_twice [] s.interfaces) in
-    let taken = option_map (λ (i : DraftInterface). i.at) (first_clash have_one_address [] s.interfaces) in
-    let bare = option_map (λ r. Router (r + 1)) (first_bare s.interfaces 0 (length s.routers)) in
-    bind {B = Unit {0}} (none_found codes.DuplicatePrefix meetings) (λ _. none_found codes.TwiceOnLink twice >>= (λ _. none_found codes.DuplicateAddress taken >>= (λ _. none_found codes.NoInterface bare)))
-    (found codes.DuplicatePrefix meetings (λ e. cc)) (λ _.
-    bind {B = Unit {0}} (none_found codes.TwiceOnLink twice) (λ _. none_found codes.DuplicateAddress taken >>= (λ _. none_found codes.NoInterface bare)) (found codes.TwiceOnLink twice (λ e. cc)) (λ _.
-    bind {B = Unit {0}} (none_found codes.DuplicateAddress taken) (λ _. none_found codes.NoInterface bare) (found codes.DuplicateAddress taken (λ e. cc)) (λ _.
-    found codes.NoInterface bare (λ e. cc))))
+    let meetings = duplicate_in s.interfaces s.places in
+    let twice = twice_in s.interfaces in
+    let taken = taken_address_in s.interfaces s.also in
+    let bare = bare_in s.interfaces (length s.routers) in
+    let astray = astray_in s.interfaces s.places in
+    bind {B = Unit {0}} (none_found codes.DuplicatePrefix meetings) _ (found codes.DuplicatePrefix meetings (λ e. cc)) (λ _.
+    bind {B = Unit {0}} (none_found codes.TwiceOnLink twice) _ (found codes.TwiceOnLink twice (λ e. cc)) (λ _.
+    bind {B = Unit {0}} (none_found codes.DuplicateAddress taken) _ (found codes.DuplicateAddress taken (λ e. cc)) (λ _.
+    bind {B = Unit {0}} (none_found codes.NoInterface bare) (λ _. none_found codes.UnknownLink astray) (found codes.NoInterface bare (λ e. cc)) (λ _.
+    found codes.UnknownLink astray (λ e. cc)))))
 
 document_apart : (doc : Members) → Apart (sketch_of_document doc)
 unfolding sketch_of_document

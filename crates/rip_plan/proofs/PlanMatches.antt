@@ -15,14 +15,14 @@ use Rattle.rip_plan.specs.Fields.{◌&>◌, items_at, root_keys, has_only, some_
 use Rattle.rip_plan.specs.Draft.{Sketch, prefix_step, link_step, interface_step, own_step, router_step}
 use Rattle.rip_plan.specs.PlanText.{empty, sketch_of}
 use Rattle.rip_plan.specs.Network.{Network, network_in, network_of_sketch}
-use Rattle.rip_plan.specs.PlanOf.{Matched, HasItems, IsNameOf, items_under, IsInterfaceOf, Placement, IsOnLink, IsOwned, IsPlaceOf, each_once, PlanOf, IsPlanOfText}
+use Rattle.rip_plan.specs.PlanOf.{Matched, HasItems, IsAddressOf, AreAlsoOf, IsNameOf, items_under, IsInterfaceOf, Placement, IsOnLink, IsOwned, IsPlaceOf, each_once, PlanOf, IsPlanOfText}
 use Rattle.rip_plan.proofs.Binds.{bind_ok, ok_same}
 use Rattle.rip_plan.proofs.StepsTaken.{with_link, with_router, prefix_taken, link_taken, interface_taken, own_taken, router_taken, text_taken}
 use Rattle.rip_plan.proofs.Numbering.{numbers}
 use Rattle.rip_plan.proofs.Matching.{matched_append, matched_at, map_append}
 use Rattle.rip_plan.proofs.EachOnce.{numbered_once}
 use Rattle.rip_plan.proofs.Items.{get_seen}
-use Rattle.rip_plan.proofs.Tables.{link_table, interface_table, own_table, router_table, then_some, chosen, items_there, text_is}
+use Rattle.rip_plan.proofs.Tables.{addresses_are, link_table, interface_table, own_table, router_table, then_some, chosen, items_there, text_is}
 
 abbrev pub placement : DraftPlace → Placement
 placement d = record { prefix = d.prefix; seat = d.seat }
@@ -95,45 +95,73 @@ links_added k (x ∷ xs) s t h =
 
 pub record InterfacesAdded (r : ℕ) (xs : List Data) (s t : Sketch) : Type 0 where
   pub added : List DraftInterface
-  pub made : t ≡ record s { interfaces = s.interfaces ++ added }
+  pub further : List (List ℕ)
+  pub made : t ≡ record s { interfaces = s.interfaces ++ added; also = s.also ++ further }
   pub match : Matched (IsInterfaceOf s.links) (map its_interface added) (map (with_number r) xs)
+  pub also_match : Matched AreAlsoOf further (map (with_number r) xs)
 
 pub interfaces_added : (r j : ℕ) (xs : List Data) (s t : Sketch) → steps (interface_step (r + 1)) j xs s ≡ Ok t → InterfacesAdded r xs s t
-interfaces_added r j [] s t h = record { added = []; made = sym (ok_same s t h) ∙ ap (λ (is : List DraftInterface). record s { interfaces = is }) (sym (append-nil s.interfaces)); match = tt }
+interfaces_added r j [] s t h = record {
+  added = [];
+  further = [];
+  made = sym (ok_same s t h)
+      ∙ ap (λ (is : List DraftInterface). record s { interfaces = is }) (sym (append-nil s.interfaces))
+      ∙ ap (λ (l : List (List ℕ)). record s { interfaces = s.interfaces ++ []; also = l }) (sym (append-nil s.also));
+  match = tt;
+  also_match = tt;
+}
 interfaces_added r j (x ∷ xs) s t h =
     let (u, first, others) = bind_ok (interface_step (r + 1) j x s) (steps (interface_step (r + 1)) (j + 1) xs) t h in
     let taken = interface_taken (r + 1) j x s u first in
-    let fields = interface_table x taken.name taken.text taken.given taken.cost taken.fields taken.costs in
+    let fields = interface_table x taken.given taken.cost taken.direct taken.fields taken.costs taken.directs in
     let rest = interfaces_added r (j + 1) xs u t others in
-    let new : DraftInterface = record { interface = record { router = r + 1 - 1; link = taken.link; address = taken.address; cost = taken.cost }; at = RouterInterface (r + 1) j } in
+    let new : DraftInterface = record { interface = record { router = r + 1 - 1; link = taken.link; address = taken.address; cost = taken.cost; direct = taken.direct }; at = RouterInterface (r + 1) j } in
     record {
       added = new ∷ rest.added;
-      made = rest.made ∙ ap (λ (v : Sketch). record v { interfaces = v.interfaces ++ rest.added }) taken.made ∙ ap (λ (is : List DraftInterface). record s { interfaces = is }) (append_assoc s.interfaces (new ∷ []) rest.added);
+      further = taken.also ∷ rest.further;
+      made = rest.made
+          ∙ ap (λ (v : Sketch). record v { interfaces = v.interfaces ++ rest.added; also = v.also ++ rest.further }) taken.made
+          ∙ ap (λ (is : List DraftInterface). record s { interfaces = is; also = (s.also ++ taken.also ∷ []) ++ rest.further }) (append_assoc s.interfaces (new ∷ []) rest.added)
+          ∙ ap (λ (l : List (List ℕ)). record s { interfaces = s.interfaces ++ new ∷ rest.added; also = l }) (append_assoc s.also (taken.also ∷ []) rest.further);
       match = (
-        record { router = back r; link_name = taken.name; has_link = fields.has_link; link = taken.known; text = taken.text; has_address = fields.has_address; address = taken.parsed; cost = fields.cost },
+        record { router = back r; link_name = taken.given.link; has_link = fields.has.has_link; link = taken.known; text = taken.given.address; has_address = fields.has.has_address; address = taken.parsed; cost = fields.cost; direct = fields.direct },
         subst (λ (names : List (List ℕ)). Matched (IsInterfaceOf names) (map its_interface rest.added) (map (with_number r) xs)) (ap (λ (v : Sketch). v.links) taken.made) rest.match,
       );
+      also_match = (subst (Matched IsAddressOf taken.also) (sym fields.has.also_are) (addresses_are taken.given.also taken.also taken.others), rest.also_match);
     }
 
 pub record OwnsAdded (r : ℕ) (xs : List Data) (s t : Sketch) : Type 0 where
   pub added : List DraftPlace
   pub made : t ≡ record s { places = s.places ++ added }
-  pub match : Matched IsOwned (map placement added) (map (with_number r) xs)
+  pub match : Matched (IsOwned s.links) (map placement added) (map (with_number r) xs)
 
 pub owns_added : (r j : ℕ) (xs : List Data) (s t : Sketch) → steps (own_step (r + 1)) j xs s ≡ Ok t → OwnsAdded r xs s t
 owns_added r j [] s t h = record { added = []; made = sym (ok_same s t h) ∙ ap (λ (ps : List DraftPlace). record s { places = ps }) (sym (append-nil s.places)); match = tt }
 owns_added r j (x ∷ xs) s t h =
     let (u, first, others) = bind_ok (own_step (r + 1) j x s) (steps (own_step (r + 1)) (j + 1) xs) t h in
     let taken = own_taken (r + 1) j x s u first in
-    let fields = own_table x taken.text taken.given taken.cost taken.fields taken.costs in
+    let fields = own_table x s.links taken.given taken.cost taken.link taken.via taken.fields taken.costs taken.known taken.gateway in
     let rest = owns_added r (j + 1) xs u t others in
-    let new : DraftPlace = record { prefix = taken.prefix; seat = seats.Own (r + 1 - 1) taken.cost; at = RouterOwn (r + 1) j } in
+    let new : DraftPlace = record { prefix = taken.prefix; seat = seats.Own (r + 1 - 1) taken.cost taken.given.kept taken.link taken.via; at = RouterOwn (r + 1) j } in
     record {
       added = new ∷ rest.added;
       made = rest.made ∙ ap (λ (v : Sketch). record v { places = v.places ++ rest.added }) taken.added.made ∙ ap (λ (ps : List DraftPlace). record s { places = ps }) (append_assoc s.places (new ∷ []) rest.added);
       match = (
-        record { text = taken.text; has_prefix = fields.has_prefix; prefix = taken.parsed; cost = taken.cost; is_cost = fields.cost; seat = ap (λ (n : ℕ). seats.Own n taken.cost) (back r) },
-        rest.match,
+        record {
+          text = taken.given.prefix;
+          has_prefix = fields.has.has_prefix;
+          prefix = taken.parsed;
+          cost = taken.cost;
+          is_cost = fields.cost;
+          kept = taken.given.kept;
+          is_kept = fields.has.kept;
+          link = taken.link;
+          is_link = fields.link;
+          via = taken.via;
+          is_via = fields.via;
+          seat = ap (λ (n : ℕ). seats.Own n taken.cost taken.given.kept taken.link taken.via) (back r);
+        },
+        subst (λ (names : List (List ℕ)). Matched (IsOwned names) (map placement rest.added) (map (with_number r) xs)) (ap (λ (v : Sketch). v.links) taken.added.made) rest.match,
       );
     }
 
@@ -142,23 +170,28 @@ owns_added r j (x ∷ xs) s t h =
 pub record RoutersAdded (k : ℕ) (xs : List Data) (s t : Sketch) : Type 0 where
   pub names : List (List ℕ)
   pub interfaces : List DraftInterface
+  pub also : List (List ℕ)
   pub owned : List DraftPlace
-  pub made : t ≡ record s { routers = s.routers ++ names; interfaces = s.interfaces ++ interfaces; places = s.places ++ owned }
+  pub made : t ≡ record s { routers = s.routers ++ names; interfaces = s.interfaces ++ interfaces; also = s.also ++ also; places = s.places ++ owned }
   pub named : Matched IsNameOf names xs
   pub on_links : Matched (IsInterfaceOf s.links) (map its_interface interfaces) (items_under (codes_of "interface") k xs)
-  pub own : Matched IsOwned (map placement owned) (items_under (codes_of "own") k xs)
+  pub further : Matched AreAlsoOf also (items_under (codes_of "interface") k xs)
+  pub own : Matched (IsOwned s.links) (map placement owned) (items_under (codes_of "own") k xs)
 
 pub routers_added : (k : ℕ) (xs : List Data) (s t : Sketch) → steps router_step (k + 1) xs s ≡ Ok t → RoutersAdded k xs s t
 routers_added k [] s t h = record {
   names = [];
   interfaces = [];
+  also = [];
   owned = [];
   made = sym (ok_same s t h)
       ∙ ap (λ (rs : List (List ℕ)). record s { routers = rs }) (sym (append-nil s.routers))
       ∙ ap (λ (is : List DraftInterface). record s { routers = s.routers ++ []; interfaces = is }) (sym (append-nil s.interfaces))
-      ∙ ap (λ (ps : List DraftPlace). record s { routers = s.routers ++ []; interfaces = s.interfaces ++ []; places = ps }) (sym (append-nil s.places));
+      ∙ ap (λ (l : List (List ℕ)). record s { routers = s.routers ++ []; interfaces = s.interfaces ++ []; also = l }) (sym (append-nil s.also))
+      ∙ ap (λ (ps : List DraftPlace). record s { routers = s.routers ++ []; interfaces = s.interfaces ++ []; also = s.also ++ []; places = ps }) (sym (append-nil s.places));
   named = tt;
   on_links = tt;
+  further = tt;
   own = tt;
 }
 routers_added k (x ∷ xs) s t h =
@@ -168,23 +201,29 @@ routers_added k (x ∷ xs) s t h =
     let inner = interfaces_added k 1 taken.interfaces (with_router taken.name s) taken.between taken.first in
     let own = owns_added k 1 taken.owns taken.between u taken.second in
     let rest = routers_added (k + 1) xs u t others in
-    let here : u ≡ record s { routers = s.routers ++ taken.name ∷ []; interfaces = s.interfaces ++ inner.added; places = s.places ++ own.added } =
+    let here : u ≡ record s { routers = s.routers ++ taken.name ∷ []; interfaces = s.interfaces ++ inner.added; also = s.also ++ inner.further; places = s.places ++ own.added } =
     own.made ∙ ap (λ (v : Sketch). record v { places = v.places ++ own.added }) inner.made in
+    let between : taken.between.links ≡ s.links = ap (λ (v : Sketch). v.links) inner.made in
     record {
       names = taken.name ∷ rest.names;
       interfaces = inner.added ++ rest.interfaces;
+      also = inner.further ++ rest.also;
       owned = own.added ++ rest.owned;
       made = rest.made
-          ∙ ap (λ (v : Sketch). record v { routers = v.routers ++ rest.names; interfaces = v.interfaces ++ rest.interfaces; places = v.places ++ rest.owned }) here
-          ∙ ap (λ (rs : List (List ℕ)). record s { routers = rs; interfaces = (s.interfaces ++ inner.added) ++ rest.interfaces; places = (s.places ++ own.added) ++ rest.owned }) (append_assoc s.routers (taken.name ∷ []) rest.names)
-          ∙ ap (λ (is : List DraftInterface). record s { routers = s.routers ++ taken.name ∷ rest.names; interfaces = is; places = (s.places ++ own.added) ++ rest.owned }) (append_assoc s.interfaces inner.added rest.interfaces)
-          ∙ ap (λ (ps : List DraftPlace). record s { routers = s.routers ++ taken.name ∷ rest.names; interfaces = s.interfaces ++ (inner.added ++ rest.interfaces); places = ps }) (append_assoc s.places own.added rest.owned);
+          ∙ ap (λ (v : Sketch). record v { routers = v.routers ++ rest.names; interfaces = v.interfaces ++ rest.interfaces; also = v.also ++ rest.also; places = v.places ++ rest.owned }) here
+          ∙ ap (λ (rs : List (List ℕ)). record s { routers = rs; interfaces = (s.interfaces ++ inner.added) ++ rest.interfaces; also = (s.also ++ inner.further) ++ rest.also; places = (s.places ++ own.added) ++ rest.owned }) (append_assoc s.routers (taken.name ∷ []) rest.names)
+          ∙ ap (λ (is : List DraftInterface). record s { routers = s.routers ++ taken.name ∷ rest.names; interfaces = is; also = (s.also ++ inner.further) ++ rest.also; places = (s.places ++ own.added) ++ rest.owned }) (append_assoc s.interfaces inner.added rest.interfaces)
+          ∙ ap (λ (l : List (List ℕ)). record s { routers = s.routers ++ taken.name ∷ rest.names; interfaces = s.interfaces ++ (inner.added ++ rest.interfaces); also = l; places = (s.places ++ own.added) ++ rest.owned }) (append_assoc s.also inner.further rest.also)
+          ∙ ap (λ (ps : List DraftPlace). record s { routers = s.routers ++ taken.name ∷ rest.names; interfaces = s.interfaces ++ (inner.added ++ rest.interfaces); also = s.also ++ (inner.further ++ rest.also); places = ps }) (append_assoc s.places own.added rest.owned);
       named = (fields.named, rest.named);
       on_links = rw (map_append its_interface inner.added rest.interfaces, fields.interfaces_are)
           (matched_append (IsInterfaceOf s.links) (map its_interface inner.added) (map its_interface rest.interfaces) (map (with_number k) taken.interfaces) (items_under (codes_of "interface") (k + 1) xs) inner.match
           (subst (λ (names : List (List ℕ)). Matched (IsInterfaceOf names) (map its_interface rest.interfaces) (items_under (codes_of "interface") (k + 1) xs)) (ap (λ (v : Sketch). v.links) here) rest.on_links));
+      further = rw fields.interfaces_are (matched_append AreAlsoOf inner.further rest.also (map (with_number k) taken.interfaces) (items_under (codes_of "interface") (k + 1) xs) inner.also_match rest.further);
       own = rw (map_append placement own.added rest.owned, fields.owns_are)
-          (matched_append IsOwned (map placement own.added) (map placement rest.owned) (map (with_number k) taken.owns) (items_under (codes_of "own") (k + 1) xs) own.match rest.own);
+          (matched_append (IsOwned s.links) (map placement own.added) (map placement rest.owned) (map (with_number k) taken.owns) (items_under (codes_of "own") (k + 1) xs)
+          (subst (λ (names : List (List ℕ)). Matched (IsOwned names) (map placement own.added) (map (with_number k) taken.owns)) between own.match)
+          (subst (λ (names : List (List ℕ)). Matched (IsOwned names) (map placement rest.owned) (items_under (codes_of "own") (k + 1) xs)) (ap (λ (v : Sketch). v.links) here) rest.own));
     }
 
 -- ---- the document
@@ -235,8 +274,9 @@ document_matches doc s taken =
     let root = root_table doc taken.links taken.routers taken.root in
     let links = links_added 0 taken.links empty taken.between taken.first in
     let routers = routers_added 0 taken.routers taken.between s taken.second in
-    let made : s ≡ record { links = links.names; routers = routers.names; interfaces = routers.interfaces; places = links.added ++ routers.owned } =
-    routers.made ∙ ap (λ (v : Sketch). record v { routers = v.routers ++ routers.names; interfaces = v.interfaces ++ routers.interfaces; places = v.places ++ routers.owned }) links.made in
+    let made : s ≡ record { links = links.names; routers = routers.names; interfaces = routers.interfaces; also = routers.also; places = links.added ++ routers.owned } =
+    routers.made ∙ ap (λ (v : Sketch). record v { routers = v.routers ++ routers.names; interfaces = v.interfaces ++ routers.interfaces; also = v.also ++ routers.also; places = v.places ++ routers.owned }) links.made in
+    let names : s.links ≡ taken.between.links = ap (λ (v : Sketch). v.links) routers.made in
     let split : map placement s.places ≡ map placement links.added ++ map placement routers.owned = ap (λ (v : Sketch). map placement v.places) made ∙ map_append placement links.added routers.owned in
     record {
       links = taken.links;
@@ -246,10 +286,11 @@ document_matches doc s taken =
       has_routers = root.has_routers;
       router_names = subst (λ (names : List (List ℕ)). Matched IsNameOf names taken.routers) (ap (λ (v : Sketch). v.routers) (sym made)) routers.named;
       interfaces = interfaces_match doc s taken;
+      also = subst (λ (l : List (List ℕ)). Matched AreAlsoOf l (items_under (codes_of "interface") 0 taken.routers)) (ap (λ (v : Sketch). v.also) (sym made)) routers.further;
       on_links = map placement links.added;
       link_prefixes = links.placed;
       owned = map placement routers.owned;
-      own_prefixes = routers.own;
+      own_prefixes = subst (λ (ls : List (List ℕ)). Matched (IsOwned ls) (map placement routers.owned) (items_under (codes_of "own") 0 taken.routers)) (sym names) routers.own;
       places = subst (λ (ps : List Placement). Matched (IsPlaceOf (network_of_sketch s)) (network_of_sketch s).places ps) split (places_match s);
       prefixes = numbered_once s.places ∙ ap each_once (blocks_seen s.places ∙ ap (map (λ (p : Placement). p.prefix)) split);
     }

@@ -1,13 +1,15 @@
 -- Where the items of lists stand, and in which order.
-use Rattle.std.proofs.Common.{◌≡◌, ℕ, zero, suc, ◌+◌, ◌<◌, ◌≤◌, ◌⊎◌, inl, inr, List, [], ◌∷◌, ◌++◌, length, length-append, append_assoc, Some, refl, sym, ap, ◌∙◌, arith}
+use Rattle.std.proofs.Common.{◌≡◌, ℕ, zero, suc, ◌+◌, ◌<◌, ◌≤◌, ◌⊎◌, inl, inr, List, [], ◌∷◌, ◌++◌, length, length-append, append_assoc, map, Some, refl, sym, ap, ◌∙◌, arith}
 use Rattle.std.specs.Prelude.{slice_get, codes as codes_of}
 use Rattle.std.proofs.lemmas.Option.{none-some, same_Some}
 use Rattle.std.proofs.lemmas.Bool.{cases_lt}
+use Rattle.std.proofs.lemmas.List.{length-map}
 use Rattle.toml.specs.Data.{Data, get}
 use Rattle.rip_plan.specs.declared.error.At.{At}
 use Rattle.rip_plan.specs.declared.error.At.TheVariants.{LinkPrefix, RouterInterface, RouterOwn}
-use Rattle.rip_plan.specs.PlanOf.{items_in}
+use Rattle.rip_plan.specs.PlanOf.{items_in, items_under}
 use Rattle.rip_plan.specs.PlanFaults.{nth, IsItem, spots_of, spots_under, place_spots, interface_spots, position, Before}
+use Rattle.rip_plan.proofs.Items.{get_split}
 use Rattle.rip_plan.proofs.Orders.{before_not}
 
 pub nth_from : {A : Type 0} (xs : List A) (i : ℕ) (x : A) → nth xs i ≡ Some x → (1 ≤ i) × (i ≤ length xs)
@@ -22,15 +24,6 @@ nth_from xs (suc n) x h = (omega arith, within xs n x h)
 pub item_from : (key : List ℕ) (ds : List Data) (i j : ℕ) (x : Data) → IsItem key ds i j x → (1 ≤ i) × (i ≤ length ds) × (1 ≤ j)
 item_from key ds i j x (d, is, item) = let a = nth_from ds i d is in let b = nth_from (items_in (get key d)) j x item in (a.0, a.1, b.0)
 
-pub get_split : {A : Type 0} (xs ys : List A) (k : ℕ) (a : A) → slice_get (xs ++ ys) k ≡ Some a → ((slice_get xs k ≡ Some a) × (k < length xs)) ⊎ ((m : ℕ) × (k ≡ length xs + m) × (slice_get ys m ≡ Some a))
-get_split [] ys k a h = inr (k, omega arith, h)
-get_split (x ∷ xs) ys zero a h = inl (h, omega arith)
-get_split (x ∷ xs) ys (suc k) a h =
-    elim (get_split xs ys k a h) [
-      | inl e ↦ let less : k < length xs = e.1 in inl (e.0, omega arith)
-      | inr e ↦ let same : k ≡ length xs + e.0 = e.1 in inr (e.0, omega arith, e.2)
-    ]
-
 pub get_front : {A : Type 0} (xs : List A) (a : A) (ys : List A) → slice_get (xs ++ a ∷ ys) (length xs) ≡ Some a
 get_front [] a ys = refl
 get_front (x ∷ xs) a ys = get_front xs a ys
@@ -41,16 +34,16 @@ spot_at at j (d ∷ ds) zero a h = (sym (same_Some (at j) a h) ∙ ap at (omega 
 spot_at at j (d ∷ ds) (suc k) a h = let more = spot_at at (j + 1) ds k a h in (more.0 ∙ ap at (omega arith), more.1)
 
 -- a spot is that of an item
-record IsSpot (key : List ℕ) (at : ℕ → ℕ → At) (i : ℕ) (ds : List Data) (a : At) : Type 0 where
-  n : ℕ
-  j : ℕ
-  is : a ≡ at (i + n) (suc j)
-  d : Data
-  table : slice_get ds n ≡ Some d
-  x : Data
-  item : slice_get (items_in (get key d)) j ≡ Some x
+pub record IsSpot (key : List ℕ) (at : ℕ → ℕ → At) (i : ℕ) (ds : List Data) (a : At) : Type 0 where
+  pub n : ℕ
+  pub j : ℕ
+  pub is : a ≡ at (i + n) (suc j)
+  pub d : Data
+  pub table : slice_get ds n ≡ Some d
+  pub x : Data
+  pub item : slice_get (items_in (get key d)) j ≡ Some x
 
-spot_under : (key : List ℕ) (at : ℕ → ℕ → At) (i : ℕ) (ds : List Data) (k : ℕ) (a : At) → slice_get (spots_under key at i ds) k ≡ Some a → IsSpot key at i ds a
+pub spot_under : (key : List ℕ) (at : ℕ → ℕ → At) (i : ℕ) (ds : List Data) (k : ℕ) (a : At) → slice_get (spots_under key at i ds) k ≡ Some a → IsSpot key at i ds a
 spot_under key at i [] k a h = absurd (none-some a h)
 spot_under key at i (d ∷ ds) k a h =
     elim (get_split (spots_of (at i) 1 (items_in (get key d))) (spots_under key at (i + 1) ds) k a h) [
@@ -157,7 +150,7 @@ interface_once routers k m a h g = spot_once (interface_spots routers) (interfac
 
 -- ---- the item of a spot
 
-item_of : (key : List ℕ) (ds : List Data) (n j : ℕ) (d x : Data) → slice_get ds n ≡ Some d → slice_get (items_in (get key d)) j ≡ Some x → (i m : ℕ) → i ≡ 1 + n → m ≡ suc j → IsItem key ds i m x
+pub item_of : (key : List ℕ) (ds : List Data) (n j : ℕ) (d x : Data) → slice_get ds n ≡ Some d → slice_get (items_in (get key d)) j ≡ Some x → (i m : ℕ) → i ≡ 1 + n → m ≡ suc j → IsItem key ds i m x
 item_of key ds n j d x h g i m e f =
     let one : i ≡ suc n = omega arith in
     rw (one, f) (d, h, g)
@@ -206,10 +199,10 @@ spots_under_append key at i (x ∷ xs) ys n e =
     ap (λ (spots : List At). spots_of (at i) 1 (items_in (get key x)) ++ spots) (spots_under_append key at (i + 1) xs ys n (omega arith))
     ∙ sym (append_assoc (spots_of (at i) 1 (items_in (get key x))) (spots_under key at (i + 1) xs) (spots_under key at n ys))
 
-pub get_right : {A : Type 0} (xs ys : List A) (k m : ℕ) → m ≡ length xs + k → slice_get (xs ++ ys) m ≡ slice_get ys k
-get_right {A} [] ys k m e = ap (λ (n : ℕ). slice_get ys n) (omega arith)
-get_right (x ∷ xs) ys k zero e = absurd (omega arith)
-get_right (x ∷ xs) ys k (suc m) e = get_right xs ys k m (omega arith)
+pub get_past : {A : Type 0} (xs ys : List A) (k m : ℕ) → m ≡ length xs + k → slice_get (xs ++ ys) m ≡ slice_get ys k
+get_past {A} [] ys k m e = ap (λ (n : ℕ). slice_get ys n) (omega arith)
+get_past (x ∷ xs) ys k zero e = absurd (omega arith)
+get_past (x ∷ xs) ys k (suc m) e = get_past xs ys k m (omega arith)
 
 pub get_before : {A : Type 0} (xs ys : List A) (k : ℕ) (a : A) → slice_get xs k ≡ Some a → slice_get (xs ++ ys) k ≡ Some a
 get_before [] ys k a h = absurd (none-some a h)
@@ -229,7 +222,7 @@ under_here key at i [] d rest front x back e n h =
     rw same (get_before (spots_of (at i) 1 (items_in (get key d))) (spots_under key at (i + 1) rest) (length front) (at i (1 + length front)) here ∙ ap (λ (m : ℕ). Some (at m (1 + length front))) (omega arith))
 under_here key at i (y ∷ done) d rest front x back e n h =
     let count = length-append (spots_of (at i) 1 (items_in (get key y))) (spots_under key at (i + 1) done) in
-    get_right (spots_of (at i) 1 (items_in (get key y))) (spots_under key at (i + 1) (done ++ d ∷ rest)) (length (spots_under key at (i + 1) done) + length front) n (omega (arith, count))
+    get_past (spots_of (at i) 1 (items_in (get key y))) (spots_under key at (i + 1) (done ++ d ∷ rest)) (length (spots_under key at (i + 1) done) + length front) n (omega (arith, count))
     ∙ under_here key at (i + 1) done d rest front x back e (length (spots_under key at (i + 1) done) + length front) refl
     ∙ ap (λ (m : ℕ). Some (at m (1 + length front))) (omega arith)
 
@@ -241,7 +234,7 @@ prefix_here routers done d rest front x back e n h =
 pub own_here : (links done : List Data) (d : Data) (rest front : List Data) (x : Data) (back : List Data) → items_in (get (codes_of "own") d) ≡ front ++ x ∷ back
     → (n : ℕ) → n ≡ length (spots_under (codes_of "prefixes") LinkPrefix 1 links) + (length (spots_under (codes_of "own") RouterOwn 1 done) + length front) → slice_get (place_spots links (done ++ d ∷ rest)) n ≡ Some (RouterOwn (1 + length done) (1 + length front))
 own_here links done d rest front x back e n h =
-    get_right (spots_under (codes_of "prefixes") LinkPrefix 1 links) (spots_under (codes_of "own") RouterOwn 1 (done ++ d ∷ rest)) (length (spots_under (codes_of "own") RouterOwn 1 done) + length front) n h
+    get_past (spots_under (codes_of "prefixes") LinkPrefix 1 links) (spots_under (codes_of "own") RouterOwn 1 (done ++ d ∷ rest)) (length (spots_under (codes_of "own") RouterOwn 1 done) + length front) n h
     ∙ under_here (codes_of "own") RouterOwn 1 done d rest front x back e (length (spots_under (codes_of "own") RouterOwn 1 done) + length front) refl
 
 pub nth_here : {A : Type 0} (done : List A) (x : A) (rest : List A) (n : ℕ) → n ≡ 1 + length done → nth (done ++ x ∷ rest) n ≡ Some x
@@ -257,6 +250,18 @@ item_once key ds i j x y (d, is, it) (e, js, jt) =
 pub count_of : (at : ℕ → At) (j : ℕ) (ds : List Data) → length (spots_of at j ds) ≡ length ds
 count_of at j [] = refl
 count_of at j (d ∷ ds) = let more : length (spots_of at (j + 1) ds) ≡ length ds = count_of at (j + 1) ds in omega arith
+
+pub spots_count : (key : List ℕ) (at : ℕ → ℕ → At) (i n : ℕ) (ds : List Data) → length (spots_under key at i ds) ≡ length (items_under key n ds)
+spots_count key at i n [] = refl
+spots_count key at i n (d ∷ ds) =
+    omega (
+      arith,
+      spots_count key at (i + 1) (n + 1) ds,
+      count_of (at i) 1 (items_in (get key d)),
+      length-map {B = ℕ × Data} (items_in (get key d)) (λ (x : Data). (n, x)),
+      length-append (spots_of (at i) 1 (items_in (get key d))) (spots_under key at (i + 1) ds),
+      length-append (map (λ (x : Data). (n, x)) (items_in (get key d))) (items_under key (n + 1) ds),
+    )
 
 -- ---- what stands among places and interfaces
 

@@ -1,6 +1,6 @@
 -- What each step of the first pass found where it ended with no fault.
 use Rattle.std.proofs.Common.{◌≡◌, ℕ, ◌-◌, List, [], ◌∷◌, ◌++◌, length, false, not, ◌||◌, Option, Some, Ok, sym, ap, ◌∙◌}
-use Rattle.std.specs.Prelude.{ℤ, nat_le, nat_lt, codes as codes_of}
+use Rattle.std.specs.Prelude.{nat_le, nat_lt, codes as codes_of}
 use Rattle.toml.specs.Data.{Data, Members, as_str, as_table, get_member}
 use Rattle.rip_wire.specs.Address.{address_in}
 use Rattle.rip_wire.specs.Name.{is_name}
@@ -8,23 +8,19 @@ use Rattle.rip_wire.specs.Prefix.{Block, prefix_in}
 use Rattle.rip_plan.specs.declared.error.PlanCode.TheVariants as codes
 use Rattle.rip_plan.specs.declared.error.At.{At}
 use Rattle.rip_plan.specs.declared.error.At.TheVariants.{Text, Version, Link, LinkPrefix, Router, RouterInterface, RouterOwn}
-use Rattle.rip_plan.specs.declared.parts.Interface.{Interface}
 use Rattle.rip_plan.specs.declared.parts.Seat.{Seat}
 use Rattle.rip_plan.specs.declared.parts.Seat.TheVariants as seats
 use Rattle.rip_plan.specs.Fault.{fault, ◌>>=◌, steps}
-use Rattle.rip_plan.specs.Fields.{◌&>◌, link_fields, interface_fields, own_fields, router_fields, root_fields, cost_of, is_version}
-use Rattle.rip_plan.specs.Draft.{Sketch, prefix_step, link_step, interface_step, own_step, router_step, is_outside, with_place}
+use Rattle.rip_plan.specs.Fields.{InterfaceFields, OwnFields, ◌&>◌, link_fields, interface_fields, own_fields, router_fields, root_fields, cost_of, direct_of, addresses_in, address_if, link_if, is_version}
+use Rattle.rip_plan.specs.Draft.{Sketch, prefix_step, link_step, interface_step, own_step, router_step, is_outside, is_full, with_interface, with_place}
 use Rattle.rip_plan.specs.Names.{is_one_of, number_of_name}
 use Rattle.rip_plan.specs.Passes.{second_passes}
 use Rattle.rip_plan.specs.PlanText.{empty, sketch_of_document, document_of, sketch_of}
 use Rattle.rip_plan.proofs.Binds.{bind_ok, wanted_ok, guard_ok, ok_same}
 
--- the draft with one more place, or interface, or name
+-- the draft with one more place, or name
 abbrev pub with_new_place : At → Block → Seat → Sketch → Sketch
 with_new_place place prefix seat s = record s { places = s.places ++ record { prefix = prefix; seat = seat; at = place } ∷ [] }
-
-abbrev pub with_interface : At → Interface → Sketch → Sketch
-with_interface place i s = record s { interfaces = s.interfaces ++ record { interface = i; at = place } ∷ [] }
 
 abbrev pub with_link : List ℕ → Sketch → Sketch
 with_link name s = record s { links = s.links ++ name ∷ [] }
@@ -72,70 +68,84 @@ link_taken i d s t h =
     record { name = f.0; prefixes = f.1; fields = fields; named = named; fresh = fresh; others = h3 }
 
 pub record InterfaceTaken (r j : ℕ) (d : Data) (s t : Sketch) : Type 0 where
-  pub name : List ℕ
-  pub text : List ℕ
-  pub given : Option ℤ
-  pub fields : (as_table d &> interface_fields) ≡ Some (name, text, given)
+  pub given : InterfaceFields
+  pub fields : (as_table d &> interface_fields) ≡ Some given
   pub address : ℕ
-  pub parsed : address_in text ≡ Some address
+  pub parsed : address_in given.address ≡ Some address
+  pub also : List ℕ
+  pub others : addresses_in given.also ≡ Some also
   pub cost : ℕ
-  pub costs : cost_of given ≡ Some cost
+  pub costs : cost_of given.cost ≡ Some cost
+  pub direct : ℕ
+  pub directs : direct_of cost given.direct ≡ Some direct
   pub link : ℕ
-  pub known : number_of_name name s.links ≡ Some link
+  pub known : number_of_name given.link s.links ≡ Some link
   pub inside : is_outside link address s.places ≡ false
-  pub room : nat_le 1024 (length s.interfaces) ≡ false
-  pub made : t ≡ with_interface (RouterInterface r j) (record { router = r - 1; link = link; address = address; cost = cost }) s
+  pub room : is_full s also ≡ false
+  pub made : t ≡ with_interface (record { interface = record { router = r - 1; link = link; address = address; cost = cost; direct = direct }; at = RouterInterface r j }) also s
 
 pub interface_taken : (r j : ℕ) (d : Data) (s t : Sketch) → interface_step r j d s ≡ Ok t → InterfaceTaken r j d s t
 unfolding interface_step
 interface_taken r j d s t h =
     let (f, fields, h1) = wanted_ok (fault codes.Key (RouterInterface r j)) (as_table d &> interface_fields) _ t h in
-    let (address, parsed, h2) = wanted_ok (fault codes.Address (RouterInterface r j)) (address_in f.1) _ t h1 in
-    let (cost, costs, h3) = wanted_ok (fault codes.Cost (RouterInterface r j)) (cost_of f.2) _ t h2 in
-    let (link, known, h4) = wanted_ok (fault codes.UnknownLink (RouterInterface r j)) (number_of_name f.0 s.links) _ t h3 in
-    let (inside, h5) = guard_ok (is_outside link address s.places) (fault codes.OutsidePrefix (RouterInterface r j)) _ t h4 in
-    let (room, h6) = guard_ok (nat_le 1024 (length s.interfaces)) (fault codes.Limit (RouterInterface r j)) _ t h5 in
+    let (address, parsed, h2) = wanted_ok (fault codes.Address (RouterInterface r j)) (address_in f.address) _ t h1 in
+    let (also, others, h3) = wanted_ok (fault codes.Address (RouterInterface r j)) (addresses_in f.also) _ t h2 in
+    let (cost, costs, h4) = wanted_ok (fault codes.Cost (RouterInterface r j)) (cost_of f.cost) _ t h3 in
+    let (direct, directs, h5) = wanted_ok (fault codes.Cost (RouterInterface r j)) (direct_of cost f.direct) _ t h4 in
+    let (link, known, h6) = wanted_ok (fault codes.UnknownLink (RouterInterface r j)) (number_of_name f.link s.links) _ t h5 in
+    let (inside, h7) = guard_ok (is_outside link address s.places) (fault codes.OutsidePrefix (RouterInterface r j)) _ t h6 in
+    let (room, h8) = guard_ok (is_full s also) (fault codes.Limit (RouterInterface r j)) _ t h7 in
     record {
-      name = f.0;
-      text = f.1;
-      given = f.2;
+      given = f;
       fields = fields;
       address = address;
       parsed = parsed;
+      also = also;
+      others = others;
       cost = cost;
       costs = costs;
+      direct = direct;
+      directs = directs;
       link = link;
       known = known;
       inside = inside;
       room = room;
-      made = sym (ok_same _ t h6);
+      made = sym (ok_same _ t h8);
     }
 
 pub record OwnTaken (r j : ℕ) (d : Data) (s t : Sketch) : Type 0 where
-  pub text : List ℕ
-  pub given : Option ℤ
-  pub fields : (as_table d &> own_fields) ≡ Some (text, given)
+  pub given : OwnFields
+  pub fields : (as_table d &> own_fields) ≡ Some given
+  pub via : Option ℕ
+  pub gateway : address_if given.via ≡ Some via
   pub prefix : Block
-  pub parsed : prefix_in text ≡ Some prefix
+  pub parsed : prefix_in given.prefix ≡ Some prefix
   pub cost : ℕ
-  pub costs : cost_of given ≡ Some cost
-  pub added : PlaceTaken (RouterOwn r j) prefix (seats.Own (r - 1) cost) s t
+  pub costs : cost_of given.cost ≡ Some cost
+  pub link : Option ℕ
+  pub known : link_if given.link s.links ≡ Some link
+  pub added : PlaceTaken (RouterOwn r j) prefix (seats.Own (r - 1) cost given.kept link via) s t
 
 pub own_taken : (r j : ℕ) (d : Data) (s t : Sketch) → own_step r j d s ≡ Ok t → OwnTaken r j d s t
 unfolding own_step
 own_taken r j d s t h =
     let (f, fields, h1) = wanted_ok (fault codes.Key (RouterOwn r j)) (as_table d &> own_fields) _ t h in
-    let (prefix, parsed, h2) = wanted_ok (fault codes.Prefix (RouterOwn r j)) (prefix_in f.0) _ t h1 in
-    let (cost, costs, h3) = wanted_ok (fault codes.Cost (RouterOwn r j)) (cost_of f.1) _ t h2 in
+    let (via, gateway, h2) = wanted_ok (fault codes.Address (RouterOwn r j)) (address_if f.via) _ t h1 in
+    let (prefix, parsed, h3) = wanted_ok (fault codes.Prefix (RouterOwn r j)) (prefix_in f.prefix) _ t h2 in
+    let (cost, costs, h4) = wanted_ok (fault codes.Cost (RouterOwn r j)) (cost_of f.cost) _ t h3 in
+    let (link, known, h5) = wanted_ok (fault codes.UnknownLink (RouterOwn r j)) (link_if f.link s.links) _ t h4 in
     record {
-      text = f.0;
-      given = f.1;
+      given = f;
       fields = fields;
+      via = via;
+      gateway = gateway;
       prefix = prefix;
       parsed = parsed;
       cost = cost;
       costs = costs;
-      added = place_taken (RouterOwn r j) prefix (seats.Own (r - 1) cost) s t h3;
+      link = link;
+      known = known;
+      added = place_taken (RouterOwn r j) prefix (seats.Own (r - 1) cost f.kept link via) s t h5;
     }
 
 pub record RouterTaken (r : ℕ) (d : Data) (s t : Sketch) : Type 0 where

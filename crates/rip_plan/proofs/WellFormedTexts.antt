@@ -1,11 +1,11 @@
 -- Bytes without a fault are the well-formed ones.
-use Rattle.std.proofs.Common.{◌≡◌, ℕ, zero, suc, ◌+◌, ◌<◌, ◌≤◌, ◌⊎◌, inl, inr, List, [], ◌∷◌, ◌++◌, map, length, length-append, Bool, true, false, cond, not, Option, None, Some, refl, sym, ◌∙◌, ap, subst, arith}
+use Rattle.std.proofs.Common.{◌≡◌, ℕ, zero, suc, ◌+◌, ◌<◌, ◌≤◌, ◌⊎◌, inl, inr, List, [], ◌∷◌, ◌++◌, map, length, length-append, sum, Bool, true, false, cond, not, Option, None, Some, refl, sym, ◌∙◌, ap, subst, arith}
 use Rattle.std.specs.Prelude.{ℤ, pos, slice_get, get_or, codes as codes_of}
-use Rattle.std.specs.List.{All}
+use Rattle.std.specs.List.{All, sum_by}
 use Rattle.std.specs.Str.{bytes_eq}
 use Rattle.std.proofs.lemmas.Bool.{cases_lt}
 use Rattle.std.proofs.lemmas.Bool.Decides.{nat_tests}
-use Rattle.std.proofs.lemmas.List.{length-map}
+use Rattle.std.proofs.lemmas.List.Sums.{sum-map, sum_by-cons}
 use Rattle.std.proofs.lemmas.Option.{none-some, same_Some, slice_get_within, get_or_from_slice_get, slice_get-get_or}
 use Rattle.std.proofs.lemmas.Slice.Eq.{bytes_eq-Decides}
 use Rattle.toml.specs.Data.{Data, Members, as_str, as_table, get, integer, string, table}
@@ -20,18 +20,20 @@ use Rattle.rip_plan.specs.declared.error.At.TheVariants.{Text, Version, Link, Li
 use Rattle.rip_plan.specs.declared.parts.Interface.{Interface}
 use Rattle.rip_plan.specs.declared.parts.Seat.TheVariants as seats
 use Rattle.rip_plan.specs.Fault.{fault}
-use Rattle.rip_plan.specs.Fields.{◌&>◌, cost_of, interface_fields, is_between, is_version, link_fields, own_fields, root_fields, router_fields}
+use Rattle.rip_plan.specs.Fields.{◌&>◌, cost_of, direct_of, interface_fields, is_between, is_version, link_fields, own_fields, root_fields, router_fields}
+use Rattle.rip_plan.specs.Names.{number_of_name}
 use Rattle.rip_plan.specs.Network.{Network}
-use Rattle.rip_plan.specs.PlanFaults.{AreTwice, DoMeet, FaultAt, HasPrefix, HasTables, HasWrongCost, HaveOneAddress, IsBare, IsClash, IsFault, IsItem, IsMisnamed, IsNamedAgain, IsOutside, IsText, TableFault, interface_spots, nth, place_spots, spots_of, spots_under}
-use Rattle.rip_plan.specs.PlanOf.{IsCostOf, IsInterfaceOf, IsNameOf, IsOnLink, IsOwned, IsPlaceOf, IsPlanOfText, Matched, Placement, PlanOf, items_in, items_under}
-use Rattle.rip_plan.specs.Relations.{Carries, HasAddress, IsInterface, IsLawful, IsPlace, IsPrefix}
+use Rattle.rip_plan.specs.PlanFaults.{AreTwice, AstrayAt, DoMeet, FaultAt, HasNoAddress, HasOneTwice, HasPrefix, HasTables, HasWrongAlso, HasWrongCost, HasWrongDirect, HaveOneAddress, IsAstray, IsBare, IsClash, IsFault, IsFound, IsItem, IsMisnamed, IsNamedAgain, IsOutside, IsPast, IsSo, IsText, NamesNoLink, TableFault, also_spots, interface_spots, nth, pass_of, place_spots, spots_under}
+use Rattle.rip_plan.specs.PlanOf.{AreAlsoOf, IsAddressOf, IsCostOf, IsDirectOf, IsGatewayOf, IsLinkOf, IsInterfaceOf, IsNameOf, IsOnLink, IsOwned, IsPlaceOf, IsPlanOfText, Matched, Placement, PlanOf, items_in, items_under}
+use Rattle.rip_plan.specs.Relations.{Carries, HasOwnAddress, IsConnected, IsInterface, IsLawful, IsOwnAt, IsPlace, IsPrefix}
 use Rattle.rip_plan.specs.WellFormed.{HasFields, IsWellFormed}
-use Rattle.rip_plan.proofs.Items.{get_seen, position_finds, see_got}
-use Rattle.rip_plan.proofs.LinkFaults.{matched_left, matched_right}
-use Rattle.rip_plan.proofs.OnePlan.{one_plan, text_same}
+use Rattle.rip_plan.proofs.AlsoSpots.{also_count, also_in, also_items, also_under}
+use Rattle.rip_plan.proofs.Items.{get_seen, get_split, position_finds, see_got}
+use Rattle.rip_plan.proofs.Matching.{matched_left, matched_length, matched_right}
+use Rattle.rip_plan.proofs.OnePlan.{cost_same, one_plan, text_same}
 use Rattle.rip_plan.proofs.PlanMatches.{with_number}
-use Rattle.rip_plan.proofs.Spots.{count_of, get_before, get_right, get_split}
-use Rattle.rip_plan.proofs.TextFaults.{one_fault, one_tables, same_document, version_is, version_told}
+use Rattle.rip_plan.proofs.Spots.{get_before, get_past, spots_count}
+use Rattle.rip_plan.proofs.TextFaults.{one_astray, one_fault, one_tables, same_document, version_is, version_told}
 
 -- ---- lists
 
@@ -40,12 +42,6 @@ all_at P xs k x all h = subst P (get_or_from_slice_get xs k x x h) (all k x (sli
 
 all_from : {A : Type 0} (P : A → Type 0) (xs : List A) → ((k : ℕ) (x : A) → slice_get xs k ≡ Some x → P x) → All P xs
 all_from P xs f = λ k d less. f k (get_or xs k d) (slice_get-get_or xs k d less)
-
-matched_length : {A B : Type 0} (R : A → B → Type 0) (xs : List A) (ys : List B) → Matched R xs ys → length xs ≡ length ys
-matched_length R [] [] m = refl
-matched_length R [] (y ∷ ys) m = absurd m
-matched_length R (x ∷ xs) [] m = absurd m
-matched_length R (x ∷ xs) (y ∷ ys) m = let more : length xs ≡ length ys = matched_length R xs ys m.1 in omega arith
 
 -- an item of the lists at a key stands in a table
 under_item : (key : List ℕ) (n : ℕ) (ds : List Data) (k m : ℕ) (x : Data) → slice_get (items_under key n ds) k ≡ Some (m, x) → (i j : ℕ) × (m ≡ n + i) × IsItem key ds (suc i) (suc j) x
@@ -69,7 +65,7 @@ under_at key n (e ∷ ds) zero j d x h g =
     (j, get_before (map (with_number n) (items_in (get key e))) (items_under key (n + 1) ds) j (n, x) (see_got (with_number n) (items_in (get key e)) j x here) ∙ ap (λ (m : ℕ). Some (m, x)) (omega arith))
 under_at key n (e ∷ ds) (suc i) j d x h g =
     let (k, at) = under_at key (n + 1) ds i j d x h g in
-    (length (map (with_number n) (items_in (get key e))) + k, get_right (map (with_number n) (items_in (get key e))) (items_under key (n + 1) ds) k _ refl ∙ at ∙ ap (λ (m : ℕ). Some (m, x)) (omega arith))
+    (length (map (with_number n) (items_in (get key e))) + k, get_past (map (with_number n) (items_in (get key e))) (items_under key (n + 1) ds) k _ refl ∙ at ∙ ap (λ (m : ℕ). Some (m, x)) (omega arith))
 
 -- where an item of a table stands in the lists at a key
 record StandsUnder (key : List ℕ) (ds : List Data) (i : ℕ) (x : Data) : Type 0 where
@@ -85,18 +81,6 @@ item_under key ds (suc m) (suc j) x (d, is, item) =
     let (k, at) = under_at key 0 ds m j d x is item in
     record { k = k; m = m; number = refl; at = at ∙ ap (λ (n : ℕ). Some (n, x)) (omega arith) }
 
-spots_count : (key : List ℕ) (at : ℕ → ℕ → At) (i n : ℕ) (ds : List Data) → length (spots_under key at i ds) ≡ length (items_under key n ds)
-spots_count key at i n [] = refl
-spots_count key at i n (d ∷ ds) =
-    omega (
-      arith,
-      spots_count key at (i + 1) (n + 1) ds,
-      count_of (at i) 1 (items_in (get key d)),
-      length-map (items_in (get key d)) (with_number n),
-      length-append (spots_of (at i) 1 (items_in (get key d))) (spots_under key at (i + 1) ds),
-      length-append (map (with_number n) (items_in (get key d))) (items_under key (n + 1) ds),
-    )
-
 -- ---- costs
 
 costs : (d : Data) (c : ℕ) → IsCostOf d c → 1 ≤ c → c ≤ 15 → HasWrongCost d → ⊥
@@ -106,6 +90,50 @@ costs d c (inl given) least most (z, is, none) =
     let number : pos c ≡ z = cc in
     let within : is_between 1 15 c ≡ true = grind (arith, nat_tests) in
     none-some c (sym none ∙ ap (λ (y : ℤ). cost_of (Some y)) (sym number) ∙ ap (λ (b : Bool). cond b (Some c) None) within)
+
+-- a direct metric that may stand beside the cost
+directs : (d : Data) (c e : ℕ) → IsCostOf d c → IsDirectOf d c e → 1 ≤ e → e ≤ c → HasWrongDirect d → ⊥
+directs d c e cost (inr given) least most (b, z, is_cost, one, fifteen, is, none) = none-some (integer z) (sym given.0 ∙ is)
+directs d c e cost (inl given) least most (b, z, is_cost, one, fifteen, is, none) =
+    let same : integer (pos e) ≡ integer z = same_Some (integer (pos e)) (integer z) (sym given ∙ is) in
+    let number : pos e ≡ z = cc in
+    let within : is_between 1 c e ≡ true = grind (arith, nat_tests) in
+    let lacks : direct_of c (Some (pos e)) ≡ None = ap (λ (m : ℕ). direct_of m (Some (pos e))) (cost_same d c b cost is_cost) ∙ ap (λ (y : ℤ). direct_of b (Some y)) number ∙ none in
+    none-some e (sym lacks ∙ ap (λ (t : Bool). cond t (Some e) None) within)
+
+-- a gateway that is an address
+gateways : (d : Data) (via : Option ℕ) → IsGatewayOf d via → HasNoAddress (codes_of "via") d → ⊥
+gateways d None is (text, has, none) = none-some (string text) (sym is ∙ has)
+gateways d (Some a) (other, its, parsed) (text, has, none) =
+    let same : text ≡ other = text_same (codes_of "via") d text other has its in
+    none-some a (sym none ∙ ap address_in same ∙ parsed)
+
+-- ---- further addresses
+
+-- how many further addresses these items have
+abbrev also_at : List (ℕ × Data) → ℕ
+also_at [] = 0
+also_at (x ∷ xs) = length (also_items x.1) + also_at xs
+
+also_sum : (also : List (List ℕ)) (xs : List (ℕ × Data)) → Matched AreAlsoOf also xs → sum_by length also ≡ also_at xs
+also_sum [] [] m = refl
+also_sum [] (x ∷ xs) m = absurd m
+also_sum (a ∷ also) [] m = absurd m
+also_sum (a ∷ also) (x ∷ xs) m = omega (arith, sum_by-cons length a also, also_sum also xs m.1, matched_length IsAddressOf a (also_items x.1) m.0)
+
+also_append : (xs ys : List (ℕ × Data)) → also_at (xs ++ ys) ≡ also_at xs + also_at ys
+also_append [] ys = omega arith
+also_append (x ∷ xs) ys = omega (arith, also_append xs ys)
+
+also_numbered : (n : ℕ) (ds : List Data) → also_at (map (with_number n) ds) ≡ also_in ds
+also_numbered n [] = refl
+also_numbered n (d ∷ ds) = omega (arith, also_numbered n ds)
+
+also_flat : (n : ℕ) (ds : List Data) → also_at (items_under (codes_of "interface") n ds) ≡ also_under ds
+also_flat n [] = refl
+also_flat n (d ∷ ds) =
+    let here = items_in (get (codes_of "interface") d) in
+    omega (arith, also_flat (n + 1) ds, also_append (map (with_number n) here) (items_under (codes_of "interface") (n + 1) ds), also_numbered n here)
 
 -- ---- names
 
@@ -139,7 +167,7 @@ module _ (document : Members) (n : Network) (plan : PlanOf document n) (lawful :
         matched_length (IsPlaceOf n) n.places (plan.on_links ++ plan.owned) plan.places,
         length-append plan.on_links plan.owned,
         matched_length IsOnLink plan.on_links (items_under (codes_of "prefixes") 0 plan.links) plan.link_prefixes,
-        matched_length IsOwned plan.owned (items_under (codes_of "own") 0 plan.routers) plan.own_prefixes,
+        matched_length (IsOwned n.links) plan.owned (items_under (codes_of "own") 0 plan.routers) plan.own_prefixes,
         spots_count (codes_of "prefixes") LinkPrefix 1 0 plan.links,
         spots_count (codes_of "own") RouterOwn 1 0 plan.routers,
         length-append (spots_under (codes_of "prefixes") LinkPrefix 1 plan.links) (spots_under (codes_of "own") RouterOwn 1 plan.routers),
@@ -168,12 +196,12 @@ module _ (document : Members) (n : Network) (plan : PlanOf document n) (lawful :
     q : Placement
     m : ℕ
     listed : slice_get plan.owned k ≡ Some q
-    of : IsOwned q (m, x)
+    of : IsOwned n.links q (m, x)
 
   its_own : (r j : ℕ) (x : Data) → IsItem (codes_of "own") plan.routers r j x → HasOwn x
   its_own r j x item =
       let u = item_under (codes_of "own") plan.routers r j x item in
-      let (q, listed, of) = matched_right IsOwned plan.owned (items_under (codes_of "own") 0 plan.routers) u.k (u.m, x) plan.own_prefixes u.at in
+      let (q, listed, of) = matched_right (IsOwned n.links) plan.owned (items_under (codes_of "own") 0 plan.routers) u.k (u.m, x) plan.own_prefixes u.at in
       record { k = u.k; q = q; m = u.m; listed = listed; of = of }
 
   -- the place of a placement
@@ -200,17 +228,29 @@ module _ (document : Members) (n : Network) (plan : PlanOf document n) (lawful :
             let number : m ≡ l = cc in
             (k, on.text, is ∙ ap (λ (y : ℕ × Data). Some y) (ap (λ (v : ℕ). (v, item)) number ∙ ap (λ (y : Data). (l, y)) on.is_text), on.prefix ∙ ap (λ (b : Block). Some b) (sym same))
         | inr there ↦
-            let ((m, item), is, own) = matched_left IsOwned plan.owned (items_under (codes_of "own") 0 plan.routers) there.0 q plan.own_prefixes there.2 in
-            let seat : seats.Link l ≡ seats.Own m own.cost = of.seat ∙ own.seat in
+            let ((m, item), is, own) = matched_left (IsOwned n.links) plan.owned (items_under (codes_of "own") 0 plan.routers) there.0 q plan.own_prefixes there.2 in
+            let seat : seats.Link l ≡ seats.Own m own.cost own.kept own.link own.via = of.seat ∙ own.seat in
             absurd cc
       ]
 
-  unknown_not : (x : Data) → HasInterface x → (name : List ℕ) → get (codes_of "link") x ≡ Some (string name) → ((l : ℕ) (link : Data) → slice_get plan.links l ≡ Some link → IsNameOf name link → ⊥) → ⊥
-  unknown_not x h name has none =
-      let (k, other, number, at, test) = position_finds (λ (y : List ℕ). bytes_eq y h.of.link_name) 0 n.links h.i.link h.of.link in
-      let same : other ≡ name = (bytes_eq-Decides other h.of.link_name).0 test ∙ text_same (codes_of "link") x h.of.link_name name h.of.has_link has in
+  -- a link of the plan has the name
+  link_there : (name : List ℕ) (l : ℕ) → number_of_name name n.links ≡ Some l → ((m : ℕ) (link : Data) → slice_get plan.links m ≡ Some link → IsNameOf name link → ⊥) → ⊥
+  link_there name l known none =
+      let (k, other, number, at, test) = position_finds (λ (y : List ℕ). bytes_eq y name) 0 n.links l known in
+      let same : other ≡ name = (bytes_eq-Decides other name).0 test in
       let (link, listed, its) = matched_left IsNameOf n.links plan.links k other plan.link_names at in
       none k link listed (subst (λ (t : List ℕ). IsNameOf t link) same its)
+
+  unknown_not : (x : Data) → HasInterface x → NamesNoLink plan.links x → ⊥
+  unknown_not x h (name, has, none) =
+      let same : h.of.link_name ≡ name = text_same (codes_of "link") x h.of.link_name name h.of.has_link has in
+      link_there name h.i.link (ap (λ (t : List ℕ). number_of_name t n.links) (sym same) ∙ h.of.link) none
+
+  attached_not : (x : Data) (link : Option ℕ) → IsLinkOf n.links x link → NamesNoLink plan.links x → ⊥
+  attached_not x None is (name, has, none) = none-some (string name) (sym is ∙ has)
+  attached_not x (Some l) (other, its, known) (name, has, none) =
+      let same : other ≡ name = text_same (codes_of "link") x other name its has in
+      link_there name l (ap (λ (t : List ℕ). number_of_name t n.links) (sym same) ∙ known) none
 
   outside_not : (x : Data) → HasInterface x → IsOutside plan.links x → ⊥
   outside_not x h o =
@@ -223,12 +263,11 @@ module _ (document : Members) (n : Network) (plan : PlanOf document n) (lawful :
       let text : h.of.text ≡ o.text = text_same (codes_of "address") x h.of.text o.text h.of.has_address o.has_address in
       let address : h.i.address ≡ o.address = same_Some h.i.address o.address (sym h.of.address ∙ ap address_in text ∙ o.parsed) in
       let (p, carries) = has_carrier o.link o.some.0 o.some.1 in
-      let is : HasAddress n h.k o.link o.address = record {
+      let is : HasOwnAddress n h.k o.link o.address = record {
         router = h.i.router;
         cost = h.i.cost;
-        listed = h.listed
-            ∙ ap (λ (l : ℕ). Some (record { router = h.i.router; link = l; address = h.i.address; cost = h.i.cost })) link
-            ∙ ap (λ (a : ℕ). Some (record { router = h.i.router; link = o.link; address = a; cost = h.i.cost })) address;
+        direct = h.i.direct;
+        listed = h.listed ∙ ap (λ (l : ℕ). Some (record h.i { link = l })) link ∙ ap (λ (a : ℕ). Some (record h.i { link = o.link; address = a })) address;
       } in
       let (q, block, on, prefix, contains) = lawful.inside h.k o.link o.address p is carries in
       o.none block (carrier_has o.link q block on prefix) contains
@@ -250,6 +289,18 @@ module _ (document : Members) (n : Network) (plan : PlanOf document n) (lawful :
   address_not : (j k : ℕ) → HaveOneAddress n j k → j ≡ k
   address_not j k (l, a, h, h') = lawful.addresses_differ j k l a h h'
 
+  once_not : (k : ℕ) → HasOneTwice n k → ⊥
+  once_not k (l, addresses, has, (j, m, a, less, one, two)) = let same : j ≡ m = lawful.addresses_once k l addresses has j m a one two in omega arith
+
+  address_clash_not : (place : At) (m : Network) → PlanOf document m → IsClash (HaveOneAddress m) (interface_spots plan.routers) place ⊎ IsSo (HasOneTwice m) (interface_spots plan.routers) place → ⊥
+  address_clash_not place m its (inl c) = clash_not HaveOneAddress (interface_spots plan.routers) place address_not m its c
+  address_clash_not place m its (inr c) = let (k, at, twice) = subst (λ (v : Network). IsSo (HasOneTwice v) (interface_spots plan.routers) place) (one_plan document m n its plan) c in once_not k twice
+
+  astray_not : (place : At) (m : Network) → PlanOf document m → IsSo (IsAstray m) (place_spots plan.links plan.routers) place → ⊥
+  astray_not place m its c =
+      let (k, at, (p, r, l, h, none)) = subst (λ (v : Network). IsSo (IsAstray v) (place_spots plan.links plan.routers) place) (one_plan document m n its plan) c in
+      none (lawful.attached_there r p l (k, h))
+
   bare_not : (r : ℕ) (m : Network) → PlanOf document m → IsBare m r → ⊥
   bare_not r m its b =
       let (k, number, less, none) = subst (λ (v : Network). IsBare v r) (one_plan document m n its plan) b in
@@ -266,16 +317,29 @@ module _ (document : Members) (n : Network) (plan : PlanOf document n) (lawful :
   few_interfaces : length (interface_spots plan.routers) ≤ 1024
   few_interfaces = let few : length n.interfaces ≤ 1024 = lawful.few_interfaces in omega (arith, interfaces_count)
 
-  interface_cost : (x : Data) → HasInterface x → HasWrongCost x → ⊥
+  few_also : length (also_spots plan.routers) ≤ 1024
+  few_also =
+      let few : sum (map length n.also) ≤ 1024 = lawful.few_also in
+      omega (arith, also_count 1 plan.routers, sum-map length n.also, also_sum n.also (items_under (codes_of "interface") 0 plan.routers) plan.also, also_flat 0 plan.routers)
+
+  interface_limit : (r j : ℕ) → IsPast 1024 (interface_spots plan.routers) (RouterInterface r j) ⊎ IsPast 1024 (also_spots plan.routers) (RouterInterface r j) → ⊥
+  interface_limit r j (inl f) = past_not (interface_spots plan.routers) (RouterInterface r j) f.0 few_interfaces f.1 f.2
+  interface_limit r j (inr f) = past_not (also_spots plan.routers) (RouterInterface r j) f.0 few_also f.1 f.2
+
+  interface_cost : (x : Data) → HasInterface x → HasWrongCost x ⊎ HasWrongDirect x → ⊥
   interface_cost x h wrong =
-      let is : IsInterface n h.k h.i.router h.i.link h.i.cost = record { address = h.i.address; listed = h.listed } in
-      costs x h.i.cost h.of.cost (lawful.cost_least h.k h.i.router h.i.link h.i.cost is) (lawful.cost_most h.k h.i.router h.i.link h.i.cost is) wrong
+      let is : IsInterface n h.k h.i.router h.i.link h.i.cost = record { address = h.i.address; direct = h.i.direct; listed = h.listed } in
+      let on : IsConnected n h.k h.i.router h.i.link h.i.direct = record { address = h.i.address; cost = h.i.cost; listed = h.listed } in
+      elim wrong [
+        | inl cost ↦ costs x h.i.cost h.of.cost (lawful.cost_least h.k h.i.router h.i.link h.i.cost is) (lawful.cost_most h.k h.i.router h.i.link h.i.cost is) cost
+        | inr direct ↦ directs x h.i.cost h.i.direct h.of.cost h.of.direct (lawful.direct_least h.k h.i.router h.i.link h.i.direct on) (lawful.direct_most h.k h.i.router h.i.link h.i.cost h.i.direct is on) direct
+      ]
 
   own_cost : (x : Data) → HasOwn x → HasWrongCost x → ⊥
   own_cost x h wrong =
       let k = length plan.on_links + h.k in
-      let (p, place, prefix) = its_place k h.q (get_right plan.on_links plan.owned h.k k refl ∙ h.listed) in
-      let own : IsPlace n k p (seats.Own h.m h.of.cost) = subst (IsPlace n k p) h.of.seat place in
+      let (p, place, prefix) = its_place k h.q (get_past plan.on_links plan.owned h.k k refl ∙ h.listed) in
+      let own : IsOwnAt n k p h.m h.of.cost = record { kept = h.of.kept; link = h.of.link; via = h.of.via; place = subst (IsPlace n k p) h.of.seat place } in
       costs x h.of.cost h.of.is_cost (lawful.own_cost_least k p h.m h.of.cost own) (lawful.own_cost_most k p h.m h.of.cost own) wrong
 
 -- ---- bytes that are well formed
@@ -314,11 +378,18 @@ module _ (bytes : List ℕ) (w : IsWellFormed bytes) where
       let (text, is, parsed) = text_not i j x item in
       none-some text (sym none ∙ ap as_str is)
 
-  address_told : (r j : ℕ) (x : Data) (text : List ℕ) → IsItem (codes_of "interface") w.plan.routers r j x → get (codes_of "address") x ≡ Some (string text) → address_in text ≡ None → ⊥
-  address_told r j x text item has none =
+  address_told : (r j : ℕ) (x : Data) → IsItem (codes_of "interface") w.plan.routers r j x → HasNoAddress (codes_of "address") x ⊎ HasWrongAlso x → ⊥
+  address_told r j x item (inl (text, has, none)) =
       let h = its_interface w.document w.network w.plan w.lawful r j x item in
       let same : text ≡ h.of.text = text_same (codes_of "address") x text h.of.text has h.of.has_address in
       none-some h.i.address (sym none ∙ ap address_in same ∙ h.of.address)
+  address_told r j x item (inr (k, text, at, none)) =
+      let u = item_under (codes_of "interface") w.plan.routers r j x item in
+      let (also, listed, of) = matched_right AreAlsoOf w.network.also (items_under (codes_of "interface") 0 w.plan.routers) u.k (u.m, x) w.plan.also u.at in
+      let (a, there, (other, is, parsed)) = matched_right IsAddressOf also (also_items x) k (string text) of at in
+      let strings : string text ≡ string other = is in
+      let same : text ≡ other = cc in
+      none-some a (sym none ∙ ap address_in same ∙ parsed)
 
   own_told : (r j : ℕ) (x : Data) (text : List ℕ) → IsItem (codes_of "own") w.plan.routers r j x → get (codes_of "prefix") x ≡ Some (string text) → prefix_in text ≡ None → ⊥
   own_told r j x text item has none =
@@ -338,19 +409,21 @@ module _ (bytes : List ℕ) (w : IsWellFormed bytes) where
   table_not codes.Name (Router r) f = router_named r f
   table_not codes.DuplicateName (Router r) f = again_not w.network.routers w.plan.routers w.plan.router_names w.lawful.router_names_differ r f
   table_not codes.Key (RouterInterface r j) f = item_fields interface_fields (codes_of "interface") w.plan.routers r j f.0 w.interface_tables f.1 f.2
-  table_not codes.Address (RouterInterface r j) f = address_told r j f.0 f.1 f.2 f.3 f.4
+  table_not codes.Address (RouterInterface r j) f = address_told r j f.0 f.1 f.2
   table_not codes.Cost (RouterInterface r j) f = interface_cost w.document w.network w.plan w.lawful f.0 (its_interface w.document w.network w.plan w.lawful r j f.0 f.1) f.2
-  table_not codes.UnknownLink (RouterInterface r j) f = unknown_not w.document w.network w.plan w.lawful f.0 (its_interface w.document w.network w.plan w.lawful r j f.0 f.1) f.2.0 f.2.1 f.2.2
+  table_not codes.UnknownLink (RouterInterface r j) f = unknown_not w.document w.network w.plan w.lawful f.0 (its_interface w.document w.network w.plan w.lawful r j f.0 f.1) f.2
   table_not codes.OutsidePrefix (RouterInterface r j) f = outside_not w.document w.network w.plan w.lawful f.0 (its_interface w.document w.network w.plan w.lawful r j f.0 f.1) f.2
-  table_not codes.Limit (RouterInterface r j) f = past_not w.document w.network w.plan w.lawful (interface_spots w.plan.routers) (RouterInterface r j) f.0 (few_interfaces w.document w.network w.plan w.lawful) f.1 f.2
+  table_not codes.Limit (RouterInterface r j) f = interface_limit w.document w.network w.plan w.lawful r j f
   table_not codes.Key (RouterOwn r j) f = item_fields own_fields (codes_of "own") w.plan.routers r j f.0 w.own_tables f.1 f.2
+  table_not codes.Address (RouterOwn r j) f = let h = its_own w.document w.network w.plan w.lawful r j f.0 f.1 in gateways f.0 h.of.via h.of.is_via f.2
+  table_not codes.UnknownLink (RouterOwn r j) f = let h = its_own w.document w.network w.plan w.lawful r j f.0 f.1 in attached_not w.document w.network w.plan w.lawful f.0 h.of.link h.of.is_link f.2
   table_not codes.Prefix (RouterOwn r j) f = own_told r j f.0 f.1 f.2 f.3 f.4
   table_not codes.Cost (RouterOwn r j) f = own_cost w.document w.network w.plan w.lawful f.0 (its_own w.document w.network w.plan w.lawful r j f.0 f.1) f.2
   table_not codes.Limit (RouterOwn r j) f = past_not w.document w.network w.plan w.lawful (place_spots w.plan.links w.plan.routers) (RouterOwn r j) f.0 (few_places w.document w.network w.plan w.lawful) f.1 f.2
   table_not codes.DuplicatePrefix (LinkPrefix i j) f = clash_not w.document w.network w.plan w.lawful DoMeet (place_spots w.plan.links w.plan.routers) (LinkPrefix i j) (meet_not w.document w.network w.plan w.lawful) f.0 f.1 f.2
   table_not codes.DuplicatePrefix (RouterOwn r j) f = clash_not w.document w.network w.plan w.lawful DoMeet (place_spots w.plan.links w.plan.routers) (RouterOwn r j) (meet_not w.document w.network w.plan w.lawful) f.0 f.1 f.2
   table_not codes.TwiceOnLink (RouterInterface r j) f = clash_not w.document w.network w.plan w.lawful AreTwice (interface_spots w.plan.routers) (RouterInterface r j) (twice_not w.document w.network w.plan w.lawful) f.0 f.1 f.2
-  table_not codes.DuplicateAddress (RouterInterface r j) f = clash_not w.document w.network w.plan w.lawful HaveOneAddress (interface_spots w.plan.routers) (RouterInterface r j) (address_not w.document w.network w.plan w.lawful) f.0 f.1 f.2
+  table_not codes.DuplicateAddress (RouterInterface r j) f = address_clash_not w.document w.network w.plan w.lawful (RouterInterface r j) f.0 f.1 f.2
   table_not codes.NoInterface (Router r) f = bare_not w.document w.network w.plan w.lawful r f.0 f.1 f.2
   table_not c place f = absurd f
 
@@ -371,16 +444,29 @@ module _ (bytes : List ℕ) (w : IsWellFormed bytes) where
       over_not (subst (λ (l : List Data). (512 < length w.plan.links) ⊎ (128 < length l)) three (subst (λ (l : List Data). (512 < length l) ⊎ (128 < length rs)) two over))
   fault_not c place f = table_not c place (one_fault bytes w.document w.plan.links w.plan.routers tables c place f.0 f.1 f.2 f.3 f.4)
 
+  last_not : (place : At) → AstrayAt bytes place → ⊥
+  last_not (RouterOwn r j) f =
+      let its = one_astray bytes w.document w.plan.links w.plan.routers tables (RouterOwn r j) f.0 f.1 f.2 f.3 f.4 in
+      astray_not w.document w.network w.plan w.lawful (RouterOwn r j) its.0 its.1 its.2
+  last_not place f = absurd f
+
+  found_not : (pass : ℕ) (e : PlanError) → IsFound bytes pass e → ⊥
+  found_not pass e (inl f) = fault_not e.code e.place f.0
+  found_not pass e (inr f) = last_not e.place f.0
+
 pub is_faultless : (bytes : List ℕ) → IsWellFormed bytes → (e : PlanError) → IsFault bytes e → ⊥
-is_faultless bytes w e f = fault_not bytes w e.code e.place f
+is_faultless bytes w e f = found_not bytes w f.0 e f.1
 
 -- ---- bytes that have no fault
 
 module _ (bytes : List ℕ) (none : (e : PlanError) → IsFault bytes e → ⊥) where
+  none_at : (c : PlanCode) (place : At) → FaultAt bytes c place → ⊥
+  none_at c place f = none (fault c place) (pass_of c, inl (f, refl))
+
   not_long : length bytes ≤ 1048576
   not_long =
       elim (cases_lt 1048576 (length bytes)) [
-        | inl more ↦ absurd (none (fault codes.Limit Text) (inl more))
+        | inl more ↦ absurd (none_at codes.Limit Text (inl more))
         | inr few ↦ few
       ]
 
@@ -390,30 +476,30 @@ module _ (bytes : List ℕ) (none : (e : PlanError) → IsFault bytes e → ⊥)
       where
         by_test : (b : Bool) → is_version (get (codes_of "version") (table document)) ≡ b → get (codes_of "version") (table document) ≡ Some (integer (pos 1))
         by_test true e = version_is (get (codes_of "version") (table document)) e
-        by_test false e = absurd (none (fault codes.Version Version) (document, text, version_told (get (codes_of "version") (table document)) (ap not e)))
+        by_test false e = absurd (none_at codes.Version Version (document, text, version_told (get (codes_of "version") (table document)) (ap not e)))
 
     its_tables : HasTables bytes document plan.links plan.routers
     its_tables = record { text = text; has_links = plan.has_links; has_routers = plan.has_routers }
 
     its_links : All (HasFields link_fields) plan.links
-    its_links = all_from (HasFields link_fields) plan.links (λ k d at lacks. none (fault codes.Key (Link (suc k))) (document, plan.links, plan.routers, its_tables, (d, at, lacks)))
+    its_links = all_from (HasFields link_fields) plan.links (λ k d at lacks. none_at codes.Key (Link (suc k)) (document, plan.links, plan.routers, its_tables, (d, at, lacks)))
 
     its_routers : All (HasFields router_fields) plan.routers
-    its_routers = all_from (HasFields router_fields) plan.routers (λ k d at lacks. none (fault codes.Key (Router (suc k))) (document, plan.links, plan.routers, its_tables, (d, at, lacks)))
+    its_routers = all_from (HasFields router_fields) plan.routers (λ k d at lacks. none_at codes.Key (Router (suc k)) (document, plan.links, plan.routers, its_tables, (d, at, lacks)))
 
     its_interfaces : All (λ (at : ℕ × Data). HasFields interface_fields at.1) (items_under (codes_of "interface") 0 plan.routers)
     its_interfaces =
         all_from (λ (at : ℕ × Data). HasFields interface_fields at.1) (items_under (codes_of "interface") 0 plan.routers)
         (λ k d at lacks.
         let (i, j, number, item) = under_item (codes_of "interface") 0 plan.routers k d.0 d.1 at in
-        none (fault codes.Key (RouterInterface (suc i) (suc j))) (document, plan.links, plan.routers, its_tables, (d.1, item, lacks)))
+        none_at codes.Key (RouterInterface (suc i) (suc j)) (document, plan.links, plan.routers, its_tables, (d.1, item, lacks)))
 
     its_owns : All (λ (at : ℕ × Data). HasFields own_fields at.1) (items_under (codes_of "own") 0 plan.routers)
     its_owns =
         all_from (λ (at : ℕ × Data). HasFields own_fields at.1) (items_under (codes_of "own") 0 plan.routers)
         (λ k d at lacks.
         let (i, j, number, item) = under_item (codes_of "own") 0 plan.routers k d.0 d.1 at in
-        none (fault codes.Key (RouterOwn (suc i) (suc j))) (document, plan.links, plan.routers, its_tables, (d.1, item, lacks)))
+        none_at codes.Key (RouterOwn (suc i) (suc j)) (document, plan.links, plan.routers, its_tables, (d.1, item, lacks)))
 
 pub faultless_is : ((bytes : List ℕ) → ((e : PlanError) → IsFault bytes e → ⊥) → (n : Network) × IsPlanOfText bytes n × IsLawful n)
     → (bytes : List ℕ) → ((e : PlanError) → IsFault bytes e → ⊥) → IsWellFormed bytes
@@ -426,7 +512,7 @@ faultless_is law bytes none =
       version = its_version bytes none is.document text n is.plan;
       network = n;
       plan = is.plan;
-      root = λ lacks. none (fault codes.Key Text) (is.document, text, lacks);
+      root = λ lacks. none_at bytes none codes.Key Text (is.document, text, lacks);
       link_tables = its_links bytes none is.document text n is.plan;
       router_tables = its_routers bytes none is.document text n is.plan;
       interface_tables = its_interfaces bytes none is.document text n is.plan;

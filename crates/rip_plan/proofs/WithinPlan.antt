@@ -13,12 +13,12 @@ module _ (n : Network) (laws : IsLawful n) where
   pub interfaces_links : All (λ i. i.link < length n.links) n.interfaces
   interfaces_links k d h =
       let x = get_or n.interfaces k d in
-      laws.link_known k x.router x.link x.cost (record { address = x.address; listed = slice_get-get_or n.interfaces k d h })
+      laws.link_known k x.router x.link x.cost (record { address = x.address; direct = x.direct; listed = slice_get-get_or n.interfaces k d h })
 
   pub interfaces_routers : All (λ i. i.router < length n.routers) n.interfaces
   interfaces_routers k d h =
       let x = get_or n.interfaces k d in
-      laws.router_known k x.router x.link x.cost (record { address = x.address; listed = slice_get-get_or n.interfaces k d h })
+      laws.router_known k x.router x.link x.cost (record { address = x.address; direct = x.direct; listed = slice_get-get_or n.interfaces k d h })
 
   pub places_prefixes : All (λ q. q.prefix < length n.prefixes) n.places
   places_prefixes k d h =
@@ -30,11 +30,11 @@ module _ (n : Network) (laws : IsLawful n) where
     where
       by_seat : (seat : Seat) → slice_get n.places k ≡ Some (record { prefix = (get_or n.places k d).prefix; seat = seat }) → IsLinkBelow (length n.links) seat
       by_seat (Link l) e = laws.seat_known k (get_or n.places k d).prefix l (record { listed = e })
-      by_seat (Own r c) e = tt
+      by_seat (Own r c kept link via) e = tt
 
   pub places_owners : All (λ q. IsOwnerBelow (length n.routers) q.seat) n.places
   places_owners k d h = by_seat (get_or n.places k d).seat (slice_get-get_or n.places k d h)
     where
       by_seat : (seat : Seat) → slice_get n.places k ≡ Some (record { prefix = (get_or n.places k d).prefix; seat = seat }) → IsOwnerBelow (length n.routers) seat
       by_seat (Link l) e = tt
-      by_seat (Own r c) e = laws.owner_known k (get_or n.places k d).prefix r c (record { listed = e })
+      by_seat (Own r c kept link via) e = laws.owner_known k (get_or n.places k d).prefix r c (record { kept = kept; link = link; via = via; place = record { listed = e } })

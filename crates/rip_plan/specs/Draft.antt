@@ -1,6 +1,6 @@
 -- What was read of a plan so far, and each step of the first pass over its text.
-use Rattle.std.specs.Prelude.{◌≡◌, ℕ, ◌-◌, ◌/◌, List, [], ◌∷◌, ◌++◌, length, map, Bool, ◌&&◌, not, ◌==◌, nat_le, Result, Ok, Err, if◌then◌else◌, string_bytes}
-use Rattle.std.specs.List.{list_any}
+use Rattle.std.specs.Prelude.{◌≡◌, ℕ, ◌+◌, ◌-◌, ◌/◌, List, [], ◌∷◌, ◌++◌, length, map, Bool, ◌&&◌, ◌||◌, not, ◌==◌, nat_le, nat_lt, Result, Ok, Err, if◌then◌else◌, string_bytes}
+use Rattle.std.specs.List.{list_any, sum_by}
 use Rattle.toml.specs.Data.{Data, as_str, as_table}
 use Rattle.rip_wire.specs.Address.{address_in}
 use Rattle.rip_wire.specs.Name.{is_name}
@@ -13,20 +13,21 @@ use Rattle.rip_plan.specs.declared.error.ReadError.{ReadError}
 use Rattle.rip_plan.specs.declared.draft.Draft.{Draft}
 use Rattle.rip_plan.specs.declared.draft.DraftInterface.{DraftInterface}
 use Rattle.rip_plan.specs.declared.draft.DraftPlace.{DraftPlace}
-use Rattle.rip_plan.specs.declared.limits.TheConstants.{MOST_INTERFACES, MOST_PLACES}
+use Rattle.rip_plan.specs.declared.limits.TheConstants.{MOST_ALSO, MOST_INTERFACES, MOST_PLACES}
 use Rattle.rip_plan.specs.declared.parts.Seat.{Seat}
 use Rattle.rip_plan.specs.declared.parts.Seat.TheVariants as seats
 use Rattle.rip_plan.specs.Names.{is_one_of, number_of_name}
 use Rattle.rip_plan.specs.Seats.{is_on}
 use Rattle.rip_plan.specs.Fault.{fault, ◌>>=◌, wanted, steps, Fails}
-use Rattle.rip_plan.specs.Fields.{◌&>◌, link_fields, interface_fields, own_fields, router_fields, cost_of}
+use Rattle.rip_plan.specs.Fields.{◌&>◌, link_fields, interface_fields, own_fields, router_fields, cost_of, direct_of, addresses_in, address_if, link_if}
 
--- what was read: names, interfaces and places of prefixes, these two with where they stand in the
--- text
+-- what was read: names, interfaces with the further addresses of each, and places of prefixes;
+-- interfaces and places with where they stand in the text
 pub record Sketch : Type 0 where
   pub links : List (List ℕ)
   pub routers : List (List ℕ)
   pub interfaces : List DraftInterface
+  pub also : List (List ℕ)
   pub places : List DraftPlace
 
 abbrev pub sketch : Draft → Sketch
@@ -34,6 +35,7 @@ sketch d = record {
   links = map string_bytes d.links.items;
   routers = map string_bytes d.routers.items;
   interfaces = d.interfaces.items;
+  also = map (λ w. w.items) d.also.items;
   places = d.places.items;
 }
 
@@ -77,30 +79,49 @@ is_outside l a ps =
     list_any (λ p. is_on l p.seat) ps
     && not (list_any (λ p. is_on l p.seat && has_address p.prefix a) ps)
 
+-- there are the most interfaces already, or too many further addresses with these
+abbrev pub is_full : Sketch → List ℕ → Bool
+is_full s also =
+    nat_le MOST_INTERFACES (length s.interfaces)
+    || nat_lt MOST_ALSO (sum_by length s.also + length also)
+
+-- one more interface, with its further addresses
+abbrev pub with_interface : DraftInterface → List ℕ → Sketch → Sketch
+with_interface i also s =
+    record s { interfaces = s.interfaces ++ i ∷ []; also = s.also ++ also ∷ [] }
+
 -- interface j of router r
 unfoldable pub interface_step : ℕ → ℕ → Data → Sketch → Result Sketch PlanError
 interface_step r j d s =
     wanted (fault codes.Key (RouterInterface r j)) (as_table d &> interface_fields) >>= (λ f.
-    wanted (fault codes.Address (RouterInterface r j)) (address_in f.1) >>= (λ address.
-    wanted (fault codes.Cost (RouterInterface r j)) (cost_of f.2) >>= (λ cost.
-    wanted (fault codes.UnknownLink (RouterInterface r j)) (number_of_name f.0 s.links) >>= (λ link.
+    wanted (fault codes.Address (RouterInterface r j)) (address_in f.address) >>= (λ address.
+    wanted (fault codes.Address (RouterInterface r j)) (addresses_in f.also) >>= (λ also.
+    wanted (fault codes.Cost (RouterInterface r j)) (cost_of f.cost) >>= (λ cost.
+    wanted (fault codes.Cost (RouterInterface r j)) (direct_of cost f.direct) >>= (λ direct.
+    wanted (fault codes.UnknownLink (RouterInterface r j)) (number_of_name f.link s.links)
+    >>= (λ link.
     if is_outside link address s.places then Err (fault codes.OutsidePrefix (RouterInterface r j))
-    else if nat_le MOST_INTERFACES (length s.interfaces) then
-    Err (fault codes.Limit (RouterInterface r j))
-    else Ok (record s {
-      interfaces = s.interfaces ++ record {
-        interface = record { router = r - 1; link = link; address = address; cost = cost };
-        at = RouterInterface r j;
-      } ∷ [];
-    })))))
+    else if is_full s also then Err (fault codes.Limit (RouterInterface r j))
+    else Ok (with_interface (record {
+      interface = record {
+        router = r - 1;
+        link = link;
+        address = address;
+        cost = cost;
+        direct = direct;
+      };
+      at = RouterInterface r j;
+    }) also s)))))))
 
 -- own prefix j of router r
 unfoldable pub own_step : ℕ → ℕ → Data → Sketch → Result Sketch PlanError
 own_step r j d s =
     wanted (fault codes.Key (RouterOwn r j)) (as_table d &> own_fields) >>= (λ f.
-    wanted (fault codes.Prefix (RouterOwn r j)) (prefix_in f.0) >>= (λ prefix.
-    wanted (fault codes.Cost (RouterOwn r j)) (cost_of f.1) >>= (λ cost.
-    with_place (RouterOwn r j) prefix (seats.Own (r - 1) cost) s)))
+    wanted (fault codes.Address (RouterOwn r j)) (address_if f.via) >>= (λ via.
+    wanted (fault codes.Prefix (RouterOwn r j)) (prefix_in f.prefix) >>= (λ prefix.
+    wanted (fault codes.Cost (RouterOwn r j)) (cost_of f.cost) >>= (λ cost.
+    wanted (fault codes.UnknownLink (RouterOwn r j)) (link_if f.link s.links) >>= (λ link.
+    with_place (RouterOwn r j) prefix (seats.Own (r - 1) cost f.kept link via) s)))))
 
 -- router r
 unfoldable pub router_step : ℕ → Data → Sketch → Result Sketch PlanError

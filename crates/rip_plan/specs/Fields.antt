@@ -1,8 +1,10 @@
 -- The tables of a plan's document, by their keys.
-use Rattle.std.specs.Prelude.{ℕ, ℤ, pos, negsuc, List, [], ◌∷◌, codes, Bool, true, false, ◌&&◌, ◌==◌, nat_le, Option, Some, None, option_and_then, option_map, if◌then◌else◌}
-use Rattle.toml.specs.Data.{Data, integer, Items, no_items, item, Members, no_members, member, get_member, as_str, as_integer, as_array}
+use Rattle.std.specs.Prelude.{ℕ, ℤ, pos, negsuc, List, [], ◌∷◌, codes, Bool, true, false, ◌&&◌, ◌==◌, nat_le, Option, Some, None, is_some, option_and_then, option_map, if◌then◌else◌}
+use Rattle.std.specs.List.{list_all}
+use Rattle.toml.specs.Data.{Data, integer, Items, no_items, item, Members, no_members, member, get_member, as_bool, as_str, as_integer, as_array}
+use Rattle.rip_wire.specs.Address.{address_in}
 use Rattle.rip_plan.specs.declared.limits.TheConstants.{MOST_COST}
-use Rattle.rip_plan.specs.Names.{is_one_of}
+use Rattle.rip_plan.specs.Names.{is_one_of, number_of_name}
 
 infixl 10 ◌&>◌
 abbrev pub ◌&>◌ : {A B : Type 0} → Option A → (A → Option B) → Option B
@@ -22,13 +24,19 @@ abbrev pub link_keys : List (List ℕ)
 link_keys = codes "name" ∷ codes "prefixes" ∷ []
 
 abbrev pub interface_keys : List (List ℕ)
-interface_keys = codes "link" ∷ codes "address" ∷ codes "cost" ∷ []
+interface_keys =
+    codes "link" ∷ codes "address" ∷ codes "cost" ∷ codes "direct" ∷ codes "also" ∷ []
 
 abbrev pub text_at : List ℕ → Members → Option (List ℕ)
 text_at key ms = option_and_then as_str (get_member key ms)
 
 abbrev pub items_at : List ℕ → Members → Option (List Data)
 items_at key ms = option_map list_of (option_and_then as_array (get_member key ms))
+
+-- the items of a list, and none where nothing stands
+abbrev pub items_if : Option Data → Option (List Data)
+items_if None = Some []
+items_if (Some d) = option_map list_of (as_array d)
 
 -- nothing, an integer, or a value of another kind
 abbrev pub integer_if : Option Data → Option (Option ℤ)
@@ -44,14 +52,29 @@ link_fields ms =
     Some (name, prefixes))))
     else None
 
--- the link, the address and the cost of an interface's table
-unfoldable pub interface_fields : Members → Option (List ℕ × List ℕ × Option ℤ)
+-- a list of texts
+abbrev pub texts_of : List Data → Option (List Data)
+texts_of ds = if list_all (λ d. is_some (as_str d)) ds then Some ds else None
+
+-- what an interface's table gives
+pub record InterfaceFields : Type 0 where
+  pub link : List ℕ
+  pub address : List ℕ
+  pub cost : Option ℤ
+  pub direct : Option ℤ
+  pub also : List Data
+
+-- the link, the address, the cost, the direct metric and the further addresses of an interface's
+-- table
+unfoldable pub interface_fields : Members → Option InterfaceFields
 interface_fields ms =
     if has_only interface_keys ms then
     (text_at (codes "link") ms &> (λ link.
     text_at (codes "address") ms &> (λ address.
     integer_if (get_member (codes "cost") ms) &> (λ cost.
-    Some (link, address, cost)))))
+    integer_if (get_member (codes "direct") ms) &> (λ direct.
+    items_if (get_member (codes "also") ms) &> texts_of &> (λ also.
+    Some (record { link = link; address = address; cost = cost; direct = direct; also = also })))))))
     else None
 
 abbrev pub is_between : ℕ → ℕ → ℕ → Bool
@@ -63,25 +86,64 @@ cost_of None = Some 1
 cost_of (Some (pos n)) = if is_between 1 MOST_COST n then Some n else None
 cost_of (Some (negsuc n)) = None
 
-abbrev pub own_keys : List (List ℕ)
-own_keys = codes "prefix" ∷ codes "cost" ∷ []
+-- a given direct metric, the cost where none is given, and nothing outside 1 to the cost
+abbrev pub direct_of : ℕ → Option ℤ → Option ℕ
+direct_of cost None = Some cost
+direct_of cost (Some (pos n)) = if is_between 1 cost n then Some n else None
+direct_of cost (Some (negsuc n)) = None
 
--- the prefix and the cost of an own prefix's table
-unfoldable pub own_fields : Members → Option (List ℕ × Option ℤ)
+-- the addresses of these texts, and nothing where one is no address
+abbrev pub addresses_in : List Data → Option (List ℕ)
+addresses_in [] = Some []
+addresses_in (d ∷ ds) =
+    as_str d &> address_in &> (λ a. addresses_in ds &> (λ others. Some (a ∷ others)))
+
+abbrev pub own_keys : List (List ℕ)
+own_keys =
+    codes "prefix" ∷ codes "cost" ∷ codes "kept" ∷ codes "link" ∷ codes "via" ∷ []
+
+-- what an own prefix's table gives
+pub record OwnFields : Type 0 where
+  pub prefix : List ℕ
+  pub cost : Option ℤ
+  pub kept : Bool
+  pub link : Option (List ℕ)
+  pub via : Option (List ℕ)
+
+-- a given flag, and no where nothing stands
+abbrev pub flag_if : Option Data → Option Bool
+flag_if None = Some false
+flag_if (Some d) = as_bool d
+
+-- nothing, a text, or a value of another kind
+abbrev pub text_if : Option Data → Option (Option (List ℕ))
+text_if None = Some None
+text_if (Some d) = option_map Some (as_str d)
+
+-- the prefix, the cost, whether it is kept, the link and the gateway of an own prefix's table
+unfoldable pub own_fields : Members → Option OwnFields
 own_fields ms =
     if has_only own_keys ms then
     (text_at (codes "prefix") ms &> (λ prefix.
     integer_if (get_member (codes "cost") ms) &> (λ cost.
-    Some (prefix, cost))))
+    flag_if (get_member (codes "kept") ms) &> (λ kept.
+    text_if (get_member (codes "link") ms) &> (λ link.
+    text_if (get_member (codes "via") ms) &> (λ via.
+    Some (record { prefix = prefix; cost = cost; kept = kept; link = link; via = via })))))))
     else None
+
+-- the address of a given text, nothing where none is given; `None` where the text is no address
+abbrev pub address_if : Option (List ℕ) → Option (Option ℕ)
+address_if None = Some None
+address_if (Some text) = option_map Some (address_in text)
+
+-- the number of the link of a given name, nothing where none is given; `None` where no link has it
+abbrev pub link_if : Option (List ℕ) → List (List ℕ) → Option (Option ℕ)
+link_if None links = Some None
+link_if (Some name) links = option_map Some (number_of_name name links)
 
 abbrev pub router_keys : List (List ℕ)
 router_keys = codes "name" ∷ codes "interface" ∷ codes "own" ∷ []
-
--- the items of a list, and none where nothing stands
-abbrev pub items_if : Option Data → Option (List Data)
-items_if None = Some []
-items_if (Some d) = option_map list_of (as_array d)
 
 -- the name, the interfaces and the own prefixes of a router's table
 unfoldable pub router_fields : Members → Option (List ℕ × List Data × List Data)

@@ -2,11 +2,12 @@
 use Rattle.std.specs.Prelude.{◌≡◌, ℕ, ◌*◌, List, length, map, string_bytes}
 use Rattle.std.specs.HashMap.{get, get_by_text}
 use Rattle.rip_wire.specs.Prefix.{Block}
+use Rattle.rip_plan.specs.Addresses.{holder_at}
 use Rattle.rip_plan.specs.Names.{number_of_name}
-use Rattle.rip_plan.specs.Network.{Network, each_below, first_at, is_of, is_on, number_of_prefix, numbers_where, pair_eq}
+use Rattle.rip_plan.specs.Network.{Network, addresses_of, each_below, is_of, is_on, number_of_prefix, numbers_where, pair_eq}
 use Rattle.rip_plan.specs.Passes.{same_prefix}
 use Rattle.rip_plan.specs.Relations.{IsLawful}
-use Rattle.rip_plan.specs.Rows.{AreCosts, AreFlags}
+use Rattle.rip_plan.specs.Rows.{AreCosts, AreFlags, AreOwners}
 use Rattle.rip_plan.specs.declared.plan.Plan.TheInside.{Inside}
 
 abbrev pub network_of : Inside → Network
@@ -14,6 +15,7 @@ network_of p = record {
   links = map string_bytes p.links.items;
   routers = map string_bytes p.routers.items;
   interfaces = p.interfaces.items;
+  also = map (λ w. w.items) p.also.items;
   prefixes = p.prefixes.items;
   places = p.places.items;
 }
@@ -38,5 +40,8 @@ pub record IsKept (plan : Inside) : Type 0 where
       ≡ length plan.routers.items * length plan.prefixes.items
   pub costs : AreCosts (length plan.prefixes.items) plan.interfaces.items plan.places.items
       plan.costs.items
+  pub owners_room : length plan.owners.items
+      ≡ length plan.routers.items * length plan.prefixes.items
+  pub owners : AreOwners (length plan.prefixes.items) plan.places.items plan.owners.items
   pub addresses : (l a : ℕ) →
-      get pair_eq plan.addresses (l, a) ≡ first_at l a 0 plan.interfaces.items
+      get pair_eq plan.addresses (l, a) ≡ holder_at l a (addresses_of (network_of plan))

@@ -1,6 +1,8 @@
+pub mod Addresses
 pub mod Fault
 pub mod Fields
 pub mod Seats
+pub mod Given
 pub mod Names
 pub mod Codes
 pub mod Draft

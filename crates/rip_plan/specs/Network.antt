@@ -1,15 +1,17 @@
 -- What a plan is: its links and routers by their names, its interfaces, and its prefixes with their
 -- places.
-use Rattle.std.specs.Prelude.{ℕ, zero, suc, ◌+◌, Bool, if◌then◌else◌, option_and_then, ◌&&◌, ◌==◌, List, [], ◌∷◌, ◌++◌, length, map, Option, Some, None, Result, Ok}
+use Rattle.std.specs.Prelude.{ℕ, zero, suc, ◌+◌, Bool, if◌then◌else◌, option_and_then, ◌&&◌, ◌==◌, List, [], ◌∷◌, ◌++◌, length, map, find, Option, Some, None, option_map, Result, Ok}
 use Rattle.std.specs.List.{position_from}
 use Rattle.std.specs.Option.{option_or}
 use Rattle.rip_wire.specs.Prefix.{Block}
+use Rattle.rip_plan.specs.declared.addresses.Held.{Held}
 use Rattle.rip_plan.specs.declared.error.PlanError.{PlanError}
 use Rattle.rip_plan.specs.declared.parts.Interface.{Interface}
 use Rattle.rip_plan.specs.declared.parts.Place.{Place}
 use Rattle.rip_plan.specs.declared.parts.Seat.{Seat}
 use Rattle.rip_plan.specs.declared.parts.Seat.TheVariants as seats
 use Rattle.rip_plan.specs.declared.draft.DraftPlace.{DraftPlace}
+use Rattle.rip_plan.specs.Addresses.{held_from, holder_at}
 use Rattle.rip_plan.specs.Fault.{◌>>=◌}
 use Rattle.rip_plan.specs.Seats as seated
 use Rattle.rip_plan.specs.Names.{number_of_name}
@@ -21,6 +23,7 @@ pub record Network : Type 0 where
   pub links : List (List ℕ)
   pub routers : List (List ℕ)
   pub interfaces : List Interface
+  pub also : List (List ℕ)
   pub prefixes : List Block
   pub places : List Place
 
@@ -55,6 +58,7 @@ network_of_sketch s =
       links = s.links;
       routers = s.routers;
       interfaces = map (λ i. i.interface) s.interfaces;
+      also = s.also;
       prefixes = both.0;
       places = both.1;
     }
@@ -69,16 +73,14 @@ network_in bytes = sketch_of bytes >>= (λ s. Ok (network_of_sketch s))
 abbrev pub pair_eq : ℕ × ℕ → ℕ × ℕ → Bool
 pair_eq p q = p.0 == q.0 && p.1 == q.1
 
-abbrev pub is_at : ℕ → ℕ → Interface → Bool
-is_at l a i = i.link == l && i.address == a
-
--- the number of the first interface on the link with the address, counted from n
-abbrev pub first_at : ℕ → ℕ → ℕ → List Interface → Option ℕ
-first_at l a n interfaces = position_from (is_at l a) n interfaces
+-- the addresses of all interfaces
+abbrev pub addresses_of : Network → List Held
+addresses_of n = held_from 0 n.interfaces n.also
 
 -- the number of the interface on the link of this name with the address
 abbrev pub found_at : Network → List ℕ → ℕ → Option ℕ
-found_at n name a = option_and_then (λ l. first_at l a 0 n.interfaces) (number_of_name name n.links)
+found_at n name a =
+    option_and_then (λ l. holder_at l a (addresses_of n)) (number_of_name name n.links)
 
 abbrev pub is_on : ℕ → Interface → Bool
 is_on l i = i.link == l
@@ -96,21 +98,33 @@ numbers_where test n (x ∷ xs) =
 abbrev pub is_carrying : ℕ → ℕ → Place → Bool
 is_carrying l k q = seated.is_on l q.seat && q.prefix == k
 
+-- the place is prefix k as the router's own
+abbrev pub is_owned : ℕ → ℕ → Place → Bool
+is_owned r k q = seated.is_with r q.seat && q.prefix == k
+
 -- the number of the first place of prefix k on the link, counted from n
 abbrev pub first_carrying : ℕ → ℕ → ℕ → List Place → Option ℕ
 first_carrying l k n places = position_from (is_carrying l k) n places
 
--- the cost of the router's first interface on the link
+-- the number of the first place at which prefix k is the router's own, counted from n
+abbrev pub first_owned : ℕ → ℕ → ℕ → List Place → Option ℕ
+first_owned r k n places = position_from (is_owned r k) n places
+
+-- the seat of prefix k where it is the router's own, of its first place
+abbrev pub own_seat : ℕ → ℕ → List Place → Option Seat
+own_seat r k places = option_map (λ q. q.seat) (find (is_owned r k) places)
+
+-- the metric at which the router has the prefixes of the link, by its first interface there
 abbrev pub cost_on : ℕ → ℕ → List Interface → Option ℕ
 cost_on r l [] = None
-cost_on r l (i ∷ is) = if i.router == r && i.link == l then Some i.cost else cost_on r l is
+cost_on r l (i ∷ is) = if i.router == r && i.link == l then Some i.direct else cost_on r l is
 
--- the cost at which the router has what is at the seat
+-- the metric at which the router has what is at the seat
 abbrev pub cost_at : ℕ → List Interface → Seat → Option ℕ
 cost_at r interfaces (seats.Link l) = cost_on r l interfaces
-cost_at r interfaces (seats.Own owner c) = if owner == r then Some c else None
+cost_at r interfaces (seats.Own owner c kept link via) = if owner == r then Some c else None
 
--- the cost at which the router has prefix k, at the first place that touches it
+-- the metric at which the router has prefix k, at the first place that touches it
 abbrev pub direct_at : ℕ → ℕ → List Interface → List Place → Option ℕ
 direct_at r k interfaces [] = None
 direct_at r k interfaces (q ∷ qs) =

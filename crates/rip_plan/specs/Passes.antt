@@ -1,6 +1,7 @@
 -- The passes over what was read: what clashes with something earlier.
-use Rattle.std.specs.Prelude.{ℕ, zero, suc, ◌+◌, List, [], ◌∷◌, ◌++◌, length, map, filter, Bool, false, ◌&&◌, ◌||◌, not, ◌==◌, Option, Some, None, option_map, Result, Ok, Err, if◌then◌else◌}
+use Rattle.std.specs.Prelude.{ℕ, zero, suc, ◌+◌, List, [], ◌∷◌, ◌++◌, length, map, filter, Bool, false, ◌&&◌, ◌||◌, not, ◌==◌, Option, Some, None, option_and_then, option_map, Result, Ok, Err, if◌then◌else◌, slice_get, find}
 use Rattle.std.specs.List.{list_any}
+use Rattle.std.specs.Option.{option_map_or}
 use Rattle.rip_wire.specs.Prefix.{Block}
 use Rattle.rip_plan.specs.declared.error.PlanCode.{PlanCode}
 use Rattle.rip_plan.specs.declared.error.PlanCode.TheVariants as codes
@@ -11,6 +12,7 @@ use Rattle.rip_plan.specs.declared.draft.DraftInterface.{DraftInterface}
 use Rattle.rip_plan.specs.declared.draft.DraftPlace.{DraftPlace}
 use Rattle.rip_plan.specs.declared.parts.Seat.{Seat}
 use Rattle.rip_plan.specs.declared.parts.Seat.TheVariants as seats
+use Rattle.rip_plan.specs.Addresses.{have_one_address, held_from}
 use Rattle.rip_plan.specs.Fault.{fault, ◌>>=◌}
 use Rattle.rip_plan.specs.Draft.{Sketch}
 
@@ -27,12 +29,12 @@ same_prefix p q = p.network == q.network && p.prefix_len == q.prefix_len
 abbrev pub touched : List DraftInterface → Seat → List ℕ
 touched interfaces (seats.Link l) =
     map (λ i. i.interface.router) (filter (λ i. i.interface.link == l) interfaces)
-touched interfaces (seats.Own r c) = r ∷ []
+touched interfaces (seats.Own r c kept link via) = r ∷ []
 
 abbrev pub is_same_link : Seat → Seat → Bool
 is_same_link (seats.Link l) (seats.Link m) = l == m
-is_same_link (seats.Link l) (seats.Own r c) = false
-is_same_link (seats.Own r c) seat = false
+is_same_link (seats.Link l) (seats.Own r c kept link via) = false
+is_same_link (seats.Own r c kept link via) seat = false
 
 -- a place with the routers that it touches
 pub record Touching : Type 0 where
@@ -54,11 +56,6 @@ do_meet p q =
 -- two interfaces of one router on one link
 abbrev pub are_twice : DraftInterface → DraftInterface → Bool
 are_twice a b = a.interface.router == b.interface.router && a.interface.link == b.interface.link
-
--- two interfaces on one link with one address
-abbrev pub have_one_address : DraftInterface → DraftInterface → Bool
-have_one_address a b =
-    a.interface.link == b.interface.link && a.interface.address == b.interface.address
 
 -- the router has no interface
 abbrev pub is_bare : List DraftInterface → ℕ → Bool
@@ -84,18 +81,42 @@ duplicate_in interfaces places =
 abbrev pub twice_in : List DraftInterface → Option At
 twice_in interfaces = option_map (λ i. i.at) (first_clash are_twice [] interfaces)
 
--- where the first interface stands whose address an earlier one on the link has
-abbrev pub taken_address_in : List DraftInterface → Option At
-taken_address_in interfaces = option_map (λ i. i.at) (first_clash have_one_address [] interfaces)
+-- where an interface stands
+abbrev pub spot_of : List DraftInterface → ℕ → Option At
+spot_of interfaces i = option_map (λ x. x.at) (slice_get interfaces i)
+
+-- where the first interface stands that has an address a second time on its link: after an earlier
+-- interface there, or after the same address of its own
+abbrev pub taken_address_in : List DraftInterface → List (List ℕ) → Option At
+taken_address_in interfaces also =
+    option_and_then (λ h. spot_of interfaces h.interface)
+    (first_clash have_one_address [] (held_from 0 (map (λ i. i.interface) interfaces) also))
+
+-- the router has an interface on the link
+abbrev pub is_there : List DraftInterface → ℕ → ℕ → Bool
+is_there interfaces r l =
+    list_any (λ i. i.interface.router == r && i.interface.link == l) interfaces
+
+-- a router's own prefix that is attached to a link on which the router is not
+abbrev pub is_astray : List DraftInterface → Seat → Bool
+is_astray interfaces (seats.Link l) = false
+is_astray interfaces (seats.Own r c kept link via) =
+    option_map_or (λ l. not (is_there interfaces r l)) link false
+
+-- where the first such own prefix stands
+abbrev pub astray_in : List DraftInterface → List DraftPlace → Option At
+astray_in interfaces places =
+    option_map (λ p. p.at) (find (λ p. is_astray interfaces p.seat) places)
 
 -- where the first of so many routers stands that has no interface
 abbrev pub bare_in : List DraftInterface → ℕ → Option At
 bare_in interfaces routers = option_map (λ r. Router (r + 1)) (first_bare interfaces 0 routers)
 
--- the passes, one for each of these codes
+-- the passes, one for each of these codes; UnknownLink is told in the first pass too
 unfoldable pub second_passes : Sketch → Result (Unit {0}) PlanError
 second_passes s =
     none_found codes.DuplicatePrefix (duplicate_in s.interfaces s.places) >>= (λ _.
     none_found codes.TwiceOnLink (twice_in s.interfaces) >>= (λ _.
-    none_found codes.DuplicateAddress (taken_address_in s.interfaces) >>= (λ _.
-    none_found codes.NoInterface (bare_in s.interfaces (length s.routers)))))
+    none_found codes.DuplicateAddress (taken_address_in s.interfaces s.also) >>= (λ _.
+    none_found codes.NoInterface (bare_in s.interfaces (length s.routers)) >>= (λ _.
+    none_found codes.UnknownLink (astray_in s.interfaces s.places)))))

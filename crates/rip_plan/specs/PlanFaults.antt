@@ -1,6 +1,6 @@
 -- What is wrong with a plan's text, each fault by itself and in the words of its document, and
 -- which of them is told.
-use Rattle.std.specs.Prelude.{◌≡◌, ◌≢◌, ◌⊎◌, ℕ, zero, suc, ◌+◌, ◌<◌, ◌≤◌, ℤ, pos, List, [], ◌∷◌, ◌++◌, length, codes, Option, Some, None, slice_get}
+use Rattle.std.specs.Prelude.{◌≡◌, ◌≢◌, ◌⊎◌, ℕ, zero, suc, ◌+◌, ◌<◌, ◌≤◌, ℤ, pos, List, [], ◌∷◌, ◌++◌, length, map, codes, Option, Some, None, slice_get}
 use Rattle.toml.specs.Data.{Data, Members, as_str, as_table, get, integer, string, table}
 use Rattle.rip_wire.specs.Address.{address_in}
 use Rattle.rip_wire.specs.Name.{IsName}
@@ -10,14 +10,14 @@ use Rattle.rip_plan.specs.declared.error.PlanCode.TheVariants as codes
 use Rattle.rip_plan.specs.declared.error.PlanError.{PlanError}
 use Rattle.rip_plan.specs.declared.error.At.{At}
 use Rattle.rip_plan.specs.declared.error.At.TheVariants.{Text, Version, Link, LinkPrefix, Router, RouterInterface, RouterOwn}
-use Rattle.rip_plan.specs.declared.limits.TheConstants.{MOST_INTERFACES, MOST_LINKS, MOST_PLACES, MOST_PLAN_BYTES, MOST_ROUTERS}
+use Rattle.rip_plan.specs.declared.limits.TheConstants.{MOST_ALSO, MOST_COST, MOST_INTERFACES, MOST_LINKS, MOST_PLACES, MOST_PLAN_BYTES, MOST_ROUTERS}
 use Rattle.rip_plan.specs.declared.parts.Seat.TheVariants as seats
 use Rattle.rip_plan.specs.Codes.{number_of_code}
-use Rattle.rip_plan.specs.Fields.{◌&>◌, cost_of, interface_fields, link_fields, own_fields, root_fields, router_fields}
+use Rattle.rip_plan.specs.Fields.{◌&>◌, cost_of, direct_of, interface_fields, link_fields, own_fields, root_fields, router_fields}
 use Rattle.rip_plan.specs.Network.{Network}
-use Rattle.rip_plan.specs.PlanOf.{HasItems, HasText, IsNameOf, PlanOf, items_in, items_under}
+use Rattle.rip_plan.specs.PlanOf.{HasItems, HasText, IsCostOf, IsNameOf, PlanOf, items_in, items_under}
 use Rattle.rip_plan.specs.PlanText.{document_of}
-use Rattle.rip_plan.specs.Relations.{HasAddress, IsInterface, IsPlace, Touches}
+use Rattle.rip_plan.specs.Relations.{HasAddress, HasAddresses, IsInterface, IsAttachedAt, IsOn, IsPlace, Touches}
 
 -- ---- the tables of a document and their items, numbered from 1
 
@@ -62,6 +62,22 @@ place_spots links routers =
 abbrev pub interface_spots : List Data → List At
 interface_spots routers = spots_under (codes "interface") RouterInterface 1 routers
 
+-- where each further address of an interface stands: at the interface, from item j on
+abbrev pub also_spots_of : (ℕ → At) → ℕ → List Data → List At
+also_spots_of at j [] = []
+also_spots_of at j (d ∷ ds) =
+    map (λ _. at j) (items_in (get (codes "also") d)) ++ also_spots_of at (j + 1) ds
+
+-- the same of the interfaces of the routers from router r on
+abbrev pub also_spots_from : ℕ → List Data → List At
+also_spots_from r [] = []
+also_spots_from r (d ∷ ds) =
+    also_spots_of (RouterInterface r) 1 (items_in (get (codes "interface") d))
+    ++ also_spots_from (r + 1) ds
+
+abbrev pub also_spots : List Data → List At
+also_spots routers = also_spots_from 1 routers
+
 -- ---- what is wrong with one table or item
 
 -- the table's name has another form
@@ -87,6 +103,23 @@ IsNoPrefix text = prefix_in text ≡ None
 -- the cost is an integer outside 1 to 15
 abbrev pub HasWrongCost : Data → Type 0
 HasWrongCost d = (z : ℤ) × (get (codes "cost") d ≡ Some (integer z)) × (cost_of (Some z) ≡ None)
+
+-- the direct metric is an integer outside 1 to the cost, which is 1 to 15 itself
+abbrev pub HasWrongDirect : Data → Type 0
+HasWrongDirect d =
+    (c : ℕ) × (z : ℤ) × IsCostOf d c × (1 ≤ c) × (c ≤ MOST_COST)
+    × (get (codes "direct") d ≡ Some (integer z)) × (direct_of c (Some z) ≡ None)
+
+-- the text at the key is no address
+abbrev pub HasNoAddress : List ℕ → Data → Type 0
+HasNoAddress key d = (text : List ℕ) × HasText key d text × (address_in text ≡ None)
+
+-- a further address is a text that is no address
+abbrev pub HasWrongAlso : Data → Type 0
+HasWrongAlso d =
+    (k : ℕ) × (text : List ℕ)
+    × (slice_get (items_in (get (codes "also") d)) k ≡ Some (string text))
+    × (address_in text ≡ None)
 
 -- a text in the list of link l, which is counted from 0, is this prefix
 abbrev pub HasPrefix : List Data → ℕ → Block → Type 0
@@ -132,6 +165,21 @@ AreTwice n i j = (r l c d : ℕ) × IsInterface n i r l c × IsInterface n j r l
 abbrev pub HaveOneAddress : Network → ℕ → ℕ → Type 0
 HaveOneAddress n i j = (l a : ℕ) × HasAddress n i l a × HasAddress n j l a
 
+-- interface i has an address twice
+abbrev pub HasOneTwice : Network → ℕ → Type 0
+HasOneTwice n i =
+    (l : ℕ) × (addresses : List ℕ) × HasAddresses n i l addresses
+    × ((j k a : ℕ) × (j < k) × (slice_get addresses j ≡ Some a) × (slice_get addresses k ≡ Some a))
+
+-- what stands here is so
+abbrev pub IsSo : (ℕ → Type 0) → List At → At → Type 0
+IsSo Is spots at = (k : ℕ) × (slice_get spots k ≡ Some at) × Is k
+
+-- place k is a router's own prefix that is attached to a link on which the router is not
+abbrev pub IsAstray : Network → ℕ → Type 0
+IsAstray n k =
+    (p r l : ℕ) × IsAttachedAt n k p r l × (IsOn n r l → ⊥)
+
 -- an earlier item clashes with what stands here
 abbrev pub IsClash : (ℕ → ℕ → Type 0) → List At → At → Type 0
 IsClash Clash spots at =
@@ -165,23 +213,28 @@ TableFault document links routers codes.Key (RouterInterface r j) =
     (d : Data) × IsItem (codes "interface") routers r j d
     × ((as_table d &> interface_fields) ≡ None)
 TableFault document links routers codes.Address (RouterInterface r j) =
-    (d : Data) × (text : List ℕ) × IsItem (codes "interface") routers r j d
-    × HasText (codes "address") d text × (address_in text ≡ None)
+    (d : Data) × IsItem (codes "interface") routers r j d
+    × (HasNoAddress (codes "address") d ⊎ HasWrongAlso d)
 TableFault document links routers codes.Cost (RouterInterface r j) =
-    (d : Data) × IsItem (codes "interface") routers r j d × HasWrongCost d
+    (d : Data) × IsItem (codes "interface") routers r j d × (HasWrongCost d ⊎ HasWrongDirect d)
 TableFault document links routers codes.UnknownLink (RouterInterface r j) =
     (d : Data) × IsItem (codes "interface") routers r j d × NamesNoLink links d
 TableFault document links routers codes.OutsidePrefix (RouterInterface r j) =
     (d : Data) × IsItem (codes "interface") routers r j d × IsOutside links d
 TableFault document links routers codes.Limit (RouterInterface r j) =
     IsPast MOST_INTERFACES (interface_spots routers) (RouterInterface r j)
+    ⊎ IsPast MOST_ALSO (also_spots routers) (RouterInterface r j)
 TableFault document links routers codes.Key (RouterOwn r j) =
     (d : Data) × IsItem (codes "own") routers r j d × ((as_table d &> own_fields) ≡ None)
+TableFault document links routers codes.Address (RouterOwn r j) =
+    (d : Data) × IsItem (codes "own") routers r j d × HasNoAddress (codes "via") d
 TableFault document links routers codes.Prefix (RouterOwn r j) =
     (d : Data) × (text : List ℕ) × IsItem (codes "own") routers r j d
     × HasText (codes "prefix") d text × IsNoPrefix text
 TableFault document links routers codes.Cost (RouterOwn r j) =
     (d : Data) × IsItem (codes "own") routers r j d × HasWrongCost d
+TableFault document links routers codes.UnknownLink (RouterOwn r j) =
+    (d : Data) × IsItem (codes "own") routers r j d × NamesNoLink links d
 TableFault document links routers codes.Limit (RouterOwn r j) =
     IsPast MOST_PLACES (place_spots links routers) (RouterOwn r j)
 TableFault document links routers codes.DuplicatePrefix (LinkPrefix i j) =
@@ -195,7 +248,8 @@ TableFault document links routers codes.TwiceOnLink (RouterInterface r j) =
     × IsClash (AreTwice n) (interface_spots routers) (RouterInterface r j)
 TableFault document links routers codes.DuplicateAddress (RouterInterface r j) =
     (n : Network) × PlanOf document n
-    × IsClash (HaveOneAddress n) (interface_spots routers) (RouterInterface r j)
+    × (IsClash (HaveOneAddress n) (interface_spots routers) (RouterInterface r j)
+    ⊎ IsSo (HasOneTwice n) (interface_spots routers) (RouterInterface r j))
 TableFault document links routers codes.NoInterface (Router r) =
     (n : Network) × PlanOf document n × IsBare n r
 TableFault document links routers code at = ⊥
@@ -216,12 +270,17 @@ FaultAt bytes code at =
     (document : Members) × (links routers : List Data) × HasTables bytes document links routers
     × TableFault document links routers code at
 
-abbrev pub IsFault : List ℕ → PlanError → Type 0
-IsFault bytes e = FaultAt bytes e.code e.place
+-- an own prefix at this place is attached to a link of the plan on which its router is not
+abbrev pub AstrayAt : List ℕ → At → Type 0
+AstrayAt bytes (RouterOwn r j) =
+    (document : Members) × (links routers : List Data) × HasTables bytes document links routers
+    × ((n : Network) × PlanOf document n
+    × IsSo (IsAstray n) (place_spots links routers) (RouterOwn r j))
+AstrayAt bytes at = ⊥
 
 -- ---- the order
 
--- the pass over the text that finds it
+-- the pass over the text that finds what stands in the table of codes
 abbrev pub pass_of : PlanCode → ℕ
 pass_of codes.DuplicatePrefix = 1
 pass_of codes.TwiceOnLink = 2
@@ -240,9 +299,19 @@ position (Router r) = 2 ∷ r ∷ 0 ∷ 0 ∷ []
 position (RouterInterface r j) = 2 ∷ r ∷ 1 ∷ j ∷ []
 position (RouterOwn r j) = 2 ∷ r ∷ 2 ∷ j ∷ []
 
+-- the pass that finds a fault, the first one being 0: an own prefix whose link is not one of its
+-- router's is found in the last pass, one whose link is not there at all in the first
+abbrev pub IsFound : List ℕ → ℕ → PlanError → Type 0
+IsFound bytes pass e =
+    (FaultAt bytes e.code e.place × (pass ≡ pass_of e.code))
+    ⊎ (AstrayAt bytes e.place × (e.code ≡ codes.UnknownLink) × (pass ≡ 5))
+
+abbrev pub IsFault : List ℕ → PlanError → Type 0
+IsFault bytes e = (pass : ℕ) × IsFound bytes pass e
+
 -- the pass, the place, and at one place the code
-abbrev pub rank : PlanError → List ℕ
-rank e = pass_of e.code ∷ position e.place ++ number_of_code e.code ∷ []
+abbrev pub rank : ℕ → PlanError → List ℕ
+rank pass e = pass ∷ position e.place ++ number_of_code e.code ∷ []
 
 -- the first numbers that differ are in this order
 abbrev pub Before : List ℕ → List ℕ → Type 0
@@ -251,6 +320,7 @@ Before xs ys = ⊥
 
 -- a fault of the bytes, such that any other comes after it
 pub record PlanFault (bytes : List ℕ) (e : PlanError) : Type 0 where
-  pub fault : IsFault bytes e
-  pub first : (other : PlanError) → IsFault bytes other
-      → (other ≡ e) ⊎ Before (rank e) (rank other)
+  pub pass : ℕ
+  pub found : IsFound bytes pass e
+  pub first : (other : ℕ) (o : PlanError) → IsFound bytes other o
+      → (o ≡ e) ⊎ Before (rank pass e) (rank other o)

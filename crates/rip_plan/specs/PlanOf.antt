@@ -1,7 +1,7 @@
 -- What it is for a network to be the plan of a document: each list is matched item by item with the
 -- document's tables.
-use Rattle.std.specs.Prelude.{◌≡◌, ◌⊎◌, ℕ, ◌+◌, pos, List, [], ◌∷◌, ◌++◌, map, filter, not, codes, Option, None, Some}
-use Rattle.toml.specs.Data.{Data, Items, Members, string, integer, array, table, get}
+use Rattle.std.specs.Prelude.{◌≡◌, ◌⊎◌, ℕ, ◌+◌, pos, List, [], ◌∷◌, ◌++◌, map, filter, Bool, false, not, codes, Option, None, Some}
+use Rattle.toml.specs.Data.{Data, Items, Members, string, boolean, integer, array, table, get}
 use Rattle.rip_wire.specs.Address.{address_in}
 use Rattle.rip_wire.specs.Prefix.{Block, prefix_in}
 use Rattle.rip_plan.specs.declared.parts.Interface.{Interface}
@@ -37,6 +37,35 @@ abbrev pub IsCostOf : Data → ℕ → Type 0
 IsCostOf d c =
     (get (codes "cost") d ≡ Some (integer (pos c))) ⊎ ((get (codes "cost") d ≡ None) × (c ≡ 1))
 
+-- the metric at which the router of this interface's table has the prefixes of the link: what it
+-- gives, or the cost where it gives none
+abbrev pub IsDirectOf : Data → ℕ → ℕ → Type 0
+IsDirectOf d cost direct =
+    (get (codes "direct") d ≡ Some (integer (pos direct)))
+    ⊎ ((get (codes "direct") d ≡ None) × (direct ≡ cost))
+
+-- whether this own prefix's table says that the prefix is kept
+abbrev pub IsKeptOf : Data → Bool → Type 0
+IsKeptOf d kept =
+    (get (codes "kept") d ≡ Some (boolean kept))
+    ⊎ ((get (codes "kept") d ≡ None) × (kept ≡ false))
+
+-- the link that the table gives by its name, or nothing where it gives none
+abbrev pub IsLinkOf : List (List ℕ) → Data → Option ℕ → Type 0
+IsLinkOf links d None = get (codes "link") d ≡ None
+IsLinkOf links d (Some l) =
+    (name : List ℕ) × HasText (codes "link") d name × (number_of_name name links ≡ Some l)
+
+-- the gateway that the table gives, or nothing where it gives none
+abbrev pub IsGatewayOf : Data → Option ℕ → Type 0
+IsGatewayOf d None = get (codes "via") d ≡ None
+IsGatewayOf d (Some a) =
+    (text : List ℕ) × HasText (codes "via") d text × (address_in text ≡ Some a)
+
+-- the item is the text of this address
+abbrev pub IsAddressOf : ℕ → Data → Type 0
+IsAddressOf a d = (text : List ℕ) × (d ≡ string text) × (address_in text ≡ Some a)
+
 abbrev pub IsNameOf : List ℕ → Data → Type 0
 IsNameOf name d = HasText (codes "name") d name
 
@@ -62,6 +91,11 @@ pub record IsInterfaceOf (links : List (List ℕ)) (i : Interface) (at : ℕ × 
   pub has_address : HasText (codes "address") at.1 text
   pub address : address_in text ≡ Some i.address
   pub cost : IsCostOf at.1 i.cost
+  pub direct : IsDirectOf at.1 i.cost i.direct
+
+-- the further addresses of the interface of this table
+abbrev pub AreAlsoOf : List ℕ → ℕ × Data → Type 0
+AreAlsoOf also at = Matched IsAddressOf also (items_in (get (codes "also") at.1))
 
 -- a prefix at a seat
 pub record Placement : Type 0 where
@@ -76,13 +110,19 @@ pub record IsOnLink (p : Placement) (at : ℕ × Data) : Type 0 where
   pub seat : p.seat ≡ seats.Link at.0
 
 -- the own prefix of this table, with the router of this number
-pub record IsOwned (p : Placement) (at : ℕ × Data) : Type 0 where
+pub record IsOwned (links : List (List ℕ)) (p : Placement) (at : ℕ × Data) : Type 0 where
   pub text : List ℕ
   pub has_prefix : HasText (codes "prefix") at.1 text
   pub prefix : prefix_in text ≡ Some p.prefix
   pub cost : ℕ
   pub is_cost : IsCostOf at.1 cost
-  pub seat : p.seat ≡ seats.Own at.0 cost
+  pub kept : Bool
+  pub is_kept : IsKeptOf at.1 kept
+  pub link : Option ℕ
+  pub is_link : IsLinkOf links at.1 link
+  pub via : Option ℕ
+  pub is_via : IsGatewayOf at.1 via
+  pub seat : p.seat ≡ seats.Own at.0 cost kept link via
 
 -- the prefixes, each once, in the order in which they first stand
 abbrev pub each_once : List Block → List Block
@@ -105,10 +145,11 @@ pub record PlanOf (document : Members) (n : Network) : Type 0 where
   pub router_names : Matched IsNameOf n.routers routers
   pub interfaces : Matched (IsInterfaceOf n.links) n.interfaces
       (items_under (codes "interface") 0 routers)
+  pub also : Matched AreAlsoOf n.also (items_under (codes "interface") 0 routers)
   pub on_links : List Placement
   pub link_prefixes : Matched IsOnLink on_links (items_under (codes "prefixes") 0 links)
   pub owned : List Placement
-  pub own_prefixes : Matched IsOwned owned (items_under (codes "own") 0 routers)
+  pub own_prefixes : Matched (IsOwned n.links) owned (items_under (codes "own") 0 routers)
   pub places : Matched (IsPlaceOf n) n.places (on_links ++ owned)
   pub prefixes : n.prefixes ≡ each_once (map (λ p. p.prefix) (on_links ++ owned))
 

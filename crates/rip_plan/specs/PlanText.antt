@@ -13,7 +13,7 @@ use Rattle.rip_plan.specs.Draft.{Sketch, link_step, router_step}
 use Rattle.rip_plan.specs.Passes.{second_passes}
 
 abbrev pub empty : Sketch
-empty = record { links = []; routers = []; interfaces = []; places = [] }
+empty = record { links = []; routers = []; interfaces = []; also = []; places = [] }
 
 -- what a document says: the version, the root, the first pass, and the other passes
 unfoldable pub sketch_of_document : Members → Result Sketch PlanError

@@ -1,9 +1,10 @@
 -- What stands in a network: who is on which link at what cost, where each prefix is, and the laws
 -- that a plan keeps.
-use Rattle.std.specs.Prelude.{◌≡◌, ◌≢◌, ℕ, ◌<◌, ◌≤◌, ◌^◌, ◌⊎◌, List, length, Some, slice_get}
+use Rattle.std.specs.Prelude.{◌≡◌, ◌≢◌, ℕ, ◌<◌, ◌≤◌, ◌^◌, ◌⊎◌, List, [], ◌∷◌, length, map, sum, Bool, true, Contains, Option, Some, slice_get}
 use Rattle.rip_wire.specs.Name.{IsName}
 use Rattle.rip_wire.specs.Prefix.{Block, ContainsAddress, IsBlock}
-use Rattle.rip_plan.specs.declared.limits.TheConstants.{MOST_COST, MOST_INTERFACES, MOST_LINKS, MOST_PLACES, MOST_ROUTERS}
+use Rattle.rip_plan.specs.declared.limits.TheConstants.{MOST_ALSO, MOST_COST, MOST_INTERFACES, MOST_LINKS, MOST_PLACES, MOST_ROUTERS}
+use Rattle.rip_plan.specs.declared.parts.Interface.{Interface}
 use Rattle.rip_plan.specs.declared.parts.Seat.{Seat}
 use Rattle.rip_plan.specs.declared.parts.Seat.TheVariants.{Link, Own}
 use Rattle.rip_plan.specs.Network.{Network}
@@ -24,15 +25,39 @@ IsPrefix n k p = slice_get n.prefixes k ≡ Some p
 -- directly-connected network)
 pub record IsInterface (n : Network) (i r l c : ℕ) : Type 0 where
   pub address : ℕ
+  pub direct : ℕ
   pub listed : slice_get n.interfaces i
-      ≡ Some (record { router = r; link = l; address = address; cost = c })
+      ≡ Some (record { router = r; link = l; address = address; cost = c; direct = direct })
 
--- interface i is on link l and has address a there
-pub record HasAddress (n : Network) (i l a : ℕ) : Type 0 where
-  pub router : ℕ
+-- interface i is router r's on link l, and d is the metric at which the router has the prefixes of
+-- the link
+pub record IsConnected (n : Network) (i r l d : ℕ) : Type 0 where
+  pub address : ℕ
   pub cost : ℕ
   pub listed : slice_get n.interfaces i
-      ≡ Some (record { router = router; link = l; address = a; cost = cost })
+      ≡ Some (record { router = r; link = l; address = address; cost = cost; direct = d })
+
+-- these are the addresses of interface i, which is on link l: its own, and then its further ones
+pub record HasAddresses (n : Network) (i l : ℕ) (addresses : List ℕ) : Type 0 where
+  pub interface : Interface
+  pub listed : slice_get n.interfaces i ≡ Some interface
+  pub on : interface.link ≡ l
+  pub also : List ℕ
+  pub further : slice_get n.also i ≡ Some also
+  pub all : addresses ≡ interface.address ∷ also
+
+-- interface i is on link l and has address a there, its own or a further one
+abbrev pub HasAddress : Network → ℕ → ℕ → ℕ → Type 0
+HasAddress n i l a =
+    (addresses : List ℕ) × HasAddresses n i l addresses × Contains addresses a
+
+-- a is interface i's own address, on link l
+pub record HasOwnAddress (n : Network) (i l a : ℕ) : Type 0 where
+  pub router : ℕ
+  pub cost : ℕ
+  pub direct : ℕ
+  pub listed : slice_get n.interfaces i
+      ≡ Some (record { router = router; link = l; address = a; cost = cost; direct = direct })
 
 -- interface i is on the link of this name and has address a there
 abbrev pub IsAt : Network → List ℕ → ℕ → ℕ → Type 0
@@ -68,15 +93,72 @@ pub record IsPlace (n : Network) (k p : ℕ) (seat : Seat) : Type 0 where
 abbrev pub Carries : Network → ℕ → ℕ → Type 0
 Carries n l p = (k : ℕ) × IsPlace n k p (Link l)
 
--- place k of prefix p touches router r, which has the prefix there at cost c: the router is on the
+-- place k of the plan is prefix p as router r's own, at cost c
+pub record IsOwnAt (n : Network) (k p r c : ℕ) : Type 0 where
+  pub kept : Bool
+  pub link : Option ℕ
+  pub via : Option ℕ
+  pub place : IsPlace n k p (Own r c kept link via)
+
+-- place k of the plan is prefix p as router r's own, attached to link l: a connected network of the
+-- router's interface there, beside the link's prefixes
+pub record IsAttachedAt (n : Network) (k p r l : ℕ) : Type 0 where
+  pub cost : ℕ
+  pub kept : Bool
+  pub via : Option ℕ
+  pub place : IsPlace n k p (Own r cost kept (Some l) via)
+
+-- place k of the plan is prefix p as router r's own, and the plan says that the router keeps it
+pub record IsKeptAt (n : Network) (k p r : ℕ) : Type 0 where
+  pub cost : ℕ
+  pub link : Option ℕ
+  pub via : Option ℕ
+  pub place : IsPlace n k p (Own r cost true link via)
+
+-- place k of the plan is prefix p as router r's own, with gateway a
+pub record HasGatewayAt (n : Network) (k p r a : ℕ) : Type 0 where
+  pub cost : ℕ
+  pub kept : Bool
+  pub link : Option ℕ
+  pub place : IsPlace n k p (Own r cost kept link (Some a))
+
+-- place k of prefix p touches router r, which has the prefix there at metric c: the router is on the
 -- link, or owns the prefix
 abbrev pub Touches : Network → ℕ → ℕ → ℕ → ℕ → Type 0
-Touches n k p r c = ((l : ℕ) × IsPlace n k p (Link l) × HasCost n r l c) ⊎ IsPlace n k p (Own r c)
+Touches n k p r c =
+    ((l : ℕ) × IsPlace n k p (Link l) × ((i : ℕ) × IsConnected n i r l c))
+    ⊎ IsOwnAt n k p r c
 
--- router r has prefix p on its own link, or as its own, at cost c (RFC 2453, 3.5: its
+-- router r has prefix p on its own link, or as its own, at metric c (RFC 2453, 3.5: its
 -- directly-connected networks)
 abbrev pub IsDirect : Network → ℕ → ℕ → ℕ → Type 0
 IsDirect n r p c = (k : ℕ) × Touches n k p r c
+
+-- router r has prefix p as its own, attached to link l
+abbrev pub IsAttached : Network → ℕ → ℕ → ℕ → Type 0
+IsAttached n r p l = (k : ℕ) × IsAttachedAt n k p r l
+
+-- router r never gives its own prefix p up for an offer: a static route, by its administrative
+-- distance, or a connected network
+abbrev pub IsKept : Network → ℕ → ℕ → Type 0
+IsKept n r p = ((k : ℕ) × IsKeptAt n k p r) ⊎ ((l : ℕ) × IsAttached n r p l)
+
+-- router r may tell a, a gateway outside of the plan, as next hop of its own prefix p
+abbrev pub IsGateway : Network → ℕ → ℕ → ℕ → Type 0
+IsGateway n r p a = (k : ℕ) × HasGatewayAt n k p r a
+
+-- the plan says nothing beside what RFC 2453 does: the prefixes of a link have the interface's cost, an
+-- interface has one address, and no own prefix is kept, attached or told with a gateway
+pub record IsPlain (n : Network) : Type 0 where
+  pub direct : (i r l c d : ℕ) → IsInterface n i r l c → IsConnected n i r l d → d ≡ c
+  pub one_address : (i : ℕ) (also : List ℕ) → slice_get n.also i ≡ Some also → also ≡ []
+  pub not_kept : (r p : ℕ) → IsKept n r p → ⊥
+  pub no_gateway : (r p a : ℕ) → IsGateway n r p a → ⊥
+
+-- each item stands once in the list
+abbrev pub IsEachOnce : List ℕ → Type 0
+IsEachOnce items =
+    (j k a : ℕ) → slice_get items j ≡ Some a → slice_get items k ≡ Some a → j ≡ k
 
 -- a prefix of link l contains address a
 abbrev pub IsInside : Network → ℕ → ℕ → Type 0
@@ -92,6 +174,7 @@ pub record IsLawful (n : Network) : Type 0 where
   pub some_router : 1 ≤ length n.routers
   pub few_routers : length n.routers ≤ MOST_ROUTERS
   pub few_interfaces : length n.interfaces ≤ MOST_INTERFACES
+  pub few_also : sum (map length n.also) ≤ MOST_ALSO
   pub few_places : length n.places ≤ MOST_PLACES
   -- names
   pub link_named : (l : ℕ) (name : List ℕ) → IsLinkName n l name → IsName name
@@ -107,17 +190,24 @@ pub record IsLawful (n : Network) : Type 0 where
   pub cost_most : (i r l c : ℕ) → IsInterface n i r l c → c ≤ MOST_COST
   pub one_interface : (r : ℕ) → r < length n.routers → (i l c : ℕ) × IsInterface n i r l c
   pub one_on_link : (i j r l c d : ℕ) → IsInterface n i r l c → IsInterface n j r l d → i ≡ j
+  pub direct_least : (i r l d : ℕ) → IsConnected n i r l d → 1 ≤ d
+  pub direct_most : (i r l c d : ℕ) → IsInterface n i r l c → IsConnected n i r l d → d ≤ c
+  pub also_listed : length n.also ≡ length n.interfaces
   pub address_known : (i l a : ℕ) → HasAddress n i l a → a < 2 ^ 32
   pub addresses_differ : (i j l a : ℕ) → HasAddress n i l a → HasAddress n j l a → i ≡ j
-  pub inside : (i l a p : ℕ) → HasAddress n i l a → Carries n l p → IsInside n l a
+  pub addresses_once : (i l : ℕ) (addresses : List ℕ) → HasAddresses n i l addresses
+      → IsEachOnce addresses
+  pub inside : (i l a p : ℕ) → HasOwnAddress n i l a → Carries n l p → IsInside n l a
   -- prefixes and their places
   pub prefix_is : (p : ℕ) (block : Block) → IsPrefix n p block → IsBlock block
   pub prefixes_differ : (p q : ℕ) (block : Block) → IsPrefix n p block → IsPrefix n q block → p ≡ q
   pub one_place : (p : ℕ) → p < length n.prefixes → (k : ℕ) × (seat : Seat) × IsPlace n k p seat
   pub prefix_known : (k p : ℕ) (seat : Seat) → IsPlace n k p seat → p < length n.prefixes
   pub seat_known : (k p l : ℕ) → IsPlace n k p (Link l) → l < length n.links
-  pub owner_known : (k p r c : ℕ) → IsPlace n k p (Own r c) → r < length n.routers
-  pub own_cost_least : (k p r c : ℕ) → IsPlace n k p (Own r c) → 1 ≤ c
-  pub own_cost_most : (k p r c : ℕ) → IsPlace n k p (Own r c) → c ≤ MOST_COST
+  pub owner_known : (k p r c : ℕ) → IsOwnAt n k p r c → r < length n.routers
+  pub own_cost_least : (k p r c : ℕ) → IsOwnAt n k p r c → 1 ≤ c
+  pub own_cost_most : (k p r c : ℕ) → IsOwnAt n k p r c → c ≤ MOST_COST
+  pub attached_there : (r p l : ℕ) → IsAttached n r p l → IsOn n r l
+  pub gateway_known : (r p a : ℕ) → IsGateway n r p a → a < 2 ^ 32
   pub carried_once : (k j p l : ℕ) → IsPlace n k p (Link l) → IsPlace n j p (Link l) → k ≡ j
   pub touched_once : (k j p r c d : ℕ) → Touches n k p r c → Touches n j p r d → k ≡ j

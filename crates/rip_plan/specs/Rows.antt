@@ -6,7 +6,7 @@ use Rattle.rip_plan.specs.declared.parts.Interface.{Interface}
 use Rattle.rip_plan.specs.declared.parts.Place.{Place}
 use Rattle.rip_plan.specs.declared.parts.Seat.{Seat}
 use Rattle.rip_plan.specs.declared.parts.Seat.TheVariants as seats
-use Rattle.rip_plan.specs.Network.{direct_at, each_below, first_carrying, is_on, numbers_where}
+use Rattle.rip_plan.specs.Network.{direct_at, each_below, first_carrying, first_owned, is_on, numbers_where}
 
 -- the number in row r at column k
 abbrev pub cell : ℕ → List ℕ → ℕ → ℕ → ℕ
@@ -32,12 +32,21 @@ WritesCosts w p cost old new =
     (r k : ℕ) → k < w → cell w new r k
     ≡ (if p == k then unwrap_or (cost r) (cell w old r k) else cell w old r k)
 
--- the cost of the interface, if it is the router's
+-- the number of a router's own place in row r at column k
+abbrev pub owner_cell : ℕ → List (Option ℕ) → ℕ → ℕ → Option ℕ
+owner_cell w cells r k = slice_index_or cells (r * w + k) None
+
+-- the row of each router has the number of the place at which each of w prefixes is its own
+abbrev pub AreOwners : ℕ → List Place → List (Option ℕ) → Type 0
+AreOwners w places cells =
+    (r k : ℕ) → k < w → owner_cell w cells r k ≡ first_owned r k 0 places
+
+-- the metric of the interface's link, if it is the router's
 abbrev pub cost_by : ℕ → Option Interface → Option ℕ
 cost_by r None = None
-cost_by r (Some i) = if i.router == r then Some i.cost else None
+cost_by r (Some i) = if i.router == r then Some i.direct else None
 
--- the cost of the router's first interface among those of these numbers
+-- the metric at the router's first interface among those of these numbers
 abbrev pub cost_among : ℕ → List Interface → List ℕ → Option ℕ
 cost_among r interfaces [] = None
 cost_among r interfaces (n ∷ ns) =
@@ -51,14 +60,14 @@ AreOnLinks interfaces lists =
 -- a link of the seat has a lower number
 abbrev pub IsLinkBelow : ℕ → Seat → Type 0
 IsLinkBelow links (seats.Link l) = l < links
-IsLinkBelow links (seats.Own r c) = Unit {0}
+IsLinkBelow links (seats.Own r c kept link via) = Unit {0}
 
 -- an owner of the seat has a lower number
 abbrev pub IsOwnerBelow : ℕ → Seat → Type 0
 IsOwnerBelow routers (seats.Link l) = Unit {0}
-IsOwnerBelow routers (seats.Own r c) = r < routers
+IsOwnerBelow routers (seats.Own r c kept link via) = r < routers
 
 -- the cell of an owner is among so many
 abbrev pub IsOwnerWithin : ℕ → ℕ → ℕ → Seat → Type 0
 IsOwnerWithin w p cells (seats.Link l) = Unit {0}
-IsOwnerWithin w p cells (seats.Own r c) = r * w + p < cells
+IsOwnerWithin w p cells (seats.Own r c kept link via) = r * w + p < cells

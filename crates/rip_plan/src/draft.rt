@@ -1,14 +1,16 @@
 //! What was read of a plan so far, and the steps of the first pass over its text.
 
-ghost use Rattle.std.specs.Prelude.{◌≡◌, ℕ, [], List, filter, map, nat_eq, string_bytes};
+ghost use Rattle.std.specs.Prelude.{◌≡◌, ◌≤◌, ℕ, [], List, filter, length, map, nat_eq, string_bytes};
+ghost use Rattle.std.specs.List.{sum_by};
 ghost use Rattle.std.specs.HashMap.{get, get_by_text};
 ghost use Rattle.std.specs.Option.{option_map_or};
+ghost use Rattle.rip_plan.specs.declared.limits.TheConstants.{MOST_ALSO};
 ghost use Rattle.rip_plan.specs.Names.{number_of_name};
 ghost use Rattle.rip_plan.specs.Seats.{is_on};
 
 use crate::error::At;
 use crate::parts::{Interface, Seat};
-use rip_wire::Prefix;
+use rip_wire::{Address, Prefix};
 use std::collections::HashMap;
 
 /// An interface, and where it stands in the text.
@@ -26,16 +28,21 @@ pub(crate) struct DraftPlace {
     pub at: At,
 }
 
-/// What was read of a plan so far. Beside the links stand the numbers of their names and, by link,
-/// the prefixes on them.
+/// What was read of a plan so far. Beside the interfaces stand the further addresses of each and how
+/// many these are; beside the links the numbers of their names and, by link, the prefixes on them.
 #[derive(Drop)]
 pub(crate) struct Draft {
     pub links: Vec<String>,
     pub routers: Vec<String>,
     pub interfaces: Vec<DraftInterface>,
+    pub also: Vec<Vec<Address>>,
+    pub also_count: usize,
     pub places: Vec<DraftPlace>,
     pub numbers: HashMap<String, usize>,
     pub blocks: HashMap<usize, Vec<Prefix>>,
+    ghost listed: { length also.items ≡ length interfaces.items },
+    ghost counted: { also_count ≡ sum_by length (map (λ w. w.items) also.items) },
+    ghost few: { also_count ≤ MOST_ALSO },
     ghost numbered: { (name : List ℕ) → get_by_text numbers name
         ≡ number_of_name name (map string_bytes links.items) },
     ghost blocked: { (l : ℕ) → option_map_or (λ v. v.items) (get nat_eq blocks l) []

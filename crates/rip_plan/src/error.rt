@@ -21,25 +21,27 @@ pub enum PlanCode {
     Name,
     /// An earlier link, or an earlier router, has the name.
     DuplicateName,
-    /// The text is no address.
+    /// The text is no address: of an interface, its own or a further one, or the gateway of an own
+    /// prefix.
     Address,
     /// The text is no prefix, or a host bit is set.
     Prefix,
-    /// The cost is below 1 or above 15.
+    /// The cost is below 1 or above 15, or the direct metric is below 1 or above the cost.
     Cost,
     /// An earlier place of the prefix is on the same link, or touches a router that this one touches.
     DuplicatePrefix,
-    /// No link has the name.
+    /// No link has the name that an interface or an own prefix gives, or the own prefix's router
+    /// has no interface on the link.
     UnknownLink,
     /// An earlier interface of the router is on the link.
     TwiceOnLink,
-    /// An earlier interface on the link has the address.
+    /// An earlier interface on the link has one of the addresses, or the interface has one twice.
     DuplicateAddress,
     /// The link has prefixes, and none contains the address.
     OutsidePrefix,
     /// The router has no interface.
     NoInterface,
-    /// A limit is passed: of bytes, links, routers, interfaces or places.
+    /// A limit is passed: of bytes, links, routers, interfaces, further addresses or places.
     Limit,
     /// A growth was refused; told at the text.
     Memory,

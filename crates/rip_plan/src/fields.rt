@@ -4,7 +4,8 @@ ghost use Rattle.std.specs.Prelude.{map, codes, ◌≡◌, Some, None, option_ma
 ghost use Rattle.toml.specs.Data.{as_str, as_integer, get_member};
 ghost use Rattle.toml.specs.View.{view, table_view, array_view};
 ghost use Rattle.rip_plan.specs.Fields as spec;
-ghost use Rattle.rip_plan.specs.Fields.{integer_if, interface_fields, is_version, items_at, items_if, link_fields, own_fields, root_fields, router_fields};
+ghost use Rattle.rip_plan.specs.Given.{seen_interface, seen_own};
+ghost use Rattle.rip_plan.specs.Fields.{flag_if, integer_if, interface_fields, is_version, items_at, items_if, link_fields, own_fields, root_fields, router_fields, texts_of};
 ghost use Rattle.rip_plan.specs.Names.{is_one_of};
 
 use crate::limits::MOST_COST;
@@ -98,19 +99,48 @@ pub(crate) fn fields_of_link<'a>(table: &'a Table) -> Option<(&'a str, &'a [Valu
     Some((name, prefixes))
 }
 
-/// The link, the address and the cost of an interface's table.
-#[tactic(auto, unfolding(crate::specs::Fields::interface_fields))]
-pub(crate) fn fields_of_interface<'a>(table: &'a Table) -> Option<(&'a str, &'a str, Option<i64>)>
-    ensures { option_map (λ f. (f.0.now, f.1.now, f.2)) result
-        ≡ interface_fields (table_view table.now) }
+/// The items of a list that are all texts.
+fn all_texts<'a>(items: &'a [Value]) -> Option<&'a [Value]>
+    ensures { option_map (λ v. map view v.now) result ≡ texts_of (map view items.now) }
 {
-    if !has_only(table, &["link", "address", "cost"]) {
+    if items.iter().all(|item| item.as_str().is_some()) {
+        Some(items)
+    } else {
+        None
+    }
+}
+
+/// What an interface's table gives.
+#[derive(Clone, Copy)]
+pub(crate) struct InterfaceFields<'a> {
+    pub link: &'a str,
+    pub address: &'a str,
+    pub cost: Option<i64>,
+    pub direct: Option<i64>,
+    pub also: &'a [Value],
+}
+
+/// The link, the address, the cost, the direct metric and the further addresses of an interface's
+/// table.
+#[tactic(auto, unfolding(crate::specs::Fields::interface_fields))]
+pub(crate) fn fields_of_interface<'a>(table: &'a Table) -> Option<InterfaceFields<'a>>
+    ensures { option_map seen_interface result ≡ interface_fields (table_view table.now) }
+{
+    if !has_only(table, &["link", "address", "cost", "direct", "also"]) {
         return None;
     }
     let link = text_at(table, "link")?;
     let address = text_at(table, "address")?;
     let cost = integer_at(table, "cost")?;
-    Some((link, address, cost))
+    let direct = integer_at(table, "direct")?;
+    let also = all_texts(list_if(table, "also")?)?;
+    Some(InterfaceFields {
+        link,
+        address,
+        cost,
+        direct,
+        also,
+    })
 }
 
 /// The cost of an interface or an own prefix, 1 where none is given.
@@ -129,17 +159,76 @@ pub(crate) fn cost_of(given: Option<i64>) -> Option<u8>
     }
 }
 
-/// The prefix and the cost of an own prefix's table.
-#[tactic(auto, unfolding(crate::specs::Fields::own_fields))]
-pub(crate) fn fields_of_own<'a>(table: &'a Table) -> Option<(&'a str, Option<i64>)>
-    ensures { option_map (λ f. (f.0.now, f.1)) result ≡ own_fields (table_view table.now) }
+/// The direct metric of an interface of this cost, the cost where none is given.
+pub(crate) fn direct_of(cost: u8, given: Option<i64>) -> Option<u8>
+    ensures { result ≡ spec.direct_of cost given }
 {
-    if !has_only(table, &["prefix", "cost"]) {
+    match given {
+        None => Some(cost),
+        Some(number) => {
+            if 1 <= number && number <= i64::from(cost) {
+                Some(number as u8)
+            } else {
+                None
+            }
+        }
+    }
+}
+
+/// The flag at a key, `false` where nothing is there; `None` where it is of another kind.
+fn flag_at(table: &Table, key: &str) -> Option<bool>
+    ensures { result ≡ flag_if (get_member key.now (table_view table.now)) }
+{
+    match member(table, key) {
+        None => Some(false),
+        Some(value) => value.as_bool(),
+    }
+}
+
+/// The text at a key, if anything is there; `None` where it is of another kind.
+fn text_if<'a>(table: &'a Table, key: &str) -> Option<Option<&'a str>>
+    ensures { option_map option_copied result
+        ≡ spec.text_if (get_member key.now (table_view table.now)) }
+{
+    match member(table, key) {
+        None => Some(None),
+        Some(value) => match value.as_str() {
+            Some(text) => Some(Some(text)),
+            None => None,
+        },
+    }
+}
+
+/// What an own prefix's table gives.
+#[derive(Clone, Copy)]
+pub(crate) struct OwnFields<'a> {
+    pub prefix: &'a str,
+    pub cost: Option<i64>,
+    pub kept: bool,
+    pub link: Option<&'a str>,
+    pub via: Option<&'a str>,
+}
+
+/// The prefix, the cost, whether it is kept, the link and the gateway of an own prefix's table.
+#[tactic(auto, unfolding(crate::specs::Fields::own_fields))]
+pub(crate) fn fields_of_own<'a>(table: &'a Table) -> Option<OwnFields<'a>>
+    ensures { option_map seen_own result ≡ own_fields (table_view table.now) }
+{
+    if !has_only(table, &["prefix", "cost", "kept", "link", "via"]) {
         return None;
     }
     let prefix = text_at(table, "prefix")?;
     let cost = integer_at(table, "cost")?;
-    Some((prefix, cost))
+    let kept = flag_at(table, "kept")?;
+    let link = text_if(table, "link")?;
+    let via = text_if(table, "via")?;
+    Some(OwnFields {
+        prefix,
+        cost,
+        kept,
+        link,
+        via,
+    })
 }
 
 /// The name, the interfaces and the own prefixes of a router's table.

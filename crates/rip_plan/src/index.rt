@@ -3,9 +3,11 @@
 ghost use Rattle.std.specs.Prelude.{◌≡◌, ◌==◌, ◌+◌, ◌*◌, ◌<◌, ◌≤◌, ℕ, [], List, length, map, IfOk, string_bytes};
 ghost use Rattle.std.specs.List.{All};
 ghost use Rattle.std.specs.HashMap.{get};
-ghost use Rattle.rip_plan.specs.Network.{cost_at, each_below, first_at, is_of, is_on, numbers_where, pair_eq};
-ghost use Rattle.rip_plan.specs.Rows.{AreCosts, AreFlags, AreOnLinks, IsLinkBelow, IsOwnerBelow, IsOwnerWithin, WritesCosts, cost_among};
+ghost use Rattle.rip_plan.specs.Network.{cost_at, each_below, is_of, is_on, numbers_where, pair_eq};
+ghost use Rattle.rip_plan.specs.Addresses.{holder_at};
+ghost use Rattle.rip_plan.specs.Rows.{AreCosts, AreFlags, AreOnLinks, AreOwners, IsLinkBelow, IsOwnerBelow, IsOwnerWithin, WritesCosts, cost_among};
 
+use crate::addresses::Held;
 use crate::limits::{MOST_LINKS, MOST_PLACES, MOST_ROUTERS};
 use crate::parts::{Interface, Place, Seat};
 use std::alloc::{AllocError, Global};
@@ -14,14 +16,14 @@ use std::collections::HashMap;
 /// The number of the interface at each link and address, of the first there.
 pub(crate) fn numbers_of_addresses(
     alloc: Global,
-    interfaces: &[Interface],
+    held: &[Held],
 ) -> Result<HashMap<(usize, u32), usize>, AllocError>
-    ensures { IfOk result (λ m. (l a : ℕ) → get pair_eq m (l, a) ≡ first_at l a 0 interfaces.now) }
+    ensures { IfOk result (λ m. (l a : ℕ) → get pair_eq m (l, a) ≡ holder_at l a held.now) }
 {
     let mut numbers = HashMap::new(alloc);
-    for i in (0..interfaces.len()).rev() {
-        let interface = interfaces[i];
-        numbers.insert((interface.link, interface.address.get()), i)?;
+    for k in (0..held.len()).rev() {
+        let here = held[k];
+        numbers.insert((here.link, here.address.get()), here.interface)?;
     }
     Ok(numbers)
 }
@@ -97,7 +99,7 @@ pub(crate) fn carriers_of(
     Ok(carriers)
 }
 
-/// Writes the cost at which each router has the prefix by its first interface among the numbers. It
+/// Writes the metric at which each router has the prefix by its first interface among the numbers. It
 /// goes backwards, so that the first one is written last.
 fn write_costs_on(
     costs: &mut [u8],
@@ -114,11 +116,11 @@ fn write_costs_on(
 {
     for j in (0..numbers.len()).rev() {
         let interface = interfaces[numbers[j]];
-        costs[interface.router * prefixes + prefix] = interface.cost;
+        costs[interface.router * prefixes + prefix] = interface.direct;
     }
 }
 
-/// Writes the cost at which each router has the prefix at the place.
+/// Writes the metric at which each router has the prefix at the place.
 fn write_costs_at(
     costs: &mut [u8],
     interfaces: &[Interface],
@@ -140,11 +142,11 @@ fn write_costs_at(
             let numbers = on_link[link].as_slice();
             write_costs_on(costs, interfaces, numbers, place.prefix, prefixes);
         }
-        Seat::Own { router, cost } => costs[router * prefixes + place.prefix] = cost,
+        Seat::Own { router, cost, .. } => costs[router * prefixes + place.prefix] = cost,
     }
 }
 
-/// The cost at which each router has each prefix on its own link or as its own, or 0: a byte for
+/// The metric at which each router has each prefix on its own link or as its own, or 0: a byte for
 /// each prefix in a row for each router. It goes backwards, so that a prefix's first place is
 /// written last.
 pub(crate) fn costs_of(
@@ -176,4 +178,30 @@ pub(crate) fn costs_of(
         );
     }
     Ok(costs)
+}
+
+/// The number of the place at which each router has each prefix as its own: a cell for each prefix
+/// in a row for each router. It goes backwards, so that a prefix's first place is written last.
+pub(crate) fn owners_of(
+    alloc: Global,
+    places: &[Place],
+    routers: usize,
+    prefixes: usize,
+) -> Result<Vec<Option<u16>>, AllocError>
+    requires few_routers { routers ≤ MOST_ROUTERS }
+    requires few_prefixes { prefixes ≤ MOST_PLACES }
+    requires few_places { length places.now ≤ MOST_PLACES }
+    requires prefixes { All (λ q. q.prefix < prefixes) places.now }
+    requires owners { All (λ q. IsOwnerBelow routers q.seat) places.now }
+    ensures room { IfOk result (λ v. length v.items ≡ routers * prefixes) }
+    ensures owners { IfOk result (λ v. AreOwners prefixes places.now v.items) }
+{
+    let mut owners = vec![in alloc; None; routers * prefixes]?;
+    for i in (0..places.len()).rev() {
+        let place = places[i];
+        if let Seat::Own { router, .. } = place.seat {
+            owners[router * prefixes + place.prefix] = Some(i as u16);
+        }
+    }
+    Ok(owners)
 }

@@ -3,17 +3,17 @@
 
 ghost use Rattle.std.specs.Prelude.{◌≡◌, ◌≢◌, ◌↔◌, ℕ, List, None, Some};
 ghost use Rattle.toml.specs.Data.{Members};
-ghost use Rattle.rip_plan.specs.Network.{Network};
+ghost use Rattle.rip_plan.specs.Network.{Network, found_at};
 ghost use Rattle.rip_plan.specs.Answers.{first_fault};
 ghost use Rattle.rip_plan.specs.PlanFaults.{IsFault, PlanFault};
 ghost use Rattle.rip_plan.specs.PlanOf.{IsPlanOfText, PlanOf};
-ghost use Rattle.rip_plan.specs.Relations.{IsLawful};
+ghost use Rattle.rip_plan.specs.Relations.{IsAt, IsLawful};
 ghost use Rattle.rip_plan.specs.WellFormed.{IsWellFormed};
 ghost use Rattle.rip_plan.specs.declared.error.PlanCode.TheVariants.{Memory};
 ghost use Rattle.rip_plan.specs.declared.error.PlanError.{PlanError};
 
 use crate::limits::{
-    MOST_COST, MOST_INTERFACES, MOST_LINKS, MOST_PLACES, MOST_PLAN_BYTES, MOST_ROUTERS,
+    MOST_ALSO, MOST_COST, MOST_INTERFACES, MOST_LINKS, MOST_PLACES, MOST_PLAN_BYTES, MOST_ROUTERS,
 };
 
 /// The limits of a plan.
@@ -22,8 +22,18 @@ pub fn limits()
     ensures links { MOST_LINKS ≡ 512 }
     ensures routers { MOST_ROUTERS ≡ 128 }
     ensures interfaces { MOST_INTERFACES ≡ 1024 }
+    ensures also { MOST_ALSO ≡ 1024 }
     ensures places { MOST_PLACES ≡ 1024 }
     ensures cost { MOST_COST ≡ 15 }
+{}
+
+/// The interface that is found for a link and a sender is the one that has the address there, its own
+/// or a further one.
+pub fn senders()
+    ensures gives { (n : Network) (name : List ℕ) (a i : ℕ) →
+        found_at n name a ≡ Some i → IsAt n name a i }
+    ensures finds { (n : Network) (name : List ℕ) (a i : ℕ) →
+        IsLawful n → IsAt n name a i → found_at n name a ≡ Some i }
 {}
 
 /// A document has one plan: two networks that are the plan of one document are equal.

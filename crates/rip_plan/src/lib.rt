@@ -1,6 +1,7 @@
 //! The plan of a RIP-2 network: routers, links, interfaces with their costs, and where prefixes stand.
 #![tactic(auto)]
 
+mod addresses;
 mod draft;
 mod error;
 mod fields;
@@ -15,7 +16,7 @@ mod reading;
 
 pub use error::{At, PlanCode, PlanError};
 pub use limits::{
-    MOST_COST, MOST_INTERFACES, MOST_LINKS, MOST_PLACES, MOST_PLAN_BYTES, MOST_ROUTERS,
+    MOST_ALSO, MOST_COST, MOST_INTERFACES, MOST_LINKS, MOST_PLACES, MOST_PLAN_BYTES, MOST_ROUTERS,
 };
 pub use parts::{Interface, Place, Seat};
 pub use plan::Plan;

@@ -12,6 +12,9 @@ pub const MOST_ROUTERS: usize = 128;
 /// The most interfaces of a plan.
 pub const MOST_INTERFACES: usize = 1_024;
 
+/// The most further addresses of the interfaces of a plan, all together.
+pub const MOST_ALSO: usize = 1_024;
+
 /// The most places of prefixes of a plan.
 pub const MOST_PLACES: usize = 1_024;
 

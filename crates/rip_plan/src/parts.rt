@@ -1,5 +1,8 @@
 //! The parts of a plan.
 
+ghost use Rattle.std.specs.Prelude.{◌≡◌};
+ghost use Rattle.rip_plan.specs.Seats as spec;
+
 use rip_wire::Address;
 
 /// A router's port on a link. Routers and links are numbered from 0 in the order of the plan.
@@ -13,6 +16,8 @@ pub struct Interface {
     pub address: Address,
     /// The cost of the link for the router, 1 to 15.
     pub cost: u8,
+    /// The metric at which the router has the prefixes of the link, 1 to the cost.
+    pub direct: u8,
 }
 
 /// Where a prefix stands: on a link, or with a router as its own.
@@ -20,13 +25,53 @@ pub struct Interface {
 pub enum Seat {
     /// On the link of this number.
     Link(usize),
-    /// With a router, at a cost of 1 to 15.
+    /// With a router, as its own.
     Own {
         /// The router.
         router: usize,
-        /// The cost.
+        /// The cost at which the router has the prefix, 1 to 15.
         cost: u8,
+        /// Whether the plan says that the router never gives the prefix up for an offer.
+        kept: bool,
+        /// The link of the router to which the prefix is attached: a connected network of the
+        /// interface there, beside the link's prefixes. The router keeps it, and does not tell of it
+        /// on that link.
+        link: Option<usize>,
+        /// A gateway outside of the plan that the router may tell as next hop of the prefix.
+        via: Option<Address>,
     },
+}
+
+impl Seat {
+    /// Whether the prefix is a router's own, which the router never gives up for an offer.
+    pub(crate) fn is_kept(self) -> bool
+        ensures { result ≡ spec.is_kept self }
+    {
+        match self {
+            Seat::Link(_) => false,
+            Seat::Own { kept, link, .. } => kept || link.is_some(),
+        }
+    }
+
+    /// The link to which the prefix is attached, if it is.
+    pub(crate) fn attached_link(self) -> Option<usize>
+        ensures { result ≡ spec.link_of self }
+    {
+        match self {
+            Seat::Link(_) => None,
+            Seat::Own { link, .. } => link,
+        }
+    }
+
+    /// The gateway that the router may tell as next hop, if there is one.
+    pub(crate) fn gateway(self) -> Option<Address>
+        ensures { result ≡ spec.gateway_of self }
+    {
+        match self {
+            Seat::Link(_) => None,
+            Seat::Own { via, .. } => via,
+        }
+    }
 }
 
 /// A place of a prefix. Prefixes are numbered from 0 in the order of their first place.

@@ -1,18 +1,21 @@
 //! The passes over what was read of a plan: what clashes with something earlier.
 
-ghost use Rattle.std.specs.Prelude.{◌≡◌, ◌==◌, ◌+◌, ℕ, [], ◌∷◌, ◌++◌, if◌then◌else◌, map, nat_eq, IfOk, option_map};
+ghost use Rattle.std.specs.Prelude.{◌≡◌, ◌==◌, ◌+◌, ℕ, [], ◌∷◌, ◌++◌, if◌then◌else◌, length, map, nat_eq, IfOk, option_map};
 ghost use Rattle.std.specs.List.{list_any};
 ghost use Rattle.rip_wire.specs.Prefix.{Block};
 ghost use Rattle.rip_plan.specs.Draft.{sketch};
 ghost use Rattle.rip_plan.specs.Fault.{Gives};
-ghost use Rattle.rip_plan.specs.Passes.{bare_in, duplicate_in, have_common, none_found, same_prefix, second_passes, taken_address_in, touched, twice_in};
+ghost use Rattle.rip_plan.specs.Passes.{astray_in, bare_in, duplicate_in, first_clash, have_common, none_found, same_prefix, second_passes, taken_address_in, touched, twice_in};
 ghost use Rattle.rip_plan.specs.Passes as spec;
+ghost use Rattle.rip_plan.specs.Addresses.{have_one_address};
 ghost use Rattle.rip_plan.specs.Touches.{listed, seats_meet, touched_by};
 
+use crate::addresses::{Held, all_addresses};
 use crate::draft::{Draft, DraftInterface, DraftPlace};
 use crate::error::{At, PlanCode, ReadError, fault};
+use crate::numbers::interfaces_of;
 use crate::parts::Seat;
-use rip_wire::Prefix;
+use rip_wire::{Address, Prefix};
 use std::alloc::{AllocError, Global};
 use std::collections::{HashMap, HashSet};
 
@@ -154,22 +157,46 @@ fn first_twice(alloc: Global, interfaces: &[DraftInterface]) -> Result<Option<At
     Ok(None)
 }
 
-/// Where the first interface stands whose address an earlier one on the link has.
-fn first_taken_address(
-    alloc: Global,
-    interfaces: &[DraftInterface],
-) -> Result<Option<At>, AllocError>
-    ensures { IfOk result (λ found. found ≡ taken_address_in interfaces.now) }
+/// The first address that an earlier one is on the same link.
+fn first_taken(alloc: Global, held: &[Held]) -> Result<Option<Held>, AllocError>
+    ensures { IfOk result (λ found. found ≡ first_clash have_one_address [] held.now) }
 {
     let mut seen = HashSet::new(alloc);
-    for k in 0..interfaces.len() {
-        let draft = interfaces[k];
-        let interface = draft.interface;
-        if !seen.insert((interface.link, interface.address.get()))? {
-            return Ok(Some(draft.at));
+    for k in 0..held.len() {
+        let here = held[k];
+        if !seen.insert((here.link, here.address.get()))? {
+            return Ok(Some(here));
         }
     }
     Ok(None)
+}
+
+/// Where the first interface stands that has an address a second time on its link.
+fn first_taken_address(
+    alloc: Global,
+    interfaces: &[DraftInterface],
+    also: &[Vec<Address>],
+) -> Result<Option<At>, AllocError>
+    requires { length also.now ≡ length interfaces.now }
+    ensures { IfOk result (λ found.
+        found ≡ taken_address_in interfaces.now (map (λ w. w.items) also.now)) }
+{
+    let parts = interfaces_of(alloc, interfaces)?;
+    let held = all_addresses(alloc, parts.as_slice(), also)?;
+    match first_taken(alloc, held.as_slice())? {
+        Some(taken) => Ok(spot_of(interfaces, taken.interface)),
+        None => Ok(None),
+    }
+}
+
+/// Where an interface stands in the text.
+fn spot_of(interfaces: &[DraftInterface], number: usize) -> Option<At>
+    ensures { result ≡ spec.spot_of interfaces.now number }
+{
+    match interfaces.get(number) {
+        Some(draft) => Some(draft.at),
+        None => None,
+    }
 }
 
 fn has_interface(interfaces: &[DraftInterface], router: usize) -> bool
@@ -185,6 +212,38 @@ fn first_without_interface(interfaces: &[DraftInterface], routers: usize) -> Opt
     for r in 0..routers {
         if !has_interface(interfaces, r) {
             return Some(At::Router(r + 1));
+        }
+    }
+    None
+}
+
+fn is_there(interfaces: &[DraftInterface], router: usize, link: usize) -> bool
+    ensures { result ≡ spec.is_there interfaces.now router link }
+{
+    interfaces.iter().any(|i| i.interface.router == router && i.interface.link == link)
+}
+
+/// Whether a seat is a router's own prefix, attached to a link on which the router is not.
+fn is_astray(interfaces: &[DraftInterface], seat: Seat) -> bool
+    ensures { result ≡ spec.is_astray interfaces.now seat }
+{
+    match seat {
+        Seat::Link(_) => false,
+        Seat::Own { router, link, .. } => match link {
+            Some(link) => !is_there(interfaces, router, link),
+            None => false,
+        },
+    }
+}
+
+/// Where the first own prefix stands that is attached to a link on which its router is not.
+fn first_astray(interfaces: &[DraftInterface], places: &[DraftPlace]) -> Option<At>
+    ensures { result ≡ astray_in interfaces.now places.now }
+{
+    for k in 0..places.len() {
+        let place = places[k];
+        if is_astray(interfaces, place.seat) {
+            return Some(place.at);
         }
     }
     None
@@ -211,8 +270,10 @@ pub(crate) fn check_passes(alloc: Global, draft: &Draft) -> Result<(), ReadError
     expect_none(PlanCode::TwiceOnLink, first_twice(alloc, interfaces)?)?;
     expect_none(
         PlanCode::DuplicateAddress,
-        first_taken_address(alloc, interfaces)?,
+        first_taken_address(alloc, interfaces, draft.also.as_slice())?,
     )?;
     let bare = first_without_interface(interfaces, draft.routers.len());
-    expect_none(PlanCode::NoInterface, bare)
+    expect_none(PlanCode::NoInterface, bare)?;
+    let astray = first_astray(interfaces, draft.places.as_slice());
+    expect_none(PlanCode::UnknownLink, astray)
 }

@@ -7,17 +7,20 @@ ghost use Rattle.rip_plan.specs.Answers.{IsAnswer, out_of_memory};
 ghost use Rattle.rip_plan.specs.PlanFaults.{IsFault, PlanFault};
 ghost use Rattle.rip_plan.specs.PlanOf.{IsPlanOfText};
 ghost use Rattle.rip_plan.specs.Fault.{Gives};
-ghost use Rattle.rip_plan.specs.Network.{direct_at, first_carrying, found_at, is_of, is_on, network_in, network_of_sketch, number_of_prefix, numbers_where};
+ghost use Rattle.rip_plan.specs.Addresses.{holder_at};
+ghost use Rattle.rip_plan.specs.Network.{addresses_of, direct_at, first_carrying, found_at, is_of, is_on, network_in, network_of_sketch, number_of_prefix, numbers_where, own_seat};
 ghost use Rattle.rip_plan.specs.Draft.{sketch};
-ghost use Rattle.rip_plan.specs.Relations.{Carries, HasTwoInterfaces, IsAt, IsDirect, IsInterface, IsLawful, IsLeaf, IsLinkName, IsPlace, IsPrefix, IsRouterName};
+ghost use Rattle.rip_plan.specs.Seats.{gateway_of};
+ghost use Rattle.rip_plan.specs.Relations.{Carries, HasAddress, HasTwoInterfaces, IsAt, IsAttached, IsConnected, IsDirect, IsGateway, IsInterface, IsKept, IsLawful, IsLeaf, IsLinkName, IsPlace, IsPrefix, IsRouterName};
 
+use crate::addresses::all_addresses;
 use crate::draft::Draft;
 use crate::error::{At, PlanCode, PlanError, ReadError};
 use crate::index;
 use crate::laws::first_faults;
 use crate::limits::MOST_PLAN_BYTES;
 use crate::numbers::{interfaces_of, with_numbers};
-use crate::parts::{Interface, Place};
+use crate::parts::{Interface, Place, Seat};
 use crate::reading::read_draft;
 use rip_wire::{Address, Prefix, laws};
 use std::alloc::{AllocError, Global};
@@ -32,11 +35,12 @@ pub struct Plan {
     links: Vec<String>,
     routers: Vec<String>,
     interfaces: Vec<Interface>,
+    also: Vec<Vec<Address>>,
     prefixes: Vec<Prefix>,
     places: Vec<Place>,
     // Look-ups, so that no answer walks over the parts: the interfaces of each link and router, links
     // by name, interfaces by link and address, prefixes, and in rows one after another whether each
-    // link has each prefix and at which cost each router has it.
+    // link has each prefix, at which metric each router has it, and at which place as its own.
     on_link: Vec<Vec<usize>>,
     of_router: Vec<Vec<usize>>,
     names: HashMap<String, usize>,
@@ -44,6 +48,7 @@ pub struct Plan {
     numbers: HashMap<Prefix, usize>,
     carriers: Vec<bool>,
     costs: Vec<u8>,
+    owners: Vec<Option<u16>>,
 }
 
 impl Model for Plan {
@@ -67,7 +72,8 @@ fn plan_of(alloc: Global, draft: Draft) -> Result<Plan, AllocError>
     let (prefixes, numbers, places) = with_numbers(alloc, draft.places.as_slice())?;
     let on_link = index::all_on(alloc, interfaces.as_slice(), draft.links.len())?;
     let of_router = index::all_of(alloc, interfaces.as_slice(), draft.routers.len())?;
-    let addresses = index::numbers_of_addresses(alloc, interfaces.as_slice())?;
+    let held = all_addresses(alloc, interfaces.as_slice(), draft.also.as_slice())?;
+    let addresses = index::numbers_of_addresses(alloc, held.as_slice())?;
     let carriers = index::carriers_of(alloc, places.as_slice(), draft.links.len(), prefixes.len())?;
     let costs = index::costs_of(
         alloc,
@@ -77,10 +83,17 @@ fn plan_of(alloc: Global, draft: Draft) -> Result<Plan, AllocError>
         draft.routers.len(),
         prefixes.len(),
     )?;
+    let owners = index::owners_of(
+        alloc,
+        places.as_slice(),
+        draft.routers.len(),
+        prefixes.len(),
+    )?;
     Ok(Plan {
         links: draft.links,
         routers: draft.routers,
         interfaces,
+        also: draft.also,
         prefixes,
         places,
         on_link,
@@ -90,6 +103,7 @@ fn plan_of(alloc: Global, draft: Draft) -> Result<Plan, AllocError>
         numbers,
         carriers,
         costs,
+        owners,
     })
 }
 
@@ -205,8 +219,19 @@ impl Plan {
         requires { i < length self.now.interfaces }
         ensures exact { slice_get self.now.interfaces i ≡ Some result }
         ensures is { IsInterface self.now i result.router result.link result.cost }
+        ensures connected { IsConnected self.now i result.router result.link result.direct }
     {
         self.interfaces[i]
+    }
+
+    /// The further addresses of an interface, from which the router sends on the link too, in the
+    /// order of the plan.
+    pub fn also(&self, i: usize) -> &[Address]
+        requires { i < length self.now.interfaces }
+        ensures { slice_get self.now.also i ≡ Some result.now }
+    {
+        self.lawful();
+        self.also[i].as_slice()
     }
 
     /// A place of a prefix.
@@ -239,20 +264,42 @@ impl Plan {
         self.of_router[router].as_slice()
     }
 
+    /// The number of the interface that has an address on a link, by the look-ups.
+    fn holder(&self, link: usize, address: Address) -> Option<usize>
+        ensures { result ≡ holder_at link address (addresses_of self.now) }
+    {
+        match self.addresses.get(&(link, address.get())) {
+            Some(number) => Some(*number),
+            None => None,
+        }
+    }
+
     /// The number of the interface on the link of this name with this address, by the look-ups.
     fn number_at(&self, link_name: &str, address: Address) -> Option<usize>
         ensures { result ≡ found_at self.now link_name.now address }
     {
         match self.names.get(link_name) {
             None => None,
-            Some(link) => match self.addresses.get(&(*link, address.get())) {
-                None => None,
-                Some(number) => Some(*number),
-            },
+            Some(link) => self.holder(*link, address),
         }
     }
 
-    /// The number of the interface on the link of this name with this address, if there is one.
+    /// Whether an interface has an address: its own, or a further one.
+    pub fn has_address(&self, i: usize, address: Address) -> bool
+        requires { i < length self.now.interfaces }
+        ensures { (r l c : ℕ) → IsInterface self.now i r l c →
+            Decides result (HasAddress self.now i l address) }
+    {
+        self.lawful();
+        let link = self.interface(i).link;
+        match self.holder(link, address) {
+            Some(number) => number == i,
+            None => false,
+        }
+    }
+
+    /// The number of the interface on the link of this name with this address, its own or a further
+    /// one, if there is one.
     pub fn find(&self, link_name: &str, address: Address) -> Option<usize>
         ensures exact { (i : ℕ) → (result ≡ Some i) ↔ IsAt self.now link_name.now address i }
         ensures below { IfSome result (λ i. i < length self.now.interfaces) }
@@ -274,7 +321,7 @@ impl Plan {
         self.of_router(router).len() == 1
     }
 
-    /// The cost at which a router has the prefix of a number, by the look-ups.
+    /// The metric at which a router has the prefix of a number, by the look-ups.
     fn cost_at(&self, router: usize, prefix: usize) -> Option<u8>
         ensures { result ≡ direct_at router prefix self.now.interfaces self.now.places }
     {
@@ -287,7 +334,7 @@ impl Plan {
         }
     }
 
-    /// The cost at which a router has a prefix of the plan, both by their numbers: on a link of its
+    /// The metric at which a router has a prefix of the plan, both by their numbers: on a link of its
     /// own, or as its own prefix. `None` also where the plan has no such number.
     pub fn direct_cost(&self, router: usize, prefix: usize) -> Option<u8>
         ensures { (c : ℕ) → (result ≡ Some c) ↔ IsDirect self.now router prefix c }
@@ -296,7 +343,7 @@ impl Plan {
         self.cost_at(router, prefix)
     }
 
-    /// The cost at which a router has a prefix, by the look-ups.
+    /// The metric at which a router has a prefix, by the look-ups.
     fn cost_of(&self, router: usize, prefix: Prefix) -> Option<u8>
         ensures { result
             ≡ option_and_then (λ k. direct_at router k self.now.interfaces self.now.places)
@@ -306,7 +353,7 @@ impl Plan {
         self.cost_at(router, *number)
     }
 
-    /// The cost at which a router has a prefix on a link of its own, or as its own prefix.
+    /// The metric at which a router has a prefix on a link of its own, or as its own prefix.
     pub fn direct(&self, router: usize, prefix: Prefix) -> Option<u8>
         ensures planned { (k c : ℕ) → IsPrefix self.now k prefix →
             (result ≡ Some c) ↔ IsDirect self.now router k c }
@@ -314,6 +361,66 @@ impl Plan {
     {
         self.lawful();
         self.cost_of(router, prefix)
+    }
+
+    /// The seat at which a router has a prefix as its own, by the look-ups.
+    fn own_seat(&self, router: usize, prefix: usize) -> Option<Seat>
+        ensures { result ≡ own_seat router prefix self.now.places }
+    {
+        if self.routers.len() <= router || self.prefixes.len() <= prefix {
+            return None;
+        }
+        match self.owners[router * self.prefixes.len() + prefix] {
+            Some(place) => Some(self.places[usize::from(place)].seat),
+            None => None,
+        }
+    }
+
+    /// Whether a router keeps a prefix of the plan, both by their numbers: it has it as its own and
+    /// never gives it up for an offer. `false` also where the plan has no such number.
+    pub fn keeps(&self, router: usize, prefix: usize) -> bool
+        ensures { Decides result (IsKept self.now router prefix) }
+    {
+        self.lawful();
+        match self.own_seat(router, prefix) {
+            Some(seat) => seat.is_kept(),
+            None => false,
+        }
+    }
+
+    /// The link to which a prefix of a router's own is attached, both by their numbers. `None` also
+    /// where the plan has no such number.
+    pub fn attached_link(&self, router: usize, prefix: usize) -> Option<usize>
+        ensures { (l : ℕ) → (result ≡ Some l) ↔ IsAttached self.now router prefix l }
+    {
+        self.lawful();
+        match self.own_seat(router, prefix) {
+            Some(seat) => seat.attached_link(),
+            None => None,
+        }
+    }
+
+    /// The gateway outside of the plan that a router may tell as next hop of a prefix.
+    pub fn gateway(&self, router: usize, prefix: Prefix) -> Option<Address>
+        ensures planned { (k a : ℕ) → IsPrefix self.now k prefix →
+            (result ≡ Some a) ↔ IsGateway self.now router k a }
+        ensures unplanned { ((k : ℕ) → IsPrefix self.now k prefix → ⊥) → result ≡ None }
+    {
+        self.lawful();
+        self.gateway_of(router, prefix)
+    }
+
+    /// The gateway of a router for a prefix, by the look-ups.
+    fn gateway_of(&self, router: usize, prefix: Prefix) -> Option<Address>
+        ensures { result
+            ≡ option_and_then (λ k. option_and_then gateway_of (own_seat router k self.now.places))
+            (number_of_prefix prefix self.now.prefixes) }
+    {
+        let number = self.numbers.get(&prefix)?;
+        match self.own_seat(router, *number) {
+            Some(seat) => seat.gateway(),
+            None => None,
+        }
     }
 
     /// Whether a link has the prefix of a number, by the look-ups.

@@ -34,6 +34,8 @@ fn draft_of(alloc: Global, table: &Table) -> Result<Draft, ReadError>
         links: Vec::new(alloc),
         routers: Vec::new(alloc),
         interfaces: Vec::new(alloc),
+        also: Vec::new(alloc),
+        also_count: 0,
         places: Vec::new(alloc),
         numbers: HashMap::new(alloc),
         blocks: HashMap::new(alloc),

@@ -1,9 +1,11 @@
 //! The steps of the first pass over the text of a plan.
 
-ghost use Rattle.std.specs.Prelude.{◌≡◌, ◌==◌, ◌≤◌, ◌++◌, ◌∷◌, ℕ, [], IfErr, IfOk, false, if◌then◌else◌, map, nat_eq, string_bytes};
+ghost use Rattle.std.specs.Prelude.{◌≡◌, ◌==◌, ◌≤◌, ◌++◌, ◌∷◌, ℕ, [], IfErr, IfOk, false, if◌then◌else◌, map, nat_eq, option_copied, option_map, string_bytes};
 ghost use Rattle.std.specs.List.{list_any};
 ghost use Rattle.toml.specs.View.{view};
-ghost use Rattle.rip_plan.specs.Draft.{Steps, has_address, interface_step, is_outside, link_step, own_step, prefix_step, router_step, sketch, with_place};
+ghost use Rattle.rip_plan.specs.Draft.{Steps, has_address, interface_step, is_full, is_outside, link_step, own_step, prefix_step, router_step, sketch, with_interface, with_place};
+ghost use Rattle.rip_plan.specs.Fields as fields_spec;
+ghost use Rattle.rip_plan.specs.Fields.{addresses_in};
 ghost use Rattle.rip_plan.specs.Fault.{steps};
 ghost use Rattle.rip_plan.specs.Names.{is_one_of, number_of_name};
 ghost use Rattle.rip_plan.specs.Touches.{listed};
@@ -11,7 +13,7 @@ ghost use Rattle.rip_plan.specs.Touches.{listed};
 use crate::draft::{Draft, DraftInterface, DraftPlace};
 use crate::error::{At, PlanCode, ReadError, fault};
 use crate::fields;
-use crate::limits::{MOST_INTERFACES, MOST_PLACES};
+use crate::limits::{MOST_ALSO, MOST_INTERFACES, MOST_PLACES};
 use crate::parts::{Interface, Seat};
 use rip_wire::{Address, Prefix, is_name};
 use std::alloc::{AllocError, Global};
@@ -155,8 +157,58 @@ fn add_link(draft: &mut Draft, alloc: Global, i: usize, item: &Value) -> Result<
     add_prefixes(draft, i, prefixes)
 }
 
+/// The addresses of these texts, if each is one.
+fn addresses_of(alloc: Global, items: &[Value]) -> Result<Option<Vec<Address>>, AllocError>
+    ensures { IfOk result (λ o.
+        option_map (λ v. v.items) o ≡ addresses_in (map view items.now)) }
+{
+    let mut addresses = Vec::new(alloc);
+    for item in items {
+        let Some(text) = item.as_str() else {
+            return Ok(None);
+        };
+        let Some(address) = Address::parse(text) else {
+            return Ok(None);
+        };
+        addresses.push(address)?;
+    }
+    Ok(Some(addresses))
+}
+
+/// Whether the draft has no room for one more interface with these further addresses.
+fn is_full_with(draft: &Draft, also: &[Address]) -> bool
+    ensures { result ≡ is_full (sketch draft.now) also.now }
+{
+    MOST_INTERFACES <= draft.interfaces.len() || MOST_ALSO < draft.also_count + also.len()
+}
+
+/// Adds an interface with its further addresses.
+fn keep_interface(
+    draft: &mut Draft,
+    interface: DraftInterface,
+    also: Vec<Address>,
+) -> Result<(), AllocError>
+    requires { is_full (sketch draft.old) also.items ≡ false }
+    ensures ok { IfOk result (λ done. sketch draft.new ≡ with_interface interface also.items
+        (sketch draft.old)) }
+{
+    // With room for both nothing fails after the first is kept.
+    draft.interfaces.reserve(1)?;
+    draft.also.reserve(1)?;
+    draft.also_count += also.len();
+    draft.interfaces.push(interface)?;
+    draft.also.push(also)?;
+    Ok(())
+}
+
 #[tactic(auto, unfolding(crate::specs::Draft::interface_step))]
-fn add_interface(draft: &mut Draft, r: usize, j: usize, item: &Value) -> Result<(), ReadError>
+fn add_interface(
+    draft: &mut Draft,
+    alloc: Global,
+    r: usize,
+    j: usize,
+    item: &Value,
+) -> Result<(), ReadError>
     requires { 1 ≤ r }
     ensures { Steps (sketch draft.old) (sketch draft.new) result
         (interface_step r j (view item.now)) }
@@ -165,22 +217,28 @@ fn add_interface(draft: &mut Draft, r: usize, j: usize, item: &Value) -> Result<
     let Some(table) = item.as_table() else {
         return Err(fault(PlanCode::Key, at));
     };
-    let Some((name, text, given)) = fields::fields_of_interface(table) else {
+    let Some(given) = fields::fields_of_interface(table) else {
         return Err(fault(PlanCode::Key, at));
     };
-    let Some(address) = Address::parse(text) else {
+    let Some(address) = Address::parse(given.address) else {
         return Err(fault(PlanCode::Address, at));
     };
-    let Some(cost) = fields::cost_of(given) else {
+    let Some(also) = addresses_of(alloc, given.also)? else {
+        return Err(fault(PlanCode::Address, at));
+    };
+    let Some(cost) = fields::cost_of(given.cost) else {
         return Err(fault(PlanCode::Cost, at));
     };
-    let Some(link) = number_of(draft, name) else {
+    let Some(direct) = fields::direct_of(cost, given.direct) else {
+        return Err(fault(PlanCode::Cost, at));
+    };
+    let Some(link) = number_of(draft, given.link) else {
         return Err(fault(PlanCode::UnknownLink, at));
     };
     if is_out_of_link(draft, link, address) {
         return Err(fault(PlanCode::OutsidePrefix, at));
     }
-    if MOST_INTERFACES <= draft.interfaces.len() {
+    if is_full_with(draft, also.as_slice()) {
         return Err(fault(PlanCode::Limit, at));
     }
     let interface = Interface {
@@ -188,20 +246,51 @@ fn add_interface(draft: &mut Draft, r: usize, j: usize, item: &Value) -> Result<
         link,
         address,
         cost,
+        direct,
     };
-    draft.interfaces.push(DraftInterface { interface, at })?;
-    Ok(())
+    Ok(keep_interface(draft, DraftInterface { interface, at }, also)?)
 }
 
-fn add_interfaces(draft: &mut Draft, r: usize, items: &[Value]) -> Result<(), ReadError>
+fn add_interfaces(
+    draft: &mut Draft,
+    alloc: Global,
+    r: usize,
+    items: &[Value],
+) -> Result<(), ReadError>
     requires { 1 ≤ r }
     ensures { Steps (sketch draft.old) (sketch draft.new) result
         (steps (interface_step r) 1 (map view items.now)) }
 {
     for (j, item) in items.iter().enumerate() {
-        add_interface(draft, r, j + 1, item)?;
+        add_interface(draft, alloc, r, j + 1, item)?;
     }
     Ok(())
+}
+
+/// The address of a text, if one is given; `None` where it is no address.
+fn address_if(text: Option<&str>) -> Option<Option<Address>>
+    ensures { result ≡ fields_spec.address_if (option_copied text.entry) }
+{
+    match text {
+        None => Some(None),
+        Some(text) => match Address::parse(text) {
+            Some(address) => Some(Some(address)),
+            None => None,
+        },
+    }
+}
+
+/// The number of the link of a name, if one is given; `None` where no link has it.
+fn link_if(draft: &Draft, name: Option<&str>) -> Option<Option<usize>>
+    ensures { result ≡ fields_spec.link_if (option_copied name.entry) (sketch draft.now).links }
+{
+    match name {
+        None => Some(None),
+        Some(name) => match number_of(draft, name) {
+            Some(link) => Some(Some(link)),
+            None => None,
+        },
+    }
 }
 
 #[tactic(auto, unfolding(crate::specs::Draft::own_step))]
@@ -213,17 +302,29 @@ fn add_own(draft: &mut Draft, r: usize, j: usize, item: &Value) -> Result<(), Re
     let Some(table) = item.as_table() else {
         return Err(fault(PlanCode::Key, at));
     };
-    let Some((text, given)) = fields::fields_of_own(table) else {
+    let Some(given) = fields::fields_of_own(table) else {
         return Err(fault(PlanCode::Key, at));
     };
-    let Some(prefix) = Prefix::parse(text) else {
+    let Some(via) = address_if(given.via) else {
+        return Err(fault(PlanCode::Address, at));
+    };
+    let Some(prefix) = Prefix::parse(given.prefix) else {
         return Err(fault(PlanCode::Prefix, at));
     };
-    let Some(cost) = fields::cost_of(given) else {
+    let Some(cost) = fields::cost_of(given.cost) else {
         return Err(fault(PlanCode::Cost, at));
     };
-    let router = r - 1;
-    add_place(draft, at, prefix, Seat::Own { router, cost })
+    let Some(link) = link_if(draft, given.link) else {
+        return Err(fault(PlanCode::UnknownLink, at));
+    };
+    let seat = Seat::Own {
+        router: r - 1,
+        cost,
+        kept: given.kept,
+        link,
+        via,
+    };
+    add_place(draft, at, prefix, seat)
 }
 
 fn add_owns(draft: &mut Draft, r: usize, items: &[Value]) -> Result<(), ReadError>
@@ -256,7 +357,7 @@ fn add_router(draft: &mut Draft, alloc: Global, r: usize, item: &Value) -> Resul
         return Err(fault(PlanCode::DuplicateName, at));
     }
     draft.routers.push(String::from_str(alloc, name)?)?;
-    add_interfaces(draft, r, interfaces)?;
+    add_interfaces(draft, alloc, r, interfaces)?;
     add_owns(draft, r, owns)
 }
 

@@ -20,5 +20,5 @@ loop-j-preserved c r k h =
     let at : x ≡ get_or is n x = c.index-interfaces-numbers.is in
     let inside = c.requires.cells n x within in
     let here : x.router * c.args.prefixes + c.args.prefix < length c.args.costs.now = rw (← at) at inside in
-    let written = cell_set c.loop-j.costs c.args.prefixes x.router c.args.prefix r k x.cost 0 (omega (arith, here)) c.requires.column h in
-    written ∙ rw (c.loop-j.invariant r k h, front, there) (cost_written (x.router == r) (c.args.prefix == k) x.cost (cell c.args.prefixes c.args.costs.now r k) (cost_among r is (drop j ns)))
+    let written = cell_set c.loop-j.costs c.args.prefixes x.router c.args.prefix r k x.direct 0 (omega (arith, here)) c.requires.column h in
+    written ∙ rw (c.loop-j.invariant r k h, front, there) (cost_written (x.router == r) (c.args.prefix == k) x.direct (cell c.args.prefixes c.args.costs.now r k) (cost_among r is (drop j ns)))

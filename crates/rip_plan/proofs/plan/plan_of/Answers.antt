@@ -5,9 +5,10 @@ use Rattle.rip_plan.specs.declared.draft.DraftInterface.{DraftInterface}
 use Rattle.rip_plan.specs.declared.draft.DraftPlace.{DraftPlace}
 use Rattle.rip_plan.specs.declared.parts.Interface.{Interface}
 use Rattle.rip_plan.specs.declared.parts.Place.{Place}
+use Rattle.rip_plan.specs.Addresses.{held_from, holder_at}
 use Rattle.rip_plan.specs.Draft.{sketch}
-use Rattle.rip_plan.specs.Network.{Network, each_below, first_at, is_of, is_on, network_of_sketch, numbered, numbers_where}
-use Rattle.rip_plan.specs.Rows.{AreCosts, AreFlags}
+use Rattle.rip_plan.specs.Network.{Network, each_below, is_of, is_on, network_of_sketch, numbered, numbers_where}
+use Rattle.rip_plan.specs.Rows.{AreCosts, AreFlags, AreOwners}
 use Rattle.rip_plan.proofs.Below.{length-each_below}
 use Rattle.rip_plan.proofs.Numbering.{numbers}
 use Rattle.rip_plan.proofs.WithinPlan.{interfaces_links, interfaces_routers, places_prefixes, places_links, places_owners}
@@ -42,6 +43,12 @@ all_of-requires c =
     let interfaces : c.as_slice-4.result.now ≡ n.interfaces = c.as_slice-4.ensures.value ∙ interfaces_are c.in_ok-interfaces.interfaces.items c.as_slice.result.now c.args.draft.interfaces.items c.in_ok-interfaces.ensures c.as_slice.ensures.value in
     rw (routers, interfaces) (interfaces_routers n c.requires)
 
+pub all_addresses-requires : goal.all_addresses-requires
+all_addresses-requires c =
+    let n : Network = network_of_sketch (sketch c.args.draft) in
+    let interfaces : c.as_slice-5.result.now ≡ n.interfaces = c.as_slice-5.ensures.value ∙ interfaces_are c.in_ok-interfaces.interfaces.items c.as_slice.result.now c.args.draft.interfaces.items c.in_ok-interfaces.ensures c.as_slice.ensures.value in
+    omega (arith, c.requires.also_listed, length-map c.args.draft.also.items (λ (w : Vec ℕ Global). w.items), ap length interfaces, ap length c.as_slice-6.ensures.value)
+
 pub carriers_of-requires-clause-few_prefixes : goal.carriers_of-requires-clause-few_prefixes
 carriers_of-requires-clause-few_prefixes c =
     let n : Network = network_of_sketch (sketch c.args.draft) in
@@ -52,14 +59,14 @@ carriers_of-requires-clause-prefixes c =
     let n : Network = network_of_sketch (sketch c.args.draft) in
     let blocks : c.in_ok-prefixes.prefixes.items ≡ n.prefixes = prefixes_are c.in_ok-prefixes.prefixes.items c.in_ok-prefixes.places.items c.as_slice-2.result.now c.args.draft.places.items c.in_ok-prefixes.ensures.parts c.as_slice-2.ensures.value in
     let prefixes : c.len-4.result ≡ length n.prefixes = omega (arith, ap length blocks) in
-    let places : c.as_slice-6.result.now ≡ n.places = c.as_slice-6.ensures.value ∙ places_are c.in_ok-prefixes.prefixes.items c.in_ok-prefixes.places.items c.as_slice-2.result.now c.args.draft.places.items c.in_ok-prefixes.ensures.parts c.as_slice-2.ensures.value in
+    let places : c.as_slice-8.result.now ≡ n.places = c.as_slice-8.ensures.value ∙ places_are c.in_ok-prefixes.prefixes.items c.in_ok-prefixes.places.items c.as_slice-2.result.now c.args.draft.places.items c.in_ok-prefixes.ensures.parts c.as_slice-2.ensures.value in
     rw (prefixes, places) (places_prefixes n c.requires)
 
 pub carriers_of-requires-clause-seats : goal.carriers_of-requires-clause-seats
 carriers_of-requires-clause-seats c =
     let n : Network = network_of_sketch (sketch c.args.draft) in
     let links : c.len-3.result ≡ length n.links = omega (arith, length-map c.args.draft.links.items string_bytes) in
-    let places : c.as_slice-6.result.now ≡ n.places = c.as_slice-6.ensures.value ∙ places_are c.in_ok-prefixes.prefixes.items c.in_ok-prefixes.places.items c.as_slice-2.result.now c.args.draft.places.items c.in_ok-prefixes.ensures.parts c.as_slice-2.ensures.value in
+    let places : c.as_slice-8.result.now ≡ n.places = c.as_slice-8.ensures.value ∙ places_are c.in_ok-prefixes.prefixes.items c.in_ok-prefixes.places.items c.as_slice-2.result.now c.args.draft.places.items c.in_ok-prefixes.ensures.parts c.as_slice-2.ensures.value in
     rw (links, places) (places_links n c.requires)
 
 pub costs_of-requires-clause-few_prefixes : goal.costs_of-requires-clause-few_prefixes
@@ -71,39 +78,65 @@ pub costs_of-requires-clause-routers : goal.costs_of-requires-clause-routers
 costs_of-requires-clause-routers c =
     let n : Network = network_of_sketch (sketch c.args.draft) in
     let routers : c.len-5.result ≡ length n.routers = omega (arith, length-map c.args.draft.routers.items string_bytes) in
-    let interfaces : c.as_slice-7.result.now ≡ n.interfaces = c.as_slice-7.ensures.value ∙ interfaces_are c.in_ok-interfaces.interfaces.items c.as_slice.result.now c.args.draft.interfaces.items c.in_ok-interfaces.ensures c.as_slice.ensures.value in
+    let interfaces : c.as_slice-9.result.now ≡ n.interfaces = c.as_slice-9.ensures.value ∙ interfaces_are c.in_ok-interfaces.interfaces.items c.as_slice.result.now c.args.draft.interfaces.items c.in_ok-interfaces.ensures c.as_slice.ensures.value in
     rw (routers, interfaces) (interfaces_routers n c.requires)
 
 pub costs_of-requires-clause-lists : goal.costs_of-requires-clause-lists
 costs_of-requires-clause-lists c =
     let items = λ (w : Vec ℕ Global). w.items in
-    let same : c.as_slice-3.result.now ≡ c.as_slice-7.result.now = c.as_slice-3.ensures.value ∙ sym c.as_slice-7.ensures.value in
-    lists_are (map items c.as_slice-8.result.now) c.len.result (λ l. numbers_where (is_on l) 0 c.as_slice-7.result.now)
-    (ap (map items) c.as_slice-8.ensures.value ∙ c.in_ok-on_link.ensures ∙ ap (λ is. each_below c.len.result (λ l. numbers_where (is_on l) 0 is)) same)
+    let same : c.as_slice-3.result.now ≡ c.as_slice-9.result.now = c.as_slice-3.ensures.value ∙ sym c.as_slice-9.ensures.value in
+    lists_are (map items c.as_slice-10.result.now) c.len.result (λ l. numbers_where (is_on l) 0 c.as_slice-9.result.now)
+    (ap (map items) c.as_slice-10.ensures.value ∙ c.in_ok-on_link.ensures ∙ ap (λ is. each_below c.len.result (λ l. numbers_where (is_on l) 0 is)) same)
 
 pub costs_of-requires-clause-prefixes : goal.costs_of-requires-clause-prefixes
 costs_of-requires-clause-prefixes c =
     let n : Network = network_of_sketch (sketch c.args.draft) in
     let blocks : c.in_ok-prefixes.prefixes.items ≡ n.prefixes = prefixes_are c.in_ok-prefixes.prefixes.items c.in_ok-prefixes.places.items c.as_slice-2.result.now c.args.draft.places.items c.in_ok-prefixes.ensures.parts c.as_slice-2.ensures.value in
     let prefixes : c.len-6.result ≡ length n.prefixes = omega (arith, ap length blocks) in
-    let places : c.as_slice-9.result.now ≡ n.places = c.as_slice-9.ensures.value ∙ places_are c.in_ok-prefixes.prefixes.items c.in_ok-prefixes.places.items c.as_slice-2.result.now c.args.draft.places.items c.in_ok-prefixes.ensures.parts c.as_slice-2.ensures.value in
+    let places : c.as_slice-11.result.now ≡ n.places = c.as_slice-11.ensures.value ∙ places_are c.in_ok-prefixes.prefixes.items c.in_ok-prefixes.places.items c.as_slice-2.result.now c.args.draft.places.items c.in_ok-prefixes.ensures.parts c.as_slice-2.ensures.value in
     rw (prefixes, places) (places_prefixes n c.requires)
 
 pub costs_of-requires-clause-links : goal.costs_of-requires-clause-links
 costs_of-requires-clause-links c =
     let n : Network = network_of_sketch (sketch c.args.draft) in
     let items = λ (w : Vec ℕ Global). w.items in
-    let lists : map items c.as_slice-8.result.now ≡ each_below c.len.result (λ l. numbers_where (is_on l) 0 c.as_slice-3.result.now) = ap (map items) c.as_slice-8.ensures.value ∙ c.in_ok-on_link.ensures in
-    let count : length (map items c.as_slice-8.result.now) ≡ c.len.result = ap length lists ∙ length-each_below c.len.result (λ l. numbers_where (is_on l) 0 c.as_slice-3.result.now) in
-    let links : length c.as_slice-8.result.now ≡ length n.links = omega (arith, length-map c.args.draft.links.items string_bytes, length-map c.as_slice-8.result.now items) in
-    let places : c.as_slice-9.result.now ≡ n.places = c.as_slice-9.ensures.value ∙ places_are c.in_ok-prefixes.prefixes.items c.in_ok-prefixes.places.items c.as_slice-2.result.now c.args.draft.places.items c.in_ok-prefixes.ensures.parts c.as_slice-2.ensures.value in
+    let lists : map items c.as_slice-10.result.now ≡ each_below c.len.result (λ l. numbers_where (is_on l) 0 c.as_slice-3.result.now) = ap (map items) c.as_slice-10.ensures.value ∙ c.in_ok-on_link.ensures in
+    let count : length (map items c.as_slice-10.result.now) ≡ c.len.result = ap length lists ∙ length-each_below c.len.result (λ l. numbers_where (is_on l) 0 c.as_slice-3.result.now) in
+    let links : length c.as_slice-10.result.now ≡ length n.links = omega (arith, length-map c.args.draft.links.items string_bytes, length-map c.as_slice-10.result.now items) in
+    let places : c.as_slice-11.result.now ≡ n.places = c.as_slice-11.ensures.value ∙ places_are c.in_ok-prefixes.prefixes.items c.in_ok-prefixes.places.items c.as_slice-2.result.now c.args.draft.places.items c.in_ok-prefixes.ensures.parts c.as_slice-2.ensures.value in
     rw (links, places) (places_links n c.requires)
 
 pub costs_of-requires-clause-owners : goal.costs_of-requires-clause-owners
 costs_of-requires-clause-owners c =
     let n : Network = network_of_sketch (sketch c.args.draft) in
     let routers : c.len-5.result ≡ length n.routers = omega (arith, length-map c.args.draft.routers.items string_bytes) in
-    let places : c.as_slice-9.result.now ≡ n.places = c.as_slice-9.ensures.value ∙ places_are c.in_ok-prefixes.prefixes.items c.in_ok-prefixes.places.items c.as_slice-2.result.now c.args.draft.places.items c.in_ok-prefixes.ensures.parts c.as_slice-2.ensures.value in
+    let places : c.as_slice-11.result.now ≡ n.places = c.as_slice-11.ensures.value ∙ places_are c.in_ok-prefixes.prefixes.items c.in_ok-prefixes.places.items c.as_slice-2.result.now c.args.draft.places.items c.in_ok-prefixes.ensures.parts c.as_slice-2.ensures.value in
+    rw (routers, places) (places_owners n c.requires)
+
+pub owners_of-requires-clause-few_prefixes : goal.owners_of-requires-clause-few_prefixes
+owners_of-requires-clause-few_prefixes c =
+    let n : Network = network_of_sketch (sketch c.args.draft) in
+    few c.in_ok-prefixes.prefixes.items c.as_slice-2.result.now c.args.draft.places.items c.len-8.result c.in_ok-prefixes.ensures.few c.as_slice-2.ensures.value c.requires.few_places (omega arith)
+
+pub owners_of-requires-clause-few_places : goal.owners_of-requires-clause-few_places
+owners_of-requires-clause-few_places c =
+    let n : Network = network_of_sketch (sketch c.args.draft) in
+    let places : c.as_slice-12.result.now ≡ n.places = c.as_slice-12.ensures.value ∙ places_are c.in_ok-prefixes.prefixes.items c.in_ok-prefixes.places.items c.as_slice-2.result.now c.args.draft.places.items c.in_ok-prefixes.ensures.parts c.as_slice-2.ensures.value in
+    omega (arith, ap length places, c.requires.few_places)
+
+pub owners_of-requires-clause-prefixes : goal.owners_of-requires-clause-prefixes
+owners_of-requires-clause-prefixes c =
+    let n : Network = network_of_sketch (sketch c.args.draft) in
+    let blocks : c.in_ok-prefixes.prefixes.items ≡ n.prefixes = prefixes_are c.in_ok-prefixes.prefixes.items c.in_ok-prefixes.places.items c.as_slice-2.result.now c.args.draft.places.items c.in_ok-prefixes.ensures.parts c.as_slice-2.ensures.value in
+    let prefixes : c.len-8.result ≡ length n.prefixes = omega (arith, ap length blocks) in
+    let places : c.as_slice-12.result.now ≡ n.places = c.as_slice-12.ensures.value ∙ places_are c.in_ok-prefixes.prefixes.items c.in_ok-prefixes.places.items c.as_slice-2.result.now c.args.draft.places.items c.in_ok-prefixes.ensures.parts c.as_slice-2.ensures.value in
+    rw (prefixes, places) (places_prefixes n c.requires)
+
+pub owners_of-requires-clause-owners : goal.owners_of-requires-clause-owners
+owners_of-requires-clause-owners c =
+    let n : Network = network_of_sketch (sketch c.args.draft) in
+    let routers : c.len-7.result ≡ length n.routers = omega (arith, length-map c.args.draft.routers.items string_bytes) in
+    let places : c.as_slice-12.result.now ≡ n.places = c.as_slice-12.ensures.value ∙ places_are c.in_ok-prefixes.prefixes.items c.in_ok-prefixes.places.items c.as_slice-2.result.now c.args.draft.places.items c.in_ok-prefixes.ensures.parts c.as_slice-2.ensures.value in
     rw (routers, places) (places_owners n c.requires)
 
 pub invariant_of-result : goal.invariant_of-result
@@ -118,8 +151,16 @@ invariant_of-result c =
     let routers_5 : c.len-5.result ≡ length c.args.draft.routers.items = omega (arith, c.len-5.ensures) in
     let prefixes_4 : c.len-4.result ≡ length c.in_ok-prefixes.prefixes.items = omega (arith, c.len-4.ensures) in
     let prefixes_6 : c.len-6.result ≡ length c.in_ok-prefixes.prefixes.items = omega (arith, c.len-6.ensures) in
-    let flags : AreFlags c.len-4.result c.as_slice-6.result.now c.in_ok-carriers.carriers.items = c.in_ok-carriers.ensures.flags in
-    let costs : AreCosts c.len-6.result c.as_slice-7.result.now c.as_slice-9.result.now c.in_ok-costs.costs.items = c.in_ok-costs.ensures.costs in
+    let routers_7 : c.len-7.result ≡ length c.args.draft.routers.items = omega (arith, c.len-7.ensures) in
+    let prefixes_8 : c.len-8.result ≡ length c.in_ok-prefixes.prefixes.items = omega (arith, c.len-8.ensures) in
+    let owners : AreOwners c.len-8.result c.as_slice-12.result.now c.in_ok-owners.owners.items = c.in_ok-owners.ensures.owners in
+    let items = λ (w : Vec ℕ Global). w.items in
+    let held : c.as_slice-7.result.now ≡ held_from 0 c.in_ok-interfaces.interfaces.items (map items c.args.draft.also.items) =
+    c.as_slice-7.ensures.value ∙ c.in_ok-held.ensures
+    ∙ ap (λ is. held_from 0 is (map items c.as_slice-6.result.now)) c.as_slice-5.ensures.value
+    ∙ ap (λ vs. held_from 0 c.in_ok-interfaces.interfaces.items (map items vs)) c.as_slice-6.ensures.value in
+    let flags : AreFlags c.len-4.result c.as_slice-8.result.now c.in_ok-carriers.carriers.items = c.in_ok-carriers.ensures.flags in
+    let costs : AreCosts c.len-6.result c.as_slice-9.result.now c.as_slice-11.result.now c.in_ok-costs.costs.items = c.in_ok-costs.ensures.costs in
     record {
       lawful = rw (interfaces, blocks, places) c.requires;
       on_link = c.in_ok-on_link.ensures
@@ -131,8 +172,10 @@ invariant_of-result c =
       names = λ bs. c.args.draft.numbered bs;
       numbers = λ p. c.in_ok-prefixes.ensures.numbers p;
       carriers_room = c.in_ok-carriers.ensures.room ∙ rw (links_3, prefixes_4) refl;
-      carriers = rw (prefixes_4, c.as_slice-6.ensures.value) at flags;
+      carriers = rw (prefixes_4, c.as_slice-8.ensures.value) at flags;
       costs_room = c.in_ok-costs.ensures.room ∙ rw (routers_5, prefixes_6) refl;
-      costs = rw (prefixes_6, c.as_slice-7.ensures.value, c.as_slice-9.ensures.value) at costs;
-      addresses = λ l a. c.in_ok-addresses.ensures l a ∙ ap (first_at l a 0) c.as_slice-5.ensures.value;
+      costs = rw (prefixes_6, c.as_slice-9.ensures.value, c.as_slice-11.ensures.value) at costs;
+      owners_room = c.in_ok-owners.ensures.room ∙ rw (routers_7, prefixes_8) refl;
+      owners = rw (prefixes_8, c.as_slice-12.ensures.value) at owners;
+      addresses = λ l a. c.in_ok-addresses.ensures l a ∙ ap (holder_at l a) held;
     }

@@ -21,6 +21,9 @@ invariant_of-draft-2 c =
     let seen : map string_bytes c.push.new.self.items ≡ names ++ name ∷ [] = ap (map string_bytes) pushed ∙ map_push string_bytes c.reserve.new.self.items kept ∙ rw (same, c.in_ok-kept.ensures.ok) refl in
     let number : c.len.result ≡ length names = omega (arith, length-map links string_bytes, ap length same) in
     record {
+      listed = c.args.draft.now.listed;
+      counted = c.args.draft.now.counted;
+      few = c.args.draft.now.few;
       numbered = λ bytes.
           hash_map_updates_text (string_bytes key) c.args.draft.now.numbers c.insert.new.self _ c.in_ok-insert.ensures.updates bytes
           ∙ rw (c.in_ok-key.ensures.ok, number, c.args.draft.now.numbered bytes, seen) (new_name names name bytes c.requires);

@@ -1,0 +1,16 @@
+use Rattle.std.proofs.Common.{false, ap, refl, sym, ◌∙◌}
+use Rattle.std.specs.Option.{option_map_or}
+use Rattle.rip_plan.specs.declared.parts.Seat.{Seat}
+use Rattle.rip_plan.specs.Seats.{is_kept}
+use Rattle.rip_plan.proofs.PlanAnswers.{kept_exact}
+use Rattle.rip_plan.proofs.plan.Plan.keeps.Goals as goal
+
+pub returns-in-Some : goal.returns-in-Some
+returns-in-Some c =
+    kept_exact c.args.self.now c.lawful.ensures c.args.router c.args.prefix c.own_seat.result c.is_kept.result c.own_seat.ensures
+    (c.is_kept.ensures ∙ ap (λ o. option_map_or is_kept o false) (sym c.in-Some.is))
+
+pub returns-in-None : goal.returns-in-None
+returns-in-None c =
+    kept_exact c.args.self.now c.lawful.ensures c.args.router c.args.prefix c.own_seat.result false c.own_seat.ensures
+    (ap (λ o. option_map_or is_kept o false) (sym c.in-None.is))
