@@ -17,6 +17,7 @@ use Rattle.rip_table.proofs.RowLemmas.{heads-append}
 use Rattle.rip_table.proofs.CheckLemmas.{heard_valid}
 use Rattle.rip_table.proofs.CellLemmas.{cells-with_rows}
 use Rattle.rip_table.proofs.TakingLemmas.{heard-with}
+use Rattle.rip_plan.specs.Network.{Network}
 
 -- the prefixes with those of entries
 abbrev pub prefixes_after : List Block → List Entry → List Block
@@ -63,14 +64,14 @@ same_with s i m p listed here =
         ap (λ (k : ℕ). s.shows k q) (eqb-true j i parts.0) ∙ ap (s.shows i) (same-is q p parts.1) ∙ here
     at j q false t = refl
 
-pub joined_is : (sender i : ℕ) (s u : State) (e : Entry) → Listed s i → (o : Option ℕ) → s.shows i e.prefix ≡ o → joined_at sender i s e o ≡ Ok u → u ≡ with_metric s i e.prefix e.metric
-joined_is sender i s u e listed None is h = by (is_foreign sender e) (is_past s e.prefix) h
+pub joined_is : (net : Network) (i : ℕ) (s u : State) (e : Entry) → Listed s i → (o : Option ℕ) → s.shows i e.prefix ≡ o → joined_at net i s e o ≡ Ok u → u ≡ with_metric s i e.prefix e.metric
+joined_is net i s u e listed None is h = by (is_foreign net i e) (is_past s e.prefix) h
   where
     by : (f b : Bool) → cond f (Err (NextHop e.prefix)) (cond b (Err TooManyPrefixes) (Ok (with_metric s i e.prefix e.metric))) ≡ Ok u → u ≡ with_metric s i e.prefix e.metric
     by true b h = absurd (cc h)
     by false true h = absurd (cc h)
     by false false h = let same : with_metric s i e.prefix e.metric ≡ u = cc h in sym same
-joined_is sender i s u e listed (Some old) is h = by (old == e.metric) refl (is_foreign sender e) h
+joined_is net i s u e listed (Some old) is h = by (old == e.metric) refl (is_foreign net i e) h
   where
     by : (c : Bool) → (old == e.metric) ≡ c → (f : Bool) → cond (not c) (Err (Changed e.prefix old e.metric)) (cond f (Err (NextHop e.prefix)) (Ok s)) ≡ Ok u → u ≡ with_metric s i e.prefix e.metric
     by false t f h = absurd (cc h)
@@ -80,12 +81,12 @@ joined_is sender i s u e listed (Some old) is h = by (old == e.metric) refl (is_
         sym same ∙ same_with s i e.metric e.prefix listed (is ∙ ap (λ (m : ℕ). Some m) (eqb-true old e.metric t))
 
 -- the join of entries without a fault
-pub joined-after : (sender i : ℕ) (s t : State) (es : List Entry) → Listed s i → joined_entries sender i s es ≡ Ok t → t ≡ after_all s i es
-joined-after sender i s t [] listed h = let same : s ≡ t = cc h in sym same
-joined-after sender i s t (e ∷ es) listed h =
-    let split = then-split (joined_at sender i s e (s.shows i e.prefix)) (λ u. joined_entries sender i u es) t h in
-    let is = joined_is sender i s split.0 e listed (s.shows i e.prefix) refl split.1 in
-    joined-after sender i (with_metric s i e.prefix e.metric) t es (listed_with s i e.metric e.prefix listed) (ap (λ (u : State). joined_entries sender i u es) (sym is) ∙ split.2)
+pub joined-after : (net : Network) (i : ℕ) (s t : State) (es : List Entry) → Listed s i → joined_entries net i s es ≡ Ok t → t ≡ after_all s i es
+joined-after net i s t [] listed h = let same : s ≡ t = cc h in sym same
+joined-after net i s t (e ∷ es) listed h =
+    let split = then-split (joined_at net i s e (s.shows i e.prefix)) (λ u. joined_entries net i u es) t h in
+    let is = joined_is net i s split.0 e listed (s.shows i e.prefix) refl split.1 in
+    joined-after net i (with_metric s i e.prefix e.metric) t es (listed_with s i e.metric e.prefix listed) (ap (λ (u : State). joined_entries net i u es) (sym is) ∙ split.2)
 
 heads_with : (w : ℕ) (rows : Rows) (p : Block) (b : Bool) → heads (cond b rows (rows ++ (p, replicate {A = Option ℕ} w None) ∷ [])) ≡ cond b (heads rows) (heads rows ++ p ∷ [])
 heads_with w rows p true = refl
@@ -97,14 +98,14 @@ heads-with_rows w rows [] = refl
 heads-with_rows w rows (e ∷ es) = heads-with_rows w (with_row w rows e.prefix) es ∙ ap (λ (ps : List Block). prefixes_after ps es) (heads_with w rows e.prefix (is_among e.prefix (heads rows)))
 
 -- what was written to the grid is the join
-pub written-is : (sender i w : ℕ) (heard : List Bool) (rows grown new : Rows) (es : List Entry) (t : State) → i < length heard → IsState (grid_state heard rows)
-    → joined_entries sender i (grid_state heard rows) es ≡ Ok t → grown ≡ with_rows w rows es → heads new ≡ heads grown → cell new ≡ shown_after (cell grown) i es
+pub written-is : (net : Network) (i w : ℕ) (heard : List Bool) (rows grown new : Rows) (es : List Entry) (t : State) → i < length heard → IsState (grid_state heard rows)
+    → joined_entries net i (grid_state heard rows) es ≡ Ok t → grown ≡ with_rows w rows es → heads new ≡ heads grown → cell new ≡ shown_after (cell grown) i es
     → grid_state heard new ≡ t
-written-is sender i w heard rows grown new es t lt valid joins grows names cells =
+written-is net i w heard rows grown new es t lt valid joins grows names cells =
     let s = grid_state heard rows in
     let prefixes : heads new ≡ prefixes_after (heads rows) es = names ∙ ap heads grows ∙ heads-with_rows w rows es in
     let shows : cell new ≡ shown_after (cell rows) i es = cells ∙ ap (λ (f : ℕ → Block → Option ℕ). shown_after f i es) (ap cell grows ∙ cells-with_rows w rows es) in
-    let after : t ≡ after_all s i es = joined-after sender i s t es (λ p m h. (valid.shown i m p lt h).listed) joins in
+    let after : t ≡ after_all s i es = joined-after net i s t es (λ p m h. (valid.shown i m p lt h).listed) joins in
     ap (λ (ps : List Block). record { interfaces = length heard; prefixes = ps; shows = cell new; heard = s.heard }) prefixes
     ∙ ap (λ (f : ℕ → Block → Option ℕ). record { interfaces = length heard; prefixes = prefixes_after (heads rows) es; shows = f; heard = s.heard }) shows
     ∙ sym after
@@ -116,9 +117,9 @@ grid_state-heard heard rows i lt =
     ∙ ap (λ (f : ℕ → Bool). record { interfaces = length heard; prefixes = heads rows; shows = cell rows; heard = f }) (heard-with heard i lt)
 
 -- what was taken is the join of the entries
-pub taken-is : (sender i : ℕ) (heard : List Bool) (rows new : Rows) (es : List Entry) → i < length heard → IsState (grid_state heard rows)
-    → (checked : AreFaultless sender i (grid_state heard rows) es) → AreWritten i es rows new → grid_state (set heard i true) new ≡ checked.0
-taken-is sender i heard rows new es lt valid checked written =
+pub taken-is : (net : Network) (i : ℕ) (heard : List Bool) (rows new : Rows) (es : List Entry) → i < length heard → IsState (grid_state heard rows)
+    → (checked : AreFaultless net i (grid_state heard rows) es) → AreWritten i es rows new → grid_state (set heard i true) new ≡ checked.0
+taken-is net i heard rows new es lt valid checked written =
     let same = grid_state-heard heard rows i lt in
     let within : i < length (set heard i true) = rw length-set lt in
-    written (set heard i true) sender checked.0 within (subst IsState (sym same) (heard_valid (grid_state heard rows) i valid)) (ap (λ (s : State). joined_entries sender i s es) same ∙ checked.1)
+    written (set heard i true) net checked.0 within (subst IsState (sym same) (heard_valid (grid_state heard rows) i valid)) (ap (λ (s : State). joined_entries net i s es) same ∙ checked.1)

@@ -22,15 +22,15 @@ blames-cause : (r : Result State TableError) → blames_log (as_cause r) ≡ fal
 blames-cause (Ok s) = refl
 blames-cause (Err e) = refl
 
-blames-from : (sender : ℕ) (s : State) (m : Message) (o : Option ℕ) → blames_log (joined_from sender s m o) ≡ false
-blames-from sender s request None = refl
-blames-from sender s (response es) None = refl
-blames-from sender s request (Some i) = blames-cause (joined_message sender i s request)
-blames-from sender s (response es) (Some i) = blames-cause (joined_message sender i s (response es))
+blames-from : (net : Network) (s : State) (m : Message) (o : Option ℕ) → blames_log (joined_from net s m o) ≡ false
+blames-from net s request None = refl
+blames-from net s (response es) None = refl
+blames-from net s request (Some i) = blames-cause (joined_message net i s request)
+blames-from net s (response es) (Some i) = blames-cause (joined_message net i s (response es))
 
 pub Joins-blame : (n : Network) (old : State) (c : Capture) (new : State) (cause : CollectCause) → Joins n old c new (Err cause) → is_log_cause cause ≡ false
 Joins-blame n old c new (OfLog error) h =
-    let k : blames_log (Err (OfLog error)) ≡ false = subst (λ (r : Result State CollectCause). blames_log r ≡ false) h.1 (blames-from c.sender old (message_of_capture c) (interface_of n c)) in
+    let k : blames_log (Err (OfLog error)) ≡ false = subst (λ (r : Result State CollectCause). blames_log r ≡ false) h.1 (blames-from n old (message_of_capture c) (interface_of n c)) in
     k
 Joins-blame n old c new (Table error) h = refl
 Joins-blame n old c new UnknownSender h = refl

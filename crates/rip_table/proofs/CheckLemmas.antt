@@ -17,12 +17,13 @@ use Rattle.std.proofs.lemmas.List.{take-append-drop}
 use Rattle.rip_table.proofs.Truth.{and-false, and-true, or-false, or-none, or-true}
 use Rattle.rip_table.proofs.Lists.{drop-more, same-is, same-self, is_among-append, is_among-item, take-more}
 use Rattle.rip_table.proofs.NumberLemmas.{metric_among-snoc, number-none, number-some, true-false}
+use Rattle.rip_plan.specs.Network.{Network}
 
 -- the first j entries have no fault, and this is what they make of a table; it has so many prefixes
-pub record Checked (sender i : ℕ) (s : State) (es : List Entry) (j count : ℕ) : Type 0 where
+pub record Checked (net : Network) (i : ℕ) (s : State) (es : List Entry) (j count : ℕ) : Type 0 where
   pub state : State
   pub interfaces : state.interfaces ≡ s.interfaces
-  pub joined : joined_entries sender i (with_heard s i) (take j es) ≡ Ok state
+  pub joined : joined_entries net i (with_heard s i) (take j es) ≡ Ok state
   pub valid : IsState state
   pub shows : (p : Block) → state.shows i p ≡ known_metric s i (take j es) p
   pub among : (p : Block) → is_among p state.prefixes ≡ (is_among p s.prefixes || is_some (metric_among p (take j es)))
@@ -31,8 +32,8 @@ pub record Checked (sender i : ℕ) (s : State) (es : List Entry) (j count : ℕ
 pub heard_valid : (s : State) (i : ℕ) → IsState s → IsState (with_heard s i)
 heard_valid s i v = record { differ = v.differ; few = v.few; shown = λ j m p lt h. let shown = v.shown j m p lt h in record { least = shown.least; most = shown.most; listed = shown.listed } }
 
-pub Checked-start : (sender i : ℕ) (s : State) (es : List Entry) → IsState s → Checked sender i s es 0 (length s.prefixes)
-Checked-start sender i s es valid = record {
+pub Checked-start : (net : Network) (i : ℕ) (s : State) (es : List Entry) → IsState s → Checked net i s es 0 (length s.prefixes)
+Checked-start net i s es valid = record {
   state = with_heard s i;
   interfaces = refl;
   joined = refl;
@@ -43,12 +44,12 @@ Checked-start sender i s es valid = record {
 }
 
 -- some entries, and then others
-pub joined-append : (sender i : ℕ) (s : State) (es fs : List Entry) → joined_entries sender i s (es ++ fs) ≡ and_then (joined_entries sender i s es) (λ t. joined_entries sender i t fs)
-joined-append sender i s [] fs = refl
-joined-append sender i s (e ∷ es) fs = by (joined_at sender i s e (s.shows i e.prefix)) (λ t. joined-append sender i t es fs)
+pub joined-append : (net : Network) (i : ℕ) (s : State) (es fs : List Entry) → joined_entries net i s (es ++ fs) ≡ and_then (joined_entries net i s es) (λ t. joined_entries net i t fs)
+joined-append net i s [] fs = refl
+joined-append net i s (e ∷ es) fs = by (joined_at net i s e (s.shows i e.prefix)) (λ t. joined-append net i t es fs)
   where
-    by : (r : Result State TableError) → ((t : State) → joined_entries sender i t (es ++ fs) ≡ and_then (joined_entries sender i t es) (λ u. joined_entries sender i u fs))
-        → and_then r (λ t. joined_entries sender i t (es ++ fs)) ≡ and_then (and_then r (λ t. joined_entries sender i t es)) (λ u. joined_entries sender i u fs)
+    by : (r : Result State TableError) → ((t : State) → joined_entries net i t (es ++ fs) ≡ and_then (joined_entries net i t es) (λ u. joined_entries net i u fs))
+        → and_then r (λ t. joined_entries net i t (es ++ fs)) ≡ and_then (and_then r (λ t. joined_entries net i t es)) (λ u. joined_entries net i u fs)
     by (Ok t) later = later t
     by (Err e) later = refl
 
@@ -158,11 +159,11 @@ abbrev pub after : Result (Unit {0}) TableError → State → Result State Table
 after (Ok u) s = Ok s
 after (Err f) s = Err f
 
-alone-past : (sender i : ℕ) (t : State) (e : Entry) (n : ℕ) (b : Bool) → nat_lt 2048 n ≡ b → is_past t e.prefix ≡ b → joined_at sender i t e None ≡ after (judged_alone sender e n) (with_metric t i e.prefix e.metric)
-alone-past sender i t e n b lt past =
-    ap (λ (x : Bool). cond (is_foreign sender e) (Err (NextHop e.prefix)) (cond x (Err TooManyPrefixes) (Ok (with_metric t i e.prefix e.metric)))) past
-    ∙ by (is_foreign sender e) b
-    ∙ ap (λ (x : Bool). after (cond (is_foreign sender e) (Err (NextHop e.prefix)) (cond x (Err TooManyPrefixes) (Ok tt))) (with_metric t i e.prefix e.metric)) (sym lt)
+alone-past : (net : Network) (i : ℕ) (t : State) (e : Entry) (n : ℕ) (b : Bool) → nat_lt 2048 n ≡ b → is_past t e.prefix ≡ b → joined_at net i t e None ≡ after (judged_alone (is_foreign net i e) e n) (with_metric t i e.prefix e.metric)
+alone-past net i t e n b lt past =
+    ap (λ (x : Bool). cond (is_foreign net i e) (Err (NextHop e.prefix)) (cond x (Err TooManyPrefixes) (Ok (with_metric t i e.prefix e.metric)))) past
+    ∙ by (is_foreign net i e) b
+    ∙ ap (λ (x : Bool). after (cond (is_foreign net i e) (Err (NextHop e.prefix)) (cond x (Err TooManyPrefixes) (Ok tt))) (with_metric t i e.prefix e.metric)) (sym lt)
   where
     by : (f b : Bool) → ◌≡◌ {A = Result State TableError} (cond f (Err (NextHop e.prefix)) (cond b (Err TooManyPrefixes) (Ok (with_metric t i e.prefix e.metric))))
         (after (cond f (Err (NextHop e.prefix)) (cond b (Err TooManyPrefixes) (Ok tt))) (with_metric t i e.prefix e.metric))
@@ -170,10 +171,10 @@ alone-past sender i t e n b lt past =
     by false true = refl
     by false false = refl
 
-known-at : (sender i : ℕ) (t : State) (e : Entry) (old n : ℕ) → nat_lt 2048 n ≡ false → joined_at sender i t e (Some old) ≡ after (judged sender e (Some old) n) t
-known-at sender i t e old n few =
-    by (not (old == e.metric)) (is_foreign sender e)
-    ∙ ap (λ (x : Bool). after (cond (not (old == e.metric)) (Err (Changed e.prefix old e.metric)) (cond (is_foreign sender e) (Err (NextHop e.prefix)) (cond x (Err TooManyPrefixes) (Ok tt)))) t) (sym few)
+known-at : (net : Network) (i : ℕ) (t : State) (e : Entry) (old n : ℕ) → nat_lt 2048 n ≡ false → joined_at net i t e (Some old) ≡ after (judged (is_foreign net i e) e (Some old) n) t
+known-at net i t e old n few =
+    by (not (old == e.metric)) (is_foreign net i e)
+    ∙ ap (λ (x : Bool). after (cond (not (old == e.metric)) (Err (Changed e.prefix old e.metric)) (cond (is_foreign net i e) (Err (NextHop e.prefix)) (cond x (Err TooManyPrefixes) (Ok tt)))) t) (sym few)
   where
     by : (c f : Bool) → ◌≡◌ {A = Result State TableError} (cond c (Err (Changed e.prefix old e.metric)) (cond f (Err (NextHop e.prefix)) (Ok t)))
         (after (cond c (Err (Changed e.prefix old e.metric)) (cond f (Err (NextHop e.prefix)) (Ok tt))) t)
@@ -181,8 +182,8 @@ known-at sender i t e old n few =
     by false true = refl
     by false false = refl
 
-module _ (sender i : ℕ) (s : State) (es : List Entry) (j count : ℕ) (e : Entry) (number o : Option ℕ)
-    (here : slice_get es j ≡ Some e) (number_is : number ≡ number_of_prefix e.prefix s.prefixes) (o_is : o ≡ known_metric s i (take j es) e.prefix) (ck : Checked sender i s es j count) where
+module _ (net : Network) (i : ℕ) (s : State) (es : List Entry) (j count : ℕ) (e : Entry) (number o : Option ℕ)
+    (here : slice_get es j ≡ Some e) (number_is : number ≡ number_of_prefix e.prefix s.prefixes) (o_is : o ≡ known_metric s i (take j es) e.prefix) (ck : Checked net i s es j count) where
   few_now : count ≤ 2048
   few_now = omega (arith, ck.valid.few, ck.count_is)
 
@@ -190,24 +191,24 @@ module _ (sender i : ℕ) (s : State) (es : List Entry) (j count : ℕ) (e : Ent
   unknown : o ≡ None → is_among e.prefix ck.state.prefixes ≡ not (is_none number)
   unknown none = new-is s ck.state e.prefix (take j es) number number_is (ck.among e.prefix) (nothing (s.shows i e.prefix) (metric_among e.prefix (take j es)) (sym o_is ∙ none)).1
 
-  at_known : (k : Option ℕ) → o ≡ k → joined_at sender i ck.state e k ≡ after (judged sender e k (counted count number (is_some k))) (added ck.state i e k)
-  at_known None is = alone-past sender i ck.state e (counted count number false) (is_past ck.state e.prefix) (past-is ck.state e.prefix count number ck.count_is few_now (unknown is)) refl
-  at_known (Some old) is = known-at sender i ck.state e old (counted count number true) (ap (nat_lt 2048) (known-count count number) ∙ le-ltb 2048 count few_now)
+  at_known : (k : Option ℕ) → o ≡ k → joined_at net i ck.state e k ≡ after (judged (is_foreign net i e) e k (counted count number (is_some k))) (added ck.state i e k)
+  at_known None is = alone-past net i ck.state e (counted count number false) (is_past ck.state e.prefix) (past-is ck.state e.prefix count number ck.count_is few_now (unknown is)) refl
+  at_known (Some old) is = known-at net i ck.state e old (counted count number true) (ap (nat_lt 2048) (known-count count number) ∙ le-ltb 2048 count few_now)
 
   shows_here : ck.state.shows i e.prefix ≡ o
   shows_here = ck.shows e.prefix ∙ sym o_is
 
   -- joining the next entry is judging it
-  pub next-is : joined_at sender i ck.state e (ck.state.shows i e.prefix) ≡ after (judged sender e o (counted count number (is_some o))) (added ck.state i e o)
-  next-is = ap (joined_at sender i ck.state e) shows_here ∙ at_known o refl
+  pub next-is : joined_at net i ck.state e (ck.state.shows i e.prefix) ≡ after (judged (is_foreign net i e) e o (counted count number (is_some o))) (added ck.state i e o)
+  next-is = ap (joined_at net i ck.state e) shows_here ∙ at_known o refl
 
-  pub Checked-fault : (f : TableError) → judged sender e o (counted count number (is_some o)) ≡ Err f → joined_entries sender i (with_heard s i) es ≡ Err f
+  pub Checked-fault : (f : TableError) → judged (is_foreign net i e) e o (counted count number (is_some o)) ≡ Err f → joined_entries net i (with_heard s i) es ≡ Err f
   Checked-fault f h =
-      ap (joined_entries sender i (with_heard s i)) (sym (take-append-drop j es))
-      ∙ joined-append sender i (with_heard s i) (take j es) (drop j es)
-      ∙ ap (λ (r : Result State TableError). and_then r (λ t. joined_entries sender i t (drop j es))) ck.joined
-      ∙ ap (joined_entries sender i ck.state) (drop-more es j e here)
-      ∙ ap (λ (r : Result State TableError). and_then r (λ t. joined_entries sender i t (drop (j + 1) es))) (next-is ∙ ap (λ (r : Result (Unit {0}) TableError). after r (added ck.state i e o)) h)
+      ap (joined_entries net i (with_heard s i)) (sym (take-append-drop j es))
+      ∙ joined-append net i (with_heard s i) (take j es) (drop j es)
+      ∙ ap (λ (r : Result State TableError). and_then r (λ t. joined_entries net i t (drop j es))) ck.joined
+      ∙ ap (joined_entries net i ck.state) (drop-more es j e here)
+      ∙ ap (λ (r : Result State TableError). and_then r (λ t. joined_entries net i t (drop (j + 1) es))) (next-is ∙ ap (λ (r : Result (Unit {0}) TableError). after r (added ck.state i e o)) h)
 
   known_step : (p : Block) → known_metric s i (take (j + 1) es) p ≡ option_or (ck.state.shows i p) (cond (same_prefix p e.prefix) (Some e.metric) None)
   known_step p =
@@ -243,11 +244,11 @@ module _ (sender i : ℕ) (s : State) (es : List Entry) (j count : ℕ) (e : Ent
           is ∙ sym (or-true (is_among p ck.state.prefixes))
       by false h = or-false (is_among p ck.state.prefixes)
 
-  joined_next : (k : Option ℕ) → o ≡ k → judged sender e o (counted count number (is_some o)) ≡ Ok tt → joined_entries sender i (with_heard s i) (take (j + 1) es) ≡ Ok (added ck.state i e k)
+  joined_next : (k : Option ℕ) → o ≡ k → judged (is_foreign net i e) e o (counted count number (is_some o)) ≡ Ok tt → joined_entries net i (with_heard s i) (take (j + 1) es) ≡ Ok (added ck.state i e k)
   joined_next k is h =
-      ap (joined_entries sender i (with_heard s i)) (take-more es j e here)
-      ∙ joined-append sender i (with_heard s i) (take j es) (e ∷ [])
-      ∙ ap (λ (r : Result State TableError). and_then r (λ t. joined_entries sender i t (e ∷ []))) ck.joined
+      ap (joined_entries net i (with_heard s i)) (take-more es j e here)
+      ∙ joined-append net i (with_heard s i) (take j es) (e ∷ [])
+      ∙ ap (λ (r : Result State TableError). and_then r (λ t. joined_entries net i t (e ∷ []))) ck.joined
       ∙ ap (λ (r : Result State TableError). and_then r (λ t. Ok t)) (next-is ∙ ap (λ (r : Result (Unit {0}) TableError). after r (added ck.state i e o)) h)
       ∙ ap (λ (x : Option ℕ). Ok (added ck.state i e x)) is
 
@@ -282,10 +283,10 @@ module _ (sender i : ℕ) (s : State) (es : List Entry) (j count : ℕ) (e : Ent
   count_new (Some k) is new = ap (λ (b : Bool). length (cond b ck.state.prefixes (ck.state.prefixes ++ e.prefix ∷ []))) new ∙ ck.count_is
 
   -- an entry without a fault whose prefix is new has room in the list
-  has_room : o ≡ None → judged sender e o (counted count number (is_some o)) ≡ Ok tt → is_among e.prefix ck.state.prefixes ≡ false → length ck.state.prefixes < 2048
+  has_room : o ≡ None → judged (is_foreign net i e) e o (counted count number (is_some o)) ≡ Ok tt → is_among e.prefix ck.state.prefixes ≡ false → length ck.state.prefixes < 2048
   has_room is h absent =
-      let fine : judged_alone sender e (counted count number false) ≡ Ok tt = ap (λ (x : Option ℕ). judged sender e x (counted count number (is_some x))) (sym is) ∙ h in
-      let few = unpast (is_foreign sender e) (nat_lt 2048 (counted count number false)) fine in
+      let fine : judged_alone (is_foreign net i e) e (counted count number false) ≡ Ok tt = ap (λ (x : Option ℕ). judged (is_foreign net i e) e x (counted count number (is_some x))) (sym is) ∙ h in
+      let few = unpast (is_foreign net i e) (nat_lt 2048 (counted count number false)) fine in
       let past : is_past ck.state e.prefix ≡ false = sym (past-is ck.state e.prefix count number ck.count_is few_now (unknown is)) ∙ few in
       let still : nat_le 2048 (length ck.state.prefixes) ≡ false = left (nat_le 2048 (length ck.state.prefixes)) (ap (λ (b : Bool). nat_le 2048 (length ck.state.prefixes) && not b) (sym absent) ∙ past) in
       leb-false 2048 (length ck.state.prefixes) still
@@ -299,7 +300,7 @@ module _ (sender i : ℕ) (s : State) (es : List Entry) (j count : ℕ) (e : Ent
       left true h = h
       left false h = refl
 
-  next : i < s.interfaces → 1 ≤ e.metric → e.metric ≤ 16 → judged sender e o (counted count number (is_some o)) ≡ Ok tt → (k : Option ℕ) → o ≡ k → Checked sender i s es (j + 1) (counted count number (is_some k))
+  next : i < s.interfaces → 1 ≤ e.metric → e.metric ≤ 16 → judged (is_foreign net i e) e o (counted count number (is_some o)) ≡ Ok tt → (k : Option ℕ) → o ≡ k → Checked net i s es (j + 1) (counted count number (is_some k))
   next lt low high h None is = record {
     state = with_metric ck.state i e.prefix e.metric;
     interfaces = ck.interfaces;
@@ -319,5 +320,5 @@ module _ (sender i : ℕ) (s : State) (es : List Entry) (j count : ℕ) (e : Ent
     count_is = ck.count_is ∙ sym (known-count count number);
   }
 
-  pub Checked-next : i < s.interfaces → 1 ≤ e.metric → e.metric ≤ 16 → judged sender e o (counted count number (is_some o)) ≡ Ok tt → Checked sender i s es (j + 1) (counted count number (is_some o))
+  pub Checked-next : i < s.interfaces → 1 ≤ e.metric → e.metric ≤ 16 → judged (is_foreign net i e) e o (counted count number (is_some o)) ≡ Ok tt → Checked net i s es (j + 1) (counted count number (is_some o))
   Checked-next lt low high h = next lt low high h o refl

@@ -60,12 +60,12 @@ choose : {E : Type 0} (b : Bool) (s : State) (x y : Result State E) → Kept s x
 choose true s x y e f = e
 choose false s x y e f = f
 
-kept-at : (sender i : ℕ) (s : State) (e : Entry) (o : Option ℕ) → Kept s (joined_at sender i s e o)
-kept-at sender i s e (Some old) =
-    choose (not (old == e.metric)) s (Err (Changed e.prefix old e.metric)) (cond (is_foreign sender e) (Err (NextHop e.prefix)) (Ok s)) tt
-    (choose (is_foreign sender e) s (Err (NextHop e.prefix)) (Ok s) tt (GoesOn-same s s refl refl))
-kept-at sender i s e None =
-    choose (is_foreign sender e) s (Err (NextHop e.prefix)) (cond (is_past s e.prefix) (Err TooManyPrefixes) (Ok (with_metric s i e.prefix e.metric))) tt
+kept-at : (net : Network) (i : ℕ) (s : State) (e : Entry) (o : Option ℕ) → Kept s (joined_at net i s e o)
+kept-at net i s e (Some old) =
+    choose (not (old == e.metric)) s (Err (Changed e.prefix old e.metric)) (cond (is_foreign net i e) (Err (NextHop e.prefix)) (Ok s)) tt
+    (choose (is_foreign net i e) s (Err (NextHop e.prefix)) (Ok s) tt (GoesOn-same s s refl refl))
+kept-at net i s e None =
+    choose (is_foreign net i e) s (Err (NextHop e.prefix)) (cond (is_past s e.prefix) (Err TooManyPrefixes) (Ok (with_metric s i e.prefix e.metric))) tt
     (choose (is_past s e.prefix) s (Err TooManyPrefixes) (Ok (with_metric s i e.prefix e.metric)) tt (goes_on_with s i e.prefix e.metric (is_among e.prefix s.prefixes) refl))
 
 kept-then : (s : State) (r : Result State TableError) (f : State → Result State TableError) → Kept s r → ((t : State) → Kept t (f t)) → Kept s (and_then r f)
@@ -76,27 +76,27 @@ kept-then s (Ok t) f e h = on (f t) (h t)
     on (Err x) k = tt
 kept-then s (Err x) f e h = tt
 
-kept-entries : (sender i : ℕ) (s : State) (es : List Entry) → Kept s (joined_entries sender i s es)
-kept-entries sender i s [] = GoesOn-same s s refl refl
-kept-entries sender i s (e ∷ es) = kept-then s (joined_at sender i s e (s.shows i e.prefix)) (λ t. joined_entries sender i t es) (kept-at sender i s e (s.shows i e.prefix)) (λ t. kept-entries sender i t es)
+kept-entries : (net : Network) (i : ℕ) (s : State) (es : List Entry) → Kept s (joined_entries net i s es)
+kept-entries net i s [] = GoesOn-same s s refl refl
+kept-entries net i s (e ∷ es) = kept-then s (joined_at net i s e (s.shows i e.prefix)) (λ t. joined_entries net i t es) (kept-at net i s e (s.shows i e.prefix)) (λ t. kept-entries net i t es)
 
 heard : (s : State) (i : ℕ) (r : Result State TableError) → Kept (with_heard s i) r → Kept s r
 heard s i (Ok t) k = GoesOn-trans s (with_heard s i) t (GoesOn-same s (with_heard s i) refl refl) k
 heard s i (Err e) k = tt
 
-kept-message : (sender i : ℕ) (s : State) (m : Message) → Kept s (joined_message sender i s m)
-kept-message sender i s request = GoesOn-same s s refl refl
-kept-message sender i s (response es) = heard s i (joined_entries sender i (with_heard s i) es) (kept-entries sender i (with_heard s i) es)
+kept-message : (net : Network) (i : ℕ) (s : State) (m : Message) → Kept s (joined_message net i s m)
+kept-message net i s request = GoesOn-same s s refl refl
+kept-message net i s (response es) = heard s i (joined_entries net i (with_heard s i) es) (kept-entries net i (with_heard s i) es)
 
 kept-cause : (s : State) (r : Result State TableError) → Kept s r → Kept s (as_cause r)
 kept-cause s (Ok t) k = k
 kept-cause s (Err e) k = tt
 
-kept-from : (sender : ℕ) (s : State) (m : Message) (o : Option ℕ) → Kept s (joined_from sender s m o)
-kept-from sender s request None = GoesOn-same s s refl refl
-kept-from sender s (response es) None = tt
-kept-from sender s request (Some i) = kept-cause s (joined_message sender i s request) (kept-message sender i s request)
-kept-from sender s (response es) (Some i) = kept-cause s (joined_message sender i s (response es)) (kept-message sender i s (response es))
+kept-from : (net : Network) (s : State) (m : Message) (o : Option ℕ) → Kept s (joined_from net s m o)
+kept-from net s request None = GoesOn-same s s refl refl
+kept-from net s (response es) None = tt
+kept-from net s request (Some i) = kept-cause s (joined_message net i s request) (kept-message net i s request)
+kept-from net s (response es) (Some i) = kept-cause s (joined_message net i s (response es)) (kept-message net i s (response es))
 
 fits_on : (n : Network) (s t : State) → Fits n s → GoesOn s t → Fits n t
 fits_on n s t fits g = record {
@@ -110,16 +110,16 @@ fits_on n s t fits g = record {
 
 pub Fits-joined : (n : Network) (s t : State) (c : Capture) → Fits n s → joined_capture n s c ≡ Ok t → Fits n t
 Fits-joined n s t c fits h =
-    let k : GoesOn s t = subst (Kept s) h (kept-from c.sender s (message_of_capture c) (interface_of n c)) in
+    let k : GoesOn s t = subst (Kept s) h (kept-from n s (message_of_capture c) (interface_of n c)) in
     fits_on n s t fits k
 
 -- a table fits its plan when a message was taken or refused
-pub Fits-taken : (n : Network) (a i : ℕ) (s t : State) (m : Message) (r : Result (Unit {0}) TableError) → Fits n s → Takes a i s m t r → Fits n t
-Fits-taken n a i s t m (Ok u) fits h = fits_on n s t fits (subst (Kept s) h (kept-message a i s m))
-Fits-taken n a i s t m (Err Memory) fits h = subst (Fits n) (sym h.0) fits
-Fits-taken n a i s t m (Err (Changed p x y)) fits h = subst (Fits n) (sym h.0) fits
-Fits-taken n a i s t m (Err (NextHop p)) fits h = subst (Fits n) (sym h.0) fits
-Fits-taken n a i s t m (Err TooManyPrefixes) fits h = subst (Fits n) (sym h.0) fits
+pub Fits-taken : (n : Network) (i : ℕ) (s t : State) (m : Message) (r : Result (Unit {0}) TableError) → Fits n s → Takes n i s m t r → Fits n t
+Fits-taken n i s t m (Ok u) fits h = fits_on n s t fits (subst (Kept s) h (kept-message n i s m))
+Fits-taken n i s t m (Err Memory) fits h = subst (Fits n) (sym h.0) fits
+Fits-taken n i s t m (Err (Changed p x y)) fits h = subst (Fits n) (sym h.0) fits
+Fits-taken n i s t m (Err (NextHop p)) fits h = subst (Fits n) (sym h.0) fits
+Fits-taken n i s t m (Err TooManyPrefixes) fits h = subst (Fits n) (sym h.0) fits
 
 -- the new table of a plan fits it
 pub Fits-new : (n : Network) (s : State) → s ≡ new_state n → Fits n s

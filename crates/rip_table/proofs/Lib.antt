@@ -12,7 +12,7 @@ pub mod NewLemmas
 pub mod RowLemmas
 pub mod CellLemmas
 pub mod AfterLemmas
-pub mod FoundLemmas
+pub mod HopLemmas
 pub mod MakesLemmas
 pub mod MetricLemmas
 pub mod SaidLemmas

@@ -16,6 +16,7 @@ use Rattle.rip_table.proofs.Truth.{both-true, neither-true, or-none, then-split}
 use Rattle.rip_table.proofs.Lists.{same-is}
 use Rattle.rip_table.proofs.TakingLemmas.{heard-with}
 use Rattle.std.proofs.lemmas.Bool.{eqb-true}
+use Rattle.rip_plan.specs.Network.{Network}
 
 -- with one more item at the end
 pub metric_in-snoc : (i : ℕ) (p : Block) (shown : List Shown) (c : Shown) → metric_in i p (shown ++ c ∷ []) ≡ option_or (metric_in i p shown) (cond ((i == c.interface) && same_prefix p c.prefix) (Some c.metric) None)
@@ -52,16 +53,16 @@ state_with heard prefixes shown i m p none =
     (fun_ext (λ j. fun_ext (λ q. shown_with i m p shown none j q)))
 
 -- where an interface showed a prefix before, an entry without a fault adds nothing
-known_at : (sender i : ℕ) (s t : State) (e : Entry) (old : ℕ) → joined_at sender i s e (Some old) ≡ Ok t → s ≡ t
-known_at sender i s t e old h = by (not (old == e.metric)) (is_foreign sender e) h
+known_at : (net : Network) (i : ℕ) (s t : State) (e : Entry) (old : ℕ) → joined_at net i s e (Some old) ≡ Ok t → s ≡ t
+known_at net i s t e old h = by (not (old == e.metric)) (is_foreign net i e) h
   where
     by : (c f : Bool) → cond c (Err (Changed e.prefix old e.metric)) (cond f (Err (NextHop e.prefix)) (Ok s)) ≡ Ok t → s ≡ t
     by true f h = absurd (cc h)
     by false true h = absurd (cc h)
     by false false h = cc h
 
-new_at : (sender i : ℕ) (s t : State) (e : Entry) → joined_at sender i s e None ≡ Ok t → with_metric s i e.prefix e.metric ≡ t
-new_at sender i s t e h = by (is_foreign sender e) (is_past s e.prefix) h
+new_at : (net : Network) (i : ℕ) (s t : State) (e : Entry) → joined_at net i s e None ≡ Ok t → with_metric s i e.prefix e.metric ≡ t
+new_at net i s t e h = by (is_foreign net i e) (is_past s e.prefix) h
   where
     by : (f b : Bool) → cond f (Err (NextHop e.prefix)) (cond b (Err TooManyPrefixes) (Ok (with_metric s i e.prefix e.metric))) ≡ Ok t → with_metric s i e.prefix e.metric ≡ t
     by true b h = absurd (cc h)
@@ -69,34 +70,34 @@ new_at sender i s t e h = by (is_foreign sender e) (is_past s e.prefix) h
     by false false h = cc h
 
 -- one entry after the other
-pub added-joins : (heard : List Bool) (sender i : ℕ) (prefixes new_prefixes : List Block) (shown new_shown : List Shown) (e : Entry) (es : List Entry) (t : State)
+pub added-joins : (heard : List Bool) (net : Network) (i : ℕ) (prefixes new_prefixes : List Block) (shown new_shown : List Shown) (e : Entry) (es : List Entry) (t : State)
     → IsAdded (record { interface = i; prefix = e.prefix; metric = e.metric }) prefixes shown new_prefixes new_shown
-    → joined_entries sender i (list_state heard prefixes shown) (e ∷ es) ≡ Ok t → joined_entries sender i (list_state heard new_prefixes new_shown) es ≡ Ok t
-added-joins heard sender i prefixes new_prefixes shown new_shown e es t added h =
-    let split = then-split (joined_at sender i (list_state heard prefixes shown) e (metric_in i e.prefix shown)) (λ u. joined_entries sender i u es) t h in
-    ap (λ (u : State). joined_entries sender i u es) (by (metric_in i e.prefix shown) refl split.0 split.1) ∙ split.2
+    → joined_entries net i (list_state heard prefixes shown) (e ∷ es) ≡ Ok t → joined_entries net i (list_state heard new_prefixes new_shown) es ≡ Ok t
+added-joins heard net i prefixes new_prefixes shown new_shown e es t added h =
+    let split = then-split (joined_at net i (list_state heard prefixes shown) e (metric_in i e.prefix shown)) (λ u. joined_entries net i u es) t h in
+    ap (λ (u : State). joined_entries net i u es) (by (metric_in i e.prefix shown) refl split.0 split.1) ∙ split.2
   where
-    by : (o : Option ℕ) → metric_in i e.prefix shown ≡ o → (u : State) → joined_at sender i (list_state heard prefixes shown) e o ≡ Ok u → list_state heard new_prefixes new_shown ≡ u
+    by : (o : Option ℕ) → metric_in i e.prefix shown ≡ o → (u : State) → joined_at net i (list_state heard prefixes shown) e o ≡ Ok u → list_state heard new_prefixes new_shown ≡ u
     by (Some m) is u k =
         let same = added.known m is in
-        ap (λ (l : List Block). list_state heard l new_shown) same.0 ∙ ap (list_state heard prefixes) same.1 ∙ known_at sender i (list_state heard prefixes shown) u e m k
+        ap (λ (l : List Block). list_state heard l new_shown) same.0 ∙ ap (list_state heard prefixes) same.1 ∙ known_at net i (list_state heard prefixes shown) u e m k
     by None is u k =
         let more = added.new is in
         ap (λ (l : List Block). list_state heard l new_shown) more.0 ∙ ap (list_state heard (with_prefix e.prefix prefixes)) more.1
-        ∙ sym (state_with heard prefixes shown i e.metric e.prefix is) ∙ new_at sender i (list_state heard prefixes shown) u e k
+        ∙ sym (state_with heard prefixes shown i e.metric e.prefix is) ∙ new_at net i (list_state heard prefixes shown) u e k
 
 -- a response that brings no pair adds nothing
-pub nothing-joins : (sender i : ℕ) (s : State) (es : List Entry) (t : State) → list_any (λ e. is_none (s.shows i e.prefix)) es ≡ false → joined_entries sender i s es ≡ Ok t → s ≡ t
-nothing-joins sender i s [] t none h = cc h
-nothing-joins sender i s (e ∷ es) t none h =
-    let split = then-split (joined_at sender i s e (s.shows i e.prefix)) (λ u. joined_entries sender i u es) t h in
+pub nothing-joins : (net : Network) (i : ℕ) (s : State) (es : List Entry) (t : State) → list_any (λ e. is_none (s.shows i e.prefix)) es ≡ false → joined_entries net i s es ≡ Ok t → s ≡ t
+nothing-joins net i s [] t none h = cc h
+nothing-joins net i s (e ∷ es) t none h =
+    let split = then-split (joined_at net i s e (s.shows i e.prefix)) (λ u. joined_entries net i u es) t h in
     let parts = neither-true (is_none (s.shows i e.prefix)) (list_any (λ d. is_none (s.shows i d.prefix)) es) none in
     let same = here (s.shows i e.prefix) parts.0 split.0 split.1 in
-    nothing-joins sender i s es t parts.1 (ap (λ (u : State). joined_entries sender i u es) same ∙ split.2)
+    nothing-joins net i s es t parts.1 (ap (λ (u : State). joined_entries net i u es) same ∙ split.2)
   where
-    here : (o : Option ℕ) → is_none o ≡ false → (u : State) → joined_at sender i s e o ≡ Ok u → s ≡ u
+    here : (o : Option ℕ) → is_none o ≡ false → (u : State) → joined_at net i s e o ≡ Ok u → s ≡ u
     here None h u k = absurd (cc h)
-    here (Some old) h u k = known_at sender i s u e old k
+    here (Some old) h u k = known_at net i s u e old k
 
 -- marking an interface as heard
 pub list_state-heard : (heard : List Bool) (prefixes : List Block) (shown : List Shown) (i : ℕ) → i < length heard → list_state (set heard i true) prefixes shown ≡ with_heard (list_state heard prefixes shown) i

@@ -3,13 +3,23 @@ use Rattle.std.proofs.Common.{◌≡◌, ℕ, zero, suc, ◌≤◌, List, [], �
 use Rattle.std.specs.List.{slice_get}
 use Rattle.rip_wire.specs.Message.{message_in, response}
 use Rattle.rip_wire.specs.declared.entry.Entry.{Entry}
+use Rattle.rip_plan.specs.Network.{Network, found_at}
+use Rattle.rip_plan.specs.Relations.{IsAt, IsLawful}
 
 abbrev pub AreMetrics : List Entry → Type 0
 AreMetrics es = (k : ℕ) (e : Entry) → slice_get es k ≡ Some e → (1 ≤ e.metric) × (e.metric ≤ 16)
 
--- the law `metric_bounds`
-abbrev pub MetricBounds : Type 0
-MetricBounds = (b : List ℕ) (es : List Entry) → message_in b ≡ Ok (response es) → AreMetrics es
+-- the laws of the crates below: that of the metrics of a datagram, and those of the interface that is
+-- found for a sender
+pub record LowerLaws : Type 0 where
+  pub metrics : (b : List ℕ) (es : List Entry) → message_in b ≡ Ok (response es) → AreMetrics es
+  pub gives : (n : Network) (name : List ℕ) (a i : ℕ) → found_at n name a ≡ Some i → IsAt n name a i
+  pub finds : (n : Network) (name : List ℕ) (a i : ℕ) → IsLawful n → IsAt n name a i → found_at n name a ≡ Some i
+
+pub lower_laws : ((b : List ℕ) (es : List Entry) → message_in b ≡ Ok (response es) → AreMetrics es)
+    → ((n : Network) (name : List ℕ) (a i : ℕ) → found_at n name a ≡ Some i → IsAt n name a i)
+    → ((n : Network) (name : List ℕ) (a i : ℕ) → IsLawful n → IsAt n name a i → found_at n name a ≡ Some i) → LowerLaws
+lower_laws metrics gives finds = record { metrics = metrics; gives = gives; finds = finds }
 
 -- so are those of the first entries
 pub front_metrics : (front rest : List Entry) → AreMetrics (front ++ rest) → AreMetrics front

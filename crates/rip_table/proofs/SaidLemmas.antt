@@ -23,11 +23,10 @@ use Rattle.rip_table.specs.declared.error.CollectCause.{CollectCause}
 use Rattle.rip_table.proofs.Lists.{same-is, same-self}
 use Rattle.rip_table.proofs.NumberLemmas.{number-at, number-none, true-false}
 use Rattle.rip_table.proofs.FitLemmas.{Fits-joined}
-use Rattle.rip_table.proofs.FoundLemmas.{found-IsAt, IsAt-found}
 use Rattle.rip_table.proofs.AfterLemmas.{joined_is, new_among}
 use Rattle.rip_table.proofs.Truth.{then-split}
 use Rattle.rip_table.proofs.CheckLemmas.{heard_valid, valid_with}
-use Rattle.rip_table.proofs.MetricLemmas.{AreMetrics, MetricBounds}
+use Rattle.rip_table.proofs.MetricLemmas.{AreMetrics, LowerLaws}
 use Rattle.rip_table.proofs.MakesLemmas.{Joining, Makes, either_list, front_at, makes_as, makes_both, makes_nothing}
 
 both : (a b : Bool) → (a && b) ≡ true → (a ≡ true) × (b ≡ true)
@@ -104,9 +103,9 @@ makes_one s i m p keeps = record {
 -- ---- one entry
 
 -- an entry that is joined keeps what stands there
-joined_keeps : (sender i : ℕ) (s t : State) (e : Entry) (o : Option ℕ) → joined_at sender i s e o ≡ Ok t → (x : ℕ) → o ≡ Some x → x ≡ e.metric
-joined_keeps sender i s t e None h x is = absurd (cc is)
-joined_keeps sender i s t e (Some old) h x is = by (old == e.metric) refl (is_foreign sender e) h
+joined_keeps : (net : Network) (i : ℕ) (s t : State) (e : Entry) (o : Option ℕ) → joined_at net i s e o ≡ Ok t → (x : ℕ) → o ≡ Some x → x ≡ e.metric
+joined_keeps net i s t e None h x is = absurd (cc is)
+joined_keeps net i s t e (Some old) h x is = by (old == e.metric) refl (is_foreign net i e) h
   where
     by : (c : Bool) → (old == e.metric) ≡ c → (f : Bool) → cond (not c) (Err (Changed e.prefix old e.metric)) (cond f (Err (NextHop e.prefix)) (Ok s)) ≡ Ok t → x ≡ e.metric
     by false test f h = absurd (cc h)
@@ -124,20 +123,20 @@ room false false n false e u t test h absent = below (nat_le 2048 n) refl test
     below false is k = grind (arith, nat_tests)
 
 -- a table stays one
-joined_valid : (sender i : ℕ) (s t : State) (e : Entry) → 1 ≤ e.metric → e.metric ≤ 16 → IsState s → i < s.interfaces → joined_at sender i s e (s.shows i e.prefix) ≡ Ok t → IsState t
-joined_valid sender i s t e least most valid lt h = subst IsState (sym is) (valid_with s i e.metric e.prefix (is_among e.prefix s.prefixes) least most valid refl (here (s.shows i e.prefix) refl h))
+joined_valid : (net : Network) (i : ℕ) (s t : State) (e : Entry) → 1 ≤ e.metric → e.metric ≤ 16 → IsState s → i < s.interfaces → joined_at net i s e (s.shows i e.prefix) ≡ Ok t → IsState t
+joined_valid net i s t e least most valid lt h = subst IsState (sym is) (valid_with s i e.metric e.prefix (is_among e.prefix s.prefixes) least most valid refl (here (s.shows i e.prefix) refl h))
   where
     is : t ≡ with_metric s i e.prefix e.metric
-    is = joined_is sender i s t e (λ p m k. (valid.shown i m p lt k).listed) (s.shows i e.prefix) refl h
+    is = joined_is net i s t e (λ p m k. (valid.shown i m p lt k).listed) (s.shows i e.prefix) refl h
 
-    here : (o : Option ℕ) → s.shows i e.prefix ≡ o → joined_at sender i s e o ≡ Ok t → is_among e.prefix s.prefixes ≡ false → length s.prefixes < 2048
+    here : (o : Option ℕ) → s.shows i e.prefix ≡ o → joined_at net i s e o ≡ Ok t → is_among e.prefix s.prefixes ≡ false → length s.prefixes < 2048
     here (Some old) shows k absent = true-false (is_among e.prefix s.prefixes) (valid.shown i old e.prefix lt shows).listed absent
-    here None shows k absent = room (is_past s e.prefix) (is_among e.prefix s.prefixes) (length s.prefixes) (is_foreign sender e) e (with_metric s i e.prefix e.metric) t refl k absent
+    here None shows k absent = room (is_past s e.prefix) (is_among e.prefix s.prefixes) (length s.prefixes) (is_foreign net i e) e (with_metric s i e.prefix e.metric) t refl k absent
 
-makes_entry : (sender i : ℕ) (s t : State) (e : Entry) → IsState s → i < s.interfaces → joined_at sender i s e (s.shows i e.prefix) ≡ Ok t → Makes (says_one i e.prefix e.metric) never nobody s t
-makes_entry sender i s t e valid lt h =
-    let is = joined_is sender i s t e (λ p m k. (valid.shown i m p lt k).listed) (s.shows i e.prefix) refl h in
-    subst (Makes (says_one i e.prefix e.metric) never nobody s) (sym is) (makes_one s i e.metric e.prefix (λ y k. joined_keeps sender i s t e (s.shows i e.prefix) h y k))
+makes_entry : (net : Network) (i : ℕ) (s t : State) (e : Entry) → IsState s → i < s.interfaces → joined_at net i s e (s.shows i e.prefix) ≡ Ok t → Makes (says_one i e.prefix e.metric) never nobody s t
+makes_entry net i s t e valid lt h =
+    let is = joined_is net i s t e (λ p m k. (valid.shown i m p lt k).listed) (s.shows i e.prefix) refl h in
+    subst (Makes (says_one i e.prefix e.metric) never nobody s) (sym is) (makes_one s i e.metric e.prefix (λ y k. joined_keeps net i s t e (s.shows i e.prefix) h y k))
 
 -- ---- entries
 
@@ -171,20 +170,20 @@ one_more i e es = record {
   heard_split = λ j h. inl h;
 }
 
-pub makes_entries : (sender i : ℕ) (s t : State) (es : List Entry) → AreMetrics es → IsState s → i < s.interfaces → joined_entries sender i s es ≡ Ok t
+pub makes_entries : (net : Network) (i : ℕ) (s t : State) (es : List Entry) → AreMetrics es → IsState s → i < s.interfaces → joined_entries net i s es ≡ Ok t
     → Makes (says_entries i es) earlier nobody s t × IsState t
-makes_entries sender i s t [] metrics valid lt h =
+makes_entries net i s t [] metrics valid lt h =
     let same : s ≡ t = cc h in (
       subst (Makes (says_entries i []) earlier nobody s) same (makes_nothing (says_entries i []) earlier nobody s (λ x j p m says. cc (says.1).1) (λ j k. k)),
       subst IsState same valid,
     )
-makes_entries sender i s t (e ∷ es) metrics valid lt h =
-    let split = then-split (joined_at sender i s e (s.shows i e.prefix)) (λ u. joined_entries sender i u es) t h in
+makes_entries net i s t (e ∷ es) metrics valid lt h =
+    let split = then-split (joined_at net i s e (s.shows i e.prefix)) (λ u. joined_entries net i u es) t h in
     let u = split.0 in
-    let first = makes_entry sender i s u e valid lt split.1 in
-    let bounds = metrics 0 e refl in
-    let valid_here = joined_valid sender i s u e bounds.0 bounds.1 valid lt split.1 in
-    let then = makes_entries sender i u t es (λ k d at. metrics (suc k) d at) valid_here (omega (arith, lt, first.interfaces)) split.2 in (
+    let first = makes_entry net i s u e valid lt split.1 in
+    let below = metrics 0 e refl in
+    let valid_here = joined_valid net i s u e below.0 below.1 valid lt split.1 in
+    let then = makes_entries net i u t es (λ k d at. metrics (suc k) d at) valid_here (omega (arith, lt, first.interfaces)) split.2 in (
       makes_both (says_one i e.prefix e.metric) (says_entries i es) (says_entries i (e ∷ es)) never earlier earlier nobody nobody nobody (one_more i e es) s u t first then.0,
       then.1,
     )
@@ -247,10 +246,10 @@ heard_first i es = record {
   heard_split = λ j h. inl h;
 }
 
-makes_message : (sender i : ℕ) (s t : State) (es : List Entry) → AreMetrics es → IsState s → i < s.interfaces → joined_message sender i s (response es) ≡ Ok t
+makes_message : (net : Network) (i : ℕ) (s t : State) (es : List Entry) → AreMetrics es → IsState s → i < s.interfaces → joined_message net i s (response es) ≡ Ok t
     → MakesState (says_entries i es) earlier (λ j. j ≡ i) s t
-makes_message sender i s t es metrics valid lt h =
-    let then = makes_entries sender i (with_heard s i) t es metrics (heard_valid s i valid) lt h in (
+makes_message net i s t es metrics valid lt h =
+    let then = makes_entries net i (with_heard s i) t es metrics (heard_valid s i valid) lt h in (
       makes_both silent (says_entries i es) (says_entries i es) no_order earlier earlier (λ j. j ≡ i) nobody (λ j. j ≡ i) (heard_first i es) s (with_heard s i) t (makes_heard s i) then.0,
       then.1,
     )
@@ -262,9 +261,9 @@ says_nothing n c s t none valid same =
     subst (MakesState (says_capture n c) earlier (hears_capture n c) s) same
     (makes_nothing (says_capture n c) earlier (hears_capture n c) s (λ k j p m h. none h.0 (h.1).says) (λ j h. none h.0 (h.1).says), valid)
 
-from_request : (sender : ℕ) (s t : State) (o : Option ℕ) → joined_from sender s request o ≡ Ok t → s ≡ t
-from_request sender s t None h = cc h
-from_request sender s t (Some i) h = cc h
+from_request : (net : Network) (s t : State) (o : Option ℕ) → joined_from net s request o ≡ Ok t → s ≡ t
+from_request net s t None h = cc h
+from_request net s t (Some i) h = cc h
 
 from_cause : (r : Result State TableError) (t : State) → as_cause r ≡ Ok t → r ≡ Ok t
 from_cause (Ok u) t h = let same : u ≡ t = cc h in ap (λ (x : State). Ok x) same
@@ -272,45 +271,45 @@ from_cause (Err e) t h = absurd (cc h)
 
 -- an interface of the plan has a number below their count
 pub interface_below : (n : Network) (s : State) (name : List ℕ) (a i : ℕ) → Fits n s → IsAt n name a i → i < s.interfaces
-interface_below n s name a i fits at = omega (arith, fits.interfaces, slice_get_within n.interfaces i _ (at.2).listed)
+interface_below n s name a i fits at = omega (arith, fits.interfaces, slice_get_within n.interfaces i (at.2).1.interface (at.2).1.listed)
 
 -- one response is of one interface
-pub same_interface : (n : Network) (c : Capture) (i j : ℕ) → IsLawful n → interface_of n c ≡ Some i → IsAt n c.link c.sender j → j ≡ i
-same_interface n c i j lawful found at = let same : Some j ≡ Some i = sym (IsAt-found n c.link c.sender j lawful at) ∙ found in cc same
+pub same_interface : (below : LowerLaws) (n : Network) (c : Capture) (i j : ℕ) → IsLawful n → interface_of n c ≡ Some i → IsAt n c.link c.sender j → j ≡ i
+same_interface below n c i j lawful found at = let same : Some j ≡ Some i = sym (below.finds n c.link c.sender j lawful at) ∙ found in cc same
 
 pub same_entries : (c : Capture) (es fs : List Entry) → message_in c.datagram ≡ Ok (response es) → message_in c.datagram ≡ Ok (response fs) → es ≡ fs
 same_entries c es fs h k = let same : ◌≡◌ {A = Result Message WireError} (Ok (response es)) (Ok (response fs)) = sym h ∙ k in cc same
 
-says_response : (n : Network) (s t : State) (c : Capture) (i : ℕ) (es : List Entry) → IsLawful n → message_in c.datagram ≡ Ok (response es) → interface_of n c ≡ Some i
+says_response : (below : LowerLaws) (n : Network) (s t : State) (c : Capture) (i : ℕ) (es : List Entry) → IsLawful n → message_in c.datagram ≡ Ok (response es) → interface_of n c ≡ Some i
     → MakesState (says_entries i es) earlier (λ j. j ≡ i) s t → MakesState (says_capture n c) earlier (hears_capture n c) s t
-says_response n s t c i es lawful says found made = (
+says_response below n s t c i es lawful says found made = (
   makes_as (says_entries i es) (says_capture n c) earlier (λ j. j ≡ i) (hears_capture n c) s t
       (λ k j p m h. (es, response_of j h.0, h.1))
-      (λ k j p m h. (same_interface n c i j lawful found (h.1).from, subst (λ (fs : List Entry). HasEntry fs k p m) (same_entries c h.0 es (h.1).says says) h.2))
+      (λ k j p m h. (same_interface below n c i j lawful found (h.1).from, subst (λ (fs : List Entry). HasEntry fs k p m) (same_entries c h.0 es (h.1).says says) h.2))
       (λ j h. (es, response_of j h))
-      (λ j h. same_interface n c i j lawful found (h.1).from)
+      (λ j h. same_interface below n c i j lawful found (h.1).from)
       made.0,
   made.1,
 )
   where
     response_of : (j : ℕ) → j ≡ i → IsResponse n c j es
-    response_of j same = record { from = found-IsAt n c.link c.sender j (found ∙ ap (λ (k : ℕ). Some k) (sym same)); says = says }
+    response_of j same = record { from = below.gives n c.link c.sender j (found ∙ ap (λ (k : ℕ). Some k) (sym same)); says = says }
 
-pub makes_capture : (bounds : MetricBounds) (n : Network) (s t : State) (c : Capture) → IsLawful n → IsState s → Fits n s → joined_capture n s c ≡ Ok t
+pub makes_capture : (below : LowerLaws) (n : Network) (s t : State) (c : Capture) → IsLawful n → IsState s → Fits n s → joined_capture n s c ≡ Ok t
     → MakesState (says_capture n c) earlier (hears_capture n c) s t
-makes_capture bounds n s t c lawful valid fits h = by (message_in c.datagram) refl (interface_of n c) refl h
+makes_capture below n s t c lawful valid fits h = by (message_in c.datagram) refl (interface_of n c) refl h
   where
-    by : (m : Result Message WireError) → message_in c.datagram ≡ m → (o : Option ℕ) → interface_of n c ≡ o → joined_from c.sender s (message_or_request m) o ≡ Ok t
+    by : (m : Result Message WireError) → message_in c.datagram ≡ m → (o : Option ℕ) → interface_of n c ≡ o → joined_from n s (message_or_request m) o ≡ Ok t
         → MakesState (says_capture n c) earlier (hears_capture n c) s t
     by (Err e) is o found k =
-        says_nothing n c s t (λ es r. let clash : ◌≡◌ {A = Result Message WireError} (Err e) (Ok (response es)) = sym is ∙ r in cc clash) valid (from_request c.sender s t o k)
+        says_nothing n c s t (λ es r. let clash : ◌≡◌ {A = Result Message WireError} (Err e) (Ok (response es)) = sym is ∙ r in cc clash) valid (from_request n s t o k)
     by (Ok request) is o found k =
-        says_nothing n c s t (λ es r. let clash : ◌≡◌ {A = Result Message WireError} (Ok request) (Ok (response es)) = sym is ∙ r in cc clash) valid (from_request c.sender s t o k)
+        says_nothing n c s t (λ es r. let clash : ◌≡◌ {A = Result Message WireError} (Ok request) (Ok (response es)) = sym is ∙ r in cc clash) valid (from_request n s t o k)
     by (Ok (response es)) is None found k = absurd (cc k)
     by (Ok (response es)) is (Some i) found k =
-        let lt = interface_below n s c.link c.sender i fits (found-IsAt n c.link c.sender i found) in
-        says_response n s t c i es lawful is found
-        (makes_message c.sender i s t es (bounds c.datagram es is) valid lt (from_cause (joined_message c.sender i s (response es)) t k))
+        let lt = interface_below n s c.link c.sender i fits (below.gives n c.link c.sender i found) in
+        says_response below n s t c i es lawful is found
+        (makes_message n i s t es (below.metrics c.datagram es is) valid lt (from_cause (joined_message n i s (response es)) t k))
 
 -- ---- a log
 
@@ -352,17 +351,17 @@ pub log_then : (r : Result State CollectCause) (f : State → Result State Colle
 log_then (Ok u) f t h = (u, refl, h)
 log_then (Err e) f t h = absurd (cc h)
 
-pub makes_log : (bounds : MetricBounds) (n : Network) (s t : State) (log : List Numbered) → IsLawful n → IsState s → Fits n s → joined_records n s log ≡ Ok t
+pub makes_log : (below : LowerLaws) (n : Network) (s t : State) (log : List Numbered) → IsLawful n → IsState s → Fits n s → joined_records n s log ≡ Ok t
     → MakesState (says_log n log) before_log (HasUpdate n log) s t
-makes_log bounds n s t [] lawful valid fits h =
+makes_log below n s t [] lawful valid fits h =
     let same : s ≡ t = cc h in
     subst (MakesState (says_log n []) before_log (HasUpdate n []) s) same
     (makes_nothing (says_log n []) before_log (HasUpdate n []) s (λ z j p m k. cc (k.1).1) (λ j k. cc (k.2).1), valid)
-makes_log bounds n s t (r ∷ log) lawful valid fits h =
+makes_log below n s t (r ∷ log) lawful valid fits h =
     let split = log_then (joined_capture n s r.capture) (λ u. joined_records n u log) t h in
     let u = split.0 in
-    let first = makes_capture bounds n s u r.capture lawful valid fits split.1 in
-    let then = makes_log bounds n u t log lawful first.1 (Fits-joined n s u r.capture fits split.1) split.2 in (
+    let first = makes_capture below n s u r.capture lawful valid fits split.1 in
+    let then = makes_log below n u t log lawful first.1 (Fits-joined n s u r.capture fits split.1) split.2 in (
       makes_both (says_capture n r.capture) (says_log n log) (says_log n (r ∷ log)) earlier before_log before_log (hears_capture n r.capture) (HasUpdate n log) (HasUpdate n (r ∷ log)) (record_first n r log) s u t first.0 then.0,
       then.1,
     )

@@ -13,7 +13,7 @@ use Rattle.rip_table.specs.declared.error.CollectCause.TheVariants.{Table}
 use Rattle.rip_table.specs.declared.error.TableError.TheVariants.{Changed}
 use Rattle.rip_table.proofs.CheckLemmas.{heard_valid}
 use Rattle.rip_table.proofs.MakesLemmas.{either_list}
-use Rattle.rip_table.proofs.MetricLemmas.{MetricBounds}
+use Rattle.rip_table.proofs.MetricLemmas.{LowerLaws}
 use Rattle.rip_table.proofs.OneJoin.{differ_others, log_lists, new_named}
 use Rattle.rip_table.proofs.RefusedLemmas.{entries_joined, is_joined, outcome_is}
 use Rattle.rip_table.proofs.SaidLemmas.{fits_log, interface_below, join_made, makes_log, same_entries}
@@ -73,17 +73,17 @@ new_prefix n old new r i e valid join response none = (
           | inr at ↦ only_item join.others e.prefix (differ_others (IsNamed n (r ∷ [])) old.prefixes new.prefixes (log_lists n old new (r ∷ []) valid join)) all at.0 at.2
         ]
 
-pub changed_metric : (bounds : MetricBounds) (n : Network) (old s : State) (first second : Numbered) (log : Log) (rest : List Numbered) (i : ℕ) (e f : Entry) → IsLawful n → IsState old → Fits n old
+pub changed_metric : (below : LowerLaws) (n : Network) (old s : State) (first second : Numbered) (log : Log) (rest : List Numbered) (i : ℕ) (e f : Entry) → IsLawful n → IsState old → Fits n old
     → log.records ≡ first ∷ second ∷ rest → joined_records n old (first ∷ []) ≡ Ok s → IsResponse n first.capture i (e ∷ []) → IsResponse n second.capture i (f ∷ [])
     → e.prefix ≡ f.prefix → e.metric ≢ f.metric
     → outcome n old log ≡ record { state = s; fault = Some (record { line = second.line; cause = Table (Changed f.prefix e.metric f.metric) }) }
-changed_metric bounds n old s first second log rest i e f lawful valid fits records joined response again same differ =
-    outcome_is bounds n old lawful valid fits log s (Some (record { line = second.line; cause = Table (Changed f.prefix e.metric f.metric) })) (inl (record {
+changed_metric below n old s first second log rest i e f lawful valid fits records joined response again same differ =
+    outcome_is below n old lawful valid fits log s (Some (record { line = second.line; cause = Table (Changed f.prefix e.metric f.metric) })) (inl (record {
       before = first ∷ [];
       capture = second.capture;
       after = rest;
       split = records;
-      joined = is_joined bounds n old lawful valid fits (first ∷ []) s joined;
+      joined = is_joined below n old lawful valid fits (first ∷ []) s joined;
       refused = record {
         interface = i;
         front = [];
@@ -91,13 +91,13 @@ changed_metric bounds n old s first second log rest i e f lawful valid fits reco
         rest = [];
         response = again;
         state = with_heard s i;
-        joined = entries_joined second.capture.sender i (with_heard s i) (with_heard s i) [] (λ k d at. cc at) (heard_valid s i (makes_log bounds n old s (first ∷ []) lawful valid fits joined).1) lt refl;
+        joined = entries_joined n i (with_heard s i) (with_heard s i) [] (λ k d at. cc at) (heard_valid s i (makes_log below n old s (first ∷ []) lawful valid fits joined).1) lt refl;
         bad = record { prefix = refl; stands = ap (s.shows i) (sym same) ∙ shown; metric = refl; differ = differ };
       };
     }))
   where
     join : IsJoin n old (first ∷ []) s
-    join = join_made n old s (first ∷ []) (makes_log bounds n old s (first ∷ []) lawful valid fits joined).0
+    join = join_made n old s (first ∷ []) (makes_log below n old s (first ∷ []) lawful valid fits joined).0
 
     lt : i < s.interfaces
     lt = interface_below n s first.capture.link first.capture.sender i (fits_log n old s (first ∷ []) fits joined) response.from

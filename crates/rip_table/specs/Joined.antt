@@ -1,10 +1,14 @@
 -- What entries, datagrams, records and logs make of a table: the definitions that compute.
-use Rattle.std.specs.Prelude.{◌≡◌, ℕ, ◌==◌, nat_le, nat_lt, Bool, true, false, ◌&&◌, ◌||◌, not, if◌then◌else◌, List, [], ◌∷◌, length, Option, Some, None, is_none, is_ok, Result, Ok, Err}
+use Rattle.std.specs.Prelude.{◌≡◌, ℕ, ◌==◌, nat_le, nat_lt, Bool, true, false, ◌&&◌, ◌||◌, not, if◌then◌else◌, List, [], ◌∷◌, length, Option, Some, None, is_none, is_ok, Result, Ok, Err, slice_get}
 use Rattle.std.specs.List.{list_any}
+use Rattle.std.specs.Option.{option_map_or}
 use Rattle.rip_wire.specs.Prefix.{Block}
 use Rattle.rip_wire.specs.Message.{Message, request, response, message_in}
 use Rattle.rip_wire.specs.Datagram.{message_or_request}
 use Rattle.rip_wire.specs.declared.entry.Entry.{Entry}
+use Rattle.rip_plan.specs.declared.parts.Place.{Place}
+use Rattle.rip_plan.specs.declared.parts.Seat.{Seat}
+use Rattle.rip_plan.specs.declared.parts.Seat.TheVariants.{Link, Own}
 use Rattle.rip_plan.specs.Network.{Network, found_at}
 use Rattle.rip_plan.specs.Passes.{same_prefix}
 use Rattle.rip_log.specs.Lines.{Capture}
@@ -32,23 +36,47 @@ with_metric s i p m = record {
 abbrev pub with_heard : State → ℕ → State
 with_heard s i = record s { heard = λ j. if j == i then true else s.heard j }
 
--- a route below 16 by another next hop than the sender, for which 0.0.0.0 stands too (RFC 2453,
--- 4.4)
-abbrev pub is_foreign : ℕ → Entry → Bool
-is_foreign sender e = nat_lt e.metric 16 && not ((e.next_hop == 0) || (e.next_hop == sender))
+-- the interface has the address, its own or a further one
+abbrev pub holds_address : Network → ℕ → ℕ → Bool
+holds_address n i a =
+    option_map_or (λ x. option_map_or (λ also. list_any (λ b. b == a) (x.address ∷ also))
+    (slice_get n.also i) false) (slice_get n.interfaces i) false
+
+-- the seat is with the router, with this gateway
+abbrev pub has_gateway : ℕ → ℕ → Seat → Bool
+has_gateway r a (Link l) = false
+has_gateway r a (Own owner c kept link via) = (owner == r) && option_map_or (λ b. b == a) via false
+
+-- the place is the prefix as the router's own, with this gateway
+abbrev pub is_gateway : Network → ℕ → Block → ℕ → Place → Bool
+is_gateway n r p a q =
+    has_gateway r a q.seat && option_map_or (same_prefix p) (slice_get n.prefixes q.prefix) false
+
+-- the router of the interface has this gateway for the prefix
+abbrev pub knows_gateway : Network → ℕ → Block → ℕ → Bool
+knows_gateway n i p a =
+    option_map_or (λ x. list_any (is_gateway n x.router p a) n.places) (slice_get n.interfaces i) false
+
+-- a next hop that interface i may tell of the prefix
+abbrev pub may_tell : Network → ℕ → Block → ℕ → Bool
+may_tell n i p a = (a == 0) || (holds_address n i a || knows_gateway n i p a)
+
+-- a route below 16 by another next hop (RFC 2453, 4.4)
+abbrev pub is_foreign : Network → ℕ → Entry → Bool
+is_foreign n i e = nat_lt e.metric 16 && not (may_tell n i e.prefix e.next_hop)
 
 -- the prefix is new, and there are as many as a table may have
 abbrev pub is_past : State → Block → Bool
 is_past s p = nat_le MOST_PREFIXES (length s.prefixes) && not (is_among p s.prefixes)
 
--- one entry of a sender, where this metric or none stands at its place
-abbrev pub joined_at : ℕ → ℕ → State → Entry → Option ℕ → Result State TableError
-joined_at sender i s e (Some old) =
+-- one entry of interface i, where this metric or none stands at its place
+abbrev pub joined_at : Network → ℕ → State → Entry → Option ℕ → Result State TableError
+joined_at n i s e (Some old) =
     if not (old == e.metric) then Err (Changed e.prefix old e.metric)
-    else if is_foreign sender e then Err (NextHop e.prefix)
+    else if is_foreign n i e then Err (NextHop e.prefix)
     else Ok s
-joined_at sender i s e None =
-    if is_foreign sender e then Err (NextHop e.prefix)
+joined_at n i s e None =
+    if is_foreign n i e then Err (NextHop e.prefix)
     else if is_past s e.prefix then Err TooManyPrefixes
     else Ok (with_metric s i e.prefix e.metric)
 
@@ -58,16 +86,16 @@ abbrev pub and_then : {E : Type 0} → Result State E → (State → Result Stat
 and_then (Ok s) f = f s
 and_then (Err e) f = Err e
 
--- the entries of a sender at an interface, one after the other
-abbrev pub joined_entries : ℕ → ℕ → State → List Entry → Result State TableError
-joined_entries sender i s [] = Ok s
-joined_entries sender i s (e ∷ es) =
-    and_then (joined_at sender i s e (s.shows i e.prefix)) (λ t. joined_entries sender i t es)
+-- the entries of an interface, one after the other
+abbrev pub joined_entries : Network → ℕ → State → List Entry → Result State TableError
+joined_entries n i s [] = Ok s
+joined_entries n i s (e ∷ es) =
+    and_then (joined_at n i s e (s.shows i e.prefix)) (λ t. joined_entries n i t es)
 
--- a message of a sender at an interface; a request adds nothing
-abbrev pub joined_message : ℕ → ℕ → State → Message → Result State TableError
-joined_message sender i s request = Ok s
-joined_message sender i s (response es) = joined_entries sender i (with_heard s i) es
+-- a message of an interface; a request adds nothing
+abbrev pub joined_message : Network → ℕ → State → Message → Result State TableError
+joined_message n i s request = Ok s
+joined_message n i s (response es) = joined_entries n i (with_heard s i) es
 
 -- some entry is of a prefix that the interface did not show
 abbrev pub brings_pair : ℕ → State → Message → Bool
@@ -75,20 +103,21 @@ brings_pair i s request = false
 brings_pair i s (response es) = list_any (λ e. is_none (s.shows i e.prefix)) es
 
 -- a response without a bad entry that brings a pair of interface and prefix: it may want memory
-pub record Wants (sender i : ℕ) (s : State) (m : Message) : Type 0 where
-  pub good : is_ok (joined_message sender i s m) ≡ true
+pub record Wants (n : Network) (i : ℕ) (s : State) (m : Message) : Type 0 where
+  pub good : is_ok (joined_message n i s m) ≡ true
   pub brings : brings_pair i s m ≡ true
 
 -- what `take` answers and leaves
-abbrev pub Takes : ℕ → ℕ → State → Message → State → Result (Unit {0}) TableError → Type 0
-Takes sender i old m new (Ok u) = joined_message sender i old m ≡ Ok new
-Takes sender i old m new (Err Memory) = (new ≡ old) × Wants sender i old m
-Takes sender i old m new (Err (Changed p x y)) =
-    (new ≡ old) × (joined_message sender i old m ≡ Err (Changed p x y))
-Takes sender i old m new (Err (NextHop p)) =
-    (new ≡ old) × (joined_message sender i old m ≡ Err (NextHop p))
-Takes sender i old m new (Err TooManyPrefixes) =
-    (new ≡ old) × (joined_message sender i old m ≡ Err TooManyPrefixes)
+abbrev pub Takes
+    : Network → ℕ → State → Message → State → Result (Unit {0}) TableError → Type 0
+Takes n i old m new (Ok u) = joined_message n i old m ≡ Ok new
+Takes n i old m new (Err Memory) = (new ≡ old) × Wants n i old m
+Takes n i old m new (Err (Changed p x y)) =
+    (new ≡ old) × (joined_message n i old m ≡ Err (Changed p x y))
+Takes n i old m new (Err (NextHop p)) =
+    (new ≡ old) × (joined_message n i old m ≡ Err (NextHop p))
+Takes n i old m new (Err TooManyPrefixes) =
+    (new ≡ old) × (joined_message n i old m ≡ Err TooManyPrefixes)
 
 -- ---- a record
 
@@ -96,12 +125,12 @@ abbrev pub as_cause : Result State TableError → Result State CollectCause
 as_cause (Ok s) = Ok s
 as_cause (Err e) = Err (Table e)
 
--- a message of a sender at its interface; where it has none, a response is refused and a request
+-- a message of the interface that sent it; where there is none, a response is refused and a request
 -- passed over
-abbrev pub joined_from : ℕ → State → Message → Option ℕ → Result State CollectCause
-joined_from sender s request None = Ok s
-joined_from sender s (response es) None = Err UnknownSender
-joined_from sender s m (Some i) = as_cause (joined_message sender i s m)
+abbrev pub joined_from : Network → State → Message → Option ℕ → Result State CollectCause
+joined_from n s request None = Ok s
+joined_from n s (response es) None = Err UnknownSender
+joined_from n s m (Some i) = as_cause (joined_message n i s m)
 
 -- the message of a capture
 abbrev pub message_of_capture : Capture → Message
@@ -113,15 +142,15 @@ interface_of n c = found_at n c.link c.sender
 
 -- what one record makes of a table
 abbrev pub joined_capture : Network → State → Capture → Result State CollectCause
-joined_capture n s c = joined_from c.sender s (message_of_capture c) (interface_of n c)
+joined_capture n s c = joined_from n s (message_of_capture c) (interface_of n c)
 
 -- a record may want memory
-abbrev pub WantsAt : ℕ → State → Message → Option ℕ → Type 0
-WantsAt sender s m None = ⊥
-WantsAt sender s m (Some i) = Wants sender i s m
+abbrev pub WantsAt : Network → State → Message → Option ℕ → Type 0
+WantsAt n s m None = ⊥
+WantsAt n s m (Some i) = Wants n i s m
 
 abbrev pub WantsFor : Network → State → Capture → Type 0
-WantsFor n s c = WantsAt c.sender s (message_of_capture c) (interface_of n c)
+WantsFor n s c = WantsAt n s (message_of_capture c) (interface_of n c)
 
 abbrev pub is_memory : CollectCause → Bool
 is_memory (Table Memory) = true

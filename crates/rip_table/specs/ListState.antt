@@ -6,6 +6,7 @@ use Rattle.rip_wire.specs.declared.entry.Entry.{Entry}
 use Rattle.rip_table.specs.State.{State, with_prefix}
 use Rattle.rip_table.specs.Joined.{joined_entries}
 use Rattle.rip_table.specs.declared.list.shown.Shown.{Shown}
+use Rattle.rip_plan.specs.Network.{Network}
 
 -- the first metric of an interface and a prefix
 abbrev pub metric_in : ℕ → Block → List Shown → Option ℕ
@@ -31,6 +32,6 @@ pub record IsAdded (c : Shown) (prefixes : List Block) (shown : List Shown)
 -- what the entries show was added, whose join is a table
 abbrev pub AreAdded : ℕ → List Entry → List Block → List Shown → List Block → List Shown → Type 0
 AreAdded i entries prefixes shown new_prefixes new_shown =
-    (heard : List Bool) (sender : ℕ) (t : State)
-    → joined_entries sender i (list_state heard prefixes shown) entries ≡ Ok t
+    (heard : List Bool) (n : Network) (t : State)
+    → joined_entries n i (list_state heard prefixes shown) entries ≡ Ok t
     → list_state heard new_prefixes new_shown ≡ t

@@ -5,7 +5,7 @@ use Rattle.rip_wire.specs.Prefix.{Block}
 use Rattle.rip_wire.specs.Message.{response, message_in}
 use Rattle.rip_wire.specs.declared.entry.Entry.{Entry}
 use Rattle.rip_plan.specs.Network.{Network}
-use Rattle.rip_plan.specs.Relations.{IsAt}
+use Rattle.rip_plan.specs.Relations.{HasAddress, IsAt, IsGateway, IsInterface, IsPrefix}
 use Rattle.rip_log.specs.Lines.{Capture}
 use Rattle.rip_log.specs.Logs.{Log, Numbered}
 use Rattle.rip_log.specs.declared.error.LogError.{LogError}
@@ -108,12 +108,19 @@ pub record AreTaken (i : ℕ) (old : State) (entries : List Entry) (new : State)
 abbrev pub KeepsMetric : State → ℕ → Entry → Type 0
 KeepsMetric s i e = (x : ℕ) → s.shows i e.prefix ≡ Some x → x ≡ e.metric
 
--- an entry is a route below 16 by another router than the sender, for which 0.0.0.0 stands too (RFC
--- 2453, 4.4)
-pub record IsElsewhere (sender : ℕ) (e : Entry) : Type 0 where
+-- a is a gateway of the prefix for the router of interface i
+abbrev pub KnowsGateway : Network → ℕ → Block → ℕ → Type 0
+KnowsGateway n i p a =
+    (r l c k : ℕ) × IsInterface n i r l c × IsPrefix n k p × IsGateway n r k a
+
+-- an entry of interface i is a route below 16 by a next hop that is neither 0.0.0.0, which stands for
+-- the sender (RFC 2453, 4.4), nor an address of the interface, nor a gateway of its router for the
+-- prefix
+pub record IsElsewhere (n : Network) (i : ℕ) (e : Entry) : Type 0 where
   pub reachable : e.metric < 16
   pub unspecified : e.next_hop ≢ 0
-  pub other : e.next_hop ≢ sender
+  pub other : (l : ℕ) → HasAddress n i l e.next_hop → ⊥
+  pub no_gateway : KnowsGateway n i e.prefix e.next_hop → ⊥
 
 -- an entry changes the metric that its interface showed
 pub record IsChange (s : State) (i : ℕ) (e : Entry) (p : Block) (old new : ℕ) : Type 0 where
@@ -122,40 +129,40 @@ pub record IsChange (s : State) (i : ℕ) (e : Entry) (p : Block) (old new : ℕ
   pub metric : new ≡ e.metric
   pub differ : old ≢ new
 
--- an entry that changes nothing is a route below 16 by another router
-pub record IsByAnother (s : State) (i sender : ℕ) (e : Entry) (p : Block) : Type 0 where
+-- an entry that changes nothing is a route below 16 by another next hop
+pub record IsByAnother (n : Network) (s : State) (i : ℕ) (e : Entry) (p : Block) : Type 0 where
   pub prefix : p ≡ e.prefix
   pub keeps : KeepsMetric s i e
-  pub elsewhere : IsElsewhere sender e
+  pub elsewhere : IsElsewhere n i e
 
 -- another entry is of one prefix too many: it is new, and there are as many as a table may have
-pub record IsTooMany (s : State) (i sender : ℕ) (e : Entry) : Type 0 where
+pub record IsTooMany (n : Network) (s : State) (i : ℕ) (e : Entry) : Type 0 where
   pub keeps : KeepsMetric s i e
-  pub here : IsElsewhere sender e → ⊥
+  pub here : IsElsewhere n i e → ⊥
   pub new : IsListed s e.prefix → ⊥
   pub full : MOST_PREFIXES ≤ length s.prefixes
 
 -- an entry of interface i is bad, where this is the table before it: the first that applies of a
 -- change, a next hop elsewhere and too many prefixes
-abbrev pub IsBadEntry : ℕ → ℕ → State → Entry → TableError → Type 0
-IsBadEntry sender i s e (Changed p old new) = IsChange s i e p old new
-IsBadEntry sender i s e (NextHop p) = IsByAnother s i sender e p
-IsBadEntry sender i s e TooManyPrefixes = IsTooMany s i sender e
-IsBadEntry sender i s e Memory = ⊥
+abbrev pub IsBadEntry : Network → ℕ → State → Entry → TableError → Type 0
+IsBadEntry n i s e (Changed p old new) = IsChange s i e p old new
+IsBadEntry n i s e (NextHop p) = IsByAnother n s i e p
+IsBadEntry n i s e TooManyPrefixes = IsTooMany n s i e
+IsBadEntry n i s e Memory = ⊥
 
 -- no entry of these is bad, where the table before it is what those before it make
-abbrev pub AreGood : ℕ → ℕ → State → List Entry → Type 0
-AreGood sender i old entries =
+abbrev pub AreGood : Network → ℕ → State → List Entry → Type 0
+AreGood n i old entries =
     (front rest : List Entry) (e : Entry) (s : State) (error : TableError)
     → entries ≡ front ++ e ∷ rest → AreTaken i old front s → IsState s
-    → IsBadEntry sender i s e error → ⊥
+    → IsBadEntry n i s e error → ⊥
 
 -- entries of interface i are joined into this table: they make it, and none of them is bad
-pub record AreJoined (sender i : ℕ) (old : State) (entries : List Entry)
+pub record AreJoined (n : Network) (i : ℕ) (old : State) (entries : List Entry)
     (new : State) : Type 0 where
   pub taken : AreTaken i old entries new
   pub state : IsState new
-  pub good : AreGood sender i old entries
+  pub good : AreGood n i old entries
 
 -- the first bad entry of a response
 pub record HasBadEntry (n : Network) (s : State) (c : Capture) (error : TableError) : Type 0 where
@@ -166,8 +173,8 @@ pub record HasBadEntry (n : Network) (s : State) (c : Capture) (error : TableErr
   pub response : IsResponse n c interface (front ++ entry ∷ rest)
   -- the entries before it are joined into this table
   pub state : State
-  pub joined : AreJoined c.sender interface (with_heard s interface) front state
-  pub bad : IsBadEntry c.sender interface state entry error
+  pub joined : AreJoined n interface (with_heard s interface) front state
+  pub bad : IsBadEntry n interface state entry error
 
 -- a response that no interface of the plan sent
 pub record IsUnknown (n : Network) (c : Capture) : Type 0 where

@@ -4,10 +4,10 @@ use Rattle.std.specs.Option.{option_or}
 use Rattle.rip_wire.specs.Prefix.{Block}
 use Rattle.rip_wire.specs.Message.{response}
 use Rattle.rip_wire.specs.declared.entry.Entry.{Entry}
-use Rattle.rip_plan.specs.Network.{number_of_prefix}
+use Rattle.rip_plan.specs.Network.{Network, number_of_prefix}
 use Rattle.rip_plan.specs.Passes.{same_prefix}
 use Rattle.rip_table.specs.State.{IsState, State}
-use Rattle.rip_table.specs.Joined.{brings_pair, is_foreign, joined_entries, with_heard}
+use Rattle.rip_table.specs.Joined.{brings_pair, joined_entries, with_heard}
 use Rattle.rip_table.specs.declared.limits.TheConstants.{MOST_PREFIXES}
 use Rattle.rip_table.specs.declared.error.TableError.{TableError}
 use Rattle.rip_table.specs.declared.error.TableError.TheVariants.{Changed, NextHop, TooManyPrefixes}
@@ -32,29 +32,30 @@ known_metric s i entries p = option_or (s.shows i p) (metric_among p entries)
 abbrev pub counted : ℕ → Option ℕ → Bool → ℕ
 counted count number is_known = if is_none number && not is_known then count + 1 else count
 
--- the fault, if any, of an entry that changes no metric, and with whose prefix there are so many
-abbrev pub judged_alone : ℕ → Entry → ℕ → Result (Unit {0}) TableError
-judged_alone sender e count =
-    if is_foreign sender e then Err (NextHop e.prefix)
+-- the fault, if any, of an entry that changes no metric and whose next hop is elsewhere or not, and
+-- with whose prefix there are so many
+abbrev pub judged_alone : Bool → Entry → ℕ → Result (Unit {0}) TableError
+judged_alone is_elsewhere e count =
+    if is_elsewhere then Err (NextHop e.prefix)
     else if nat_lt MOST_PREFIXES count then Err TooManyPrefixes
     else Ok tt
 
 -- the fault, if any, of an entry whose prefix had this metric or none, and with which there are so
 -- many prefixes
-abbrev pub judged : ℕ → Entry → Option ℕ → ℕ → Result (Unit {0}) TableError
-judged sender e None count = judged_alone sender e count
-judged sender e (Some old) count =
+abbrev pub judged : Bool → Entry → Option ℕ → ℕ → Result (Unit {0}) TableError
+judged is_elsewhere e None count = judged_alone is_elsewhere e count
+judged is_elsewhere e (Some old) count =
     if not (old == e.metric) then Err (Changed e.prefix old e.metric)
-    else judged_alone sender e count
+    else judged_alone is_elsewhere e count
 
 -- these entries have no fault, and make a table of this one
-abbrev pub AreFaultless : ℕ → ℕ → State → List Entry → Type 0
-AreFaultless sender i s entries =
-    (t : State) × (joined_entries sender i (with_heard s i) entries ≡ Ok t) × IsState t
+abbrev pub AreFaultless : Network → ℕ → State → List Entry → Type 0
+AreFaultless n i s entries =
+    (t : State) × (joined_entries n i (with_heard s i) entries ≡ Ok t) × IsState t
 
 -- the entries have no fault, and it is told whether one brings a pair, or the first of them that is
 -- bad has this fault
-abbrev pub IsChecked : ℕ → ℕ → State → List Entry → Result Bool TableError → Type 0
-IsChecked sender i s entries (Ok brings) =
-    AreFaultless sender i s entries × (brings ≡ brings_pair i s (response entries))
-IsChecked sender i s entries (Err e) = joined_entries sender i (with_heard s i) entries ≡ Err e
+abbrev pub IsChecked : Network → ℕ → State → List Entry → Result Bool TableError → Type 0
+IsChecked n i s entries (Ok brings) =
+    AreFaultless n i s entries × (brings ≡ brings_pair i s (response entries))
+IsChecked n i s entries (Err e) = joined_entries n i (with_heard s i) entries ≡ Err e

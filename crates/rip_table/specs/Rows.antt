@@ -4,7 +4,7 @@ use Rattle.std.specs.declared.vec.Vec.{Vec}
 use Rattle.std.specs.declared.alloc.Global.{Global}
 use Rattle.rip_wire.specs.Prefix.{Block}
 use Rattle.rip_wire.specs.declared.entry.Entry.{Entry}
-use Rattle.rip_plan.specs.Network.{number_of_prefix}
+use Rattle.rip_plan.specs.Network.{Network, number_of_prefix}
 use Rattle.rip_plan.specs.Passes.{same_prefix}
 use Rattle.rip_wire.specs.declared.limits.TheConstants.{MOST_ENTRIES}
 use Rattle.rip_table.specs.declared.error.TableError.{TableError}
@@ -79,8 +79,8 @@ AreRowNumbers rows entries row_numbers =
 -- what the entries of interface i show was written, whose join is a table
 abbrev pub AreWritten : ℕ → List Entry → Rows → Rows → Type 0
 AreWritten i entries old new =
-    (heard : List Bool) (sender : ℕ) (t : State) → i < length heard → IsState (grid_state heard old)
-    → joined_entries sender i (grid_state heard old) entries ≡ Ok t → grid_state heard new ≡ t
+    (heard : List Bool) (n : Network) (t : State) → i < length heard → IsState (grid_state heard old)
+    → joined_entries n i (grid_state heard old) entries ≡ Ok t → grid_state heard new ≡ t
 
 -- the entries of a response of interface i can be written to rows of so many cells, by these
 -- numbers of their prefixes

@@ -90,7 +90,7 @@ impl<S: BuildHasher> MetricTable for GridTable<S> {
         let at = own.router % self.orders.len();
         let mut numbers = [None; MOST_ENTRIES];
         find_numbers(&self.rows, &mut self.orders[at], entries, &mut numbers);
-        let brings = check(self, &numbers, interface, own.address, entries)?;
+        let brings = check(plan, self, &numbers, interface, entries)?;
         let width = self.heard.len();
         add_new(
             self.alloc,

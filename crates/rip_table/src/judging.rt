@@ -1,15 +1,18 @@
 //! What both tables do with a response before they change: they judge its entries.
 
-ghost use Rattle.std.specs.Prelude.{◌≡◌, ℕ, ◌<◌, ◌≤◌, length, slice_get, take, Some};
+ghost use Rattle.std.specs.Prelude.{◌≡◌, ◌||◌, ℕ, ◌<◌, ◌≤◌, Decides, false, length, not, slice_get, take, Some};
 ghost use Rattle.std.specs.Option.{option_or};
 ghost use Rattle.rip_wire.specs.Prefix.{Block};
 ghost use Rattle.rip_wire.specs.declared.entry.Entry.{Entry};
 ghost use Rattle.rip_plan.specs.Network.{number_of_prefix};
+ghost use Rattle.rip_plan.specs.Relations.{IsGateway, IsPrefix};
+ghost use Rattle.rip_table.specs.Joined.{holds_address, is_foreign, knows_gateway};
 ghost use Rattle.rip_table.specs.State.{IsState, State};
 ghost use Rattle.rip_table.specs.Numbers.{AreNumbers, IsChecked, counted, judged, metric_among};
 
 use crate::error::TableError;
 use crate::limits::MOST_PREFIXES;
+use rip_plan::Plan;
 use rip_wire::{Address, Entry, MOST_ENTRIES, Metric, Prefix};
 
 /// For each entry of a response the number, if any, of its prefix.
@@ -90,18 +93,53 @@ fn count_with(count: usize, number: Option<usize>, is_known: bool) -> usize
     }
 }
 
-/// Judges an entry. Its prefix had this metric or none, and with it there are so many prefixes.
+/// Whether a hop is the gateway that the plan gives a router for a prefix.
+fn is_gateway(plan: &Plan, router: usize, prefix: Prefix, hop: Address) -> bool
+    ensures planned { (k : ℕ) → IsPrefix plan.now k prefix →
+        Decides result (IsGateway plan.now router k hop) }
+    ensures unplanned { ((k : ℕ) → IsPrefix plan.now k prefix → ⊥) → result ≡ false }
+{
+    match plan.gateway(router, prefix) {
+        Some(gateway) => gateway == hop,
+        None => false,
+    }
+}
+
+/// Whether the next hop of an entry is neither an address of the interface that sends it, nor a gateway
+/// of its router for the prefix. Most entries have none, so this stays out of the loop over them.
+#[inline(never)]
+fn is_by_another(plan: &Plan, interface: usize, entry: &Entry) -> bool
+    requires { interface < length plan.now.interfaces }
+    ensures { result ≡ not (holds_address plan.now interface entry.now.next_hop
+        || knows_gateway plan.now interface entry.now.prefix entry.now.next_hop) }
+{
+    let hop = entry.next_hop;
+    let own = plan.interface(interface);
+    !plan.has_address(interface, hop) && !is_gateway(plan, own.router, entry.prefix, hop)
+}
+
+/// Whether an entry that an interface sends below 16 has a next hop that is neither 0.0.0.0, nor an
+/// address of the interface, nor a gateway of its router for the prefix (RFC 2453, section 4.4).
+fn is_elsewhere(plan: &Plan, interface: usize, entry: &Entry) -> bool
+    requires { interface < length plan.now.interfaces }
+    ensures { result ≡ is_foreign plan.now interface entry.now }
+{
+    entry.next_hop.get() != 0 && entry.metric.get() < 16 && is_by_another(plan, interface, entry)
+}
+
+/// Judges an entry, whose next hop is elsewhere or not. Its prefix had this metric or none, and with it
+/// there are so many prefixes.
 fn judge(
     entry: &Entry,
-    sender: Address,
+    is_elsewhere: bool,
     known: Option<Metric>,
     count: usize,
 ) -> Result<(), TableError>
-    ensures fault { result ≡ judged sender entry.now known count }
+    ensures fault { result ≡ judged is_elsewhere entry.now known count }
     ensures low { 1 ≤ entry.now.metric }
     ensures high { entry.now.metric ≤ 16 }
 {
-    let is_reachable = entry.metric.get() < 16;
+    let _metric = entry.metric.get();
     if let Some(old) = known {
         if old != entry.metric {
             return Err(TableError::Changed {
@@ -111,7 +149,7 @@ fn judge(
             });
         }
     }
-    if is_reachable && !(entry.next_hop.get() == 0 || entry.next_hop == sender) {
+    if is_elsewhere {
         return Err(TableError::NextHop {
             prefix: entry.prefix,
         });
@@ -125,16 +163,17 @@ fn judge(
 /// Judges the entries of a response, and answers the first fault; without one, whether some entry
 /// is of a prefix that the interface did not show.
 pub(crate) fn check<T: KnownMetrics>(
+    plan: &Plan,
     table: &T,
     numbers: &Numbers,
     interface: usize,
-    sender: Address,
     entries: &[Entry],
 ) -> Result<bool, TableError>
     requires few { length entries.now ≤ MOST_ENTRIES }
+    requires plan { interface < length plan.now.interfaces }
     requires interface { interface < (T.state table.now).interfaces }
     requires numbers { AreNumbers (T.state table.now).prefixes entries.now numbers.now }
-    ensures { IsChecked sender interface (T.state table.now) entries.now result }
+    ensures { IsChecked plan.now interface (T.state table.now) entries.now result }
 {
     let mut count = table.count();
     let mut brings = false;
@@ -142,10 +181,11 @@ pub(crate) fn check<T: KnownMetrics>(
         let entry = entries[j];
         let number = numbers[j];
         let shown = shown(table, interface, number);
-        let known = known(shown, entries, j);
         brings |= shown.is_none();
+        let known = known(shown, entries, j);
         count = count_with(count, number, known.is_some());
-        judge(&entry, sender, known, count)?;
+        let elsewhere = is_elsewhere(plan, interface, &entry);
+        judge(&entry, elsewhere, known, count)?;
     }
     Ok(brings)
 }

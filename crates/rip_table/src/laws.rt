@@ -38,6 +38,7 @@ pub fn joined_logs()
         Fits n old → joined_records n old log ≡ Ok new → Fits n new }
 {
     laws::metric_bounds();
+    rip_plan::laws::senders();
 }
 
 /// The first entries of a response are joined exactly where none of them is bad, and then into the
@@ -45,7 +46,7 @@ pub fn joined_logs()
 pub fn joined_responses()
     ensures { (n : Network) (old new : State) (c : Capture) (i : ℕ) (front rest : List Entry) →
         IsState old → Fits n old → IsResponse n c i (front ++ rest) →
-        (joined_entries c.sender i old front ≡ Ok new) ↔ AreJoined c.sender i old front new }
+        (joined_entries n i old front ≡ Ok new) ↔ AreJoined n i old front new }
 {
     laws::metric_bounds();
 }
@@ -69,15 +70,17 @@ pub fn refused_logs()
         (outcome n old log ≡ record { state = s; fault = fault }) ↔ IsOutcome n old log s fault }
 {
     laws::metric_bounds();
+    rip_plan::laws::senders();
 }
 
 /// A response of an interface is refused exactly by its first bad entry.
 pub fn refused_responses()
     ensures { (n : Network) (s : State) (c : Capture) (i : ℕ) (entries : List Entry)
         (error : TableError) → IsLawful n → IsState s → Fits n s → IsResponse n c i entries →
-        (joined_message c.sender i s (response entries) ≡ Err error) ↔ HasBadEntry n s c error }
+        (joined_message n i s (response entries) ≡ Err error) ↔ HasBadEntry n s c error }
 {
     laws::metric_bounds();
+    rip_plan::laws::senders();
 }
 
 /// A response brings a pair of interface and prefix, for which memory may be wanted, exactly where an
@@ -98,7 +101,9 @@ pub fn kept_requests()
 pub fn found_interfaces()
     ensures { (n : Network) (name : List ℕ) (a i : ℕ) →
         IsLawful n → (found_at n name a ≡ Some i) ↔ IsAt n name a i }
-{}
+{
+    rip_plan::laws::senders();
+}
 
 /// A response with one entry, whose prefix is new, puts the prefix last in the list and shows its
 /// metric.
@@ -124,4 +129,5 @@ pub fn changed_metrics()
         ≡ refused_at s second.line (Table (Changed f.prefix e.metric f.metric)) }
 {
     laws::metric_bounds();
+    rip_plan::laws::senders();
 }

@@ -205,9 +205,8 @@ impl MetricTable for ListTable {
         }
         let mut room = [Entry::FILLER; MOST_ENTRIES];
         let entries = datagram.entries(&mut room);
-        let sender = plan.interface(interface).address;
         let numbers = numbers_of(self.prefixes.as_slice(), entries);
-        let brings = check(self, &numbers, interface, sender, entries)?;
+        let brings = check(plan, self, &numbers, interface, entries)?;
         add_new(
             &mut self.prefixes,
             &mut self.shown,

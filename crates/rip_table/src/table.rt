@@ -3,7 +3,6 @@
 ghost use Rattle.std.specs.Prelude.{◌≡◌, ℕ, ◌<◌, Some, IfOk, false, length, replicate, slice_get};
 ghost use Rattle.rip_wire.specs.Prefix.{Block};
 ghost use Rattle.rip_wire.specs.Datagram.{message_of};
-ghost use Rattle.rip_plan.specs.Relations.{HasAddress};
 ghost use Rattle.rip_table.specs.Joined.{Takes};
 ghost use Rattle.rip_table.specs.State.{Fits, IsState, State};
 
@@ -58,8 +57,8 @@ pub trait MetricTable {
     ) -> Result<(), TableError>
         requires fits { Fits plan.now (state self.old) }
         requires interface { interface < length plan.now.interfaces }
-        ensures takes { (l a : ℕ) → HasAddress plan.now interface l a →
-            Takes a interface (state self.old) (message_of datagram.now) (state self.new) result }
+        ensures takes { Takes plan.now interface (state self.old) (message_of datagram.now)
+            (state self.new) result }
         // It still fits the plan.
         ensures fits { Fits plan.now (state self.new) };
 }

@@ -3,7 +3,7 @@ use Rattle.std.specs.List.{list_any, slice_index_or}
 use Rattle.std.specs.Option.{option_or}
 use Rattle.std.proofs.lemmas.Option.{slice_get_read}
 use Rattle.rip_wire.specs.declared.entry.Entry.{Entry}
-use Rattle.rip_table.specs.Joined.{joined_entries, with_heard}
+use Rattle.rip_table.specs.Joined.{is_foreign, joined_entries, with_heard}
 use Rattle.rip_table.specs.Numbers.{counted, judged, metric_among, IsChecked}
 use Rattle.rip_table.proofs.Lists.{take-end}
 use Rattle.rip_table.proofs.NumberLemmas.{any-next, none-is, number-below, number-here}
@@ -18,8 +18,8 @@ pub loop-j-init : goal.loop-j-init
 loop-j-init g c =
     let s = g.T.KnownMetrics.state c.args.table.now in
     record {
-      checked = subst (Checked c.args.sender c.args.interface s c.args.entries.now 0) (sym c.count-count.ensures)
-          (Checked-start c.args.sender c.args.interface s c.args.entries.now (g.T.KnownMetrics.is_state c.args.table.now));
+      checked = subst (Checked c.args.plan.now c.args.interface s c.args.entries.now 0) (sym c.count-count.ensures)
+          (Checked-start c.args.plan.now c.args.interface s c.args.entries.now (g.T.KnownMetrics.is_state c.args.table.now));
       brings = refl;
     }
 
@@ -31,12 +31,12 @@ returns-in_err-judge g c =
     let here = slice_get_read es (length es) c.loop-j.j e refl c.loop-j-test.true c.index-entries-j.is in
     let number = number-here s.prefixes es c.args.numbers.now c.loop-j.j e c.requires.numbers here in
     let known = c.known-known.ensures e here ∙ ap (λ (o : Option ℕ). option_or o (metric_among e.prefix (take c.loop-j.j es))) (c.shown-shown.ensures e.prefix number) in
-    let fault = Checked-fault c.args.sender c.args.interface s es c.loop-j.j c.loop-j.count e _ c.known-known.result here number known c.loop-j.invariant.checked (c.in_err-judge.field-0).0 in
+    let fault = Checked-fault c.args.plan.now c.args.interface s es c.loop-j.j c.loop-j.count e _ c.known-known.result here number known c.loop-j.invariant.checked (c.in_err-judge.field-0).0 in
     let count : c.count_with-count.result ≡ counted c.loop-j.count (slice_index_or c.args.numbers.now c.loop-j.j None) (is_some c.known-known.result) =
     c.count_with-count.ensures ∙ ap (counted c.loop-j.count (slice_index_or c.args.numbers.now c.loop-j.j None)) c.is_some.ensures in
     let is : c.from_residual.result ≡ Err (c.in_err-judge.field-0).0 = search rules in
-    subst (IsChecked c.args.sender c.args.interface s es) (sym is)
-    (fault (ap (judged c.args.sender e c.known-known.result) (sym count) ∙ sym c.judge.ensures.fault ∙ c.in_err-judge.was))
+    subst (IsChecked c.args.plan.now c.args.interface s es) (sym is)
+    (fault (ap (judged (is_foreign c.args.plan.now c.args.interface e) e c.known-known.result) (sym count) ∙ ap (λ f. judged f e c.known-known.result c.count_with-count.result) (sym c.is_elsewhere-elsewhere.ensures) ∙ sym c.judge.ensures.fault ∙ c.in_err-judge.was))
 
 pub loop-j-preserved : goal.loop-j-preserved
 loop-j-preserved g c =
@@ -48,13 +48,13 @@ loop-j-preserved g c =
     let test : Entry → Bool = λ x. is_none (s.shows c.args.interface x.prefix) in
     let shows = c.shown-shown.ensures e.prefix number in
     let known = c.known-known.ensures e here ∙ ap (λ (o : Option ℕ). option_or o (metric_among e.prefix (take c.loop-j.j es))) shows in
-    let next = Checked-next c.args.sender c.args.interface s es c.loop-j.j c.loop-j.count e _ c.known-known.result here number known c.loop-j.invariant.checked
+    let next = Checked-next c.args.plan.now c.args.interface s es c.loop-j.j c.loop-j.count e _ c.known-known.result here number known c.loop-j.invariant.checked
     c.requires.interface c.judge.ensures.low c.judge.ensures.high in
     let count : c.count_with-count.result ≡ counted c.loop-j.count (slice_index_or c.args.numbers.now c.loop-j.j None) (is_some c.known-known.result) =
     c.count_with-count.ensures ∙ ap (counted c.loop-j.count (slice_index_or c.args.numbers.now c.loop-j.j None)) c.is_some.ensures in
     record {
-      checked = subst (Checked c.args.sender c.args.interface s es (c.loop-j.j + 1)) (sym count)
-          (next (ap (judged c.args.sender e c.known-known.result) (sym count) ∙ sym c.judge.ensures.fault ∙ c.in_ok-judge.was));
+      checked = subst (Checked c.args.plan.now c.args.interface s es (c.loop-j.j + 1)) (sym count)
+          (next (ap (judged (is_foreign c.args.plan.now c.args.interface e) e c.known-known.result) (sym count) ∙ ap (λ f. judged f e c.known-known.result c.count_with-count.result) (sym c.is_elsewhere-elsewhere.ensures) ∙ sym c.judge.ensures.fault ∙ c.in_ok-judge.was));
       brings = ap (λ (b : Bool). b || c.is_none-brings.result) c.loop-j.invariant.brings
           ∙ ap (λ (b : Bool). list_any test (take c.loop-j.j es) || b) (none-is c.shown-shown.result c.is_none-brings.result c.is_none-brings.ensures ∙ ap is_none shows)
           ∙ any-next test es c.loop-j.j e here;
@@ -66,6 +66,6 @@ returns g c =
     let es = c.args.entries.now in
     let ck = c.loop-j.invariant.checked in
     let all = take-end es c.loop-j.j (omega (arith, c.loop-j-test)) in (
-      (ck.state, ap (joined_entries c.args.sender c.args.interface (with_heard s c.args.interface)) (sym all) ∙ ck.joined, ck.valid),
+      (ck.state, ap (joined_entries c.args.plan.now c.args.interface (with_heard s c.args.interface)) (sym all) ∙ ck.joined, ck.valid),
       c.loop-j.invariant.brings ∙ ap (list_any (λ e. is_none (s.shows c.args.interface e.prefix))) all,
     )

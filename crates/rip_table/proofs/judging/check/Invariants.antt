@@ -5,6 +5,6 @@ use Rattle.rip_table.proofs.judging.check.Given as goal
 
 abbrev pub invariant-loop-j : goal.invariant-loop-j
 invariant-loop-j g l = record {
-  checked : Checked l.sender l.interface (g.T.KnownMetrics.state l.table) l.entries l.j l.count;
+  checked : Checked l.plan l.interface (g.T.KnownMetrics.state l.table) l.entries l.j l.count;
   brings : l.brings ≡ list_any (λ e. is_none ((g.T.KnownMetrics.state l.table).shows l.interface e.prefix)) (take l.j l.entries);
 }

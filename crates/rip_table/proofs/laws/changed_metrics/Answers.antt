@@ -1,5 +1,6 @@
+use Rattle.rip_table.proofs.MetricLemmas.{lower_laws}
 use Rattle.rip_table.proofs.UpdateLemmas.{changed_metric}
 use Rattle.rip_table.proofs.laws.changed_metrics.Goals as goal
 
 pub returns : goal.returns
-returns c = changed_metric c.metric_bounds.ensures
+returns c = changed_metric (lower_laws c.metric_bounds.ensures c.senders.ensures.gives c.senders.ensures.finds)

@@ -8,4 +8,4 @@ pub returns : goal.returns
 returns c n old new capture i front rest valid fits response =
     let lt = interface_below n old capture.link capture.sender i fits response.from in
     let metrics = front_metrics front rest (c.metric_bounds.ensures capture.datagram (front ++ rest) response.says) in
-    (entries_joined capture.sender i old new front metrics valid lt, joined_of_entries capture.sender i old new front metrics valid lt)
+    (entries_joined n i old new front metrics valid lt, joined_of_entries n i old new front metrics valid lt)

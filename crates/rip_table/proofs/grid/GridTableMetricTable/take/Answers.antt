@@ -8,10 +8,9 @@ use Rattle.rip_table.specs.State.{IsState}
 use Rattle.rip_table.specs.Joined.{Takes}
 use Rattle.rip_table.specs.Numbers.{AreFaultless, IsChecked}
 use Rattle.rip_table.specs.Rows.{IsGrid, grid_state, rows_of}
-use Rattle.rip_plan.specs.Relations.{HasAddress}
 use Rattle.rip_table.proofs.FitLemmas.{Fits-taken}
 use Rattle.rip_table.proofs.NumberLemmas.{response-is}
-use Rattle.rip_table.proofs.TakingLemmas.{has-address, refused, sender-is, taken, wanting}
+use Rattle.rip_table.proofs.TakingLemmas.{refused, taken, wanting}
 use Rattle.rip_table.proofs.AfterLemmas.{taken-is}
 use Rattle.rip_table.proofs.grid.GridTableMetricTable.take.Goals as goal
 
@@ -19,19 +18,17 @@ pub returns-in_err-brings : goal.returns-in_err-brings
 returns-in_err-brings g c =
     let s = grid_state c.args.self.now.heard.items (rows_of c.args.self.now.rows.entries) in
     let m = message_of c.args.datagram.now in
-    let takes : ((l a : ℕ) → HasAddress c.args.plan.now c.args.interface l a → Takes a c.args.interface s m s c.from_residual.result) = λ l a has.
+    let takes : Takes c.args.plan.now c.args.interface s m s c.from_residual.result =
     let kind : kind_of m ≡ Response = search rules in
     let es = c.entries-entries.result.now in
     let message : m ≡ response es = response-is m kind ∙ ap response (sym c.entries-entries.ensures.entries) in
-    let sender = sender-is c.args.plan.now c.args.interface l a c.interface-own.result c.interface-own.ensures.exact has in
     let is : c.from_residual.result ≡ Err (c.in_err-brings.field-0).0 = search rules in
-    let checked : IsChecked a c.args.interface s es (Err (c.in_err-brings.field-0).0) = subst (λ (x : ℕ). IsChecked x c.args.interface s es (Err (c.in_err-brings.field-0).0)) sender c.in_err-brings.ensures in
-    subst (Takes a c.args.interface s m s) (sym is) (refused a c.args.interface s m es (c.in_err-brings.field-0).0 message checked)
+    let checked : IsChecked c.args.plan.now c.args.interface s es (Err (c.in_err-brings.field-0).0) = c.in_err-brings.ensures in
+    subst (Takes c.args.plan.now c.args.interface s m s) (sym is) (refused c.args.plan.now c.args.interface s m es (c.in_err-brings.field-0).0 message checked)
     in
-    let here = has-address c.args.plan.now c.args.interface c.interface-own.result c.interface-own.ensures.exact in
     record {
       takes = takes;
-      fits = Fits-taken c.args.plan.now c.interface-own.result.address c.args.interface s s m c.from_residual.result c.requires.fits (takes c.interface-own.result.link c.interface-own.result.address here);
+      fits = Fits-taken c.args.plan.now c.args.interface s s m c.from_residual.result c.requires.fits takes;
     }
 
 pub returns-in_err-add_new : goal.returns-in_err-add_new
@@ -40,25 +37,23 @@ returns-in_err-add_new g c =
     let s = grid_state heard (rows_of c.args.self.now.rows.entries) in
     let new = grid_state heard (rows_of c.add_new.new.rows.entries) in
     let m = message_of c.args.datagram.now in
-    let takes : ((l a : ℕ) → HasAddress c.args.plan.now c.args.interface l a → Takes a c.args.interface s m new c.from_residual-in_err-add_new.result) = λ l a has.
+    let takes : Takes c.args.plan.now c.args.interface s m new c.from_residual-in_err-add_new.result =
     let kind : kind_of m ≡ Response = search rules in
     let es = c.entries-entries.result.now in
     let message : m ≡ response es = response-is m kind ∙ ap response (sym c.entries-entries.ensures.entries) in
-    let sender = sender-is c.args.plan.now c.args.interface l a c.interface-own.result c.interface-own.ensures.exact has in
     let is : c.from_residual-in_err-add_new.result ≡ Err Memory = search rules in
-    let checked : AreFaultless a c.args.interface s es = subst (λ (x : ℕ). AreFaultless x c.args.interface s es) sender (c.in_ok-brings.ensures).0 in
-    subst (Takes a c.args.interface s m new) (sym is)
-    (wanting a c.args.interface s m es new message checked (sym (c.in_ok-brings.ensures).1 ∙ c.in_err-add_new.ensures.wants) (ap (grid_state heard) c.in_err-add_new.ensures.written.1))
+    let checked : AreFaultless c.args.plan.now c.args.interface s es = (c.in_ok-brings.ensures).0 in
+    subst (Takes c.args.plan.now c.args.interface s m new) (sym is)
+    (wanting c.args.plan.now c.args.interface s m es new message checked (sym (c.in_ok-brings.ensures).1 ∙ c.in_err-add_new.ensures.wants) (ap (grid_state heard) c.in_err-add_new.ensures.written.1))
     in
-    let here = has-address c.args.plan.now c.args.interface c.interface-own.result c.interface-own.ensures.exact in
     record {
       takes = takes;
-      fits = Fits-taken c.args.plan.now c.interface-own.result.address c.args.interface s new m c.from_residual-in_err-add_new.result c.requires.fits (takes c.interface-own.result.link c.interface-own.result.address here);
+      fits = Fits-taken c.args.plan.now c.args.interface s new m c.from_residual-in_err-add_new.result c.requires.fits takes;
     }
 
 pub invariant_of-self-2-clause-valid : goal.invariant_of-self-2-clause-valid
 invariant_of-self-2-clause-valid g c =
-    let same = taken-is c.interface-own.result.address c.args.interface c.args.self.now.heard.items (rows_of c.args.self.now.rows.entries) (rows_of c.add_new.new.rows.entries) c.entries-entries.result.now
+    let same = taken-is c.args.plan.now c.args.interface c.args.self.now.heard.items (rows_of c.args.self.now.rows.entries) (rows_of c.add_new.new.rows.entries) c.entries-entries.result.now
     (omega (arith, c.requires.interface, c.requires.fits.interfaces)) c.args.self.now.valid (c.in_ok-brings.ensures).0 c.in_ok-add_new.ensures.written in
     subst IsState (sym same) ((c.in_ok-brings.ensures).0).2
 
@@ -74,17 +69,15 @@ returns g c =
     let s = grid_state heard rows in
     let new = grid_state (set heard c.args.interface true) (rows_of c.add_new.new.rows.entries) in
     let m = message_of c.args.datagram.now in
-    let takes : ((l a : ℕ) → HasAddress c.args.plan.now c.args.interface l a → Takes a c.args.interface s m new (Ok tt)) = λ l a has.
+    let takes : Takes c.args.plan.now c.args.interface s m new (Ok tt) =
     let kind : kind_of m ≡ Response = search rules in
     let es = c.entries-entries.result.now in
     let message : m ≡ response es = response-is m kind ∙ ap response (sym c.entries-entries.ensures.entries) in
-    let sender = sender-is c.args.plan.now c.args.interface l a c.interface-own.result c.interface-own.ensures.exact has in
-    let checked : AreFaultless a c.args.interface s es = subst (λ (x : ℕ). AreFaultless x c.args.interface s es) sender (c.in_ok-brings.ensures).0 in
-    taken a c.args.interface s m es new message checked
-    (taken-is a c.args.interface heard rows (rows_of c.add_new.new.rows.entries) es (omega (arith, c.requires.interface, c.requires.fits.interfaces)) c.args.self.now.valid checked c.in_ok-add_new.ensures.written)
+    let checked : AreFaultless c.args.plan.now c.args.interface s es = (c.in_ok-brings.ensures).0 in
+    taken c.args.plan.now c.args.interface s m es new message checked
+    (taken-is c.args.plan.now c.args.interface heard rows (rows_of c.add_new.new.rows.entries) es (omega (arith, c.requires.interface, c.requires.fits.interfaces)) c.args.self.now.valid checked c.in_ok-add_new.ensures.written)
     in
-    let here = has-address c.args.plan.now c.args.interface c.interface-own.result c.interface-own.ensures.exact in
     record {
       takes = takes;
-      fits = Fits-taken c.args.plan.now c.interface-own.result.address c.args.interface s new m (Ok tt) c.requires.fits (takes c.interface-own.result.link c.interface-own.result.address here);
+      fits = Fits-taken c.args.plan.now c.args.interface s new m (Ok tt) c.requires.fits takes;
     }

@@ -11,6 +11,6 @@ pub write-requires-clause-grid : goal.write-requires-clause-grid
 write-requires-clause-grid g c = subst (IsGrid c.args.width) (sym c.in_ok-row_numbers.ensures.ok) (grid-with_rows c.args.width (rows_of c.args.rows.now.entries) c.args.entries.now c.requires.grid)
 
 pub returns-clause-written : goal.returns-clause-written
-returns-clause-written g c heard sender t lt valid h =
-    written-is sender c.args.interface c.args.width heard (rows_of c.args.rows.now.entries) (rows_of c.grow_or_keep.new.rows.entries) (rows_of c.write.new.rows.entries) c.args.entries.now t lt valid h
+returns-clause-written g c heard net t lt valid h =
+    written-is net c.args.interface c.args.width heard (rows_of c.args.rows.now.entries) (rows_of c.grow_or_keep.new.rows.entries) (rows_of c.write.new.rows.entries) c.args.entries.now t lt valid h
     c.in_ok-row_numbers.ensures.ok c.write.ensures.heads c.write.ensures.cells

@@ -4,5 +4,5 @@ use Rattle.rip_table.proofs.ListLemmas.{nothing-joins}
 use Rattle.rip_table.proofs.grid.rows.add_new.Goals as goal
 
 pub returns-else-brings-clause-written : goal.returns-else-brings-clause-written
-returns-else-brings-clause-written g c heard sender t lt valid h =
-    nothing-joins sender c.args.interface (grid_state heard (rows_of c.args.rows.now.entries)) c.args.entries.now t (sym (c.requires.brings heard) ∙ c.if-brings.false) h
+returns-else-brings-clause-written g c heard net t lt valid h =
+    nothing-joins net c.args.interface (grid_state heard (rows_of c.args.rows.now.entries)) c.args.entries.now t (sym (c.requires.brings heard) ∙ c.if-brings.false) h

@@ -1,0 +1,148 @@
+-- The next hops that an interface may tell: its own addresses, and gateways of its router.
+use Rattle.std.proofs.Common.{◌≡◌, ℕ, zero, suc, ◌==◌, Bool, true, false, ◌&&◌, ◌||◌, List, [], ◌∷◌, Option, Some, None, refl, sym, ap, subst, ◌∙◌, arith}
+use Rattle.std.specs.Prelude.{Contains, Decides}
+use Rattle.std.specs.List.{list_any, slice_get}
+use Rattle.std.specs.Option.{option_map_or}
+use Rattle.std.proofs.lemmas.Bool.{eqb-true, eq-eqb}
+use Rattle.std.proofs.lemmas.Option.{slice_get-get_or}
+use Rattle.rip_wire.specs.Prefix.{Block}
+use Rattle.rip_plan.specs.Network.{Network}
+use Rattle.rip_plan.specs.Passes.{same_prefix}
+use Rattle.rip_plan.specs.Relations.{HasAddress, IsGateway, IsInterface, IsPrefix}
+use Rattle.rip_plan.specs.declared.parts.Interface.{Interface}
+use Rattle.rip_plan.specs.declared.parts.Seat.{Seat}
+use Rattle.rip_plan.specs.declared.parts.Seat.TheVariants.{Link, Own}
+use Rattle.rip_table.proofs.Lists.{same-is, same-self}
+use Rattle.rip_table.specs.Joined.{has_gateway, holds_address, is_gateway, knows_gateway}
+use Rattle.rip_table.specs.LogJoin.{KnowsGateway}
+
+some_any : {A : Type 0} (test : A → Bool) (xs : List A) (k : ℕ) (x : A) → slice_get xs k ≡ Some x → test x ≡ true → list_any test xs ≡ true
+some_any test [] k x at h = absurd (cc at)
+some_any test (y ∷ ys) zero x at h = let same : y ≡ x = cc at in ap (λ z. test z || list_any test ys) same ∙ ap (λ b. b || list_any test ys) h
+some_any test (y ∷ ys) (suc k) x at h = by (test y) (some_any test ys k x at h)
+  where
+    by : (b : Bool) → list_any test ys ≡ true → (b || list_any test ys) ≡ true
+    by true t = refl
+    by false t = t
+
+any_some : {A : Type 0} (test : A → Bool) (xs : List A) → list_any test xs ≡ true → (k : ℕ) × (x : A) × (slice_get xs k ≡ Some x) × (test x ≡ true)
+any_some test [] h = absurd (cc h)
+any_some {A} test (y ∷ ys) h = by (test y) refl h (λ t. any_some test ys t)
+  where
+    by : (b : Bool) → test y ≡ b → (b || list_any test ys) ≡ true → (list_any test ys ≡ true → (k : ℕ) × (x : A) × (slice_get ys k ≡ Some x) × (test x ≡ true)) → (k : ℕ) × (x : A) × (slice_get (y ∷ ys) k ≡ Some x) × (test x ≡ true)
+    by true t k later = (zero, y, refl, t)
+    by false t k later = let (m, x, at, passes) = later k in (suc m, x, at, passes)
+
+both : (a b : Bool) → (a && b) ≡ true → (a ≡ true) × (b ≡ true)
+both true b h = (refl, h)
+both false b h = absurd (cc h)
+
+-- ---- addresses
+
+contained : (xs : List ℕ) (k a : ℕ) → slice_get xs k ≡ Some a → Contains xs a
+contained [] k a at = absurd (cc at)
+contained (x ∷ xs) zero a at = let same : x ≡ a = cc at in (zero, omega arith, same)
+contained (x ∷ xs) (suc k) a at = let (j, lt, is) = contained xs k a at in (suc j, omega arith, is)
+
+pub address_held : (n : Network) (i l a : ℕ) → HasAddress n i l a → holds_address n i a ≡ true
+address_held n i l a (all, has, (k, lt, is)) =
+    let at : slice_get all k ≡ Some a = slice_get-get_or all k a lt ∙ ap (λ (b : ℕ). Some b) is in
+    let here : slice_get (has.interface.address ∷ has.also) k ≡ Some a = ap (λ (xs : List ℕ). slice_get xs k) (sym has.all) ∙ at in
+    let test = some_any (λ b. b == a) (has.interface.address ∷ has.also) k a here (eq-eqb a a refl) in
+    ap (λ (o : Option Interface). option_map_or (λ x. option_map_or (λ also. list_any (λ b. b == a) (x.address ∷ also)) (slice_get n.also i) false) o false) has.listed
+    ∙ ap (λ (o : Option (List ℕ)). option_map_or (λ also. list_any (λ b. b == a) (has.interface.address ∷ also)) o false) has.further
+    ∙ test
+
+pub held_address : (n : Network) (i a : ℕ) → holds_address n i a ≡ true → (l : ℕ) × HasAddress n i l a
+held_address n i a h = by (slice_get n.interfaces i) refl (slice_get n.also i) refl h
+  where
+    by : (o : Option Interface) → slice_get n.interfaces i ≡ o → (p : Option (List ℕ)) → slice_get n.also i ≡ p
+        → option_map_or (λ x. option_map_or (λ also. list_any (λ b. b == a) (x.address ∷ also)) p false) o false ≡ true → (l : ℕ) × HasAddress n i l a
+    by None e p f t = absurd (cc t)
+    by (Some x) e None f t = absurd (cc t)
+    by (Some x) e (Some also) f t =
+        let (k, b, at, test) = any_some (λ b. b == a) (x.address ∷ also) t in
+        let same : b ≡ a = eqb-true b a test in
+        (x.link, (x.address ∷ also, record { interface = x; listed = e; on = refl; also = also; further = f; all = refl }, contained (x.address ∷ also) k a (at ∙ ap (λ (c : ℕ). Some c) same)))
+
+-- ---- gateways
+
+gateway_seat : (r a : ℕ) (seat : Seat) → has_gateway r a seat ≡ true → (c : ℕ) × (kept : Bool) × (link : Option ℕ) × (seat ≡ Own r c kept link (Some a))
+gateway_seat r a (Link l) h = absurd (cc h)
+gateway_seat r a (Own owner c kept link None) h = absurd (cc (both (owner == r) false h).1)
+gateway_seat r a (Own owner c kept link (Some b)) h =
+    let parts = both (owner == r) (b == a) h in
+    (c, kept, link, ap (λ (m : ℕ). Own m c kept link (Some b)) (eqb-true owner r parts.0) ∙ ap (λ (m : ℕ). Own r c kept link (Some m)) (eqb-true b a parts.1))
+
+prefix_is : (p : Block) (o : Option Block) → option_map_or (same_prefix p) o false ≡ true → o ≡ Some p
+prefix_is p None h = absurd (cc h)
+prefix_is p (Some q) h = ap (λ (b : Block). Some b) (sym (same-is p q h))
+
+pub gateway_known : (n : Network) (i : ℕ) (p : Block) (a : ℕ) → KnowsGateway n i p a → knows_gateway n i p a ≡ true
+gateway_known n i p a (r, l, c, k, is, prefix, (j, has)) =
+    let seat : has_gateway r a (Own r has.cost has.kept has.link (Some a)) ≡ true = rw (eq-eqb r r refl, eq-eqb a a refl) refl in
+    let its : option_map_or (same_prefix p) (slice_get n.prefixes k) false ≡ true = ap (λ (o : Option Block). option_map_or (same_prefix p) o false) prefix ∙ same-self p in
+    let test : is_gateway n r p a (record { prefix = k; seat = Own r has.cost has.kept has.link (Some a) }) ≡ true = rw (seat, its) refl in
+    ap (λ (o : Option Interface). option_map_or (λ x. list_any (is_gateway n x.router p a) n.places) o false) is.listed
+    ∙ some_any (is_gateway n r p a) n.places j _ has.place.listed test
+
+pub known_gateway : (n : Network) (i : ℕ) (p : Block) (a : ℕ) → knows_gateway n i p a ≡ true → KnowsGateway n i p a
+known_gateway n i p a h = by (slice_get n.interfaces i) refl h
+  where
+    by : (o : Option Interface) → slice_get n.interfaces i ≡ o → option_map_or (λ x. list_any (is_gateway n x.router p a) n.places) o false ≡ true → KnowsGateway n i p a
+    by None e t = absurd (cc t)
+    by (Some x) e t =
+        let (j, q, at, test) = any_some (is_gateway n x.router p a) n.places t in
+        let parts = both (has_gateway x.router a q.seat) (option_map_or (same_prefix p) (slice_get n.prefixes q.prefix) false) test in
+        let (c, kept, link, seat) = gateway_seat x.router a q.seat parts.0 in
+        let placed = at ∙ ap (λ (s : Seat). Some (record { prefix = q.prefix; seat = s })) seat in (
+          x.router,
+          x.link,
+          x.cost,
+          q.prefix,
+          record { address = x.address; direct = x.direct; listed = e },
+          prefix_is p (slice_get n.prefixes q.prefix) parts.1,
+          (j, record { cost = c; kept = kept; link = link; place = record { listed = placed } }),
+        )
+
+-- ---- as the plan answers
+
+decided : (b c : Bool) → (b ≡ true → c ≡ true) → (c ≡ true → b ≡ true) → b ≡ c
+decided true c f g = sym (f refl)
+decided false true f g = let clash : false ≡ true = g refl in absurd (cc clash)
+decided false false f g = refl
+
+pub address_decided : (n : Network) (i r l c a : ℕ) (b : Bool) → IsInterface n i r l c → Decides b (HasAddress n i l a) → b ≡ holds_address n i a
+address_decided n i r l c a b is says = decided b (holds_address n i a) (λ h. address_held n i l a (says.0 h)) (λ h. says.1 (moved (held_address n i a h)))
+  where
+    moved : (l' : ℕ) × HasAddress n i l' a → HasAddress n i l a
+    moved (l', (all, has, holds)) =
+        let same : has.interface ≡ record { router = r; link = l; address = is.address; cost = c; direct = is.direct } = (let one : Some has.interface ≡ Some (record { router = r; link = l; address = is.address; cost = c; direct = is.direct }) = sym has.listed ∙ is.listed in cc one) in
+        (all, record { interface = has.interface; listed = has.listed; on = ap (λ (x : Interface). x.link) same; also = has.also; further = has.further; all = has.all }, holds)
+
+pub gateway_decided : (n : Network) (i r l c : ℕ) (p : Block) (a : ℕ) (b : Bool) → IsInterface n i r l c
+    → ((k : ℕ) → IsPrefix n k p → Decides b (IsGateway n r k a)) → (((k : ℕ) → IsPrefix n k p → ⊥) → b ≡ false) → b ≡ knows_gateway n i p a
+gateway_decided n i r l c p a b is planned unplanned = decided b (knows_gateway n i p a) forth back
+  where
+    router_of : {x y : Interface} → Some x ≡ Some y → x.router ≡ y.router
+    router_of {x} {y} h = let same : x ≡ y = cc h in ap (λ (z : Interface). z.router) same
+
+    of_router : (r' l' c' : ℕ) → IsInterface n i r' l' c' → r' ≡ r
+    of_router r' l' c' its = let one : Some (record { router = r'; link = l'; address = its.address; cost = c'; direct = its.direct }) ≡ Some (record { router = r; link = l; address = is.address; cost = c; direct = is.direct }) = sym its.listed ∙ is.listed in router_of one
+
+    back : knows_gateway n i p a ≡ true → b ≡ true
+    back h =
+        let (r', l', c', k, its, prefix, gateway) = known_gateway n i p a h in
+        (planned k prefix).1 (subst (λ (s : ℕ). IsGateway n s k a) (of_router r' l' c' its) gateway)
+
+    forth : b ≡ true → knows_gateway n i p a ≡ true
+    forth h = by (list_any (same_prefix p) n.prefixes) refl
+      where
+        by : (t : Bool) → list_any (same_prefix p) n.prefixes ≡ t → knows_gateway n i p a ≡ true
+        by true t =
+            let (k, q, at, same) = any_some (same_prefix p) n.prefixes t in
+            let prefix : IsPrefix n k p = at ∙ ap (λ (d : Block). Some d) (sym (same-is p q same)) in
+            gateway_known n i p a (r, l, c, k, is, prefix, (planned k prefix).0 h)
+        by false t =
+            let none : b ≡ false = unplanned (λ k at. let there = some_any (same_prefix p) n.prefixes k p at (same-self p) in let clash : true ≡ false = sym there ∙ t in cc clash) in
+            let clash : true ≡ false = sym h ∙ none in absurd (cc clash)
