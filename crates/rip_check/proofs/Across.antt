@@ -6,7 +6,7 @@ use Rattle.std.proofs.lemmas.List.{get_or_default}
 use Rattle.std.proofs.lemmas.List.Elements.{Contains-get_or}
 use Rattle.rip_plan.specs.declared.parts.Interface.{Interface}
 use Rattle.rip_plan.specs.Network.{Network}
-use Rattle.rip_plan.specs.Relations.{IsLawful, IsInterface, HasCost, IsDirect}
+use Rattle.rip_plan.specs.Relations.{IsLawful, IsInterface, IsKept, HasCost, IsDirect}
 use Rattle.rip_table.specs.State.{State}
 use Rattle.rip_check.specs.Settled.{IsChoice}
 use Rattle.rip_check.specs.Tables.{Offers}
@@ -87,16 +87,22 @@ module _ (n : Network) (l : ℕ) (numbers : List ℕ) (exact : (i : ℕ) → Con
         omega (arith, le', o.value, same)
 
 -- the best so far stays a choice
-pub still_chosen : (n : Network) (shown : State) (r p l best next : ℕ) → IsChoice n shown r p best → (next ≡ best) ⊎ ((s : ℕ) × Offers n shown r l s p next) → IsChoice n shown r p next
-still_chosen n shown r p l best next chosen (inl e) = rw e chosen
-still_chosen n shown r p l best next chosen (inr o) = inr (inr (l, o.0, o.1))
+pub still_chosen : (n : Network) (shown : State) (r p l best next : ℕ) → (IsKept n r p → ⊥) → IsChoice n shown r p best → (next ≡ best) ⊎ ((s : ℕ) × Offers n shown r l s p next) → IsChoice n shown r p next
+still_chosen n shown r p l best next takes chosen (inl e) = rw e chosen
+still_chosen n shown r p l best next takes chosen (inr o) = inr (inr (takes, (l, o.0, o.1)))
 
 -- what is no more than 16, the direct cost and the offers over each link is no more than any choice
 pub least_of : (n : Network) (shown : State) (r p best : ℕ) → best ≤ 16 → ((c : ℕ) → IsDirect n r p c → best ≤ c) →
     ((i l c : ℕ) → IsInterface n i r l c → (s v : ℕ) → Offers n shown r l s p v → best ≤ v) → (v : ℕ) → IsChoice n shown r p v → best ≤ v
 least_of n shown r p best most direct offers v (inl e) = omega (arith, e, most)
 least_of n shown r p best most direct offers v (inr (inl d)) = direct v d
-least_of n shown r p best most direct offers v (inr (inr h)) = offers h.2.here.0 h.0 h.2.cost h.2.here.1 h.1 v h.2
+least_of n shown r p best most direct offers v (inr (inr (takes, h))) = offers h.2.here.0 h.0 h.2.cost h.2.here.1 h.1 v h.2
+
+-- and where the router keeps the prefix, what is no more than 16 and the direct cost
+pub least_kept : (n : Network) (shown : State) (r p best : ℕ) → best ≤ 16 → ((c : ℕ) → IsDirect n r p c → best ≤ c) → IsKept n r p → (v : ℕ) → IsChoice n shown r p v → best ≤ v
+least_kept n shown r p best most direct kept v (inl e) = omega (arith, e, most)
+least_kept n shown r p best most direct kept v (inr (inl d)) = direct v d
+least_kept n shown r p best most direct kept v (inr (inr h)) = absurd (h.0 kept)
 
 -- ---- the two least metrics of a link
 
@@ -104,7 +110,7 @@ least_of n shown r p best most direct offers v (inr (inr h)) = offers h.2.here.0
 abbrev pub IsFor : TwoLeast → ℕ → ℕ → Type 0
 IsFor two r v = ((r ≡ two.by) × (v ≡ two.next)) ⊎ ((r ≡ two.by → ⊥) × (v ≡ two.least))
 
-module _ (n : Network) (seen : ℕ → ℕ → ℕ) (r l : ℕ) (two : TwoLeast) (is : IsTwoLeast n seen l (length n.interfaces) two) where
+module _ (n : Network) (seen : ℕ → ℕ → ℕ → ℕ) (r l : ℕ) (two : TwoLeast) (is : IsTwoLeast n seen l (length n.interfaces) two) where
   -- no neighbour has less
   pub told_below : (v : ℕ) → IsFor two r v → (j s w : ℕ) → IsSeen n seen l j s w → s ≢ r → v ≤ w
   told_below v (inl h) j s w has other = omega (arith, h.1, is.others j s w (within n j s l has.cost has.its) has (λ e. other (e ∙ sym h.0)))

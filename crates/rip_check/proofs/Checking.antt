@@ -1,5 +1,6 @@
 -- Tests of a network that is written out, and what they tell: its laws, what is shown of it, and which places hold.
-use Rattle.std.proofs.Common.{◌≡◌, ℕ, zero, suc, ◌+◌, ◌<◌, ◌≤◌, ◌^◌, ◌%◌, ◌/◌, ◌⊎◌, inl, inr, Bool, true, false, not, ◌&&◌, ◌||◌, ◌==◌, nat_le, nat_lt, List, [], ◌∷◌, length, Some, slice_get, refl, ◌∙◌, ap, arith}
+use Rattle.std.proofs.Common.{◌≡◌, ℕ, zero, suc, ◌+◌, ◌<◌, ◌≤◌, ◌^◌, ◌%◌, ◌/◌, ◌⊎◌, inl, inr, Bool, true, false, not, ◌&&◌, ◌||◌, ◌==◌, nat_le, nat_lt, List, [], ◌∷◌, length, map, sum, get_or, Option, None, Some, slice_get, refl, sym, ◌∙◌, ap, arith}
+use Rattle.std.specs.List.{Contains}
 use Rattle.std.specs.Str.{bytes_eq}
 use Rattle.std.proofs.lemmas.Bool.{and_parts, and_from, or_cases, or_left, or_right, not-true, both_ways, eqb-true, leb-true, ltb-true, eq-eqb}
 use Rattle.std.proofs.lemmas.Bool.Decides.{nat_tests}
@@ -13,7 +14,7 @@ use Rattle.rip_plan.specs.declared.parts.Seat.TheVariants.{Link, Own}
 use Rattle.rip_plan.specs.declared.parts.Place.{Place}
 use Rattle.rip_plan.specs.Network.{Network}
 use Rattle.rip_plan.specs.Passes.{same_prefix}
-use Rattle.rip_plan.specs.Relations.{IsLawful, IsInterface, HasAddress, IsPlace, Carries, Touches, IsInside, IsPrefix}
+use Rattle.rip_plan.specs.Relations.{Carries, HasAddress, HasAddresses, HasOwnAddress, IsAttached, IsConnected, IsEachOnce, IsInside, IsInterface, IsLawful, IsOn, IsPlace, IsPrefix, Touches}
 
 -- ---- lists
 
@@ -112,11 +113,11 @@ is_named_once names l name = is_name name && each (λ m other. when (bytes_eq na
 
 abbrev pub is_link : ℕ → Seat → Bool
 is_link l (Link m) = m == l
-is_link l (Own r c) = false
+is_link l (Own r c kept link via) = false
 
 pub link_of : (l : ℕ) (s : Seat) → is_link l s ≡ true → s ≡ Link l
 link_of l (Link m) h = ap Link (eqb-true m l h)
-link_of l (Own r c) h = cc h
+link_of l (Own r c kept link via) h = cc h
 
 abbrev contains : Block → ℕ → Bool
 contains b a = (a / size_of b.prefix_len) == (b.network / size_of b.prefix_len)
@@ -127,7 +128,7 @@ are_apart i x j y = when ((x.link == y.link) && ((x.router == y.router) || (x.ad
 abbrev is_fit_interface : Network → ℕ → Interface → Bool
 is_fit_interface n i x =
     (nat_lt x.router (length n.routers) && nat_lt x.link (length n.links))
-    && ((nat_le 1 x.cost && nat_le x.cost 15) && (nat_lt x.address (2 ^ 32) && each (are_apart i x) n.interfaces))
+    && ((nat_le 1 x.cost && (nat_le x.cost 15 && (nat_le 1 x.direct && nat_le x.direct x.cost))) && (nat_lt x.address (2 ^ 32) && each (are_apart i x) n.interfaces))
 
 abbrev is_inside : Network → Interface → Bool
 is_inside n x = some (λ k q. is_link x.link q.seat && some (λ p b. (p == q.prefix) && contains b x.address) n.prefixes) n.places
@@ -140,17 +141,27 @@ is_fit_prefix n p b =
     (nat_le b.prefix_len 32 && (nat_lt b.network (2 ^ 32) && ((b.network % size_of b.prefix_len) == 0)))
     && each (λ q c. when (same_prefix b c) (p == q)) n.prefixes
 
+-- the router is on the link to which its prefix is attached, if it is
+abbrev is_there : Network → ℕ → Option ℕ → Bool
+is_there n r None = true
+is_there n r (Some l) = some (λ i x. (x.router == r) && (x.link == l)) n.interfaces
+
+-- no gateway is told
+abbrev tells_none : Option ℕ → Bool
+tells_none None = true
+tells_none (Some a) = false
+
 abbrev is_fit_seat : Network → Seat → Bool
 is_fit_seat n (Link l) = nat_lt l (length n.links)
-is_fit_seat n (Own r c) = nat_lt r (length n.routers) && (nat_le 1 c && nat_le c 15)
+is_fit_seat n (Own r c kept link via) = (nat_lt r (length n.routers) && (nat_le 1 c && nat_le c 15)) && (is_there n r link && tells_none via)
 
 abbrev touches : Network → ℕ → Seat → Bool
 touches n r (Link l) = some (λ i x. (x.router == r) && (x.link == l)) n.interfaces
-touches n r (Own o c) = o == r
+touches n r (Own o c kept link via) = o == r
 
 abbrev is_same_link : Seat → Seat → Bool
 is_same_link s (Link l) = is_link l s
-is_same_link s (Own o c) = false
+is_same_link s (Own o c kept link via) = false
 
 abbrev are_apart_seats : Network → Seat → Seat → Bool
 are_apart_seats n s t = not (is_same_link s t) && below (λ r. not (touches n r s && touches n r t)) (length n.routers)
@@ -164,6 +175,14 @@ abbrev has_counts : Network → Bool
 has_counts n =
     ((nat_le 1 (length n.links) && nat_le (length n.links) 512) && (nat_le 1 (length n.routers) && nat_le (length n.routers) 128))
     && (nat_le (length n.interfaces) 1024 && nat_le (length n.places) 1024)
+
+-- no interface has a further address
+abbrev is_empty : {A : Type 0} → List A → Bool
+is_empty [] = true
+is_empty (x ∷ xs) = false
+
+abbrev has_no_more : Network → Bool
+has_no_more n = (length n.also == length n.interfaces) && (each (λ i also. is_empty also) n.also && nat_le (sum (map length n.also)) 1024)
 
 abbrev has_each : Network → Bool
 has_each n =
@@ -180,6 +199,7 @@ pub record Passes (n : Network) : Type 0 where
   pub prefixes : each (is_fit_prefix n) n.prefixes ≡ true
   pub places : each (is_fit_place n) n.places ≡ true
   pub has : has_each n ≡ true
+  pub also : has_no_more n ≡ true
 
 -- the test of a name is a name (what `rip_wire` says of its test)
 abbrev pub NamesTested : Type 0
@@ -189,13 +209,16 @@ module _ (n : Network) (ok : Passes n) where
   -- an interface passes
   fit_parts : (i : ℕ) (x : Interface) → slice_get n.interfaces i ≡ Some x →
       (x.router < length n.routers) × (x.link < length n.links) × (1 ≤ x.cost) × (x.cost ≤ 15) × (x.address < 2 ^ 32) × (each (are_apart i x) n.interfaces ≡ true)
+      × (1 ≤ x.direct) × (x.direct ≤ x.cost)
   fit_parts i x at =
       let h0 = and_parts _ _ (each_gives (is_fit_interface n) n.interfaces ok.interfaces i x at) in
       let h1 = and_parts _ _ h0.0 in
       let h2 = and_parts _ _ h0.1 in
       let h3 = and_parts _ _ h2.0 in
       let h4 = and_parts _ _ h2.1 in
-      (ltb-true _ _ h1.0, ltb-true _ _ h1.1, leb-true _ _ h3.0, leb-true _ _ h3.1, ltb-true _ _ h4.0, h4.1)
+      let h5 = and_parts _ _ h3.1 in
+      let h6 = and_parts _ _ h5.1 in
+      (ltb-true _ _ h1.0, ltb-true _ _ h1.1, leb-true _ _ h3.0, leb-true _ _ h5.0, ltb-true _ _ h4.0, h4.1, leb-true _ _ h6.0, leb-true _ _ h6.1)
 
   apart : (i j : ℕ) (x y : Interface) → slice_get n.interfaces i ≡ Some x → slice_get n.interfaces j ≡ Some y → x.link ≡ y.link → (x.router ≡ y.router) ⊎ (x.address ≡ y.address) → i ≡ j
   apart i j x y at there link same =
@@ -224,6 +247,42 @@ module _ (n : Network) (ok : Passes n) where
   link_same : (l : ℕ) → is_same_link (Link l) (Link l) ≡ true
   link_same l = eq-eqb l l refl
 
+  -- what is a router's own passes
+  own_fits : (k p r c : ℕ) (kept : Bool) (link via : Option ℕ) → IsPlace n k p (Own r c kept link via) →
+      (r < length n.routers) × (1 ≤ c) × (c ≤ 15) × (is_there n r link ≡ true) × (tells_none via ≡ true)
+  own_fits k p r c kept link via at =
+      let h = and_parts (nat_lt r (length n.routers) && (nat_le 1 c && nat_le c 15)) _ (seat_fits k p (Own r c kept link via) at) in
+      let h0 = and_parts (nat_lt r (length n.routers)) _ h.0 in
+      let h1 = and_parts (nat_le 1 c) _ h0.1 in
+      let h2 = and_parts (is_there n r link) _ h.1 in
+      (ltb-true r _ h0.0, leb-true 1 c h1.0, leb-true c 15 h1.1, h2.0, h2.1)
+
+  -- an interface has its own address alone
+  alone : (i : ℕ) (further : List ℕ) → slice_get n.also i ≡ Some further → further ≡ []
+  alone i further at =
+      let h = and_parts (length n.also == length n.interfaces) _ ok.also in
+      empty further (each_gives (λ i also. is_empty also) n.also (and_parts _ _ h.1).0 i further at)
+    where
+      empty : (xs : List ℕ) → is_empty xs ≡ true → xs ≡ []
+      empty [] e = refl
+      empty (x ∷ xs) e = cc e
+
+  one_address : (i l : ℕ) (all : List ℕ) → (h : HasAddresses n i l all) → (x : Interface) × (slice_get n.interfaces i ≡ Some x) × (x.link ≡ l) × (all ≡ x.address ∷ [])
+  one_address i l all h = (h.interface, h.listed, h.on, h.all ∙ ap (λ xs. h.interface.address ∷ xs) (alone i h.also h.further))
+
+  its_address : (i l a : ℕ) → HasAddress n i l a → (x : Interface) × (slice_get n.interfaces i ≡ Some x) × (x.link ≡ l) × (a ≡ x.address)
+  its_address i l a h =
+      let one = one_address i l h.0 h.1 in
+      let in_one : Contains (one.0.address ∷ []) a = rw one.3 at h.2 in
+      (one.0, one.1, one.2, the_one one.0.address a in_one)
+    where
+      the_one : (x a : ℕ) → Contains (x ∷ []) a → a ≡ x
+      the_one x a c = go c.0 c.1 c.2
+        where
+          go : (k : ℕ) → k < 1 → get_or (x ∷ []) k a ≡ a → a ≡ x
+          go zero lt e = sym e
+          go (suc k) lt e = absurd (omega (arith, lt))
+
   -- a place that touches a router passes the test of that
   seat_touched : (k p r c : ℕ) → Touches n k p r c → (s : Seat) × IsPlace n k p s × (touches n r s ≡ true) × (r < length n.routers)
   seat_touched k p r c (inl h) =
@@ -232,7 +291,7 @@ module _ (n : Network) (ok : Passes n) where
       let test = some_holds (λ i x. (x.router == r) && (x.link == h.0)) n.interfaces i _ its.listed (and_from (r == r) (h.0 == h.0) (eq-eqb r r refl) (eq-eqb h.0 h.0 refl)) in
       (Link h.0, h.1, test, (fit_parts i _ its.listed).0)
   seat_touched k p r c (inr h) =
-      (Own r c, h, eq-eqb r r refl, ltb-true r _ (and_parts _ _ (seat_fits k p (Own r c) h)).0)
+      (Own r c h.kept h.link h.via, h.place, eq-eqb r r refl, (own_fits k p r c h.kept h.link h.via h.place).0)
 
   both_false : (a b : Bool) → not (a && b) ≡ true → a ≡ true → b ≡ true → ⊥
   both_false true true h a b = cc h
@@ -284,9 +343,9 @@ module _ (n : Network) (ok : Passes n) where
   place_is : (k : ℕ) (q : Place) (s : Seat) → slice_get n.places k ≡ Some q → q.seat ≡ s → IsPlace n k q.prefix s
   place_is k q s at e = record { listed = at ∙ ap (λ (t : Seat). Some (record { prefix = q.prefix; seat = t })) e }
 
-  inside : (i l a p : ℕ) → HasAddress n i l a → Carries n l p → IsInside n l a
+  inside : (i l a p : ℕ) → HasOwnAddress n i l a → Carries n l p → IsInside n l a
   inside i l a p h carries =
-      let x : Interface = record { router = h.router; link = l; address = a; cost = h.cost } in
+      let x : Interface = record { router = h.router; link = l; address = a; cost = h.cost; direct = h.direct } in
       let here = some_holds (λ k q. is_link l q.seat) n.places carries.0 _ carries.1.listed (eq-eqb l l refl) in
       let found = some_gives (λ k q. is_link l q.seat && some (λ p b. (p == q.prefix) && contains b a) n.prefixes) n.places
       (when_gives _ (is_inside n x) (each_gives (is_inside_prefixes n) n.interfaces ok.inside i x h.listed) here) in
@@ -301,7 +360,7 @@ module _ (n : Network) (ok : Passes n) where
   one_interface : (r : ℕ) → r < length n.routers → (i l c : ℕ) × IsInterface n i r l c
   one_interface r lt =
       let h = some_gives (λ i x. x.router == r) n.interfaces (below_gives (λ r. some (λ i x. x.router == r) n.interfaces) (length n.routers) (and_parts _ _ ok.has).0 r lt) in
-      let there : IsInterface n h.0 h.1.router h.1.link h.1.cost = record { address = h.1.address; listed = h.2 } in
+      let there : IsInterface n h.0 h.1.router h.1.link h.1.cost = record { address = h.1.address; direct = h.1.direct; listed = h.2 } in
       (h.0, h.1.link, h.1.cost, rw (eqb-true _ _ h.3) at there)
 
   one_place : (p : ℕ) → p < length n.prefixes → (k : ℕ) × (s : Seat) × IsPlace n k p s
@@ -310,6 +369,29 @@ module _ (n : Network) (ok : Passes n) where
       let h = some_gives (λ k q. q.prefix == p) n.places (below_gives (λ p. some (λ k q. q.prefix == p) n.places) (length n.prefixes) has.1 p lt) in
       let there : IsPlace n h.0 h.1.prefix h.1.seat = record { listed = h.2 } in
       (h.0, h.1.seat, rw (eqb-true _ _ h.3) at there)
+
+  direct_most : (i r l c d : ℕ) → IsInterface n i r l c → IsConnected n i r l d → d ≤ c
+  direct_most i r l c d its h =
+      let same : h.cost ≡ c = ap (λ (x : Interface). x.cost) (same_Some _ _ (sym h.listed ∙ its.listed)) in
+      omega (arith, (fit_parts i _ h.listed).7, same)
+
+  attached_there : (r p l : ℕ) → IsAttached n r p l → IsOn n r l
+  attached_there r p l h =
+      let test : is_there n r (Some l) ≡ true = (own_fits h.0 p r h.1.cost h.1.kept (Some l) h.1.via h.1.place).3 in
+      let found = some_gives (λ i x. (x.router == r) && (x.link == l)) n.interfaces test in
+      let x = found.1 in
+      let parts = and_parts (x.router == r) (x.link == l) found.3 in
+      let there : IsInterface n found.0 x.router x.link x.cost = record { address = x.address; direct = x.direct; listed = found.2 } in
+      let there' : IsInterface n found.0 r x.link x.cost = rw (eqb-true _ _ parts.0) at there in
+      (x.cost, (found.0, rw (eqb-true _ _ parts.1) at there'))
+
+  addresses_once : (i l : ℕ) (all : List ℕ) → HasAddresses n i l all → IsEachOnce all
+  addresses_once i l all h = let one = one_address i l all h in rw one.3 (single one.0.address)
+    where
+      single : (x : ℕ) → IsEachOnce (x ∷ [])
+      single x zero zero a f g = refl
+      single x zero (suc k) a f g = cc g
+      single x (suc j) k a f g = cc f
 
   pub lawful : NamesTested → IsLawful n
   lawful tested =
@@ -324,6 +406,7 @@ module _ (n : Network) (ok : Passes n) where
         some_router = leb-true _ _ routers.0;
         few_routers = leb-true _ _ routers.1;
         few_interfaces = leb-true _ _ others.0;
+        few_also = leb-true _ _ (and_parts _ _ (and_parts _ _ ok.also).1).1;
         few_places = leb-true _ _ others.1;
         link_named = named n.links ok.links tested;
         router_named = named n.routers ok.routers tested;
@@ -335,17 +418,26 @@ module _ (n : Network) (ok : Passes n) where
         cost_most = λ i r l c h. (fit_parts i _ h.listed).3;
         one_interface = one_interface;
         one_on_link = λ i j r l c d a b. apart i j _ _ a.listed b.listed refl (inl refl);
-        address_known = λ i l a h. (fit_parts i _ h.listed).4;
-        addresses_differ = λ i j l a h g. apart i j _ _ h.listed g.listed refl (inr refl);
+        direct_least = λ i r l d h. (fit_parts i _ h.listed).6;
+        direct_most = direct_most;
+        also_listed = eqb-true _ _ (and_parts _ _ ok.also).0;
+        address_known = λ i l a h. let x = its_address i l a h in rw x.3 (fit_parts i x.0 x.1).4;
+        addresses_differ = λ i j l a h g.
+            let x = its_address i l a h in
+            let y = its_address j l a g in
+            apart i j x.0 y.0 x.1 y.1 (x.2 ∙ sym y.2) (inr (sym x.3 ∙ y.3));
+        addresses_once = addresses_once;
         inside = inside;
         prefix_is = λ p b at. (block_parts p b at).0;
         prefixes_differ = prefixes_differ;
         one_place = one_place;
         prefix_known = λ k p s at. ltb-true p _ (and_parts _ _ (and_parts _ _ (at_place k p s at)).0).0;
         seat_known = λ k p l at. ltb-true l _ (seat_fits k p (Link l) at);
-        owner_known = λ k p r c at. ltb-true r _ (and_parts _ _ (seat_fits k p (Own r c) at)).0;
-        own_cost_least = λ k p r c at. leb-true 1 c (and_parts _ _ (and_parts _ _ (seat_fits k p (Own r c) at)).1).0;
-        own_cost_most = λ k p r c at. leb-true c 15 (and_parts _ _ (and_parts _ _ (seat_fits k p (Own r c) at)).1).1;
+        owner_known = λ k p r c h. (own_fits k p r c h.kept h.link h.via h.place).0;
+        own_cost_least = λ k p r c h. (own_fits k p r c h.kept h.link h.via h.place).1;
+        own_cost_most = λ k p r c h. (own_fits k p r c h.kept h.link h.via h.place).2;
+        attached_there = attached_there;
+        gateway_known = λ r p a h. absurd (let told : tells_none (Some a) ≡ true = (own_fits h.0 p r h.1.cost h.1.kept h.1.link (Some a) h.1.place).4 in cc told);
         carried_once = carried_once;
         touched_once = touched_once;
       }

@@ -1,15 +1,15 @@
 -- Where every equation holds, the metrics are the least costs of paths.
-use Rattle.std.proofs.Common.{ℕ, zero, suc, ◌<◌, ◌≤◌, ◌⊎◌, inl, inr, List, [], ◌∷◌, arith, length}
+use Rattle.std.proofs.Common.{◌≡◌, ℕ, zero, suc, ◌<◌, ◌≤◌, ◌⊎◌, inl, inr, List, [], ◌∷◌, arith, length}
 use Rattle.std.proofs.lemmas.Bool.{cases_lt}
 use Rattle.rip_plan.specs.Network.{Network}
-use Rattle.rip_plan.specs.Relations.{IsLawful}
+use Rattle.rip_plan.specs.Relations.{IsKept, IsLawful}
 use Rattle.rip_table.specs.State.{State}
 use Rattle.rip_check.specs.Paths.{Hop, IsPath}
 use Rattle.rip_check.specs.Tables.{Tables, Shows, FitsWay}
 use Rattle.rip_check.specs.declared.way.Way.{Way}
 use Rattle.rip_check.specs.declared.way.Way.TheVariants.{Unreachable, Here, Over}
 use Rattle.rip_check.specs.Settled.{HoldsAll, IsGiven, AllRight, GoesRight}
-use Rattle.rip_check.proofs.Shown.{metric_most, offer_below, known_on}
+use Rattle.rip_check.proofs.Shown.{metric_most, offer_below, offer_tells, known_on}
 use Rattle.rip_check.proofs.Poison.{poison}
 
 -- a way that begins a path of the metric has a path of the metric
@@ -19,6 +19,15 @@ path_of n r p m Here fits small goes = ([], goes)
 path_of n r p m (Over l) fits small goes = (record { link = l; to = goes.0 } ∷ goes.1, goes.2)
 
 module _ (n : Network) (shown : State) (T : Tables) (plan : IsLawful n) (shows : Shows n shown T) (holds : HoldsAll n shown T) where
+  -- a router that goes over a link does not keep the prefix
+  takes_case : (r p k : ℕ) (w : Way) → w ≡ Over k → IsGiven n shown r p (T r p).metric w → IsKept n r p → ⊥
+  takes_case r p k Unreachable is given kept = cc is
+  takes_case r p k Here is given kept = cc is
+  takes_case r p k (Over l) is given kept = given.0 kept
+
+  takes : (r p k : ℕ) → r < length n.routers → p < length shown.prefixes → (T r p).way ≡ Over k → IsKept n r p → ⊥
+  takes r p k at known is kept = takes_case r p k (T r p).way is (holds r p at known).given kept
+
   -- a route whose next routers have paths of their metrics has one
   goes_case : (r p : ℕ) → p < length shown.prefixes → (w : Way) → FitsWay n r p (T r p).metric w → IsGiven n shown r p (T r p).metric w →
       ((s : ℕ) → s < length n.routers → (T s p).metric < (T r p).metric → (hops : List Hop) × IsPath n p s hops (T s p).metric) →
@@ -26,13 +35,14 @@ module _ (n : Network) (shown : State) (T : Tables) (plan : IsLawful n) (shows :
   goes_case r p known Unreachable fits given ih = tt
   goes_case r p known Here fits given ih = given
   goes_case r p known (Over l) fits given ih =
-      let s = given.0 in
-      let o = given.1 in
+      let s = given.1.0 in
+      let o = given.1.1 in
       let e = offer_below n shown T plan shows r l s p (T r p).metric o known fits.1 in
       let least = plan.cost_least o.here.0 r l o.cost o.here.1 in
       let falls : (T s p).metric < (T r p).metric = omega (arith, e, least) in
       let rest = ih s (known_on n plan s l o.neighbour.there) falls in
-      (s, rest.0, (o.cost, (T s p).metric, o.here, o.neighbour, rest.1, e))
+      let tells = offer_tells n shown T plan shows r l s p (T r p).metric o known fits.1 (λ k is. takes s p k (known_on n plan s l o.neighbour.there) known is) in
+      (s, rest.0, (o.cost, (T s p).metric, o.here, record { neighbour = o.neighbour; goes_on = given.0; tells = tells }, rest.1, e))
 
   -- by descent on the metric
   goes_below : (bound r p : ℕ) → r < length n.routers → p < length shown.prefixes → (T r p).metric < bound → GoesRight n p r (T r p).metric (T r p).way
@@ -51,9 +61,9 @@ module _ (n : Network) (shown : State) (T : Tables) (plan : IsLawful n) (shows :
   pub no_path_is_cheaper : (r p : ℕ) (hops : List Hop) (v : ℕ) → r < length n.routers → p < length shown.prefixes → IsPath n p r hops v → (T r p).metric ≤ v
   no_path_is_cheaper r p [] v at known path = (holds r p at known).choice.least v (inr (inl path))
   no_path_is_cheaper r p (h ∷ hops) v at known path =
-      let near = path.3 in
-      let le = poison n shown T plan shows holds r h.link path.0 h.to p known path.2 near in
-      let ih = no_path_is_cheaper h.to p hops path.1 (known_on n plan h.to h.link near.there) known path.4 in
+      let hop = path.3 in
+      let le = poison n shown T plan shows holds r h.link path.0 h.to p known path.2 hop in
+      let ih = no_path_is_cheaper h.to p hops path.1 (known_on n plan h.to h.link hop.neighbour.there) known path.4 in
       omega (arith, le, ih, path.5)
 
   pub reached : (r p : ℕ) → r < length n.routers → p < length shown.prefixes → (T r p).metric < 16 →

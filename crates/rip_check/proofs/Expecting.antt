@@ -16,7 +16,7 @@ planned n plan p r [] v path = go path.1
   where
     go : Touches n path.0 p r v → p < length n.prefixes
     go (inl h) = plan.prefix_known path.0 p _ h.1
-    go (inr h) = plan.prefix_known path.0 p _ h
+    go (inr h) = plan.prefix_known path.0 p _ h.place
 planned n plan p r (h ∷ hops) v path = planned n plan p h.to hops path.1 path.4
 
 unreachable_goes : (n : Network) (p r m : ℕ) (w : Way) → FitsWay n r p m w → m ≡ 16 → GoesRight n p r m w

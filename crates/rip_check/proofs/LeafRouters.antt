@@ -1,15 +1,15 @@
--- A leaf always has a route that fits.
+-- A leaf has a route that fits where any could be behind what it shows.
 use Rattle.std.proofs.Common.{◌≡◌, ◌≢◌, ℕ, zero, suc, ◌<◌, ◌≤◌, ◌⊎◌, inl, inr, Option, None, Some, List, slice_get, length, refl, sym, ◌∙◌, ap, arith}
 use Rattle.std.proofs.lemmas.Bool.{cases_lt, cases_eq}
 use Rattle.std.proofs.lemmas.Option.{slice_get_within, same_Some}
 use Rattle.rip_plan.specs.declared.parts.Interface.{Interface}
 use Rattle.rip_plan.specs.Network.{Network}
-use Rattle.rip_plan.specs.Relations.{IsLawful, IsInterface, IsLeaf, Carries}
+use Rattle.rip_plan.specs.Relations.{IsAttached, IsDirect, IsInterface, IsLawful, IsLeaf}
 use Rattle.rip_table.specs.State.{State}
 use Rattle.rip_check.specs.declared.way.Way.{Way}
 use Rattle.rip_check.specs.declared.way.Way.TheVariants.{Unreachable, Here, Over}
-use Rattle.rip_check.specs.Tables.{Route, FitsShown, FitsWay, MayShow, IsSilent, Offers, IsLeastOffer, IsHiddenRoute, Tells}
-use Rattle.rip_check.proofs.Reading.{carries_or_not}
+use Rattle.rip_check.specs.Tables.{Route, FitsShown, FitsWay, MayHoldBack, MayShow, IsSilent, Offers, IsLeastOffer, IsHiddenRoute, Tells}
+use Rattle.rip_check.proofs.Plans.{attached_or_not, direct_least, direct_most, held_back_direct, holds_back_or_not}
 use Rattle.rip_check.specs.Metrics.{IsInRange, metric_at}
 use Rattle.rip_check.specs.Verdicts.{IsHidden}
 use Rattle.rip_check.proofs.Across.{heard_from}
@@ -102,7 +102,7 @@ module _ (n : Network) (shown : State) (r i p : ℕ) (own : Interface) (mine : o
       reached : (v ≡ 16) ⊎ IsOfferAt n.interfaces shown own p v → (v ≡ 16) ⊎ ((l s : ℕ) × Offers n shown r l s p v)
       reached (inl e) = inl e
       reached (inr o) =
-          let there : IsInterface n o.number o.its.router o.its.link o.its.cost = record { address = o.its.address; listed = o.listed } in
+          let there : IsInterface n o.number o.its.router o.its.link o.its.cost = record { address = o.its.address; direct = o.its.direct; listed = o.listed } in
           let there' : IsInterface n o.number o.its.router own.link o.its.cost = rw o.across.link at there in
           inr (
             own.link,
@@ -123,7 +123,7 @@ module _ (n : Network) (shown : State) (r i p : ℕ) (own : Interface) (mine : o
           let e = leaf.only o.here.0 k o.cost o.here.1 in
           let at : IsInterface n i r k o.cost = rw e at o.here.1 in
           let same = its_link n i r k o.cost r own.link own.cost at leaf.has in
-          let its : Interface = record { router = s; link = k; address = o.there.address; cost = o.its_cost } in
+          let its : Interface = record { router = s; link = k; address = o.there.address; cost = o.its_cost; direct = o.there.direct } in
           let le : v ≤ heard_from shown own.cost o.interface p =
           below o.interface its (slice_get_within n.interfaces o.interface its o.there.listed) o.there.listed (record { link = same.1; other = λ e. o.neighbour.other (e ∙ mine) }) in
           omega (arith, le, o.value, same.2)
@@ -142,12 +142,12 @@ module _ (n : Network) (shown : State) (r i p : ℕ) (own : Interface) (mine : o
           let o' : Offers n shown own.router own.link s p w = rw mine (rw e' at o) in
           below s w o'
 
-  made : (t : Route) → FitsWay n r p t.metric t.way → MayShow n own.link p t.metric t.way (metric_at shown i p) → IsHiddenRoute n shown r i own.link p t → FitsShown n shown r p t
+  made : (t : Route) → FitsWay n r p t.metric t.way → MayShow n r own.link p t.metric t.way (metric_at shown i p) → IsHiddenRoute n shown r i own.link p t → FitsShown n shown r p t
   made t way told hidden =
       record {
         told = record {
           way_fits = way;
-          as_told = only_one (λ j k. MayShow n k p t.metric t.way (metric_at shown j p)) told;
+          as_told = only_one (λ j k. MayShow n r k p t.metric t.way (metric_at shown j p)) told;
         };
         hidden = λ j k d other. only_one (λ x y. IsHiddenRoute n shown r x y p t) hidden j k d other.has;
       }
@@ -159,30 +159,29 @@ module _ (n : Network) (shown : State) (r i p : ℕ) (own : Interface) (mine : o
       omega (arith, less, is)
 
   -- it shows a metric below 16
-  pub low_fits : (m : ℕ) → 1 ≤ m → m < 16 → metric_at shown i p ≡ Some m → FitsShown n shown r p (record { metric = m; way = Here })
-  low_fits m one less e = made (record { metric = m; way = Here }) (one, less) (inl e)
-      (record { carried = λ on silent. absurd (not_small m less e silent); learned = λ off is. absurd (not_small m less e (inr is)) })
+  pub low_fits : (m : ℕ) → 1 ≤ m → m < 16 → metric_at shown i p ≡ Some m → (IsAttached n r p own.link → ⊥) → FitsShown n shown r p (record { metric = m; way = Here })
+  low_fits m one less e off = made (record { metric = m; way = Here }) (one, less) (inl (off, e))
+      (record { held_back = λ on silent. absurd (not_small m less e silent); learned = λ off is. absurd (not_small m less e (inr is)) })
 
-  -- it has the prefix on its link
-  pub here_fits : IsLawful n → IsSilent (metric_at shown i p) → Carries n own.link p → FitsShown n shown r p (record { metric = own.cost; way = Here })
-  here_fits plan silent carried =
-      let least_cost = plan.cost_least i r own.link own.cost leaf.has in
-      let most_cost = plan.cost_most i r own.link own.cost leaf.has in
-      made (record { metric = own.cost; way = Here }) (least_cost, omega (arith, most_cost)) (inr (carried, silent))
-      (record { carried = λ on is. (refl, (carried.0, inl (own.link, carried.1, (i, leaf.has)))); learned = λ off is. absurd (off carried) })
+  -- it has the prefix itself, and may hold that back on its link
+  pub here_fits : IsLawful n → IsSilent (metric_at shown i p) → MayHoldBack n r p own.link → (d : ℕ) → IsDirect n r p d → FitsShown n shown r p (record { metric = d; way = Here })
+  here_fits plan silent held_back d direct =
+      let most = direct_most n plan r p d direct in
+      made (record { metric = d; way = Here }) (direct_least n plan r p d direct, omega (arith, most)) (inr (held_back, silent))
+      (record { held_back = λ on is. (refl, direct); learned = λ off is. absurd (off held_back) })
 
   -- it shows nothing, or 16 where no offer is below 16
-  pub nowhere_fits : IsSilent (metric_at shown i p) → (Carries n own.link p → ⊥) → (metric_at shown i p ≡ Some 16 → IsLeastOffer n shown r p 16) →
+  pub nowhere_fits : IsSilent (metric_at shown i p) → (MayHoldBack n r p own.link → ⊥) → (metric_at shown i p ≡ Some 16 → IsLeastOffer n shown r p 16) →
       FitsShown n shown r p (record { metric = 16; way = Unreachable })
   nowhere_fits silent off least = made (record { metric = 16; way = Unreachable }) refl silent
-      (record { carried = λ on is. absurd (off on); learned = λ off' is. (least is, λ lt. absurd (omega (arith, lt)), λ is'. refl) })
+      (record { held_back = λ on is. absurd (off on); learned = λ off' is. (least is, λ lt. absurd (omega (arith, lt)), λ is'. refl) })
 
   -- it shows 16, and the least offer is below that
-  pub over_fits : IsLawful n → metric_at shown i p ≡ Some 16 → (Carries n own.link p → ⊥) → (h : ℕ) → IsLeastOffer n shown r p h → h < 16 →
+  pub over_fits : IsLawful n → metric_at shown i p ≡ Some 16 → (MayHoldBack n r p own.link → ⊥) → (h : ℕ) → IsLeastOffer n shown r p h → h < 16 →
       FitsShown n shown r p (record { metric = h; way = Over own.link })
   over_fits plan e off h so less =
       made (record { metric = h; way = Over own.link }) (at_least so.reached, less, (own.cost, (i, leaf.has)), off) (inl (refl, e))
-      (record { carried = λ on is. absurd (off on); learned = λ off' is. (so, λ lt. refl, λ is'. absurd (omega (arith, less, is'))) })
+      (record { held_back = λ on is. absurd (off on); learned = λ off' is. (so, λ lt. refl, λ is'. absurd (omega (arith, less, is'))) })
     where
       at_least : (h ≡ 16) ⊎ ((l s : ℕ) × Offers n shown r l s p h) → 1 ≤ h
       at_least (inl is) = omega (arith, is)
@@ -191,8 +190,21 @@ module _ (n : Network) (shown : State) (r i p : ℕ) (own : Interface) (mine : o
           let one = plan.cost_least offer.here.0 r o.0 offer.cost offer.here.1 in
           omega (arith, offer.value, one)
 
-  a_route : IsLawful n → IsInRange n shown → (t : Route) × FitsShown n shown r p t
-  a_route plan range = go (metric_at shown i p) refl (carries_or_not n own.link p)
+  -- where it shows a metric below 16 on the link to which the prefix is attached, no route could be behind it
+  pub not_told : (m : ℕ) → m < 16 → metric_at shown i p ≡ Some m → IsAttached n r p own.link → (u : Route) → Tells n shown r p u → ⊥
+  not_told m less e at u tells = go u.way tells.way_fits (tells.as_told i own.link own.cost leaf.has)
+    where
+      go : (w : Way) → FitsWay n r p u.metric w → MayShow n r own.link p u.metric w (metric_at shown i p) → ⊥
+      go Unreachable f told = not_small m less e told
+      go Here f (inl is) = is.0 at
+      go Here f (inr h) = not_small m less e h.1
+      go (Over k) f (inl h) = not_small m less e (inr h.1)
+      go (Over k) f (inr h) =
+          let on = f.2 in
+          h.0 (only_one (λ x y. y ≡ own.link) refl on.1.0 k on.0 on.1.1)
+
+  a_route : IsLawful n → IsInRange n shown → (u : Route) → Tells n shown r p u → (t : Route) × FitsShown n shown r p t
+  a_route plan range u tells = go (metric_at shown i p) refl (holds_back_or_not n r p own.link)
     where
       so : LeastAt n.interfaces shown own p (length n.interfaces)
       so = least_at n.interfaces shown own p (length n.interfaces)
@@ -200,17 +212,25 @@ module _ (n : Network) (shown : State) (r i p : ℕ) (own : Interface) (mine : o
       least : IsLeastOffer n shown r p so.value
       least = is_least so.value so.most so.below so.reached
 
-      go : (x : Option ℕ) → metric_at shown i p ≡ x → Carries n own.link p ⊎ (Carries n own.link p → ⊥) → (t : Route) × FitsShown n shown r p t
-      go None e (inl carried) = (record { metric = own.cost; way = Here }, here_fits plan (inl e) carried)
+      held : IsSilent (metric_at shown i p) → MayHoldBack n r p own.link → (t : Route) × FitsShown n shown r p t
+      held silent on =
+          let direct = held_back_direct n plan r p own.link (own.cost, (i, leaf.has)) on in
+          (record { metric = direct.0; way = Here }, here_fits plan silent on direct.0 direct.1)
+
+      go : (x : Option ℕ) → metric_at shown i p ≡ x → MayHoldBack n r p own.link ⊎ (MayHoldBack n r p own.link → ⊥) → (t : Route) × FitsShown n shown r p t
+      go None e (inl on) = held (inl e) on
       go None e (inr off) = (record { metric = 16; way = Unreachable }, nowhere_fits (inl e) off (λ is. cc (e, is)))
-      go (Some m) e carries =
+      go (Some m) e holds_back =
           elim (cases_lt m 16) [
-            | inl less ↦ (record { metric = m; way = Here }, low_fits m (range i r own.link own.cost p m leaf.has e).0 less e)
+            | inl less ↦ elim (attached_or_not n r p own.link) [
+              | inl at ↦ absurd (not_told m less e at u tells)
+              | inr off ↦ (record { metric = m; way = Here }, low_fits m (range i r own.link own.cost p m leaf.has e).0 less e off)
+            ]
             | inr more ↦
                 let is : m ≡ 16 = omega (arith, more, (range i r own.link own.cost p m leaf.has e).1) in
                 let e' : metric_at shown i p ≡ Some 16 = e ∙ ap Some is in
-                elim carries [
-                  | inl carried ↦ (record { metric = own.cost; way = Here }, here_fits plan (inr e') carried)
+                elim holds_back [
+                  | inl on ↦ held (inr e') on
                   | inr off ↦ elim (cases_lt so.value 16) [
                     | inl less ↦ (record { metric = so.value; way = Over own.link }, over_fits plan e' off so.value least less)
                     | inr big ↦
@@ -221,7 +241,7 @@ module _ (n : Network) (shown : State) (r i p : ℕ) (own : Interface) (mine : o
           ]
 
   -- hidden is told from its interface
-  pub hidden_at : IsHidden n shown r p → (Carries n own.link p × IsSilent (metric_at shown i p)) ⊎ ((Carries n own.link p → ⊥) × (metric_at shown i p ≡ Some 16))
+  pub hidden_at : IsHidden n shown r p → (MayHoldBack n r p own.link × IsSilent (metric_at shown i p)) ⊎ ((MayHoldBack n r p own.link → ⊥) × (metric_at shown i p ≡ Some 16))
   hidden_at h =
       let e : h.0 ≡ i = leaf.only h.0 h.1 h.2 h.3.has in
       let at : IsInterface n i r h.1 h.2 = rw e at h.3.has in
@@ -231,7 +251,7 @@ module _ (n : Network) (shown : State) (r i p : ℕ) (own : Interface) (mine : o
   pub low_shows : (m : ℕ) → m < 16 → metric_at shown i p ≡ Some m → IsHidden n shown r p → ⊥
   low_shows m less e h = elim (hidden_at h) [ inl x ↦ not_small m less e x.1 | inr x ↦ not_small m less e (inr x.1) ]
 
-  pub nowhere_shows : metric_at shown i p ≡ None → (Carries n own.link p → ⊥) → IsHidden n shown r p → ⊥
+  pub nowhere_shows : metric_at shown i p ≡ None → (MayHoldBack n r p own.link → ⊥) → IsHidden n shown r p → ⊥
   nowhere_shows e off h = elim (hidden_at h) [ inl x ↦ off x.0 | inr x ↦ cc (e, x.1) ]
 
   -- the same route
@@ -244,29 +264,29 @@ module _ (n : Network) (shown : State) (r i p : ℕ) (own : Interface) (mine : o
       let both = go u.way tells.way_fits (tells.as_told i own.link own.cost leaf.has) in
       same_route u (record { metric = m; way = Here }) both.0 both.1
     where
-      go : (w : Way) → FitsWay n r p u.metric w → MayShow n own.link p u.metric w (metric_at shown i p) → (u.metric ≡ m) × (w ≡ Here)
+      go : (w : Way) → FitsWay n r p u.metric w → MayShow n r own.link p u.metric w (metric_at shown i p) → (u.metric ≡ m) × (w ≡ Here)
       go Unreachable f told = absurd (not_small m less e told)
-      go Here f (inl is) = (same_Some u.metric m (sym is ∙ e), refl)
+      go Here f (inl is) = (same_Some u.metric m (sym is.1 ∙ e), refl)
       go Here f (inr h) = absurd (not_small m less e h.1)
       go (Over k) f (inl h) = absurd (not_small m less e (inr h.1))
       go (Over k) f (inr h) =
           let on = f.2 in
           absurd (h.0 (only_one (λ x y. y ≡ own.link) refl on.1.0 k on.0 on.1.1))
 
-  -- and where it shows nothing on a link that does not carry the prefix
-  pub nowhere_one : metric_at shown i p ≡ None → (Carries n own.link p → ⊥) → (u : Route) → Tells n shown r p u → u ≡ record { metric = 16; way = Unreachable }
+  -- and where it shows nothing on a link where it may not hold back its route
+  pub nowhere_one : metric_at shown i p ≡ None → (MayHoldBack n r p own.link → ⊥) → (u : Route) → Tells n shown r p u → u ≡ record { metric = 16; way = Unreachable }
   nowhere_one e off u tells =
       let both = go u.way tells.way_fits (tells.as_told i own.link own.cost leaf.has) in
       same_route u (record { metric = 16; way = Unreachable }) both.0 both.1
     where
-      go : (w : Way) → FitsWay n r p u.metric w → MayShow n own.link p u.metric w (metric_at shown i p) → (u.metric ≡ 16) × (w ≡ Unreachable)
+      go : (w : Way) → FitsWay n r p u.metric w → MayShow n r own.link p u.metric w (metric_at shown i p) → (u.metric ≡ 16) × (w ≡ Unreachable)
       go Unreachable f told = (f, refl)
-      go Here f (inl is) = cc (e, is)
+      go Here f (inl is) = cc (e, is.1)
       go Here f (inr h) = absurd (off h.0)
       go (Over k) f (inl h) = cc (e, h.1)
       go (Over k) f (inr h) = cc (e, h.1)
 
--- each leaf has a route that fits
-pub leaf_route : (n : Network) (shown : State) (r i l c p : ℕ) → IsLeaf n r i l c → IsLawful n → IsInRange n shown → (t : Route) × FitsShown n shown r p t
+-- a leaf has a route that fits where one could be behind what it shows
+pub leaf_route : (n : Network) (shown : State) (r i l c p : ℕ) → IsLeaf n r i l c → IsLawful n → IsInRange n shown → (u : Route) → Tells n shown r p u → (t : Route) × FitsShown n shown r p t
 leaf_route n shown r i l c p leaf plan range =
-    a_route n shown r i p (record { router = r; link = l; address = leaf.has.address; cost = c }) refl leaf plan range
+    a_route n shown r i p (record { router = r; link = l; address = leaf.has.address; cost = c; direct = leaf.has.direct }) refl leaf plan range

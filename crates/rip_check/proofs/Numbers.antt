@@ -1,5 +1,5 @@
 -- Numbers: what is shown is a metric, direct costs are costs, and a plan has few prefixes.
-use Rattle.std.proofs.Common.{◌≡◌, ℕ, zero, suc, ◌<◌, ◌≤◌, inl, inr, Bool, true, false, ◌||◌, List, [], ◌∷◌, length, Option, None, Some, slice_get, refl, sym, ◌∙◌, ap, arith, option_and_then}
+use Rattle.std.proofs.Common.{◌≡◌, ℕ, zero, suc, ◌<◌, ◌≤◌, Bool, true, false, ◌||◌, List, [], ◌∷◌, length, Option, None, Some, slice_get, refl, sym, ◌∙◌, ap, arith, option_and_then}
 use Rattle.std.specs.Prelude.{eqb}
 use Rattle.std.specs.List.{AllByRecursion, IsDistinct, list_any}
 use Rattle.std.proofs.lemmas.Bool.{eqb-true, false_from_ne_true}
@@ -9,7 +9,7 @@ use Rattle.rip_wire.specs.Prefix.{Block}
 use Rattle.rip_plan.specs.Network.{Network}
 use Rattle.rip_plan.specs.declared.parts.Place.{Place}
 use Rattle.rip_plan.specs.declared.parts.Seat.{Seat}
-use Rattle.rip_plan.specs.Relations.{IsLawful, IsDirect, IsPlace, Touches}
+use Rattle.rip_plan.specs.Relations.{IsLawful, IsPlace}
 use Rattle.rip_table.specs.State.{Fits, IsState, State}
 use Rattle.rip_check.specs.Metrics.{IsInRange}
 
@@ -22,14 +22,6 @@ in_range n s fits is i r l c p m its shows = go (slice_get s.prefixes p) shows
         let lt : i < s.interfaces = omega (arith, fits.interfaces, slice_get_within n.interfaces i _ its.listed) in
         let h = is.shown i m b lt e in
         (h.least, h.most)
-
--- a direct cost is a cost
-pub direct_most : (n : Network) → IsLawful n → (r k c : ℕ) → IsDirect n r k c → c ≤ 15
-direct_most n plan r k c d = go d.1
-  where
-    go : Touches n d.0 k r c → c ≤ 15
-    go (inl h) = plan.cost_most h.2.0 r h.0 c h.2.1
-    go (inr h) = plan.own_cost_most d.0 k r c h
 
 -- ---- a plan has no more prefixes than places, since each has a place of its own
 

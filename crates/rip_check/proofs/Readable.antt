@@ -19,16 +19,13 @@ module _ (n : Network) (plan : IsLawful n) (shown : State) (range : IsInRange n 
   pub two_fits : (r p : ℕ) (t : Route) → HasTwoInterfaces n r → Tells n shown r p t → FitsShown n shown r p t
   two_fits r p t two tells = record { told = tells; hidden = λ i l c leaf. absurd (two_not_leaf n r i l c two leaf) }
 
-  pub fits_tells : (r p : ℕ) (t : Route) → FitsShown n shown r p t → Tells n shown r p t
-  fits_tells r p t fits = fits.told
-
   pub fits_readable : (r p : ℕ) (t : Route) → r < length n.routers → FitsShown n shown r p t → IsReadable n shown r p
   fits_readable r p t at fits =
       let has = plan.one_interface r at in
       let kind : HasTwoInterfaces n r ⊎ IsLeaf n r has.0 has.1 has.2 = two_or_leaf n r has.0 has.1 has.2 has.3 in
       elim kind [
-        | inl two ↦ inl (t, fits_tells r p t fits, λ u tells. one_route n plan shown r p u t at (two_fits r p u two tells) fits)
-        | inr leaf ↦ inr (has.0, has.1, has.2, leaf)
+        | inl two ↦ (t, fits.told, inl (λ u tells. one_route n plan shown r p u t at (two_fits r p u two tells) fits))
+        | inr leaf ↦ (t, fits.told, inr (has.0, has.1, has.2, leaf))
       ]
 
   pub readable_fits : (r p : ℕ) → r < length n.routers → IsReadable n shown r p → (t : Route) × FitsShown n shown r p t
@@ -36,11 +33,8 @@ module _ (n : Network) (plan : IsLawful n) (shown : State) (range : IsInRange n 
       let has = plan.one_interface r at in
       let kind : HasTwoInterfaces n r ⊎ IsLeaf n r has.0 has.1 has.2 = two_or_leaf n r has.0 has.1 has.2 has.3 in
       elim kind [
-        | inl two ↦ elim readable [
-          | inl h ↦ (h.0, two_fits r p h.0 two h.1)
-          | inr h ↦ absurd (two_not_leaf n r h.0 h.1 h.2 two h.3)
-        ]
-        | inr leaf ↦ leaf_route n shown r has.0 has.1 has.2 p leaf plan range
+        | inl two ↦ (readable.0, two_fits r p readable.0 two readable.1)
+        | inr leaf ↦ leaf_route n shown r has.0 has.1 has.2 p leaf plan range readable.0 readable.1
       ]
 
   pub tables_shown : IsHeard n shown → AreFine n (length shown.prefixes) None (IsReadable n shown) → ShowsTables n shown
@@ -51,9 +45,8 @@ module _ (n : Network) (plan : IsLawful n) (shown : State) (range : IsInRange n 
   pub shown_readable : ShowsTables n shown → AreFine n (length shown.prefixes) None (IsReadable n shown)
   shown_readable h r p at known behind = fits_readable r p (h.0 r p) at (h.1.fits r p at known)
 
-  pub not_readable : (r p : ℕ) → HasTwoInterfaces n r → ((t : Route) → Tells n shown r p t → ⊥) → IsReadable n shown r p → ⊥
-  not_readable r p two none (inl h) = none h.0 h.1
-  not_readable r p two none (inr h) = two_not_leaf n r h.0 h.1 h.2 two h.3
+  pub not_readable : (r p : ℕ) → ((t : Route) → Tells n shown r p t → ⊥) → IsReadable n shown r p → ⊥
+  not_readable r p none h = none h.0 h.1
 
   -- where the one route that fits holds, each does
   pub one_sound : (r p : ℕ) (t : Route) → r < length n.routers → FitsShown n shown r p t → Holds n shown r p t → IsSound n shown r p

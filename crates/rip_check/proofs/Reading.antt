@@ -1,81 +1,29 @@
 -- What is shown tells of the routes: never two sets of tables, and one set where each place has a route that fits.
-use Rattle.std.proofs.Common.{◌≡◌, ◌≢◌, ℕ, zero, suc, length, slice_get, ◌<◌, ◌≤◌, ◌⊎◌, inl, inr, Option, None, Some, unwrap_or, refl, sym, ◌∙◌, ap, arith}
+use Rattle.std.proofs.Common.{◌≡◌, ◌≢◌, ℕ, length, slice_get, ◌<◌, ◌≤◌, ◌⊎◌, inl, inr, Option, None, Some, unwrap_or, refl, sym, ◌∙◌, ap, arith}
 use Rattle.std.proofs.lemmas.Bool.{cases_lt, cases_eq}
 use Rattle.std.proofs.lemmas.Option.{slice_get_within}
+use Rattle.rip_check.proofs.Plans.{find_below, held_back_once, holds_back_or_not, its_cost, one_seat}
 use Rattle.rip_plan.specs.declared.parts.Interface.{Interface}
-use Rattle.rip_plan.specs.declared.parts.Seat.{Seat}
 use Rattle.rip_plan.specs.declared.parts.Seat.TheVariants.{Link, Own}
-use Rattle.rip_plan.specs.declared.parts.Place.{Place}
 use Rattle.rip_plan.specs.Network.{Network}
-use Rattle.rip_plan.specs.Relations.{IsLawful, IsInterface, IsLeaf, IsDirect, Touches, Carries, IsPlace}
+use Rattle.rip_plan.specs.Relations.{IsConnected, IsDirect, IsInterface, IsLawful, IsLeaf, Touches}
 use Rattle.rip_table.specs.State.{State}
-use Rattle.rip_check.specs.Tables.{Tables, FitsShown, Route, FitsWay, MayShow, IsSilent, IsLeastOffer}
+use Rattle.rip_check.specs.Tables.{Tables, FitsShown, Route, FitsWay, MayHoldBack, MayShow, IsSilent, IsLeastOffer}
 use Rattle.rip_check.specs.declared.way.Way.{Way}
 use Rattle.rip_check.specs.declared.way.Way.TheVariants.{Unreachable, Here, Over}
 use Rattle.rip_check.proofs.Shown.{some_is, shown_below, metric_most}
 use Rattle.rip_check.specs.Metrics.{metric_at}
 
--- a place has one seat
-one_seat : (n : Network) (k p : ℕ) (s t : Seat) → IsPlace n k p s → IsPlace n k p t → s ≡ t
-one_seat n k p s t a b =
-    ap (λ (x : Place). x.seat) (the_same (sym a.listed ∙ b.listed))
-  where
-    the_same : {x y : Place} → Some x ≡ Some y → x ≡ y
-    the_same e = cc e
-
--- a search below a bound
-pub find_below : (P : ℕ → Type 0) → ((k : ℕ) → P k ⊎ (P k → ⊥)) → (bound : ℕ) → ((k : ℕ) × (k < bound) × P k) ⊎ ((k : ℕ) → k < bound → P k → ⊥)
-find_below P test zero = inr (λ k lt h. absurd (omega arith))
-find_below P test (suc b) = go (test b) (find_below P test b)
-  where
-    go : P b ⊎ (P b → ⊥) → ((k : ℕ) × (k < b) × P k) ⊎ ((k : ℕ) → k < b → P k → ⊥) → ((k : ℕ) × (k < suc b) × P k) ⊎ ((k : ℕ) → k < suc b → P k → ⊥)
-    go (inl h) rest = inl (b, omega arith, h)
-    go (inr not) (inl h) = inl (h.0, omega (arith, h.1), h.2)
-    go (inr not) (inr none) = inr (λ k lt h. last k lt h (cases_eq k b))
-      where
-        last : (k : ℕ) → k < suc b → P k → (k ≡ b) ⊎ (k ≡ b → ⊥) → ⊥
-        last k lt h (inl e) = not (rw e at h)
-        last k lt h (inr differs) = none k (omega arith) h
-
 same_Some' : {A : Type 0} {x y : A} → Some x ≡ Some y → x ≡ y
 same_Some' e = cc e
-
--- whether a place has a seat on the link
-place_case : (n : Network) (l p k : ℕ) (x : Place) (s : Seat) → slice_get n.places k ≡ Some x → x.seat ≡ s → (x.prefix ≡ p) ⊎ (x.prefix ≡ p → ⊥) →
-    ((m : ℕ) → s ≡ Link m → (m ≡ l) ⊎ (m ≡ l → ⊥)) → IsPlace n k p (Link l) ⊎ (IsPlace n k p (Link l) → ⊥)
-place_case n l p k x s at is (inr differs) test = inr (λ h. differs (ap (λ (y : Place). y.prefix) (same_Some' (sym at ∙ h.listed))))
-place_case n l p k x (Own r c) at is (inl same) test =
-    inr (λ h. let e : Own r c ≡ Link l = sym is ∙ ap (λ (y : Place). y.seat) (same_Some' (sym at ∙ h.listed)) in cc e)
-place_case n l p k x (Link m) at is (inl same) test =
-    elim (test m refl) [
-      | inl e ↦
-          let whole : x ≡ record { prefix = p; seat = Link l } = λ i. record { prefix = same i; seat = (is ∙ ap Link e) i } in
-          inl (record { listed = at ∙ ap Some whole })
-      | inr differs ↦
-          inr (λ h. let e : Link m ≡ Link l = sym is ∙ ap (λ (y : Place). y.seat) (same_Some' (sym at ∙ h.listed)) in differs (cc e))
-    ]
-
-place_or_not : (n : Network) (l p k : ℕ) → IsPlace n k p (Link l) ⊎ (IsPlace n k p (Link l) → ⊥)
-place_or_not n l p k = go (slice_get n.places k) refl
-  where
-    go : (x : Option Place) → slice_get n.places k ≡ x → IsPlace n k p (Link l) ⊎ (IsPlace n k p (Link l) → ⊥)
-    go None e = inr (λ h. cc (h.listed, e))
-    go (Some x) e = place_case n l p k x x.seat e refl (cases_eq x.prefix p) (λ m is. cases_eq m l)
-
-pub carries_or_not : (n : Network) (l p : ℕ) → Carries n l p ⊎ (Carries n l p → ⊥)
-carries_or_not n l p =
-    elim (find_below (λ k. IsPlace n k p (Link l)) (place_or_not n l p) (length n.places)) [
-      | inl h ↦ inl (h.0, h.2)
-      | inr none ↦ inr (λ h. none h.0 (slice_get_within n.places h.0 _ h.1.listed) h.1)
-    ]
 
 -- router r has more than one interface
 abbrev pub TwoInterfaces : Network → ℕ → Type 0
 TwoInterfaces n r = (i j l k c d : ℕ) × IsInterface n i r l c × IsInterface n j r k d × (i ≢ j)
 
--- an interface has one cost
-one_cost : (n : Network) (i r l c d : ℕ) → IsInterface n i r l c → IsInterface n i r l d → c ≡ d
-one_cost n i r l c d a b = ap (λ (x : Interface). x.cost) (the_same (sym a.listed ∙ b.listed))
+-- an interface has one direct metric
+one_direct : (n : Network) (i r l c d : ℕ) → IsConnected n i r l c → IsConnected n i r l d → c ≡ d
+one_direct n i r l c d a b = ap (λ (x : Interface). x.direct) (the_same (sym a.listed ∙ b.listed))
   where
     the_same : {x y : Interface} → Some x ≡ Some y → x ≡ y
     the_same e = cc e
@@ -104,7 +52,7 @@ two_or_leaf n r i l c has =
     elim (find_below (IsAnother n r i) (another_or_not n r i) (length n.interfaces)) [
       | inl h ↦
           let x = h.2 in
-          let there : IsInterface n h.0 x.own.router x.own.link x.own.cost = record { address = x.own.address; listed = x.listed } in
+          let there : IsInterface n h.0 x.own.router x.own.link x.own.cost = record { address = x.own.address; direct = x.own.direct; listed = x.listed } in
           let there' : IsInterface n h.0 r x.own.link x.own.cost = rw x.its at there in
           inl (i, h.0, l, x.own.link, c, x.own.cost, has, there', λ e. x.other (sym e))
       | inr none ↦
@@ -125,23 +73,19 @@ module _ (n : Network) (plan : IsLawful n) (shown : State) where
       let b' : IsInterface n j r l d = rw (← e) at b in
       not (plan.one_on_link i j r l c d a b')
 
-  -- one of a router's links at most carries a prefix
-  carried_once : (i j r l k c d p : ℕ) → IsInterface n i r l c → IsInterface n j r k d → i ≢ j → Carries n l p → Carries n k p → ⊥
-  carried_once i j r l k c d p a b not x y =
-      let same : x.0 ≡ y.0 = plan.touched_once x.0 y.0 p r c d (inl (l, x.1, (i, a))) (inl (k, y.1, (j, b))) in
-      let there : IsPlace n y.0 p (Link l) = rw same at x.1 in
-      let seats : Link l ≡ Link k = one_seat n y.0 p (Link l) (Link k) there y.1 in
-      let same_link : l ≡ k = cc seats in
-      links_differ i j r l k c d a b not same_link
+  -- a router may hold back a route on one of its links at most
+  held_back_at_one : (i j r l k c d p : ℕ) → IsInterface n i r l c → IsInterface n j r k d → i ≢ j → MayHoldBack n r p l → MayHoldBack n r p k → ⊥
+  held_back_at_one i j r l k c d p a b not x y =
+      links_differ i j r l k c d a b not (held_back_once n plan r p l k (c, (i, a)) (d, (j, b)) x y)
 
   -- a route below 16 is shown by some interface
   pub speaks_case : (i j r l k c d p m : ℕ) (w : Way) → IsInterface n i r l c → IsInterface n j r k d → i ≢ j → FitsWay n r p m w → m < 16 →
-      MayShow n l p m w (metric_at shown i p) → MayShow n k p m w (metric_at shown j p) →
+      MayShow n r l p m w (metric_at shown i p) → MayShow n r k p m w (metric_at shown j p) →
       (x y z : ℕ) × IsInterface n x r y z × (metric_at shown x p ≡ Some m)
   speaks_case i j r l k c d p m Unreachable a b not fits small t u = absurd (omega (arith, fits, small))
-  speaks_case i j r l k c d p m Here a b not fits small (inl e) u = (i, l, c, a, e)
-  speaks_case i j r l k c d p m Here a b not fits small (inr h) (inl e) = (j, k, d, b, e)
-  speaks_case i j r l k c d p m Here a b not fits small (inr h) (inr g) = absurd (carried_once i j r l k c d p a b not h.0 g.0)
+  speaks_case i j r l k c d p m Here a b not fits small (inl e) u = (i, l, c, a, e.1)
+  speaks_case i j r l k c d p m Here a b not fits small (inr h) (inl e) = (j, k, d, b, e.1)
+  speaks_case i j r l k c d p m Here a b not fits small (inr h) (inr g) = absurd (held_back_at_one i j r l k c d p a b not h.0 g.0)
   speaks_case i j r l k c d p m (Over o) a b not fits small (inr h) u = (i, l, c, a, h.1)
   speaks_case i j r l k c d p m (Over o) a b not fits small (inl h) (inr g) = (j, k, d, b, g.1)
   speaks_case i j r l k c d p m (Over o) a b not fits small (inl h) (inl g) =
@@ -159,7 +103,7 @@ module _ (n : Network) (plan : IsLawful n) (shown : State) where
       let h = speaks r p t at ft small in
       let e = some_is (metric_at shown h.0 p) t.metric h.4 in
       let less : unwrap_or (metric_at shown h.0 p) 16 < 16 = omega (arith, e, small) in
-      let e' = shown_below n h.1 p u.metric u.way (metric_at shown h.0 p) (fu.told.as_told h.0 h.1 h.2 h.3) less in
+      let e' = shown_below n r h.1 p u.metric u.way (metric_at shown h.0 p) (fu.told.as_told h.0 h.1 h.2 h.3) less in
       omega (arith, e, e')
 
   same_metric : (r p : ℕ) (t u : Route) → TwoInterfaces n r → FitsShown n shown r p t → FitsShown n shown r p u → t.metric ≡ u.metric
@@ -178,32 +122,32 @@ module _ (n : Network) (plan : IsLawful n) (shown : State) where
 
   -- a way over a link is told by the 16 there
   not_here : (r p m l : ℕ) → FitsWay n r p m (Over l) →
-      ((i k c : ℕ) → IsInterface n i r k c → MayShow n k p m (Over l) (metric_at shown i p)) →
-      ((i k c : ℕ) → IsInterface n i r k c → MayShow n k p m Here (metric_at shown i p)) → ⊥
+      ((i k c : ℕ) → IsInterface n i r k c → MayShow n r k p m (Over l) (metric_at shown i p)) →
+      ((i k c : ℕ) → IsInterface n i r k c → MayShow n r k p m Here (metric_at shown i p)) → ⊥
   not_here r p m l fits over here =
       let on = fits.2 in
       go (over on.1.0 l on.0 on.1.1) (here on.1.0 l on.0 on.1.1)
     where
-      go : MayShow n l p m (Over l) (metric_at shown fits.2.1.0 p) → MayShow n l p m Here (metric_at shown fits.2.1.0 p) → ⊥
+      go : MayShow n r l p m (Over l) (metric_at shown fits.2.1.0 p) → MayShow n r l p m Here (metric_at shown fits.2.1.0 p) → ⊥
       go (inr h) u = h.0 refl
       go (inl h) (inr g) = fits.3 g.0
-      go (inl h) (inl e) = omega (arith, fits.1, some_is (metric_at shown fits.2.1.0 p) 16 h.1, some_is (metric_at shown fits.2.1.0 p) m e)
+      go (inl h) (inl e) = omega (arith, fits.1, some_is (metric_at shown fits.2.1.0 p) 16 h.1, some_is (metric_at shown fits.2.1.0 p) m e.1)
 
   same_link : (r p m l k : ℕ) → FitsWay n r p m (Over l) →
-      ((i o c : ℕ) → IsInterface n i r o c → MayShow n o p m (Over l) (metric_at shown i p)) →
-      ((i o c : ℕ) → IsInterface n i r o c → MayShow n o p m (Over k) (metric_at shown i p)) → k ≡ l
+      ((i o c : ℕ) → IsInterface n i r o c → MayShow n r o p m (Over l) (metric_at shown i p)) →
+      ((i o c : ℕ) → IsInterface n i r o c → MayShow n r o p m (Over k) (metric_at shown i p)) → k ≡ l
   same_link r p m l k fits t u =
       let on = fits.2 in
       go (t on.1.0 l on.0 on.1.1) (u on.1.0 l on.0 on.1.1)
     where
-      go : MayShow n l p m (Over l) (metric_at shown fits.2.1.0 p) → MayShow n l p m (Over k) (metric_at shown fits.2.1.0 p) → k ≡ l
+      go : MayShow n r l p m (Over l) (metric_at shown fits.2.1.0 p) → MayShow n r l p m (Over k) (metric_at shown fits.2.1.0 p) → k ≡ l
       go (inr h) v = absurd (h.0 refl)
       go (inl h) (inl g) = g.0
       go (inl h) (inr g) = absurd (omega (arith, fits.1, some_is (metric_at shown fits.2.1.0 p) 16 h.1, some_is (metric_at shown fits.2.1.0 p) m g.1))
 
   same_way : (r p m : ℕ) (w v : Way) → FitsWay n r p m w → FitsWay n r p m v →
-      ((i o c : ℕ) → IsInterface n i r o c → MayShow n o p m w (metric_at shown i p)) →
-      ((i o c : ℕ) → IsInterface n i r o c → MayShow n o p m v (metric_at shown i p)) → w ≡ v
+      ((i o c : ℕ) → IsInterface n i r o c → MayShow n r o p m w (metric_at shown i p)) →
+      ((i o c : ℕ) → IsInterface n i r o c → MayShow n r o p m v (metric_at shown i p)) → w ≡ v
   same_way r p m Unreachable Unreachable f g t u = refl
   same_way r p m Unreachable Here f g t u = absurd (omega (arith, f, g))
   same_way r p m Unreachable (Over l) f g t u = absurd (omega (arith, f, g))
@@ -218,7 +162,7 @@ module _ (n : Network) (plan : IsLawful n) (shown : State) where
   one_way : (r p : ℕ) (t u : Route) → t.metric ≡ u.metric → FitsShown n shown r p t → FitsShown n shown r p u → t ≡ u
   one_way r p t u e ft fu =
       let gu : FitsWay n r p t.metric u.way = rw e fu.told.way_fits in
-      let tu : (i o c : ℕ) → IsInterface n i r o c → MayShow n o p t.metric u.way (metric_at shown i p) = rw e fu.told.as_told in
+      let tu : (i o c : ℕ) → IsInterface n i r o c → MayShow n r o p t.metric u.way (metric_at shown i p) = rw e fu.told.as_told in
       let e' = same_way r p t.metric t.way u.way ft.told.way_fits gu ft.told.as_told tu in
       λ i. record { metric = e i; way = e' i }
 
@@ -233,28 +177,32 @@ module _ (n : Network) (plan : IsLawful n) (shown : State) where
       go k (inl x) (inl y) =
           let seats : Link x.0 ≡ Link y.0 = one_seat n k p (Link x.0) (Link y.0) x.1 y.1 in
           let link : x.0 ≡ y.0 = cc seats in
-          let x' : IsInterface n x.2.0 r y.0 c = rw link at x.2.1 in
-          let number = plan.one_on_link x.2.0 y.2.0 r y.0 c d x' y.2.1 in
-          let x'' : IsInterface n y.2.0 r y.0 c = rw number at x' in
-          one_cost n y.2.0 r y.0 c d x'' y.2.1
-      go k (inl x) (inr y) = cc (one_seat n k p (Link x.0) (Own r d) x.1 y)
-      go k (inr x) (inl y) = cc (one_seat n k p (Own r c) (Link y.0) x y.1)
+          let x' : IsConnected n x.2.0 r y.0 c = rw link at x.2.1 in
+          let number = plan.one_on_link x.2.0 y.2.0 r y.0 x'.cost y.2.1.cost (its_cost n x.2.0 r y.0 c x') (its_cost n y.2.0 r y.0 d y.2.1) in
+          let x'' : IsConnected n y.2.0 r y.0 c = rw number at x' in
+          one_direct n y.2.0 r y.0 c d x'' y.2.1
+      go k (inl x) (inr y) =
+          let seats : Link x.0 ≡ Own r d y.kept y.link y.via = one_seat n k p _ _ x.1 y.place in
+          cc seats
+      go k (inr x) (inl y) =
+          let seats : Own r c x.kept x.link x.via ≡ Link y.0 = one_seat n k p _ _ x.place y.1 in
+          cc seats
       go k (inr x) (inr y) =
-          let seats : Own r c ≡ Own r d = one_seat n k p (Own r c) (Own r d) x y in
+          let seats : Own r c x.kept x.link x.via ≡ Own r d y.kept y.link y.via = one_seat n k p _ _ x.place y.place in
           cc seats
 
   -- what is not below 16 is silence
-  silent_from : (l p m : ℕ) (r : ℕ) (w : Way) (x : Option ℕ) → FitsWay n r p m w → MayShow n l p m w x → 16 ≤ unwrap_or x 16 → IsSilent x
+  silent_from : (l p m : ℕ) (r : ℕ) (w : Way) (x : Option ℕ) → FitsWay n r p m w → MayShow n r l p m w x → 16 ≤ unwrap_or x 16 → IsSilent x
   silent_from l p m r Unreachable x fits told big = told
-  silent_from l p m r Here x fits (inl e) big = absurd (omega (arith, some_is x m e, fits, big))
+  silent_from l p m r Here x fits (inl e) big = absurd (omega (arith, some_is x m e.1, fits, big))
   silent_from l p m r Here x fits (inr h) big = h.1
   silent_from l p m r (Over k) x fits (inl h) big = inr h.1
   silent_from l p m r (Over k) x fits (inr h) big = absurd (omega (arith, some_is x m h.1, fits.1, big))
 
-  -- where a leaf shows nothing on a link that does not carry the prefix, it has no route
-  unreachable_from : (l p m : ℕ) (r : ℕ) (w : Way) (x : Option ℕ) → FitsWay n r p m w → MayShow n l p m w x → (Carries n l p → ⊥) → x ≡ None → m ≡ 16
+  -- where a leaf shows nothing on a link where it may not hold back its route, it has none
+  unreachable_from : (l p m : ℕ) (r : ℕ) (w : Way) (x : Option ℕ) → FitsWay n r p m w → MayShow n r l p m w x → (MayHoldBack n r p l → ⊥) → x ≡ None → m ≡ 16
   unreachable_from l p m r Unreachable x fits told off e = fits
-  unreachable_from l p m r Here x fits (inl h) off e = cc (e, h)
+  unreachable_from l p m r Here x fits (inl h) off e = cc (e, h.1)
   unreachable_from l p m r Here x fits (inr h) off e = absurd (off h.0)
   unreachable_from l p m r (Over k) x fits (inl h) off e = cc (e, h.1)
   unreachable_from l p m r (Over k) x fits (inr h) off e = cc (e, h.1)
@@ -266,12 +214,12 @@ module _ (n : Network) (plan : IsLawful n) (shown : State) where
         | inr o ↦ a.least o.0 o.1 g o.2
       ]
 
-  -- what a leaf shows, and whether its link carries the prefix, tell its metric
+  -- what a leaf shows, and whether it may hold back its route, tell its metric
   leaf_metric : (r i l c p : ℕ) (t u : Route) → IsLeaf n r i l c → FitsShown n shown r p t → FitsShown n shown r p u →
-      Carries n l p ⊎ (Carries n l p → ⊥) → IsSilent (metric_at shown i p) → t.metric ≡ u.metric
+      MayHoldBack n r p l ⊎ (MayHoldBack n r p l → ⊥) → IsSilent (metric_at shown i p) → t.metric ≡ u.metric
   leaf_metric r i l c p t u leaf ft fu (inl on) silent =
-      let a = (ft.hidden i l c leaf).carried on silent in
-      let b = (fu.hidden i l c leaf).carried on silent in
+      let a = (ft.hidden i l c leaf).held_back on silent in
+      let b = (fu.hidden i l c leaf).held_back on silent in
       direct_once r p t.metric u.metric a.1 b.1
   leaf_metric r i l c p t u leaf ft fu (inr off) (inl is) =
       let a = unreachable_from l p t.metric r t.way (metric_at shown i p) ft.told.way_fits (ft.told.as_told i l c leaf.has) off is in
@@ -289,10 +237,10 @@ module _ (n : Network) (plan : IsLawful n) (shown : State) where
       let split : (unwrap_or x 16 < 16) ⊎ (16 ≤ unwrap_or x 16) = cases_lt (unwrap_or x 16) 16 in
       elim split [
         | inl small ↦
-            let a = shown_below n l p t.metric t.way x told small in
-            let b = shown_below n l p u.metric u.way x (fu.told.as_told i l c leaf.has) small in
+            let a = shown_below n r l p t.metric t.way x told small in
+            let b = shown_below n r l p u.metric u.way x (fu.told.as_told i l c leaf.has) small in
             omega (arith, a, b)
-        | inr big ↦ leaf_metric r i l c p t u leaf ft fu (carries_or_not n l p) (silent_from l p t.metric r t.way x ft.told.way_fits told big)
+        | inr big ↦ leaf_metric r i l c p t u leaf ft fu (holds_back_or_not n r p l) (silent_from l p t.metric r t.way x ft.told.way_fits told big)
       ]
 
   -- no two routes fit what a router shows

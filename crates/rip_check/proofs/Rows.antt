@@ -31,7 +31,7 @@ module _ (n : Network) (plan : IsLawful n) (shown : State) (r p : ℕ) (two : Ha
             let h = (spoken small).1 in
             let e = some_is (metric_at shown h.0 p) m h.4 in
             let less : unwrap_or (metric_at shown h.0 p) 16 < 16 = omega (arith, e, small) in
-            let e' = shown_below n h.1 p t.metric t.way (metric_at shown h.0 p) (tells.as_told h.0 h.1 h.2 h.3) less in
+            let e' = shown_below n r h.1 p t.metric t.way (metric_at shown h.0 p) (tells.as_told h.0 h.1 h.2 h.3) less in
             omega (arith, e, e')
         | inr big ↦
             let is : m ≡ 16 = omega arith in
@@ -50,16 +50,16 @@ module _ (n : Network) (plan : IsLawful n) (shown : State) (r p : ℕ) (two : Ha
       let on = fits.2 in
       go (told on.1.0 k on.0 on.1.1)
     where
-      go : MayShow n k p m (Over k) (metric_at shown fits.2.1.0 p) → Over k ≡ Here
+      go : MayShow n r k p m (Over k) (metric_at shown fits.2.1.0 p) → Over k ≡ Here
       go (inl h) = absurd (none k (fits.2.1.0, fits.2.0, fits.2.1.1, inr h.1, fits.3))
       go (inr h) = absurd (h.0 refl)
 
   way_over : (m l : ℕ) (w : Way) → FitsWay n r p m w → m < 16 → IsAsTold n shown r p m w → IsSilentLink n shown r p l → w ≡ Over l
   way_over m l w fits small told silent = go w fits (told silent.0 l silent.1 silent.2)
     where
-      go : (w : Way) → FitsWay n r p m w → MayShow n l p m w (metric_at shown silent.0 p) → w ≡ Over l
+      go : (w : Way) → FitsWay n r p m w → MayShow n r l p m w (metric_at shown silent.0 p) → w ≡ Over l
       go Unreachable f h = absurd (omega (arith, f, small))
-      go Here f (inl e) = absurd (not_silent (metric_at shown silent.0 p) m e (λ is. omega (arith, is, small)) silent.3)
+      go Here f (inl e) = absurd (not_silent (metric_at shown silent.0 p) m e.1 (λ is. omega (arith, is, small)) silent.3)
       go Here f (inr h) = absurd (silent.4 h.0)
       go (Over k) f (inl h) = ap Over h.0
       go (Over k) f (inr h) = absurd (not_silent (metric_at shown silent.0 p) m h.1 (λ is. omega (arith, is, small)) silent.3)

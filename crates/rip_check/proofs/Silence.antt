@@ -1,16 +1,16 @@
 -- What a router is silent about.
 use Rattle.std.proofs.Common.{ℕ}
 use Rattle.rip_plan.specs.Network.{Network}
-use Rattle.rip_plan.specs.Relations.{IsInterface, Carries}
+use Rattle.rip_plan.specs.Relations.{IsInterface}
 use Rattle.rip_table.specs.State.{State}
 use Rattle.rip_check.specs.Metrics.{metric_at}
-use Rattle.rip_check.specs.Tables.{IsSilent}
+use Rattle.rip_check.specs.Tables.{IsSilent, MayHoldBack}
 
 -- router r shows nothing below 16
 abbrev pub IsMute : Network → State → ℕ → ℕ → Type 0
 IsMute n shown r p = (i l c : ℕ) → IsInterface n i r l c → IsSilent (metric_at shown i p)
 
--- router r is silent on link l, which does not carry the prefix
+-- router r is silent on link l, where it may not hold back its route
 abbrev pub IsSilentLink : Network → State → ℕ → ℕ → ℕ → Type 0
 IsSilentLink n shown r p l =
-    (i c : ℕ) × IsInterface n i r l c × IsSilent (metric_at shown i p) × (Carries n l p → ⊥)
+    (i c : ℕ) × IsInterface n i r l c × IsSilent (metric_at shown i p) × (MayHoldBack n r p l → ⊥)

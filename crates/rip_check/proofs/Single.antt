@@ -10,11 +10,12 @@ use Rattle.rip_check.proofs.Reading.{one_route}
 use Rattle.rip_check.proofs.Judging.{places_are_settled, tables_are_right}
 use Rattle.rip_check.specs.Metrics.{IsInRange}
 use Rattle.rip_check.specs.declared.verdict.Unclear.{Unclear}
-use Rattle.rip_check.specs.declared.verdict.Unclear.TheVariants.{NotHeard, TwoMetrics, Missing, TwoWays}
+use Rattle.rip_check.specs.declared.verdict.Unclear.TheVariants.{NotHeard, TwoMetrics, Missing, ShownOn, TwoWays}
 use Rattle.rip_check.specs.declared.verdict.Place2.{Place2}
 use Rattle.rip_check.specs.declared.verdict.Verdict.{Verdict}
 use Rattle.rip_check.specs.declared.verdict.Verdict.TheVariants.{Settled, Unsettled, Unclear as IsUnclear}
-use Rattle.rip_check.specs.Firsts.{AreFine, IsReadable, IsReason, IsFirstGap, IsFirstUnheard, IsFirstUnclear, IsFirstTrouble}
+use Rattle.rip_check.specs.Firsts.{AreFine, IsReadable, IsReason, IsFirstGap, IsFirstUnheard, IsFirstUnclear, IsFirstTrouble, ShowsWhereAttached}
+use Rattle.rip_check.proofs.Plans.{attached_once}
 use Rattle.rip_check.specs.Verdicts.{ShowsTables, IsSound, IsNextUnsettled, IsVerdict, IsHidden}
 use Rattle.rip_check.proofs.Order.{one_first, none_first}
 use Rattle.rip_check.proofs.Owned.{its_link}
@@ -54,20 +55,33 @@ one_unheard n shown r l s m a b =
       ]
     ]
 
-module _ (n : Network) (shown : State) (r p : ℕ) where
+module _ (n : Network) (plan : IsLawful n) (shown : State) (r p : ℕ) where
+  no_gap : (l m : ℕ) → IsFirstGap n shown r p l → ShowsWhereAttached n shown r p m → ⊥
+  no_gap l m gap on =
+      let h = on.1 gap.interface l gap.cost gap.its in
+      cc (gap.shows, h.1)
+
   one_reason : (u v : Unclear) → IsReason n shown r p u → IsReason n shown r p v → u ≡ v
   one_reason (NotHeard a b) v h k = absurd h
   one_reason (TwoMetrics a b) (NotHeard c d) h k = absurd k
   one_reason (TwoMetrics a b) (TwoMetrics c d) h k = λ i. TwoMetrics ((h.0 ∙ sym k.0) i) ((h.1 ∙ sym k.1) i)
   one_reason (TwoMetrics a b) (Missing c d l) h k = absurd (k.2 h.2)
+  one_reason (TwoMetrics a b) (ShownOn c d l) h k = absurd (k.2 h.2)
   one_reason (TwoMetrics a b) (TwoWays c d) h k = absurd (k.2 h.2)
   one_reason (Missing a b l) (NotHeard c d) h k = absurd k
   one_reason (Missing a b l) (TwoMetrics c d) h k = absurd (h.2 k.2)
   one_reason (Missing a b l) (Missing c d m) h k = λ i. Missing ((h.0 ∙ sym k.0) i) ((h.1 ∙ sym k.1) i) (one_gap n shown r p l m h.3 k.3 i)
+  one_reason (Missing a b l) (ShownOn c d m) h k = absurd (no_gap l m h.3 k.3)
   one_reason (Missing a b l) (TwoWays c d) h k = absurd (k.3 h.3.interface l h.3.cost h.3.its h.3.shows)
+  one_reason (ShownOn a b l) (NotHeard c d) h k = absurd k
+  one_reason (ShownOn a b l) (TwoMetrics c d) h k = absurd (h.2 k.2)
+  one_reason (ShownOn a b l) (Missing c d m) h k = absurd (no_gap m l k.3 h.3)
+  one_reason (ShownOn a b l) (ShownOn c d m) h k = λ i. ShownOn ((h.0 ∙ sym k.0) i) ((h.1 ∙ sym k.1) i) (attached_once n plan r p l m h.3.0 k.3.0 i)
+  one_reason (ShownOn a b l) (TwoWays c d) h k = absurd (k.4 l h.3)
   one_reason (TwoWays a b) (NotHeard c d) h k = absurd k
   one_reason (TwoWays a b) (TwoMetrics c d) h k = absurd (h.2 k.2)
   one_reason (TwoWays a b) (Missing c d m) h k = absurd (h.3 k.3.interface m k.3.cost k.3.its k.3.shows)
+  one_reason (TwoWays a b) (ShownOn c d m) h k = absurd (h.4 m k.3)
   one_reason (TwoWays a b) (TwoWays c d) h k = λ i. TwoWays ((h.0 ∙ sym k.0) i) ((h.1 ∙ sym k.1) i)
 
 module _ (n : Network) (shown : State) where
@@ -79,31 +93,34 @@ module _ (n : Network) (shown : State) where
   kind_of (NotHeard r l) h = inl (r, l, refl, h)
   kind_of (TwoMetrics r p) h = inr h
   kind_of (Missing r p l) h = inr h
+  kind_of (ShownOn r p l) h = inr h
   kind_of (TwoWays r p) h = inr h
 
   pub trouble_from : (u : Unclear) → IsHeard n shown → IsFirstUnclear n shown u → IsFirstTrouble n shown u
   trouble_from (NotHeard r l) heard h = absurd h.reason
   trouble_from (TwoMetrics r p) heard h = (heard, h)
   trouble_from (Missing r p l) heard h = (heard, h)
+  trouble_from (ShownOn r p l) heard h = (heard, h)
   trouble_from (TwoWays r p) heard h = (heard, h)
 
   not_both : (r l : ℕ) → IsFirstUnheard n shown r l → IsHeard n shown → ⊥
   not_both r l a heard = a.unheard (heard a.interface r l a.cost a.its)
 
-  one_unclear : (u v : Unclear) → IsFirstUnclear n shown u → IsFirstUnclear n shown v → u ≡ v
-  one_unclear u v a b =
-      let same = one_first n (length shown.prefixes) None (IsReadable n shown) a.router a.prefix b.router b.prefix a.first b.first in
-      let reason : IsReason n shown b.router b.prefix u = rw same.1 at (rw same.0 at a.reason) in
-      one_reason n shown b.router b.prefix u v reason b.reason
+  module _ (plan : IsLawful n) where
+    one_unclear : (u v : Unclear) → IsFirstUnclear n shown u → IsFirstUnclear n shown v → u ≡ v
+    one_unclear u v a b =
+        let same = one_first n (length shown.prefixes) None (IsReadable n shown) a.router a.prefix b.router b.prefix a.first b.first in
+        let reason : IsReason n shown b.router b.prefix u = rw same.1 at (rw same.0 at a.reason) in
+        one_reason n plan shown b.router b.prefix u v reason b.reason
 
-  one_kind : (u v : Unclear) → Kind u → Kind v → u ≡ v
-  one_kind u v (inl a) (inl b) = a.2 ∙ (one_unheard n shown a.0 a.1 b.0 b.1 a.3 b.3 ∙ sym b.2)
-  one_kind u v (inl a) (inr b) = absurd (not_both a.0 a.1 a.3 b.0)
-  one_kind u v (inr a) (inl b) = absurd (not_both b.0 b.1 b.3 a.0)
-  one_kind u v (inr a) (inr b) = one_unclear u v a.1 b.1
+    one_kind : (u v : Unclear) → Kind u → Kind v → u ≡ v
+    one_kind u v (inl a) (inl b) = a.2 ∙ (one_unheard n shown a.0 a.1 b.0 b.1 a.3 b.3 ∙ sym b.2)
+    one_kind u v (inl a) (inr b) = absurd (not_both a.0 a.1 a.3 b.0)
+    one_kind u v (inr a) (inl b) = absurd (not_both b.0 b.1 b.3 a.0)
+    one_kind u v (inr a) (inr b) = one_unclear u v a.1 b.1
 
-  pub one_trouble : (u v : Unclear) → IsFirstTrouble n shown u → IsFirstTrouble n shown v → u ≡ v
-  one_trouble u v a b = one_kind u v (kind_of u a) (kind_of v b)
+    pub one_trouble : (u v : Unclear) → IsFirstTrouble n shown u → IsFirstTrouble n shown v → u ≡ v
+    one_trouble u v a b = one_kind u v (kind_of u a) (kind_of v b)
 
   module _ (plan : IsLawful n) (range : IsInRange n shown) where
     pub no_trouble : (u : Unclear) → ShowsTables n shown → IsFirstTrouble n shown u → ⊥
@@ -152,7 +169,7 @@ module _ (n : Network) (shown : State) where
     one_verdict (Unsettled f) (IsUnclear u) h k = absurd (no_trouble u h.0 k)
     one_verdict (IsUnclear u) Settled h k = absurd (no_trouble u (right_is_shown k) h)
     one_verdict (IsUnclear u) (Unsettled f) h k = absurd (no_trouble u k.0 h)
-    one_verdict (IsUnclear u) (IsUnclear v) h k = ap IsUnclear (one_trouble u v h k)
+    one_verdict (IsUnclear u) (IsUnclear v) h k = ap IsUnclear (one_trouble plan u v h k)
 
     -- where every place is sound the tables are right
     pub sound_is_right : IsHeard n shown → AreFine n (length shown.prefixes) None (IsReadable n shown) → AreFine n (length shown.prefixes) None (IsSound n shown) → ShowsRightTables n shown

@@ -3,11 +3,12 @@ use Rattle.std.proofs.Common.{◌≡◌, ◌≢◌, ◌==◌, true, ℕ, ◌<◌
 use Rattle.std.proofs.lemmas.Bool.{cases_lt, cases_eq, eqb-true, eq-eqb}
 use Rattle.std.proofs.lemmas.Option.{same_Some}
 use Rattle.rip_plan.specs.Network.{Network}
-use Rattle.rip_plan.specs.Relations.{IsLawful, Touches}
+use Rattle.rip_plan.specs.Relations.{IsKept, IsLawful}
 use Rattle.rip_table.specs.State.{State}
 use Rattle.rip_check.specs.Tables.{Route, IsSilent, Offers}
 use Rattle.rip_check.specs.Settled.{IsChoice, Holds, IsGiven, IsLeastChoice}
 use Rattle.rip_check.specs.Surveys.{IsSpoken}
+use Rattle.rip_check.proofs.Plans.{direct_least}
 use Rattle.rip_check.proofs.Silence.{IsMute}
 use Rattle.rip_check.specs.Firsts.{IsShownBelow, ShowsTwo}
 use Rattle.rip_check.specs.Metrics.{metric_at}
@@ -60,23 +61,19 @@ is_equation n shown r p v t is holds = omega (arith, is.least t.metric holds.cho
 -- a choice is at least 1
 pub choice_low : (n : Network) (shown : State) → IsLawful n → (r p v : ℕ) → IsChoice n shown r p v → 1 ≤ v
 choice_low n shown plan r p v (inl e) = omega (arith, e)
-choice_low n shown plan r p v (inr (inl d)) = direct_low d.1
-  where
-    direct_low : Touches n d.0 p r v → 1 ≤ v
-    direct_low (inl h) = plan.cost_least h.2.0 r h.0 v h.2.1
-    direct_low (inr h) = plan.own_cost_least d.0 p r v h
+choice_low n shown plan r p v (inr (inl d)) = direct_least n plan r p v d
 choice_low n shown plan r p v (inr (inr h)) =
-    let o = h.2 in
-    let one = plan.cost_least o.here.0 r h.0 o.cost o.here.1 in
+    let o = h.1.2 in
+    let one = plan.cost_least o.here.0 r h.1.0 o.cost o.here.1 in
     omega (arith, o.value, one)
 
 -- what is offered over the link of one interface, where the metric is no more than any choice
-pub offered_is : (n : Network) (shown : State) (r l p m v : ℕ) → m < 16 → ((w : ℕ) → IsChoice n shown r p w → m ≤ w) → (v ≡ 16) ⊎ ((s : ℕ) × Offers n shown r l s p v) →
+pub offered_is : (n : Network) (shown : State) (r l p m v : ℕ) → (IsKept n r p → ⊥) → m < 16 → ((w : ℕ) → IsChoice n shown r p w → m ≤ w) → (v ≡ 16) ⊎ ((s : ℕ) × Offers n shown r l s p v) →
     ((s w : ℕ) → Offers n shown r l s p w → v ≤ w) → ((v == m) ≡ true → (s : ℕ) × Offers n shown r l s p m) × (((s : ℕ) × Offers n shown r l s p m) → (v == m) ≡ true)
-offered_is n shown r l p m v small least (inl e) below =
+offered_is n shown r l p m v takes small least (inl e) below =
     (λ t. absurd (omega (arith, e, small, eqb-true v m t)), λ o. absurd (late o.1))
   where
     late : {s : ℕ} → Offers n shown r l s p m → ⊥
     late o = omega (arith, o.value, small, below _ m o, e)
-offered_is n shown r l p m v small least (inr o) below =
-    (λ t. rw (eqb-true v m t) at o, λ o'. eq-eqb v m (omega (arith, below o'.0 m o'.1, least v (inr (inr (l, o.0, o.1))))))
+offered_is n shown r l p m v takes small least (inr o) below =
+    (λ t. rw (eqb-true v m t) at o, λ o'. eq-eqb v m (omega (arith, below o'.0 m o'.1, least v (inr (inr (takes, (l, o.0, o.1)))))))

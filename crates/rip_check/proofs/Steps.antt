@@ -10,7 +10,7 @@ use Rattle.rip_check.specs.declared.links.TwoLeast.{TwoLeast}
 use Rattle.rip_check.specs.TwoLeasts.{AreTwoLeastBefore, IsSeen, IsTwoLeast}
 use Rattle.rip_check.proofs.Owned.{its_link}
 
-module _ (n : Network) (seen : ℕ → ℕ → ℕ) (l i : ℕ) where
+module _ (n : Network) (seen : ℕ → ℕ → ℕ → ℕ) (l i : ℕ) where
   -- an interface before the next place is an earlier one, or the one here
   split : (Q : ℕ → ℕ → Type 0) → ((j s v : ℕ) → j < i → IsSeen n seen l j s v → Q s v) → ((s v : ℕ) → IsSeen n seen l i s v → Q s v) →
       (j s v : ℕ) → j < i + 1 → IsSeen n seen l j s v → Q s v
@@ -25,7 +25,7 @@ module _ (n : Network) (seen : ℕ → ℕ → ℕ) (l i : ℕ) where
   same : (r s m v : ℕ) → IsSeen n seen l i r m → IsSeen n seen l i s v → (s ≡ r) × (v ≡ m)
   same r s m v a b =
       let e = (its_link n i s l b.cost r l a.cost b.its a.its).0 in
-      (e, b.value ∙ ap (λ x. seen i x) e ∙ sym a.value)
+      (e, b.value ∙ ap (λ x. seen l i x) e ∙ sym a.value)
 
   -- an interface elsewhere changes nothing
   pub skip : (r k c : ℕ) (two : TwoLeast) → IsInterface n i r k c → (k ≡ l → ⊥) → IsTwoLeast n seen l i two → IsTwoLeast n seen l (i + 1) two
@@ -101,7 +101,7 @@ module _ (n : Network) (seen : ℕ → ℕ → ℕ) (l i : ℕ) where
       }
 
 -- an element after a write is the new one, or an old one elsewhere
-pub after_write : (xs : List TwoLeast) (k l : ℕ) (y two d : TwoLeast) → k < length xs → slice_get (slice_set xs k y) l ≡ Some two →
+pub after_write : {A : Type 0} (xs : List A) (k l : ℕ) (y two d : A) → k < length xs → slice_get (slice_set xs k y) l ≡ Some two →
     ((l ≡ k) × (two ≡ y)) ⊎ ((l ≡ k → ⊥) × (slice_get xs l ≡ Some two))
 after_write xs k l y two d lt e =
     let is : get_or (slice_set xs k y) l d ≡ two = get_or_from_slice_get (slice_set xs k y) l two d e in
@@ -114,7 +114,7 @@ after_write xs k l y two d lt e =
     ]
 
 -- past the last interface
-pub reached : (n : Network) (seen : ℕ → ℕ → ℕ) (l i : ℕ) (two : TwoLeast) → length n.interfaces ≤ i → IsTwoLeast n seen l i two → IsTwoLeast n seen l (length n.interfaces) two
+pub reached : (n : Network) (seen : ℕ → ℕ → ℕ → ℕ) (l i : ℕ) (two : TwoLeast) → length n.interfaces ≤ i → IsTwoLeast n seen l i two → IsTwoLeast n seen l (length n.interfaces) two
 reached n seen l i two past is =
     record {
       most = is.most;
@@ -126,7 +126,7 @@ reached n seen l i two past is =
     }
 
 -- one more interface that has 16 or more changes nothing on any link
-pub take_none : (n : Network) (seen : ℕ → ℕ → ℕ) (i r k m : ℕ) (links : List TwoLeast) → IsSeen n seen k i r m → 16 ≤ m →
+pub take_none : (n : Network) (seen : ℕ → ℕ → ℕ → ℕ) (i r k m : ℕ) (links : List TwoLeast) → IsSeen n seen k i r m → 16 ≤ m →
     AreTwoLeastBefore n seen i links → AreTwoLeastBefore n seen (i + 1) links
 take_none n seen i r k m links has big was l two e =
     let is = was l two e in
@@ -138,7 +138,7 @@ take_none n seen i r k m links has big was l two e =
     ]
 
 -- and one that has less changes its own link alone
-pub take_one : (n : Network) (seen : ℕ → ℕ → ℕ) (i r k m : ℕ) (links : List TwoLeast) (d new : TwoLeast) → k < length links → IsSeen n seen k i r m →
+pub take_one : (n : Network) (seen : ℕ → ℕ → ℕ → ℕ) (i r k m : ℕ) (links : List TwoLeast) (d new : TwoLeast) → k < length links → IsSeen n seen k i r m →
     AreTwoLeastBefore n seen i links → IsTwoLeast n seen k (i + 1) new → AreTwoLeastBefore n seen (i + 1) (slice_set links k new)
 take_one n seen i r k m links d new lt has was is l two e =
     elim (after_write links k l new two d lt e) [

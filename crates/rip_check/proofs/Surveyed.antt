@@ -3,16 +3,17 @@ use Rattle.std.proofs.Common.{◌≡◌, ◌≢◌, ℕ, ◌<◌, ◌⊎◌, inl
 use Rattle.std.proofs.lemmas.Bool.{cases_lt}
 use Rattle.std.proofs.lemmas.Option.{same_Some}
 use Rattle.rip_plan.specs.Network.{Network}
-use Rattle.rip_plan.specs.Relations.{IsLawful, IsInterface, HasTwoInterfaces}
+use Rattle.rip_plan.specs.Relations.{IsAttached, IsLawful, IsInterface, HasTwoInterfaces}
 use Rattle.rip_table.specs.State.{State}
 use Rattle.rip_check.specs.declared.surveys.Survey.{Survey}
 use Rattle.rip_check.specs.declared.way.Way.TheVariants.{Unreachable, Here, Over}
 use Rattle.rip_check.specs.Metrics.{IsInRange, metric_at}
-use Rattle.rip_check.specs.Tables.{Route, IsSilent, Tells}
+use Rattle.rip_check.specs.Tables.{Route, IsSilent, MayShow, Tells}
 use Rattle.rip_check.proofs.Silence.{IsMute, IsSilentLink}
-use Rattle.rip_check.specs.Firsts.{IsShownBelow}
-use Rattle.rip_check.specs.Surveys.{IsSurvey}
+use Rattle.rip_check.specs.Firsts.{IsShownBelow, ShowsEach, ShowsWhereAttached}
+use Rattle.rip_check.specs.Surveys.{IsSurvey, IsTold}
 use Rattle.rip_check.proofs.Owned.{within}
+use Rattle.rip_check.proofs.Plans.{held_back_once}
 use Rattle.rip_check.proofs.Rows.{metric_is, no_other}
 use Rattle.rip_check.proofs.Shown.{some_is, shown_below}
 use Rattle.rip_check.proofs.Surveying.{below_not_silent}
@@ -24,6 +25,53 @@ module _ (n : Network) (shown : State) (r p : ℕ) (found : Survey) (is : IsSurv
   pub one_metric : found.another ≡ false → (i v : ℕ) × IsShownBelow n shown r p i v × (v ≢ found.metric) → ⊥
   one_metric off h = h.3 (is.speech.one off h.0 h.1 (within n h.0 r h.2.link h.2.cost h.2.its) h.2)
 
+  -- a prefix that is told where it is attached, and silent nowhere else, is told everywhere
+  pub told_everywhere : IsLawful n → IsInRange n shown → ShowsEach n shown r p → found.not_here ≡ true → found.silent ≡ None → (l : ℕ) → IsAttached n r p l → ShowsWhereAttached n shown r p l
+  told_everywhere plan range each on none l at = (at, λ i k c its. go i k c its (metric_at shown i p) refl)
+    where
+      told : (i : ℕ) × IsTold n shown r p i
+      told = is.telling.some on
+
+      -- where it were silent it would be told
+      not_silent_there : (i k c : ℕ) → IsInterface n i r k c → IsSilent (metric_at shown i p) → ⊥
+      not_silent_there i k c its silent =
+          let b = told.1.below in
+          let held = is.silence.none none i k c (within n i r k c its) its silent in
+          let link : k ≡ b.link = held_back_once n plan r p k b.link (c, (i, its)) (b.cost, (told.0, b.its)) held (inr told.1.attached) in
+          let its' : IsInterface n i r b.link c = rw link at its in
+          let number : i ≡ told.0 = plan.one_on_link i told.0 r b.link c b.cost its' b.its in
+          let quiet : IsSilent (metric_at shown told.0 p) = rw number at silent in
+          below_not_silent (metric_at shown told.0 p) told.1.metric b.shows b.below quiet
+
+      go : (i k c : ℕ) → IsInterface n i r k c → (x : Option ℕ) → metric_at shown i p ≡ x → (m : ℕ) × (metric_at shown i p ≡ Some m) × (m < 16)
+      go i k c its None e = absurd (each i k c its e)
+      go i k c its (Some m) e =
+          elim (cases_lt m 16) [
+            | inl less ↦ (m, e, less)
+            | inr big ↦
+                let most = (range i r k c p m its e).1 in
+                let same : m ≡ 16 = omega arith in
+                absurd (not_silent_there i k c its (inr (e ∙ ap Some same)))
+          ]
+
+  -- and where it is told everywhere, it is told where it is attached, and silent nowhere
+  pub tells_there : IsLawful n → (l : ℕ) → ShowsWhereAttached n shown r p l → found.not_here ≡ false → ⊥
+  tells_there plan l on off =
+      let here = plan.attached_there r p l on.0 in
+      let shows = on.1 here.1.0 l here.0 here.1.1 in
+      is.telling.none off here.1.0 (within n here.1.0 r l here.0 here.1.1)
+      (record { metric = shows.0; below = record { link = l; cost = here.0; its = here.1.1; shows = shows.1; below = shows.2 }; attached = on.0 })
+
+  pub silent_nowhere : (l : ℕ) → ShowsWhereAttached n shown r p l → found.silent ≡ None
+  silent_nowhere l on = go found.silent refl
+    where
+      go : (o : Option ℕ) → found.silent ≡ o → found.silent ≡ None
+      go None e = e
+      go (Some k) e =
+          let h = is.silence.some k e in
+          let shows = on.1 h.0 k h.1 h.3 in
+          absurd (below_not_silent (metric_at shown h.0 p) shows.0 shows.1 shows.2 h.4)
+
   module _ (plan : IsLawful n) (range : IsInRange n shown) (two : HasTwoInterfaces n r) where
     -- two metrics fit no route
     pub two_metrics : found.another ≡ true → (t : Route) → Tells n shown r p t → ⊥
@@ -34,7 +82,7 @@ module _ (n : Network) (shown : State) (r p : ℕ) (found : Survey) (is : IsSurv
         let x = metric_at shown h.1 p in
         let same = some_is x h.2 h.3.shows in
         let less : unwrap_or x 16 < 16 = omega (arith, same, h.3.below) in
-        h.4 (omega (arith, e, same, shown_below n h.3.link p t.metric t.way x (tells.as_told h.1 h.3.link h.3.cost its) less))
+        h.4 (omega (arith, e, same, shown_below n r h.3.link p t.metric t.way x (tells.as_told h.1 h.3.link h.3.cost its) less))
 
     -- with one metric each interface is silent or shows it
     cell_is : found.another ≡ false → (i l c : ℕ) → IsInterface n i r l c → IsSilent (metric_at shown i p) ⊎ (metric_at shown i p ≡ Some found.metric)
@@ -59,15 +107,36 @@ module _ (n : Network) (shown : State) (r p : ℕ) (found : Survey) (is : IsSurv
     small : (found.metric ≡ 16 → ⊥) → found.metric < 16
     small off = omega (arith, off, is.speech.most)
 
-    pub here : found.another ≡ false → (found.metric ≡ 16 → ⊥) → found.silent ≡ None → Tells n shown r p (record { metric = found.metric; way = Here })
-    here off some none =
+    -- with no silent interface but where the route may be held back, there is no silent link
+    no_link : found.silent ≡ None → (l : ℕ) → IsSilentLink n shown r p l → ⊥
+    no_link none l h = h.4 (is.silence.none none h.0 l h.1 (within n h.0 r l h.1 h.2) h.2 h.3)
+
+    pub here : found.another ≡ false → (found.metric ≡ 16 → ⊥) → found.silent ≡ None → found.not_here ≡ false → Tells n shown r p (record { metric = found.metric; way = Here })
+    here off some none may =
         record {
           way_fits = ((is.speech.spoken (small some)).0, small some);
           as_told = λ i l c its. elim (cell_is off i l c its) [
             | inl silent ↦ inr (is.silence.none none i l c (within n i r l c its) its silent, silent)
-            | inr e ↦ inl e
+            | inr e ↦ inl (untold i l c its e, e)
           ];
         }
+      where
+        untold : (i l c : ℕ) → IsInterface n i r l c → metric_at shown i p ≡ Some found.metric → IsAttached n r p l → ⊥
+        untold i l c its e at =
+            is.telling.none may i (within n i r l c its)
+            (record { metric = found.metric; below = record { link = l; cost = c; its = its; shows = e; below = small some }; attached = at })
+
+    -- and where the router tells of the prefix on the link to which it is attached, it is not the route
+    pub not_its_own : (found.metric ≡ 16 → ⊥) → found.silent ≡ None → found.not_here ≡ true → (t : Route) → Tells n shown r p t → ⊥
+    not_its_own some none on t tells =
+        let told = no_other n plan shown r p two t found.metric Here tells is.speech.most mute is.speech.spoken (inr (inl (small some, no_link none, refl))) in
+        let h = is.telling.some on in
+        let b = h.1.below in
+        go h.1.metric h.1.attached b.below (metric_at shown h.0 p) b.shows (told h.0 b.link b.cost b.its)
+      where
+        go : {l : ℕ} (v : ℕ) → IsAttached n r p l → v < 16 → (x : Option ℕ) → x ≡ Some v → MayShow n r l p found.metric Here x → ⊥
+        go v at less x e (inl h) = h.0 at
+        go v at less x e (inr h) = below_not_silent x v e less h.1
 
     silent_at : (l : ℕ) → found.silent ≡ Some l → IsSilentLink n shown r p l
     silent_at l e = let h = is.silence.some l e in (h.0, h.1, h.3, h.4, h.5)

@@ -1,15 +1,15 @@
 -- One more interface in what a router shows.
-use Rattle.std.proofs.Common.{◌≡◌, ℕ, ◌+◌, ◌<◌, ◌≤◌, ◌⊎◌, inl, inr, Bool, true, false, Option, None, Some, refl, sym, ◌∙◌, arith}
+use Rattle.std.proofs.Common.{◌≡◌, ℕ, ◌+◌, ◌<◌, ◌≤◌, ◌⊎◌, inl, inr, Bool, true, false, Decides, Option, None, Some, refl, sym, ◌∙◌, arith}
 use Rattle.std.proofs.lemmas.Bool.{cases_lt}
 use Rattle.std.proofs.lemmas.Option.{same_Some}
 use Rattle.rip_plan.specs.Network.{Network}
-use Rattle.rip_plan.specs.Relations.{IsLawful, IsInterface, Carries}
+use Rattle.rip_plan.specs.Relations.{IsAttached, IsInterface, IsLawful}
 use Rattle.rip_table.specs.State.{State}
 use Rattle.rip_check.specs.declared.way.Way.TheVariants.{Over}
-use Rattle.rip_check.specs.Tables.{IsSilent, MayShow, IsAsTold}
+use Rattle.rip_check.specs.Tables.{IsSilent, MayHoldBack, MayShow, IsAsTold}
 use Rattle.rip_check.specs.Firsts.{IsShownBelow}
 use Rattle.rip_check.specs.declared.surveys.Survey.{Survey}
-use Rattle.rip_check.specs.Surveys.{IsSpeech, IsSilence, IsSurvey}
+use Rattle.rip_check.specs.Surveys.{IsSilence, IsSpeech, IsSurvey, IsTelling, IsTold}
 use Rattle.rip_check.proofs.Owned.{its_link}
 use Rattle.rip_check.proofs.Rows.{not_silent}
 use Rattle.rip_check.specs.Metrics.{metric_at}
@@ -86,10 +86,32 @@ module _ (n : Network) (shown : State) (r p i l c : ℕ) (its : IsInterface n i 
     no_silence silent blocked was =
         record {
           some = λ k e. let h = was.some k e in (h.0, h.1, omega (arith, h.2), h.3, h.4, h.5);
-          none = λ e. split (λ j k. IsSilent (metric_at shown j p) → Carries n k p) (was.none e) (λ silent. absurd (here_not_silent silent));
+          none = λ e. split (λ j k. IsSilent (metric_at shown j p) → MayHoldBack n r p k) (was.none e) (λ silent. absurd (here_not_silent silent));
           no_route = was.no_route;
           alone = λ e. split (λ j k. IsSilent (metric_at shown j p) → (silent ≡ Some k) × (metric_at shown j p ≡ Some 16)) (was.alone e) (λ silent. absurd (here_not_silent silent));
         }
+
+    -- the interface tells of the prefix, on the link to which it is attached or on another
+    pub more_telling : (old on next : Bool) → Decides on (IsAttached n r p l) → IsTelling n shown r p i old →
+        ((old ≡ true) × (next ≡ true)) ⊎ ((old ≡ false) × (next ≡ on)) → IsTelling n shown r p (i + 1) next
+    more_telling old on next d was (inl h) = record { some = λ t. was.some h.0; none = λ t. absurd (let e : true ≡ false = sym h.1 ∙ t in cc e) }
+    more_telling old on next d was (inr h) = record { some = some; none = none }
+      where
+        some : next ≡ true → (j : ℕ) × IsTold n shown r p j
+        some t = (i, record { metric = m; below = record { link = l; cost = c; its = its; shows = shows; below = less }; attached = d.0 (sym h.1 ∙ t) })
+
+        none : next ≡ false → (j : ℕ) → j < i + 1 → IsTold n shown r p j → ⊥
+        none t j lt told =
+            elim (cases_lt j i) [
+              | inl sooner ↦ was.none h.0 j sooner told
+              | inr late ↦
+                  let e : j ≡ i = omega arith in
+                  let its' : IsInterface n i r told.below.link told.below.cost = rw e at told.below.its in
+                  let same : told.below.link ≡ l = (its_link n i r told.below.link told.below.cost r l c its' its).1 in
+                  let at : IsAttached n r p l = rw same at told.attached in
+                  let is : false ≡ true = sym t ∙ h.1 ∙ d.1 at in
+                  cc is
+            ]
 
   -- ---- the interface is silent
   module _ (silent : IsSilent (metric_at shown i p)) where
@@ -103,13 +125,26 @@ module _ (n : Network) (shown : State) (r p i l c : ℕ) (its : IsInterface n i 
           one = λ t. split_below (λ v. v ≡ metric) (was.one t) (λ v e small. absurd (below_not_silent (metric_at shown i p) v e small silent));
         }
 
+    pub no_telling : (not_here : Bool) → IsTelling n shown r p i not_here → IsTelling n shown r p (i + 1) not_here
+    no_telling not_here was = record { some = was.some; none = none }
+      where
+        none : not_here ≡ false → (j : ℕ) → j < i + 1 → IsTold n shown r p j → ⊥
+        none t j lt told =
+            elim (cases_lt j i) [
+              | inl sooner ↦ was.none t j sooner told
+              | inr late ↦
+                  let e : j ≡ i = omega arith in
+                  let shows' : metric_at shown i p ≡ Some told.metric = rw e at told.below.shows in
+                  below_not_silent (metric_at shown i p) told.metric shows' told.below.below silent
+            ]
+
     -- what a route over a link may show here
-    over_here : (m k : ℕ) → m < 16 → MayShow n l p m (Over k) (metric_at shown i p) → (k ≡ l) × (metric_at shown i p ≡ Some 16)
+    over_here : (m k : ℕ) → m < 16 → MayShow n r l p m (Over k) (metric_at shown i p) → (k ≡ l) × (metric_at shown i p ≡ Some 16)
     over_here m k less (inl h) = h
     over_here m k less (inr h) = absurd (below_not_silent (metric_at shown i p) m h.1 less silent)
 
     -- the first silent
-    pub first_silent_link : (off : Carries n l p → ⊥) (blocked : Bool) → IsSilence n shown r p i None blocked →
+    pub first_silent_link : (off : MayHoldBack n r p l → ⊥) (blocked : Bool) → IsSilence n shown r p i None blocked →
         (next : Bool) → (next ≡ true → (blocked ≡ true) ⊎ (metric_at shown i p ≡ None)) → (next ≡ false → (blocked ≡ false) × (metric_at shown i p ≡ Some 16)) →
         IsSilence n shown r p (i + 1) (Some l) next
     first_silent_link off blocked was next on off' =
@@ -129,39 +164,39 @@ module _ (n : Network) (shown : State) (r p i l c : ℕ) (its : IsInterface n i 
         is_gap k (inl e) = cc e
         is_gap k (inr e) = same_Some k l (sym e)
 
-        no_route_here : (blocked ≡ true) ⊎ (metric_at shown i p ≡ None) → (m k : ℕ) → m < 16 → (Carries n k p → ⊥) → k ≡ l → IsAsTold n shown r p m (Over k) → ⊥
+        no_route_here : (blocked ≡ true) ⊎ (metric_at shown i p ≡ None) → (m k : ℕ) → m < 16 → (MayHoldBack n r p k → ⊥) → k ≡ l → IsAsTold n shown r p m (Over k) → ⊥
         no_route_here (inl t) m k less away same told = was.no_route t m k less away (inl refl) told
         no_route_here (inr none) m k less away same told =
             let h = over_here m k less (told i l c its) in
             cc (none, h.1)
 
     -- a silence beside the silent
-    pub more_silence : IsLawful n → (silent : Option ℕ) (blocked : Bool) → IsSilence n shown r p i silent blocked → ((silent ≡ None → ⊥) ⊎ Carries n l p) → IsSilence n shown r p (i + 1) silent true
+    pub more_silence : IsLawful n → (silent : Option ℕ) (blocked : Bool) → IsSilence n shown r p i silent blocked → ((silent ≡ None → ⊥) ⊎ MayHoldBack n r p l) → IsSilence n shown r p (i + 1) silent true
     more_silence plan silent blocked was beside =
         record {
           some = λ k e. let h = was.some k e in (h.0, h.1, omega (arith, h.2), h.3, h.4, h.5);
-          none = λ e. split (λ j k. IsSilent (metric_at shown j p) → Carries n k p) (was.none e) (λ quiet. carried beside e);
+          none = λ e. split (λ j k. IsSilent (metric_at shown j p) → MayHoldBack n r p k) (was.none e) (λ quiet. held beside e);
           no_route = λ t m k less away at told. away' beside m k less away at (over_here m k less (told i l c its)).0;
           alone = λ t. cc t;
         }
       where
-        carried : (silent ≡ None → ⊥) ⊎ Carries n l p → silent ≡ None → Carries n l p
-        carried (inl some) e = absurd (some e)
-        carried (inr on) e = on
+        held : (silent ≡ None → ⊥) ⊎ MayHoldBack n r p l → silent ≡ None → MayHoldBack n r p l
+        held (inl some) e = absurd (some e)
+        held (inr on) e = on
 
         apart : (j k d : ℕ) → j < i → IsInterface n j r k d → k ≡ l → ⊥
         apart j k d sooner at same =
             let at' : IsInterface n j r l d = rw same at at in
             omega (arith, sooner, plan.one_on_link j i r l d c at' its)
 
-        away' : (silent ≡ None → ⊥) ⊎ Carries n l p → (m k : ℕ) → m < 16 → (Carries n k p → ⊥) → (silent ≡ None) ⊎ (silent ≡ Some k) → k ≡ l → ⊥
+        away' : (silent ≡ None → ⊥) ⊎ MayHoldBack n r p l → (m k : ℕ) → m < 16 → (MayHoldBack n r p k → ⊥) → (silent ≡ None) ⊎ (silent ≡ Some k) → k ≡ l → ⊥
         away' (inr on) m k less away at same = away (rw same on)
         away' (inl some) m k less away (inl none) same = some none
         away' (inl some) m k less away (inr is) same = let h = was.some k is in apart h.0 k h.1 h.2 h.3 same
 
 -- before the first interface, and up to the next one
 module _ (n : Network) (shown : State) (r p : ℕ) where
-  pub nothing_yet : IsSurvey n shown r p 0 (record { metric = 16; another = false; silent = None; blocked = false })
+  pub nothing_yet : IsSurvey n shown r p 0 (record { metric = 16; another = false; silent = None; blocked = false; not_here = false })
   nothing_yet =
       record {
         speech = record {
@@ -176,6 +211,10 @@ module _ (n : Network) (shown : State) (r p : ℕ) where
           none = λ e i l c lt its silent. absurd (omega (arith, lt));
           no_route = λ t. cc t;
           alone = λ t i l c lt its silent. absurd (omega (arith, lt));
+        };
+        telling = record {
+          some = λ t. cc t;
+          none = λ t i lt told. absurd (omega (arith, lt));
         };
       }
 
@@ -196,5 +235,9 @@ module _ (n : Network) (shown : State) (r p : ℕ) where
           none = λ e j l c lt its. silence.none e j l c (none j l c its lt) its;
           no_route = silence.no_route;
           alone = λ t j l c lt its. silence.alone t j l c (none j l c its lt) its;
+        };
+        telling = record {
+          some = is.telling.some;
+          none = λ t j lt told. is.telling.none t j (none j told.below.link told.below.cost told.below.its lt) told;
         };
       }

@@ -5,14 +5,15 @@ use Rattle.std.proofs.lemmas.Bool.{cases_eq}
 use Rattle.std.proofs.lemmas.Option.{slice_get_within}
 use Rattle.rip_plan.specs.declared.parts.Interface.{Interface}
 use Rattle.rip_plan.specs.Network.{Network}
-use Rattle.rip_plan.specs.Relations.{IsLawful, IsInterface, IsLeaf, HasTwoInterfaces, Carries}
+use Rattle.rip_plan.specs.Relations.{HasTwoInterfaces, IsAttached, IsInterface, IsLawful, IsLeaf}
 use Rattle.rip_table.specs.State.{State}
-use Rattle.rip_check.specs.Firsts.{IsReadable, IsShownBelow, Shows16Twice, ShowsEach, ShowsTwo, ShowsTwoWays}
+use Rattle.rip_check.specs.Firsts.{IsReadable, IsShownBelow, Shows16Twice, ShowsEach, ShowsTwo, ShowsTwoWays, ShowsWhereAttached}
 use Rattle.rip_check.specs.Metrics.{IsInRange, metric_at}
-use Rattle.rip_check.specs.Tables.{Route, Tells}
+use Rattle.rip_check.specs.Tables.{MayHoldBack, Route, Tells}
 use Rattle.rip_check.specs.declared.way.Way.TheVariants.{Here, Over, Unreachable}
 use Rattle.rip_check.proofs.Readable.{fits_readable, two_fits}
-use Rattle.rip_check.proofs.Reading.{carries_or_not, find_below, two_or_leaf}
+use Rattle.rip_check.proofs.Reading.{two_or_leaf}
+use Rattle.rip_check.proofs.Plans.{find_below, held_back_once, holds_back_or_not}
 
 -- interface i is router r's, and this holds
 record IsOwn (n : Network) (r i : ℕ) (Q : Type 0) : Type 0 where
@@ -72,7 +73,7 @@ another_or_not n shown r p i j = go (cases_eq j i) (poisoned_or_not n shown r p 
 
 on_its_link : (n : Network) (shown : State) (r p i : ℕ) (h : IsPoisoned n shown r p i) → IsInterface n i r h.own.link h.own.cost
 on_its_link n shown r p i h =
-    let there : IsInterface n i h.own.router h.own.link h.own.cost = record { address = h.own.address; listed = h.listed } in
+    let there : IsInterface n i h.own.router h.own.link h.own.cost = record { address = h.own.address; direct = h.own.direct; listed = h.listed } in
     rw h.its at there
 
 module _ (n : Network) (plan : IsLawful n) (shown : State) (range : IsInRange n shown) (r p : ℕ)
@@ -115,24 +116,26 @@ module _ (n : Network) (plan : IsLawful n) (shown : State) (range : IsInRange n 
         ))
       ]
 
-  -- the route is the router's own, where each 16 stands on a link of the prefix
+  -- the route is the router's own, where each 16 stands where it may be held back, and nothing else does where the
+  -- prefix is attached
   here_tells : (i l c m : ℕ) → IsInterface n i r l c → metric_at shown i p ≡ Some m → 1 ≤ m → m < 16 →
-      ((j k d : ℕ) → IsInterface n j r k d → IsPoisoned n shown r p j → Carries n k p) →
+      ((j k d : ℕ) → IsInterface n j r k d → IsPoisoned n shown r p j → MayHoldBack n r p k) →
+      ((j k d : ℕ) → IsInterface n j r k d → (IsPoisoned n shown r p j → ⊥) → IsAttached n r p k → ⊥) →
       Tells n shown r p (record { metric = m; way = Here })
-  here_tells i l c m has shows least small carried = record {
+  here_tells i l c m has shows least small held untold = record {
     way_fits = (least, small);
     as_told = λ j k d there.
         elim (poisoned_or_not n shown r p j) [
-          | inl h ↦ inr (carried j k d there h, inr h.shows)
+          | inl h ↦ inr (held j k d there h, inr h.shows)
           | inr not ↦
               let b = below j k d there not in
-              inl (b.1 ∙ ap Some (same i j l k c d m b.0 has there shows small b.1 b.3))
+              inl (untold j k d there not, b.1 ∙ ap Some (same i j l k c d m b.0 has there shows small b.1 b.3))
         ];
   }
 
-  -- or it goes over the one link with a 16, which does not carry the prefix
+  -- or it goes over the one link with a 16, where it may not be held back
   over_tells : (i l c m o : ℕ) → IsInterface n i r l c → metric_at shown i p ≡ Some m → 1 ≤ m → m < 16 →
-      (h : IsPoisoned n shown r p o) → ((j : ℕ) → IsPoisoned n shown r p j → j ≡ o) → (Carries n h.own.link p → ⊥) →
+      (h : IsPoisoned n shown r p o) → ((j : ℕ) → IsPoisoned n shown r p j → j ≡ o) → (MayHoldBack n r p h.own.link → ⊥) →
       Tells n shown r p (record { metric = m; way = Over h.own.link })
   over_tells i l c m o has shows least small h only off =
       let its = on_its_link n shown r p o h in
@@ -156,14 +159,16 @@ module _ (n : Network) (plan : IsLawful n) (shown : State) (range : IsInRange n 
           let number : o ≡ j = plan.one_on_link o j r k h.own.cost d its' there in
           rw number at h
 
-  module _ (at : r < length n.routers) (two : HasTwoInterfaces n r) (unread : IsReadable n shown r p → ⊥) where
+  module _ (at : r < length n.routers) (two : HasTwoInterfaces n r) (unread : IsReadable n shown r p → ⊥)
+      (apart : (l : ℕ) → ShowsWhereAttached n shown r p l → ⊥) where
     no_route : (t : Route) → Tells n shown r p t → ⊥
     no_route t tells = unread (fits_readable n plan shown range r p t at (two_fits n plan shown range r p t two tells))
 
     some_16 : ((j : ℕ) → IsPoisoned n shown r p j → ⊥) → ⊥
     some_16 none =
         let b = below two.0 two.2 two.4 two.6 (none two.0) in
-        no_route _ (here_tells two.0 two.2 two.4 b.0 two.6 b.1 b.2 b.3 (λ j k d there h. absurd (none j h)))
+        no_route _ (here_tells two.0 two.2 two.4 b.0 two.6 b.1 b.2 b.3 (λ j k d there h. absurd (none j h))
+        (λ j k d there not on. apart k (on, λ i l c its. let s = below i l c its (none i) in (s.0, s.1, s.3))))
 
     -- an interface that shows a metric, where one alone shows 16
     other : (o : ℕ) → ((j : ℕ) → IsPoisoned n shown r p j → j ≡ o) → (i l c m : ℕ) × IsInterface n i r l c × (metric_at shown i p ≡ Some m) × (1 ≤ m) × (m < 16)
@@ -180,13 +185,21 @@ module _ (n : Network) (plan : IsLawful n) (shown : State) (range : IsInRange n 
     another_16 : (o : ℕ) → (h : IsPoisoned n shown r p o) → ((j : ℕ) → IsPoisoned n shown r p j → j ≡ o) → ⊥
     another_16 o h only =
         let x = other o only in
-        elim (carries_or_not n h.own.link p) [
-          | inl on ↦ no_route _ (here_tells x.0 x.1 x.2 x.3 x.4 x.5 x.6 x.7 (λ j k d there g. carried j k d there g on))
+        elim (holds_back_or_not n r p h.own.link) [
+          | inl on ↦ no_route _ (here_tells x.0 x.1 x.2 x.3 x.4 x.5 x.6 x.7 (λ j k d there g. held j k d there g on) (λ j k d there not attached. elsewhere j k d there not attached on))
           | inr off ↦ no_route _ (over_tells x.0 x.1 x.2 x.3 o x.4 x.5 x.6 x.7 h only off)
         ]
       where
-        carried : (j k d : ℕ) → IsInterface n j r k d → IsPoisoned n shown r p j → Carries n h.own.link p → Carries n k p
-        carried j k d there g on =
+        elsewhere : (j k d : ℕ) → IsInterface n j r k d → (IsPoisoned n shown r p j → ⊥) → IsAttached n r p k → MayHoldBack n r p h.own.link → ⊥
+        elsewhere j k d there not attached on =
+            let its = on_its_link n shown r p o h in
+            let link : h.own.link ≡ k = held_back_once n plan r p h.own.link k (h.own.cost, (o, its)) (d, (j, there)) on (inr attached) in
+            let its' : IsInterface n o r k h.own.cost = rw link at its in
+            let number : o ≡ j = plan.one_on_link o j r k h.own.cost d its' there in
+            not (rw number at h)
+
+        held : (j k d : ℕ) → IsInterface n j r k d → IsPoisoned n shown r p j → MayHoldBack n r p h.own.link → MayHoldBack n r p k
+        held j k d there g on =
             let its = on_its_link n shown r p o h in
             let there' : IsInterface n o r k d = rw (only j g) at there in
             let link : h.own.link ≡ k = ap (λ (y : Interface). y.link) (same_one (sym its.listed ∙ there'.listed)) in
@@ -238,7 +251,7 @@ module _ (n : Network) (plan : IsLawful n) (shown : State) (range : IsInRange n 
         elim (find_below (IsOther n shown r p) (other_or_not n shown r p) (length n.interfaces)) [
           | inl h ↦
               let o = h.2 in
-              let its : IsInterface n h.0 o.own.router o.own.link o.own.cost = record { address = o.own.address; listed = o.listed } in
+              let its : IsInterface n h.0 o.own.router o.own.link o.own.cost = record { address = o.own.address; direct = o.own.direct; listed = o.listed } in
               let there : IsInterface n h.0 r o.own.link o.own.cost = rw o.its at its in
               let b = below h.0 o.own.link o.own.cost there (λ g. o.shows g.shows) in
               (h.0, b.0, record { link = o.own.link; cost = o.own.cost; its = there; shows = b.1; below = b.3 })
@@ -252,11 +265,29 @@ module _ (n : Network) (plan : IsLawful n) (shown : State) (range : IsInRange n 
               | inr not ↦ absurd (none j (slice_get_within n.interfaces j _ there.listed) (record { own = _; listed = there.listed; its = refl; shows = not }))
             ]
 
-  pub two_ways_shown : r < length n.routers → (IsReadable n shown r p → ⊥) → ShowsTwoWays n shown r p
-  two_ways_shown at unread =
+  -- a leaf shows its route, or that it has none
+  leaf_read : (i l c : ℕ) → IsLeaf n r i l c → ((l : ℕ) → ShowsWhereAttached n shown r p l → ⊥) → IsReadable n shown r p
+  leaf_read i l c leaf apart =
+      elim (poisoned_or_not n shown r p i) [
+        | inl h ↦ (
+          record { metric = 16; way = Unreachable },
+          record { way_fits = refl; as_told = λ j k d there. inr (let e : j ≡ i = leaf.only j k d there in rw e h.shows) },
+          inr (i, l, c, leaf),
+        )
+        | inr not ↦
+            let b = below i l c leaf.has not in (
+              record { metric = b.0; way = Here },
+              here_tells i l c b.0 leaf.has b.1 b.2 b.3 (λ j k d there h. absurd (not (let e : j ≡ i = leaf.only j k d there in rw e at h)))
+                  (λ j k d there other attached. apart k (attached, λ x y z its. let s = below x y z its (λ h. not (let e : x ≡ i = leaf.only x y z its in rw e at h)) in (s.0, s.1, s.3))),
+              inr (i, l, c, leaf),
+            )
+      ]
+
+  pub two_ways_shown : r < length n.routers → ((l : ℕ) → ShowsWhereAttached n shown r p l → ⊥) → (IsReadable n shown r p → ⊥) → ShowsTwoWays n shown r p
+  two_ways_shown at apart unread =
       let has = plan.one_interface r at in
       let kind : HasTwoInterfaces n r ⊎ IsLeaf n r has.0 has.1 has.2 = two_or_leaf n r has.0 has.1 has.2 has.3 in
       elim kind [
-        | inl two ↦ (two_shown at two unread, below_shown at two unread)
-        | inr leaf ↦ absurd (unread (inr (has.0, has.1, has.2, leaf)))
+        | inl two ↦ (two_shown at two unread apart, below_shown at two unread apart)
+        | inr leaf ↦ absurd (unread (leaf_read has.0 has.1 has.2 leaf apart))
       ]

@@ -47,7 +47,7 @@ module _ (n : Network) (shown : State) (T : Tables) (plan : IsLawful n) (shows :
       (HasArrived T p z → ⊥) → (s : ℕ) × GoesTo n shown T p z s
   goes_case p z Unreachable is fits given small on = absurd (omega (arith, fits, small))
   goes_case p z Here is fits given small on = absurd (on is)
-  goes_case p z (Over l) is fits given small on = (given.0, record { link = l; way = is; offer = given.1 })
+  goes_case p z (Over l) is fits given small on = (given.1.0, record { link = l; way = is; offer = given.1.1 })
 
   -- the last router is known
   last_from : (p z r : ℕ) (before : List ℕ) → p < length shown.prefixes → r < length n.routers → (T r p).metric < 16 → EachGoesOn n shown T p r (before ++ z ∷ []) →

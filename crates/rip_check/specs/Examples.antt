@@ -1,5 +1,5 @@
 -- Worked examples: small networks, what their routers show, and the tables that this shows.
-use Rattle.std.specs.Prelude.{ℕ, zero, suc, ◌+◌, ◌*◌, ◌/◌, ◌%◌, ◌==◌, nat_lt, min, true, if◌then◌else◌, List, [], ◌∷◌, ◌++◌, Option, None, Some, option_and_then, unwrap_or, length, slice_get, slice_index_or, codes}
+use Rattle.std.specs.Prelude.{ℕ, zero, suc, ◌+◌, ◌*◌, ◌/◌, ◌%◌, ◌==◌, nat_lt, min, true, false, if◌then◌else◌, List, [], ◌∷◌, ◌++◌, Option, None, Some, option_and_then, unwrap_or, length, replicate, slice_get, slice_index_or, codes}
 use Rattle.rip_wire.specs.Prefix.{Block, block}
 use Rattle.rip_plan.specs.declared.parts.Interface.{Interface}
 use Rattle.rip_plan.specs.declared.parts.Seat.{Seat}
@@ -23,9 +23,17 @@ octets a b c d = ((a * 256 + b) * 256 + c) * 256 + d
 abbrev pub ten : ℕ → Block
 ten x = block (octets 10 x 0 0) 16
 
--- router r on link l, with address a, at cost c
+-- router r on link l, with address a, at cost c, at which it has the link's prefixes too
 abbrev pub interface : ℕ → ℕ → ℕ → ℕ → Interface
-interface r l a c = record { router = r; link = l; address = a; cost = c }
+interface r l a c = record { router = r; link = l; address = a; cost = c; direct = c }
+
+-- so many interfaces have no further address
+abbrev pub one_each : ℕ → List (List ℕ)
+one_each n = replicate n []
+
+-- the prefix is router r's own, at cost c
+abbrev pub own : ℕ → ℕ → Seat
+own r c = Own r c false None None
 
 abbrev pub place : ℕ → Seat → Place
 place p seat = record { prefix = p; seat = seat }
@@ -78,6 +86,7 @@ triangle = record {
       interface 0 0 (octets 10 1 0 1) 1 ∷ interface 0 2 (octets 10 3 0 1) 1
       ∷ interface 1 0 (octets 10 1 0 2) 1 ∷ interface 1 1 (octets 10 2 0 2) 1
       ∷ interface 2 1 (octets 10 2 0 3) 1 ∷ interface 2 2 (octets 10 3 0 3) 1 ∷ [];
+  also = one_each 6;
   prefixes = ten 1 ∷ ten 2 ∷ ten 3 ∷ [];
   places = place 0 (Link 0) ∷ place 1 (Link 1) ∷ place 2 (Link 2) ∷ [];
 }
@@ -127,7 +136,7 @@ abbrev pub two_exits : Network
 two_exits = record triangle {
   prefixes = ten 1 ∷ ten 2 ∷ ten 3 ∷ block 0 0 ∷ [];
   places = place 0 (Link 0) ∷ place 1 (Link 1) ∷ place 2 (Link 2)
-      ∷ place 3 (Own 0 1) ∷ place 3 (Own 2 1) ∷ [];
+      ∷ place 3 (own 0 1) ∷ place 3 (own 2 1) ∷ [];
 }
 
 abbrev pub two_exits_shown : State
@@ -144,6 +153,56 @@ two_exits_tables = tables (
     ∷ (route 2 (Over 2) ∷ route 1 Here ∷ route 1 Here ∷ route 1 Here ∷ []) ∷ []
     )
 
+-- ---- A keeper: the same, but the first router has the default route at 5 and keeps it, though it is
+-- offered for less
+
+abbrev pub keeper : Network
+keeper = record two_exits {
+  places = place 0 (Link 0) ∷ place 1 (Link 1) ∷ place 2 (Link 2)
+      ∷ place 3 (Own 0 5 true None None) ∷ place 3 (own 2 1) ∷ [];
+}
+
+-- the first router shows a and c of the default route on its two links
+abbrev pub keeper_shown : ℕ → ℕ → State
+keeper_shown a c = showing keeper.prefixes (
+    (None ∷ Some 16 ∷ Some 1 ∷ Some a ∷ []) ∷ (Some 1 ∷ Some 2 ∷ None ∷ Some c ∷ [])
+    ∷ (None ∷ Some 1 ∷ Some 2 ∷ Some 2 ∷ []) ∷ (Some 1 ∷ None ∷ Some 16 ∷ Some 16 ∷ [])
+    ∷ (Some 2 ∷ None ∷ Some 1 ∷ Some 1 ∷ []) ∷ (Some 16 ∷ Some 1 ∷ None ∷ Some 1 ∷ []) ∷ []
+    )
+
+-- and this is its route
+abbrev pub keeper_tables : Route → Tables
+keeper_tables t = tables (
+    (route 1 Here ∷ route 2 (Over 0) ∷ route 1 Here ∷ t ∷ [])
+    ∷ (route 1 Here ∷ route 1 Here ∷ route 2 (Over 1) ∷ route 2 (Over 1) ∷ [])
+    ∷ (route 2 (Over 2) ∷ route 1 Here ∷ route 1 Here ∷ route 1 Here ∷ []) ∷ []
+    )
+
+-- ---- A second prefix on a wire: the triangle, whose first router alone has a fourth prefix on link a,
+-- and does not tell of it there
+
+abbrev pub second_prefix : Network
+second_prefix = record triangle {
+  prefixes = ten 1 ∷ ten 2 ∷ ten 3 ∷ ten 4 ∷ [];
+  places = place 0 (Link 0) ∷ place 1 (Link 1) ∷ place 2 (Link 2)
+      ∷ place 3 (Own 0 1 false (Some 0) None) ∷ [];
+}
+
+-- the first router shows x of it on link a, and the second goes round over the third
+abbrev pub second_shown : Option ℕ → State
+second_shown x = showing second_prefix.prefixes (
+    (None ∷ Some 16 ∷ Some 1 ∷ x ∷ []) ∷ (Some 1 ∷ Some 2 ∷ None ∷ Some 1 ∷ [])
+    ∷ (None ∷ Some 1 ∷ Some 2 ∷ Some 3 ∷ []) ∷ (Some 1 ∷ None ∷ Some 16 ∷ Some 16 ∷ [])
+    ∷ (Some 2 ∷ None ∷ Some 1 ∷ Some 2 ∷ []) ∷ (Some 16 ∷ Some 1 ∷ None ∷ Some 16 ∷ []) ∷ []
+    )
+
+abbrev pub second_tables : Tables
+second_tables = tables (
+    (route 1 Here ∷ route 2 (Over 0) ∷ route 1 Here ∷ route 1 Here ∷ [])
+    ∷ (route 1 Here ∷ route 1 Here ∷ route 2 (Over 1) ∷ route 3 (Over 1) ∷ [])
+    ∷ (route 2 (Over 2) ∷ route 1 Here ∷ route 1 Here ∷ route 2 (Over 2) ∷ []) ∷ []
+    )
+
 -- ---- A leaf: the triangle, and a fourth router on link b alone, which can show nothing that it
 -- learned
 
@@ -151,6 +210,7 @@ abbrev pub with_leaf : Network
 with_leaf = record triangle {
   routers = codes "r1" ∷ codes "r2" ∷ codes "r3" ∷ codes "r4" ∷ [];
   interfaces = triangle.interfaces ++ interface 3 1 (octets 10 2 0 4) 1 ∷ [];
+  also = one_each 7;
 }
 
 abbrev pub leaf_shown : State
@@ -178,6 +238,7 @@ slope = record {
   interfaces =
       interface 0 0 (octets 10 1 0 1) 1 ∷ interface 0 1 (octets 192 168 0 1) 5
       ∷ interface 1 1 (octets 192 168 0 2) 1 ∷ interface 1 2 (octets 10 2 0 1) 1 ∷ [];
+  also = one_each 4;
   prefixes = ten 1 ∷ ten 2 ∷ [];
   places = place 0 (Link 0) ∷ place 1 (Link 2) ∷ [];
 }
@@ -209,8 +270,9 @@ chain n = record {
   links = each_below (n + 1) (numbered_name 108);
   routers = each_below n (λ r. numbered_name 107 (r + 1));
   interfaces = chain_interfaces n;
+  also = one_each (2 * n);
   prefixes = ten 200 ∷ [];
-  places = place 0 (Own 0 1) ∷ [];
+  places = place 0 (own 0 1) ∷ [];
 }
 
 -- the first shows its metric on both links; the others show theirs ahead, and 16 behind

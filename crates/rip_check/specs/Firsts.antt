@@ -1,11 +1,11 @@
 -- Which routes can be read, why others can't, and which place is the first.
 use Rattle.std.specs.Prelude.{◌≡◌, ◌≢◌, ℕ, ◌<◌, ◌≤◌, ◌⊎◌, Option, None, Some, IsTrue, length}
 use Rattle.rip_plan.specs.Network.{Network}
-use Rattle.rip_plan.specs.Relations.{IsInterface, IsLeaf}
+use Rattle.rip_plan.specs.Relations.{IsAttached, IsInterface, IsLeaf}
 use Rattle.rip_table.specs.State.{State}
 use Rattle.rip_check.specs.Tables.{IsHeard, IsOnlyRoute, Route, Tells}
 use Rattle.rip_check.specs.declared.verdict.Unclear.{Unclear}
-use Rattle.rip_check.specs.declared.verdict.Unclear.TheVariants.{NotHeard, TwoMetrics, Missing, TwoWays}
+use Rattle.rip_check.specs.declared.verdict.Unclear.TheVariants.{NotHeard, TwoMetrics, Missing, ShownOn, TwoWays}
 use Rattle.rip_check.specs.Metrics.{metric_at}
 
 -- of two places, router s and prefix q, and router r and prefix p, the first comes before the
@@ -46,11 +46,11 @@ pub record IsFirstPlace (n : Network) (count : ℕ) (Fine : ℕ → ℕ → Type
   pub first : r < length n.routers → IsFirst n count None Fine r p
   pub fine : r ≡ length n.routers → AreFine n count None Fine
 
--- exactly one route fits what router r shows of prefix p, or the router has one interface
+-- exactly one route fits what router r shows of prefix p; of a router with one interface, at least one
 abbrev pub IsReadable : Network → State → ℕ → ℕ → Type 0
 IsReadable n shown r p =
-    ((t : Route) × Tells n shown r p t × IsOnlyRoute n shown r p t)
-    ⊎ ((i l c : ℕ) × IsLeaf n r i l c)
+    (t : Route) × Tells n shown r p t
+    × (IsOnlyRoute n shown r p t ⊎ ((i l c : ℕ) × IsLeaf n r i l c))
 
 -- interface i of router r shows metric m, which is below 16
 pub record IsShownBelow (n : Network) (shown : State) (r p i m : ℕ) : Type 0 where
@@ -88,15 +88,29 @@ abbrev pub ShowsTwoWays : Network → State → ℕ → ℕ → Type 0
 ShowsTwoWays n shown r p =
     Shows16Twice n shown r p × ((i m : ℕ) × IsShownBelow n shown r p i m)
 
+-- the router shows a metric below 16 on each of its links
+abbrev pub ShowsEverywhere : Network → State → ℕ → ℕ → Type 0
+ShowsEverywhere n shown r p =
+    (i l c : ℕ) → IsInterface n i r l c → (m : ℕ) × (metric_at shown i p ≡ Some m) × (m < 16)
+
+-- the router shows a metric below 16 on each of its links, and so on link l, to which the prefix is
+-- attached
+abbrev pub ShowsWhereAttached : Network → State → ℕ → ℕ → ℕ → Type 0
+ShowsWhereAttached n shown r p l = IsAttached n r p l × ShowsEverywhere n shown r p
+
 -- why no route of router r for prefix p can be read: it shows two metrics; else it shows nothing on
--- a link; else it does neither, and would need two ways
+-- a link; else it shows the prefix everywhere, also where it is attached; else it does none of these,
+-- and would need two ways
 abbrev pub IsReason : Network → State → ℕ → ℕ → Unclear → Type 0
 IsReason n shown r p (NotHeard s l) = ⊥
 IsReason n shown r p (TwoMetrics s q) = (s ≡ r) × (q ≡ p) × ShowsTwo n shown r p
 IsReason n shown r p (Missing s q l) =
     (s ≡ r) × (q ≡ p) × (ShowsTwo n shown r p → ⊥) × IsFirstGap n shown r p l
+IsReason n shown r p (ShownOn s q l) =
+    (s ≡ r) × (q ≡ p) × (ShowsTwo n shown r p → ⊥) × ShowsWhereAttached n shown r p l
 IsReason n shown r p (TwoWays s q) =
     (s ≡ r) × (q ≡ p) × (ShowsTwo n shown r p → ⊥) × ShowsEach n shown r p
+    × ((l : ℕ) → ShowsWhereAttached n shown r p l → ⊥)
 
 -- the first interface that was not heard is router r's on link l
 pub record IsFirstUnheard (n : Network) (shown : State) (r l : ℕ) : Type 0 where
@@ -122,5 +136,7 @@ IsFirstTrouble n shown (TwoMetrics r p) =
     IsHeard n shown × IsFirstUnclear n shown (TwoMetrics r p)
 IsFirstTrouble n shown (Missing r p l) =
     IsHeard n shown × IsFirstUnclear n shown (Missing r p l)
+IsFirstTrouble n shown (ShownOn r p l) =
+    IsHeard n shown × IsFirstUnclear n shown (ShownOn r p l)
 IsFirstTrouble n shown (TwoWays r p) =
     IsHeard n shown × IsFirstUnclear n shown (TwoWays r p)

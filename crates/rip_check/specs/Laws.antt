@@ -1,9 +1,9 @@
 -- The laws of settled tables, each as one statement.
 use Rattle.std.specs.Prelude.{◌≡◌, ◌⊎◌, ℕ, ◌+◌, ◌≤◌, ◌<◌, List, length, map}
 use Rattle.rip_plan.specs.Network.{Network}
-use Rattle.rip_plan.specs.Relations.{IsLawful, HasCost, IsDirect, IsInterface, IsNeighbour}
+use Rattle.rip_plan.specs.Relations.{IsLawful, HasCost, IsAttached, IsDirect, IsInterface, IsNeighbour}
 use Rattle.rip_table.specs.State.{State}
-use Rattle.rip_check.specs.Paths.{Hop, IsPath}
+use Rattle.rip_check.specs.Paths.{Hop, IsPath, MayHop}
 use Rattle.rip_check.specs.Metrics.{metric_at}
 use Rattle.rip_check.specs.Tables.{Tables, Route, Shows, FitsShown, IsHeard, IsSilent, Offers}
 use Rattle.rip_check.specs.declared.way.Way.TheVariants.{Here, Over}
@@ -35,10 +35,10 @@ pub record EachIsExpected (k : Case) : Type 0 where
   pub unplanned : (r p : ℕ) → r < length k.net.routers → p < length k.shown.prefixes
       → length k.net.prefixes ≤ p → (k.tables r p).metric ≡ 16
 
--- no neighbour is a better way, though it may show 16
+-- no neighbour to which a path may go is a better way, though it may show 16
 abbrev pub PoisonHidesNothing : Case → Type 0
 PoisonHidesNothing k =
-    (r l c s p : ℕ) → p < length k.shown.prefixes → HasCost k.net r l c → IsNeighbour k.net r l s →
+    (r l c s p : ℕ) → p < length k.shown.prefixes → HasCost k.net r l c → MayHop k.net p r l s →
     (k.tables r p).metric ≤ c + (k.tables s p).metric
 
 -- router t gives neighbour s its metric over link l
@@ -57,13 +57,14 @@ GiversAreNear k =
     → (k.tables s p).way ≡ Over l
     → ((t : ℕ) × IsGiver k l s t p) × ((t : ℕ) → IsGiver k l s t p → IsNear k r l c s t p)
 
--- where a neighbour has a prefix itself and is silent of it on the link, the router has it at what
--- the link costs it
+-- where a neighbour has a prefix itself and is silent of it on the link, and it is not attached there,
+-- the router has it at no more than the link costs it
 abbrev pub SilenceIsShared : Case → Type 0
 SilenceIsShared k =
     (r l c s p j d : ℕ) → p < length k.shown.prefixes → HasCost k.net r l c
     → IsNeighbour k.net r l s → IsInterface k.net j s l d → (k.tables s p).way ≡ Here
-    → IsSilent (metric_at k.shown j p) → IsDirect k.net r p c
+    → IsSilent (metric_at k.shown j p) → (IsAttached k.net s p l → ⊥)
+    → (m : ℕ) × IsDirect k.net r p m × (m ≤ c)
 
 -- a metric below 16 is the cost of a path that begins as the route says
 abbrev pub MetricsAreReached : Case → Type 0

@@ -1,18 +1,23 @@
 -- When a route agrees with what the neighbours show, and when it is right.
 use Rattle.std.specs.Prelude.{◌≡◌, ℕ, ◌≤◌, ◌<◌, ◌⊎◌, length}
 use Rattle.rip_plan.specs.Network.{Network}
-use Rattle.rip_plan.specs.Relations.{IsDirect}
+use Rattle.rip_plan.specs.Relations.{IsDirect, IsKept}
 use Rattle.rip_table.specs.State.{State}
-use Rattle.rip_check.specs.Paths.{IsLeast, HasPathOver}
+use Rattle.rip_check.specs.Paths.{HasAtCost, HasPathOver, HasPlainPathOver, IsLeast, IsPlainLeast}
 use Rattle.rip_check.specs.Tables.{Tables, Route, Offers}
 use Rattle.rip_check.specs.declared.way.Way.{Way}
 use Rattle.rip_check.specs.declared.way.Way.TheVariants.{Unreachable, Here, Over}
 
--- what router r can choose its metric from: 16, its direct cost, each offer
-abbrev pub IsChoice : Network → State → ℕ → ℕ → ℕ → Type 0
-IsChoice n shown r p v = (v ≡ 16) ⊎ (IsDirect n r p v ⊎ ((l s : ℕ) × Offers n shown r l s p v))
+-- router r does not keep prefix p, and takes v where it is offered
+abbrev pub MayTake : Network → State → ℕ → ℕ → ℕ → Type 0
+MayTake n shown r p v = (IsKept n r p → ⊥) × ((l s : ℕ) × Offers n shown r l s p v)
 
--- the least of 16, the direct cost and all offers
+-- what router r can choose its metric from: 16, its direct cost, and each offer where it does not keep
+-- the prefix
+abbrev pub IsChoice : Network → State → ℕ → ℕ → ℕ → Type 0
+IsChoice n shown r p v = (v ≡ 16) ⊎ (IsDirect n r p v ⊎ MayTake n shown r p v)
+
+-- the least of 16, the direct cost and all offers; the direct cost where the prefix is kept
 pub record IsLeastChoice (n : Network) (shown : State) (r p v : ℕ) : Type 0 where
   pub chosen : IsChoice n shown r p v
   pub least : (w : ℕ) → IsChoice n shown r p w → v ≤ w
@@ -21,7 +26,7 @@ pub record IsLeastChoice (n : Network) (shown : State) (r p v : ℕ) : Type 0 wh
 abbrev pub IsGiven : Network → State → ℕ → ℕ → ℕ → Way → Type 0
 IsGiven n shown r p m Unreachable = Unit {0}
 IsGiven n shown r p m Here = IsDirect n r p m
-IsGiven n shown r p m (Over l) = (s : ℕ) × Offers n shown r l s p m
+IsGiven n shown r p m (Over l) = (IsKept n r p → ⊥) × ((s : ℕ) × Offers n shown r l s p m)
 
 -- the place holds: the metric is the least choice, and the way gives it
 pub record Holds (n : Network) (shown : State) (r p : ℕ) (route : Route) : Type 0 where
@@ -38,6 +43,17 @@ GoesRight n p r m (Over l) = HasPathOver n p r l m
 pub record IsRight (n : Network) (r p : ℕ) (route : Route) : Type 0 where
   pub least : IsLeast n p r route.metric
   pub goes : GoesRight n p r route.metric route.way
+
+-- the way begins a path over any neighbours that costs the metric
+abbrev pub GoesPlainly : Network → ℕ → ℕ → ℕ → Way → Type 0
+GoesPlainly n p r m Unreachable = Unit {0}
+GoesPlainly n p r m Here = HasAtCost n r p m
+GoesPlainly n p r m (Over l) = HasPlainPathOver n p r l m
+
+-- the metric is the least cost of a path over any neighbours, and the way begins such a path
+pub record IsPlainRight (n : Network) (r p : ℕ) (route : Route) : Type 0 where
+  pub least : IsPlainLeast n p r route.metric
+  pub goes : GoesPlainly n p r route.metric route.way
 
 -- each place's equation holds
 abbrev pub HoldsAll : Network → State → Tables → Type 0

@@ -1,11 +1,11 @@
 -- What a router shows of a prefix: of its interfaces before a bound.
 use Rattle.std.specs.Prelude.{◌≡◌, ◌≢◌, ℕ, ◌≤◌, ◌<◌, ◌⊎◌, Bool, true, false, Option, None, Some}
 use Rattle.rip_plan.specs.Network.{Network}
-use Rattle.rip_plan.specs.Relations.{IsInterface, Carries}
+use Rattle.rip_plan.specs.Relations.{IsAttached, IsInterface}
 use Rattle.rip_table.specs.State.{State}
 use Rattle.rip_check.specs.declared.surveys.Survey.{Survey}
 use Rattle.rip_check.specs.declared.way.Way.TheVariants.{Over}
-use Rattle.rip_check.specs.Tables.{IsAsTold, IsSilent}
+use Rattle.rip_check.specs.Tables.{IsAsTold, IsSilent, MayHoldBack}
 use Rattle.rip_check.specs.Firsts.{IsShownBelow}
 use Rattle.rip_check.specs.Metrics.{metric_at}
 
@@ -25,21 +25,36 @@ pub record IsSpeech
   pub two : another ≡ true → (metric < 16) × (i v : ℕ) × IsShownBelow n shown r p i v × (v ≢ metric)
   pub one : another ≡ false → (i v : ℕ) → i < bound → IsShownBelow n shown r p i v → v ≡ metric
 
--- a link that does not carry the prefix and on which the router is silent, if there is one, and
--- whether no route over such a link may show what the router shows
+-- a link where the router may not hold back its own route and on which it is silent, if there is one,
+-- and whether no route over such a link may show what the router shows
 pub record IsSilence
     (n : Network) (shown : State) (r p bound : ℕ) (silent : Option ℕ) (blocked : Bool)
     : Type 0 where
   pub some : (l : ℕ) → silent ≡ Some l → (i c : ℕ) × (i < bound) × IsInterface n i r l c
-      × IsSilent (metric_at shown i p) × (Carries n l p → ⊥)
+      × IsSilent (metric_at shown i p) × (MayHoldBack n r p l → ⊥)
   pub none : silent ≡ None → (i l c : ℕ) → i < bound → IsInterface n i r l c
-      → IsSilent (metric_at shown i p) → Carries n l p
-  pub no_route : blocked ≡ true → (m l : ℕ) → m < 16 → (Carries n l p → ⊥)
+      → IsSilent (metric_at shown i p) → MayHoldBack n r p l
+  pub no_route : blocked ≡ true → (m l : ℕ) → m < 16 → (MayHoldBack n r p l → ⊥)
       → (silent ≡ None) ⊎ (silent ≡ Some l) → IsAsTold n shown r p m (Over l) → ⊥
   pub alone : blocked ≡ false → (i l c : ℕ) → i < bound → IsInterface n i r l c
       → IsSilent (metric_at shown i p) → (silent ≡ Some l) × (metric_at shown i p ≡ Some 16)
 
--- both
+-- interface i of router r shows a metric below 16 on the link to which prefix p is attached
+pub record IsTold (n : Network) (shown : State) (r p i : ℕ) : Type 0 where
+  pub metric : ℕ
+  pub below : IsShownBelow n shown r p i metric
+  pub attached : IsAttached n r p below.link
+
+-- whether the router shows a metric below 16 on the link to which the prefix is attached, so that its
+-- route is not its own
+pub record IsTelling
+    (n : Network) (shown : State) (r p bound : ℕ) (not_here : Bool)
+    : Type 0 where
+  pub some : not_here ≡ true → (i : ℕ) × IsTold n shown r p i
+  pub none : not_here ≡ false → (i : ℕ) → i < bound → IsTold n shown r p i → ⊥
+
+-- all of this
 pub record IsSurvey (n : Network) (shown : State) (r p bound : ℕ) (found : Survey) : Type 0 where
   pub speech : IsSpeech n shown r p bound found.metric found.another
   pub silence : IsSilence n shown r p bound found.silent found.blocked
+  pub telling : IsTelling n shown r p bound found.not_here

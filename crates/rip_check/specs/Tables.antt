@@ -3,7 +3,7 @@ use Rattle.std.specs.Prelude.{◌≡◌, ◌≢◌, ℕ, ◌+◌, ◌≤◌, ◌
 use Rattle.rip_check.specs.declared.way.Way.{Way}
 use Rattle.rip_check.specs.declared.way.Way.TheVariants.{Unreachable, Here, Over}
 use Rattle.rip_plan.specs.Network.{Network}
-use Rattle.rip_plan.specs.Relations.{IsInterface, HasCost, IsNeighbour, IsDirect, IsOn, IsLeaf, Carries}
+use Rattle.rip_plan.specs.Relations.{IsInterface, HasCost, IsNeighbour, IsDirect, IsOn, IsLeaf, Carries, IsAttached}
 use Rattle.rip_table.specs.State.{State}
 use Rattle.rip_check.specs.Metrics.{metric_at}
 
@@ -17,29 +17,35 @@ pub record Route : Type 0 where
 abbrev pub Tables : Type 0
 Tables = ℕ → ℕ → Route
 
--- the metric and the way go together; a router never goes over a link of the prefix, where its
--- route is its own
+-- router r may hold back its own route for prefix p on link l, where all know of it: the link carries
+-- the prefix, or the router has it attached there
+abbrev pub MayHoldBack : Network → ℕ → ℕ → ℕ → Type 0
+MayHoldBack n r p l = Carries n l p ⊎ IsAttached n r p l
+
+-- the metric and the way go together; a router never goes over a link where it may hold back its own
+-- route
 abbrev pub FitsWay : Network → ℕ → ℕ → ℕ → Way → Type 0
 FitsWay n r p m Unreachable = m ≡ 16
 FitsWay n r p m Here = (1 ≤ m) × (m < 16)
-FitsWay n r p m (Over l) = (1 ≤ m) × (m < 16) × IsOn n r l × (Carries n l p → ⊥)
+FitsWay n r p m (Over l) = (1 ≤ m) × (m < 16) × IsOn n r l × (MayHoldBack n r p l → ⊥)
 
 -- nothing, or 16
 abbrev pub IsSilent : Option ℕ → Type 0
 IsSilent x = (x ≡ None) ⊎ (x ≡ Some 16)
 
--- What a router with this metric and way may show of prefix p on link l: split horizon with
+-- What router r with this metric and way may show of prefix p on link l: split horizon with
 -- poisoned reverse (RFC 2453, 3.4.3), by link. On a link of the prefix a direct route may be held
--- back or poisoned.
-abbrev pub MayShow : Network → ℕ → ℕ → ℕ → Way → Option ℕ → Type 0
-MayShow n l p m Unreachable x = IsSilent x
-MayShow n l p m Here x = (x ≡ Some m) ⊎ (Carries n l p × IsSilent x)
-MayShow n l p m (Over k) x = ((k ≡ l) × (x ≡ Some 16)) ⊎ ((k ≢ l) × (x ≡ Some m))
+-- back or poisoned; on the link to which the prefix is attached it is.
+abbrev pub MayShow : Network → ℕ → ℕ → ℕ → ℕ → Way → Option ℕ → Type 0
+MayShow n r l p m Unreachable x = IsSilent x
+MayShow n r l p m Here x =
+    ((IsAttached n r p l → ⊥) × (x ≡ Some m)) ⊎ (MayHoldBack n r p l × IsSilent x)
+MayShow n r l p m (Over k) x = ((k ≡ l) × (x ≡ Some 16)) ⊎ ((k ≢ l) × (x ≡ Some m))
 
 -- the metric and the way could be behind what router r shows of prefix p on each link
 abbrev pub IsAsTold : Network → State → ℕ → ℕ → ℕ → Way → Type 0
 IsAsTold n shown r p m w =
-    (i l c : ℕ) → IsInterface n i r l c → MayShow n l p m w (metric_at shown i p)
+    (i l c : ℕ) → IsInterface n i r l c → MayShow n r l p m w (metric_at shown i p)
 
 -- Neighbour s offers router r the metric v over link l: the cost of the interface on which the
 -- datagram comes in, and what s shows there, or 16 where it shows nothing or the sum is greater
@@ -64,9 +70,9 @@ pub record IsLeastOffer (n : Network) (shown : State) (r p h : ℕ) : Type 0 whe
 pub record IsHiddenRoute
     (n : Network) (shown : State) (r i l p : ℕ) (route : Route)
     : Type 0 where
-  pub carried : Carries n l p → IsSilent (metric_at shown i p) → (route.way ≡ Here)
+  pub held_back : MayHoldBack n r p l → IsSilent (metric_at shown i p) → (route.way ≡ Here)
       × IsDirect n r p route.metric
-  pub learned : (Carries n l p → ⊥) → metric_at shown i p ≡ Some 16 →
+  pub learned : (MayHoldBack n r p l → ⊥) → metric_at shown i p ≡ Some 16 →
       IsLeastOffer n shown r p route.metric × (route.metric < 16 → route.way ≡ Over l)
       × (route.metric ≡ 16 → route.way ≡ Unreachable)
 

@@ -1,29 +1,41 @@
 -- The two least metrics that different routers have on a link.
-use Rattle.std.specs.Prelude.{◌≡◌, ◌≢◌, ℕ, ◌≤◌, ◌<◌, ◌⊎◌, List, Some, length, slice_get, slice_index, unwrap_or}
+use Rattle.std.specs.Prelude.{◌≡◌, ◌≢◌, ℕ, ◌≤◌, ◌<◌, ◌⊎◌, ◌==◌, Bool, false, if◌then◌else◌, List, Option, None, Some, length, slice_get, slice_index, unwrap_or}
 use Rattle.rip_plan.specs.Network.{Network}
 use Rattle.rip_plan.specs.Relations.{IsInterface}
 use Rattle.rip_table.specs.State.{State}
+use Rattle.rip_check.specs.declared.keepings.Keeping.{Keeping}
 use Rattle.rip_check.specs.declared.links.TwoLeast.{TwoLeast}
 use Rattle.rip_check.specs.Metrics.{metric_at}
 
 -- what interface j shows of prefix p, 16 where it shows nothing
-abbrev pub shown_of : State → ℕ → ℕ → ℕ → ℕ
-shown_of shown p j s = unwrap_or (metric_at shown j p) 16
+abbrev pub shown_of : State → ℕ → ℕ → ℕ → ℕ → ℕ
+shown_of shown p l j s = unwrap_or (metric_at shown j p) 16
 
--- the metric of router s, by a list of all routers' metrics for a prefix
-abbrev pub metric_in : List ℕ → ℕ → ℕ → ℕ
-metric_in metrics j s = slice_index metrics s
+-- a router has a prefix attached to link l
+abbrev pub is_that : ℕ → Option ℕ → Bool
+is_that l None = false
+is_that l (Some m) = m == l
 
--- interface j, router s's on link l, has metric v, by what the interfaces show or the routers have
-pub record IsSeen (n : Network) (seen : ℕ → ℕ → ℕ) (l j s v : ℕ) : Type 0 where
+abbrev pub has_attached : ℕ → Option Keeping → Bool
+has_attached l None = false
+has_attached l (Some keeping) = is_that l keeping.attached
+
+-- the metric of router s, by a list of all routers' metrics for a prefix; 16 on the link to which
+-- the router has the prefix attached, where it does not tell of it
+abbrev pub told_in : List Keeping → List ℕ → ℕ → ℕ → ℕ → ℕ
+told_in keepings metrics l j s =
+    if has_attached l (slice_get keepings s) then 16 else slice_index metrics s
+
+-- interface j, router s's on link l, has metric v, by what the interfaces show or the routers tell
+pub record IsSeen (n : Network) (seen : ℕ → ℕ → ℕ → ℕ) (l j s v : ℕ) : Type 0 where
   pub cost : ℕ
   pub its : IsInterface n j s l cost
-  pub value : v ≡ seen j s
+  pub value : v ≡ seen l j s
 
 -- of the interfaces on the link before the bound: the least metric that one has, whose it is, and
 -- the least of the other routers'
 pub record IsTwoLeast
-    (n : Network) (seen : ℕ → ℕ → ℕ) (l bound : ℕ) (two : TwoLeast)
+    (n : Network) (seen : ℕ → ℕ → ℕ → ℕ) (l bound : ℕ) (two : TwoLeast)
     : Type 0 where
   pub most : two.next ≤ 16
   pub order : two.least ≤ two.next
@@ -33,9 +45,9 @@ pub record IsTwoLeast
   pub others : (j s v : ℕ) → j < bound → IsSeen n seen l j s v → s ≢ two.by → two.next ≤ v
 
 -- each element of the list is of the link with its number
-abbrev pub AreTwoLeastBefore : Network → (ℕ → ℕ → ℕ) → ℕ → List TwoLeast → Type 0
+abbrev pub AreTwoLeastBefore : Network → (ℕ → ℕ → ℕ → ℕ) → ℕ → List TwoLeast → Type 0
 AreTwoLeastBefore n seen bound links =
     (l : ℕ) (two : TwoLeast) → slice_get links l ≡ Some two → IsTwoLeast n seen l bound two
 
-abbrev pub AreTwoLeast : Network → (ℕ → ℕ → ℕ) → List TwoLeast → Type 0
+abbrev pub AreTwoLeast : Network → (ℕ → ℕ → ℕ → ℕ) → List TwoLeast → Type 0
 AreTwoLeast n seen links = AreTwoLeastBefore n seen (length n.interfaces) links

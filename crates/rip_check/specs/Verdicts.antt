@@ -1,9 +1,9 @@
 -- Verdicts.
 use Rattle.std.specs.Prelude.{◌≡◌, ℕ, ◌≤◌, ◌<◌, ◌⊎◌, ◌↔◌, Option, None, Some, IsTrue, length}
 use Rattle.rip_plan.specs.Network.{Network}
-use Rattle.rip_plan.specs.Relations.{IsLeaf, Carries}
+use Rattle.rip_plan.specs.Relations.{IsLeaf}
 use Rattle.rip_table.specs.State.{State}
-use Rattle.rip_check.specs.Tables.{Tables, Shows, Route, FitsShown, IsSilent}
+use Rattle.rip_check.specs.Tables.{Tables, Shows, Route, FitsShown, IsSilent, MayHoldBack}
 use Rattle.rip_check.specs.Settled.{Holds, IsLeastChoice}
 use Rattle.rip_check.specs.Laws.{ShowsRightTables}
 use Rattle.rip_check.specs.Firsts.{AreFine, IsFirst, IsFirstTrouble}
@@ -21,8 +21,8 @@ ShowsTables n shown = (T : Tables) × Shows n shown T
 abbrev pub IsHidden : Network → State → ℕ → ℕ → Type 0
 IsHidden n shown r p =
     (i l c : ℕ) × IsLeaf n r i l c
-    × ((Carries n l p × IsSilent (metric_at shown i p))
-    ⊎ ((Carries n l p → ⊥) × (metric_at shown i p ≡ Some 16)))
+    × ((MayHoldBack n r p l × IsSilent (metric_at shown i p))
+    ⊎ ((MayHoldBack n r p l → ⊥) × (metric_at shown i p ≡ Some 16)))
 
 -- each route that fits at the place holds
 abbrev pub IsSound : Network → State → ℕ → ℕ → Type 0

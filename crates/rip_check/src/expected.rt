@@ -1,7 +1,7 @@
 //! The right routes of a plan: those of the tables that an audit would call settled.
 
 ghost use Rattle.std.specs.Prelude.{◌≡◌, ◌≢◌, ℕ, ◌+◌, ◌*◌, ◌<◌, ◌≤◌, Decides, IfOk, length, slice_index};
-ghost use Rattle.rip_plan.specs.Relations.{HasCost};
+ghost use Rattle.rip_plan.specs.Relations.{HasCost, IsKept};
 ghost use Rattle.rip_check.specs.Expected.{AreExpected, AreUnreachable, IsCount, IsExpected};
 ghost use Rattle.rip_check.specs.Paths.{HasPathOver, IsLeast};
 
@@ -118,12 +118,13 @@ impl Expected {
         total
     }
 
-    /// Whether a neighbour over the link of an interface has the metric of the router, less the cost of
-    /// the interface: the first that has it is enough.
+    /// Whether a neighbour over the link of an interface tells the metric of the router, less the cost of
+    /// the interface: the first that does is enough. The router does not keep the prefix.
     fn is_over(&self, plan: &Plan, own: Interface, prefix: usize, metric: u32) -> bool
         requires expected { AreExpected plan.now self.now }
         requires prefix { prefix < length plan.now.prefixes }
         requires own { HasCost plan.now own.router own.link own.cost }
+        requires takes { IsKept plan.now own.router prefix → ⊥ }
         requires small { metric < 16 }
         requires least { IsLeast plan.now prefix own.router metric }
         ensures { Decides result (HasPathOver plan.now prefix own.router own.link metric) }
@@ -134,6 +135,7 @@ impl Expected {
             let across = plan.interface(*j);
             if across.router != own.router
                 && u32::from(own.cost) + self.number(plan, across.router, prefix) == metric
+                && plan.attached_link(across.router, prefix) != Some(own.link)
             {
                 return true;
             }
@@ -157,6 +159,9 @@ impl Expected {
         requires least { IsLeast plan.now prefix router metric }
         ensures { Decides result (HasPathOver plan.now prefix router link metric) }
     {
+        if plan.keeps(router, prefix) {
+            return false;
+        }
         let numbers = plan.of_router(router);
         for i in numbers {
             let own = plan.interface(*i);
@@ -169,7 +174,7 @@ impl Expected {
 
     /// Whether a way is right for a router and a prefix: the route of the least metric that goes this
     /// way is one of the right ones. There may be several, and there is none over a link that carries
-    /// the prefix or that the router is not on.
+    /// the prefix or that the router is not on, nor over any link where the router keeps the prefix.
     pub fn is_right(&self, plan: &Plan, router: usize, prefix: usize, way: Way) -> bool
         requires expected { AreExpected plan.now self.now }
         requires router { router < length plan.now.routers }

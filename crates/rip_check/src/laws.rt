@@ -1,15 +1,17 @@
 //! Laws of settled tables: functions that do nothing, whose contracts hold of every plan and every
 //! table.
 
-ghost use Rattle.std.specs.Prelude.{ℕ, ◌↔◌, ◌<◌, length};
+ghost use Rattle.std.specs.Prelude.{ℕ, ◌↔◌, ◌<◌, List, length};
 ghost use Rattle.rip_plan.specs.Network.{Network};
-ghost use Rattle.rip_plan.specs.Relations.{Carries, IsLawful};
+ghost use Rattle.rip_plan.specs.Relations.{IsLawful, IsPlain};
 ghost use Rattle.rip_table.specs.State.{State};
 ghost use Rattle.rip_check.specs.Expected.{IsExpected};
 ghost use Rattle.rip_check.specs.Firsts.{IsReadable, IsReason, ShowsTwoWays};
 ghost use Rattle.rip_check.specs.Laws.{Case, EachIsExpected, EachPlaceHolds, GiversAreNear, HasRightTables, IsSettled, MetricsAreReached, NoPathIsCheaper, OneIsShown, OneRouteFits, PoisonHidesNothing, ShowsRightTables, SilenceIsShared, WalksFall};
 ghost use Rattle.rip_check.specs.Metrics.{IsInRange};
-ghost use Rattle.rip_check.specs.Paths.{HasPathOver, IsLeast};
+ghost use Rattle.rip_check.specs.Paths.{HasPathOver, Hop, IsLeast, IsPath, IsPlainPath};
+ghost use Rattle.rip_check.specs.Settled.{IsPlainRight, IsRight};
+ghost use Rattle.rip_check.specs.Tables.{MayHoldBack, Route};
 ghost use Rattle.rip_check.specs.Walks.{EachCanGoOn, EachEndsThere, EachIsShort};
 ghost use Rattle.rip_check.specs.declared.verdict.Unclear.TheVariants.{TwoWays};
 ghost use Rattle.rip_check.specs.declared.way.Way.{Way};
@@ -24,7 +26,8 @@ pub fn poison_hides_nothing()
 
 /// What a neighbour may hide behind a 16 is no better for the router: where the neighbour goes over
 /// their link, a router gives it its metric there, and each that does is the router itself or offers
-/// it less; where the neighbour has the prefix itself, on that link, so has the router.
+/// it less; where the neighbour has the prefix itself, on that link, so has the router, at no more than
+/// the link costs it.
 pub fn poisoned_is_no_better()
     ensures over { (k : Case) → IsSettled k → GiversAreNear k }
     ensures here { (k : Case) → SilenceIsShared k }
@@ -76,16 +79,27 @@ pub fn expected_routes()
     ensures { (k : Case) → HasRightTables k ↔ EachIsExpected k }
 {}
 
-/// No least path of a prefix begins over a link that carries the prefix: the router is nearer itself.
+/// No least path of a prefix begins over a link that carries the prefix, since the router is nearer
+/// itself, or to which the router has it attached, since it keeps it then.
 pub fn no_way_back()
     ensures { (n : Network) (r p l m : ℕ) → IsLawful n → IsLeast n p r m →
-        HasPathOver n p r l m → ¬ Carries n l p }
+        HasPathOver n p r l m → ¬ MayHoldBack n r p l }
 {}
 
 /// At each place some way is right for the least metric.
 pub fn some_route()
     ensures { (n : Network) (r p m : ℕ) → IsLawful n → IsLeast n p r m →
         (way : Way) × IsExpected n r p (record { metric = m; way = way }) }
+{}
+
+/// Where the plan says nothing beside what RFC 2453 does, a path goes over any neighbours, and its last
+/// router has the prefix at the cost of its interface: right routes are those of the least sums of
+/// costs.
+pub fn plain_paths()
+    ensures paths { (n : Network) (p r : ℕ) (hops : List Hop) (v : ℕ) → IsPlain n →
+        IsPath n p r hops v ↔ IsPlainPath n p r hops v }
+    ensures routes { (n : Network) (r p : ℕ) (route : Route) → IsPlain n →
+        IsRight n r p route ↔ IsPlainRight n r p route }
 {}
 
 /// Where `two ways` is the reason why no route can be read, the router shows 16 on two of its interfaces

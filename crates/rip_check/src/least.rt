@@ -2,10 +2,12 @@
 
 ghost use Rattle.std.specs.Prelude.{◌≡◌, ℕ, ◌<◌, ◌≤◌, ◌⊎◌, false, length, slice_index};
 ghost use Rattle.rip_plan.specs.Relations.{IsDirect};
+ghost use Rattle.rip_check.specs.Keepings.{AreKeepings};
 ghost use Rattle.rip_check.specs.Passes.{IsPass};
 ghost use Rattle.rip_check.specs.Paths.{IsLeast};
-ghost use Rattle.rip_check.specs.TwoLeasts.{AreTwoLeast, metric_in};
+ghost use Rattle.rip_check.specs.TwoLeasts.{AreTwoLeast, told_in};
 
+use crate::keepings::{KEEPS_NOTHING, Keeping, ask_keepings};
 use crate::links::{NOTHING, TwoLeast, fill_by_router};
 use crate::lookup::metric_of;
 use crate::offers::{direct_or_16, least_told};
@@ -16,7 +18,7 @@ use rip_wire::Metric;
 /// the last router (RFC 2453, section 3.5).
 const MOST_HOPS: usize = 14;
 
-/// Writes the cost at which each router has a prefix itself, or 16.
+/// Writes the metric at which each router has a prefix itself, or 16.
 fn fill_direct(plan: &Plan, prefix: usize, metrics: &mut [u8])
     ensures most { (r : ℕ) → slice_index metrics.new r ≤ 16 }
     ensures chosen { (r : ℕ) → r < length metrics.new →
@@ -28,13 +30,16 @@ fn fill_direct(plan: &Plan, prefix: usize, metrics: &mut [u8])
     }
 }
 
-/// One pass over the metrics, by the two least of them on each link: whether one has fallen.
-fn pass(plan: &Plan, links: &[TwoLeast], metrics: &mut [u8]) -> bool
-    requires links { AreTwoLeast plan.now (metric_in metrics.old) links.now }
+/// One pass over the metrics, by the two least that are told on each link: whether one has fallen. A
+/// router that keeps the prefix takes nothing.
+fn pass(plan: &Plan, keepings: &[Keeping], links: &[TwoLeast], metrics: &mut [u8]) -> bool
+    requires links { AreTwoLeast plan.now (told_in keepings.now metrics.old) links.now }
     requires size { length plan.now.links ≤ length links.now }
+    requires keepings { length plan.now.routers ≤ length keepings.now }
     requires routers { length plan.now.routers ≤ length metrics.old }
     requires most { (r : ℕ) → slice_index metrics.old r ≤ 16 }
-    ensures pass { IsPass plan.now metrics.old metrics.new }
+    ensures pass { (p : ℕ) → AreKeepings plan.now p keepings.now →
+        IsPass plan.now p metrics.old metrics.new }
     ensures same { result ≡ false → metrics.new ≡ metrics.old }
 {
     plan.lawful();
@@ -44,7 +49,11 @@ fn pass(plan: &Plan, links: &[TwoLeast], metrics: &mut [u8]) -> bool
         let router = own.router;
         let two = links[own.link];
         let metric = u32::from(metrics[router]);
-        let least = least_told(own, two, metric);
+        let least = if keepings[router].keeps {
+            metric
+        } else {
+            least_told(own, two, metric)
+        };
         if least < metric {
             metrics[router] = least as u8;
             fell = true;
@@ -53,7 +62,7 @@ fn pass(plan: &Plan, links: &[TwoLeast], metrics: &mut [u8]) -> bool
     fell
 }
 
-/// Writes the least metric of each router for a prefix: of the cost of the router itself, and then of
+/// Writes the least metric of each router for a prefix: at which the router has it itself, and then of
 /// paths of one hop more with each pass, until a pass changes nothing or no path is left.
 pub(crate) fn find_least(plan: &Plan, prefix: usize, metrics: &mut [u8])
     requires { length metrics.old ≡ length plan.now.routers }
@@ -62,11 +71,14 @@ pub(crate) fn find_least(plan: &Plan, prefix: usize, metrics: &mut [u8])
 {
     plan.lawful();
     fill_direct(plan, prefix, metrics);
+    let mut asked = [KEEPS_NOTHING; MOST_ROUTERS];
+    let keepings = &mut asked[..plan.routers()];
+    ask_keepings(plan, prefix, keepings);
     let mut room = [NOTHING; MOST_LINKS];
     let links = &mut room[..plan.links()];
     for _hop in 0..MOST_HOPS {
-        fill_by_router(plan, metrics, links);
-        if !pass(plan, links, metrics) {
+        fill_by_router(plan, keepings, metrics, links);
+        if !pass(plan, keepings, links, metrics) {
             break;
         }
     }

@@ -3,6 +3,7 @@
 
 mod audit;
 mod expected;
+mod keepings;
 pub mod laws;
 mod least;
 mod links;

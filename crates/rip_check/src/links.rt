@@ -1,15 +1,16 @@
-//! The two least metrics on each link, of those that are shown or that the routers have: they serve
+//! The two least metrics on each link, of those that are shown or that the routers tell: they serve
 //! every router there.
 
 ghost use Rattle.std.specs.Prelude.{◌≡◌, ℕ, ◌+◌, ◌<◌, ◌≤◌, length, unwrap_or};
 ghost use Rattle.rip_plan.specs.Network.{Network};
 ghost use Rattle.rip_plan.specs.Relations.{IsInterface};
 ghost use Rattle.rip_table.specs.State.{Fits};
-ghost use Rattle.rip_check.specs.TwoLeasts.{AreTwoLeast, AreTwoLeastBefore, IsSeen, IsTwoLeast, metric_in, shown_of};
+ghost use Rattle.rip_check.specs.TwoLeasts.{AreTwoLeast, AreTwoLeastBefore, IsSeen, IsTwoLeast, shown_of, told_in};
 ghost use Rattle.rip_check.specs.Metrics.{metric_at};
 
+use crate::keepings::Keeping;
 use crate::lookup::shown_at;
-use rip_plan::Plan;
+use rip_plan::{Interface, Plan};
 use rip_table::MetricTable;
 
 /// The least metric on a link, whose it is, and the least of the other routers'. A plan has at most
@@ -44,7 +45,7 @@ fn seen_at<T: MetricTable>(plan: &Plan, table: &T, interface: usize, prefix: usi
 
 /// The same with one more interface of the link.
 fn with(two: TwoLeast, router: u8, metric: u8) -> TwoLeast
-    ensures { (n : Network) (seen : ℕ → ℕ → ℕ) (l j : ℕ) → IsTwoLeast n seen l j two →
+    ensures { (n : Network) (seen : ℕ → ℕ → ℕ → ℕ) (l j : ℕ) → IsTwoLeast n seen l j two →
         IsSeen n seen l j router metric → IsTwoLeast n seen l (j + 1) result }
 {
     if router == two.by {
@@ -74,7 +75,7 @@ fn with(two: TwoLeast, router: u8, metric: u8) -> TwoLeast
 
 /// Writes what holds of each link before any interface.
 fn reset(links: &mut [TwoLeast])
-    ensures { (n : Network) (seen : ℕ → ℕ → ℕ) → AreTwoLeastBefore n seen 0 links.new }
+    ensures { (n : Network) (seen : ℕ → ℕ → ℕ → ℕ) → AreTwoLeastBefore n seen 0 links.new }
 {
     let none = NOTHING;
     for k in 0..links.len() {
@@ -86,8 +87,8 @@ fn reset(links: &mut [TwoLeast])
 fn take(plan: &Plan, interface: usize, metric: u32, links: &mut [TwoLeast])
     requires interface { interface < length plan.now.interfaces }
     requires size { length plan.now.links ≤ length links.old }
-    ensures { (seen : ℕ → ℕ → ℕ) →
-        ((s l c : ℕ) → IsInterface plan.now interface s l c → metric ≡ seen interface s) →
+    ensures { (seen : ℕ → ℕ → ℕ → ℕ) →
+        ((s l c : ℕ) → IsInterface plan.now interface s l c → metric ≡ seen l interface s) →
         AreTwoLeastBefore plan.now seen interface links.old →
         AreTwoLeastBefore plan.now seen (interface + 1) links.new }
 {
@@ -112,16 +113,34 @@ pub(crate) fn fill<T: MetricTable>(plan: &Plan, table: &T, prefix: usize, links:
     }
 }
 
-/// Writes the two least metrics that the routers have on each link. 16 is there to begin with.
-pub(crate) fn fill_by_router(plan: &Plan, metrics: &[u8], links: &mut [TwoLeast])
+/// What a router tells on the link of its interface: its metric, or 16 where the prefix is attached.
+fn told_at(own: Interface, keepings: &[Keeping], metrics: &[u8]) -> u32
+    requires keepings { own.router < length keepings.now }
+    requires metrics { own.router < length metrics.now }
+    ensures { (j : ℕ) → result ≡ told_in keepings.now metrics.now own.link j own.router }
+{
+    if keepings[own.router].attached == Some(own.link) {
+        return 16;
+    }
+    u32::from(metrics[own.router])
+}
+
+/// Writes the two least metrics that the routers tell on each link. 16 is there to begin with.
+pub(crate) fn fill_by_router(
+    plan: &Plan,
+    keepings: &[Keeping],
+    metrics: &[u8],
+    links: &mut [TwoLeast],
+)
+    requires keepings { length plan.now.routers ≤ length keepings.now }
     requires routers { length plan.now.routers ≤ length metrics.now }
     requires size { length plan.now.links ≤ length links.old }
-    ensures { AreTwoLeast plan.now (metric_in metrics.now) links.new }
+    ensures { AreTwoLeast plan.now (told_in keepings.now metrics.now) links.new }
 {
     plan.lawful();
     reset(links);
     for i in 0..plan.interfaces() {
         let own = plan.interface(i);
-        take(plan, i, u32::from(metrics[own.router]), links);
+        take(plan, i, told_at(own, keepings, metrics), links);
     }
 }

@@ -1,8 +1,10 @@
 //! What a plan and a table say of a prefix by its number in the table.
 
-ghost use Rattle.std.specs.Prelude.{◌≡◌, ◌<◌, ◌≤◌, IfSome, length};
+ghost use Rattle.std.specs.Prelude.{◌≡◌, ◌↔◌, ℕ, ◌<◌, ◌≤◌, Decides, IfSome, Some, length};
+ghost use Rattle.rip_plan.specs.Relations.{IsAttached};
 ghost use Rattle.rip_table.specs.State.{Fits};
 ghost use Rattle.rip_check.specs.Metrics.{IsInRange, metric_at};
+ghost use Rattle.rip_check.specs.Tables.{MayHoldBack};
 
 use rip_plan::Plan;
 use rip_table::MetricTable;
@@ -44,4 +46,18 @@ pub(crate) fn shown_at<T: MetricTable>(
         Some(metric) => Some(metric.get()),
         None => None,
     }
+}
+
+/// Whether a router may hold back its own route for a prefix on a link, by the link to which it has the
+/// prefix attached.
+pub(crate) fn may_hold_back(
+    plan: &Plan,
+    attached: Option<usize>,
+    link: usize,
+    prefix: usize,
+) -> bool
+    ensures { (r : ℕ) → ((l : ℕ) → (attached ≡ Some l) ↔ IsAttached plan.now r prefix l) →
+        Decides result (MayHoldBack plan.now r prefix link) }
+{
+    attached == Some(link) || plan.is_place(link, prefix)
 }

@@ -1,8 +1,8 @@
 //! What the neighbours of a router offer, and the least that it can choose from.
 
-ghost use Rattle.std.specs.Prelude.{◌≡◌, ◌≢◌, ℕ, ◌+◌, ◌<◌, ◌≤◌, ◌⊎◌, IfSome, length, min, unwrap_or};
+ghost use Rattle.std.specs.Prelude.{◌≡◌, ◌≢◌, ℕ, ◌+◌, ◌<◌, ◌≤◌, ◌⊎◌, Decides, IfSome, length, min, unwrap_or};
 ghost use Rattle.rip_plan.specs.Network.{Network};
-ghost use Rattle.rip_plan.specs.Relations.{HasCost, IsDirect, IsInterface, IsLawful};
+ghost use Rattle.rip_plan.specs.Relations.{HasCost, IsDirect, IsInterface, IsKept, IsLawful};
 ghost use Rattle.rip_table.specs.State.{Fits};
 ghost use Rattle.rip_check.specs.Settled.{IsChoice};
 ghost use Rattle.rip_check.specs.Tables.{Offers};
@@ -66,10 +66,10 @@ pub(crate) fn least_told(own: Interface, two: TwoLeast, best: u32) -> u32
     requires least { two.least ≤ 16 }
     requires next { two.next ≤ 16 }
     ensures at_most { result ≤ best }
-    ensures least { (n : Network) (seen : ℕ → ℕ → ℕ) (j s v : ℕ) →
+    ensures least { (n : Network) (seen : ℕ → ℕ → ℕ → ℕ) (j s v : ℕ) →
         IsTwoLeast n seen own.link (length n.interfaces) two → IsSeen n seen own.link j s v →
         s ≢ own.router → result ≤ own.cost + v }
-    ensures chosen { (n : Network) (seen : ℕ → ℕ → ℕ) →
+    ensures chosen { (n : Network) (seen : ℕ → ℕ → ℕ → ℕ) →
         IsTwoLeast n seen own.link (length n.interfaces) two → (result ≡ best)
         ⊎ ((j s v : ℕ) × IsSeen n seen own.link j s v × (s ≢ own.router)
         × (result ≡ own.cost + v)) }
@@ -113,7 +113,7 @@ pub(crate) fn best_over<T: MetricTable>(
     least_asked(plan, table, own, prefix, best)
 }
 
-/// The cost at which a router has a prefix itself, or 16.
+/// The metric at which a router has a prefix itself, or 16.
 pub(crate) fn direct_or_16(plan: &Plan, router: usize, prefix: usize) -> u32
     ensures most { result ≤ 16 }
     ensures chosen { (result ≡ 16) ⊎ IsDirect plan.now router prefix result }
@@ -126,24 +126,29 @@ pub(crate) fn direct_or_16(plan: &Plan, router: usize, prefix: usize) -> u32
     }
 }
 
-/// The least of 16, the direct cost and all offers.
+/// The least of 16, the direct cost and all offers; the direct cost where the router keeps the prefix.
 pub(crate) fn least_choice<T: MetricTable>(
     plan: &Plan,
     table: &T,
     links: &[TwoLeast],
     router: usize,
     prefix: usize,
+    keeps: bool,
 ) -> u32
     requires fits { Fits plan.now (T.state table.now) }
     requires router { router < length plan.now.routers }
     requires prefix { prefix < length (T.state table.now).prefixes }
     requires links { AreTwoLeast plan.now (shown_of (T.state table.now) prefix) links.now }
+    requires keeps { Decides keeps (IsKept plan.now router prefix) }
     ensures most { result ≤ 16 }
     ensures chosen { IsChoice plan.now (T.state table.now) router prefix result }
     ensures least { (v : ℕ) → IsChoice plan.now (T.state table.now) router prefix v →
         result ≤ v }
 {
     let mut best = direct_or_16(plan, router, prefix);
+    if keeps {
+        return best;
+    }
     let numbers = plan.of_router(router);
     for i in numbers {
         let own = plan.interface(*i);

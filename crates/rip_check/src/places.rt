@@ -1,7 +1,7 @@
 //! Whether a place holds.
 
 ghost use Rattle.std.specs.Prelude.{◌≡◌, ℕ, ◌<◌, ◌≤◌, ◌⊎◌, ◌↔◌, Decides, IfErr, IfNone, IfOk, IfSome, IsTrue, is_ok, length};
-ghost use Rattle.rip_plan.specs.Relations.{IsDirect};
+ghost use Rattle.rip_plan.specs.Relations.{IsDirect, IsKept};
 ghost use Rattle.rip_table.specs.State.{Fits};
 ghost use Rattle.rip_check.specs.Settled.{Holds, IsChoice, IsGiven, IsLeastChoice};
 ghost use Rattle.rip_check.specs.Tables.{IsOnlyRoute, FitsShown, FitsWay, Offers};
@@ -29,7 +29,8 @@ pub(crate) fn is_direct(plan: &Plan, router: usize, prefix: usize, metric: u32) 
     }
 }
 
-/// Whether a neighbour over the link offers a metric that is no more than any choice of the router.
+/// Whether a neighbour over the link offers a router that does not keep the prefix a metric that is no
+/// more than any choice of the router.
 fn is_offered<T: MetricTable>(
     plan: &Plan,
     table: &T,
@@ -43,6 +44,7 @@ fn is_offered<T: MetricTable>(
     requires router { router < length plan.now.routers }
     requires prefix { prefix < length (T.state table.now).prefixes }
     requires links { AreTwoLeast plan.now (shown_of (T.state table.now) prefix) links.now }
+    requires takes { IsKept plan.now router prefix → ⊥ }
     requires small { metric < 16 }
     requires least { (v : ℕ) → IsChoice plan.now (T.state table.now) router prefix v →
         metric ≤ v }
@@ -59,30 +61,33 @@ fn is_offered<T: MetricTable>(
     false
 }
 
-/// Whether the way gives a metric that is no more than any choice of the router.
+/// Whether the way of a route gives its metric, which is no more than any choice of the router.
 fn is_given<T: MetricTable>(
     plan: &Plan,
     table: &T,
     links: &[TwoLeast],
     router: usize,
     prefix: usize,
-    metric: u32,
-    way: Way,
+    keeps: bool,
+    route: Reading,
 ) -> bool
     requires fits { Fits plan.now (T.state table.now) }
     requires router { router < length plan.now.routers }
     requires prefix { prefix < length (T.state table.now).prefixes }
     requires links { AreTwoLeast plan.now (shown_of (T.state table.now) prefix) links.now }
-    requires way { FitsWay plan.now router prefix metric way }
+    requires keeps { Decides keeps (IsKept plan.now router prefix) }
+    requires way { FitsWay plan.now router prefix route.metric route.way }
     requires least { (v : ℕ) → IsChoice plan.now (T.state table.now) router prefix v →
-        metric ≤ v }
+        route.metric ≤ v }
     ensures { Decides result
-        (IsGiven plan.now (T.state table.now) router prefix metric way) }
+        (IsGiven plan.now (T.state table.now) router prefix route.metric route.way) }
 {
-    match way {
+    match route.way {
         Way::Unreachable => true,
-        Way::Here => is_direct(plan, router, prefix, metric),
-        Way::Over(link) => is_offered(plan, table, links, router, prefix, metric, link),
+        Way::Here => is_direct(plan, router, prefix, route.metric),
+        Way::Over(link) => {
+            !keeps && is_offered(plan, table, links, router, prefix, route.metric, link)
+        }
     }
 }
 
@@ -110,10 +115,9 @@ pub(crate) fn unmet<T: MetricTable>(
         IsLeastChoice plan.now (T.state table.now) router prefix result }
 {
     plan.lawful();
-    let equation = least_choice(plan, table, links, router, prefix);
-    if route.metric == equation
-        && is_given(plan, table, links, router, prefix, route.metric, route.way)
-    {
+    let keeps = plan.keeps(router, prefix);
+    let equation = least_choice(plan, table, links, router, prefix, keeps);
+    if route.metric == equation && is_given(plan, table, links, router, prefix, keeps, route) {
         return 0;
     }
     equation
@@ -204,8 +208,8 @@ pub fn route<T: MetricTable>(
     }
 }
 
-/// The least of 16, of the cost at which a router has a prefix itself, and of what its neighbours
-/// offer (RFC 2453, section 3.9.2).
+/// The least of 16, of the metric at which a router has a prefix itself, and of what its neighbours
+/// offer (RFC 2453, section 3.9.2); its own metric where it keeps the prefix.
 pub fn equation<T: MetricTable>(plan: &Plan, table: &T, router: usize, prefix: usize) -> Metric
     requires fits { Fits plan.now (T.state table.now) }
     requires router { router < length plan.now.routers }
@@ -213,5 +217,6 @@ pub fn equation<T: MetricTable>(plan: &Plan, table: &T, router: usize, prefix: u
     ensures { IsLeastChoice plan.now (T.state table.now) router prefix result }
 {
     plan.lawful();
-    metric_of(least_choice(plan, table, &[], router, prefix))
+    let keeps = plan.keeps(router, prefix);
+    metric_of(least_choice(plan, table, &[], router, prefix, keeps))
 }

@@ -9,8 +9,8 @@ ghost use Rattle.rip_check.specs.TwoLeasts.{AreTwoLeast, shown_of};
 ghost use Rattle.rip_check.specs.Verdicts.{IsHidden};
 
 use crate::links::TwoLeast;
-use crate::lookup::{in_range, shown_at};
-use crate::offers::best_over;
+use crate::lookup::{in_range, may_hold_back, shown_at};
+use crate::offers::{best_over, direct_or_16};
 use crate::surveys::survey_of;
 use crate::verdict::Unclear;
 use crate::way::Way;
@@ -24,6 +24,13 @@ pub(crate) struct Reading {
     pub way: Way,
     pub hidden: bool,
 }
+
+/// Of a router that cannot reach the prefix, and shows so.
+const UNREACHABLE: Reading = Reading {
+    metric: 16,
+    way: Way::Unreachable,
+    hidden: false,
+};
 
 /// The one metric and way that can be behind what a router with two interfaces shows, if there is one.
 fn read_route<T: MetricTable>(
@@ -50,14 +57,15 @@ fn read_route<T: MetricTable>(
         return None;
     }
     if found.metric == 16 {
-        return Some(Reading {
-            metric: 16,
-            way: Way::Unreachable,
-            hidden: false,
-        });
+        return Some(UNREACHABLE);
     }
     let way = match found.silent {
-        None => Way::Here,
+        None => {
+            if found.not_here {
+                return None;
+            }
+            Way::Here
+        }
         Some(link) => {
             if found.blocked {
                 return None;
@@ -93,7 +101,7 @@ fn first_gap<T: MetricTable>(plan: &Plan, table: &T, router: usize, prefix: usiz
     None
 }
 
-/// Why no route of a router with two interfaces can be read.
+/// Why no route of a router can be read.
 pub(crate) fn reason<T: MetricTable>(
     plan: &Plan,
     table: &T,
@@ -105,65 +113,81 @@ pub(crate) fn reason<T: MetricTable>(
     requires prefix { prefix < length (T.state table.now).prefixes }
     ensures { IsReason plan.now (T.state table.now) router prefix result }
 {
+    plan.lawful();
+    in_range(plan, table);
     let found = survey_of(plan, table, router, prefix);
     if found.another {
         return Unclear::TwoMetrics { router, prefix };
     }
-    match first_gap(plan, table, router, prefix) {
-        Some(link) => Unclear::Missing {
+    if let Some(link) = first_gap(plan, table, router, prefix) {
+        return Unclear::Missing {
+            router,
+            prefix,
+            link,
+        };
+    }
+    match plan.attached_link(router, prefix) {
+        Some(link) if found.not_here && found.silent.is_none() => Unclear::ShownOn {
             router,
             prefix,
             link,
         },
-        None => Unclear::TwoWays { router, prefix },
+        _ => Unclear::TwoWays { router, prefix },
     }
 }
 
-/// The route of a router with one interface.
+/// The route of a router with one interface, if one can be read: there is none where it shows a metric
+/// below 16 on the link to which the prefix is attached.
 fn leaf_route<T: MetricTable>(
     plan: &Plan,
     table: &T,
     links: &[TwoLeast],
     router: usize,
     prefix: usize,
-) -> Reading
+) -> Option<Reading>
     requires fits { Fits plan.now (T.state table.now) }
     requires router { router < length plan.now.routers }
     requires prefix { prefix < length (T.state table.now).prefixes }
     requires links { AreTwoLeast plan.now (shown_of (T.state table.now) prefix) links.now }
     requires leaf { (i l c : ℕ) × IsLeaf plan.now router i l c }
-    ensures most { result.metric ≤ 16 }
-    ensures fits { FitsShown plan.now (T.state table.now) router prefix
-        (record { metric = result.metric; way = result.way }) }
-    ensures hidden { Decides result.hidden
-        (IsHidden plan.now (T.state table.now) router prefix) }
-    ensures one { IsTrue result.hidden
+    ensures most { IfSome result (λ t. t.metric ≤ 16) }
+    ensures fits { IfSome result
+        (λ t. FitsShown plan.now (T.state table.now) router prefix
+        (record { metric = t.metric; way = t.way })) }
+    ensures hidden { IfSome result
+        (λ t. Decides t.hidden (IsHidden plan.now (T.state table.now) router prefix)) }
+    ensures one { IfSome result
+        (λ t. IsTrue t.hidden
         ⊎ IsOnlyRoute plan.now (T.state table.now) router prefix
-        (record { metric = result.metric; way = result.way }) }
+        (record { metric = t.metric; way = t.way })) }
+    ensures none { IfNone result ((t : TableRoute) →
+        Tells plan.now (T.state table.now) router prefix t → ⊥) }
 {
     plan.lawful();
     let i = plan.of_router(router)[0];
     let own = plan.interface(i);
     let shown = shown_at(plan, table, i, prefix);
+    let attached = plan.attached_link(router, prefix);
     match shown {
-        Some(metric) if metric < 16 => Reading {
-            metric,
-            way: Way::Here,
-            hidden: false,
-        },
-        _ if plan.is_place(own.link, prefix) => Reading {
-            metric: u32::from(own.cost),
+        Some(metric) if metric < 16 => {
+            if attached == Some(own.link) {
+                return None;
+            }
+            Some(Reading {
+                metric,
+                way: Way::Here,
+                hidden: false,
+            })
+        }
+        _ if may_hold_back(plan, attached, own.link, prefix) => Some(Reading {
+            metric: direct_or_16(plan, router, prefix),
             way: Way::Here,
             hidden: true,
-        },
-        None => Reading {
-            metric: 16,
-            way: Way::Unreachable,
-            hidden: false,
-        },
+        }),
+        None => Some(UNREACHABLE),
         Some(_) => {
             let least = best_over(plan, table, links, own, prefix, 16);
-            Reading {
+            Some(Reading {
                 metric: least,
                 way: if least < 16 {
                     Way::Over(own.link)
@@ -171,12 +195,12 @@ fn leaf_route<T: MetricTable>(
                     Way::Unreachable
                 },
                 hidden: true,
-            }
+            })
         }
     }
 }
 
-/// The route of a router for a prefix, if one can be read. A leaf always has one.
+/// The route of a router for a prefix, if one can be read.
 pub(crate) fn read<T: MetricTable>(
     plan: &Plan,
     table: &T,
@@ -204,7 +228,7 @@ pub(crate) fn read<T: MetricTable>(
     plan.lawful();
     in_range(plan, table);
     if plan.leaf(router) {
-        return Some(leaf_route(plan, table, links, router, prefix));
+        return leaf_route(plan, table, links, router, prefix);
     }
     read_route(plan, table, router, prefix)
 }

@@ -40,6 +40,16 @@ pub enum Unclear {
         /// The first link on which it shows nothing.
         link: usize,
     },
+    /// A router shows a metric below 16 for a prefix on each of its links, also on the one to which the
+    /// plan says that the prefix is attached, and no route of it can be read.
+    ShownOn {
+        /// The router.
+        router: usize,
+        /// The prefix.
+        prefix: usize,
+        /// The link to which the prefix is attached.
+        link: usize,
+    },
     /// A router shows 16 for a prefix on two links and a metric below 16 on another, as if it had two
     /// ways.
     TwoWays {
@@ -59,7 +69,8 @@ pub struct Place2 {
     pub prefix: usize,
     /// The metric of the router's route.
     pub metric: Metric,
-    /// The least of 16, of the router's direct cost and of what its neighbours offer.
+    /// The least of 16, of the router's direct cost and of what its neighbours offer; the direct cost
+    /// where the router keeps the prefix.
     pub equation: Metric,
     /// The way of the router's route.
     pub way: Way,

@@ -1,13 +1,13 @@
 //! Worked examples: what the definitions say of small networks. Functions that do nothing, whose
 //! contracts are facts, like the laws.
 
-ghost use Rattle.std.specs.Prelude.{[], ◌∷◌};
+ghost use Rattle.std.specs.Prelude.{[], ◌∷◌, None, Some};
 ghost use Rattle.rip_check.specs.Examples as net;
-ghost use Rattle.rip_check.specs.Examples.{IsSettledNetwork, IsUnsettledNetwork, chain, chain_shown, chain_tables, leaf_shown, leaf_tables, nowhere_shown, phantom_shown, phantom_tables, route, slope_shown, slope_tables, triangle_shown, triangle_tables, two_exits_shown, two_exits_tables, with_leaf};
+ghost use Rattle.rip_check.specs.Examples.{IsSettledNetwork, IsUnsettledNetwork, chain, chain_shown, chain_tables, keeper_shown, keeper_tables, leaf_shown, leaf_tables, nowhere_shown, phantom_shown, phantom_tables, route, second_shown, second_tables, slope_shown, slope_tables, triangle_shown, triangle_tables, two_exits_shown, two_exits_tables, with_leaf};
 ghost use Rattle.rip_check.specs.Paths.{IsLeast, IsPath};
 ghost use Rattle.rip_check.specs.Settled.{Holds};
 ghost use Rattle.rip_check.specs.Tables.{FitsShown};
-ghost use Rattle.rip_check.specs.declared.way.Way.TheVariants.{Over, Unreachable};
+ghost use Rattle.rip_check.specs.declared.way.Way.TheVariants.{Here, Over, Unreachable};
 
 /// Three routers with a link between any two: each metric is right.
 pub fn triangle()
@@ -30,6 +30,25 @@ pub fn phantom_prefix()
 /// A prefix at two places: each router has it from the nearer one.
 pub fn two_exits()
     ensures { IsSettledNetwork net.two_exits two_exits_shown two_exits_tables }
+{
+    rip_wire::laws::names();
+}
+
+/// A router that keeps a default route for which it is offered less: it is settled with its own, and
+/// not with the better one.
+pub fn keeper()
+    ensures settled { IsSettledNetwork net.keeper (keeper_shown 5 5) (keeper_tables (route 5 Here)) }
+    ensures unsettled { IsUnsettledNetwork net.keeper (keeper_shown 2 16)
+        (keeper_tables (route 2 (Over 2))) }
+{
+    rip_wire::laws::names();
+}
+
+/// A prefix that one router alone has on a wire: whether it is silent of it there or shows 16, its
+/// neighbour on the wire goes round.
+pub fn second_prefix()
+    ensures silent { IsSettledNetwork net.second_prefix (second_shown None) second_tables }
+    ensures poisoned { IsSettledNetwork net.second_prefix (second_shown (Some 16)) second_tables }
 {
     rip_wire::laws::names();
 }

@@ -8,8 +8,8 @@ loop-hop-preserved c =
     let n = c.args.plan.now in
     let p = c.args.prefix in
     record {
-      reached = pass_reached n p c.lawful.ensures c.loop-hop.metrics c.pass.new.metrics c.pass.ensures.pass c.loop-hop.invariant.reached;
-      within = pass_farther n p c.loop-hop.metrics c.pass.new.metrics c.loop-hop._hop c.pass.ensures.pass c.loop-hop.invariant.within;
+      reached = pass_reached n p c.lawful.ensures c.loop-hop.metrics c.pass.new.metrics (c.pass.ensures.pass p c.ask_keepings.ensures) c.loop-hop.invariant.reached;
+      within = pass_farther n p c.loop-hop.metrics c.pass.new.metrics c.loop-hop._hop (c.pass.ensures.pass p c.ask_keepings.ensures) c.loop-hop.invariant.within;
       links = omega (arith, c.fill_by_router.auto.links, c.loop-hop.invariant.links);
     }
 
@@ -23,6 +23,6 @@ returns-then-not-pass c =
     let n = c.args.plan.now in
     let p = c.args.prefix in
     let e : c.pass.new.metrics ≡ c.loop-hop.metrics = c.pass.ensures.same c.if-not-pass.true in
-    let still : IsPass n c.loop-hop.metrics c.loop-hop.metrics = rw e at c.pass.ensures.pass in
+    let still : IsPass n p c.loop-hop.metrics c.loop-hop.metrics = rw e at (c.pass.ensures.pass p c.ask_keepings.ensures) in
     rw e (at_rest n p c.loop-hop.metrics still c.loop-hop.invariant.reached
     (λ r hops w short path. c.loop-hop.invariant.within r hops w (omega (arith, short)) path))

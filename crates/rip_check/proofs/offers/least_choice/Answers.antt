@@ -1,7 +1,8 @@
 use Rattle.std.proofs.Common.{◌≡◌, ℕ, ◌≤◌, ◌⊎◌, arith}
+use Rattle.std.proofs.lemmas.Bool.Decides.{not_from_Decides}
 use Rattle.rip_check.specs.Tables.{Offers}
 use Rattle.rip_check.proofs.Owned.{its_number, its_router, each_more, every}
-use Rattle.rip_check.proofs.Across.{still_chosen, least_of}
+use Rattle.rip_check.proofs.Across.{still_chosen, least_kept, least_of}
 use Rattle.rip_check.proofs.offers.least_choice.Goals as goal
 
 pub interface-own-requires : goal.interface-own-requires
@@ -27,8 +28,13 @@ loop-i-preserved g c =
       direct = λ v d. omega (arith, less, c.loop-i.invariant.direct v d);
       below = each_more n r numbers exact (λ j m. (s v : ℕ) → Offers n shown r m s p v → next ≤ v) k own c.interface-own.ensures.is
           (λ j m d lt at s v o. omega (arith, less, c.loop-i.invariant.below j m d lt at s v o)) least;
-      chosen = still_chosen n shown r p own.link c.loop-i.best next c.loop-i.invariant.chosen chosen;
+      chosen = still_chosen n shown r p own.link c.loop-i.best next (not_from_Decides _ c.requires.keeps c.if-keeps.false) c.loop-i.invariant.chosen chosen;
     }
+
+pub returns-then-keeps-clause-least : goal.returns-then-keeps-clause-least
+returns-then-keeps-clause-least g c =
+    least_kept c.args.plan.now (g.T.MetricTable.state c.args.table.now) c.args.router c.args.prefix c.direct_or_16-best.result
+    c.direct_or_16-best.ensures.most c.direct_or_16-best.ensures.least (c.requires.keeps.0 c.if-keeps.true)
 
 pub returns-clause-least : goal.returns-clause-least
 returns-clause-least g c =

@@ -19,7 +19,7 @@ returns-then-own-link g c =
     let mine = its_router n r c.of_router-numbers.result.now c.of_router-numbers.ensures.exact c.loop-i.i-index own c.loop-i-test.true c.interface-own.ensures.is in
     let least : (s w : ℕ) → Offers n shown r l s p w → v ≤ w = rw c.if-own-link.true at (rw mine at c.best_over.ensures.least) in
     let chosen : (v ≡ 16) ⊎ ((s : ℕ) × Offers n shown r l s p v) = rw c.if-own-link.true at (rw mine at c.best_over.ensures.chosen) in
-    offered_is n shown r l p c.args.metric v c.requires.small c.requires.least chosen least
+    offered_is n shown r l p c.args.metric v c.requires.takes c.requires.small c.requires.least chosen least
 
 pub loop-i-preserved : goal.loop-i-preserved
 loop-i-preserved g c =

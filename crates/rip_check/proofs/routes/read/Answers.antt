@@ -27,9 +27,9 @@ module _ (n : Network) (plan : IsLawful n) (shown : State) (range : IsInRange n 
   only known (Some t) h =
       inr (λ u tells. one_route n plan shown r p u (route_of t) known (two_fits n plan shown range r p u two tells) (two_fits n plan shown range r p (route_of t) two h))
 
-  unreadable : (o : Option Reading) → IfNone o ((t : Route) → Tells n shown r p t → ⊥) → IfNone o (IsReadable n shown r p → ⊥)
-  unreadable None h = not_readable n plan shown range r p two h
-  unreadable (Some t) h = tt
+unreadable : (n : Network) → IsLawful n → (shown : State) → IsInRange n shown → (r p : ℕ) (o : Option Reading) → IfNone o ((t : Route) → Tells n shown r p t → ⊥) → IfNone o (IsReadable n shown r p → ⊥)
+unreadable n plan shown range r p None h = not_readable n plan shown range r p h
+unreadable n plan shown range r p (Some t) h = tt
 
 pub returns-clause-fits : goal.returns-clause-fits
 returns-clause-fits g c =
@@ -49,4 +49,9 @@ returns-clause-one g c =
 pub returns-clause-none : goal.returns-clause-none
 returns-clause-none g c =
     unreadable c.args.plan.now c.lawful.ensures (g.T.MetricTable.state c.args.table.now) c.in_range.ensures c.args.router c.args.prefix
-    (c.leaf.ensures.more.0 (not_from_false _ c.if-leaf.false)) c.read_route.result c.read_route.ensures.none
+    c.read_route.result c.read_route.ensures.none
+
+pub returns-then-leaf-clause-none : goal.returns-then-leaf-clause-none
+returns-then-leaf-clause-none g c =
+    unreadable c.args.plan.now c.lawful.ensures (g.T.MetricTable.state c.args.table.now) c.in_range.ensures c.args.router c.args.prefix
+    c.leaf_route.result c.leaf_route.ensures.none

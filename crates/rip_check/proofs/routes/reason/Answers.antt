@@ -1,7 +1,18 @@
-use Rattle.std.proofs.Common.{refl}
+use Rattle.std.proofs.Common.{◌≡◌, ℕ, true, false, Option, None, Some, ap, is_some, not, refl, ◌∙◌}
 use Rattle.rip_check.proofs.Standing.{two_shown, not_two}
-use Rattle.rip_check.proofs.Surveyed.{mute, one_metric}
+use Rattle.rip_check.proofs.Surveyed.{mute, one_metric, silent_nowhere, tells_there, told_everywhere}
 use Rattle.rip_check.proofs.routes.reason.Goals as goal
+
+none_there : (o : Option ℕ) → is_some o ≡ false → o ≡ None
+none_there None e = refl
+none_there (Some l) e = cc e
+
+some_there : (o : Option ℕ) → is_some o ≡ true → o ≡ None → ⊥
+some_there None e none = cc e
+some_there (Some l) e none = cc none
+
+nothing : (o : Option ℕ) (l : ℕ) → o ≡ None → o ≡ Some l → ⊥
+nothing o l none some = cc (none, some)
 
 pub returns-then-found : goal.returns-then-found
 returns-then-found g c =
@@ -26,13 +37,54 @@ returns-in-Some g c =
       c.in-Some.ensures.some,
     )
 
-pub returns-in-None : goal.returns-in-None
-returns-in-None g c =
+pub returns-in-Some-attached_link : goal.returns-in-Some-attached_link
+returns-in-Some-attached_link g c =
     let n = c.args.plan.now in
     let shown = (g.T.MetricTable.state c.args.table.now) in
-    let found = c.survey_of-found.result in (
+    let found = c.survey_of-found.result in
+    let is = c.survey_of-found.ensures in (
       refl,
       refl,
-      not_two n shown c.args.router c.args.prefix found.metric (one_metric n shown c.args.router c.args.prefix found c.survey_of-found.ensures c.if-found.false),
-      c.in-None.ensures.none,
+      not_two n shown c.args.router c.args.prefix found.metric (one_metric n shown c.args.router c.args.prefix found is c.if-found.false),
+      told_everywhere n shown c.args.router c.args.prefix found is c.lawful.ensures c.in_range.ensures c.in_default.ensures.none c.if-found-2.true
+          (none_there found.silent (c.is_none.ensures ∙ ap not c.if-is_none.true)) c.in-Some-attached_link.link ((c.attached_link.ensures c.in-Some-attached_link.link).0 c.in-Some-attached_link.is),
+    )
+
+pub returns-in_default-attached_link : goal.returns-in_default-attached_link
+returns-in_default-attached_link g c =
+    let n = c.args.plan.now in
+    let shown = (g.T.MetricTable.state c.args.table.now) in
+    let found = c.survey_of-found.result in
+    let is = c.survey_of-found.ensures in (
+      refl,
+      refl,
+      not_two n shown c.args.router c.args.prefix found.metric (one_metric n shown c.args.router c.args.prefix found is c.if-found.false),
+      c.in_default.ensures.none,
+      λ l on. some_there found.silent (c.is_none.ensures ∙ ap not c.if-is_none.false) (silent_nowhere n shown c.args.router c.args.prefix found is l on),
+    )
+
+pub returns-in_default-attached_link-2 : goal.returns-in_default-attached_link-2
+returns-in_default-attached_link-2 g c =
+    let n = c.args.plan.now in
+    let shown = (g.T.MetricTable.state c.args.table.now) in
+    let found = c.survey_of-found.result in
+    let is = c.survey_of-found.ensures in (
+      refl,
+      refl,
+      not_two n shown c.args.router c.args.prefix found.metric (one_metric n shown c.args.router c.args.prefix found is c.if-found.false),
+      c.in_default.ensures.none,
+      λ l on. tells_there n shown c.args.router c.args.prefix found is c.lawful.ensures l on c.if-found-2.false,
+    )
+
+pub returns-in_default-attached_link-3 : goal.returns-in_default-attached_link-3
+returns-in_default-attached_link-3 g c =
+    let n = c.args.plan.now in
+    let shown = (g.T.MetricTable.state c.args.table.now) in
+    let found = c.survey_of-found.result in
+    let is = c.survey_of-found.ensures in (
+      refl,
+      refl,
+      not_two n shown c.args.router c.args.prefix found.metric (one_metric n shown c.args.router c.args.prefix found is c.if-found.false),
+      c.in_default.ensures.none,
+      λ l on. nothing c.attached_link.result l c.in_default-attached_link.is ((c.attached_link.ensures l).1 on.0),
     )

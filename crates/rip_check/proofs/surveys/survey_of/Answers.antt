@@ -36,7 +36,7 @@ loop-i-preserved g c = λ b above next.
     let its = its_own n r numbers exact k own c.loop-i-test.true c.interface-own.ensures.is in
     let seen : metric_at shown i p ≡ c.shown_at-shown.result = sym {b = metric_at shown i p} c.shown_at-shown.ensures.metric in
     let was : IsSurvey n shown r p i c.loop-i.found = c.loop-i.invariant i (λ j sooner. ascends_below numbers up j k sooner c.loop-i-test.true) (λ lt. omega arith) in
-    let is : IsSurvey n shown r p (i + 1) c.add_shown.new.found = c.add_shown.ensures shown r i own.cost was its seen in
+    let is : IsSurvey n shown r p (i + 1) c.add_shown.new.found = c.add_shown.ensures shown r i own.cost was its seen c.attached_link-attached.ensures in
     stretch n shown r p (i + 1) b c.add_shown.new.found (omega (arith, above k (omega arith)))
     (λ j l d at less.
     let h = place_before n r numbers exact up (k + 1) b next j l d at less in

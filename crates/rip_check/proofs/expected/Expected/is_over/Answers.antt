@@ -1,8 +1,9 @@
 use Rattle.std.proofs.Common.{◌≡◌, get_or, refl, arith}
+use Rattle.rip_check.proofs.Plans.{attached_ne}
 use Rattle.rip_check.proofs.Across.{across_number, across_own}
 use Rattle.rip_check.proofs.Overs.{one_least, one_more_not, none_over, path_over}
 use Rattle.rip_check.proofs.expected.Expected.is_over.Goals as goal
-use Rattle.rip_check.proofs.expected.Expected.is_over.Goals.{else-across-own-via-then-across-own+else-from-number, else-across-own-via-else-across-own}
+use Rattle.rip_check.proofs.expected.Expected.is_over.Goals.{else-across-own-via-then-across-own+else-from-number, else-across-own-via-then-across-own+then-from-number+else-ne, else-across-own-via-else-across-own}
 
 pub on_link-numbers-requires : goal.on_link-numbers-requires
 on_link-numbers-requires c = c.lawful.ensures.link_known c.requires.own.0 c.args.own.router c.args.own.link c.args.own.cost c.requires.own.1
@@ -15,14 +16,18 @@ number-requires-clause-router c =
     let x = c.interface-across.result in
     c.lawful.ensures.router_known (get_or c.on_link-numbers.result.now c.loop-j.j-index 0) x.router x.link x.cost c.interface-across.ensures.is
 
-pub returns-then-from-number : goal.returns-then-from-number
-returns-then-from-number c =
+pub returns-then-ne : goal.returns-then-ne
+returns-then-ne c =
     let n = c.args.plan.now in
     let own = c.args.own in
     let x = c.interface-across.result in
     let there = across_own n own.link c.on_link-numbers.result.now c.on_link-numbers.ensures.exact c.loop-j.j-index x c.loop-j-test.true c.interface-across.ensures.is in (
       λ t. path_over n c.args.prefix own.router own.link x.router own.cost c.number.result c.args.metric c.requires.own
-          (record { other = c.if-across-own.true; here = (own.cost, c.requires.own); there = (x.cost, (get_or c.on_link-numbers.result.now c.loop-j.j-index 0, there)) })
+          (record {
+            neighbour = record { other = c.if-across-own.true; here = (own.cost, c.requires.own); there = (x.cost, (get_or c.on_link-numbers.result.now c.loop-j.j-index 0, there)) };
+            goes_on = c.requires.takes;
+            tells = (attached_ne n x.router c.args.prefix own.link c.attached_link.result c.ne.result c.attached_link.ensures c.ne.ensures).0 c.if-ne.true;
+          })
           c.number.ensures (omega (arith, c.from.ensures, c.if-from-number.true)) c.requires.small,
       λ o. refl,
     )
@@ -36,9 +41,10 @@ loop-j-preserved c =
     c.interface-across.ensures.is in
     elim c.else-across-own.branch [
       | else-across-own-via-then-across-own+else-from-number w ↦
-          more (λ other v least e.
+          more (λ other v least e off.
           let same : w.number.result ≡ v = one_least n c.args.prefix x.router w.number.result v w.number.ensures least in
           w.if-from-number.false (omega (arith, w.from.ensures, same, e))) c.loop-j.invariant
+      | else-across-own-via-then-across-own+then-from-number+else-ne w ↦ more (λ other v least e off. off ((attached_ne n x.router c.args.prefix own.link w.attached_link.result w.ne.result w.attached_link.ensures w.ne.ensures).1 w.if-ne.false)) c.loop-j.invariant
       | else-across-own-via-else-across-own w ↦ more (λ other. absurd (other w.if-across-own.false)) c.loop-j.invariant
     ]
 
