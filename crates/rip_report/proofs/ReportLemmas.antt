@@ -109,7 +109,7 @@ of_read IsSaid bytes log n m s one_plan is told h =
 -- the bytes of a plan that is refused have a fault
 pub of_refused : (IsSaid : Status → Type 0) (bytes : List ℕ) (log : Option (List ℕ)) (n : Network) (s : State) (e : PlanError) (outcome : Result Status RunError) → ((e.code ≡ OutOfMemory → ⊥) → PlanFault bytes e)
     → (outcome ≡ Err Memory) ↔ (e.code ≡ OutOfMemory) → IsAccepted bytes log n s → IfOk outcome IsSaid
-of_refused IsSaid bytes log n s e (Ok status) told wanted k = absurd (k.faultless e (told (λ m. other (wanted.1 m))).fault)
+of_refused IsSaid bytes log n s e (Ok status) told wanted k = let fault = told (λ m. other (wanted.1 m)) in absurd (k.faultless e (fault.pass, fault.found))
   where
     other : ◌≡◌ {A = Result Status RunError} (Ok status) (Err Memory) → ⊥
     other h = absurd (cc)

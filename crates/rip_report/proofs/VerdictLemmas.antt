@@ -2,16 +2,16 @@
 use Rattle.std.proofs.Common.{◌≡◌, ℕ, ◌<◌, length, Bool, List, Option, None, Result, Ok, Err, refl, ap}
 use Rattle.std.specs.Prelude.{◌↔◌, IfOk}
 use Rattle.rip_plan.specs.Network.{Network}
-use Rattle.rip_plan.specs.Relations.{IsLawful}
+use Rattle.rip_plan.specs.Relations.{IsAttached, IsLawful}
 use Rattle.rip_log.specs.declared.device.Failed.{Failed}
 use Rattle.rip_table.specs.State.{State}
 use Rattle.rip_check.specs.Verdicts.{IsVerdict, ShowsTables, IsNextUnsettled}
 use Rattle.rip_check.specs.declared.verdict.Place2.{Place2}
 use Rattle.rip_check.specs.declared.verdict.Unclear.{Unclear}
-use Rattle.rip_check.specs.declared.verdict.Unclear.TheVariants.{NotHeard, TwoMetrics, Missing, TwoWays}
+use Rattle.rip_check.specs.declared.verdict.Unclear.TheVariants.{NotHeard, TwoMetrics, Missing, ShownOn, TwoWays}
 use Rattle.rip_check.specs.declared.verdict.Verdict.{Verdict}
 use Rattle.rip_check.specs.declared.verdict.Verdict.TheVariants as verdicts
-use Rattle.rip_report.specs.AuditText.{IsJudged, IsKnownReason, IsTroubleOf, UnsettledLines, VerdictText, a_settled, an_unclear, an_unsettled, settled_line, unclear_line, verdict_status}
+use Rattle.rip_report.specs.AuditText.{IsJudged, IsKnownReason, IsTroubleOf, ShowsPlainRightTables, UnsettledLines, VerdictText, a_settled, an_unclear, an_unsettled, settled_line, unclear_line, verdict_status}
 use Rattle.rip_report.specs.Finished.{finished}
 use Rattle.rip_report.specs.Sent.{WentOut}
 use Rattle.rip_report.specs.Written.{Written}
@@ -19,14 +19,21 @@ use Rattle.rip_report.specs.declared.status.Status.{Status}
 use Rattle.rip_report.specs.declared.status.Status.TheVariants.{Settled, Unsettled, Unclear as IsUnclear}
 use Rattle.rip_report.specs.declared.status.RunError.{RunError}
 use Rattle.rip_check.specs.Laws.{ShowsRightTables}
+use Rattle.rip_check.specs.Settled.{IsPlainRight, IsRight}
+use Rattle.rip_check.specs.Tables.{Route}
 use Rattle.rip_check.specs.Firsts.{IsFirstTrouble, IsReason}
 use Rattle.rip_check.specs.Walks.{PacketsArrive}
+
+-- the link to which a prefix is attached is one of the plan
+attached_known : (n : Network) (r p l : ℕ) → IsLawful n → IsAttached n r p l → l < length n.links
+attached_known n r p l lawful attached = let (c, (i, is)) = lawful.attached_there r p l attached in lawful.link_known i r l c is
 
 -- what a trouble names is known
 pub known_trouble : (n : Network) (s : State) (trouble : Unclear) → IsLawful n → IsFirstTrouble n s trouble → IsTroubleOf n s trouble
 known_trouble n s (NotHeard r l) lawful h = (lawful.router_known h.interface r l h.cost h.its, lawful.link_known h.interface r l h.cost h.its)
 known_trouble n s (TwoMetrics r p) lawful (heard, h) = (rw h.reason.0 h.first.router, rw h.reason.1 h.first.prefix)
 known_trouble n s (Missing r p l) lawful (heard, h) = (rw h.reason.0 h.first.router, rw h.reason.1 h.first.prefix, lawful.link_known h.reason.3.interface h.router l h.reason.3.cost h.reason.3.its)
+known_trouble n s (ShownOn r p l) lawful (heard, h) = (rw h.reason.0 h.first.router, rw h.reason.1 h.first.prefix, attached_known n h.router h.prefix l lawful h.reason.3.0)
 known_trouble n s (TwoWays r p) lawful (heard, h) = (rw h.reason.0 h.first.router, rw h.reason.1 h.first.prefix)
 
 -- the link of a reason is known
@@ -34,6 +41,7 @@ pub known_reason : (n : Network) (s : State) (r p : ℕ) (trouble : Unclear) →
 known_reason n s r p (NotHeard t l) lawful h = tt
 known_reason n s r p (TwoMetrics t q) lawful h = tt
 known_reason n s r p (Missing t q l) lawful h = lawful.link_known h.3.interface r l h.3.cost h.3.its
+known_reason n s r p (ShownOn t q l) lawful h = attached_known n r p l lawful h.3.0
 known_reason n s r p (TwoWays t q) lawful h = tt
 
 -- the router, the prefix and the link of a reason are known
@@ -41,6 +49,7 @@ pub reason_known : (n : Network) (s : State) (r p : ℕ) (trouble : Unclear) →
 reason_known n s r p (NotHeard t l) lawful router prefix h = absurd h
 reason_known n s r p (TwoMetrics t q) lawful router prefix h = (rw h.0 router, rw h.1 prefix)
 reason_known n s r p (Missing t q l) lawful router prefix h = (rw h.0 router, rw h.1 prefix, lawful.link_known h.3.interface r l h.3.cost h.3.its)
+reason_known n s r p (ShownOn t q l) lawful router prefix h = (rw h.0 router, rw h.1 prefix, attached_known n r p l lawful h.3.0)
 reason_known n s r p (TwoWays t q) lawful router prefix h = (rw h.0 router, rw h.1 prefix)
 
 -- what judging answers, of each verdict
@@ -115,3 +124,12 @@ IsHeadline n s IsText a b status = ((status ≡ Settled) ↔ ShowsRightTables n 
 pub headline : (n : Network) (s : State) (IsText : Written → Type 0) (a b : Option (List ℕ)) (outcome : Result Status RunError) → IfOk outcome (IsJudged n s) → IfOk outcome (WentOut IsText a b) → IfOk outcome (IsHeadline n s IsText a b)
 headline n s IsText a b (Ok status) j told = (j.settled, j.arrive, told)
 headline n s IsText a b (Err e) j told = tt
+
+-- a verdict on a plan that says nothing beside the standard, by the paths over any neighbours
+pub plain_headline : (n : Network) (s : State) (outcome : Result Status RunError) → ((r p : ℕ) (route : Route) → IsRight n r p route ↔ IsPlainRight n r p route) → IfOk outcome (IsJudged n s)
+    → IfOk outcome (λ status. (status ≡ Settled) ↔ ShowsPlainRightTables n s)
+plain_headline n s (Ok status) plain judged = (
+  λ h. let (T, shows, right) = judged.settled.0 h in (T, shows, λ r p below within. (plain r p (T r p)).0 (right r p below within)),
+  λ h. let (T, shows, right) = h in judged.settled.1 (T, shows, λ r p below within. (plain r p (T r p)).1 (right r p below within)),
+)
+plain_headline n s (Err e) plain judged = tt

@@ -4,7 +4,7 @@ use Rattle.rip_plan.specs.Network.{Network, each_below, is_of, numbers_where}
 use Rattle.rip_table.specs.State.{State}
 use Rattle.rip_check.specs.declared.verdict.Place2.{Place2}
 use Rattle.rip_check.specs.declared.verdict.Unclear.{Unclear}
-use Rattle.rip_check.specs.declared.verdict.Unclear.TheVariants.{NotHeard, TwoMetrics, Missing, TwoWays}
+use Rattle.rip_check.specs.declared.verdict.Unclear.TheVariants.{NotHeard, TwoMetrics, Missing, ShownOn, TwoWays}
 use Rattle.rip_check.specs.declared.verdict.Verdict.{Verdict}
 use Rattle.rip_check.specs.declared.verdict.Verdict.TheVariants as verdicts
 use Rattle.rip_check.specs.declared.way.Way.{Way}
@@ -17,6 +17,8 @@ use Rattle.rip_report.specs.declared.status.Status.TheVariants.{Settled, Unsettl
 use Rattle.rip_check.specs.Laws.{ShowsRightTables}
 use Rattle.rip_check.specs.Verdicts.{ShowsTables, IsNextUnsettled, HoldsAfter}
 use Rattle.rip_check.specs.Firsts.{IsFirstTrouble}
+use Rattle.rip_check.specs.Settled.{IsPlainRight}
+use Rattle.rip_check.specs.Tables.{Shows, Tables}
 use Rattle.rip_check.specs.Walks.{PacketsArrive}
 
 -- ---- Lines
@@ -91,6 +93,7 @@ abbrev pub subject_part : Network → State → Unclear → List ℕ
 subject_part n s (NotHeard r l) = interface_part n r l
 subject_part n s (TwoMetrics r p) = place_part n s r p
 subject_part n s (Missing r p l) = place_part n s r p
+subject_part n s (ShownOn r p l) = place_part n s r p
 subject_part n s (TwoWays r p) = place_part n s r p
 
 -- why no route can be read
@@ -98,6 +101,7 @@ abbrev pub reason_part : Network → Unclear → List ℕ
 reason_part n (NotHeard r l) = codes "not heard"
 reason_part n (TwoMetrics r p) = codes "two metrics"
 reason_part n (Missing r p l) = codes "missing on " ++ name_of n.links l
+reason_part n (ShownOn r p l) = codes "shown on " ++ name_of n.links l
 reason_part n (TwoWays r p) = codes "two ways"
 
 -- `router r1 link a: not heard`, or a place and why its route can't be read
@@ -109,6 +113,7 @@ abbrev pub IsKnownReason : Network → Unclear → Type 0
 IsKnownReason n (NotHeard r l) = Unit {0}
 IsKnownReason n (TwoMetrics r p) = Unit {0}
 IsKnownReason n (Missing r p l) = l < length n.links
+IsKnownReason n (ShownOn r p l) = l < length n.links
 IsKnownReason n (TwoWays r p) = Unit {0}
 
 -- the router, the prefix and the link of a trouble are known
@@ -116,6 +121,8 @@ abbrev pub IsTroubleOf : Network → State → Unclear → Type 0
 IsTroubleOf n s (NotHeard r l) = (r < length n.routers) × (l < length n.links)
 IsTroubleOf n s (TwoMetrics r p) = (r < length n.routers) × (p < length s.prefixes)
 IsTroubleOf n s (Missing r p l) =
+    (r < length n.routers) × (p < length s.prefixes) × (l < length n.links)
+IsTroubleOf n s (ShownOn r p l) =
     (r < length n.routers) × (p < length s.prefixes) × (l < length n.links)
 IsTroubleOf n s (TwoWays r p) = (r < length n.routers) × (p < length s.prefixes)
 
@@ -159,6 +166,13 @@ abbrev pub AuditText : List ℕ → Option (List ℕ) → Bool → Written → T
 AuditText plan log all = ReportText (λ n s. VerdictText n s all) plan log
 
 -- ---- What the statuses mean
+
+-- the table shows tables in which each metric is the least cost of a path over any neighbours, or 16,
+-- and each way begins such a path: right tables of a plan that says nothing beside RFC 2453
+abbrev pub ShowsPlainRightTables : Network → State → Type 0
+ShowsPlainRightTables n shown =
+    (T : Tables) × Shows n shown T
+    × ((r p : ℕ) → r < length n.routers → p < length shown.prefixes → IsPlainRight n r p (T r p))
 
 -- what a verdict's status says of the table
 pub record IsJudged (n : Network) (s : State) (status : Status) : Type 0 where

@@ -1,7 +1,7 @@
 -- What `explain` prints.
-use Rattle.std.specs.Prelude.{◌≡◌, ℕ, ◌<◌, nat_lt, Bool, true, false, if◌then◌else◌, IsTrue, List, [], ◌++◌, length, codes, decimal, Option, None, Some, slice_get}
+use Rattle.std.specs.Prelude.{◌≡◌, ℕ, ◌<◌, nat_lt, Bool, true, false, if◌then◌else◌, IsTrue, List, [], ◌++◌, length, codes, decimal, Decides, Option, None, Some, slice_get}
 use Rattle.rip_plan.specs.Network.{Network, is_of, is_on, numbers_where}
-use Rattle.rip_plan.specs.Relations.{IsDirect, IsInterface}
+use Rattle.rip_plan.specs.Relations.{IsDirect, IsInterface, IsKept}
 use Rattle.rip_plan.specs.declared.parts.Interface.{Interface}
 use Rattle.rip_table.specs.State.{State}
 use Rattle.rip_check.specs.Firsts.{IsFirstTrouble, IsReadable, IsReason}
@@ -12,7 +12,7 @@ use Rattle.rip_check.specs.Tables.{Offers, Route}
 use Rattle.rip_check.specs.Verdicts.{IsFailing, IsNextUnsettled, IsSound, ShowsTables}
 use Rattle.rip_check.specs.declared.verdict.Place2.{Place2}
 use Rattle.rip_check.specs.declared.verdict.Unclear.{Unclear}
-use Rattle.rip_check.specs.declared.verdict.Unclear.TheVariants.{NotHeard, TwoMetrics, Missing, TwoWays}
+use Rattle.rip_check.specs.declared.verdict.Unclear.TheVariants.{NotHeard, TwoMetrics, Missing, ShownOn, TwoWays}
 use Rattle.rip_report.specs.AuditText.{VerdictText, settled_line, unclear_line, unsettled_line}
 use Rattle.rip_report.specs.Listings.{TextsBelow, TextsOf, TextsOfPairs}
 use Rattle.rip_report.specs.Names.{name_of, prefix_name}
@@ -36,9 +36,10 @@ shown_line n l shown =
 unfoldable pub reading_line : Network → Route → Bool → List ℕ
 reading_line n route hidden = line (codes "  read: " ++ read_part n route hidden)
 
--- `  direct: 1`
-unfoldable pub direct_line : ℕ → List ℕ
-direct_line cost = line (codes "  direct: " ++ decimal cost)
+-- `  direct: 1`, or `  direct: 7, kept`
+unfoldable pub direct_line : ℕ → Bool → List ℕ
+direct_line cost kept =
+    line (codes "  direct: " ++ decimal cost ++ (if kept then codes ", kept" else []))
 
 -- `1 + 2 = 3`: the cost, what is shown, and what is offered; or `nothing`
 abbrev pub sum_part : ℕ → Option ℕ → ℕ → List ℕ
@@ -113,7 +114,8 @@ OfferLines n s r p = TextsOf (OffersOver n s p) (numbers_of n r)
 
 -- the cost at which router r has prefix p itself, if it does
 pub data DirectLine (n : Network) (r p : ℕ) : List ℕ → Type 0 where
-  direct : (c : ℕ) → IsDirect n r p c → DirectLine n r p (direct_line c)
+  direct : (c : ℕ) (kept : Bool) → IsDirect n r p c → Decides kept (IsKept n r p)
+      → DirectLine n r p (direct_line c kept)
   not_direct : ((c : ℕ) → IsDirect n r p c → ⊥) → DirectLine n r p []
 
 -- the line of a place that does not hold, and under it what the place comes from
@@ -156,6 +158,7 @@ abbrev pub UnderTrouble : Network → State → Unclear → List ℕ → Type 0
 UnderTrouble n s (NotHeard r l) = HeardLines n s l
 UnderTrouble n s (TwoMetrics r p) = ShownLines n s r p
 UnderTrouble n s (Missing r p l) = ShownLines n s r p
+UnderTrouble n s (ShownOn r p l) = ShownLines n s r p
 UnderTrouble n s (TwoWays r p) = ShownLines n s r p
 
 -- the line of a trouble, and under it what it comes from
@@ -199,6 +202,7 @@ abbrev pub AllTroubles : Network → State → Unclear → List ℕ → Type 0
 AllTroubles n s (NotHeard r l) = TextsBelow (UnheardLines n s) (length n.interfaces)
 AllTroubles n s (TwoMetrics r p) = AllUnread n s
 AllTroubles n s (Missing r p l) = AllUnread n s
+AllTroubles n s (ShownOn r p l) = AllUnread n s
 AllTroubles n s (TwoWays r p) = AllUnread n s
 
 -- a log that shows no tables: the first trouble, or all of its kind

@@ -1,6 +1,6 @@
 -- What `plan` prints.
-use Rattle.std.specs.Prelude.{◌≡◌, ◌⊎◌, ℕ, ◌<◌, ◌≤◌, false, List, [], ◌++◌, length, codes, decimal, slice_get, option_map, unwrap_or, None, Some}
-use Rattle.std.specs.List.{flat_map}
+use Rattle.std.specs.Prelude.{◌≡◌, ◌⊎◌, ℕ, ◌<◌, ◌≤◌, ◌==◌, Bool, false, if◌then◌else◌, List, [], ◌∷◌, ◌++◌, length, codes, decimal, slice_get, Option, option_map, unwrap_or, None, Some, IfSome}
+use Rattle.std.specs.List.{enumerate_from, flat_map}
 use Rattle.std.specs.Str.{is_utf8}
 use Rattle.rip_wire.specs.Address.{address_text}
 use Rattle.rip_wire.specs.Prefix.{prefix_text}
@@ -81,30 +81,70 @@ counts_line n =
     ++ decimal (length n.interfaces) ++ codes " interfaces, "
     ++ decimal (length n.prefixes) ++ codes " prefixes")
 
--- `interface r1 a 10.1.0.1 cost 1`
-unfoldable pub interface_line : Network → Interface → List ℕ
-interface_line n i =
-    line (codes "interface " ++ name_of n.routers i.router ++ codes " " ++ name_of n.links i.link
-    ++ codes " " ++ address_text i.address ++ codes " cost " ++ decimal i.cost)
+-- the metric at which the router has the prefixes of the link, where it is not the cost
+abbrev pub direct_text : Interface → List ℕ
+direct_text i = if i.direct == i.cost then [] else codes " direct " ++ decimal i.direct
 
--- the link, or the router, is one of the plan
+-- `interface r1 a 10.1.0.1 cost 5 direct 1`, an interface without its further addresses
+unfoldable pub interface_text : Network → Interface → List ℕ
+interface_text n i =
+    codes "interface " ++ name_of n.routers i.router ++ codes " " ++ name_of n.links i.link
+    ++ codes " " ++ address_text i.address ++ codes " cost " ++ decimal i.cost ++ direct_text i
+
+abbrev pub address_part : ℕ → List ℕ
+address_part a = codes " " ++ address_text a
+
+-- ` also 10.20.9.1 10.20.8.1`, or nothing where there is no further address
+abbrev pub also_text : List ℕ → List ℕ
+also_text [] = []
+also_text (a ∷ rest) = codes " also" ++ flat_map address_part (a ∷ rest)
+
+-- the further addresses of the interface of a number, which is below their count in a plan
+abbrev pub also_of : Network → ℕ → List ℕ
+also_of n k = unwrap_or (slice_get n.also k) []
+
+-- `interface r1 a 10.1.0.1 cost 5 direct 1 also 10.20.9.1 10.20.8.1`, with its further addresses
+unfoldable pub interface_line : Network → Interface → List ℕ → List ℕ
+interface_line n i also = line (interface_text n i ++ also_text also)
+
+-- the line of an interface and its number
+abbrev pub line_of_interface : Network → ℕ × Interface → List ℕ
+line_of_interface n (k, i) = interface_line n i (also_of n k)
+
+abbrev pub interface_lines : Network → List ℕ
+interface_lines n = flat_map (line_of_interface n) (enumerate_from 0 n.interfaces)
+
+-- the link, or the router, is one of the plan, and so is the link to which a prefix is attached
 abbrev pub IsSeat : Network → Seat → Type 0
 IsSeat n (seats.Link l) = l < length n.links
-IsSeat n (seats.Own r c) = r < length n.routers
+IsSeat n (seats.Own r c kept link via) =
+    (r < length n.routers) × IfSome link (λ l. l < length n.links)
+
+abbrev pub kept_text : Bool → List ℕ
+kept_text kept = if kept then codes " kept" else []
+
+abbrev pub attached_text : Network → Option ℕ → List ℕ
+attached_text n None = []
+attached_text n (Some l) = codes " link " ++ name_of n.links l
+
+abbrev pub gateway_text : Option ℕ → List ℕ
+gateway_text None = []
+gateway_text (Some a) = codes " via " ++ address_text a
 
 abbrev pub seat_text : Network → Seat → List ℕ
 seat_text n (seats.Link l) = codes " link " ++ name_of n.links l
-seat_text n (seats.Own r c) = codes " router " ++ name_of n.routers r ++ codes " cost " ++ decimal c
+seat_text n (seats.Own r c kept link via) =
+    codes " router " ++ name_of n.routers r ++ codes " cost " ++ decimal c
+    ++ kept_text kept ++ attached_text n link ++ gateway_text via
 
--- `prefix 10.1.0.0/16 link a`, or `prefix 10.9.0.0/16 router r1 cost 1`
+-- `prefix 10.1.0.0/16 link a`, or `prefix 10.9.0.0/16 router r1 cost 1 kept link a via 10.1.0.254`
 unfoldable pub place_line : Network → Place → List ℕ
 place_line n p = line (codes "prefix " ++ prefix_of n p.prefix ++ seat_text n p.seat)
 
 -- a plan: its counts, its interfaces and its places
 abbrev pub shown_plan : Network → Written
 shown_plan n = record {
-  text = (counts_line n ++ flat_map (interface_line n) n.interfaces)
-      ++ flat_map (place_line n) n.places;
+  text = (counts_line n ++ interface_lines n) ++ flat_map (place_line n) n.places;
   status = Done;
 }
 

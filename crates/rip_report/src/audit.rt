@@ -5,11 +5,12 @@ pub(crate) mod lines;
 ghost use Rattle.std.specs.Prelude.{◌≡◌, ◌≢◌, ◌↔◌, ◌++◌, ℕ, List, [], Err, IfOk, IfSome, None, false, is_err, is_some, true, length};
 ghost use Rattle.rip_plan.specs.Network.{Network};
 ghost use Rattle.rip_plan.specs.PlanFaults.{PlanFault};
+ghost use Rattle.rip_plan.specs.Relations.{IsPlain};
 ghost use Rattle.rip_plan.specs.declared.error.PlanError.{PlanError};
 ghost use Rattle.rip_table.specs.State.{Fits, State};
 ghost use Rattle.rip_check.specs.Marks.{AreUnsettled};
 ghost use Rattle.rip_check.specs.Verdicts.{IsVerdict, IsNextUnsettled};
-ghost use Rattle.rip_report.specs.AuditText.{AllUnsettled, AreKnown, AuditText, IsJudged, UnsettledLines, VerdictText, unsettled_line, verdict_status};
+ghost use Rattle.rip_report.specs.AuditText.{AllUnsettled, AreKnown, AuditText, IsJudged, ShowsPlainRightTables, UnsettledLines, VerdictText, unsettled_line, verdict_status};
 ghost use Rattle.rip_report.specs.Held.{held};
 ghost use Rattle.rip_report.specs.PlanText.{IsNoText};
 ghost use Rattle.rip_report.specs.ReportText.{IsAccepted};
@@ -21,7 +22,7 @@ use crate::output::{Page, finish, write_all};
 use crate::report::{Report, run_report};
 use crate::status::{RunError, Status};
 use lines::{settled_text, unclear_text, unsettled_text};
-use rip_check::laws::one_set_of_tables;
+use rip_check::laws::{one_set_of_tables, plain_paths};
 use rip_check::{Place2, Unsettled, Verdict, judge};
 use rip_log::{Failed, Sink, Source};
 use rip_plan::Plan;
@@ -256,6 +257,9 @@ pub fn run_audit<R: Source, K: Sink, S: BuildHasher + Drop>(
         IfOk result.1 (λ status. ((status ≡ Status.Settled) ↔ ShowsRightTables n s)
         × (status ≡ Status.Settled → PacketsArrive n s)
         × WentOut (VerdictText n s all) (K.taken out.old) (K.taken out.new) status) }
+    // Of a plan that says nothing beside RFC 2453 the paths go over any neighbours.
+    ensures plain { (n : Network) (s : State) → IsAccepted plan.now (R.coming log) n s → IsPlain n →
+        IfOk result.1 (λ status. (status ≡ Status.Settled) ↔ ShowsPlainRightTables n s) }
     // No two sets of tables are shown.
     ensures one_set { (n : Network) (s : State) → IsAccepted plan.now (R.coming log) n s →
         OneIsShown n s }
@@ -276,5 +280,6 @@ pub fn run_audit<R: Source, K: Sink, S: BuildHasher + Drop>(
     first_faults();
     one_plan();
     one_set_of_tables();
+    plain_paths();
     run_report(alloc, &Audit { all }, plan, log, out, hasher)
 }

@@ -1,9 +1,9 @@
 //! The command `plan`: the parts of a plan.
 
-ghost use Rattle.std.specs.Prelude.{◌≡◌, ◌≢◌, ◌+◌, ◌≤◌, ◌<◌, ◌↔◌, ◌++◌, [], Err, length};
+ghost use Rattle.std.specs.Prelude.{◌≡◌, ◌≢◌, ◌+◌, ◌≤◌, ◌<◌, ◌↔◌, ◌++◌, [], Err, IfSome, length};
 ghost use Rattle.std.specs.List.{flat_map};
 ghost use Rattle.rip_report.specs.declared.limits.TheConstants.{LINE_BYTES};
-ghost use Rattle.rip_report.specs.PlanText.{IsNoText, IsSeat, PlanText, at_text, counts_line, interface_line, place_line, plan_code_text, refused_plan, seat_text, shown_plan, word_of};
+ghost use Rattle.rip_report.specs.PlanText.{IsNoText, IsSeat, PlanText, address_part, also_text, at_text, attached_text, counts_line, direct_text, gateway_text, interface_line, interface_lines, interface_text, kept_text, place_line, plan_code_text, refused_plan, seat_text, shown_plan, word_of};
 ghost use Rattle.rip_report.specs.Held.{held};
 ghost use Rattle.rip_report.specs.Sent.{Prints, Writes};
 
@@ -13,6 +13,7 @@ use crate::output::{Page, finish, write_all};
 use crate::status::{RunError, Status};
 use rip_log::{Failed, Sink};
 use rip_plan::{At, Interface, Place, Plan, PlanCode, PlanError, Seat};
+use rip_wire::Address;
 use std::alloc::Global;
 
 /// The word of a code.
@@ -109,12 +110,24 @@ fn counts_text(plan: &Plan) -> Line
     text
 }
 
-/// The line of an interface.
-#[tactic(auto, unfolding(crate::specs::PlanText::interface_line))]
+/// Adds the metric at which a router has the prefixes of a link, where it is not the cost.
+fn push_direct(text: &mut Line, interface: Interface)
+    requires { length text.old + 28 ≤ LINE_BYTES }
+    ensures text { text.new ≡ text.old ++ direct_text interface }
+    ensures size { length text.new ≤ length text.old + 28 }
+{
+    if interface.direct != interface.cost {
+        text.push(" direct ");
+        text.push_number(u64::from(interface.direct));
+    }
+}
+
+/// The line of an interface, as far as its further addresses.
+#[tactic(auto, unfolding(crate::specs::PlanText::interface_text))]
 fn interface_text(plan: &Plan, interface: Interface) -> Line
     requires router { interface.router < length plan.now.routers }
     requires link { interface.link < length plan.now.links }
-    ensures { result ≡ interface_line plan.now interface }
+    ensures { result ≡ interface_text plan.now interface }
 {
     let mut text = Line::new();
     text.push("interface ");
@@ -125,39 +138,139 @@ fn interface_text(plan: &Plan, interface: Interface) -> Line
     text.push_address(interface.address);
     text.push(" cost ");
     text.push_number(u64::from(interface.cost));
-    text.end();
+    push_direct(&mut text, interface);
     text
+}
+
+/// A further address and the blank before it.
+fn address_part(address: Address) -> Line
+    ensures { result ≡ address_part address }
+{
+    let mut text = Line::new();
+    text.push(" ");
+    text.push_address(address);
+    text
+}
+
+/// Writes addresses, each after a blank.
+fn write_addresses<K: Sink>(
+    page: &mut Page,
+    addresses: &[Address],
+    out: &mut K,
+) -> Result<(), Failed>
+    ensures { Writes K.taken K.broken out.old out.new result
+        (held page.old ++ flat_map address_part addresses.now) (held page.new) }
+{
+    for address in addresses {
+        page.write(out, address_part(*address).as_bytes())?;
+    }
+    Ok(())
+}
+
+/// Writes the further addresses of an interface, which may be more than a line has room for.
+fn write_also<K: Sink>(page: &mut Page, also: &[Address], out: &mut K) -> Result<(), Failed>
+    ensures { Writes K.taken K.broken out.old out.new result
+        (held page.old ++ also_text also.now) (held page.new) }
+{
+    if also.is_empty() {
+        return Ok(());
+    }
+    page.write(out, " also".as_bytes())?;
+    write_addresses(page, also, out)
+}
+
+/// Writes the line of an interface.
+fn write_interface<K: Sink>(
+    page: &mut Page,
+    plan: &Plan,
+    interface: Interface,
+    also: &[Address],
+    out: &mut K,
+) -> Result<(), Failed>
+    requires router { interface.router < length plan.now.routers }
+    requires link { interface.link < length plan.now.links }
+    ensures { Writes K.taken K.broken out.old out.new result
+        (held page.old ++ interface_line plan.now interface also.now) (held page.new) }
+{
+    page.write(out, interface_text(plan, interface).as_bytes())?;
+    write_also(page, also, out)?;
+    page.write(out, "\n".as_bytes())
 }
 
 /// Writes the lines of the interfaces.
 fn write_interfaces<K: Sink>(page: &mut Page, plan: &Plan, out: &mut K) -> Result<(), Failed>
     ensures { Writes K.taken K.broken out.old out.new result
-        (held page.old ++ flat_map (interface_line plan.now) plan.now.interfaces) (held page.new) }
+        (held page.old ++ interface_lines plan.now) (held page.new) }
 {
     plan.lawful();
     for i in 0..plan.interfaces() {
-        page.write(out, interface_text(plan, plan.interface(i)).as_bytes())?;
+        write_interface(page, plan, plan.interface(i), plan.also(i), out)?;
     }
     Ok(())
+}
+
+/// Adds that a router keeps a prefix of its own, where the plan says so.
+fn push_kept(text: &mut Line, kept: bool)
+    requires { length text.old + 5 ≤ LINE_BYTES }
+    ensures text { text.new ≡ text.old ++ kept_text kept }
+    ensures size { length text.new ≤ length text.old + 5 }
+{
+    if kept {
+        text.push(" kept");
+    }
+}
+
+/// Adds the link to which a prefix is attached, if it is.
+fn push_attached(text: &mut Line, plan: &Plan, link: Option<usize>)
+    requires known { IfSome link (λ l. l < length plan.now.links) }
+    requires room { length text.old + 38 ≤ LINE_BYTES }
+    ensures text { text.new ≡ text.old ++ attached_text plan.now link }
+    ensures size { length text.new ≤ length text.old + 38 }
+{
+    if let Some(link) = link {
+        text.push(" link ");
+        push_link(text, plan, link);
+    }
+}
+
+/// Adds the gateway of a prefix, if it has one.
+fn push_gateway(text: &mut Line, via: Option<Address>)
+    requires { length text.old + 20 ≤ LINE_BYTES }
+    ensures text { text.new ≡ text.old ++ gateway_text via }
+    ensures size { length text.new ≤ length text.old + 20 }
+{
+    if let Some(gateway) = via {
+        text.push(" via ");
+        text.push_address(gateway);
+    }
 }
 
 /// Adds the seat of a place.
 fn push_seat(text: &mut Line, plan: &Plan, seat: Seat)
     requires known { IsSeat plan.now seat }
-    requires room { length text.old + 80 ≤ LINE_BYTES }
+    requires room { length text.old + 129 ≤ LINE_BYTES }
     ensures text { text.new ≡ text.old ++ seat_text plan.now seat }
-    ensures size { length text.new ≤ length text.old + 80 }
+    ensures size { length text.new ≤ length text.old + 129 }
 {
     match seat {
         Seat::Link(link) => {
             text.push(" link ");
             push_link(text, plan, link);
         }
-        Seat::Own { router, cost } => {
+        Seat::Own {
+            router,
+            cost,
+            kept,
+            link,
+            via,
+        } => {
             text.push(" router ");
             push_router(text, plan, router);
             text.push(" cost ");
             text.push_number(u64::from(cost));
+            push_kept(text, kept);
+            push_attached(text, plan, link);
+            push_gateway(text, via);
         }
     }
 }

@@ -174,6 +174,7 @@ fn push_subject<T: MetricTable>(text: &mut Line, plan: &Plan, table: &T, trouble
         Unclear::NotHeard { router, link } => push_interface(text, plan, router, link),
         Unclear::TwoMetrics { router, prefix }
         | Unclear::Missing { router, prefix, .. }
+        | Unclear::ShownOn { router, prefix, .. }
         | Unclear::TwoWays { router, prefix } => push_place(text, plan, table, router, prefix),
     }
 }
@@ -190,6 +191,10 @@ pub(crate) fn push_reason(text: &mut Line, plan: &Plan, trouble: &Unclear)
         Unclear::TwoMetrics { .. } => text.push("two metrics"),
         Unclear::Missing { link, .. } => {
             text.push("missing on ");
+            push_link(text, plan, link);
+        }
+        Unclear::ShownOn { link, .. } => {
+            text.push("shown on ");
             push_link(text, plan, link);
         }
         Unclear::TwoWays { .. } => text.push("two ways"),

@@ -59,14 +59,17 @@ pub(crate) fn reading_text(plan: &Plan, place: &Place2) -> Line
     text
 }
 
-/// The line of a direct cost.
+/// The line of a direct cost, which is kept or not.
 #[tactic(auto, unfolding(crate::specs::ExplainText::direct_line))]
-pub(crate) fn direct_text(cost: u8) -> Line
-    ensures { result ≡ direct_line cost }
+pub(crate) fn direct_text(cost: u8, is_kept: bool) -> Line
+    ensures { result ≡ direct_line cost is_kept }
 {
     let mut text = Line::new();
     text.push("  direct: ");
     text.push_number(u64::from(cost));
+    if is_kept {
+        text.push(", kept");
+    }
     text.end();
     text
 }

@@ -167,7 +167,8 @@ fn add_direct<K: Sink>(
         × Adds K.taken K.broken out.old out.new listing.old listing.new text }
 {
     if let Some(cost) = plan.direct_cost(router, prefix) {
-        listing.add(&direct_text(cost), out);
+        let is_kept = plan.keeps(router, prefix);
+        listing.add(&direct_text(cost, is_kept), out);
     }
 }
 

@@ -96,6 +96,7 @@ fn add_under<T: MetricTable, K: Sink>(
         Unclear::NotHeard { link, .. } => add_heard(listing, plan, table, link, out),
         Unclear::TwoMetrics { router, prefix }
         | Unclear::Missing { router, prefix, .. }
+        | Unclear::ShownOn { router, prefix, .. }
         | Unclear::TwoWays { router, prefix } => {
             add_shown(listing, plan, table, router, prefix, out);
         }
@@ -189,7 +190,10 @@ fn add_troubles<T: MetricTable, K: Sink>(
 {
     match first {
         Unclear::NotHeard { .. } => add_interfaces(&Unheard, listing, plan, table, out),
-        Unclear::TwoMetrics { .. } | Unclear::Missing { .. } | Unclear::TwoWays { .. } => {
+        Unclear::TwoMetrics { .. }
+        | Unclear::Missing { .. }
+        | Unclear::ShownOn { .. }
+        | Unclear::TwoWays { .. } => {
             add_pairs(&Unread, listing, plan, table, out);
         }
     }

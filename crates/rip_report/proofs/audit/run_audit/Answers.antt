@@ -2,7 +2,7 @@ use Rattle.std.proofs.Common.{subst}
 use Rattle.rip_plan.specs.Relations.{IsLawful}
 use Rattle.rip_report.specs.AuditText.{VerdictText}
 use Rattle.rip_report.proofs.ReportLemmas.{same_plan}
-use Rattle.rip_report.proofs.VerdictLemmas.{headline}
+use Rattle.rip_report.proofs.VerdictLemmas.{headline, plain_headline}
 use Rattle.rip_report.proofs.audit.run_audit.Goals as goal
 
 pub returns-clause-headline : goal.returns-clause-headline
@@ -17,3 +17,8 @@ returns-clause-one_set g c =
     let (m, is, lawful) = c.first_faults.ensures.plan bytes accepted.faultless in
     let same = same_plan bytes m n (λ k l q. c.one_plan.ensures q.document k l) is accepted.plan_of in
     c.one_set_of_tables.ensures.tables n s (subst IsLawful same lawful)
+
+pub returns-clause-plain : goal.returns-clause-plain
+returns-clause-plain g c =
+    let e = c.run_report.ensures in
+    λ n s accepted plain. plain_headline n s c.run_report.result.1 (λ r p route. c.plain_paths.ensures.routes n r p route plain) (e.meaning n s accepted)

@@ -1,7 +1,7 @@
 use Rattle.std.proofs.Common.{◌++◌, ◌∙◌, Ok, Err, refl}
 use Rattle.std.specs.List.{flat_map}
 use Rattle.rip_report.specs.Held.{held}
-use Rattle.rip_report.specs.PlanText.{counts_line, interface_line, place_line, shown_plan}
+use Rattle.rip_report.specs.PlanText.{counts_line, interface_lines, place_line, shown_plan}
 use Rattle.rip_report.proofs.SentLemmas.{Writes-cut, Writes-fails, Writes-held, Writes-more, Writes-same}
 use Rattle.rip_report.proofs.LineLemmas.{first_line}
 use Rattle.rip_report.proofs.plan.write_plan.Goals as goal
@@ -10,7 +10,7 @@ pub returns-in_err-write : goal.returns-in_err-write
 returns-in_err-write g c =
     let n = c.args.plan.now in
     let counts = counts_line n in
-    let interfaces = flat_map (interface_line n) n.interfaces in
+    let interfaces = interface_lines n in
     let places = flat_map (place_line n) n.places in
     let head = first_line (held c.new-page.result) _ counts c.new-page.ensures (c.as_bytes.ensures ∙ c.counts_text.ensures) in
     let wrote = Writes-same g.K.Sink.taken g.K.Sink.broken c.args.out.now c.write.new.out _ _ counts _ head c.in_err-write.ensures in
@@ -21,7 +21,7 @@ pub returns-in_err-write_interfaces : goal.returns-in_err-write_interfaces
 returns-in_err-write_interfaces g c =
     let n = c.args.plan.now in
     let counts = counts_line n in
-    let interfaces = flat_map (interface_line n) n.interfaces in
+    let interfaces = interface_lines n in
     let places = flat_map (place_line n) n.places in
     let head = first_line (held c.new-page.result) _ counts c.new-page.ensures (c.as_bytes.ensures ∙ c.counts_text.ensures) in
     let wrote = Writes-same g.K.Sink.taken g.K.Sink.broken c.args.out.now c.write.new.out (Ok c.in_ok-write.field-0) _ counts _ head c.in_ok-write.ensures in
@@ -32,7 +32,7 @@ pub returns-in_err-write_places : goal.returns-in_err-write_places
 returns-in_err-write_places g c =
     let n = c.args.plan.now in
     let counts = counts_line n in
-    let interfaces = flat_map (interface_line n) n.interfaces in
+    let interfaces = interface_lines n in
     let places = flat_map (place_line n) n.places in
     let head = first_line (held c.new-page.result) _ counts c.new-page.ensures (c.as_bytes.ensures ∙ c.counts_text.ensures) in
     let wrote = Writes-same g.K.Sink.taken g.K.Sink.broken c.args.out.now c.write.new.out (Ok c.in_ok-write.field-0) _ counts _ head c.in_ok-write.ensures in
@@ -44,7 +44,7 @@ pub returns : goal.returns
 returns g c =
     let n = c.args.plan.now in
     let counts = counts_line n in
-    let interfaces = flat_map (interface_line n) n.interfaces in
+    let interfaces = interface_lines n in
     let places = flat_map (place_line n) n.places in
     let head = first_line (held c.new-page.result) _ counts c.new-page.ensures (c.as_bytes.ensures ∙ c.counts_text.ensures) in
     let wrote = Writes-same g.K.Sink.taken g.K.Sink.broken c.args.out.now c.write.new.out (Ok c.in_ok-write.field-0) _ counts _ head c.in_ok-write.ensures in

@@ -35,3 +35,6 @@ pub returns-in-Err-clause-meaning : goal.returns-in-Err-clause-meaning
 returns-in-Err-clause-meaning g c =
     let e = c.in-Err.error in
     λ n s accepted. of_refused (g.C.Report.means c.args.command.now n s) c.args.plan.now (g.R.Source.coming c.args.log) n s e c.refuse_plan.result (first_told c.args.plan.now e c.in-Err.ensures.told) c.refuse_plan.ensures.wanted accepted
+
+pub returns-in-Ok-with_hasher-clause-untouched : goal.returns-in-Ok-with_hasher-clause-untouched
+returns-in-Ok-with_hasher-clause-untouched g c = λ e fault. absurd (c.in-Ok.ensures.no_fault e (fault.pass, fault.found))

@@ -5,8 +5,8 @@ use Rattle.rip_report.proofs.explain.places.add_direct.Goals as goal
 
 pub returns-in-Some : goal.returns-in-Some
 returns-in-Some g c = (
-  direct_line c.in-Some.cost,
-  direct c.in-Some.cost ((c.direct_cost.ensures c.in-Some.cost).0 c.in-Some.is),
+  direct_line c.in-Some.cost c.keeps-is_kept.result,
+  direct c.in-Some.cost c.keeps-is_kept.result ((c.direct_cost.ensures c.in-Some.cost).0 c.in-Some.is) c.keeps-is_kept.ensures,
   adds_same g.K.Sink.taken g.K.Sink.broken c.args.out.now c.add.new.out c.args.listing.now c.add.new.self _ _ c.direct_text.ensures c.add.ensures,
 )
 
