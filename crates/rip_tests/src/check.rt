@@ -162,6 +162,7 @@ fn expect_trouble<T: MetricTable>(rt: &impl Abort, plan: &Plan, table: &T, troub
         Unclear::NotHeard { .. } => {}
         Unclear::TwoMetrics { router, prefix }
         | Unclear::Missing { router, prefix, .. }
+        | Unclear::ShownOn { router, prefix, .. }
         | Unclear::TwoWays { router, prefix } => {
             assert!(rt; router < plan.routers() && prefix < table.prefix_count());
             assert_eq!(rt; route(plan, table, router, prefix), Err(*trouble));

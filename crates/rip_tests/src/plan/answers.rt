@@ -45,7 +45,14 @@ fn several_places(rt: HostRuntime) -> Result<(), Fail> {
     assert_eq!(rt; plan.prefixes(), 3);
     assert_eq!(rt; plan.places(), 4);
     assert_eq!(rt; plan.place(3).prefix, 0);
-    assert_eq!(rt; plan.place(3).seat, Seat::Own { router: 2, cost: 5 });
+    let seat = Seat::Own {
+        router: 2,
+        cost: 5,
+        kept: false,
+        link: None,
+        via: None,
+    };
+    assert_eq!(rt; plan.place(3).seat, seat);
     let prefix = plan.prefix(0);
     assert_eq!(rt; plan.direct(0, prefix), Some(1));
     assert_eq!(rt; plan.direct(1, prefix), Some(1));
@@ -66,6 +73,50 @@ fn several_places(rt: HostRuntime) -> Result<(), Fail> {
     assert!(rt; !plan.carries(0, unplanned));
     assert!(rt; !plan.leaf(2));
     plan.lawful();
+    Ok(())
+}
+
+/// A plan of one router that says all that daemons do.
+const DAEMONS: &str = "version = 1
+link = [{ name = \"core\", prefixes = [\"10.1.0.0/16\"] }, { name = \"k\", prefixes = [] }]
+
+[[router]]
+name = \"r1\"
+interface = [
+  { link = \"core\", address = \"10.1.0.1\", cost = 5, direct = 2, also = [\"10.20.9.1\", \"10.20.8.1\"] },
+  { link = \"k\", address = \"10.3.0.1\", cost = 3 },
+]
+own = [
+  { prefix = \"0.0.0.0/0\", cost = 8, kept = true, via = \"10.1.0.254\" },
+  { prefix = \"10.20.9.0/24\", link = \"core\" },
+  { prefix = \"10.20.7.0/24\", kept = false },
+]
+";
+
+#[test]
+fn what_daemons_do(rt: HostRuntime) -> Result<(), Fail> {
+    let plan = Plan::read(rt.alloc(), DAEMONS.as_bytes())?;
+    assert_eq!(rt; plan.interfaces(), 2);
+    assert_eq!(rt; plan.prefixes(), 4);
+    assert_eq!(rt; (plan.interface(0).cost, plan.interface(0).direct), (5, 2));
+    assert_eq!(rt; (plan.interface(1).cost, plan.interface(1).direct), (3, 3));
+    assert_eq!(rt; plan.direct_cost(0, 0), Some(2));
+    let own = Address::parse("10.1.0.1").ok_or("an address")?;
+    let further = Address::parse("10.20.8.1").ok_or("an address")?;
+    let gateway = Address::parse("10.1.0.254").ok_or("an address")?;
+    assert_eq!(rt; plan.also(0).len(), 2);
+    assert_eq!(rt; plan.also(0).get(1), Some(&further));
+    assert!(rt; plan.also(1).is_empty());
+    assert_eq!(rt; plan.find("core", further), Some(0));
+    assert_eq!(rt; plan.find("k", further), None);
+    assert!(rt; plan.has_address(0, own) && plan.has_address(0, further));
+    assert!(rt; !plan.has_address(1, further) && !plan.has_address(0, gateway));
+    assert!(rt; plan.keeps(0, 1) && plan.keeps(0, 2));
+    assert!(rt; !plan.keeps(0, 0) && !plan.keeps(0, 3));
+    assert_eq!(rt; plan.attached_link(0, 1), None);
+    assert_eq!(rt; plan.attached_link(0, 2), Some(0));
+    assert_eq!(rt; plan.gateway(0, plan.prefix(1)), Some(gateway));
+    assert_eq!(rt; plan.gateway(0, plan.prefix(2)), None);
     Ok(())
 }
 
