@@ -1,13 +1,15 @@
 -- What a lawful plan answers from its look-ups.
-use Rattle.std.proofs.Common.{◌≡◌, ◌<◌, ◌≤◌, ◌↔◌, ◌⊎◌, inl, inr, arith, ℕ, Bool, true, false, ◌||◌, subst, Option, Some, None, List, length, refl, sym, ◌∙◌, ap}
+use Rattle.std.proofs.Common.{◌≡◌, ◌<◌, ◌≤◌, ◌↔◌, ◌⊎◌, inl, inr, arith, ℕ, Bool, true, false, ◌||◌, subst, Option, Some, None, List, [], ◌∷◌, length, refl, sym, ◌∙◌, ap}
 use Rattle.std.specs.Prelude.{option_and_then, unwrap_or, Decides, IfSome}
+use Rattle.std.specs.List.{list_any}
 use Rattle.std.specs.Option.{is_some, option_map_or}
 use Rattle.std.proofs.lemmas.Option.{slice_get_within}
 use Rattle.rip_wire.specs.Prefix.{Block}
+use Rattle.rip_plan.specs.declared.parts.Place.{Place}
 use Rattle.rip_plan.specs.declared.parts.Seat.{Seat}
 use Rattle.rip_plan.specs.declared.parts.Seat.TheVariants as seats
 use Rattle.rip_plan.specs.Seats.{gateway_of, is_kept, link_of}
-use Rattle.rip_plan.specs.Network.{Network, own_seat, direct_at, first_carrying, found_at, number_of_prefix}
+use Rattle.rip_plan.specs.Network.{Network, is_owned, own_seat, direct_at, first_carrying, found_at, number_of_prefix}
 use Rattle.rip_plan.specs.Relations.{IsAt, IsAttached, IsGateway, IsKept, IsPlace, IsPrefix, IsDirect, Touches, Carries, IsLawful}
 use Rattle.rip_plan.proofs.Lookups.{interface_of, prefix_of_number, number_of_planned, HasOwnSeat, own_gives, own_finds, direct_gives, direct_finds, carrier_gives, carrier_finds, found_gives, found_finds}
 
@@ -54,6 +56,26 @@ direct_zero n laws r k zero = by_option (direct_at r k n.interfaces n.places) re
         absurd (omega (arith, least j c touches))
 
 -- ---- a router's own prefixes
+
+-- where no seat is kept, no router keeps a prefix, and none is attached
+pub none_kept : (r k : ℕ) (places : List Place) → list_any (λ (q : Place). is_kept q.seat) places ≡ false → option_map_or is_kept (own_seat r k places) false ≡ false
+none_kept r k [] h = refl
+none_kept r k (q ∷ qs) h = by_tests (is_owned r k q) refl (is_kept q.seat) refl (none_kept r k qs)
+  where
+    by_tests : (b : Bool) → is_owned r k q ≡ b → (m : Bool) → is_kept q.seat ≡ m → (list_any (λ (p : Place). is_kept p.seat) qs ≡ false → option_map_or is_kept (own_seat r k qs) false ≡ false) → option_map_or is_kept (own_seat r k (q ∷ qs)) false ≡ false
+    by_tests b e true f later = let clash : true ≡ false = rw f at h in absurd cc
+    by_tests true e false f later = rw e f
+    by_tests false e false f later = rw e (later (rw f at h))
+
+pub none_attached : (r k : ℕ) (places : List Place) → list_any (λ (q : Place). is_kept q.seat) places ≡ false → option_and_then link_of (own_seat r k places) ≡ None
+none_attached r k places h = by_seat (own_seat r k places) (none_kept r k places h)
+  where
+    by_seat : (o : Option Seat) → option_map_or is_kept o false ≡ false → option_and_then link_of o ≡ None
+    by_seat None e = refl
+    by_seat (Some (seats.Link l)) e = refl
+    by_seat (Some (seats.Own o c true link via)) e = absurd cc
+    by_seat (Some (seats.Own o c false (Some l) via)) e = absurd cc
+    by_seat (Some (seats.Own o c false None via)) e = refl
 
 pub own_past : (n : Network) → IsLawful n → (r k : ℕ) → (length n.routers ≤ r) ⊎ (length n.prefixes ≤ k) → own_seat r k n.places ≡ None
 own_past n laws r k past = by_option (own_seat r k n.places) refl

@@ -1,5 +1,6 @@
 -- What a `Plan` stands for, and what it keeps to find its parts.
 use Rattle.std.specs.Prelude.{◌≡◌, ℕ, ◌*◌, List, length, map, string_bytes}
+use Rattle.std.specs.List.{list_any}
 use Rattle.std.specs.HashMap.{get, get_by_text}
 use Rattle.rip_wire.specs.Prefix.{Block}
 use Rattle.rip_plan.specs.Addresses.{holder_at}
@@ -7,6 +8,7 @@ use Rattle.rip_plan.specs.Names.{number_of_name}
 use Rattle.rip_plan.specs.Network.{Network, addresses_of, each_below, is_of, is_on, number_of_prefix, numbers_where, pair_eq}
 use Rattle.rip_plan.specs.Passes.{same_prefix}
 use Rattle.rip_plan.specs.Relations.{IsLawful}
+use Rattle.rip_plan.specs.Seats.{is_kept}
 use Rattle.rip_plan.specs.Rows.{AreCosts, AreFlags, AreOwners}
 use Rattle.rip_plan.specs.declared.plan.Plan.TheInside.{Inside}
 
@@ -43,5 +45,6 @@ pub record IsKept (plan : Inside) : Type 0 where
   pub owners_room : length plan.owners.items
       ≡ length plan.routers.items * length plan.prefixes.items
   pub owners : AreOwners (length plan.prefixes.items) plan.places.items plan.owners.items
+  pub any_kept : plan.any_kept ≡ list_any (λ q. is_kept q.seat) plan.places.items
   pub addresses : (l a : ℕ) →
       get pair_eq plan.addresses (l, a) ≡ holder_at l a (addresses_of (network_of plan))

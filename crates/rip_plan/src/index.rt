@@ -1,10 +1,11 @@
 //! What a plan keeps beside its parts, to find them.
 
 ghost use Rattle.std.specs.Prelude.{◌≡◌, ◌==◌, ◌+◌, ◌*◌, ◌<◌, ◌≤◌, ℕ, [], List, length, map, IfOk, string_bytes};
-ghost use Rattle.std.specs.List.{All};
+ghost use Rattle.std.specs.List.{All, list_any};
 ghost use Rattle.std.specs.HashMap.{get};
 ghost use Rattle.rip_plan.specs.Network.{cost_at, each_below, is_of, is_on, numbers_where, pair_eq};
 ghost use Rattle.rip_plan.specs.Addresses.{holder_at};
+ghost use Rattle.rip_plan.specs.Seats.{is_kept};
 ghost use Rattle.rip_plan.specs.Rows.{AreCosts, AreFlags, AreOnLinks, AreOwners, IsLinkBelow, IsOwnerBelow, IsOwnerWithin, WritesCosts, cost_among};
 
 use crate::addresses::Held;
@@ -204,4 +205,11 @@ pub(crate) fn owners_of(
         }
     }
     Ok(owners)
+}
+
+/// Whether any router keeps a prefix.
+pub(crate) fn any_kept(places: &[Place]) -> bool
+    ensures { result ≡ list_any (λ q. is_kept q.seat) places.now }
+{
+    places.iter().any(|place| place.seat.is_kept())
 }

@@ -39,8 +39,9 @@ pub struct Plan {
     prefixes: Vec<Prefix>,
     places: Vec<Place>,
     // Look-ups, so that no answer walks over the parts: the interfaces of each link and router, links
-    // by name, interfaces by link and address, prefixes, and in rows one after another whether each
-    // link has each prefix, at which metric each router has it, and at which place as its own.
+    // by name, interfaces by link and address, prefixes, in rows one after another whether each link
+    // has each prefix, at which metric each router has it, and at which place as its own, and whether
+    // any router keeps a prefix.
     on_link: Vec<Vec<usize>>,
     of_router: Vec<Vec<usize>>,
     names: HashMap<String, usize>,
@@ -49,6 +50,7 @@ pub struct Plan {
     carriers: Vec<bool>,
     costs: Vec<u8>,
     owners: Vec<Option<u16>>,
+    any_kept: bool,
 }
 
 impl Model for Plan {
@@ -89,6 +91,7 @@ fn plan_of(alloc: Global, draft: Draft) -> Result<Plan, AllocError>
         draft.routers.len(),
         prefixes.len(),
     )?;
+    let any_kept = index::any_kept(places.as_slice());
     Ok(Plan {
         links: draft.links,
         routers: draft.routers,
@@ -104,6 +107,7 @@ fn plan_of(alloc: Global, draft: Draft) -> Result<Plan, AllocError>
         carriers,
         costs,
         owners,
+        any_kept,
     })
 }
 
@@ -382,6 +386,9 @@ impl Plan {
         ensures { Decides result (IsKept self.now router prefix) }
     {
         self.lawful();
+        if !self.any_kept {
+            return false;
+        }
         match self.own_seat(router, prefix) {
             Some(seat) => seat.is_kept(),
             None => false,
@@ -394,6 +401,9 @@ impl Plan {
         ensures { (l : ℕ) → (result ≡ Some l) ↔ IsAttached self.now router prefix l }
     {
         self.lawful();
+        if !self.any_kept {
+            return None;
+        }
         match self.own_seat(router, prefix) {
             Some(seat) => seat.attached_link(),
             None => None,

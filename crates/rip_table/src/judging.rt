@@ -105,17 +105,16 @@ fn is_gateway(plan: &Plan, router: usize, prefix: Prefix, hop: Address) -> bool
     }
 }
 
-/// Whether the next hop of an entry is neither an address of the interface that sends it, nor a gateway
+/// Whether a next hop for a prefix is neither an address of the interface that sends it, nor a gateway
 /// of its router for the prefix. Most entries have none, so this stays out of the loop over them.
 #[inline(never)]
-fn is_by_another(plan: &Plan, interface: usize, entry: &Entry) -> bool
+fn is_by_another(plan: &Plan, interface: usize, prefix: Prefix, hop: Address) -> bool
     requires { interface < length plan.now.interfaces }
-    ensures { result ≡ not (holds_address plan.now interface entry.now.next_hop
-        || knows_gateway plan.now interface entry.now.prefix entry.now.next_hop) }
+    ensures { result ≡ not (holds_address plan.now interface hop
+        || knows_gateway plan.now interface prefix hop) }
 {
-    let hop = entry.next_hop;
     let own = plan.interface(interface);
-    !plan.has_address(interface, hop) && !is_gateway(plan, own.router, entry.prefix, hop)
+    !plan.has_address(interface, hop) && !is_gateway(plan, own.router, prefix, hop)
 }
 
 /// Whether an entry that an interface sends below 16 has a next hop that is neither 0.0.0.0, nor an
@@ -124,7 +123,8 @@ fn is_elsewhere(plan: &Plan, interface: usize, entry: &Entry) -> bool
     requires { interface < length plan.now.interfaces }
     ensures { result ≡ is_foreign plan.now interface entry.now }
 {
-    entry.next_hop.get() != 0 && entry.metric.get() < 16 && is_by_another(plan, interface, entry)
+    let hop = entry.next_hop;
+    hop.get() != 0 && entry.metric.get() < 16 && is_by_another(plan, interface, entry.prefix, hop)
 }
 
 /// Judges an entry, whose next hop is elsewhere or not. Its prefix had this metric or none, and with it

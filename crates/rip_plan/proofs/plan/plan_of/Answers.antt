@@ -1,4 +1,5 @@
 use Rattle.std.proofs.Common.{◌≡◌, ◌≤◌, ℕ, List, [], length, map, arith, refl, sym, ◌∙◌, ap, string_bytes, Vec, Global}
+use Rattle.std.specs.List.{list_any}
 use Rattle.std.proofs.lemmas.List.{length-map}
 use Rattle.rip_wire.specs.Prefix.{Block}
 use Rattle.rip_plan.specs.declared.draft.DraftInterface.{DraftInterface}
@@ -9,6 +10,7 @@ use Rattle.rip_plan.specs.Addresses.{held_from, holder_at}
 use Rattle.rip_plan.specs.Draft.{sketch}
 use Rattle.rip_plan.specs.Network.{Network, each_below, is_of, is_on, network_of_sketch, numbered, numbers_where}
 use Rattle.rip_plan.specs.Rows.{AreCosts, AreFlags, AreOwners}
+use Rattle.rip_plan.specs.Seats.{is_kept}
 use Rattle.rip_plan.proofs.Below.{length-each_below}
 use Rattle.rip_plan.proofs.Numbering.{numbers}
 use Rattle.rip_plan.proofs.WithinPlan.{interfaces_links, interfaces_routers, places_prefixes, places_links, places_owners}
@@ -177,5 +179,6 @@ invariant_of-result c =
       costs = rw (prefixes_6, c.as_slice-9.ensures.value, c.as_slice-11.ensures.value) at costs;
       owners_room = c.in_ok-owners.ensures.room ∙ rw (routers_7, prefixes_8) refl;
       owners = rw (prefixes_8, c.as_slice-12.ensures.value) at owners;
+      any_kept = c.any_kept-any_kept.ensures ∙ ap (list_any (λ (q : Place). is_kept q.seat)) c.as_slice-13.ensures.value;
       addresses = λ l a. c.in_ok-addresses.ensures l a ∙ ap (holder_at l a) held;
     }

@@ -1,7 +1,8 @@
-use Rattle.std.proofs.Common.{ap, sym, ◌∙◌, None}
+use Rattle.std.proofs.Common.{◌≡◌, subst, ap, sym, ◌∙◌, None}
 use Rattle.std.specs.Prelude.{option_and_then}
+use Rattle.rip_plan.specs.Network.{Network, own_seat}
 use Rattle.rip_plan.specs.Seats.{link_of}
-use Rattle.rip_plan.proofs.PlanAnswers.{attached_exact}
+use Rattle.rip_plan.proofs.PlanAnswers.{attached_exact, none_attached}
 use Rattle.rip_plan.proofs.plan.Plan.attached_link.Goals as goal
 
 pub returns-in-Some : goal.returns-in-Some
@@ -13,3 +14,8 @@ pub returns-in-None : goal.returns-in-None
 returns-in-None c =
     attached_exact c.args.self.now c.lawful.ensures c.args.router c.args.prefix None
     (ap (option_and_then link_of) (sym c.in-None.is ∙ c.own_seat.ensures))
+
+pub returns-then-not-self : goal.returns-then-not-self
+returns-then-not-self c =
+    let none = none_attached c.args.router c.args.prefix c.self.inside.places.items (sym c.self.invariant.any_kept ∙ c.if-not-self.true) in
+    attached_exact c.args.self.now c.lawful.ensures c.args.router c.args.prefix None (sym (subst (λ (n : Network). option_and_then link_of (own_seat c.args.router c.args.prefix n.places) ≡ None) c.self.view_is none))

@@ -4,7 +4,7 @@ use Rattle.std.proofs.lemmas.List.{get_or_read, length-map}
 use Rattle.std.proofs.lemmas.Nat.{mul-add-lt}
 use Rattle.std.proofs.lemmas.Option.{slice_get_within, slice_get-get_or}
 use Rattle.rip_plan.specs.declared.parts.Place.{Place}
-use Rattle.rip_plan.specs.Network.{first_owned, is_owned, own_seat}
+use Rattle.rip_plan.specs.Network.{first_owned, is_owned}
 use Rattle.rip_plan.specs.Relations.{IsLawful}
 use Rattle.rip_plan.specs.Rows.{AreOwners}
 use Rattle.rip_plan.proofs.Lookups.{at_first, find_at, find_past}
