@@ -23,7 +23,7 @@ network_of p = record {
 }
 
 -- what a plan keeps: its laws, and look-ups that find what a walk over the parts would find
-pub record IsKept (plan : Inside) : Type 0 where
+pub record IsIndexed (plan : Inside) : Type 0 where
   pub lawful : IsLawful (network_of plan)
   pub on_link : map (λ w. w.items) plan.on_link.items
       ≡ each_below (length plan.links.items)

@@ -147,13 +147,11 @@ IsKept n r p = ((k : ℕ) × IsKeptAt n k p r) ⊎ ((l : ℕ) × IsAttached n r 
 abbrev pub IsGateway : Network → ℕ → ℕ → ℕ → Type 0
 IsGateway n r p a = (k : ℕ) × HasGatewayAt n k p r a
 
--- the plan says nothing beside what RFC 2453 does: the prefixes of a link have the interface's cost, an
--- interface has one address, and no own prefix is kept, attached or told with a gateway
+-- the plan says no more of metrics and routes than RFC 2453 does: the prefixes of a link have the
+-- interface's cost, and no router keeps a prefix or has one attached
 pub record IsPlain (n : Network) : Type 0 where
   pub direct : (i r l c d : ℕ) → IsInterface n i r l c → IsConnected n i r l d → d ≡ c
-  pub one_address : (i : ℕ) (also : List ℕ) → slice_get n.also i ≡ Some also → also ≡ []
   pub not_kept : (r p : ℕ) → IsKept n r p → ⊥
-  pub no_gateway : (r p a : ℕ) → IsGateway n r p a → ⊥
 
 -- each item stands once in the list
 abbrev pub IsEachOnce : List ℕ → Type 0

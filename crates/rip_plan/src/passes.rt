@@ -157,7 +157,7 @@ fn first_twice(alloc: Global, interfaces: &[DraftInterface]) -> Result<Option<At
     Ok(None)
 }
 
-/// The first address that an earlier one is on the same link.
+/// The first address that stands earlier on the same link too.
 fn first_taken(alloc: Global, held: &[Held]) -> Result<Option<Held>, AllocError>
     ensures { IfOk result (λ found. found ≡ first_clash have_one_address [] held.now) }
 {

@@ -58,11 +58,11 @@ impl Model for Plan {
 
     ghost Value = { Network };
 
-    ghost use Rattle.rip_plan.specs.Indexed.{IsKept, network_of};
+    ghost use Rattle.rip_plan.specs.Indexed.{IsIndexed, network_of};
 
     ghost view = { network_of };
 
-    ghost invariant = { IsKept };
+    ghost invariant = { IsIndexed };
 }
 
 /// The plan of what was read.

@@ -106,9 +106,9 @@ fn is_gateway(plan: &Plan, router: usize, prefix: Prefix, hop: Address) -> bool
 }
 
 /// Whether a next hop for a prefix is neither an address of the interface that sends it, nor a gateway
-/// of its router for the prefix. Most entries have none, so this stays out of the loop over them.
+/// of its router for the prefix. Most entries have 0.0.0.0, so this stays out of the loop over them.
 #[inline(never)]
-fn is_by_another(plan: &Plan, interface: usize, prefix: Prefix, hop: Address) -> bool
+fn is_unknown_hop(plan: &Plan, interface: usize, prefix: Prefix, hop: Address) -> bool
     requires { interface < length plan.now.interfaces }
     ensures { result ≡ not (holds_address plan.now interface hop
         || knows_gateway plan.now interface prefix hop) }
@@ -124,18 +124,20 @@ fn is_elsewhere(plan: &Plan, interface: usize, entry: &Entry) -> bool
     ensures { result ≡ is_foreign plan.now interface entry.now }
 {
     let hop = entry.next_hop;
-    hop.get() != 0 && entry.metric.get() < 16 && is_by_another(plan, interface, entry.prefix, hop)
+    hop.get() != 0 && entry.metric.get() < 16 && is_unknown_hop(plan, interface, entry.prefix, hop)
 }
 
-/// Judges an entry, whose next hop is elsewhere or not. Its prefix had this metric or none, and with it
-/// there are so many prefixes.
+/// Judges an entry that an interface sends. Its prefix had this metric or none, and with it there are so
+/// many prefixes.
 fn judge(
+    plan: &Plan,
+    interface: usize,
     entry: &Entry,
-    is_elsewhere: bool,
     known: Option<Metric>,
     count: usize,
 ) -> Result<(), TableError>
-    ensures fault { result ≡ judged is_elsewhere entry.now known count }
+    requires { interface < length plan.now.interfaces }
+    ensures fault { result ≡ judged (is_foreign plan.now interface entry.now) entry.now known count }
     ensures low { 1 ≤ entry.now.metric }
     ensures high { entry.now.metric ≤ 16 }
 {
@@ -149,7 +151,7 @@ fn judge(
             });
         }
     }
-    if is_elsewhere {
+    if is_elsewhere(plan, interface, entry) {
         return Err(TableError::NextHop {
             prefix: entry.prefix,
         });
@@ -184,8 +186,7 @@ pub(crate) fn check<T: KnownMetrics>(
         brings |= shown.is_none();
         let known = known(shown, entries, j);
         count = count_with(count, number, known.is_some());
-        let elsewhere = is_elsewhere(plan, interface, &entry);
-        judge(&entry, elsewhere, known, count)?;
+        judge(plan, interface, &entry, known, count)?;
     }
     Ok(brings)
 }

@@ -36,7 +36,7 @@ returns-in_err-judge g c =
     c.count_with-count.ensures ∙ ap (counted c.loop-j.count (slice_index_or c.args.numbers.now c.loop-j.j None)) c.is_some.ensures in
     let is : c.from_residual.result ≡ Err (c.in_err-judge.field-0).0 = search rules in
     subst (IsChecked c.args.plan.now c.args.interface s es) (sym is)
-    (fault (ap (judged (is_foreign c.args.plan.now c.args.interface e) e c.known-known.result) (sym count) ∙ ap (λ f. judged f e c.known-known.result c.count_with-count.result) (sym c.is_elsewhere-elsewhere.ensures) ∙ sym c.judge.ensures.fault ∙ c.in_err-judge.was))
+    (fault (ap (judged (is_foreign c.args.plan.now c.args.interface e) e c.known-known.result) (sym count) ∙ sym c.judge.ensures.fault ∙ c.in_err-judge.was))
 
 pub loop-j-preserved : goal.loop-j-preserved
 loop-j-preserved g c =
@@ -54,7 +54,7 @@ loop-j-preserved g c =
     c.count_with-count.ensures ∙ ap (counted c.loop-j.count (slice_index_or c.args.numbers.now c.loop-j.j None)) c.is_some.ensures in
     record {
       checked = subst (Checked c.args.plan.now c.args.interface s es (c.loop-j.j + 1)) (sym count)
-          (next (ap (judged (is_foreign c.args.plan.now c.args.interface e) e c.known-known.result) (sym count) ∙ ap (λ f. judged f e c.known-known.result c.count_with-count.result) (sym c.is_elsewhere-elsewhere.ensures) ∙ sym c.judge.ensures.fault ∙ c.in_ok-judge.was));
+          (next (ap (judged (is_foreign c.args.plan.now c.args.interface e) e c.known-known.result) (sym count) ∙ sym c.judge.ensures.fault ∙ c.in_ok-judge.was));
       brings = ap (λ (b : Bool). b || c.is_none-brings.result) c.loop-j.invariant.brings
           ∙ ap (λ (b : Bool). list_any test (take c.loop-j.j es) || b) (none-is c.shown-shown.result c.is_none-brings.result c.is_none-brings.ensures ∙ ap is_none shows)
           ∙ any-next test es c.loop-j.j e here;

@@ -1,7 +1,7 @@
 use Rattle.std.proofs.Common.{◌≡◌, true, false, not, ◌||◌, ap, refl, sym, ◌∙◌}
 use Rattle.rip_table.specs.Joined.{holds_address, knows_gateway}
 use Rattle.rip_table.proofs.HopLemmas.{address_decided, gateway_decided}
-use Rattle.rip_table.proofs.judging.is_by_another.Goals as goal
+use Rattle.rip_table.proofs.judging.is_unknown_hop.Goals as goal
 
 pub returns-then-not-has_address : goal.returns-then-not-has_address
 returns-then-not-has_address c =
