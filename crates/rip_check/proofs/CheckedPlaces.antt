@@ -94,13 +94,13 @@ is_direct_gives n r p m ok =
 -- ---- what is kept
 
 -- the prefix is the router's own, attached to the link
-abbrev is_that : ℕ → Option ℕ → Bool
-is_that l None = false
-is_that l (Some m) = m == l
+abbrev names_link : ℕ → Option ℕ → Bool
+names_link l None = false
+names_link l (Some m) = m == l
 
 abbrev attaches : ℕ → ℕ → Seat → Bool
 attaches r l (Link m) = false
-attaches r l (Own o c kept link via) = (o == r) && is_that l link
+attaches r l (Own o c kept link via) = (o == r) && names_link l link
 
 abbrev attached : Network → ℕ → ℕ → ℕ → Bool
 attached n r p l = some (λ k q. (q.prefix == p) && attaches r l q.seat) n.places

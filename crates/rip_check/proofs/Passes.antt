@@ -9,7 +9,7 @@ use Rattle.rip_check.specs.Passes.{IsPass}
 use Rattle.rip_check.specs.Paths.{Hop, IsPath, IsLeast, MayHop}
 use Rattle.rip_check.specs.Keepings.{AreKeepings}
 use Rattle.rip_check.specs.declared.keepings.Keeping.{Keeping}
-use Rattle.rip_check.specs.TwoLeasts.{IsSeen, has_attached, is_that, told_in}
+use Rattle.rip_check.specs.TwoLeasts.{IsSeen, has_attached, is_link, told_in}
 use Rattle.rip_check.proofs.Plans.{direct_least}
 use Rattle.rip_check.proofs.Owned.{its_link}
 use Rattle.rip_check.proofs.Shown.{known_on}
@@ -96,7 +96,7 @@ has_it : (l : ℕ) (x : Option Keeping) → has_attached l x ≡ true → (k : K
 has_it l None e = cc e
 has_it l (Some k) e = (k, refl, go k.attached e)
   where
-    go : (o : Option ℕ) → is_that l o ≡ true → o ≡ Some l
+    go : (o : Option ℕ) → is_link l o ≡ true → o ≡ Some l
     go None e = cc e
     go (Some m) e = ap Some (eqb-true m l e)
 

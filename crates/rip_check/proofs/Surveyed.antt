@@ -11,7 +11,7 @@ use Rattle.rip_check.specs.Metrics.{IsInRange, metric_at}
 use Rattle.rip_check.specs.Tables.{Route, IsSilent, MayShow, Tells}
 use Rattle.rip_check.proofs.Silence.{IsMute, IsSilentLink}
 use Rattle.rip_check.specs.Firsts.{IsShownBelow, ShowsEach, ShowsWhereAttached}
-use Rattle.rip_check.specs.Surveys.{IsSurvey, IsTold}
+use Rattle.rip_check.specs.Surveys.{IsSurvey, IsShownThere}
 use Rattle.rip_check.proofs.Owned.{within}
 use Rattle.rip_check.proofs.Plans.{held_back_once}
 use Rattle.rip_check.proofs.Rows.{metric_is, no_other}
@@ -29,7 +29,7 @@ module _ (n : Network) (shown : State) (r p : ℕ) (found : Survey) (is : IsSurv
   pub told_everywhere : IsLawful n → IsInRange n shown → ShowsEach n shown r p → found.not_here ≡ true → found.silent ≡ None → (l : ℕ) → IsAttached n r p l → ShowsWhereAttached n shown r p l
   told_everywhere plan range each on none l at = (at, λ i k c its. go i k c its (metric_at shown i p) refl)
     where
-      told : (i : ℕ) × IsTold n shown r p i
+      told : (i : ℕ) × IsShownThere n shown r p i
       told = is.telling.some on
 
       -- where it were silent it would be told

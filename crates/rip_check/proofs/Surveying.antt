@@ -9,7 +9,7 @@ use Rattle.rip_check.specs.declared.way.Way.TheVariants.{Over}
 use Rattle.rip_check.specs.Tables.{IsSilent, MayHoldBack, MayShow, IsAsTold}
 use Rattle.rip_check.specs.Firsts.{IsShownBelow}
 use Rattle.rip_check.specs.declared.surveys.Survey.{Survey}
-use Rattle.rip_check.specs.Surveys.{IsSilence, IsSpeech, IsSurvey, IsTelling, IsTold}
+use Rattle.rip_check.specs.Surveys.{IsSilence, IsSpeech, IsSurvey, IsTelling, IsShownThere}
 use Rattle.rip_check.proofs.Owned.{its_link}
 use Rattle.rip_check.proofs.Rows.{not_silent}
 use Rattle.rip_check.specs.Metrics.{metric_at}
@@ -97,10 +97,10 @@ module _ (n : Network) (shown : State) (r p i l c : ℕ) (its : IsInterface n i 
     more_telling old on next d was (inl h) = record { some = λ t. was.some h.0; none = λ t. absurd (let e : true ≡ false = sym h.1 ∙ t in cc e) }
     more_telling old on next d was (inr h) = record { some = some; none = none }
       where
-        some : next ≡ true → (j : ℕ) × IsTold n shown r p j
+        some : next ≡ true → (j : ℕ) × IsShownThere n shown r p j
         some t = (i, record { metric = m; below = record { link = l; cost = c; its = its; shows = shows; below = less }; attached = d.0 (sym h.1 ∙ t) })
 
-        none : next ≡ false → (j : ℕ) → j < i + 1 → IsTold n shown r p j → ⊥
+        none : next ≡ false → (j : ℕ) → j < i + 1 → IsShownThere n shown r p j → ⊥
         none t j lt told =
             elim (cases_lt j i) [
               | inl sooner ↦ was.none h.0 j sooner told
@@ -128,7 +128,7 @@ module _ (n : Network) (shown : State) (r p i l c : ℕ) (its : IsInterface n i 
     pub no_telling : (not_here : Bool) → IsTelling n shown r p i not_here → IsTelling n shown r p (i + 1) not_here
     no_telling not_here was = record { some = was.some; none = none }
       where
-        none : not_here ≡ false → (j : ℕ) → j < i + 1 → IsTold n shown r p j → ⊥
+        none : not_here ≡ false → (j : ℕ) → j < i + 1 → IsShownThere n shown r p j → ⊥
         none t j lt told =
             elim (cases_lt j i) [
               | inl sooner ↦ was.none t j sooner told

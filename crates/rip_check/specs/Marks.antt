@@ -1,5 +1,5 @@
 -- What is kept of all places that do not hold.
-use Rattle.std.specs.Prelude.{◌≡◌, ℕ, ◌+◌, ◌*◌, ◌≤◌, ◌<◌, length, slice_index}
+use Rattle.std.specs.Prelude.{◌≡◌, ℕ, ◌+◌, ◌*◌, ◌≤◌, ◌<◌, Option, None, IfNone, IfSome, length, slice_index_or}
 use Rattle.rip_plan.specs.Network.{Network}
 use Rattle.rip_table.specs.State.{State}
 use Rattle.rip_check.specs.Tables.{Route, FitsShown}
@@ -14,14 +14,13 @@ pub record IsUnmet (n : Network) (shown : State) (r p v : ℕ) : Type 0 where
   pub fails : Holds n shown r p route → ⊥
   pub equation : IsLeastChoice n shown r p v
 
--- 0 where the place holds or can't be read, else what the equation gives
-pub record IsMark (n : Network) (shown : State) (r p mark : ℕ) : Type 0 where
-  pub most : mark ≤ 16
-  pub sound : mark ≡ 0 → IsSound n shown r p
-  pub fails : 1 ≤ mark → IsUnmet n shown r p mark
+-- nothing where the place holds or can't be read, else what the equation gives
+pub record IsMark (n : Network) (shown : State) (r p : ℕ) (mark : Option ℕ) : Type 0 where
+  pub sound : IfNone mark (IsSound n shown r p)
+  pub fails : IfSome mark (λ v. (1 ≤ v) × (v ≤ 16) × IsUnmet n shown r p v)
 
 -- these are the places of this plan and this table that do not hold
 pub record AreUnsettled (n : Network) (s : State) (unsettled : Unsettled) : Type 0 where
   pub size : length unsettled.marks.items ≡ length n.routers * length s.prefixes
   pub marks : (r p : ℕ) → r < length n.routers → p < length s.prefixes
-      → IsMark n s r p (slice_index unsettled.marks.items (r * length s.prefixes + p))
+      → IsMark n s r p (slice_index_or unsettled.marks.items (r * length s.prefixes + p) None)

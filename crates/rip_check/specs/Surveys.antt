@@ -40,7 +40,7 @@ pub record IsSilence
       → IsSilent (metric_at shown i p) → (silent ≡ Some l) × (metric_at shown i p ≡ Some 16)
 
 -- interface i of router r shows a metric below 16 on the link to which prefix p is attached
-pub record IsTold (n : Network) (shown : State) (r p i : ℕ) : Type 0 where
+pub record IsShownThere (n : Network) (shown : State) (r p i : ℕ) : Type 0 where
   pub metric : ℕ
   pub below : IsShownBelow n shown r p i metric
   pub attached : IsAttached n r p below.link
@@ -50,8 +50,8 @@ pub record IsTold (n : Network) (shown : State) (r p i : ℕ) : Type 0 where
 pub record IsTelling
     (n : Network) (shown : State) (r p bound : ℕ) (not_here : Bool)
     : Type 0 where
-  pub some : not_here ≡ true → (i : ℕ) × IsTold n shown r p i
-  pub none : not_here ≡ false → (i : ℕ) → i < bound → IsTold n shown r p i → ⊥
+  pub some : not_here ≡ true → (i : ℕ) × IsShownThere n shown r p i
+  pub none : not_here ≡ false → (i : ℕ) → i < bound → IsShownThere n shown r p i → ⊥
 
 -- all of this
 pub record IsSurvey (n : Network) (shown : State) (r p bound : ℕ) (found : Survey) : Type 0 where

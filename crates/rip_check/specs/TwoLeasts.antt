@@ -11,14 +11,15 @@ use Rattle.rip_check.specs.Metrics.{metric_at}
 abbrev pub shown_of : State → ℕ → ℕ → ℕ → ℕ → ℕ
 shown_of shown p l j s = unwrap_or (metric_at shown j p) 16
 
--- a router has a prefix attached to link l
-abbrev pub is_that : ℕ → Option ℕ → Bool
-is_that l None = false
-is_that l (Some m) = m == l
+-- what is said of a link names link l
+abbrev pub is_link : ℕ → Option ℕ → Bool
+is_link l None = false
+is_link l (Some m) = m == l
 
+-- a router has a prefix attached to link l
 abbrev pub has_attached : ℕ → Option Keeping → Bool
 has_attached l None = false
-has_attached l (Some keeping) = is_that l keeping.attached
+has_attached l (Some keeping) = is_link l keeping.attached
 
 -- the metric of router s, by a list of all routers' metrics for a prefix; 16 on the link to which
 -- the router has the prefix attached, where it does not tell of it
@@ -51,3 +52,8 @@ AreTwoLeastBefore n seen bound links =
 
 abbrev pub AreTwoLeast : Network → (ℕ → ℕ → ℕ → ℕ) → List TwoLeast → Type 0
 AreTwoLeast n seen links = AreTwoLeastBefore n seen (length n.interfaces) links
+
+-- these are the two least metrics that are shown of prefix p on each link
+abbrev pub AreLeastShown : Network → State → ℕ → List TwoLeast → Type 0
+AreLeastShown n shown p links =
+    (length n.links ≤ length links) × AreTwoLeast n (shown_of shown p) links

@@ -4,14 +4,14 @@ ghost use Rattle.std.specs.Prelude.{◌≡◌, ◌↔◌, ℕ, ◌≤◌, ◌<�
 ghost use Rattle.rip_table.specs.State.{Fits};
 ghost use Rattle.rip_check.specs.Tables.{IsHeard};
 ghost use Rattle.rip_check.specs.Firsts.{IsFirstBelow, IsFirstPlace, IsFirstUnheard, IsReadable, IsFirstTrouble};
-ghost use Rattle.rip_check.specs.TwoLeasts.{AreTwoLeast, shown_of};
+ghost use Rattle.rip_check.specs.TwoLeasts.{AreLeastShown};
 ghost use Rattle.rip_check.specs.Verdicts.{IsRowFirst, IsSound, IsVerdict, ShowsTables, IsNextUnsettled, HoldsAfter, IsKnownPlace};
 ghost use Rattle.rip_check.specs.Laws.{ShowsRightTables, EachPlaceHolds};
 ghost use Rattle.rip_check.specs.Walks.{PacketsArrive};
 
 use crate::links::{NOTHING, TwoLeast, fill};
 use crate::lookup::in_range;
-use crate::places::{failing, unmet};
+use crate::places::{failing_place, unmet_equation};
 use crate::routes::{read, reason};
 use crate::verdict::{Place2, Unclear, Verdict};
 use rip_plan::{Interface, MOST_LINKS, Plan};
@@ -46,7 +46,7 @@ fn first_in_row<T: MetricTable>(
         IsSound plan.now (T.state table.now) router q) }
 {
     for prefix in from..table.prefix_count() {
-        if let Some(found) = failing(plan, table, router, prefix) {
+        if let Some(found) = failing_place(plan, table, router, prefix) {
             return Some(found);
         }
     }
@@ -98,7 +98,7 @@ fn narrow<T: MetricTable>(
 ) -> Bounds
     requires fits { Fits plan.now (T.state table.now) }
     requires prefix { prefix < length (T.state table.now).prefixes }
-    requires links { AreTwoLeast plan.now (shown_of (T.state table.now) prefix) links.now }
+    requires links { AreLeastShown plan.now (T.state table.now) prefix links.now }
     requires known { bounds.unclear ≤ length plan.now.routers }
     requires order { bounds.failing ≤ bounds.unclear }
     ensures order { result.failing ≤ result.unclear }
@@ -112,7 +112,7 @@ fn narrow<T: MetricTable>(
     in_range(plan, table);
     let mut failing = bounds.failing;
     for router in 0..bounds.unclear {
-        match read(plan, table, links, router, prefix) {
+        match read(plan, table, Some(links), router, prefix) {
             None => {
                 return Bounds {
                     unclear: router,
@@ -120,7 +120,9 @@ fn narrow<T: MetricTable>(
                 };
             }
             Some(route) => {
-                if router < failing && unmet(plan, table, links, router, prefix, route) != 0 {
+                if router < failing
+                    && unmet_equation(plan, table, Some(links), router, prefix, route).is_some()
+                {
                     failing = router;
                 }
             }
@@ -199,7 +201,7 @@ fn decide<T: MetricTable>(plan: &Plan, table: &T) -> Verdict
         return Verdict::Unclear(unclear);
     }
     if first.failing < plan.routers() {
-        let place = failing(plan, table, first.failing, first.failing_prefix);
+        let place = failing_place(plan, table, first.failing, first.failing_prefix);
         return Verdict::Unsettled(place.unwrap());
     }
     Verdict::Settled

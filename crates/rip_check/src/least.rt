@@ -62,8 +62,8 @@ fn pass(plan: &Plan, keepings: &[Keeping], links: &[TwoLeast], metrics: &mut [u8
     fell
 }
 
-/// Writes the least metric of each router for a prefix: at which the router has it itself, and then of
-/// paths of one hop more with each pass, until a pass changes nothing or no path is left.
+/// Writes the least metric of each router for a prefix. It begins with the metrics at which routers have
+/// the prefix themselves; each pass counts paths of one hop more, until one changes nothing.
 pub(crate) fn find_least(plan: &Plan, prefix: usize, metrics: &mut [u8])
     requires { length metrics.old ≡ length plan.now.routers }
     ensures { (r : ℕ) → r < length plan.now.routers →

@@ -6,7 +6,7 @@ ghost use Rattle.rip_plan.specs.Relations.{HasCost, IsDirect, IsInterface, IsKep
 ghost use Rattle.rip_table.specs.State.{Fits};
 ghost use Rattle.rip_check.specs.Settled.{IsChoice};
 ghost use Rattle.rip_check.specs.Tables.{Offers};
-ghost use Rattle.rip_check.specs.TwoLeasts.{AreTwoLeast, IsSeen, IsTwoLeast, shown_of};
+ghost use Rattle.rip_check.specs.TwoLeasts.{AreLeastShown, IsSeen, IsTwoLeast};
 
 use crate::links::TwoLeast;
 use crate::lookup::{metric_of, shown_at};
@@ -82,20 +82,20 @@ pub(crate) fn least_told(own: Interface, two: TwoLeast, best: u32) -> u32
     (u32::from(own.cost) + u32::from(shown)).min(best)
 }
 
-/// The least of `best` and of what the neighbours over the link of an interface offer. The list has
-/// the two least metrics of each link for the prefix, or ends before this link: then each neighbour is
-/// asked.
+/// The least of `best` and of what the neighbours over the link of an interface offer: by the two least
+/// metrics that are shown on each link, where they are known, or else by asking each neighbour.
 pub(crate) fn best_over<T: MetricTable>(
     plan: &Plan,
     table: &T,
-    links: &[TwoLeast],
+    links: Option<&[TwoLeast]>,
     own: Interface,
     prefix: usize,
     best: u32,
 ) -> u32
     requires fits { Fits plan.now (T.state table.now) }
     requires prefix { prefix < length (T.state table.now).prefixes }
-    requires links { AreTwoLeast plan.now (shown_of (T.state table.now) prefix) links.now }
+    requires links { IfSome links (λ l.
+        AreLeastShown plan.now (T.state table.now) prefix l.now) }
     requires own { HasCost plan.now own.router own.link own.cost }
     requires best { best ≤ 16 }
     ensures at_most { result ≤ best }
@@ -106,11 +106,13 @@ pub(crate) fn best_over<T: MetricTable>(
         × Offers plan.now (T.state table.now) own.router own.link s prefix result) }
 {
     plan.lawful();
-    if own.link < links.len() {
-        let two = links[own.link];
-        return least_told(own, two, best);
+    match links {
+        Some(links) => {
+            let two = links[own.link];
+            least_told(own, two, best)
+        }
+        None => least_asked(plan, table, own, prefix, best),
     }
-    least_asked(plan, table, own, prefix, best)
 }
 
 /// The metric at which a router has a prefix itself, or 16.
@@ -130,7 +132,7 @@ pub(crate) fn direct_or_16(plan: &Plan, router: usize, prefix: usize) -> u32
 pub(crate) fn least_choice<T: MetricTable>(
     plan: &Plan,
     table: &T,
-    links: &[TwoLeast],
+    links: Option<&[TwoLeast]>,
     router: usize,
     prefix: usize,
     keeps: bool,
@@ -138,7 +140,8 @@ pub(crate) fn least_choice<T: MetricTable>(
     requires fits { Fits plan.now (T.state table.now) }
     requires router { router < length plan.now.routers }
     requires prefix { prefix < length (T.state table.now).prefixes }
-    requires links { AreTwoLeast plan.now (shown_of (T.state table.now) prefix) links.now }
+    requires links { IfSome links (λ l.
+        AreLeastShown plan.now (T.state table.now) prefix l.now) }
     requires keeps { Decides keeps (IsKept plan.now router prefix) }
     ensures most { result ≤ 16 }
     ensures chosen { IsChoice plan.now (T.state table.now) router prefix result }

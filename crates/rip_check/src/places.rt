@@ -5,7 +5,7 @@ ghost use Rattle.rip_plan.specs.Relations.{IsDirect, IsKept};
 ghost use Rattle.rip_table.specs.State.{Fits};
 ghost use Rattle.rip_check.specs.Settled.{Holds, IsChoice, IsGiven, IsLeastChoice};
 ghost use Rattle.rip_check.specs.Tables.{IsOnlyRoute, FitsShown, FitsWay, Offers};
-ghost use Rattle.rip_check.specs.TwoLeasts.{AreTwoLeast, shown_of};
+ghost use Rattle.rip_check.specs.TwoLeasts.{AreLeastShown};
 ghost use Rattle.rip_check.specs.Verdicts.{IsFailing, IsSound, route_of, IsHidden};
 ghost use Rattle.rip_check.specs.Firsts.{IsReadable, IsReason};
 
@@ -29,12 +29,12 @@ pub(crate) fn is_direct(plan: &Plan, router: usize, prefix: usize, metric: u32) 
     }
 }
 
-/// Whether a neighbour over the link offers a router that does not keep the prefix a metric that is no
-/// more than any choice of the router.
+/// Whether a neighbour on the link offers this metric, the least choice of a router that does not keep
+/// the prefix.
 fn is_offered<T: MetricTable>(
     plan: &Plan,
     table: &T,
-    links: &[TwoLeast],
+    links: Option<&[TwoLeast]>,
     router: usize,
     prefix: usize,
     metric: u32,
@@ -43,7 +43,8 @@ fn is_offered<T: MetricTable>(
     requires fits { Fits plan.now (T.state table.now) }
     requires router { router < length plan.now.routers }
     requires prefix { prefix < length (T.state table.now).prefixes }
-    requires links { AreTwoLeast plan.now (shown_of (T.state table.now) prefix) links.now }
+    requires links { IfSome links (λ l.
+        AreLeastShown plan.now (T.state table.now) prefix l.now) }
     requires takes { IsKept plan.now router prefix → ⊥ }
     requires small { metric < 16 }
     requires least { (v : ℕ) → IsChoice plan.now (T.state table.now) router prefix v →
@@ -61,11 +62,11 @@ fn is_offered<T: MetricTable>(
     false
 }
 
-/// Whether the way of a route gives its metric, which is no more than any choice of the router.
+/// Whether the way of a route gives its metric, which is the least choice of the router.
 fn is_given<T: MetricTable>(
     plan: &Plan,
     table: &T,
-    links: &[TwoLeast],
+    links: Option<&[TwoLeast]>,
     router: usize,
     prefix: usize,
     keeps: bool,
@@ -74,7 +75,8 @@ fn is_given<T: MetricTable>(
     requires fits { Fits plan.now (T.state table.now) }
     requires router { router < length plan.now.routers }
     requires prefix { prefix < length (T.state table.now).prefixes }
-    requires links { AreTwoLeast plan.now (shown_of (T.state table.now) prefix) links.now }
+    requires links { IfSome links (λ l.
+        AreLeastShown plan.now (T.state table.now) prefix l.now) }
     requires keeps { Decides keeps (IsKept plan.now router prefix) }
     requires way { FitsWay plan.now router prefix route.metric route.way }
     requires least { (v : ℕ) → IsChoice plan.now (T.state table.now) router prefix v →
@@ -91,36 +93,35 @@ fn is_given<T: MetricTable>(
     }
 }
 
-/// What the equation of a place gives where the route that was read there fails, or 0 where it
-/// holds.
-pub(crate) fn unmet<T: MetricTable>(
+/// What the equation of a place gives, if the route that was read there does not hold.
+pub(crate) fn unmet_equation<T: MetricTable>(
     plan: &Plan,
     table: &T,
-    links: &[TwoLeast],
+    links: Option<&[TwoLeast]>,
     router: usize,
     prefix: usize,
     route: Reading,
-) -> u32
+) -> Option<u32>
     requires fits { Fits plan.now (T.state table.now) }
     requires router { router < length plan.now.routers }
     requires prefix { prefix < length (T.state table.now).prefixes }
-    requires links { AreTwoLeast plan.now (shown_of (T.state table.now) prefix) links.now }
+    requires links { IfSome links (λ l.
+        AreLeastShown plan.now (T.state table.now) prefix l.now) }
     requires route { FitsShown plan.now (T.state table.now) router prefix (route_of route) }
-    ensures most { result ≤ 16 }
-    ensures holds { result ≡ 0 → Holds plan.now (T.state table.now) router prefix
-        (route_of route) }
-    ensures fails { 1 ≤ result → Holds plan.now (T.state table.now) router prefix
-        (route_of route) → ⊥ }
-    ensures equation { 1 ≤ result →
-        IsLeastChoice plan.now (T.state table.now) router prefix result }
+    ensures holds { IfNone result
+        (Holds plan.now (T.state table.now) router prefix (route_of route)) }
+    ensures fails { IfSome result
+        (λ _. Holds plan.now (T.state table.now) router prefix (route_of route) → ⊥) }
+    ensures equation { IfSome result (λ v. (1 ≤ v) × (v ≤ 16)
+        × IsLeastChoice plan.now (T.state table.now) router prefix v) }
 {
     plan.lawful();
     let keeps = plan.keeps(router, prefix);
     let equation = least_choice(plan, table, links, router, prefix, keeps);
     if route.metric == equation && is_given(plan, table, links, router, prefix, keeps, route) {
-        return 0;
+        return None;
     }
-    equation
+    Some(equation)
 }
 
 /// A place with its values.
@@ -146,8 +147,8 @@ pub(crate) fn place_of(router: usize, prefix: usize, route: Reading, equation: u
     }
 }
 
-/// A place with its values, where its route can be read and does not hold.
-pub(crate) fn failing<T: MetricTable>(
+/// A place with its values, if its route can be read and does not hold.
+pub(crate) fn failing_place<T: MetricTable>(
     plan: &Plan,
     table: &T,
     router: usize,
@@ -162,15 +163,12 @@ pub(crate) fn failing<T: MetricTable>(
 {
     plan.lawful();
     in_range(plan, table);
-    match read(plan, table, &[], router, prefix) {
+    let Some(route) = read(plan, table, None, router, prefix) else {
+        return None;
+    };
+    match unmet_equation(plan, table, None, router, prefix, route) {
+        Some(equation) => Some(place_of(router, prefix, route, equation)),
         None => None,
-        Some(route) => {
-            let equation = unmet(plan, table, &[], router, prefix, route);
-            if equation == 0 {
-                return None;
-            }
-            Some(place_of(router, prefix, route, equation))
-        }
     }
 }
 
@@ -198,7 +196,7 @@ pub fn route<T: MetricTable>(
 {
     plan.lawful();
     in_range(plan, table);
-    match read(plan, table, &[], router, prefix) {
+    match read(plan, table, None, router, prefix) {
         None => Err(reason(plan, table, router, prefix)),
         Some(route) => Ok(Route {
             metric: metric_of(route.metric),
@@ -218,5 +216,5 @@ pub fn equation<T: MetricTable>(plan: &Plan, table: &T, router: usize, prefix: u
 {
     plan.lawful();
     let keeps = plan.keeps(router, prefix);
-    metric_of(least_choice(plan, table, &[], router, prefix, keeps))
+    metric_of(least_choice(plan, table, None, router, prefix, keeps))
 }

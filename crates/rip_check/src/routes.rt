@@ -5,7 +5,7 @@ ghost use Rattle.rip_plan.specs.Relations.{HasTwoInterfaces, IsLeaf};
 ghost use Rattle.rip_table.specs.State.{Fits};
 ghost use Rattle.rip_check.specs.Firsts.{IsFirstGap, IsReadable, IsReason, ShowsEach};
 ghost use Rattle.rip_check.specs.Tables.{FitsShown, IsOnlyRoute, Route as TableRoute, Tells};
-ghost use Rattle.rip_check.specs.TwoLeasts.{AreTwoLeast, shown_of};
+ghost use Rattle.rip_check.specs.TwoLeasts.{AreLeastShown};
 ghost use Rattle.rip_check.specs.Verdicts.{IsHidden};
 
 use crate::links::TwoLeast;
@@ -141,14 +141,15 @@ pub(crate) fn reason<T: MetricTable>(
 fn leaf_route<T: MetricTable>(
     plan: &Plan,
     table: &T,
-    links: &[TwoLeast],
+    links: Option<&[TwoLeast]>,
     router: usize,
     prefix: usize,
 ) -> Option<Reading>
     requires fits { Fits plan.now (T.state table.now) }
     requires router { router < length plan.now.routers }
     requires prefix { prefix < length (T.state table.now).prefixes }
-    requires links { AreTwoLeast plan.now (shown_of (T.state table.now) prefix) links.now }
+    requires links { IfSome links (λ l.
+        AreLeastShown plan.now (T.state table.now) prefix l.now) }
     requires leaf { (i l c : ℕ) × IsLeaf plan.now router i l c }
     ensures most { IfSome result (λ t. t.metric ≤ 16) }
     ensures fits { IfSome result
@@ -204,14 +205,15 @@ fn leaf_route<T: MetricTable>(
 pub(crate) fn read<T: MetricTable>(
     plan: &Plan,
     table: &T,
-    links: &[TwoLeast],
+    links: Option<&[TwoLeast]>,
     router: usize,
     prefix: usize,
 ) -> Option<Reading>
     requires fits { Fits plan.now (T.state table.now) }
     requires router { router < length plan.now.routers }
     requires prefix { prefix < length (T.state table.now).prefixes }
-    requires links { AreTwoLeast plan.now (shown_of (T.state table.now) prefix) links.now }
+    requires links { IfSome links (λ l.
+        AreLeastShown plan.now (T.state table.now) prefix l.now) }
     ensures most { IfSome result (λ t. t.metric ≤ 16) }
     ensures fits { IfSome result
         (λ t. FitsShown plan.now (T.state table.now) router prefix

@@ -96,6 +96,7 @@ fn add_shown(
 }
 
 /// What a router shows of a prefix.
+#[inline(always)]
 pub(crate) fn survey_of<T: MetricTable>(
     plan: &Plan,
     table: &T,

@@ -1,7 +1,8 @@
 -- What is written under a verdict.
-use Rattle.std.proofs.Common.{◌≡◌, ◌≢◌, ◌⊎◌, inl, inr, ℕ, ◌<◌, ◌↔◌, Bool, false, List, Option, Some, Result, Ok, Err, get_or, length, slice_get, refl, sym, ◌∙◌, subst, arith}
+use Rattle.std.proofs.Common.{◌≡◌, ◌≢◌, ◌⊎◌, inl, inr, ℕ, zero, suc, ◌<◌, ◌↔◌, Bool, false, true, List, [], ◌∷◌, ◌++◌, Option, Some, Result, Ok, Err, get_or, length, slice_get, refl, sym, ap, ◌∙◌, append-nil, subst, arith}
 use Rattle.std.specs.Prelude.{IfOk}
-use Rattle.std.specs.List.{Contains}
+use Rattle.std.specs.List.{Contains, flat_map}
+use Rattle.std.proofs.lemmas.List.Concat.{flat_map-append}
 use Rattle.std.proofs.lemmas.List.{get_or_default}
 use Rattle.std.proofs.lemmas.List.Elements.{Contains-get_or}
 use Rattle.std.proofs.lemmas.Option.{same_Some, slice_get-get_or, slice_get_within}
@@ -12,9 +13,11 @@ use Rattle.rip_plan.specs.declared.parts.Interface.{Interface}
 use Rattle.rip_table.specs.State.{State}
 use Rattle.rip_check.specs.Metrics.{metric_at}
 use Rattle.rip_check.specs.Paths.{Hop, IsLeast, IsPath}
+use Rattle.rip_check.specs.declared.verdict.Place2.{Place2}
 use Rattle.rip_check.specs.declared.verdict.Verdict.{Verdict}
-use Rattle.rip_report.specs.AuditText.{IsJudged, a_settled as settled_verdict, an_unclear as unclear_verdict, an_unsettled as unsettled_verdict, settled_line, unclear_line, unsettled_line}
-use Rattle.rip_report.specs.ExplainText.{BeginsWithVerdict, ExplainText, a_settled, an_unclear, an_unsettled}
+use Rattle.rip_report.specs.AuditText.{AllFailing, FailingText, IsJudged, UnsettledLine, fails, holds, a_settled as settled_verdict, an_unclear as unclear_verdict, an_unsettled as unsettled_verdict, settled_line, unclear_line, unsettled_line}
+use Rattle.rip_report.specs.ExplainText.{BeginsWithVerdict, ExplainText, Explains, ExplainsAll, PlaceLines, a_settled, an_unclear, an_unsettled}
+use Rattle.rip_report.specs.Listings.{TextsBelow}
 use Rattle.rip_report.specs.Sent.{WentOut}
 use Rattle.rip_report.specs.Written.{Written}
 use Rattle.rip_report.specs.declared.status.RunError.{RunError}
@@ -77,3 +80,48 @@ begins_out n s all a b (Ok status) off h =
     let text : ExplainText n s false (record { text = h.0; status = status }) = rw off at h.1 in
     (h.0, begins n s (record { text = h.0; status = status }) text, h.2)
 begins_out n s all a b (Err e) off h = tt
+
+-- texts of numbers, and what explains them, one after the other
+explains_more : (n : Network) (s : State) (a b c d : List ℕ) → Explains n s a b → Explains n s c d → Explains n s (a ++ c) (b ++ d)
+explains_more n s a b c d x y = (
+  x.0 ++ y.0,
+  ap2 x.1 y.1 ∙ sym (flat_map-append (λ (f : Place2 × List ℕ). unsettled_line n s f.0) x.0 y.0),
+  ap2 x.2 y.2 ∙ sym (flat_map-append (λ (f : Place2 × List ℕ). unsettled_line n s f.0 ++ f.1) x.0 y.0),
+)
+  where
+    ap2 : {p q r t : List ℕ} → p ≡ q → r ≡ t → p ++ r ≡ q ++ t
+    ap2 {p} {q} {r} {t} e f = ap (λ l. l ++ r) e ∙ ap (λ l. q ++ l) f
+
+explains_below : (n : Network) (s : State) (IsText IsLine : ℕ → List ℕ → Type 0) → ((k : ℕ) (text : List ℕ) → IsText k text → (line : List ℕ) × IsLine k line × Explains n s line text)
+    → (k : ℕ) (text : List ℕ) → TextsBelow IsText k text → (lines : List ℕ) × TextsBelow IsLine k lines × Explains n s lines text
+explains_below n s IsText IsLine each zero text e = ([], refl, ([], refl, e))
+explains_below n s IsText IsLine each (suc k) text h =
+    let (front, part, below, is, whole) = h in
+    let before = explains_below n s IsText IsLine each k front below in
+    let here = each k part is in
+    let more = explains_more n s before.0 front here.0 part before.2 here.2 in
+    (before.0 ++ here.0, (before.0, here.0, before.1, here.1, refl), (more.0, more.1, whole ∙ more.2))
+
+explains_place : (n : Network) (s : State) (r p : ℕ) (text : List ℕ) → FailingText n s (PlaceLines n s) r p text → (line : List ℕ) × FailingText n s (UnsettledLine n s) r p line × Explains n s line text
+explains_place n s r p text (fails f same router prefix failing lines) =
+    let line = unsettled_line n s f in
+    (line, fails f line router prefix failing refl, ((f, _) ∷ [], sym (append-nil line), lines.whole ∙ sym (append-nil _)))
+explains_place n s r p text (holds sound) = ([], holds sound, ([], refl, refl))
+
+-- the lines of all places that fail, and what explains them
+explains_all : (n : Network) (s : State) (text : List ℕ) → AllFailing n s (PlaceLines n s) text → (lines : List ℕ) × AllFailing n s (UnsettledLine n s) lines × Explains n s lines text
+explains_all n s text h =
+    explains_below n s (λ r. TextsBelow (FailingText n s (PlaceLines n s) r) (length s.prefixes)) (λ r. TextsBelow (FailingText n s (UnsettledLine n s) r) (length s.prefixes))
+    (λ r. explains_below n s (FailingText n s (PlaceLines n s) r) (FailingText n s (UnsettledLine n s) r) (explains_place n s r) (length s.prefixes)) (length n.routers) text h
+
+explains_each : (n : Network) (s : State) (w : Written) → ExplainText n s true w → ExplainsAll n s w
+explains_each n s w (a_settled lines right under) = λ e. absurd cc
+explains_each n s w (an_unclear trouble text first h) = λ e. absurd cc
+explains_each n s w (an_unsettled f text shows first h) = λ e. let all = explains_all n s text h in (all.0, unsettled_verdict f all.0 shows first all.1, all.2)
+
+-- a run with `all` has written a text with the lines of `audit --all`
+pub explains_out : (n : Network) (s : State) (all : Bool) (a b : Option (List ℕ)) (outcome : Result Status RunError) → all ≡ true → IfOk outcome (WentOut (ExplainText n s all) a b) → IfOk outcome (WentOut (ExplainsAll n s) a b)
+explains_out n s all a b (Ok status) on h =
+    let text : ExplainText n s true (record { text = h.0; status = status }) = rw on at h.1 in
+    (h.0, explains_each n s (record { text = h.0; status = status }) text, h.2)
+explains_out n s all a b (Err e) on h = tt

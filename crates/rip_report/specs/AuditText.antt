@@ -9,13 +9,14 @@ use Rattle.rip_check.specs.declared.verdict.Verdict.{Verdict}
 use Rattle.rip_check.specs.declared.verdict.Verdict.TheVariants as verdicts
 use Rattle.rip_check.specs.declared.way.Way.{Way}
 use Rattle.rip_check.specs.declared.way.Way.TheVariants.{Unreachable, Here, Over}
+use Rattle.rip_report.specs.Listings.{TextsOfPairs}
 use Rattle.rip_report.specs.Names.{IsKnownWay, counts_part, name_of, prefix_name}
 use Rattle.rip_report.specs.ReportText.{ReportText}
 use Rattle.rip_report.specs.Written.{Written, line}
 use Rattle.rip_report.specs.declared.status.Status.{Status}
 use Rattle.rip_report.specs.declared.status.Status.TheVariants.{Settled, Unsettled, Unclear as IsUnclear}
 use Rattle.rip_check.specs.Laws.{ShowsRightTables}
-use Rattle.rip_check.specs.Verdicts.{ShowsTables, IsNextUnsettled, HoldsAfter}
+use Rattle.rip_check.specs.Verdicts.{IsFailing, IsNextUnsettled, IsSound, ShowsTables}
 use Rattle.rip_check.specs.Firsts.{IsFirstTrouble}
 use Rattle.rip_check.specs.Settled.{IsPlainRight}
 use Rattle.rip_check.specs.Tables.{Shows, Tables}
@@ -132,17 +133,25 @@ unclear_line n s trouble = line (codes "unclear: " ++ trouble_part n s trouble)
 
 -- ---- Texts
 
--- one line for each place after the given one that can be read and does not hold, in order
-pub data AllUnsettled (n : Network) (s : State) : Option (ℕ × ℕ) → List ℕ → Type 0 where
-  no_more : (after : Option (ℕ × ℕ)) → HoldsAfter n s after → AllUnsettled n s after []
-  one_more : (after : Option (ℕ × ℕ)) (f : Place2) (rest : List ℕ) → IsNextUnsettled n s after f
-      → AllUnsettled n s (Some (f.router, f.prefix)) rest
-      → AllUnsettled n s after (unsettled_line n s f ++ rest)
+-- what is written of router r and prefix p: a text of the place there, if it fails
+pub data FailingText (n : Network) (s : State) (IsText : Place2 → List ℕ → Type 0) (r p : ℕ)
+    : List ℕ → Type 0 where
+  fails : (f : Place2) (text : List ℕ) → f.router ≡ r → f.prefix ≡ p → IsFailing n s f
+      → IsText f text → FailingText n s IsText r p text
+  holds : IsSound n s r p → FailingText n s IsText r p []
+
+-- a text of each place that fails, router by router and prefix by prefix
+abbrev pub AllFailing : Network → State → (Place2 → List ℕ → Type 0) → List ℕ → Type 0
+AllFailing n s IsText = TextsOfPairs (FailingText n s IsText) (length n.routers) (length s.prefixes)
+
+-- the line of a place that fails
+abbrev pub UnsettledLine : Network → State → Place2 → List ℕ → Type 0
+UnsettledLine n s f text = text ≡ unsettled_line n s f
 
 -- the lines of an unsettled network: that of its first failing place, or those of all
 abbrev pub UnsettledLines : Network → State → Bool → Place2 → List ℕ → Type 0
-UnsettledLines n s true f text = AllUnsettled n s None text
-UnsettledLines n s false f text = text ≡ unsettled_line n s f
+UnsettledLines n s true f = AllFailing n s (UnsettledLine n s)
+UnsettledLines n s false f = UnsettledLine n s f
 
 -- what is written of a table
 pub data VerdictText (n : Network) (s : State) (all : Bool) : Written → Type 0 where

@@ -1,5 +1,6 @@
 -- What `explain` prints.
 use Rattle.std.specs.Prelude.{◌≡◌, ℕ, ◌<◌, nat_lt, Bool, true, false, if◌then◌else◌, IsTrue, List, [], ◌++◌, length, codes, decimal, Decides, Option, None, Some, slice_get}
+use Rattle.std.specs.List.{flat_map}
 use Rattle.rip_plan.specs.Network.{Network, is_of, is_on, numbers_where}
 use Rattle.rip_plan.specs.Relations.{IsDirect, IsInterface, IsKept}
 use Rattle.rip_plan.specs.declared.parts.Interface.{Interface}
@@ -9,11 +10,11 @@ use Rattle.rip_check.specs.Laws.{ShowsRightTables}
 use Rattle.rip_check.specs.Metrics.{metric_at}
 use Rattle.rip_check.specs.Paths.{IsLeast}
 use Rattle.rip_check.specs.Tables.{Offers, Route}
-use Rattle.rip_check.specs.Verdicts.{IsFailing, IsNextUnsettled, IsSound, ShowsTables}
+use Rattle.rip_check.specs.Verdicts.{IsNextUnsettled, ShowsTables}
 use Rattle.rip_check.specs.declared.verdict.Place2.{Place2}
 use Rattle.rip_check.specs.declared.verdict.Unclear.{Unclear}
 use Rattle.rip_check.specs.declared.verdict.Unclear.TheVariants.{NotHeard, TwoMetrics, Missing, ShownOn, TwoWays}
-use Rattle.rip_report.specs.AuditText.{VerdictText, settled_line, unclear_line, unsettled_line}
+use Rattle.rip_report.specs.AuditText.{AllFailing, VerdictText, settled_line, unclear_line, unsettled_line}
 use Rattle.rip_report.specs.Listings.{TextsBelow, TextsOf, TextsOfPairs}
 use Rattle.rip_report.specs.Names.{name_of, prefix_name}
 use Rattle.rip_report.specs.RoutesText.{read_part}
@@ -132,12 +133,6 @@ pub record PlaceLines (n : Network) (s : State) (f : Place2) (text : List ℕ) :
       ++ (reading_line n (record { metric = f.metric; way = f.way }) f.hidden
       ++ (direct ++ (offers ++ least_line n f.prefix least))))
 
--- the lines of router r and prefix p, where they do not hold
-pub data UnsoundLines (n : Network) (s : State) (r p : ℕ) : List ℕ → Type 0 where
-  fails : (f : Place2) (text : List ℕ) → f.router ≡ r → f.prefix ≡ p → IsFailing n s f
-      → PlaceLines n s f text → UnsoundLines n s r p text
-  holds : IsSound n s r p → UnsoundLines n s r p []
-
 -- ---- What a trouble comes from
 
 -- the interface of a number, if it was heard
@@ -190,7 +185,7 @@ pub data UnreachableLine (n : Network) (s : State) (r p : ℕ) : List ℕ → Ty
 
 -- an unsettled network: its first place that does not hold, or all of them
 abbrev pub UnsettledText : Network → State → Bool → Place2 → List ℕ → Type 0
-UnsettledText n s true f = TextsOfPairs (UnsoundLines n s) (length n.routers) (length s.prefixes)
+UnsettledText n s true f = AllFailing n s (PlaceLines n s)
 UnsettledText n s false f = PlaceLines n s f
 
 -- all places of which no route can be read
@@ -227,3 +222,16 @@ abbrev pub BeginsWithVerdict : Network → State → Written → Type 0
 BeginsWithVerdict n s w =
     (verdict rest : List ℕ) × VerdictText n s false (record { text = verdict; status = w.status })
     × (w.text ≡ verdict ++ rest)
+
+-- these lines are those of some places, and the text has each of them with what comes under it
+abbrev pub Explains : Network → State → List ℕ → List ℕ → Type 0
+Explains n s lines text =
+    (places : List (Place2 × List ℕ)) × (lines ≡ flat_map (λ f. unsettled_line n s f.0) places)
+    × (text ≡ flat_map (λ f. unsettled_line n s f.0 ++ f.1) places)
+
+-- of an unsettled network a text with the lines of `audit --all`, and what comes under each
+abbrev pub ExplainsAll : Network → State → Written → Type 0
+ExplainsAll n s w =
+    w.status ≡ Unsettled
+    → (lines : List ℕ) × VerdictText n s true (record { text = lines; status = Unsettled })
+    × Explains n s lines w.text

@@ -10,15 +10,16 @@ ghost use Rattle.rip_plan.specs.declared.error.PlanError.{PlanError};
 ghost use Rattle.rip_table.specs.State.{Fits, State};
 ghost use Rattle.rip_check.specs.Marks.{AreUnsettled};
 ghost use Rattle.rip_check.specs.Verdicts.{IsVerdict, IsNextUnsettled};
-ghost use Rattle.rip_report.specs.AuditText.{AllUnsettled, AreKnown, AuditText, IsJudged, ShowsPlainRightTables, UnsettledLines, VerdictText, unsettled_line, verdict_status};
-ghost use Rattle.rip_report.specs.Held.{held};
+ghost use Rattle.rip_report.specs.AuditText.{AllFailing, AuditText, FailingText, IsJudged, ShowsPlainRightTables, UnsettledLine, UnsettledLines, VerdictText, unsettled_line, verdict_status};
 ghost use Rattle.rip_report.specs.PlanText.{IsNoText};
 ghost use Rattle.rip_report.specs.ReportText.{IsAccepted};
 ghost use Rattle.rip_report.specs.Sent.{Prints, Reads, WentOut, Writes};
 ghost use Rattle.rip_check.specs.Laws.{OneIsShown, ShowsRightTables};
 ghost use Rattle.rip_check.specs.Walks.{PacketsArrive};
 
-use crate::output::{Page, finish, write_all};
+use crate::each::{PairText, add_pairs};
+use crate::listing::Listing;
+use crate::output::{finish, write_all};
 use crate::report::{Report, run_report};
 use crate::status::{RunError, Status};
 use lines::{settled_text, unclear_text, unsettled_text};
@@ -31,51 +32,28 @@ use rip_table::MetricTable;
 use std::alloc::{AllocError, Global};
 use std::hash::BuildHasher;
 
-/// Adds the line of a place to a page, unless a write before has failed.
-fn write_unsettled_line<T: MetricTable, K: Sink>(
-    before: Result<(), Failed>,
-    page: &mut Page,
-    plan: &Plan,
-    table: &T,
-    place: &Place2,
-    out: &mut K,
-) -> Result<(), Failed>
-    requires { AreKnown plan.now (T.state table.now) place.now }
-    ensures writes { is_err before ≡ false →
-        Writes K.taken K.broken out.old out.new result
-        (held page.old ++ unsettled_line plan.now (T.state table.now) place.now) (held page.new) }
-    ensures kept { is_err before ≡ true → (is_err result ≡ true)
-        × (K.taken out.new ≡ K.taken out.old) × (K.broken out.new ≡ K.broken out.old) }
-{
-    before?;
-    page.write(out, unsettled_text(plan, table, place).as_bytes())
-}
+impl PairText for Unsettled {
+    ghost fits = { λ places n s. AreUnsettled n s places };
 
-/// Writes the lines of all places that do not hold. After a failed write the others are gone through
-/// unwritten, so that what went out is a beginning of the lines of all.
-fn write_unsettled_lines<T: MetricTable, K: Sink>(
-    page: &mut Page,
-    plan: &Plan,
-    table: &T,
-    places: &Unsettled,
-    out: &mut K,
-) -> Result<(), Failed>
-    requires fits { Fits plan.now (T.state table.now) }
-    requires places { AreUnsettled plan.now (T.state table.now) places.now }
-    ensures { (text : List ℕ) × AllUnsettled plan.now (T.state table.now) None text
-        × Writes K.taken K.broken out.old out.new result (held page.old ++ text) (held page.new) }
-{
-    plan.lawful();
-    let mut wrote = Ok(());
-    let mut after = None;
-    'places: while let Some(place) = places.next(plan, table, after) {
-        wrote = write_unsettled_line(wrote, page, plan, table, &place, out);
-        after = Some((place.router, place.prefix));
+    ghost is_text = { λ _ n s. FailingText n s (UnsettledLine n s) };
+
+    fn add<T: MetricTable, K: Sink>(
+        &self,
+        listing: &mut Listing,
+        plan: &Plan,
+        table: &T,
+        router: usize,
+        prefix: usize,
+        out: &mut K,
+    ) {
+        plan.lawful();
+        if let Some(place) = self.at(plan, table, router, prefix) {
+            listing.add(&unsettled_text(plan, table, &place), out);
+        }
     }
-    wrote
 }
 
-/// Writes the lines of all places that do not hold, to the last byte.
+/// Writes the lines of all places that do not hold.
 fn write_each<T: MetricTable, K: Sink>(
     plan: &Plan,
     table: &T,
@@ -84,12 +62,13 @@ fn write_each<T: MetricTable, K: Sink>(
 ) -> Result<(), Failed>
     requires fits { Fits plan.now (T.state table.now) }
     requires places { AreUnsettled plan.now (T.state table.now) places.now }
-    ensures { (text : List ℕ) × AllUnsettled plan.now (T.state table.now) None text
+    ensures { (text : List ℕ)
+        × AllFailing plan.now (T.state table.now) (UnsettledLine plan.now (T.state table.now)) text
         × Writes K.taken K.broken out.old out.new result text [] }
 {
-    let mut page = Page::new();
-    write_unsettled_lines(&mut page, plan, table, places, out)?;
-    page.flush(out)
+    let mut listing = Listing::new();
+    add_pairs(places, &mut listing, plan, table, out);
+    listing.finish(out)
 }
 
 /// Writes the line of the first place that does not hold.

@@ -15,7 +15,7 @@ ghost use Rattle.rip_check.specs.Laws.{ShowsRightTables};
 ghost use Rattle.rip_check.specs.Verdicts.{IsNextUnsettled, ShowsTables};
 ghost use Rattle.rip_check.specs.Walks.{PacketsArrive};
 ghost use Rattle.rip_report.specs.AuditText.{IsJudged};
-ghost use Rattle.rip_report.specs.ExplainText.{BeginsWithVerdict, ExplainText, UnreachableLine};
+ghost use Rattle.rip_report.specs.ExplainText.{BeginsWithVerdict, ExplainText, ExplainsAll, UnreachableLine};
 ghost use Rattle.rip_report.specs.PlanText.{IsNoText};
 ghost use Rattle.rip_report.specs.ReportText.{IsAccepted, ReportText};
 ghost use Rattle.rip_report.specs.Sent.{Prints, Reads, WentOut};
@@ -27,7 +27,7 @@ use crate::output::finish;
 use crate::report::{Report, run_report};
 use crate::status::{RunError, Status};
 use lines::unreachable_text;
-use places::{Unsound, add_place};
+use places::{FailingPlaces, add_place};
 use rip_check::{Expected, Place2, Unclear, Unsettled, Verdict, judge, least_metric};
 use rip_log::{Sink, Source};
 use rip_plan::Plan;
@@ -126,13 +126,8 @@ fn explain_places<T: MetricTable, K: Sink>(
         return Err(RunError::Memory);
     };
     let mut listing = Listing::new();
-    add_pairs(
-        &Unsound { places, expected },
-        &mut listing,
-        plan,
-        table,
-        out,
-    );
+    let failing = FailingPlaces { places, expected };
+    add_pairs(&failing, &mut listing, plan, table, out);
     finish(listing.finish(out), Status::Unsettled)
 }
 
@@ -248,6 +243,10 @@ pub fn run_explain<R: Source, K: Sink, S: BuildHasher + Drop>(
     ensures verdict { all ≡ false → (n : Network) (s : State) →
         IsAccepted plan.now (R.coming log) n s →
         IfOk result.1 (WentOut (BeginsWithVerdict n s) (K.taken out.old) (K.taken out.new)) }
+    // With `all` the places that do not hold are those that `audit` names with `all`.
+    ensures places { all ≡ true → (n : Network) (s : State) →
+        IsAccepted plan.now (R.coming log) n s →
+        IfOk result.1 (WentOut (ExplainsAll n s) (K.taken out.old) (K.taken out.new)) }
     // The whole text went out, or a beginning where the sink failed, or nothing.
     ensures prints { Prints K.taken K.broken out.old out.new result.1
         (ReportText (λ n s. ExplainText n s all) plan.now (R.coming log)) }

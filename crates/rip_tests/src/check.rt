@@ -182,39 +182,21 @@ fn expect_on<T: MetricTable>(rt: &impl Abort, plan: &Plan, table: &T, verdict: &
     }
 }
 
-/// Expects from `Unsettled` the places of `next_unsettled`, from the start and after each place.
-fn expect_same_places<T: MetricTable>(rt: &impl Abort, alloc: Global, plan: &Plan, table: &T)
-    requires { Fits plan.now (T.state table.now) }
-{
-    let Ok(unsettled) = Unsettled::find(alloc, plan, table) else {
-        panic!(rt; "no memory");
-    };
-    let first = unsettled.next(plan, table, None);
-    assert_eq!(rt; first, next_unsettled(plan, table, None));
-    for router in 0..plan.routers() {
-        for prefix in 0..table.prefix_count() {
-            let after = Some((router, prefix));
-            let next = unsettled.next(plan, table, after);
-            assert_eq!(rt; next, next_unsettled(plan, table, after));
-        }
-    }
-}
-
-/// Expects from `Unsettled::at` exactly the places that `next` answers one after the other.
+/// Expects from `Unsettled::at` exactly the places that `next_unsettled` answers one after the other.
 fn expect_at_each<T: MetricTable>(rt: &impl Abort, alloc: Global, plan: &Plan, table: &T)
     requires { Fits plan.now (T.state table.now) }
 {
     let Ok(unsettled) = Unsettled::find(alloc, plan, table) else {
         panic!(rt; "no memory");
     };
-    let mut next = unsettled.next(plan, table, None);
+    let mut next = next_unsettled(plan, table, None);
     for router in 0..plan.routers() {
         for prefix in 0..table.prefix_count() {
             let at = unsettled.at(plan, table, router, prefix);
             let due = next.is_some_and(|place| place.router == router && place.prefix == prefix);
             assert_eq!(rt; at, if due { next } else { None });
             if due {
-                next = unsettled.next(plan, table, Some((router, prefix)));
+                next = next_unsettled(plan, table, Some((router, prefix)));
             }
         }
     }
@@ -225,11 +207,9 @@ fn expect_at_each<T: MetricTable>(rt: &impl Abort, alloc: Global, plan: &Plan, t
 fn expect(rt: &impl Abort, alloc: Global, (plan, log): (&Plan, &str), verdict: &Verdict) {
     let list = list_of(rt, alloc, plan, log);
     expect_on(rt, plan, &list, verdict);
-    expect_same_places(rt, alloc, plan, &list);
     expect_at_each(rt, alloc, plan, &list);
     let grid = grid_of(rt, alloc, plan, log);
     expect_on(rt, plan, &grid, verdict);
-    expect_same_places(rt, alloc, plan, &grid);
 }
 
 /// A place that fails: its router and prefix, its metric and the least choice, and its way.

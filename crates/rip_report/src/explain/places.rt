@@ -6,8 +6,8 @@ ghost use Rattle.rip_table.specs.State.{Fits};
 ghost use Rattle.rip_check.specs.Expected.{AreExpected};
 ghost use Rattle.rip_check.specs.Marks.{AreUnsettled};
 ghost use Rattle.rip_check.specs.Paths.{IsLeast};
-ghost use Rattle.rip_report.specs.AuditText.{AreKnown};
-ghost use Rattle.rip_report.specs.ExplainText.{DirectLine, UnsoundLines, OfferLine, OfferLines, OffersOver, PlaceLines, ShownLine, ShownLines};
+ghost use Rattle.rip_report.specs.AuditText.{AreKnown, FailingText};
+ghost use Rattle.rip_report.specs.ExplainText.{DirectLine, OfferLine, OfferLines, OffersOver, PlaceLines, ShownLine, ShownLines};
 ghost use Rattle.rip_report.specs.Listings.{Adds};
 
 use crate::audit::lines::unsettled_text;
@@ -195,19 +195,19 @@ pub(crate) fn add_place<T: MetricTable, K: Sink>(
     listing.add(&least_text(plan, place.prefix, least), out);
 }
 
-/// A router and a prefix that do not hold.
+/// The places that do not hold, and what they come from.
 #[derive(Drop)]
-pub(crate) struct Unsound {
-    /// Which pairs do not hold.
+pub(crate) struct FailingPlaces {
+    /// Which places do not hold.
     pub places: Unsettled,
     /// The least metrics of the plan.
     pub expected: Expected,
 }
 
-impl PairText for Unsound {
+impl PairText for FailingPlaces {
     ghost fits = { λ texts n s. AreUnsettled n s texts.places × AreExpected n texts.expected };
 
-    ghost is_text = { λ _ n s r p. UnsoundLines n s r p };
+    ghost is_text = { λ _ n s. FailingText n s (PlaceLines n s) };
 
     fn add<T: MetricTable, K: Sink>(
         &self,

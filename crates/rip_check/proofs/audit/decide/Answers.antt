@@ -25,7 +25,7 @@ returns-then-first-routers-2 g c =
     let is = c.first_places-first.ensures in
     let clear : first.unclear ≡ length n.routers = omega (arith, c.if-first-routers.false, c.routers.ensures, is.unclear.most) in
     let known : first.failing < length n.routers = omega (arith, c.if-first-routers-2.true, c.routers-2.ensures) in
-    let place = rw c.unwrap.ensures at c.failing-place.ensures.some in (
+    let place = rw c.unwrap.ensures at c.failing_place-place.ensures.some in (
       tables_shown n c.lawful.ensures shown c.in_range.ensures c.in_default.ensures.none (is.unclear.fine clear),
       record { first = rw place.0 (rw place.1 ((is.failing clear).first known)); values = place.2 },
     )

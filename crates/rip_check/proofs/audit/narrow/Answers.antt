@@ -1,9 +1,17 @@
-use Rattle.std.proofs.Common.{ℕ, ◌<◌, below_more, length, arith}
+use Rattle.std.proofs.Common.{◌≡◌, ℕ, ◌<◌, true, false, Option, Some, None, IfSome, IfNone, is_some, below_more, length, sym, ◌∙◌, arith}
 use Rattle.rip_check.specs.Verdicts.{IsSound, route_of}
 use Rattle.rip_check.proofs.Readable.{fits_readable, one_sound, one_fails}
 use Rattle.rip_check.proofs.Picking.{none_so_far, so_far_on, so_far_first, all_so_far}
 use Rattle.rip_check.proofs.audit.narrow.Goals as goal
-use Rattle.rip_check.proofs.audit.narrow.Goals.{then-router-failing+then-unmet-ne0, else-router-failing, else-router-failing-via-then-router-failing+else-unmet-ne0, else-router-failing-via-else-router-failing}
+use Rattle.rip_check.proofs.audit.narrow.Goals.{then-router-failing+then-is_some, else-router-failing, else-router-failing-via-then-router-failing+else-is_some, else-router-failing-via-else-router-failing}
+
+some_fails : {P : Type 0} (o : Option ℕ) → IfSome o (λ _. P) → is_some o ≡ true → P
+some_fails None h e = absurd cc
+some_fails (Some v) h e = h
+
+none_holds : {P : Type 0} (o : Option ℕ) → IfNone o P → is_some o ≡ false → P
+none_holds None h e = h
+none_holds (Some v) h e = absurd cc
 
 pub loop-router-init : goal.loop-router-init
 loop-router-init g c = record {
@@ -34,11 +42,11 @@ loop-router-preserved g c =
     record {
       unclear = below_more _ _ c.loop-router.invariant.unclear (fits_readable n plan shown range r p t known fits);
       failing = elim c.if-router-failing.branch [
-        | then-router-failing+then-unmet-ne0 w ↦ rw w.failing-is (so_far_first c.args.bounds.failing Fine r c.loop-router.failing was w.if-router-failing.true
-            (one_fails n plan shown range r p t fits (w.unmet.ensures.fails (omega (arith, w.if-unmet-ne0.true)))))
+        | then-router-failing+then-is_some w ↦ rw w.failing-is (so_far_first c.args.bounds.failing Fine r c.loop-router.failing was w.if-router-failing.true
+            (one_fails n plan shown range r p t fits (some_fails w.unmet_equation.result w.unmet_equation.ensures.fails (sym w.is_some.ensures ∙ w.if-is_some.true))))
         | else-router-failing w ↦ rw w.failing-is (elim w.else-router-failing.branch [
-          | else-router-failing-via-then-router-failing+else-unmet-ne0 w' ↦ so_far_on c.args.bounds.failing Fine r c.loop-router.failing was
-              (λ less. one_sound n plan shown range r p t known fits (w'.unmet.ensures.holds w'.if-unmet-ne0.false))
+          | else-router-failing-via-then-router-failing+else-is_some w' ↦ so_far_on c.args.bounds.failing Fine r c.loop-router.failing was
+              (λ less. one_sound n plan shown range r p t known fits (none_holds w'.unmet_equation.result w'.unmet_equation.ensures.holds (sym w'.is_some.ensures ∙ w'.if-is_some.false)))
           | else-router-failing-via-else-router-failing w' ↦ so_far_on c.args.bounds.failing Fine r c.loop-router.failing was
               (λ less. absurd (omega (arith, less, w'.if-router-failing.false)))
         ])

@@ -14,7 +14,7 @@ loop-router-preserved c =
     let inside = mul-add-lt i count p (length row) c.loop-router-test.true c.requires.prefix in
     let at : i * count + p < length c.loop-router.metrics = omega (arith, inside, is.size, c.requires.size) in
     record {
-      kept = one_more_mark c.loop-router.metrics count p c.requires.prefix (λ r v. v ≡ get_or row r 0) i (get_or row i 0) at is.kept refl;
-      others = λ r q lt other. other_mark c.loop-router.metrics count p i (get_or row i 0) r q c.requires.prefix lt other ∙ is.others r q lt other;
+      kept = one_more_mark 0 c.loop-router.metrics count p c.requires.prefix (λ r v. v ≡ get_or row r 0) i (get_or row i 0) at is.kept refl;
+      others = λ r q lt other. other_mark 0 c.loop-router.metrics count p i (get_or row i 0) r q c.requires.prefix lt other ∙ is.others r q lt other;
       size = grind (arith, common_steps, is.size);
     }

@@ -1,4 +1,4 @@
-use Rattle.std.proofs.Common.{◌+◌, ◌*◌, ◌<◌, ◌∙◌, refl, length, arith}
+use Rattle.std.proofs.Common.{◌+◌, ◌*◌, ◌<◌, ◌∙◌, refl, None, length, arith}
 use Rattle.std.proofs.lemmas.Nat.{mul-add-lt}
 use Rattle.std.proofs.lemmas.Grind.{common_steps}
 use Rattle.rip_check.specs.Marks.{IsMark}
@@ -19,8 +19,8 @@ loop-router-preserved g c =
     let inside = mul-add-lt i count p (length n.routers) (omega (arith, c.loop-router-test.true, c.routers-router-end.ensures)) c.requires.prefix in
     let at : i * count + p < length c.loop-router.marks = omega (arith, inside, is.size, c.requires.size) in
     rw c.prefix_count-count.ensures (record {
-      marked = one_more_mark c.loop-router.marks count p c.requires.prefix (λ r v. IsMark n shown r p v) i c.mark_of.result at is.marked c.mark_of.ensures;
-      others = λ r q lt other. other_mark c.loop-router.marks count p i c.mark_of.result r q c.requires.prefix lt other ∙ is.others r q lt other;
+      marked = one_more_mark None c.loop-router.marks count p c.requires.prefix (λ r v. IsMark n shown r p v) i c.mark_of.result at is.marked c.mark_of.ensures;
+      others = λ r q lt other. other_mark None c.loop-router.marks count p i c.mark_of.result r q c.requires.prefix lt other ∙ is.others r q lt other;
       size = grind (arith, common_steps, is.size);
     })
 

@@ -1,5 +1,5 @@
 use Rattle.rip_report.specs.ExplainText.{ExplainText}
-use Rattle.rip_report.proofs.ExplainLemmas.{begins_out}
+use Rattle.rip_report.proofs.ExplainLemmas.{begins_out, explains_out}
 use Rattle.rip_report.proofs.VerdictLemmas.{headline}
 use Rattle.rip_report.proofs.explain.run_explain.Goals as goal
 
@@ -10,3 +10,7 @@ returns-clause-headline g c = λ n s accepted.
 pub returns-clause-verdict : goal.returns-clause-verdict
 returns-clause-verdict g c = λ off n s accepted.
     begins_out n s c.args.all (g.K.Sink.taken c.args.out.now) (g.K.Sink.taken c.run_report.new.out) c.run_report.result.1 off (c.run_report.ensures.told n s accepted)
+
+pub returns-clause-places : goal.returns-clause-places
+returns-clause-places g c = λ on n s accepted.
+    explains_out n s c.args.all (g.K.Sink.taken c.args.out.now) (g.K.Sink.taken c.run_report.new.out) c.run_report.result.1 on (c.run_report.ensures.told n s accepted)

@@ -1,16 +1,76 @@
-use Rattle.std.proofs.Common.{◌≡◌, ◌*◌, ◌+◌, get_or, length, ◌∙◌, sym, arith}
+use Rattle.std.proofs.Common.{◌≡◌, ◌≤◌, ◌<◌, ℕ, ◌*◌, ◌+◌, Option, None, Some, IfNone, IsSome, get_or, length, refl, sym, ◌∙◌, subst, arith}
 use Rattle.std.proofs.lemmas.List.{get_or_read}
 use Rattle.std.proofs.lemmas.Nat.{mul-add-lt}
+use Rattle.rip_plan.specs.Network.{Network}
+use Rattle.rip_table.specs.State.{State}
+use Rattle.rip_check.specs.declared.routes.Reading.{Reading}
+use Rattle.rip_check.specs.declared.unsettled.Unsettled.{Unsettled}
+use Rattle.rip_check.specs.Marks.{AreUnsettled, IsMark, IsUnmet}
+use Rattle.rip_check.specs.Verdicts.{route_of}
+use Rattle.rip_check.proofs.Reading.{one_route}
+use Rattle.rip_check.proofs.Readable.{fits_readable}
 use Rattle.rip_check.proofs.unsettled.Unsettled.at.Goals as goal
 
-pub returns-then-index-eq0-clause-none : goal.returns-then-index-eq0-clause-none
-returns-then-index-eq0-clause-none g c =
+-- what is kept of a place
+mark_at : (n : Network) (s : State) (unsettled : Unsettled) → AreUnsettled n s unsettled → (r p w : ℕ) (mark : Option ℕ) → w ≡ length s.prefixes → r < length n.routers → p < length s.prefixes
+    → mark ≡ get_or unsettled.marks.items (r * w + p) mark → IsMark n s r p mark
+mark_at n s unsettled are r p w mark e router prefix read =
+    let count = length s.prefixes in
+    let here : mark ≡ get_or unsettled.marks.items (r * count + p) mark = rw e at read in
+    let inside = mul-add-lt r count p (length n.routers) router prefix in
+    let is : mark ≡ get_or unsettled.marks.items (r * count + p) None = get_or_read unsettled.marks.items (r * count + p) mark (omega (arith, inside, are.size)) here None in
+    rw (← is) at (are.marks r p router prefix)
+
+-- the equation of a marked place
+unmet_at : (n : Network) (s : State) (r p v : ℕ) (mark : Option ℕ) → mark ≡ Some v → IsMark n s r p mark → (1 ≤ v) × (v ≤ 16) × IsUnmet n s r p v
+unmet_at n s r p v mark e is = rw e at is.fails
+
+there : (P : Type 0) (o : Option Reading) → IfNone o (P → ⊥) → P → IsSome o
+there P None none p = absurd (none p)
+there P (Some t) none p = refl
+
+pub returns-in_default-clause-none : goal.returns-in_default-clause-none
+returns-in_default-clause-none g c =
     let n = c.args.plan.now in
+    let s = g.T.MetricTable.state c.args.table.now in
+    let is = mark_at n s c.args.self.now c.requires.places c.args.router c.args.prefix c.prefix_count.result c.index.result.now c.prefix_count.ensures c.requires.router c.requires.prefix c.index.ensures in
+    rw c.in_default.is at is.sound
+
+pub unwrap-route-requires : goal.unwrap-route-requires
+unwrap-route-requires g c =
+    let n = c.args.plan.now in
+    let s = g.T.MetricTable.state c.args.table.now in
+    let is = mark_at n s c.args.self.now c.requires.places c.args.router c.args.prefix c.prefix_count.result c.index.result.now c.prefix_count.ensures c.requires.router c.requires.prefix c.index.ensures in
+    let unmet = unmet_at n s c.args.router c.args.prefix c.in-Some.equation c.index.result.now c.in-Some.is is in
+    there _ c.read.result c.read.ensures.none (fits_readable n c.lawful.ensures s c.in_range.ensures c.args.router c.args.prefix unmet.2.route c.requires.router unmet.2.fits)
+
+pub place_of-requires-clause-equation : goal.place_of-requires-clause-equation
+place_of-requires-clause-equation g c =
+    let n = c.args.plan.now in
+    let s = g.T.MetricTable.state c.args.table.now in
+    let is = mark_at n s c.args.self.now c.requires.places c.args.router c.args.prefix c.prefix_count.result c.index.result.now c.prefix_count.ensures c.requires.router c.requires.prefix c.index.ensures in
+    let unmet = unmet_at n s c.args.router c.args.prefix c.in-Some.equation c.index.result.now c.in-Some.is is in
+    (omega (arith, unmet.0, c.from.ensures), omega (arith, unmet.1, c.from.ensures))
+
+pub returns-clause-some : goal.returns-clause-some
+returns-clause-some g c =
+    let n = c.args.plan.now in
+    let s = g.T.MetricTable.state c.args.table.now in
     let r = c.args.router in
     let p = c.args.prefix in
-    let w = length (g.T.MetricTable.state c.args.table.now).prefixes in
-    let marks = c.args.self.now.marks.items in
-    let inside = mul-add-lt r w p (length n.routers) c.requires.router c.requires.prefix in
-    let read : c.index.result.now ≡ get_or marks (r * w + p) c.index.result.now = rw c.prefix_count.ensures at c.index.ensures in
-    let mark : c.index.result.now ≡ get_or marks (r * w + p) 0 = get_or_read marks (r * w + p) c.index.result.now (omega (arith, inside, c.requires.places.size)) read 0 in
-    (c.requires.places.marks r p c.requires.router c.requires.prefix).sound (sym mark ∙ c.if-index-eq0.true)
+    let t = route_of c.unwrap-route.result in
+    let fits = rw c.unwrap-route.ensures at c.read.ensures.fits in
+    let hidden = rw c.unwrap-route.ensures at c.read.ensures.hidden in
+    let is = mark_at n s c.args.self.now c.requires.places r p c.prefix_count.result c.index.result.now c.prefix_count.ensures c.requires.router c.requires.prefix c.index.ensures in
+    let unmet = (unmet_at n s r p c.in-Some.equation c.index.result.now c.in-Some.is is).2 in
+    let one : unmet.route ≡ t = one_route n c.lawful.ensures s r p unmet.route t c.requires.router unmet.fits fits in
+    rw c.place_of.ensures (
+      refl,
+      refl,
+      record {
+        fits = fits;
+        fails = λ holds. unmet.fails (rw one holds);
+        equation = rw c.from.ensures unmet.equation;
+        hidden = hidden;
+      },
+    )

@@ -1,4 +1,4 @@
-use Rattle.std.proofs.Common.{◌≤◌, ◌≡◌, ℕ, ◌+◌, ◌*◌, inl, inr, List, take, drop, ◌++◌, get_or, length, ◌∙◌, ap, arith}
+use Rattle.std.proofs.Common.{◌≤◌, ◌≡◌, ℕ, ◌+◌, ◌*◌, inl, inr, List, Option, None, take, drop, ◌++◌, get_or, length, ◌∙◌, ap, arith}
 use Rattle.std.proofs.Math.Seq.{take-append_seam}
 use Rattle.std.proofs.lemmas.Bool.{cases_lt}
 use Rattle.std.proofs.lemmas.List.{length-take-le}
@@ -27,9 +27,9 @@ loop-prefix-preserved g c =
       size = omega (arith, e, c.loop-prefix.marks.ok.0, is.size);
       marks = λ r p at lt. elim (cases_lt p c.loop-prefix.prefix) [
         | inl sooner ↦
-            let kept : get_or new (r * count + p) 0 ≡ get_or c.loop-prefix.marks.items (r * count + p) 0 =
+            let kept : get_or new (r * count + p) None ≡ get_or c.loop-prefix.marks.items (r * count + p) None =
             c.mark_prefix.ensures.others r p (omega (arith, sooner, c.loop-prefix-test.true, c.prefix_count-count.ensures)) (λ same. omega (arith, same, sooner))
-            ∙ ap (λ (xs : List ℕ). get_or xs (r * count + p) 0) c.as_mut_slice.ensures.value in
+            ∙ ap (λ (xs : List (Option ℕ)). get_or xs (r * count + p) None) c.as_mut_slice.ensures.value in
             rw kept (is.marks r p at sooner)
         | inr late ↦
             let same : p ≡ c.loop-prefix.prefix = omega arith in
