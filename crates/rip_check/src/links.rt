@@ -45,8 +45,9 @@ fn seen_at<T: MetricTable>(plan: &Plan, table: &T, interface: usize, prefix: usi
 
 /// The same with one more interface of the link.
 fn with(two: TwoLeast, router: u8, metric: u8) -> TwoLeast
-    ensures { (n : Network) (seen : ℕ → ℕ → ℕ → ℕ) (l j : ℕ) → IsTwoLeast n seen l j two →
-        IsSeen n seen l j router metric → IsTwoLeast n seen l (j + 1) result }
+    ensures { (n : Network) (seen : ℕ → ℕ → ℕ → ℕ) (l j : ℕ) →
+        IsTwoLeast n seen l j two → IsSeen n seen l j router metric →
+        IsTwoLeast n seen l (j + 1) result }
 {
     if router == two.by {
         return TwoLeast {

@@ -95,7 +95,7 @@ fn add_shown(
     }
 }
 
-/// What a router shows of a prefix.
+/// What a router shows of a prefix. Every place is read by it, so it stands in the loop over them.
 #[inline(always)]
 pub(crate) fn survey_of<T: MetricTable>(
     plan: &Plan,
