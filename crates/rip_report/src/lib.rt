@@ -19,6 +19,7 @@ mod routes;
 mod status;
 mod table;
 mod texts;
+mod whatif;
 
 pub use audit::run_audit;
 pub use decode::run_decode;
@@ -28,3 +29,4 @@ pub use plan::run_plan;
 pub use routes::run_routes;
 pub use status::{RunError, Status, exit_code, fault_line};
 pub use table::run_table;
+pub use whatif::run_whatif;
