@@ -6,7 +6,7 @@ use rip_log::{FromRead, IntoWrite};
 use rip_plan::MOST_PLAN_BYTES;
 use rip_report::{
     RunError, Status, exit_code, fault_line, run_audit, run_decode, run_expect, run_explain,
-    run_plan, run_routes, run_table,
+    run_plan, run_routes, run_table, run_whatif,
 };
 use std::alloc::{AllocError, Global};
 use std::collections::hash_map::RandomState;
@@ -74,6 +74,15 @@ fn all_command<'a>(
     log_command(alloc, name, about)?.arg(all_word(alloc, all))
 }
 
+/// The command that tells what failures cost, and of each pair and prefix where `--all` is given.
+fn whatif_command<'a>(
+    alloc: Global,
+    about: &'a str,
+    all: &'a str,
+) -> Result<Command<'a>, AllocError> {
+    plan_command(alloc, "whatif", about)?.arg(all_word(alloc, all))
+}
+
 /// The command that reads a datagram.
 fn decode_command<'a>(alloc: Global) -> Result<Command<'a>, AllocError> {
     let hex = "The datagram's bytes in hexadecimal digits of either case";
@@ -111,6 +120,9 @@ fn commands<'a>(alloc: Global) -> Result<Command<'a>, AllocError> {
     let ripaudit = add(ripaudit, log_command(alloc, "table", table));
     let expect = "Prints the right routes of a plan";
     let ripaudit = add(ripaudit, plan_command(alloc, "expect", expect));
+    let whatif = "Tells what the failure of each link and of each router would cost";
+    let lost = "Name each router and prefix that is lost, and each prefix that is gone";
+    let ripaudit = add(ripaudit, whatif_command(alloc, whatif, lost));
     let plan = "Prints the parts of a plan";
     let ripaudit = add(ripaudit, plan_command(alloc, "plan", plan));
     add(ripaudit, decode_command(alloc))
@@ -164,6 +176,9 @@ enum PlanCommand {
     Plan,
     /// Its right routes.
     Expect,
+    /// What each failure would cost, with a line for each pair that is lost and each prefix that is
+    /// gone where all are asked for.
+    WhatIf { all: bool },
 }
 
 /// Runs a command on a file of a plan.
@@ -178,6 +193,7 @@ fn plan_file<R: Files + AllocGlobal + Print>(
     match command {
         PlanCommand::Plan => run_plan(alloc, plan.as_slice(), &mut out),
         PlanCommand::Expect => run_expect(alloc, plan.as_slice(), &mut out),
+        PlanCommand::WhatIf { all } => run_whatif(alloc, plan.as_slice(), &mut out, all),
     }
 }
 
@@ -289,6 +305,10 @@ where
         Some(("expect", words)) => words
             .get_str("PLAN")
             .map(|path| plan_file(rt, PlanCommand::Expect, path)),
+        Some(("whatif", words)) => words.get_str("PLAN").map(|path| {
+            let all = words.get_flag("all");
+            plan_file(rt, PlanCommand::WhatIf { all }, path)
+        }),
         Some(("decode", words)) => words
             .get_str("HEX")
             .map(|hex| run_decode(hex, &mut IntoWrite::new(io::writer(rt)))),
