@@ -17,6 +17,7 @@ use std::alloc::{AllocError, Global};
 use std::hash::{BuildHasherDefault, FoldHasher};
 use std::process::Abort;
 
+mod failures;
 mod growths;
 
 type Grid = GridTable<BuildHasherDefault<FoldHasher>>;
