@@ -10,7 +10,9 @@ use Rattle.rip_plan.specs.Fields.{InterfaceFields, OwnFields, ◌&>◌, has_only
 use Rattle.rip_plan.specs.Names.{number_of_name}
 use Rattle.rip_plan.specs.PlanOf.{HasText, IsAddressOf, IsCostOf, IsDirectOf, IsGatewayOf, IsKeptOf, IsLinkOf, IsNameOf, Matched, items_in}
 use Rattle.rip_plan.specs.PlanFaults.{HasNoAddress}
-use Rattle.rip_plan.proofs.Matching.{matched_right}
+use Rattle.rip_plan.proofs.Matching.{matched_right, matched_weaker}
+use Rattle.rip_plan.proofs.Texts.{TextLaws, address_is, no_address}
+use Rattle.rip_plan.specs.Texts.{IsAddressText, IsNoAddress}
 
 pub then_some : {A B : Type 0} (o : Option A) (f : A → Option B) (y : B) → (o &> f) ≡ Some y → (x : A) × (o ≡ Some x) × (f x ≡ Some y)
 then_some None f y h = absurd (none-some y h)
@@ -227,22 +229,22 @@ link_is links d (Some name) link has h = by_number (number_of_name name links) r
     by_number None e g = absurd (none-some link g)
     by_number (Some l) e g = subst (IsLinkOf links d) (same_Some (Some l) link g) (name, has, e)
 
-gateway_is : (d : Data) (text : Option (List ℕ)) (via : Option ℕ) → IsTextIf (get (codes_of "via") d) text → address_if text ≡ Some via → IsGatewayOf d via
-gateway_is d None via has h = let same : None ≡ via = same_Some None via h in subst (IsGatewayOf d) same has
-gateway_is d (Some text) via has h = by_address (address_in text) refl h
+gateway_is : (laws : TextLaws) (d : Data) (text : Option (List ℕ)) (via : Option ℕ) → IsTextIf (get (codes_of "via") d) text → address_if text ≡ Some via → IsGatewayOf d via
+gateway_is laws d None via has h = let same : None ≡ via = same_Some None via h in subst (IsGatewayOf d) same has
+gateway_is laws d (Some text) via has h = by_address (address_in text) refl h
   where
     by_address : (o : Option ℕ) → address_in text ≡ o → option_map Some o ≡ Some via → IsGatewayOf d via
     by_address None e g = absurd (none-some via g)
-    by_address (Some a) e g = subst (IsGatewayOf d) (same_Some (Some a) via g) (text, has, e)
+    by_address (Some a) e g = subst (IsGatewayOf d) (same_Some (Some a) via g) (text, has, address_is laws text a e)
 
-pub own_table : (d : Data) (links : List (List ℕ)) (f : OwnFields) (c : ℕ) (link via : Option ℕ) → (as_table d &> own_fields) ≡ Some f → cost_of f.cost ≡ Some c → link_if f.link links ≡ Some link → address_if f.via ≡ Some via → IsOwnTable d links f c link via
-own_table d links f c link via h costs known gateway =
+pub own_table : (laws : TextLaws) (d : Data) (links : List (List ℕ)) (f : OwnFields) (c : ℕ) (link via : Option ℕ) → (as_table d &> own_fields) ≡ Some f → cost_of f.cost ≡ Some c → link_if f.link links ≡ Some link → address_if f.via ≡ Some via → IsOwnTable d links f c link via
+own_table laws d links f c link via h costs known gateway =
     let has = own_texts d f h in
     record {
       has = has;
       cost = cost_is (get (codes_of "cost") d) f.cost c has.cost costs;
       link = link_is links d f.link link has.link known;
-      via = gateway_is d f.via via has.via gateway;
+      via = gateway_is laws d f.via via has.via gateway;
     }
 
 pub record IsRouterTable (d : Data) (name : List ℕ) (interfaces owns : List Data) : Type 0 where
@@ -313,33 +315,42 @@ direct_within cost (Some (negsuc n)) c least h = absurd (none-some c h)
 
 -- ---- a gateway that is no address
 
-pub gateway_told : (d : Data) (text : Option (List ℕ)) → IsTextIf (get (codes_of "via") d) text → address_if text ≡ None → HasNoAddress (codes_of "via") d
-gateway_told d None has h = absurd (none-some None (sym h))
-gateway_told d (Some text) has h = by_address (address_in text) refl h
+pub gateway_told : (laws : TextLaws) (d : Data) (text : Option (List ℕ)) → IsTextIf (get (codes_of "via") d) text → address_if text ≡ None → HasNoAddress (codes_of "via") d
+gateway_told laws d None has h = absurd (none-some None (sym h))
+gateway_told laws d (Some text) has h = by_address (address_in text) refl h
   where
     by_address : (o : Option ℕ) → address_in text ≡ o → option_map Some o ≡ None → HasNoAddress (codes_of "via") d
-    by_address None e g = (text, has, e)
+    by_address None e g = (text, has, no_address laws text e)
     by_address (Some a) e g = absurd (none-some (Some a) (sym g))
 
-pub gateway_clear : (d : Data) (text : Option (List ℕ)) (via : Option ℕ) → IsTextIf (get (codes_of "via") d) text → address_if text ≡ Some via → HasNoAddress (codes_of "via") d → ⊥
-gateway_clear d None via has h (t, there, none) = none-some (string t) (sym has ∙ there)
-gateway_clear d (Some text) via has h (t, there, none) =
+pub gateway_clear : (laws : TextLaws) (d : Data) (text : Option (List ℕ)) (via : Option ℕ) → IsTextIf (get (codes_of "via") d) text → address_if text ≡ Some via → HasNoAddress (codes_of "via") d → ⊥
+gateway_clear laws d None via has h (t, there, none) = none-some (string t) (sym has ∙ there)
+gateway_clear laws d (Some text) via has h (t, there, none) =
     let same : string text ≡ string t = same_Some (string text) (string t) (sym has ∙ there) in
-    let one : text ≡ t = cc in
-    let lacks : address_if (Some text) ≡ None = ap (λ (o : Option ℕ). option_map Some o) (ap address_in one ∙ none) in
-    none-some via (sym lacks ∙ h)
+    by_address (address_in text) refl h cc
+  where
+    by_address : (o : Option ℕ) → address_in text ≡ o → option_map Some o ≡ Some via → text ≡ t → ⊥
+    by_address None e g one = none-some via g
+    by_address (Some a) e g one = none a (subst (λ (s : List ℕ). IsAddressText s a) one (address_is laws text a e))
 
 -- ---- further addresses
 
--- the addresses of these texts
-pub addresses_are : (ds : List Data) (also : List ℕ) → addresses_in ds ≡ Some also → Matched IsAddressOf also ds
-addresses_are [] also h = let same : [] ≡ also = same_Some [] also h in subst (λ (l : List ℕ). Matched IsAddressOf l []) same tt
-addresses_are (d ∷ ds) also h =
+-- the item is a text of which this address is read
+abbrev pub IsReadOf : ℕ → Data → Type 0
+IsReadOf a d = (text : List ℕ) × (d ≡ string text) × (address_in text ≡ Some a)
+
+pub addresses_read : (ds : List Data) (also : List ℕ) → addresses_in ds ≡ Some also → Matched IsReadOf also ds
+addresses_read [] also h = let same : [] ≡ also = same_Some [] also h in subst (λ (l : List ℕ). Matched IsReadOf l []) same tt
+addresses_read (d ∷ ds) also h =
     let (a, first, h1) = then_some (as_str d &> address_in) _ also h in
     let (text, is, parsed) = then_some (as_str d) address_in a first in
     let (others, rest, h2) = then_some (addresses_in ds) _ also h1 in
     let same : a ∷ others ≡ also = same_Some (a ∷ others) also h2 in
-    subst (λ (l : List ℕ). Matched IsAddressOf l (d ∷ ds)) same ((text, text_is d text is, parsed), addresses_are ds others rest)
+    subst (λ (l : List ℕ). Matched IsReadOf l (d ∷ ds)) same ((text, text_is d text is, parsed), addresses_read ds others rest)
+
+-- the addresses of these texts
+pub addresses_are : (laws : TextLaws) (ds : List Data) (also : List ℕ) → addresses_in ds ≡ Some also → Matched IsAddressOf also ds
+addresses_are laws ds also h = matched_weaker IsReadOf IsAddressOf (λ a d read. (read.0, read.1, address_is laws read.0 a read.2)) also ds (addresses_read ds also h)
 
 -- a text among them that is no address
 pub addresses_told : (ds : List Data) → list_all (λ x. is_some (as_str x)) ds ≡ true → addresses_in ds ≡ None → (k : ℕ) × (text : List ℕ) × (slice_get ds k ≡ Some (string text)) × (address_in text ≡ None)
@@ -360,9 +371,9 @@ addresses_told (d ∷ ds) all h = by_text (as_str d) refl all h (addresses_told 
         by_address None i k = (zero, text, ap (λ (x : Data). Some x) (text_is d text e), i)
         by_address (Some a) i k = let (m, t, at, none) = later texts (by_rest (addresses_in ds) refl a k) in (suc m, t, at, none)
 
-pub addresses_clear : (ds : List Data) (also : List ℕ) → addresses_in ds ≡ Some also → (k : ℕ) (text : List ℕ) → slice_get ds k ≡ Some (string text) → address_in text ≡ None → ⊥
-addresses_clear ds also h k text at none =
-    let (a, listed, (t, is, parsed)) = matched_right IsAddressOf also ds k (string text) (addresses_are ds also h) at in
-    let same : string text ≡ string t = is in
-    let one : text ≡ t = cc in
-    none-some a (sym none ∙ ap address_in one ∙ parsed)
+pub addresses_clear : (laws : TextLaws) (ds : List Data) (also : List ℕ) → addresses_in ds ≡ Some also → (k : ℕ) (text : List ℕ) → slice_get ds k ≡ Some (string text) → IsNoAddress text → ⊥
+addresses_clear laws ds also h k text at none =
+    let (a, listed, (t, is, spelled)) = matched_right IsAddressOf also ds k (string text) (addresses_are laws ds also h) at in
+    let same : string t ≡ string text = sym is in
+    let one : t ≡ text = cc in
+    none a (subst (λ (s : List ℕ). IsAddressText s a) one spelled)

@@ -2,8 +2,7 @@
 -- document's tables.
 use Rattle.std.specs.Prelude.{◌≡◌, ◌⊎◌, ℕ, ◌+◌, pos, List, [], ◌∷◌, ◌++◌, map, filter, Bool, false, not, codes, Option, None, Some}
 use Rattle.toml.specs.Data.{Data, Items, Members, string, boolean, integer, array, table, get}
-use Rattle.rip_wire.specs.Address.{address_in}
-use Rattle.rip_wire.specs.Prefix.{Block, prefix_in}
+use Rattle.rip_wire.specs.Prefix.{Block}
 use Rattle.rip_plan.specs.declared.parts.Interface.{Interface}
 use Rattle.rip_plan.specs.declared.parts.Place.{Place}
 use Rattle.rip_plan.specs.declared.parts.Seat.{Seat}
@@ -14,6 +13,7 @@ use Rattle.rip_plan.specs.Passes.{same_prefix}
 use Rattle.rip_plan.specs.PlanText.{document_of}
 use Rattle.rip_plan.specs.Network.{Network}
 use Rattle.rip_plan.specs.Relations.{IsPrefix}
+use Rattle.rip_plan.specs.Texts.{IsAddressText, IsPrefixText}
 
 -- each item of the one list with the item of the other that has the same number
 abbrev pub Matched : {A B : Type 0} → (A → B → Type 0) → List A → List B → Type 0
@@ -60,11 +60,11 @@ IsLinkOf links d (Some l) =
 abbrev pub IsGatewayOf : Data → Option ℕ → Type 0
 IsGatewayOf d None = get (codes "via") d ≡ None
 IsGatewayOf d (Some a) =
-    (text : List ℕ) × HasText (codes "via") d text × (address_in text ≡ Some a)
+    (text : List ℕ) × HasText (codes "via") d text × IsAddressText text a
 
 -- the item is the text of this address
 abbrev pub IsAddressOf : ℕ → Data → Type 0
-IsAddressOf a d = (text : List ℕ) × (d ≡ string text) × (address_in text ≡ Some a)
+IsAddressOf a d = (text : List ℕ) × (d ≡ string text) × IsAddressText text a
 
 abbrev pub IsNameOf : List ℕ → Data → Type 0
 IsNameOf name d = HasText (codes "name") d name
@@ -89,7 +89,7 @@ pub record IsInterfaceOf (links : List (List ℕ)) (i : Interface) (at : ℕ × 
   pub link : number_of_name link_name links ≡ Some i.link
   pub text : List ℕ
   pub has_address : HasText (codes "address") at.1 text
-  pub address : address_in text ≡ Some i.address
+  pub address : IsAddressText text i.address
   pub cost : IsCostOf at.1 i.cost
   pub direct : IsDirectOf at.1 i.cost i.direct
 
@@ -106,14 +106,14 @@ pub record Placement : Type 0 where
 pub record IsOnLink (p : Placement) (at : ℕ × Data) : Type 0 where
   pub text : List ℕ
   pub is_text : at.1 ≡ string text
-  pub prefix : prefix_in text ≡ Some p.prefix
+  pub prefix : IsPrefixText text p.prefix
   pub seat : p.seat ≡ seats.Link at.0
 
 -- the own prefix of this table, with the router of this number
 pub record IsOwned (links : List (List ℕ)) (p : Placement) (at : ℕ × Data) : Type 0 where
   pub text : List ℕ
   pub has_prefix : HasText (codes "prefix") at.1 text
-  pub prefix : prefix_in text ≡ Some p.prefix
+  pub prefix : IsPrefixText text p.prefix
   pub cost : ℕ
   pub is_cost : IsCostOf at.1 cost
   pub kept : Bool
