@@ -9,15 +9,14 @@ use Rattle.rip_plan.specs.declared.parts.Place.{Place}
 use Rattle.rip_plan.specs.declared.parts.Seat.{Seat}
 use Rattle.rip_plan.specs.declared.parts.Seat.TheVariants as seats
 use Rattle.rip_plan.specs.Fields.{list_of}
-use Rattle.rip_plan.specs.Names.{number_of_name}
 use Rattle.rip_plan.specs.Passes.{same_prefix}
 use Rattle.rip_plan.specs.Network.{Network}
-use Rattle.rip_plan.specs.PlanOf.{Matched, HasText, HasItems, IsAddressOf, AreAlsoOf, IsCostOf, IsDirectOf, IsGatewayOf, IsKeptOf, IsLinkOf, IsNameOf, items_in, items_under, IsInterfaceOf, Placement, IsOnLink, IsOwned, IsPlaceOf, each_once, PlanOf}
+use Rattle.rip_plan.specs.PlanOf.{Matched, HasText, HasItems, IsAddressOf, AreAlsoOf, IsCostOf, IsDirectOf, IsGatewayOf, IsKeptOf, IsLinkOf, IsNameOf, items_in, items_under, IsInterfaceOf, Placement, IsOnLink, IsOwned, IsPlaceOf, each_once, PlanOf, IsFirstNamed}
 use Rattle.rip_plan.proofs.Items.{distinct_at}
 use Rattle.rip_plan.proofs.Numbering.{same_self}
 use Rattle.rip_plan.proofs.Matching.{matched_same}
 use Rattle.rip_plan.proofs.EachOnce.{once_distinct}
-use Rattle.rip_plan.proofs.Texts.{TextLaws, one_address, one_prefix}
+use Rattle.rip_plan.proofs.Texts.{TextLaws, one_address, one_prefix, one_named}
 
 pub text_same : (key : List ℕ) (d : Data) (s t : List ℕ) → HasText key d s → HasText key d t → s ≡ t
 text_same key d s t h k = let same : string s ≡ string t = same_Some (string s) (string t) (sym h ∙ k) in cc
@@ -52,7 +51,7 @@ link_same names others same d None (Some m) h k = absurd (none-some _ (sym h ∙
 link_same names others same d (Some l) None h k = absurd (none-some _ (sym k ∙ h.1))
 link_same names others same d (Some l) (Some m) h k =
     let one : h.0 ≡ k.0 = text_same (codes_of "link") d h.0 k.0 h.1 k.1 in
-    sym h.2 ∙ ap (λ (t : List ℕ). number_of_name t names) one ∙ ap (number_of_name k.0) same ∙ k.2
+    ap (λ (n : ℕ). Some n) (one_named names h.0 k.0 l m one h.2 (subst (λ (ns : List (List ℕ)). IsFirstNamed ns k.0 m) (sym same) k.2))
 
 gateway_same : (laws : TextLaws) (d : Data) (a b : Option ℕ) → IsGatewayOf d a → IsGatewayOf d b → a ≡ b
 gateway_same laws d None None h k = refl
@@ -64,7 +63,7 @@ interface_same : (laws : TextLaws) (names others : List (List ℕ)) → names �
 interface_same laws names others same x y at h k =
     let router : x.router ≡ y.router = h.router ∙ sym k.router in
     let name : h.link_name ≡ k.link_name = text_same (codes_of "link") at.1 h.link_name k.link_name h.has_link k.has_link in
-    let link : x.link ≡ y.link = same_Some x.link y.link (sym h.link ∙ ap (λ (n : List ℕ). number_of_name n names) name ∙ ap (number_of_name k.link_name) same ∙ k.link) in
+    let link : x.link ≡ y.link = one_named names h.link_name k.link_name x.link y.link name h.link (subst (λ (ns : List (List ℕ)). IsFirstNamed ns k.link_name y.link) (sym same) k.link) in
     let text : h.text ≡ k.text = text_same (codes_of "address") at.1 h.text k.text h.has_address k.has_address in
     let address : x.address ≡ y.address = one_address laws h.text k.text x.address y.address text h.address k.address in
     let cost : x.cost ≡ y.cost = cost_same at.1 x.cost y.cost h.cost k.cost in

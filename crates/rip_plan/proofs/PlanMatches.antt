@@ -23,7 +23,7 @@ use Rattle.rip_plan.proofs.Matching.{matched_append, matched_at, map_append}
 use Rattle.rip_plan.proofs.EachOnce.{numbered_once}
 use Rattle.rip_plan.proofs.Items.{get_seen}
 use Rattle.rip_plan.proofs.Tables.{addresses_are, link_table, interface_table, own_table, router_table, then_some, chosen, items_there, text_is}
-use Rattle.rip_plan.proofs.Texts.{TextLaws, address_is, prefix_is}
+use Rattle.rip_plan.proofs.Texts.{TextLaws, address_is, prefix_is, first_named}
 
 abbrev pub placement : DraftPlace → Placement
 placement d = record { prefix = d.prefix; seat = d.seat }
@@ -125,7 +125,7 @@ interfaces_added laws r j (x ∷ xs) s t h =
           ∙ ap (λ (is : List DraftInterface). record s { interfaces = is; also = (s.also ++ taken.also ∷ []) ++ rest.further }) (append_assoc s.interfaces (new ∷ []) rest.added)
           ∙ ap (λ (l : List (List ℕ)). record s { interfaces = s.interfaces ++ new ∷ rest.added; also = l }) (append_assoc s.also (taken.also ∷ []) rest.further);
       match = (
-        record { router = back r; link_name = taken.given.link; has_link = fields.has.has_link; link = taken.known; text = taken.given.address; has_address = fields.has.has_address; address = address_is laws taken.given.address taken.address taken.parsed; cost = fields.cost; direct = fields.direct },
+        record { router = back r; link_name = taken.given.link; has_link = fields.has.has_link; link = first_named taken.given.link s.links taken.link taken.known; text = taken.given.address; has_address = fields.has.has_address; address = address_is laws taken.given.address taken.address taken.parsed; cost = fields.cost; direct = fields.direct },
         subst (λ (names : List (List ℕ)). Matched (IsInterfaceOf names) (map its_interface rest.added) (map (with_number r) xs)) (ap (λ (v : Sketch). v.links) taken.made) rest.match,
       );
       also_match = (subst (Matched IsAddressOf taken.also) (sym fields.has.also_are) (addresses_are laws taken.given.also taken.also taken.others), rest.also_match);

@@ -25,7 +25,7 @@ use Rattle.rip_plan.specs.Seats.{is_on}
 use Rattle.rip_plan.specs.Draft.{Sketch, prefix_step, link_step, interface_step, own_step, router_step, is_full, is_outside, has_address}
 use Rattle.rip_plan.specs.PlanOf.{Matched, IsNameOf, items_in, items_under, IsOnLink, IsOwned, Placement}
 use Rattle.rip_plan.specs.PlanText.{empty}
-use Rattle.rip_plan.specs.PlanFaults.{nth, IsItem, IsPast, NamesNoLink, IsOutside, HasNoAddress, HasPrefix, HasWrongAlso, HasWrongCost, HasWrongDirect, spots_of, spots_under, place_spots, interface_spots, also_spots}
+use Rattle.rip_plan.specs.PlanFaults.{nth, IsItem, IsPast, NamesNoLink, IsOutside, HasNoAddress, HasPrefix, HasWrongAlso, HasWrongCost, HasWrongDirect, spots_of, spots_under, place_spots, interface_spots, also_spots, IsOutsideOf}
 use Rattle.rip_plan.proofs.Finding.{Finds, no_rows, ranked, steps_finds, bind_rows}
 use Rattle.rip_plan.proofs.FaultRows.{by_code, IsTold, guard_told, want_told, both_told, interface_from_address, interface_from_cost, interface_from_link, interface_from_outside, interface_from_limit, interface_rows, interface_starts, interfaces_rows, own_from_via, own_from_prefix, own_from_cost, own_from_link, own_from_limit, own_rows, own_starts, owns_rows, router_lists, router_from_duplicate, router_from_name, router_rows, router_starts, routers_rows, interface_row_item, own_row_item, router_row_within, starts_shorter}
 use Rattle.rip_plan.proofs.AlsoSpots.{also_here, also_in, also_items, also_under, also_within}
@@ -182,7 +182,7 @@ costs_clear : (x : Data) (f : InterfaceFields) → HasInterfaceFields x f → (c
 costs_clear x f fields c e costs directs (inl (z, is, bad)) = cost_clear (get (codes_of "cost") x) f.cost c fields.cost costs z is bad
 costs_clear x f fields c e costs directs (inr (b, z, is_cost, least, most, is, bad)) =
     let same : b ≡ c = cost_same x b c is_cost (cost_is (get (codes_of "cost") x) f.cost c fields.cost costs) in
-    direct_clear c (get (codes_of "direct") x) f.direct e fields.direct directs z is (ap (λ (n : ℕ). direct_of n (Some z)) (sym same) ∙ bad)
+    direct_clear c (get (codes_of "direct") x) f.direct e fields.direct directs z is (subst (λ (n : ℕ). IsOutsideOf n z) same bad)
 
 -- ---- interfaces
 

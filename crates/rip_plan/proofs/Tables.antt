@@ -9,9 +9,9 @@ use Rattle.rip_wire.specs.Address.{address_in}
 use Rattle.rip_plan.specs.Fields.{InterfaceFields, OwnFields, ◌&>◌, has_only, list_of, text_at, items_at, items_if, integer_if, texts_of, flag_if, text_if, address_if, link_if, addresses_in, link_keys, interface_keys, own_keys, router_keys, is_between, link_fields, interface_fields, own_fields, router_fields, cost_of, direct_of}
 use Rattle.rip_plan.specs.Names.{number_of_name}
 use Rattle.rip_plan.specs.PlanOf.{HasText, IsAddressOf, IsCostOf, IsDirectOf, IsGatewayOf, IsKeptOf, IsLinkOf, IsNameOf, Matched, items_in}
-use Rattle.rip_plan.specs.PlanFaults.{HasNoAddress}
+use Rattle.rip_plan.specs.PlanFaults.{HasNoAddress, IsOutsideOf}
 use Rattle.rip_plan.proofs.Matching.{matched_right, matched_weaker}
-use Rattle.rip_plan.proofs.Texts.{TextLaws, address_is, no_address}
+use Rattle.rip_plan.proofs.Texts.{TextLaws, address_is, no_address, first_named}
 use Rattle.rip_plan.specs.Texts.{IsAddressText, IsNoAddress}
 
 pub then_some : {A B : Type 0} (o : Option A) (f : A → Option B) (y : B) → (o &> f) ≡ Some y → (x : A) × (o ≡ Some x) × (f x ≡ Some y)
@@ -227,7 +227,7 @@ link_is links d (Some name) link has h = by_number (number_of_name name links) r
   where
     by_number : (o : Option ℕ) → number_of_name name links ≡ o → option_map Some o ≡ Some link → IsLinkOf links d link
     by_number None e g = absurd (none-some link g)
-    by_number (Some l) e g = subst (IsLinkOf links d) (same_Some (Some l) link g) (name, has, e)
+    by_number (Some l) e g = subst (IsLinkOf links d) (same_Some (Some l) link g) (name, has, first_named name links l e)
 
 gateway_is : (laws : TextLaws) (d : Data) (text : Option (List ℕ)) (via : Option ℕ) → IsTextIf (get (codes_of "via") d) text → address_if text ≡ Some via → IsGatewayOf d via
 gateway_is laws d None via has h = let same : None ≡ via = same_Some None via h in subst (IsGatewayOf d) same has
@@ -280,22 +280,37 @@ integer_told f c (Some d) given some h e = by_given (as_integer d) refl h
         let same : Some z ≡ given = same_Some (Some z) given g in
         (z, ap (λ (x : Data). Some x) (integer_is d z k), ap f same ∙ e)
 
-integer_clear : (f : Option ℤ → Option ℕ) (o : Option Data) (given : Option ℤ) (c : ℕ) → integer_if o ≡ Some given → f given ≡ Some c → (z : ℤ) → o ≡ Some (integer z) → f (Some z) ≡ None → ⊥
-integer_clear f o given c h e z is none =
+integer_clear : (f : Option ℤ → Option ℕ) (o : Option Data) (given : Option ℤ) (c : ℕ) → integer_if o ≡ Some given → f given ≡ Some c → (z : ℤ) → o ≡ Some (integer z) → f (Some z) ≡ Some c
+integer_clear f o given c h e z is =
     let same : Some z ≡ given = same_Some (Some z) given (ap integer_if (sym is) ∙ h) in
-    none-some c (sym none ∙ ap f same ∙ e)
+    ap f same ∙ e
 
-pub cost_told : (o : Option Data) (given : Option ℤ) → integer_if o ≡ Some given → cost_of given ≡ None → (z : ℤ) × (o ≡ Some (integer z)) × (cost_of (Some z) ≡ None)
-cost_told o given h e = integer_told cost_of 1 o given refl h e
+cost_direct : (z : ℤ) → cost_of (Some z) ≡ direct_of 15 (Some z)
+cost_direct (pos n) = refl
+cost_direct (negsuc n) = refl
 
-pub cost_clear : (o : Option Data) (given : Option ℤ) (c : ℕ) → integer_if o ≡ Some given → cost_of given ≡ Some c → (z : ℤ) → o ≡ Some (integer z) → cost_of (Some z) ≡ None → ⊥
-cost_clear o given c h e z is none = integer_clear cost_of o given c h e z is none
+outside : (most : ℕ) (z : ℤ) → direct_of most (Some z) ≡ None → IsOutsideOf most z
+outside most z none c is least few =
+    let within : is_between 1 most c ≡ true = grind (arith, nat_tests) in
+    none-some c (sym none ∙ ap (λ (y : ℤ). direct_of most (Some y)) is ∙ ap (λ (b : Bool). cond b (Some c) None) within)
 
-pub direct_told : (cost : ℕ) (o : Option Data) (given : Option ℤ) → integer_if o ≡ Some given → direct_of cost given ≡ None → (z : ℤ) × (o ≡ Some (integer z)) × (direct_of cost (Some z) ≡ None)
-direct_told cost o given h e = integer_told (direct_of cost) cost o given refl h e
+not_outside : (most : ℕ) (z : ℤ) (c : ℕ) → direct_of most (Some z) ≡ Some c → IsOutsideOf most z → ⊥
+not_outside most (pos n) c h bad =
+    let (between, same) = cond_some (is_between 1 most n) n c h in
+    bad n refl (grind (arith, nat_tests)) (grind (arith, nat_tests))
+not_outside most (negsuc n) c h bad = none-some c h
 
-pub direct_clear : (cost : ℕ) (o : Option Data) (given : Option ℤ) (c : ℕ) → integer_if o ≡ Some given → direct_of cost given ≡ Some c → (z : ℤ) → o ≡ Some (integer z) → direct_of cost (Some z) ≡ None → ⊥
-direct_clear cost o given c h e z is none = integer_clear (direct_of cost) o given c h e z is none
+pub cost_told : (o : Option Data) (given : Option ℤ) → integer_if o ≡ Some given → cost_of given ≡ None → (z : ℤ) × (o ≡ Some (integer z)) × IsOutsideOf 15 z
+cost_told o given h e = let (z, is, none) = integer_told cost_of 1 o given refl h e in (z, is, outside 15 z (sym (cost_direct z) ∙ none))
+
+pub cost_clear : (o : Option Data) (given : Option ℤ) (c : ℕ) → integer_if o ≡ Some given → cost_of given ≡ Some c → (z : ℤ) → o ≡ Some (integer z) → IsOutsideOf 15 z → ⊥
+cost_clear o given c h e z is bad = not_outside 15 z c (sym (cost_direct z) ∙ integer_clear cost_of o given c h e z is) bad
+
+pub direct_told : (cost : ℕ) (o : Option Data) (given : Option ℤ) → integer_if o ≡ Some given → direct_of cost given ≡ None → (z : ℤ) × (o ≡ Some (integer z)) × IsOutsideOf cost z
+direct_told cost o given h e = let (z, is, none) = integer_told (direct_of cost) cost o given refl h e in (z, is, outside cost z none)
+
+pub direct_clear : (cost : ℕ) (o : Option Data) (given : Option ℤ) (c : ℕ) → integer_if o ≡ Some given → direct_of cost given ≡ Some c → (z : ℤ) → o ≡ Some (integer z) → IsOutsideOf cost z → ⊥
+direct_clear cost o given c h e z is bad = not_outside cost z c (integer_clear (direct_of cost) o given c h e z is) bad
 
 -- ---- costs that may stand
 

@@ -1,13 +1,10 @@
 -- Bytes without a fault are the well-formed ones.
-use Rattle.std.proofs.Common.{◌≡◌, ℕ, zero, suc, ◌+◌, ◌<◌, ◌≤◌, ◌⊎◌, inl, inr, List, [], ◌∷◌, ◌++◌, map, length, length-append, sum, Bool, true, false, cond, not, Option, None, Some, refl, sym, ◌∙◌, ap, subst, arith}
-use Rattle.std.specs.Prelude.{ℤ, pos, slice_get, get_or, codes as codes_of}
+use Rattle.std.proofs.Common.{◌≡◌, ℕ, zero, suc, ◌+◌, ◌<◌, ◌≤◌, ◌⊎◌, inl, inr, List, [], ◌∷◌, ◌++◌, map, length, length-append, sum, Bool, true, false, not, Option, None, Some, refl, sym, ◌∙◌, ap, subst, arith}
+use Rattle.std.specs.Prelude.{pos, slice_get, get_or, codes as codes_of}
 use Rattle.std.specs.List.{All, sum_by}
-use Rattle.std.specs.Str.{bytes_eq}
 use Rattle.std.proofs.lemmas.Bool.{cases_lt}
-use Rattle.std.proofs.lemmas.Bool.Decides.{nat_tests}
 use Rattle.std.proofs.lemmas.List.Sums.{sum-map, sum_by-cons}
 use Rattle.std.proofs.lemmas.Option.{none-some, same_Some, slice_get_within, get_or_from_slice_get, slice_get-get_or}
-use Rattle.std.proofs.lemmas.Slice.Eq.{bytes_eq-Decides}
 use Rattle.toml.specs.Data.{Data, Members, as_str, as_table, get, integer, string, table}
 use Rattle.rip_wire.specs.Name.{IsName}
 use Rattle.rip_wire.specs.Prefix.{Block}
@@ -19,15 +16,14 @@ use Rattle.rip_plan.specs.declared.error.At.TheVariants.{Text, Version, Link, Li
 use Rattle.rip_plan.specs.declared.parts.Interface.{Interface}
 use Rattle.rip_plan.specs.declared.parts.Seat.TheVariants as seats
 use Rattle.rip_plan.specs.Fault.{fault}
-use Rattle.rip_plan.specs.Fields.{◌&>◌, cost_of, direct_of, interface_fields, is_between, is_version, link_fields, own_fields, root_fields, router_fields}
-use Rattle.rip_plan.specs.Names.{number_of_name}
+use Rattle.rip_plan.specs.Fields.{◌&>◌, interface_fields, is_version, link_fields, own_fields, root_fields, router_fields}
 use Rattle.rip_plan.specs.Network.{Network}
 use Rattle.rip_plan.specs.PlanFaults.{AreTwice, AstrayAt, DoMeet, FaultAt, HasNoAddress, HasOneTwice, HasPrefix, HasTables, HasWrongAlso, HasWrongCost, HasWrongDirect, HaveOneAddress, IsAstray, IsBare, IsClash, IsFault, IsFound, IsItem, IsMisnamed, IsNamedAgain, IsOutside, IsPast, IsSo, IsText, NamesNoLink, TableFault, also_spots, interface_spots, nth, pass_of, place_spots, spots_under}
 use Rattle.rip_plan.specs.PlanOf.{AreAlsoOf, IsAddressOf, IsCostOf, IsDirectOf, IsGatewayOf, IsLinkOf, IsInterfaceOf, IsNameOf, IsOnLink, IsOwned, IsPlaceOf, IsPlanOfText, Matched, Placement, PlanOf, items_in, items_under}
 use Rattle.rip_plan.specs.Relations.{Carries, HasOwnAddress, IsConnected, IsInterface, IsLawful, IsOwnAt, IsPlace, IsPrefix}
 use Rattle.rip_plan.specs.WellFormed.{HasFields, IsWellFormed}
 use Rattle.rip_plan.proofs.AlsoSpots.{also_count, also_in, also_items, also_under}
-use Rattle.rip_plan.proofs.Items.{get_seen, get_split, position_finds, see_got}
+use Rattle.rip_plan.proofs.Items.{get_seen, get_split, see_got}
 use Rattle.rip_plan.proofs.Matching.{matched_left, matched_length, matched_right}
 use Rattle.rip_plan.proofs.OnePlan.{cost_same, one_plan, text_same}
 use Rattle.rip_plan.proofs.PlanMatches.{with_number}
@@ -88,19 +84,17 @@ costs : (d : Data) (c : ℕ) → IsCostOf d c → 1 ≤ c → c ≤ 15 → HasWr
 costs d c (inr given) least most (z, is, none) = none-some (integer z) (sym given.0 ∙ is)
 costs d c (inl given) least most (z, is, none) =
     let same : integer (pos c) ≡ integer z = same_Some (integer (pos c)) (integer z) (sym given ∙ is) in
-    let number : pos c ≡ z = cc in
-    let within : is_between 1 15 c ≡ true = grind (arith, nat_tests) in
-    none-some c (sym none ∙ ap (λ (y : ℤ). cost_of (Some y)) (sym number) ∙ ap (λ (b : Bool). cond b (Some c) None) within)
+    let number : z ≡ pos c = cc in
+    none c number least most
 
 -- a direct metric that may stand beside the cost
 directs : (d : Data) (c e : ℕ) → IsCostOf d c → IsDirectOf d c e → 1 ≤ e → e ≤ c → HasWrongDirect d → ⊥
 directs d c e cost (inr given) least most (b, z, is_cost, one, fifteen, is, none) = none-some (integer z) (sym given.0 ∙ is)
 directs d c e cost (inl given) least most (b, z, is_cost, one, fifteen, is, none) =
     let same : integer (pos e) ≡ integer z = same_Some (integer (pos e)) (integer z) (sym given ∙ is) in
-    let number : pos e ≡ z = cc in
-    let within : is_between 1 c e ≡ true = grind (arith, nat_tests) in
-    let lacks : direct_of c (Some (pos e)) ≡ None = ap (λ (m : ℕ). direct_of m (Some (pos e))) (cost_same d c b cost is_cost) ∙ ap (λ (y : ℤ). direct_of b (Some y)) number ∙ none in
-    none-some e (sym lacks ∙ ap (λ (t : Bool). cond t (Some e) None) within)
+    let its : b ≡ c = cost_same d b c is_cost cost in
+    let number : z ≡ pos e = cc in
+    none e number least (subst (λ (n : ℕ). e ≤ n) (sym its) most)
 
 -- a gateway that is an address
 gateways : (d : Data) (via : Option ℕ) → IsGatewayOf d via → HasNoAddress (codes_of "via") d → ⊥
@@ -235,30 +229,26 @@ module _ (laws : TextLaws) (document : Members) (n : Network) (plan : PlanOf doc
       ]
 
   -- a link of the plan has the name
-  link_there : (name : List ℕ) (l : ℕ) → number_of_name name n.links ≡ Some l → ((m : ℕ) (link : Data) → slice_get plan.links m ≡ Some link → IsNameOf name link → ⊥) → ⊥
+  link_there : (name : List ℕ) (l : ℕ) → slice_get n.links l ≡ Some name → ((m : ℕ) (link : Data) → slice_get plan.links m ≡ Some link → IsNameOf name link → ⊥) → ⊥
   link_there name l known none =
-      let (k, other, number, at, test) = position_finds (λ (y : List ℕ). bytes_eq y name) 0 n.links l known in
-      let same : other ≡ name = (bytes_eq-Decides other name).0 test in
-      let (link, listed, its) = matched_left IsNameOf n.links plan.links k other plan.link_names at in
-      none k link listed (subst (λ (t : List ℕ). IsNameOf t link) same its)
+      let (link, listed, its) = matched_left IsNameOf n.links plan.links l name plan.link_names known in
+      none l link listed its
 
   unknown_not : (x : Data) → HasInterface x → NamesNoLink plan.links x → ⊥
   unknown_not x h (name, has, none) =
       let same : h.of.link_name ≡ name = text_same (codes_of "link") x h.of.link_name name h.of.has_link has in
-      link_there name h.i.link (ap (λ (t : List ℕ). number_of_name t n.links) (sym same) ∙ h.of.link) none
+      link_there name h.i.link (h.of.link.0 ∙ ap (λ (t : List ℕ). Some t) same) none
 
   attached_not : (x : Data) (link : Option ℕ) → IsLinkOf n.links x link → NamesNoLink plan.links x → ⊥
   attached_not x None is (name, has, none) = none-some (string name) (sym is ∙ has)
   attached_not x (Some l) (other, its, known) (name, has, none) =
       let same : other ≡ name = text_same (codes_of "link") x other name its has in
-      link_there name l (ap (λ (t : List ℕ). number_of_name t n.links) (sym same) ∙ known) none
+      link_there name l (known.0 ∙ ap (λ (t : List ℕ). Some t) same) none
 
   outside_not : (x : Data) → HasInterface x → IsOutside plan.links x → ⊥
   outside_not x h o =
-      let (k, other, number, at, test) = position_finds (λ (y : List ℕ). bytes_eq y h.of.link_name) 0 n.links h.i.link h.of.link in
-      let same : other ≡ o.name = (bytes_eq-Decides other h.of.link_name).0 test ∙ text_same (codes_of "link") x h.of.link_name o.name h.of.has_link o.has_link in
-      let here : h.i.link ≡ k = omega arith in
-      let one : slice_get n.links h.i.link ≡ Some o.name = ap (slice_get n.links) here ∙ at ∙ ap (λ (t : List ℕ). Some t) same in
+      let same : h.of.link_name ≡ o.name = text_same (codes_of "link") x h.of.link_name o.name h.of.has_link o.has_link in
+      let one : slice_get n.links h.i.link ≡ Some o.name = h.of.link.0 ∙ ap (λ (t : List ℕ). Some t) same in
       let two : slice_get n.links o.link ≡ Some o.name = names_good n.links plan.links plan.link_names (suc o.link) o.link o.name o.link_table refl o.listed o.named in
       let link : h.i.link ≡ o.link = lawful.link_names_differ h.i.link o.link o.name one two in
       let text : h.of.text ≡ o.text = text_same (codes_of "address") x h.of.text o.text h.of.has_address o.has_address in

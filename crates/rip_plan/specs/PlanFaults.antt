@@ -12,7 +12,7 @@ use Rattle.rip_plan.specs.declared.error.At.TheVariants.{Text, Version, Link, Li
 use Rattle.rip_plan.specs.declared.limits.TheConstants.{MOST_ALSO, MOST_COST, MOST_INTERFACES, MOST_LINKS, MOST_PLACES, MOST_PLAN_BYTES, MOST_ROUTERS}
 use Rattle.rip_plan.specs.declared.parts.Seat.TheVariants as seats
 use Rattle.rip_plan.specs.Codes.{number_of_code}
-use Rattle.rip_plan.specs.Fields.{◌&>◌, cost_of, direct_of, interface_fields, link_fields, own_fields, root_fields, router_fields}
+use Rattle.rip_plan.specs.Fields.{◌&>◌, interface_fields, link_fields, own_fields, root_fields, router_fields}
 use Rattle.rip_plan.specs.Network.{Network}
 use Rattle.rip_plan.specs.PlanOf.{HasItems, HasText, IsCostOf, IsNameOf, PlanOf, items_in, items_under}
 use Rattle.rip_plan.specs.PlanText.{document_of}
@@ -96,15 +96,19 @@ IsNamedAgain ds i =
 abbrev pub IsPast : ℕ → List At → At → Type 0
 IsPast most spots at = (k : ℕ) × (slice_get spots k ≡ Some at) × (most ≤ k)
 
+-- the integer is none of 1 to the most
+abbrev pub IsOutsideOf : ℕ → ℤ → Type 0
+IsOutsideOf most z = (c : ℕ) → z ≡ pos c → 1 ≤ c → c ≤ most → ⊥
+
 -- the cost is an integer outside 1 to 15
 abbrev pub HasWrongCost : Data → Type 0
-HasWrongCost d = (z : ℤ) × (get (codes "cost") d ≡ Some (integer z)) × (cost_of (Some z) ≡ None)
+HasWrongCost d = (z : ℤ) × (get (codes "cost") d ≡ Some (integer z)) × IsOutsideOf MOST_COST z
 
 -- the direct metric is an integer outside 1 to the cost, which is 1 to 15 itself
 abbrev pub HasWrongDirect : Data → Type 0
 HasWrongDirect d =
     (c : ℕ) × (z : ℤ) × IsCostOf d c × (1 ≤ c) × (c ≤ MOST_COST)
-    × (get (codes "direct") d ≡ Some (integer z)) × (direct_of c (Some z) ≡ None)
+    × (get (codes "direct") d ≡ Some (integer z)) × IsOutsideOf c z
 
 -- the text at the key is no address
 abbrev pub HasNoAddress : List ℕ → Data → Type 0

@@ -1,6 +1,6 @@
 -- What it is for a network to be the plan of a document: each list is matched item by item with the
 -- document's tables.
-use Rattle.std.specs.Prelude.{◌≡◌, ◌⊎◌, ℕ, ◌+◌, pos, List, [], ◌∷◌, ◌++◌, map, filter, Bool, false, not, codes, Option, None, Some}
+use Rattle.std.specs.Prelude.{◌≡◌, ◌⊎◌, ℕ, ◌+◌, ◌≤◌, pos, List, [], ◌∷◌, ◌++◌, map, filter, Bool, false, not, codes, Option, None, Some, slice_get}
 use Rattle.toml.specs.Data.{Data, Items, Members, string, boolean, integer, array, table, get}
 use Rattle.rip_wire.specs.Prefix.{Block}
 use Rattle.rip_plan.specs.declared.parts.Interface.{Interface}
@@ -8,7 +8,6 @@ use Rattle.rip_plan.specs.declared.parts.Place.{Place}
 use Rattle.rip_plan.specs.declared.parts.Seat.{Seat}
 use Rattle.rip_plan.specs.declared.parts.Seat.TheVariants as seats
 use Rattle.rip_plan.specs.Fields.{list_of}
-use Rattle.rip_plan.specs.Names.{number_of_name}
 use Rattle.rip_plan.specs.Passes.{same_prefix}
 use Rattle.rip_plan.specs.PlanText.{document_of}
 use Rattle.rip_plan.specs.Network.{Network}
@@ -50,11 +49,16 @@ IsKeptOf d kept =
     (get (codes "kept") d ≡ Some (boolean kept))
     ⊎ ((get (codes "kept") d ≡ None) × (kept ≡ false))
 
+-- name l is the first that is this one
+abbrev pub IsFirstNamed : List (List ℕ) → List ℕ → ℕ → Type 0
+IsFirstNamed names name l =
+    (slice_get names l ≡ Some name) × ((k : ℕ) → slice_get names k ≡ Some name → l ≤ k)
+
 -- the link that the table gives by its name, or nothing where it gives none
 abbrev pub IsLinkOf : List (List ℕ) → Data → Option ℕ → Type 0
 IsLinkOf links d None = get (codes "link") d ≡ None
 IsLinkOf links d (Some l) =
-    (name : List ℕ) × HasText (codes "link") d name × (number_of_name name links ≡ Some l)
+    (name : List ℕ) × HasText (codes "link") d name × IsFirstNamed links name l
 
 -- the gateway that the table gives, or nothing where it gives none
 abbrev pub IsGatewayOf : Data → Option ℕ → Type 0
@@ -86,7 +90,7 @@ pub record IsInterfaceOf (links : List (List ℕ)) (i : Interface) (at : ℕ × 
   pub router : i.router ≡ at.0
   pub link_name : List ℕ
   pub has_link : HasText (codes "link") at.1 link_name
-  pub link : number_of_name link_name links ≡ Some i.link
+  pub link : IsFirstNamed links link_name i.link
   pub text : List ℕ
   pub has_address : HasText (codes "address") at.1 text
   pub address : IsAddressText text i.address
