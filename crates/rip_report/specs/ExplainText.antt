@@ -15,9 +15,9 @@ use Rattle.rip_check.specs.declared.verdict.Place2.{Place2}
 use Rattle.rip_check.specs.declared.verdict.Unclear.{Unclear}
 use Rattle.rip_check.specs.declared.verdict.Unclear.TheVariants.{NotHeard, TwoMetrics, Missing, ShownOn, TwoWays}
 use Rattle.rip_report.specs.AuditText.{AllFailing, VerdictText, settled_line, unclear_line, unsettled_line}
+use Rattle.rip_report.specs.Lines.{read_part}
 use Rattle.rip_report.specs.Listings.{TextsBelow, TextsOf, TextsOfPairs}
 use Rattle.rip_report.specs.Names.{name_of, prefix_name}
-use Rattle.rip_report.specs.RoutesText.{read_part}
 use Rattle.rip_report.specs.Written.{Written, line}
 use Rattle.rip_report.specs.declared.status.Status.TheVariants.{Settled, Unsettled, Unclear as IsUnclear}
 

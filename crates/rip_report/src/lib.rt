@@ -8,6 +8,7 @@ mod expect;
 mod explain;
 mod limits;
 mod line;
+mod lines;
 mod listing;
 mod names;
 mod output;

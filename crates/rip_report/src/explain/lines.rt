@@ -6,8 +6,8 @@ ghost use Rattle.rip_report.specs.ExplainText.{direct_line, heard_line, least_li
 ghost use Rattle.rip_report.specs.Names.{IsKnownWay};
 
 use crate::line::Line;
+use crate::lines::push_route;
 use crate::names::{push_link, push_router};
-use crate::routes::push_route;
 use rip_check::{Place2, Route};
 use rip_plan::{Interface, Plan};
 use rip_table::MetricTable;
