@@ -20,7 +20,7 @@ ghost use Rattle.rip_report.specs.PlanText.{IsNoText};
 ghost use Rattle.rip_report.specs.ReportText.{IsAccepted, ReportText};
 ghost use Rattle.rip_report.specs.Sent.{Prints, Reads, WentOut};
 
-use crate::each::{PairText, add_pairs};
+use crate::loops::{PairText, add_pairs};
 use crate::lines::verdicts::settled_text;
 use crate::listing::Listing;
 use crate::output::finish;
