@@ -15,9 +15,9 @@ ghost use Rattle.rip_report.specs.Sent.{Prints, Reads, WentOut, Writes};
 ghost use Rattle.rip_check.specs.Laws.{OneIsShown, ShowsRightTables};
 ghost use Rattle.rip_check.specs.Walks.{PacketsArrive};
 
-use crate::loops::{PairText, add_pairs};
 use crate::lines::verdicts::{settled_text, unclear_text, unsettled_text};
 use crate::listing::Listing;
+use crate::loops::{PairText, add_pairs};
 use crate::output::{finish, write_all};
 use crate::report::{Report, run_report};
 use crate::status::{RunError, Status};

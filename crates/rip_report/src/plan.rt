@@ -10,7 +10,7 @@ ghost use Rattle.rip_report.specs.Sent.{Prints, Writes};
 use crate::line::Line;
 use crate::names::{push_link, push_router};
 use crate::output::{Page, finish};
-pub(crate) use crate::refusal::refuse_plan;
+use crate::refusal::refuse_plan;
 use crate::status::{RunError, Status};
 use rip_log::{Failed, Sink};
 use rip_plan::{Interface, Place, Plan, Seat};

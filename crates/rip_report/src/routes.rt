@@ -15,11 +15,11 @@ ghost use Rattle.rip_report.specs.ReportText.{IsAccepted, ReportText};
 ghost use Rattle.rip_report.specs.RoutesText.{RouteLine, RoutesText, UnheardLine, least_part, pair_part, read_line, routes_line, unread_line};
 ghost use Rattle.rip_report.specs.Sent.{Prints, Reads, WentOut, Writes};
 
-use crate::loops::{InterfaceText, PairText, add_interfaces, add_pairs};
 use crate::line::Line;
 use crate::lines::verdicts::push_reason;
 use crate::lines::{push_route, unheard_text};
 use crate::listing::Listing;
+use crate::loops::{InterfaceText, PairText, add_interfaces, add_pairs};
 use crate::names::{push_counts, push_router};
 use crate::output::finish;
 use crate::report::{Report, run_report};

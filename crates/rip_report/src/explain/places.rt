@@ -10,10 +10,10 @@ ghost use Rattle.rip_report.specs.AuditText.{AreKnown, FailingText};
 ghost use Rattle.rip_report.specs.ExplainText.{DirectLine, OfferLine, OfferLines, OffersOver, PlaceLines, ShownLine, ShownLines};
 ghost use Rattle.rip_report.specs.Listings.{Adds};
 
-use crate::loops::{InterfaceText, PairText, add_listed};
 use crate::explain::lines::{direct_text, least_text, offer_text, read_route_text, shown_text};
 use crate::lines::verdicts::unsettled_text;
 use crate::listing::Listing;
+use crate::loops::{InterfaceText, PairText, add_listed};
 use rip_check::{Expected, Place2, Unsettled, offer};
 use rip_log::Sink;
 use rip_plan::{Interface, Plan};
