@@ -10,3 +10,4 @@ pub mod TextLemmas
 pub mod ListingLemmas
 pub mod ExpectLemmas
 pub mod ExplainLemmas
+pub mod GivenLemmas

@@ -8,6 +8,7 @@ pub mod RefusalText
 pub mod Readings
 pub mod ReportText
 pub mod TableText
+pub mod Given
 pub mod Held
 pub mod Finished
 pub mod AuditText
