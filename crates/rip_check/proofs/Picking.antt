@@ -1,8 +1,8 @@
 -- First places, prefix by prefix.
-use Rattle.std.proofs.Common.{◌≡◌, ℕ, ◌+◌, ◌<◌, ◌≤◌, ◌⊎◌, inl, inr, None, arith, length}
+use Rattle.std.proofs.Common.{◌≡◌, ℕ, ◌+◌, ◌<◌, ◌≤◌, inl, inr, Option, None, Some, refl, arith, length}
 use Rattle.std.proofs.lemmas.Bool.{cases_lt}
 use Rattle.rip_plan.specs.Network.{Network}
-use Rattle.rip_check.specs.Firsts.{IsBefore, IsAfter, IsFirst, AreFine, IsFirstBelow, IsFirstPlace}
+use Rattle.rip_check.specs.Firsts.{IsBefore, IsAfter, IsFirst, AreFine, IsFirstAt, IsFirstOf}
 
 module _ (n : Network) (p : ℕ) (Fine : ℕ → ℕ → Type 0) where
   -- a column with nothing new above the first place
@@ -54,77 +54,45 @@ module _ (n : Network) (p : ℕ) (Fine : ℕ → ℕ → Type 0) where
             rw e (column s known)
       ]
 
--- the same of the numbers before k alone
-pub record IsFirstSoFar (bound k : ℕ) (Fine : ℕ → Type 0) (first : ℕ) : Type 0 where
-  pub most : first ≤ bound
-  pub before : (s : ℕ) → s < k → s < first → Fine s
-  pub fails : first < bound → (first < k) × (Fine first → ⊥)
+-- of the numbers before k, the first below the bound that is not fine, if there is one
+abbrev pub IsFirstSoFar : ℕ → ℕ → (ℕ → Type 0) → Option ℕ → Type 0
+IsFirstSoFar bound k Fine None = (s : ℕ) → s < k → s < bound → Fine s
+IsFirstSoFar bound k Fine (Some r) = IsFirstOf bound Fine (Some r)
 
-module _ (bound : ℕ) (Fine : ℕ → Type 0) where
-  pub none_so_far : IsFirstSoFar bound 0 Fine bound
-  none_so_far = record { most = omega arith; before = λ s lt less. absurd (omega (arith, lt)); fails = λ less. absurd (omega (arith, less)) }
+module _ (bound k : ℕ) (Fine : ℕ → Type 0) where
+  -- one more number that is fine, or after the first, or past the bound
+  pub so_far_on : (first : Option ℕ) → IsFirstSoFar bound k Fine first → (first ≡ None → k < bound → Fine k) → IsFirstSoFar bound (k + 1) Fine first
+  so_far_on (Some r) was here = was
+  so_far_on None was here = λ s lt less. elim (cases_lt s k) [
+    | inl sooner ↦ was s sooner less
+    | inr late ↦
+        let e : s ≡ k = omega arith in
+        rw e (here refl (omega (arith, e, less)))
+  ]
 
-  -- one more number that is fine, or that comes after the first
-  pub so_far_on : (k first : ℕ) → IsFirstSoFar bound k Fine first → (k < first → Fine k) → IsFirstSoFar bound (k + 1) Fine first
-  so_far_on k first was here =
-      record {
-        most = was.most;
-        before = λ s lt less. elim (cases_lt s k) [
-          | inl sooner ↦ was.before s sooner less
-          | inr late ↦
-              let e : s ≡ k = omega arith in
-              rw e (here (omega (arith, e, less)))
-        ];
-        fails = λ less. (omega (arith, (was.fails less).0), (was.fails less).1);
-      }
+  -- one more number, the first that is not fine
+  pub so_far_first : IsFirstSoFar bound k Fine None → k < bound → (Fine k → ⊥) → IsFirstSoFar bound (k + 1) Fine (Some k)
+  so_far_first was less fails = (less, λ s lt. was s lt (omega (arith, lt, less)), fails)
 
-  -- one more number that is not fine
-  pub so_far_first : (k first : ℕ) → IsFirstSoFar bound k Fine first → k < first → (Fine k → ⊥) → IsFirstSoFar bound (k + 1) Fine k
-  so_far_first k first was less fails =
-      record { most = omega (arith, less, was.most); before = λ s lt sooner. was.before s sooner (omega (arith, sooner, less)); fails = λ below. (omega arith, fails) }
+  pub all_so_far : (first : Option ℕ) → bound ≤ k → IsFirstSoFar bound k Fine first → IsFirstOf bound Fine first
+  all_so_far None past was = λ s less. was s (omega (arith, less, past)) less
+  all_so_far (Some r) past was = was
 
-  pub all_so_far : (k first : ℕ) → bound ≤ k → IsFirstSoFar bound k Fine first → IsFirstBelow bound Fine first
-  all_so_far k first past was =
-      record { most = was.most; before = λ s less. was.before s (omega (arith, less, was.most, past)) less; fails = λ less. (was.fails less).1 }
+-- the router of the first place, or the number of routers where there is none
+abbrev pub IsRouterOf : Network → Option (ℕ × ℕ) → ℕ → Type 0
+IsRouterOf n None r = r ≡ length n.routers
+IsRouterOf n (Some a) r = r ≡ a.0
 
--- before any prefix
-pub none_yet : (n : Network) (Fine : ℕ → ℕ → Type 0) (r q : ℕ) → r ≡ length n.routers → IsFirstPlace n 0 Fine r q
-none_yet n Fine r q e =
-    record { most = omega (arith, e); first = λ less. absurd (omega (arith, e, less)); fine = λ e' s k known lt late. absurd (omega (arith, lt)) }
+-- one more prefix, after which the first place is where it was, or at a router before
+module _ (n : Network) (p : ℕ) (Fine : ℕ → ℕ → Type 0) where
+  pub next_none : (first : Option (ℕ × ℕ)) (r : ℕ) → IsRouterOf n first r → IsFirstAt n p Fine first → IsFirstOf r (λ s. Fine s p) None → IsFirstAt n (p + 1) Fine first
+  next_none None r e was column = fine_on n p Fine was (λ s known. column s (omega (arith, known, e)))
+  next_none (Some a) r e was column = first_on n p Fine a.0 a.1 was (λ s less. column s (omega (arith, less, e)))
 
-module _ (n : Network) (p : ℕ) (Fine : ℕ → ℕ → Type 0) (r q : ℕ) (was : IsFirstPlace n p Fine r q) where
-  -- one more prefix, with nothing new before the router
-  place_on : ((s : ℕ) → s < r → Fine s p) → IsFirstPlace n (p + 1) Fine r q
-  place_on column =
-      record {
-        most = was.most;
-        first = λ less. first_on n p Fine r q (was.first less) column;
-        fine = λ e. fine_on n p Fine (was.fine e) (λ s known. column s (omega (arith, known, e)));
-      }
+  pub next_some : (first : Option (ℕ × ℕ)) (r : ℕ) → IsRouterOf n first r → IsFirstAt n p Fine first → (s : ℕ) → IsFirstOf r (λ t. Fine t p) (Some s) → IsFirstAt n (p + 1) Fine (Some (s, p))
+  next_some None r e was s column = new_first n p Fine s (omega (arith, column.0, e)) (λ t k lt le. was t k (omega (arith, le, column.0, e)) lt tt) column.1 column.2
+  next_some (Some a) r e was s column =
+      new_first n p Fine s (omega (arith, column.0, e, was.router)) (λ t k lt le. was.before t k lt tt (inl (omega (arith, le, column.0, e)))) column.1 column.2
 
-  rows : (s k : ℕ) → k < p → s < r → Fine s k
-  rows s k lt less =
-      elim (cases_lt r (length n.routers)) [
-        | inl known ↦ (was.first known).before s k lt tt (inl less)
-        | inr all ↦ was.fine (omega (arith, all, was.most)) s k (omega (arith, less, was.most)) lt tt
-      ]
-
-  -- one more prefix, with a place at a router before
-  place_before : (next : ℕ) → next < r → ((s : ℕ) → s < next → Fine s p) → (Fine next p → ⊥) → IsFirstPlace n (p + 1) Fine next p
-  place_before next less column fails =
-      record {
-        most = omega (arith, less, was.most);
-        first = λ known. new_first n p Fine next known (λ s k lt le. rows s k lt (omega (arith, le, less))) column fails;
-        fine = λ e. absurd (omega (arith, e, less, was.most));
-      }
-
-  pub place_next : (next k : ℕ) → IsFirstBelow r (λ s. Fine s p) next → ((next < r) × (k ≡ p)) ⊎ ((r ≤ next) × (k ≡ q)) → IsFirstPlace n (p + 1) Fine next k
-  place_next next k column (inl h) = rw h.1 (place_before next h.0 column.before (column.fails h.0))
-  place_next next k column (inr h) =
-      let e : next ≡ r = omega (arith, h.0, column.most) in
-      let before : (s : ℕ) → s < r → Fine s p = rw e at column.before in
-      rw e (rw h.1 (place_on before))
-
-  -- past the last prefix
-  pub all_places : (count : ℕ) → p ≡ count → IsFirstPlace n count Fine r q
-  all_places count e = rw e at was
+pub none_yet : (n : Network) (Fine : ℕ → ℕ → Type 0) → AreFine n 0 None Fine
+none_yet n Fine s k known lt late = absurd (omega (arith, lt))

@@ -7,6 +7,7 @@ pub mod Below
 pub mod Binds
 pub mod StepsTaken
 pub mod Items
+pub mod Texts
 pub mod FirstPass
 pub mod Numbering
 pub mod SecondPasses

@@ -11,13 +11,13 @@ use Rattle.rip_plan.specs.declared.error.At.{At}
 use Rattle.rip_plan.specs.declared.error.At.TheVariants.{LinkPrefix, RouterInterface, RouterOwn}
 use Rattle.rip_plan.specs.Fault.{steps}
 use Rattle.rip_plan.specs.Draft.{Sketch, prefix_step, link_step, interface_step, own_step, router_step}
-use Rattle.rip_plan.specs.PlanOf.{IsAddressOf, items_in}
+use Rattle.rip_plan.specs.PlanOf.{items_in}
 use Rattle.rip_plan.specs.PlanFaults.{spots_of, spots_under}
 use Rattle.rip_plan.proofs.AlsoSpots.{also_in, also_items, also_under}
 use Rattle.rip_plan.proofs.Binds.{bind_ok, ok_same}
 use Rattle.rip_plan.proofs.Matching.{map_append, matched_length}
 use Rattle.rip_plan.proofs.StepsTaken.{with_link, with_router, prefix_taken, link_taken, interface_taken, own_taken, router_taken}
-use Rattle.rip_plan.proofs.Tables.{addresses_are, interface_texts, link_table, router_table}
+use Rattle.rip_plan.proofs.Tables.{interface_texts, link_table, router_table, IsReadOf, addresses_read}
 
 abbrev pub place_ats : Sketch → List At
 place_ats s = map (λ (p : DraftPlace). p.at) s.places
@@ -79,7 +79,7 @@ interfaces_stand r j (x ∷ xs) s t h =
     let taken = interface_taken r j x s u first in
     let fields = interface_texts x taken.given taken.fields in
     let new : DraftInterface = record { interface = _; at = RouterInterface r j } in
-    let count : length taken.also ≡ length (also_items x) = matched_length IsAddressOf taken.also taken.given.also (addresses_are taken.given.also taken.also taken.others) ∙ ap length (sym fields.also_are) in
+    let count : length taken.also ≡ length (also_items x) = matched_length IsReadOf taken.also taken.given.also (addresses_read taken.given.also taken.also taken.others) ∙ ap length (sym fields.also_are) in
     let here : Stands s u [] (RouterInterface r j ∷ []) (length (also_items x)) = record {
       places = ap place_ats taken.made ∙ sym (append-nil (place_ats s));
       interfaces = ap interface_ats taken.made ∙ map_append (λ (i : DraftInterface). i.at) s.interfaces (new ∷ []);

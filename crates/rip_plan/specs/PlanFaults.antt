@@ -2,9 +2,8 @@
 -- which of them is told.
 use Rattle.std.specs.Prelude.{◌≡◌, ◌≢◌, ◌⊎◌, ℕ, zero, suc, ◌+◌, ◌<◌, ◌≤◌, ℤ, pos, List, [], ◌∷◌, ◌++◌, length, map, codes, Option, Some, None, slice_get}
 use Rattle.toml.specs.Data.{Data, Members, as_str, as_table, get, integer, string, table}
-use Rattle.rip_wire.specs.Address.{address_in}
 use Rattle.rip_wire.specs.Name.{IsName}
-use Rattle.rip_wire.specs.Prefix.{Block, ContainsAddress, prefix_in}
+use Rattle.rip_wire.specs.Prefix.{Block, ContainsAddress}
 use Rattle.rip_plan.specs.declared.error.PlanCode.{PlanCode}
 use Rattle.rip_plan.specs.declared.error.PlanCode.TheVariants as codes
 use Rattle.rip_plan.specs.declared.error.PlanError.{PlanError}
@@ -13,11 +12,12 @@ use Rattle.rip_plan.specs.declared.error.At.TheVariants.{Text, Version, Link, Li
 use Rattle.rip_plan.specs.declared.limits.TheConstants.{MOST_ALSO, MOST_COST, MOST_INTERFACES, MOST_LINKS, MOST_PLACES, MOST_PLAN_BYTES, MOST_ROUTERS}
 use Rattle.rip_plan.specs.declared.parts.Seat.TheVariants as seats
 use Rattle.rip_plan.specs.Codes.{number_of_code}
-use Rattle.rip_plan.specs.Fields.{◌&>◌, cost_of, direct_of, interface_fields, link_fields, own_fields, root_fields, router_fields}
+use Rattle.rip_plan.specs.Fields.{◌&>◌, interface_fields, link_fields, own_fields, root_fields, router_fields}
 use Rattle.rip_plan.specs.Network.{Network}
 use Rattle.rip_plan.specs.PlanOf.{HasItems, HasText, IsCostOf, IsNameOf, PlanOf, items_in, items_under}
 use Rattle.rip_plan.specs.PlanText.{document_of}
 use Rattle.rip_plan.specs.Relations.{HasAddress, HasAddresses, IsInterface, IsAttachedAt, IsOn, IsPlace, Touches}
+use Rattle.rip_plan.specs.Texts.{IsAddressText, IsNoAddress, IsNoPrefix, IsPrefixText}
 
 -- ---- the tables of a document and their items, numbered from 1
 
@@ -96,44 +96,44 @@ IsNamedAgain ds i =
 abbrev pub IsPast : ℕ → List At → At → Type 0
 IsPast most spots at = (k : ℕ) × (slice_get spots k ≡ Some at) × (most ≤ k)
 
--- the text is no prefix, or a host bit is set
-abbrev pub IsNoPrefix : List ℕ → Type 0
-IsNoPrefix text = prefix_in text ≡ None
+-- the integer is none of 1 to the most
+abbrev pub IsOutsideOf : ℕ → ℤ → Type 0
+IsOutsideOf most z = (c : ℕ) → z ≡ pos c → 1 ≤ c → c ≤ most → ⊥
 
 -- the cost is an integer outside 1 to 15
 abbrev pub HasWrongCost : Data → Type 0
-HasWrongCost d = (z : ℤ) × (get (codes "cost") d ≡ Some (integer z)) × (cost_of (Some z) ≡ None)
+HasWrongCost d = (z : ℤ) × (get (codes "cost") d ≡ Some (integer z)) × IsOutsideOf MOST_COST z
 
 -- the direct metric is an integer outside 1 to the cost, which is 1 to 15 itself
 abbrev pub HasWrongDirect : Data → Type 0
 HasWrongDirect d =
     (c : ℕ) × (z : ℤ) × IsCostOf d c × (1 ≤ c) × (c ≤ MOST_COST)
-    × (get (codes "direct") d ≡ Some (integer z)) × (direct_of c (Some z) ≡ None)
+    × (get (codes "direct") d ≡ Some (integer z)) × IsOutsideOf c z
 
 -- the text at the key is no address
 abbrev pub HasNoAddress : List ℕ → Data → Type 0
-HasNoAddress key d = (text : List ℕ) × HasText key d text × (address_in text ≡ None)
+HasNoAddress key d = (text : List ℕ) × HasText key d text × IsNoAddress text
 
 -- a further address is a text that is no address
 abbrev pub HasWrongAlso : Data → Type 0
 HasWrongAlso d =
     (k : ℕ) × (text : List ℕ)
     × (slice_get (items_in (get (codes "also") d)) k ≡ Some (string text))
-    × (address_in text ≡ None)
+    × IsNoAddress text
 
 -- a text in the list of link l, which is counted from 0, is this prefix
 abbrev pub HasPrefix : List Data → ℕ → Block → Type 0
 HasPrefix links l p =
     (k : ℕ) × (text : List ℕ)
     × (slice_get (items_under (codes "prefixes") 0 links) k ≡ Some (l, string text))
-    × (prefix_in text ≡ Some p)
+    × IsPrefixText text p
 
 -- the link that the interface names has prefixes, and none contains the interface's address
 pub record IsOutside (links : List Data) (d : Data) : Type 0 where
   pub text : List ℕ
   pub has_address : HasText (codes "address") d text
   pub address : ℕ
-  pub parsed : address_in text ≡ Some address
+  pub spelled : IsAddressText text address
   pub name : List ℕ
   pub has_link : HasText (codes "link") d name
   pub link : ℕ

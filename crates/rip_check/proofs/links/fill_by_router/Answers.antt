@@ -23,8 +23,8 @@ loop-i-preserved c =
     let own = c.interface-own.result in
     let i = c.loop-i.i in
     record {
-      size = omega (arith, c.take.auto.links, c.loop-i.invariant.size);
-      two = c.take.ensures (told_in c.args.keepings.now c.args.metrics.now)
+      size = omega (arith, c.add_interface.auto.links, c.loop-i.invariant.size);
+      two = c.add_interface.ensures (told_in c.args.keepings.now c.args.metrics.now)
           (λ s l d its.
           let same = its_link n i own.router own.link own.cost s l d c.interface-own.ensures.is its in
           let told = c.told_at.ensures i in

@@ -3,7 +3,7 @@ use Rattle.std.proofs.lemmas.Option.{slice_get-get_or}
 use Rattle.rip_check.specs.declared.links.TwoLeast.{TwoLeast}
 use Rattle.rip_check.specs.TwoLeasts.{IsSeen}
 use Rattle.rip_check.proofs.Steps.{take_none, take_one}
-use Rattle.rip_check.proofs.links.take.Goals as goal
+use Rattle.rip_check.proofs.links.add_interface.Goals as goal
 
 pub returns-then-metric-lt16 : goal.returns-then-metric-lt16
 returns-then-metric-lt16 c = λ seen value was.
@@ -15,7 +15,7 @@ returns-then-metric-lt16 c = λ seen value was.
     let has : IsSeen n seen own.link i own.router c.args.metric = record { cost = own.cost; its = its; value = value own.router own.link own.cost its } in
     let at : own.link < length c.args.links.now = omega (arith, c.lawful.ensures.link_known i own.router own.link own.cost its, c.requires.size) in
     let is = was own.link (get_or c.args.links.now own.link blank) (slice_get-get_or c.args.links.now own.link blank at) in
-    take_one n seen i own.router own.link c.args.metric c.args.links.now blank c.with.result at has was (c.with.ensures n seen own.link i is has)
+    take_one n seen i own.router own.link c.args.metric c.args.links.now blank c.with_metric.result at has was (c.with_metric.ensures n seen own.link i is has)
 
 pub returns-else-metric-lt16 : goal.returns-else-metric-lt16
 returns-else-metric-lt16 c = λ seen value was.
@@ -29,8 +29,8 @@ offset_bounds-links-own c =
     let own = c.interface-own.result in
     omega (arith, c.lawful.ensures.few_links, c.lawful.ensures.link_known c.args.interface own.router own.link own.cost c.interface-own.ensures.is)
 
-pub slice_copy_out-with : goal.slice_copy_out-with
-slice_copy_out-with c =
+pub slice_copy_out-with_metric : goal.slice_copy_out-with_metric
+slice_copy_out-with_metric c =
     let own = c.interface-own.result in
     omega (arith, c.requires.size, c.lawful.ensures.link_known c.args.interface own.router own.link own.cost c.interface-own.ensures.is)
 

@@ -1,6 +1,6 @@
 use Rattle.std.proofs.Common.{arith}
 use Rattle.rip_check.proofs.Steps.{lower, keep, new_least, new_next}
-use Rattle.rip_check.proofs.links.with.Goals as goal
+use Rattle.rip_check.proofs.links.with_metric.Goals as goal
 
 pub returns-then-metric-two : goal.returns-then-metric-two
 returns-then-metric-two c = λ n seen l j is has. lower n seen l j c.args.two c.args.router c.args.metric is has c.if-router-two.true c.if-metric-two.true
