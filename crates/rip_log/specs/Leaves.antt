@@ -29,7 +29,7 @@ lines_behind reader = reader.progress.lines
 abbrev pub has_stopped : {R : Type 0} → LogReader R → Bool
 has_stopped reader = reader.progress.is_stopped
 
--- what is still to come from a reader, where bytes are told
+-- what is still to come from a reader, where the bytes to come are modelled
 abbrev pub log_to_come : {R : Type 0} → (R → Option (List ℕ)) → LogReader R → Option Log
 log_to_come coming reader = log_at (lines_behind reader) (text coming reader)
 

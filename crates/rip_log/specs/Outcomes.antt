@@ -37,20 +37,21 @@ abbrev pub is_failure : Outcome → Bool
 is_failure (Some bytes) = false
 is_failure None = true
 
--- each call moved some bytes
+-- whether each call moved some bytes
 abbrev pub all_moved : List Outcome → Bool
 all_moved [] = true
 all_moved (o ∷ later) = is_some_bytes o && all_moved later
 
--- the last call was such a one, and each before it moved some bytes
+-- whether the last call was such a one, and each before it moved some bytes
 abbrev pub ends_in : (Outcome → Bool) → List Outcome → Bool
 ends_in such [] = false
 ends_in such (o ∷ []) = such o
 ends_in such (o ∷ (p ∷ later)) = is_some_bytes o && ends_in such (p ∷ later)
 
--- so were the calls
+-- each of these calls moved some bytes
 abbrev pub AllMoved : List Outcome → Type 0
 AllMoved outcomes = all_moved outcomes ≡ true
 
+-- the last of these calls was such a one, and each before it moved some bytes
 abbrev pub EndIn : (Outcome → Bool) → List Outcome → Type 0
 EndIn such outcomes = ends_in such outcomes ≡ true

@@ -16,7 +16,7 @@ pub trait Sink {
     // The bytes that it has taken.
     ghost taken: { Self → List ℕ };
 
-    // The bytes that what lies beneath it holds, where they are told.
+    // The bytes that what lies beneath it holds, where they are modelled.
     ghost holds: { Self → Option (List ℕ) };
 
     // Whether it has failed.
@@ -26,9 +26,9 @@ pub trait Sink {
     /// one. An error says that the device has failed, then or before.
     fn push(&mut self, bytes: &[u8]) -> Result<usize, Failed>
         ensures bound { WritesAtMost result bytes.now }
-        // It takes them behind those before, and none where it fails.
+        // The bytes that it took follow those that it had taken. Where it fails, it took none.
         ensures took { Gave (taken self.old) (taken self.new) result bytes.now }
-        // Where it is told what lies beneath holds, they went there.
+        // They went to what lies beneath, where that is modelled.
         ensures bytes { WriteAppends (holds self.old) (holds self.new) result bytes.now }
         ensures some { 0 < length bytes.now → IfOk result (λ n. 0 < n) }
 

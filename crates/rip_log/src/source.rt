@@ -1,4 +1,4 @@
-//! Devices that give bytes, and keep a history of them and marks of their failure and of their end.
+//! Devices that give bytes, and keep marks of their failure and of their end.
 
 ghost use Rattle.std.specs.Prelude.{◌≡◌, ◌<◌, ◌↔◌, ℕ, List, Bool, true, false, Option, length, Ok, is_err};
 ghost use Rattle.std.specs.Io.{ReadsAtMost};
@@ -16,7 +16,7 @@ pub trait Source {
     // The bytes that it has given.
     ghost given: { Self → List ℕ };
 
-    // The bytes still to come, where they are told.
+    // The bytes still to come, where they are modelled.
     ghost coming: { Self → Option (List ℕ) };
 
     // Whether it has failed.
@@ -29,9 +29,9 @@ pub trait Source {
     /// at the end. An error says that the device has failed, then or before.
     fn pull(&mut self, buffer: &mut [u8]) -> Result<usize, Failed>
         ensures bound { ReadsAtMost result buffer.new }
-        // The bytes that came are those that it has given now, behind those before. Where it fails, none came.
+        // The bytes that came follow those that it had given. Where it fails, none came.
         ensures gave { Gave (given self.old) (given self.new) result buffer.new }
-        // They were the next to come, where these are told.
+        // They were the next to come, where these are modelled.
         ensures bytes { ReadConsumes (coming self.old) (coming self.new) result buffer.new }
 
         // An error comes exactly where the device has failed, then or before.
@@ -54,7 +54,7 @@ pub trait Source {
     fn ended(&self) -> bool
         ensures { result ≡ at_end self.now };
 
-    // At the end no byte is left, where bytes are told.
+    // At the end no byte is left, where those to come are modelled.
     ghost nothing_left: { (s : Self) → at_end s ≡ true → IsAtEnd (coming s) };
 }
 
