@@ -4,7 +4,7 @@ ghost use Rattle.std.specs.Prelude.{◌≡◌, ◌+◌, ◌≤◌, ◌%◌, ◌�
 ghost use Rattle.std.specs.List.{AllPass};
 ghost use Rattle.hex.specs.Hex.{decode_of, is_hex_digit};
 ghost use Rattle.rip_wire.specs.Datagram.{datagram_bytes, entries_of, kind_of, message_of};
-ghost use Rattle.rip_report.specs.declared.limits.TheConstants.{LINE_BYTES};
+ghost use Rattle.rip_report.specs.declared.limits.TheConstants.{LINE_BYTES, WIRE_FAULT, WORDS};
 ghost use Rattle.rip_report.specs.DecodeText.{DecodeText, entry_line, entry_lines, refused_wire, shown, shown_response, wire_code_text, wire_fault_text};
 ghost use Rattle.rip_report.specs.Held.{held};
 ghost use Rattle.rip_report.specs.Sent.{Prints, Writes};
@@ -47,7 +47,7 @@ fn bytes_of_hex<'a>(word: &[u8], room: &'a mut [u8; KEPT_BYTES]) -> Option<&'a [
 /// The number and the word of a code.
 fn code_text(code: WireCode) -> &'static str
     ensures text { result.now ≡ wire_code_text code }
-    ensures short { length result.now ≤ 32 }
+    ensures short { length result.now ≤ WORDS }
 {
     match code {
         WireCode::Short => "1 Short",
@@ -68,9 +68,9 @@ fn code_text(code: WireCode) -> &'static str
 
 /// Adds a fault of a datagram.
 pub(crate) fn push_wire_fault(text: &mut Line, error: WireError)
-    requires { length text.old + 56 ≤ LINE_BYTES }
+    requires { length text.old + WIRE_FAULT ≤ LINE_BYTES }
     ensures text { text.new ≡ text.old ++ wire_fault_text error.code error.at }
-    ensures size { length text.new ≤ length text.old + 56 }
+    ensures size { length text.new ≤ length text.old + WIRE_FAULT }
 {
     text.push(code_text(error.code));
     text.push(" at ");
@@ -107,7 +107,7 @@ fn entry_text(entry: Entry) -> Line
 
 /// The line of a kind and a number of entries.
 fn kind_text(kind: &str, count: usize) -> Line
-    requires { length kind.now ≤ 32 }
+    requires { length kind.now ≤ WORDS }
     ensures { result ≡ line (kind.now ++ decimal count) }
 {
     let mut text = Line::new();

@@ -3,7 +3,7 @@
 ghost use Rattle.std.specs.Prelude.{◌≡◌, ◌≢◌, ◌+◌, ◌≤◌, ◌<◌, ◌++◌, ℕ, List, [], Err, IfOk, is_err, false, true, length};
 ghost use Rattle.rip_check.specs.Expected.{AreExpected, AreUnreachable};
 ghost use Rattle.rip_check.specs.declared.way.Way.TheVariants.{Over};
-ghost use Rattle.rip_report.specs.declared.limits.TheConstants.{LINE_BYTES};
+ghost use Rattle.rip_report.specs.declared.limits.TheConstants.{LINE_BYTES, NUMBERED};
 ghost use Rattle.rip_report.specs.ExpectText.{ExpectText, OverLines, PairLines, RouterLines, WayLine, expect_line, route_line, unreachable_part};
 ghost use Rattle.rip_report.specs.Listings.{Adds, TextsBelow};
 ghost use Rattle.rip_report.specs.Names.{IsKnownWay};
@@ -24,9 +24,9 @@ use std::alloc::Global;
 
 /// Adds how many pairs of a router and a prefix are unreachable, where some are.
 fn push_unreachable(text: &mut Line, pairs: usize)
-    requires { length text.old + 40 ≤ LINE_BYTES }
+    requires { length text.old + NUMBERED ≤ LINE_BYTES }
     ensures text { text.new ≡ text.old ++ unreachable_part pairs }
-    ensures size { length text.new ≤ length text.old + 40 }
+    ensures size { length text.new ≤ length text.old + NUMBERED }
 {
     if pairs > 0 {
         text.push(", ");

@@ -2,7 +2,7 @@
 
 ghost use Rattle.std.specs.Prelude.{◌≡◌, ◌≢◌, ◌+◌, ◌≤◌, ◌<◌, ◌↔◌, ◌++◌, [], Err, IfSome, length};
 ghost use Rattle.std.specs.List.{flat_map};
-ghost use Rattle.rip_report.specs.declared.limits.TheConstants.{LINE_BYTES};
+ghost use Rattle.rip_report.specs.declared.limits.TheConstants.{CODE_WORD, GATEWAY, LINE_BYTES, NAMED, NUMBERED, PLAN_CODE, POSITION, SEAT, WORDS};
 ghost use Rattle.rip_report.specs.PlanText.{IsNoText, IsSeat, PlanText, address_part, also_text, at_text, attached_text, counts_line, direct_text, gateway_text, interface_line, interface_lines, interface_text, kept_text, place_line, plan_code_text, refused_plan, seat_text, shown_plan, word_of};
 ghost use Rattle.rip_report.specs.Held.{held};
 ghost use Rattle.rip_report.specs.Sent.{Prints, Writes};
@@ -19,7 +19,7 @@ use std::alloc::Global;
 /// The word of a code.
 fn word(code: PlanCode) -> &'static str
     ensures text { result.now ≡ word_of code }
-    ensures short { length result.now ≤ 32 }
+    ensures short { length result.now ≤ CODE_WORD }
 {
     match code {
         PlanCode::Syntax => "Syntax",
@@ -43,9 +43,9 @@ fn word(code: PlanCode) -> &'static str
 
 /// Adds the number and the word of a code.
 fn push_code(text: &mut Line, code: PlanCode)
-    requires { length text.old + 53 ≤ LINE_BYTES }
+    requires { length text.old + PLAN_CODE ≤ LINE_BYTES }
     ensures text { text.new ≡ text.old ++ plan_code_text code }
-    ensures size { length text.new ≤ length text.old + 53 }
+    ensures size { length text.new ≤ length text.old + PLAN_CODE }
 {
     text.push_number(u64::from(code.number()));
     text.push(" ");
@@ -54,9 +54,9 @@ fn push_code(text: &mut Line, code: PlanCode)
 
 /// Adds a position in a plan's text.
 fn push_at(text: &mut Line, place: At)
-    requires { length text.old + 72 ≤ LINE_BYTES }
+    requires { length text.old + POSITION ≤ LINE_BYTES }
     ensures text { text.new ≡ text.old ++ at_text place }
-    ensures size { length text.new ≤ length text.old + 72 }
+    ensures size { length text.new ≤ length text.old + POSITION }
 {
     match place {
         At::Text => text.push("text"),
@@ -112,9 +112,9 @@ fn counts_text(plan: &Plan) -> Line
 
 /// Adds the metric at which a router has the prefixes of a link, where it is not the cost.
 fn push_direct(text: &mut Line, interface: Interface)
-    requires { length text.old + 28 ≤ LINE_BYTES }
+    requires { length text.old + NUMBERED ≤ LINE_BYTES }
     ensures text { text.new ≡ text.old ++ direct_text interface }
-    ensures size { length text.new ≤ length text.old + 28 }
+    ensures size { length text.new ≤ length text.old + NUMBERED }
 {
     if interface.direct != interface.cost {
         text.push(" direct ");
@@ -211,9 +211,9 @@ fn write_interfaces<K: Sink>(page: &mut Page, plan: &Plan, out: &mut K) -> Resul
 
 /// Adds that a router keeps a prefix of its own, where the plan says so.
 fn push_kept(text: &mut Line, kept: bool)
-    requires { length text.old + 5 ≤ LINE_BYTES }
+    requires { length text.old + WORDS ≤ LINE_BYTES }
     ensures text { text.new ≡ text.old ++ kept_text kept }
-    ensures size { length text.new ≤ length text.old + 5 }
+    ensures size { length text.new ≤ length text.old + WORDS }
 {
     if kept {
         text.push(" kept");
@@ -223,9 +223,9 @@ fn push_kept(text: &mut Line, kept: bool)
 /// Adds the link to which a prefix is attached, if it is.
 fn push_attached(text: &mut Line, plan: &Plan, link: Option<usize>)
     requires known { IfSome link (λ l. l < length plan.now.links) }
-    requires room { length text.old + 38 ≤ LINE_BYTES }
+    requires room { length text.old + NAMED ≤ LINE_BYTES }
     ensures text { text.new ≡ text.old ++ attached_text plan.now link }
-    ensures size { length text.new ≤ length text.old + 38 }
+    ensures size { length text.new ≤ length text.old + NAMED }
 {
     if let Some(link) = link {
         text.push(" link ");
@@ -235,9 +235,9 @@ fn push_attached(text: &mut Line, plan: &Plan, link: Option<usize>)
 
 /// Adds the gateway of a prefix, if it has one.
 fn push_gateway(text: &mut Line, via: Option<Address>)
-    requires { length text.old + 20 ≤ LINE_BYTES }
+    requires { length text.old + GATEWAY ≤ LINE_BYTES }
     ensures text { text.new ≡ text.old ++ gateway_text via }
-    ensures size { length text.new ≤ length text.old + 20 }
+    ensures size { length text.new ≤ length text.old + GATEWAY }
 {
     if let Some(gateway) = via {
         text.push(" via ");
@@ -248,9 +248,9 @@ fn push_gateway(text: &mut Line, via: Option<Address>)
 /// Adds the seat of a place.
 fn push_seat(text: &mut Line, plan: &Plan, seat: Seat)
     requires known { IsSeat plan.now seat }
-    requires room { length text.old + 129 ≤ LINE_BYTES }
+    requires room { length text.old + SEAT ≤ LINE_BYTES }
     ensures text { text.new ≡ text.old ++ seat_text plan.now seat }
-    ensures size { length text.new ≤ length text.old + 129 }
+    ensures size { length text.new ≤ length text.old + SEAT }
 {
     match seat {
         Seat::Link(link) => {

@@ -8,7 +8,7 @@ ghost use Rattle.rip_report.specs.Given.{IsGiven};
 ghost use Rattle.rip_log.specs.Wholes.{Went};
 ghost use Rattle.rip_table.specs.State.{Fits, State};
 ghost use Rattle.rip_check.specs.Expected.{AreExpected};
-ghost use Rattle.rip_report.specs.declared.limits.TheConstants.{LINE_BYTES};
+ghost use Rattle.rip_report.specs.declared.limits.TheConstants.{LINE_BYTES, NUMBERED, PLACE, ROUTE};
 ghost use Rattle.rip_report.specs.AuditText.{IsKnownReason};
 ghost use Rattle.rip_report.specs.Listings.{TextsBelow, TextsOfPairs};
 ghost use Rattle.rip_report.specs.Names.{IsKnownWay};
@@ -50,9 +50,9 @@ fn counts_text<T: MetricTable>(plan: &Plan, table: &T) -> Line
 fn push_pair<T: MetricTable>(text: &mut Line, plan: &Plan, table: &T, router: usize, prefix: usize)
     requires router { router < length plan.now.routers }
     requires prefix { prefix < length (T.state table.now).prefixes }
-    requires room { length text.old + 52 ≤ LINE_BYTES }
+    requires room { length text.old + PLACE ≤ LINE_BYTES }
     ensures text { text.new ≡ text.old ++ pair_part plan.now (T.state table.now) router prefix }
-    ensures size { length text.new ≤ length text.old + 52 }
+    ensures size { length text.new ≤ length text.old + PLACE }
 {
     push_router(text, plan, router);
     text.push(" ");
@@ -63,10 +63,10 @@ fn push_pair<T: MetricTable>(text: &mut Line, plan: &Plan, table: &T, router: us
 /// Adds a route.
 pub(crate) fn push_route(text: &mut Line, plan: &Plan, route: &Route)
     requires way { IsKnownWay plan.now route.now.way }
-    requires room { length text.old + 67 ≤ LINE_BYTES }
+    requires room { length text.old + ROUTE ≤ LINE_BYTES }
     ensures text { text.new ≡ text.old ++ read_part plan.now
         (record { metric = route.now.metric; way = route.now.way }) route.now.hidden }
-    ensures size { length text.new ≤ length text.old + 67 }
+    ensures size { length text.new ≤ length text.old + ROUTE }
 {
     text.push_metric(route.metric);
     text.push(" ");
@@ -78,9 +78,9 @@ pub(crate) fn push_route(text: &mut Line, plan: &Plan, route: &Route)
 
 /// Adds the least metric, where the metric is another.
 fn push_least(text: &mut Line, metric: Metric, least: Metric)
-    requires { length text.old + 28 ≤ LINE_BYTES }
+    requires { length text.old + NUMBERED ≤ LINE_BYTES }
     ensures text { text.new ≡ text.old ++ least_part metric least }
-    ensures size { length text.new ≤ length text.old + 28 }
+    ensures size { length text.new ≤ length text.old + NUMBERED }
 {
     if metric != least {
         text.push(", least ");

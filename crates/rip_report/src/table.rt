@@ -6,7 +6,7 @@ ghost use Rattle.rip_plan.specs.declared.error.PlanError.{PlanError};
 ghost use Rattle.rip_report.specs.Given.{IsGiven};
 ghost use Rattle.rip_log.specs.Wholes.{Went};
 ghost use Rattle.rip_table.specs.State.{Fits, State};
-ghost use Rattle.rip_report.specs.declared.limits.TheConstants.{LINE_BYTES};
+ghost use Rattle.rip_report.specs.declared.limits.TheConstants.{INTERFACE, LINE_BYTES, WORDS};
 ghost use Rattle.rip_report.specs.TableText.{TableText, interface_lines, interface_name, prefix_lines, shown_lines, shown_table, table_line, unheard_line};
 ghost use Rattle.rip_report.specs.Held.{held};
 ghost use Rattle.rip_report.specs.PlanText.{IsNoText};
@@ -50,9 +50,9 @@ fn counts_text(interfaces: usize, prefixes: usize) -> Line
 fn push_interface(text: &mut Line, plan: &Plan, interface: Interface)
     requires router { interface.router < length plan.now.routers }
     requires link { interface.link < length plan.now.links }
-    requires room { length text.old + 65 ≤ LINE_BYTES }
+    requires room { length text.old + INTERFACE ≤ LINE_BYTES }
     ensures text { text.new ≡ text.old ++ interface_name plan.now interface }
-    ensures size { length text.new ≤ length text.old + 65 }
+    ensures size { length text.new ≤ length text.old + INTERFACE }
 {
     push_router(text, plan, interface.router);
     text.push(" ");
@@ -78,7 +78,7 @@ fn front_text(plan: &Plan, interface: Interface) -> Line
     requires router { interface.router < length plan.now.routers }
     requires link { interface.link < length plan.now.links }
     ensures text { result ≡ interface_name plan.now interface ++ codes " " }
-    ensures size { length result ≤ 66 }
+    ensures size { length result ≤ INTERFACE + WORDS }
 {
     let mut text = Line::new();
     push_interface(&mut text, plan, interface);
@@ -95,7 +95,7 @@ fn write_prefix<K: Sink>(
     metric: Option<Metric>,
     out: &mut K,
 ) -> Result<(), Failed>
-    requires front { length front.now ≤ 66 }
+    requires front { length front.now ≤ INTERFACE + WORDS }
     requires metrics { AreOfMetrics metrics.now }
     ensures { (n : Network) (i : Interface) (p : Block) →
         front.now ≡ interface_name n i ++ codes " " →

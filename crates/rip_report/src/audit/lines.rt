@@ -1,7 +1,7 @@
 //! The lines of verdicts.
 
 ghost use Rattle.std.specs.Prelude.{◌≡◌, ◌+◌, ◌≤◌, ◌<◌, ◌++◌, length};
-ghost use Rattle.rip_report.specs.declared.limits.TheConstants.{LINE_BYTES};
+ghost use Rattle.rip_report.specs.declared.limits.TheConstants.{INTERFACE, LINE_BYTES, NAMED, NUMBERED, PLACE, TROUBLE, TWO_NUMBERS, WRONG_METRIC};
 ghost use Rattle.rip_report.specs.AuditText.{AreKnown, IsKnownReason, IsTroubleOf, has_one_interface, interface_part, leaf_part, leaves_of, metric_part, no_offer_part, place_part, reason_part, settled_line, subject_part, trouble_part, unclear_line, unsettled_line, unsettled_part, wrong_metric_part, wrong_way_part};
 ghost use Rattle.rip_report.specs.Names.{IsKnownWay};
 
@@ -28,9 +28,9 @@ fn leaves(plan: &Plan) -> usize
 
 /// Adds how many routers are leaves, where some are.
 fn push_leaves(text: &mut Line, leaves: usize)
-    requires { length text.old + 32 ≤ LINE_BYTES }
+    requires { length text.old + NUMBERED ≤ LINE_BYTES }
     ensures text { text.new ≡ text.old ++ leaf_part leaves }
-    ensures size { length text.new ≤ length text.old + 32 }
+    ensures size { length text.new ≤ length text.old + NUMBERED }
 {
     if leaves > 0 {
         text.push(", ");
@@ -56,9 +56,9 @@ pub(crate) fn settled_text<T: MetricTable>(plan: &Plan, table: &T) -> Line
 fn push_place<T: MetricTable>(text: &mut Line, plan: &Plan, table: &T, router: usize, prefix: usize)
     requires router { router < length plan.now.routers }
     requires prefix { prefix < length (T.state table.now).prefixes }
-    requires room { length text.old + 67 ≤ LINE_BYTES }
+    requires room { length text.old + PLACE ≤ LINE_BYTES }
     ensures text { text.new ≡ text.old ++ place_part plan.now (T.state table.now) router prefix }
-    ensures size { length text.new ≤ length text.old + 67 }
+    ensures size { length text.new ≤ length text.old + PLACE }
 {
     text.push("router ");
     push_router(text, plan, router);
@@ -69,9 +69,9 @@ fn push_place<T: MetricTable>(text: &mut Line, plan: &Plan, table: &T, router: u
 
 /// Adds a metric and what the equation gives.
 fn push_metrics(text: &mut Line, hidden: bool, metric: Metric, equation: Metric)
-    requires { length text.old + 63 ≤ LINE_BYTES }
+    requires { length text.old + TWO_NUMBERS ≤ LINE_BYTES }
     ensures text { text.new ≡ text.old ++ metric_part hidden metric equation }
-    ensures size { length text.new ≤ length text.old + 63 }
+    ensures size { length text.new ≤ length text.old + TWO_NUMBERS }
 {
     if hidden {
         text.push("leaf ");
@@ -85,9 +85,9 @@ fn push_metrics(text: &mut Line, hidden: bool, metric: Metric, equation: Metric)
 /// Adds the link that does not give a metric.
 fn push_no_offer(text: &mut Line, plan: &Plan, link: usize)
     requires known { link < length plan.now.links }
-    requires room { length text.old + 56 ≤ LINE_BYTES }
+    requires room { length text.old + NAMED ≤ LINE_BYTES }
     ensures text { text.new ≡ text.old ++ no_offer_part plan.now link }
-    ensures size { length text.new ≤ length text.old + 56 }
+    ensures size { length text.new ≤ length text.old + NAMED }
 {
     text.push(", link ");
     push_link(text, plan, link);
@@ -97,9 +97,9 @@ fn push_no_offer(text: &mut Line, plan: &Plan, link: usize)
 /// Adds the way that does not give a metric.
 fn push_wrong_way(text: &mut Line, plan: &Plan, way: Way)
     requires way { IsKnownWay plan.now way }
-    requires room { length text.old + 56 ≤ LINE_BYTES }
+    requires room { length text.old + NAMED ≤ LINE_BYTES }
     ensures text { text.new ≡ text.old ++ wrong_way_part plan.now way }
-    ensures size { length text.new ≤ length text.old + 56 }
+    ensures size { length text.new ≤ length text.old + NAMED }
 {
     match way {
         Way::Over(link) => push_no_offer(text, plan, link),
@@ -111,9 +111,9 @@ fn push_wrong_way(text: &mut Line, plan: &Plan, way: Way)
 /// Adds a metric and the way that does not give it.
 fn push_wrong_metric(text: &mut Line, plan: &Plan, metric: Metric, way: Way)
     requires way { IsKnownWay plan.now way }
-    requires room { length text.old + 83 ≤ LINE_BYTES }
+    requires room { length text.old + WRONG_METRIC ≤ LINE_BYTES }
     ensures text { text.new ≡ text.old ++ wrong_metric_part plan.now metric way }
-    ensures size { length text.new ≤ length text.old + 83 }
+    ensures size { length text.new ≤ length text.old + WRONG_METRIC }
 {
     text.push("metric ");
     text.push_metric(metric);
@@ -123,9 +123,9 @@ fn push_wrong_metric(text: &mut Line, plan: &Plan, metric: Metric, way: Way)
 /// Adds what fails at a place.
 fn push_unsettled(text: &mut Line, plan: &Plan, place: &Place2)
     requires way { IsKnownWay plan.now place.now.way }
-    requires room { length text.old + 83 ≤ LINE_BYTES }
+    requires room { length text.old + WRONG_METRIC ≤ LINE_BYTES }
     ensures text { text.new ≡ text.old ++ unsettled_part plan.now place.now }
-    ensures size { length text.new ≤ length text.old + 83 }
+    ensures size { length text.new ≤ length text.old + WRONG_METRIC }
 {
     if place.metric == place.equation {
         push_wrong_metric(text, plan, place.metric, place.way);
@@ -152,9 +152,9 @@ pub(crate) fn unsettled_text<T: MetricTable>(plan: &Plan, table: &T, place: &Pla
 fn push_interface(text: &mut Line, plan: &Plan, router: usize, link: usize)
     requires router { router < length plan.now.routers }
     requires link { link < length plan.now.links }
-    requires room { length text.old + 79 ≤ LINE_BYTES }
+    requires room { length text.old + INTERFACE ≤ LINE_BYTES }
     ensures text { text.new ≡ text.old ++ interface_part plan.now router link }
-    ensures size { length text.new ≤ length text.old + 79 }
+    ensures size { length text.new ≤ length text.old + INTERFACE }
 {
     text.push("router ");
     push_router(text, plan, router);
@@ -166,9 +166,9 @@ fn push_interface(text: &mut Line, plan: &Plan, router: usize, link: usize)
 /// Adds what a trouble is about: an interface, or a router and a prefix.
 fn push_subject<T: MetricTable>(text: &mut Line, plan: &Plan, table: &T, trouble: &Unclear)
     requires known { IsTroubleOf plan.now (T.state table.now) trouble.now }
-    requires room { length text.old + 79 ≤ LINE_BYTES }
+    requires room { length text.old + INTERFACE ≤ LINE_BYTES }
     ensures text { text.new ≡ text.old ++ subject_part plan.now (T.state table.now) trouble.now }
-    ensures size { length text.new ≤ length text.old + 79 }
+    ensures size { length text.new ≤ length text.old + INTERFACE }
 {
     match *trouble {
         Unclear::NotHeard { router, link } => push_interface(text, plan, router, link),
@@ -182,9 +182,9 @@ fn push_subject<T: MetricTable>(text: &mut Line, plan: &Plan, table: &T, trouble
 /// Adds why no route can be read.
 pub(crate) fn push_reason(text: &mut Line, plan: &Plan, trouble: &Unclear)
     requires known { IsKnownReason plan.now trouble.now }
-    requires room { length text.old + 43 ≤ LINE_BYTES }
+    requires room { length text.old + NAMED ≤ LINE_BYTES }
     ensures text { text.new ≡ text.old ++ reason_part plan.now trouble.now }
-    ensures size { length text.new ≤ length text.old + 43 }
+    ensures size { length text.new ≤ length text.old + NAMED }
 {
     match *trouble {
         Unclear::NotHeard { .. } => text.push("not heard"),
@@ -204,9 +204,9 @@ pub(crate) fn push_reason(text: &mut Line, plan: &Plan, trouble: &Unclear)
 /// Adds a trouble.
 fn push_trouble<T: MetricTable>(text: &mut Line, plan: &Plan, table: &T, trouble: &Unclear)
     requires known { IsTroubleOf plan.now (T.state table.now) trouble.now }
-    requires room { length text.old + 122 ≤ LINE_BYTES }
+    requires room { length text.old + TROUBLE ≤ LINE_BYTES }
     ensures text { text.new ≡ text.old ++ trouble_part plan.now (T.state table.now) trouble.now }
-    ensures size { length text.new ≤ length text.old + 122 }
+    ensures size { length text.new ≤ length text.old + TROUBLE }
 {
     push_subject(text, plan, table, trouble);
     push_reason(text, plan, trouble);
