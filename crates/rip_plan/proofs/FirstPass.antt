@@ -25,7 +25,7 @@ use Rattle.rip_plan.specs.PlanOf.{Matched}
 use Rattle.rip_plan.proofs.Binds.{steps_keep}
 use Rattle.rip_plan.proofs.Items.{or_false, all_none, all_push, all_weaker, distinct_push}
 use Rattle.rip_plan.proofs.StepsTaken.{with_link, with_router, prefix_taken, link_taken, interface_taken, own_taken, router_taken}
-use Rattle.rip_plan.proofs.Standing.{further}
+use Rattle.rip_plan.proofs.SpotsTaken.{further}
 use Rattle.rip_plan.proofs.Tables.{IsReadOf, addresses_read, cost_within, direct_within}
 use Rattle.rip_plan.proofs.Texts.{TextLaws, address_is, prefix_is}
 

@@ -31,7 +31,7 @@ pub mod Finding
 pub mod Spots
 pub mod AlsoSpots
 pub mod FaultRows
-pub mod Standing
+pub mod SpotsTaken
 pub mod LinkFaults
 pub mod RouterFaults
 pub mod PassFaults

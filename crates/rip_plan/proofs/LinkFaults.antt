@@ -23,7 +23,7 @@ use Rattle.rip_plan.specs.PlanFaults.{nth, IsItem, IsMisnamed, IsNamedAgain, spo
 use Rattle.rip_plan.proofs.Finding.{Finds, no_rows, steps_finds}
 use Rattle.rip_plan.proofs.FaultRows.{by_code, IsTold, guard_told, want_told, prefix_from_limit, prefix_from_prefix, prefix_rows, prefix_starts, prefixes_rows, link_from_duplicate, link_from_name, link_rows, link_starts, links_rows, prefix_row_item, link_row_within}
 use Rattle.rip_plan.proofs.Spots.{nth_from, get_before, place_once, prefix_here, nth_here, item_once, count_of}
-use Rattle.rip_plan.proofs.Standing.{place_ats, links_stand, prefixes_stand}
+use Rattle.rip_plan.proofs.SpotsTaken.{place_ats, links_stand, prefixes_stand}
 use Rattle.rip_plan.proofs.Items.{any_at, any_finds, get_split}
 use Rattle.rip_plan.proofs.Tables.{text_is, link_table}
 use Rattle.rip_plan.proofs.Matching.{matched_left, matched_right}

@@ -35,7 +35,7 @@ use Rattle.rip_plan.proofs.HeldOrder.{held_order, stands_from}
 use Rattle.rip_plan.proofs.Matching.{matched_left, matched_length}
 use Rattle.rip_plan.proofs.OnePlan.{one_plan}
 use Rattle.rip_plan.proofs.Spots.{place_ahead, interface_ahead, place_spot, interface_spot, spot_under, spots_count}
-use Rattle.rip_plan.proofs.Standing.{place_ats, interface_ats}
+use Rattle.rip_plan.proofs.SpotsTaken.{place_ats, interface_ats}
 use Rattle.rip_plan.proofs.Items.{both, any_at, any_finds, none_at, distinct_at, get_seen, get_split, see_got, get_some}
 use Rattle.rip_plan.proofs.Numbering.{numbers, same_is, same_from}
 use Rattle.rip_plan.proofs.SecondPasses.{address_spot, held, held_spot, taken_address, on_touched, own_touched, common}

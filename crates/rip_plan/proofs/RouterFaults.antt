@@ -32,7 +32,7 @@ use Rattle.rip_plan.proofs.AlsoSpots.{also_here, also_in, also_items, also_under
 use Rattle.rip_plan.proofs.FirstPass.{room_for}
 use Rattle.rip_plan.proofs.Orders.{starts_high}
 use Rattle.rip_plan.proofs.Spots.{nth_from, get_before, place_once, interface_once, own_here, under_here, nth_here, item_once, count_of}
-use Rattle.rip_plan.proofs.Standing.{further, place_ats, interface_ats, links_stand, interfaces_stand, owns_stand, routers_stand}
+use Rattle.rip_plan.proofs.SpotsTaken.{further, place_ats, interface_ats, links_stand, interfaces_stand, owns_stand, routers_stand}
 use Rattle.rip_plan.proofs.Items.{both, any_at, any_finds, get_split, position_finds, position_none, distinct_at, distinct_push, get_seen, see_got}
 use Rattle.rip_plan.proofs.Tables.{HasInterfaceFields, IsTextIf, router_table, interface_texts, own_texts, addresses_told, addresses_clear, cost_is, cost_within, cost_told, cost_clear, direct_told, direct_clear, gateway_told, gateway_clear, IsReadOf, addresses_read}
 use Rattle.rip_plan.proofs.Matching.{matched_left, matched_length, matched_right}

@@ -32,7 +32,7 @@ use Rattle.rip_plan.proofs.Orders.{before_not, before_trans, before_or}
 use Rattle.rip_plan.proofs.PassFaults.{passes_find}
 use Rattle.rip_plan.proofs.PlanMatches.{root_table, document_matches, network_matches}
 use Rattle.rip_plan.proofs.RouterFaults.{routers_find}
-use Rattle.rip_plan.proofs.Standing.{place_ats, interface_ats, links_stand, routers_stand}
+use Rattle.rip_plan.proofs.SpotsTaken.{place_ats, interface_ats, links_stand, routers_stand}
 use Rattle.rip_plan.proofs.Texts.{TextLaws}
 
 -- ---- the tables

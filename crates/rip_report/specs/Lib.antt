@@ -2,6 +2,7 @@ pub mod Statuses
 pub mod Written
 pub mod Sent
 pub mod Names
+pub mod Lines
 pub mod DecodeText
 pub mod PlanText
 pub mod RefusalText

@@ -1,7 +1,5 @@
 //! The command `audit`: whether the tables that a log shows are right.
 
-pub(crate) mod lines;
-
 ghost use Rattle.std.specs.Prelude.{◌≡◌, ◌≢◌, ◌↔◌, ◌++◌, ℕ, List, [], Err, IfOk, IfSome, None, false, is_err, is_some, true, length, Some};
 ghost use Rattle.rip_plan.specs.Network.{Network};
 ghost use Rattle.rip_plan.specs.PlanFaults.{PlanFault};
@@ -19,12 +17,12 @@ ghost use Rattle.rip_report.specs.Sent.{Prints, Reads, WentOut, Writes};
 ghost use Rattle.rip_check.specs.Laws.{OneIsShown, ShowsRightTables};
 ghost use Rattle.rip_check.specs.Walks.{PacketsArrive};
 
-use crate::each::{PairText, add_pairs};
+use crate::lines::verdicts::{settled_text, unclear_text, unsettled_text};
 use crate::listing::Listing;
+use crate::loops::{PairText, add_pairs};
 use crate::output::{finish, write_all};
 use crate::report::{Report, run_report};
 use crate::status::{RunError, Status};
-use lines::{settled_text, unclear_text, unsettled_text};
 use rip_check::laws::{one_set_of_tables, plain_paths};
 use rip_check::{Place2, Unsettled, Verdict, judge};
 use rip_log::{Failed, Sink, Source};

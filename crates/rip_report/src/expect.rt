@@ -14,7 +14,7 @@ use crate::line::Line;
 use crate::listing::Listing;
 use crate::names::{push_counts, push_router, push_way};
 use crate::output::finish;
-use crate::plan::refuse_plan;
+use crate::refusal::refuse_plan;
 use crate::status::{RunError, Status};
 use rip_check::{Expected, Way};
 use rip_log::{Failed, Sink};

@@ -22,9 +22,9 @@ ghost use Rattle.rip_report.specs.PlanText.{IsNoText};
 ghost use Rattle.rip_report.specs.ReportText.{IsAccepted, ReportText};
 ghost use Rattle.rip_report.specs.Sent.{Prints, Reads, WentOut};
 
-use crate::audit::lines::settled_text;
-use crate::each::{PairText, add_pairs};
+use crate::lines::verdicts::settled_text;
 use crate::listing::Listing;
+use crate::loops::{PairText, add_pairs};
 use crate::output::finish;
 use crate::report::{Report, run_report};
 use crate::status::{RunError, Status};

@@ -1,14 +1,18 @@
-//! What is printed where a log is refused.
+//! What is printed where a plan or a log is refused.
+
+mod plan;
+mod wire;
 
 ghost use Rattle.std.specs.Prelude.{◌≡◌, ◌+◌, ◌≤◌, ◌++◌, length};
 ghost use Rattle.rip_report.specs.declared.limits.TheConstants.{CAUSE, LINE_BYTES, LOG_CODE, LOG_LINE, PREFIX_PART, TABLE_ERROR, TWO_NUMBERS, WORDS};
 ghost use Rattle.rip_report.specs.RefusalText.{at_line, cause_text, change_text, log_code_text, prefix_part, refused_log, table_error_text};
 
-use crate::decode::push_wire_fault;
 use crate::line::Line;
+pub(crate) use plan::refuse_plan;
 use rip_log::LogCode;
 use rip_table::{CollectCause, CollectError, TableError};
 use rip_wire::{Metric, Prefix};
+pub(crate) use wire::push_wire_fault;
 
 /// Adds the number and the word of a code of a log.
 #[tactic(auto, unfolding(crate::specs::RefusalText::log_code_text))]

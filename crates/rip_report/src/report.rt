@@ -13,9 +13,8 @@ ghost use Rattle.rip_report.specs.Sent.{Prints, Reads, WentOut};
 ghost use Rattle.rip_report.specs.Written.{Written};
 
 use crate::output::{finish, write_all};
-use crate::plan::refuse_plan;
 use crate::reading::read_log;
-use crate::refusal::refusal_text;
+use crate::refusal::{refusal_text, refuse_plan};
 use crate::status::{RunError, Status};
 use rip_log::laws::log_texts;
 use rip_log::{Sink, Source};

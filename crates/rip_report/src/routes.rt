@@ -8,24 +8,24 @@ ghost use Rattle.rip_report.specs.Given.{IsGiven};
 ghost use Rattle.rip_log.specs.Wholes.{Went};
 ghost use Rattle.rip_table.specs.State.{Fits, State};
 ghost use Rattle.rip_check.specs.Expected.{AreExpected};
-ghost use Rattle.rip_report.specs.declared.limits.TheConstants.{LINE_BYTES, NUMBERED, PLACE, ROUTE};
-ghost use Rattle.rip_report.specs.AuditText.{IsKnownReason};
+ghost use Rattle.rip_report.specs.declared.limits.TheConstants.{LINE_BYTES, NUMBERED, PLACE};
+ghost use Rattle.rip_report.specs.Lines.{IsKnownReason, read_part, unheard_line};
 ghost use Rattle.rip_report.specs.Listings.{TextsBelow, TextsOfPairs};
 ghost use Rattle.rip_report.specs.Names.{IsKnownWay};
 ghost use Rattle.rip_report.specs.PlanText.{IsNoText};
 ghost use Rattle.rip_report.specs.ReportText.{IsAccepted, ReportText};
-ghost use Rattle.rip_report.specs.RoutesText.{RouteLine, RoutesText, UnheardLine, leaf_word, least_part, pair_part, read_line, read_part, routes_line, unread_line};
+ghost use Rattle.rip_report.specs.RoutesText.{RouteLine, RoutesText, UnheardLine, least_part, pair_part, read_line, routes_line, unread_line};
 ghost use Rattle.rip_report.specs.Sent.{Prints, Reads, WentOut, Writes};
 
-use crate::audit::lines::push_reason;
-use crate::each::{InterfaceText, PairText, add_interfaces, add_pairs};
 use crate::line::Line;
+use crate::lines::verdicts::push_reason;
+use crate::lines::{push_route, unheard_text};
 use crate::listing::Listing;
-use crate::names::{push_counts, push_router, push_way};
+use crate::loops::{InterfaceText, PairText, add_interfaces, add_pairs};
+use crate::names::{push_counts, push_router};
 use crate::output::finish;
 use crate::report::{Report, run_report};
 use crate::status::{RunError, Status};
-use crate::table::unheard_text;
 use rip_check::{Expected, Route, Unclear, route};
 use rip_log::{Failed, Sink, Source};
 use rip_plan::Plan;
@@ -58,22 +58,6 @@ fn push_pair<T: MetricTable>(text: &mut Line, plan: &Plan, table: &T, router: us
     text.push(" ");
     text.push_prefix(table.prefix(prefix));
     text.push(" ");
-}
-
-/// Adds a route.
-pub(crate) fn push_route(text: &mut Line, plan: &Plan, route: &Route)
-    requires way { IsKnownWay plan.now route.now.way }
-    requires room { length text.old + ROUTE ≤ LINE_BYTES }
-    ensures text { text.new ≡ text.old ++ read_part plan.now
-        (record { metric = route.now.metric; way = route.now.way }) route.now.hidden }
-    ensures size { length text.new ≤ length text.old + ROUTE }
-{
-    text.push_metric(route.metric);
-    text.push(" ");
-    push_way(text, plan, route.way);
-    if route.hidden {
-        text.push(", leaf");
-    }
 }
 
 /// Adds the least metric, where the metric is another.

@@ -7,7 +7,8 @@ ghost use Rattle.rip_report.specs.Given.{IsGiven};
 ghost use Rattle.rip_log.specs.Wholes.{Went};
 ghost use Rattle.rip_table.specs.State.{Fits, State};
 ghost use Rattle.rip_report.specs.declared.limits.TheConstants.{INTERFACE, LINE_BYTES, WORDS};
-ghost use Rattle.rip_report.specs.TableText.{TableText, interface_lines, interface_name, prefix_lines, shown_lines, shown_table, table_line, unheard_line};
+ghost use Rattle.rip_report.specs.Lines.{interface_name, unheard_line};
+ghost use Rattle.rip_report.specs.TableText.{TableText, interface_lines, prefix_lines, shown_lines, shown_table, table_line};
 ghost use Rattle.rip_report.specs.Held.{held};
 ghost use Rattle.rip_report.specs.PlanText.{IsNoText};
 ghost use Rattle.rip_report.specs.ReportText.{IsAccepted};
@@ -19,7 +20,7 @@ ghost use Rattle.rip_plan.specs.declared.parts.Interface.{Interface};
 ghost use Rattle.rip_wire.specs.Prefix.{Block, prefix_text};
 
 use crate::line::Line;
-use crate::names::{push_link, push_router};
+use crate::lines::{push_interface, unheard_text};
 use crate::output::{Page, finish};
 use crate::report::{Report, run_report};
 use crate::status::{RunError, Status};
@@ -42,33 +43,6 @@ fn counts_text(interfaces: usize, prefixes: usize) -> Line
     text.push(" interfaces, ");
     text.push_number(prefixes as u64);
     text.push(" prefixes");
-    text.end();
-    text
-}
-
-/// Adds an interface by its router and its link.
-fn push_interface(text: &mut Line, plan: &Plan, interface: Interface)
-    requires router { interface.router < length plan.now.routers }
-    requires link { interface.link < length plan.now.links }
-    requires room { length text.old + INTERFACE ≤ LINE_BYTES }
-    ensures text { text.new ≡ text.old ++ interface_name plan.now interface }
-    ensures size { length text.new ≤ length text.old + INTERFACE }
-{
-    push_router(text, plan, interface.router);
-    text.push(" ");
-    push_link(text, plan, interface.link);
-}
-
-/// The line of an interface that was not heard.
-#[tactic(auto, unfolding(crate::specs::TableText::unheard_line))]
-pub(crate) fn unheard_text(plan: &Plan, interface: Interface) -> Line
-    requires router { interface.router < length plan.now.routers }
-    requires link { interface.link < length plan.now.links }
-    ensures { result ≡ unheard_line plan.now interface }
-{
-    let mut text = Line::new();
-    push_interface(&mut text, plan, interface);
-    text.push(" not heard");
     text.end();
     text
 }

@@ -2,12 +2,12 @@
 
 ghost use Rattle.std.specs.Prelude.{◌≡◌, ◌+◌, ◌≤◌, ◌<◌, ◌++◌, length};
 ghost use Rattle.rip_report.specs.declared.limits.TheConstants.{LINE_BYTES, NUMBER, SUM, WORDS};
-ghost use Rattle.rip_report.specs.ExplainText.{direct_line, heard_line, least_line, none_heard_line, offer_line, reading_line, shown_line, shown_word, sum_part, unplanned_part, unreachable_line};
+ghost use Rattle.rip_report.specs.ExplainText.{direct_line, heard_line, least_line, none_heard_line, offer_line, read_route_line, shown_line, shown_word, sum_part, unplanned_part, unreachable_line};
 ghost use Rattle.rip_report.specs.Names.{IsKnownWay};
 
 use crate::line::Line;
+use crate::lines::push_route;
 use crate::names::{push_link, push_router};
-use crate::routes::push_route;
 use rip_check::{Place2, Route};
 use rip_plan::{Interface, Plan};
 use rip_table::MetricTable;
@@ -41,10 +41,10 @@ pub(crate) fn shown_text(plan: &Plan, link: usize, shown: Option<Metric>) -> Lin
 }
 
 /// The line of the route that was read at a place.
-#[tactic(auto, unfolding(crate::specs::ExplainText::reading_line))]
-pub(crate) fn reading_text(plan: &Plan, place: &Place2) -> Line
+#[tactic(auto, unfolding(crate::specs::ExplainText::read_route_line))]
+pub(crate) fn read_route_text(plan: &Plan, place: &Place2) -> Line
     requires { IsKnownWay plan.now place.now.way }
-    ensures { result ≡ reading_line plan.now
+    ensures { result ≡ read_route_line plan.now
         (record { metric = place.now.metric; way = place.now.way }) place.now.hidden }
 {
     let route = Route {

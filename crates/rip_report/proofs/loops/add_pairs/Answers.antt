@@ -1,7 +1,7 @@
 use Rattle.std.proofs.Common.{◌≡◌, length, arith}
 use Rattle.rip_report.specs.Listings.{TextsBelow}
 use Rattle.rip_report.proofs.ListingLemmas.{nothing_yet, one_more}
-use Rattle.rip_report.proofs.each.add_pairs.Goals as goal
+use Rattle.rip_report.proofs.loops.add_pairs.Goals as goal
 
 pub loop-router-init : goal.loop-router-init
 loop-router-init g c = record { so_far = nothing_yet g.K.Sink.taken g.K.Sink.broken (λ r. TextsBelow (g.E.PairText.is_text c.args.texts.now c.args.plan.now (g.T.MetricTable.state c.args.table.now) r) (length (g.T.MetricTable.state c.args.table.now).prefixes)) c.args.out.now c.args.listing.now }

@@ -1,7 +1,7 @@
 use Rattle.std.specs.Prelude.{length}
 use Rattle.rip_report.specs.Listings.{TextsBelow}
 use Rattle.rip_report.proofs.ListingLemmas.{SoFar}
-use Rattle.rip_report.proofs.each.add_pairs.Given as goal
+use Rattle.rip_report.proofs.loops.add_pairs.Given as goal
 
 abbrev pub invariant-loop-router : goal.invariant-loop-router
 invariant-loop-router g l = record {

@@ -2,7 +2,8 @@
 
 ghost use Rattle.std.specs.Prelude.{◌≡◌, ◌+◌, ◌≤◌, ◌<◌, ◌++◌, length};
 ghost use Rattle.rip_report.specs.declared.limits.TheConstants.{INTERFACE, LINE_BYTES, NAMED, NUMBERED, PLACE, TROUBLE, TWO_NUMBERS, WRONG_METRIC};
-ghost use Rattle.rip_report.specs.AuditText.{AreKnown, IsKnownReason, IsTroubleOf, has_one_interface, interface_part, leaf_part, leaves_of, metric_part, no_offer_part, place_part, reason_part, settled_line, subject_part, trouble_part, unclear_line, unsettled_line, unsettled_part, wrong_metric_part, wrong_way_part};
+ghost use Rattle.rip_report.specs.AuditText.{AreKnown, IsTroubleOf, has_one_interface, interface_part, leaf_part, leaves_of, metric_part, no_offer_part, place_part, settled_line, subject_part, trouble_part, unclear_line, unsettled_line, unsettled_part, wrong_metric_part, wrong_way_part};
+ghost use Rattle.rip_report.specs.Lines.{IsKnownReason, reason_part};
 ghost use Rattle.rip_report.specs.Names.{IsKnownWay};
 
 use crate::line::Line;

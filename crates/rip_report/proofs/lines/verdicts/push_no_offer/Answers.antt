@@ -1,6 +1,6 @@
 use Rattle.std.proofs.Common.{◌++◌, ◌∙◌, List, ℕ, ap, append_assoc, codes}
 use Rattle.rip_report.specs.Names.{name_of}
-use Rattle.rip_report.proofs.audit.lines.push_no_offer.Goals as goal
+use Rattle.rip_report.proofs.lines.verdicts.push_no_offer.Goals as goal
 
 pub returns-clause-text : goal.returns-clause-text
 returns-clause-text c =

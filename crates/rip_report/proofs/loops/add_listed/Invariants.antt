@@ -1,6 +1,6 @@
 use Rattle.std.specs.Prelude.{slice_index}
 use Rattle.rip_report.proofs.ListingLemmas.{SoFar}
-use Rattle.rip_report.proofs.each.add_listed.Given as goal
+use Rattle.rip_report.proofs.loops.add_listed.Given as goal
 
 abbrev pub invariant-loop-number : goal.invariant-loop-number
 invariant-loop-number g l = record {

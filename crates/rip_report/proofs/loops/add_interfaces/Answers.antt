@@ -1,6 +1,6 @@
 use Rattle.std.proofs.Common.{◌≡◌, length, arith}
 use Rattle.rip_report.proofs.ListingLemmas.{nothing_yet, one_more}
-use Rattle.rip_report.proofs.each.add_interfaces.Goals as goal
+use Rattle.rip_report.proofs.loops.add_interfaces.Goals as goal
 
 pub loop-number-init : goal.loop-number-init
 loop-number-init g c = record { so_far = nothing_yet g.K.Sink.taken g.K.Sink.broken (g.E.InterfaceText.is_text c.args.texts.now c.args.plan.now (g.T.MetricTable.state c.args.table.now)) c.args.out.now c.args.listing.now }

@@ -1,6 +1,6 @@
 use Rattle.std.proofs.Common.{◌≡◌, length, arith}
 use Rattle.rip_report.proofs.ListingLemmas.{nothing_yet, one_more}
-use Rattle.rip_report.proofs.each.add_row.Goals as goal
+use Rattle.rip_report.proofs.loops.add_row.Goals as goal
 
 pub loop-prefix-init : goal.loop-prefix-init
 loop-prefix-init g c = record { so_far = nothing_yet g.K.Sink.taken g.K.Sink.broken (g.E.PairText.is_text c.args.texts.now c.args.plan.now (g.T.MetricTable.state c.args.table.now) c.args.router) c.args.out.now c.args.listing.now }

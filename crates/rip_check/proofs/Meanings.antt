@@ -15,7 +15,7 @@ use Rattle.rip_check.specs.declared.verdict.Unclear.{Unclear}
 use Rattle.rip_check.specs.declared.verdict.Verdict.{Verdict}
 use Rattle.rip_check.specs.declared.verdict.Verdict.TheVariants.{Settled, Unsettled, Unclear as IsUnclear}
 use Rattle.rip_check.specs.Verdicts.{ShowsTables, IsVerdict}
-use Rattle.rip_check.proofs.Single.{one_verdict, no_trouble}
+use Rattle.rip_check.proofs.OneVerdict.{one_verdict, no_trouble}
 
 module _ (n : Network) (shown : State) (plan : IsLawful n) (range : IsInRange n shown) where
   -- a verdict is given exactly where it is so

@@ -1,5 +1,5 @@
 use Rattle.rip_report.proofs.ListingLemmas.{SoFar}
-use Rattle.rip_report.proofs.each.add_row.Given as goal
+use Rattle.rip_report.proofs.loops.add_row.Given as goal
 
 abbrev pub invariant-loop-prefix : goal.invariant-loop-prefix
 invariant-loop-prefix g l = record {

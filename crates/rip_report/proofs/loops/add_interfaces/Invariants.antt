@@ -1,5 +1,5 @@
 use Rattle.rip_report.proofs.ListingLemmas.{SoFar}
-use Rattle.rip_report.proofs.each.add_interfaces.Given as goal
+use Rattle.rip_report.proofs.loops.add_interfaces.Given as goal
 
 abbrev pub invariant-loop-number : goal.invariant-loop-number
 invariant-loop-number g l = record {

@@ -2,7 +2,7 @@ use Rattle.std.proofs.Common.{◌≡◌, ◌∙◌, [], refl}
 use Rattle.rip_report.specs.PlanText.{refused_plan}
 use Rattle.rip_report.proofs.FinishLemmas.{finished_prints}
 use Rattle.rip_report.proofs.SentLemmas.{Writes-same}
-use Rattle.rip_report.proofs.plan.refuse_plan.Goals as goal
+use Rattle.rip_report.proofs.refusal.plan.refuse_plan.Goals as goal
 
 pub returns-clause-prints : goal.returns-clause-prints
 returns-clause-prints g c =
