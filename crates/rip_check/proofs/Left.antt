@@ -1,5 +1,5 @@
 -- What is left of a network after a failure.
-use Rattle.std.proofs.Common.{◌≡◌, ℕ, zero, suc, ◌<◌, ◌⊎◌, ◌↔◌, inl, inr, Bool, true, false, not, ◌&&◌, cond, List, [], ◌∷◌, length, Option, None, Some, slice_get, refl}
+use Rattle.std.proofs.Common.{◌≡◌, ℕ, zero, suc, ◌<◌, ◌≤◌, ◌⊎◌, ◌↔◌, inl, inr, Bool, true, false, not, ◌&&◌, cond, List, [], ◌∷◌, length, Option, None, Some, slice_get, refl, arith}
 use Rattle.std.specs.List.{filter}
 use Rattle.std.specs.Prelude.{eqb}
 use Rattle.std.proofs.lemmas.Bool.{eqb-true, eq-eqb}
@@ -9,9 +9,10 @@ use Rattle.rip_plan.specs.declared.parts.Seat.TheVariants.{Link, Own}
 use Rattle.rip_plan.specs.Network.{Network}
 use Rattle.rip_plan.specs.Relations.{Carries, HasCost, IsAttached, IsConnected, IsDirect, IsKept, IsLawful, IsOn, IsPlace, Touches}
 use Rattle.rip_check.proofs.Plans.{one_seat}
-use Rattle.rip_check.proofs.Tellings.{IsSound}
+use Rattle.rip_check.proofs.Tellings.{IsSound, reached_most}
 use Rattle.rip_check.specs.declared.failures.Failure.{Failure}
 use Rattle.rip_check.specs.declared.failures.Failure.TheVariants as failures
+use Rattle.rip_check.specs.Paths.{Hop, IsLeast, IsPath}
 use Rattle.rip_check.specs.Failures.{is_alive, is_alive_seat, is_any_up, is_link_up, is_router_up, network_left}
 
 -- ---- the elements of a list that pass a test
@@ -311,3 +312,31 @@ left_routers n (Some f) = refl
 pub direct_known : (n : Network) → IsLawful n → (r p c : ℕ) → IsDirect n r p c → r < length n.routers
 direct_known n plan r p c (k, inl at) = plan.router_known at.2.0 r at.0 at.2.1.cost (record { address = at.2.1.address; direct = c; listed = at.2.1.listed })
 direct_known n plan r p c (k, inr own) = plan.owner_known k p r c own
+
+-- a path after the failure is one before it, where no router has the prefix attached to what has failed
+pub path_was : (n : Network) (f : Option Failure) (p : ℕ) → ((s l : ℕ) → IsAttached n s p l → is_link_up f l ≡ true) → (r : ℕ) (hops : List Hop) (v : ℕ) →
+    IsPath (network_left n f) p r hops v → IsPath n p r hops v
+path_was n f p up r [] v direct = (was_direct n f r p v direct).0
+path_was n f p up r (h ∷ hops) v path =
+    let own = was_cost n f r h.link path.0 path.2 in
+    let near = path.3.neighbour in
+    let there = was_cost n f h.to h.link near.there.0 near.there.1 in (
+      path.0,
+      path.1,
+      own.0,
+      record {
+        neighbour = record { other = near.other; here = (path.0, own.0); there = (near.there.0, there.0) };
+        goes_on = λ kept. path.3.goes_on (still_kept n f r p own.1 (λ l at. up r l at) kept);
+        tells = λ at. path.3.tells (still_attached n f h.to p h.link at there.1 there.2);
+      },
+      path_was n f p up h.to hops path.1 path.4,
+      path.5,
+    )
+
+-- so no metric is smaller after it
+pub not_nearer : (n : Network) (f : Option Failure) (p : ℕ) → ((s l : ℕ) → IsAttached n s p l → is_link_up f l ≡ true) → (r v w : ℕ) → IsLeast n p r v → IsLeast (network_left n f) p r w → v ≤ w
+not_nearer n f p up r v w before after = go after.reached
+  where
+    go : (w ≡ 16) ⊎ ((w < 16) × ((hops : List Hop) × IsPath (network_left n f) p r hops w)) → v ≤ w
+    go (inl e) = omega (arith, e, reached_most n p r v before.reached)
+    go (inr h) = before.least h.1.0 w (path_was n f p up r h.1.0 w h.1.1)

@@ -11,3 +11,4 @@ pub mod ListingLemmas
 pub mod ExpectLemmas
 pub mod ExplainLemmas
 pub mod GivenLemmas
+pub mod WhatifLemmas

@@ -18,3 +18,4 @@ pub mod Listings
 pub mod ExpectText
 pub mod RoutesText
 pub mod ExplainText
+pub mod WhatifText
