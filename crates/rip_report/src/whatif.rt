@@ -15,7 +15,7 @@ use crate::line::Line;
 use crate::listing::Listing;
 use crate::names::{push_link, push_router};
 use crate::output::finish;
-use crate::plan::refuse_plan;
+use crate::refusal::refuse_plan;
 use crate::status::{RunError, Status};
 use rip_check::{Aftermath, Expected, Failure, Impact};
 use rip_log::{Failed, Sink};
