@@ -23,6 +23,7 @@ pub mod WithinPlan
 pub mod Matching
 pub mod EachOnce
 pub mod Tables
+pub mod DocumentTables
 pub mod PlanMatches
 pub mod OnePlan
 pub mod NoMemory

@@ -33,6 +33,8 @@ use Rattle.rip_plan.proofs.StepsTaken.{with_link}
 use Rattle.rip_plan.proofs.Lookups.{name_same}
 use Rattle.rip_plan.proofs.Texts.{TextLaws, prefix_is, no_prefix}
 use Rattle.rip_plan.specs.Texts.{IsPrefixText}
+use Rattle.rip_plan.specs.DocumentTables.{IsLinkTable, IsString}
+use Rattle.rip_plan.proofs.DocumentTables.{link_told, link_not, string_not}
 
 -- ---- names
 
@@ -94,8 +96,8 @@ module _ (document : Members) (links routers done : List Data) (d : Data) (rest 
   unfolding prefix_step
   prefix_finds laws front x back v items count =
       want_told document links routers codes.Key (LinkPrefix i j) (as_str x) (prefix_from_prefix i j) (by_code (LinkPrefix i j) codes.Key codes.Prefix refl (omega arith)) _
-      (λ none. (x, item, none))
-      (λ text is h. none-some text (sym h.2 ∙ ap as_str (item_once (codes_of "prefixes") links i j h.0 x h.1 item) ∙ is))
+      (λ none. (x, item, string_not x none))
+      (λ text is h. h.2 (subst IsString (sym (item_once (codes_of "prefixes") links i j h.0 x h.1 item)) (text, text_is x text is)))
       (λ text is.
       want_told document links routers codes.Prefix (LinkPrefix i j) (prefix_in text) (prefix_from_limit i j) (by_code (LinkPrefix i j) codes.Prefix codes.Limit refl (omega arith)) _
       (λ none. (text, subst (IsItem (codes_of "prefixes") links i j) (text_is x text is) item, no_prefix laws text none))
@@ -156,8 +158,8 @@ module _ (document : Members) (links routers done : List Data) (d : Data) (rest 
       let names : u.links ≡ added.names = ap (λ (v : Sketch). v.links) added.made in
       let named : Matched IsNameOf u.links done = subst (λ (l : List (List ℕ)). Matched IsNameOf l done) (sym names) added.named in
       want_told document links routers codes.Key (Link i) (as_table d &> link_fields) (link_from_name i) (by_code (Link i) codes.Key codes.Name refl (omega arith)) _
-      (λ none. (d, table_here laws links done d rest split, none))
-      (λ f is h. none-some f (sym h.2 ∙ ap (λ (t : Data). as_table t &> link_fields) (table_same laws links done d rest split h.0 h.1) ∙ is))
+      (λ none. (d, table_here laws links done d rest split, link_not d none))
+      (λ f is h. h.2 (subst IsLinkTable (sym (table_same laws links done d rest split h.0 h.1)) (link_told d f is)))
       (λ f is.
       let table = link_table d f.0 f.1 is in
       guard_told document links routers (not (is_name f.0)) codes.Name (Link i) (link_from_duplicate i) (by_code (Link i) codes.Name codes.DuplicateName refl (omega arith)) _

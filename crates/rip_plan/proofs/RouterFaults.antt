@@ -44,6 +44,8 @@ use Rattle.rip_plan.proofs.Lookups.{name_same, on_seat}
 use Rattle.rip_plan.proofs.LinkFaults.{table_here, table_same, misnamed_told, misnamed_clear, again_told, again_clear}
 use Rattle.rip_plan.proofs.Texts.{TextLaws, address_is, prefix_is, no_address, no_prefix, one_address, one_prefix}
 use Rattle.rip_plan.specs.Texts.{IsAddressText, IsPrefixText}
+use Rattle.rip_plan.specs.DocumentTables.{IsRouterTable, IsInterfaceTable, IsOwnTable}
+use Rattle.rip_plan.proofs.DocumentTables.{router_told, router_not, interface_told, interface_not, own_told, own_not}
 
 past_most : (n : ℕ) → nat_le 1024 n ≡ false → 1024 ≤ n → ⊥
 past_most n e le = grind (arith, nat_tests)
@@ -113,8 +115,8 @@ module _ (document : Members) (links routers done : List Data) (d : Data) (rest 
   unfolding own_step
   own_finds laws front x back v items named count =
       want_told document links routers codes.Key (RouterOwn r j) (as_table x &> own_fields) (own_from_via r j) (by_code (RouterOwn r j) codes.Key codes.Address refl (omega arith)) _
-      (λ none. (x, item, none))
-      (λ f is h. none-some f (sym h.2 ∙ ap (λ (t : Data). as_table t &> own_fields) (one h.0 h.1) ∙ is))
+      (λ none. (x, item, own_not x none))
+      (λ f is h. h.2 (subst IsOwnTable (sym (one h.0 h.1)) (own_told x f is)))
       (λ f is.
       let fields = own_texts x f is in
       want_told document links routers codes.Address (RouterOwn r j) (address_if f.via) (own_from_prefix r j) (by_code (RouterOwn r j) codes.Address codes.Prefix refl (omega arith)) _
@@ -295,8 +297,8 @@ module _ (document : Members) (links routers done : List Data) (d : Data) (rest 
   unfolding interface_step
   interface_finds laws front x back v items linked count sum few =
       want_told document links routers codes.Key (RouterInterface r j) (as_table x &> interface_fields) (interface_from_address r j) (by_code (RouterInterface r j) codes.Key codes.Address refl (omega arith)) _
-      (λ none. (x, item, none))
-      (λ f is h. none-some f (sym h.2 ∙ ap (λ (t : Data). as_table t &> interface_fields) (one h.0 h.1) ∙ is))
+      (λ none. (x, item, interface_not x none))
+      (λ f is h. h.2 (subst IsInterfaceTable (sym (one h.0 h.1)) (interface_told x f is)))
       (λ f is.
       let fields = interface_texts x f is in
       both_told document links routers codes.Address (RouterInterface r j) (address_in f.address) (λ a. addresses_in f.also) (interface_from_cost r j) (by_code (RouterInterface r j) codes.Address codes.Cost refl (omega arith)) _
@@ -516,8 +518,8 @@ module _ (document : Members) (links routers done : List Data) (d : Data) (rest 
       let names : u.routers ≡ added.names = ap (λ (v : Sketch). v.routers) added.made ∙ ap (λ (v : Sketch). v.routers ++ added.names) before.made in
       let named : Matched IsNameOf u.routers done = subst (λ (l : List (List ℕ)). Matched IsNameOf l done) (sym names) added.named in
       want_told document links routers codes.Key (Router r) (as_table d &> router_fields) (router_from_name r) (by_code (Router r) codes.Key codes.Name refl (omega arith)) _
-      (λ none. (d, table_here laws routers done d rest split, none))
-      (λ f is h. none-some f (sym h.2 ∙ ap (λ (t : Data). as_table t &> router_fields) (table_same laws routers done d rest split h.0 h.1) ∙ is))
+      (λ none. (d, table_here laws routers done d rest split, router_not d none))
+      (λ f is h. h.2 (subst IsRouterTable (sym (table_same laws routers done d rest split h.0 h.1)) (router_told d f is)))
       (λ f is.
       let table = router_table d f.0 f.1 f.2 is in
       guard_told document links routers (not (is_name f.0)) codes.Name (Router r) (router_from_duplicate r) (by_code (Router r) codes.Name codes.DuplicateName refl (omega arith)) _

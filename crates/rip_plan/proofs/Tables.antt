@@ -49,7 +49,7 @@ integer_is (boolean b) z h = absurd (none-some z h)
 integer_is (datetime u) z h = absurd (none-some z h)
 integer_is (array ds) z h = absurd (none-some z h)
 
-array_is : (d : Data) (xs : List Data) → option_map list_of (as_array d) ≡ Some xs → (items : Items) × (d ≡ array items) × (list_of items ≡ xs)
+pub array_is : (d : Data) (xs : List Data) → option_map list_of (as_array d) ≡ Some xs → (items : Items) × (d ≡ array items) × (list_of items ≡ xs)
 array_is (array ds) xs h = (ds, refl, same_Some (list_of ds) xs h)
 array_is (string s) xs h = absurd (none-some xs h)
 array_is (integer z) xs h = absurd (none-some xs h)
@@ -99,7 +99,7 @@ direct_is o cost given c h e = given_is o given (direct_of cost) c cost refl wit
     within (pos n) f = ap pos (cond_some (is_between 1 cost n) n c f).1
     within (negsuc n) f = absurd (none-some c f)
 
-boolean_is : (d : Data) (b : Bool) → as_bool d ≡ Some b → d ≡ boolean b
+pub boolean_is : (d : Data) (b : Bool) → as_bool d ≡ Some b → d ≡ boolean b
 boolean_is (boolean a) b h = ap boolean (same_Some a b h)
 boolean_is (string s) b h = absurd (none-some b h)
 boolean_is (table ms) b h = absurd (none-some b h)

@@ -34,6 +34,8 @@ use Rattle.rip_plan.proofs.PlanMatches.{root_table, document_matches, network_ma
 use Rattle.rip_plan.proofs.RouterFaults.{routers_find}
 use Rattle.rip_plan.proofs.SpotsTaken.{place_ats, interface_ats, links_stand, routers_stand}
 use Rattle.rip_plan.proofs.Texts.{TextLaws}
+use Rattle.rip_plan.specs.DocumentTables.{IsRoot}
+use Rattle.rip_plan.proofs.DocumentTables.{root_told, root_not}
 
 -- ---- the tables
 
@@ -203,10 +205,10 @@ module _ (laws : TextLaws) (bytes : List ℕ) (document : Members) (short : leng
       h.2 (ap (get_member (codes_of "version")) same ∙ its))
       (λ good.
       want_finds (IsTextFault bytes) (row_at codes.Key Text) (root_fields document) from_limit (inr (refl, inr (refl, inr (refl, inr (refl, inr (refl, inl (omega arith))))))) _
-      (λ none. inl ((document, text, none), refl))
+      (λ none. inl ((document, text, root_not document none), refl))
       (λ r is f.
       let h = in_table bytes 0 codes.Key Text (λ a. a) f in
-      none-some r (sym h.2 ∙ ap root_fields (same_document bytes document h.0 reads h.1) ∙ is))
+      h.2 (subst IsRoot (sym (same_document bytes document h.0 reads h.1)) (root_told document r is)))
       (λ r is.
       guard_finds (IsTextFault bytes) (nat_lt 512 (length r.0) || nat_lt 128 (length r.1)) (row_at codes.Limit Text) table_rows (inr (refl, inl (omega arith))) _
       (λ over. inl (inr (document, r.0, r.1, tables r.0 r.1 is, over_told r.0 r.1 over), refl))

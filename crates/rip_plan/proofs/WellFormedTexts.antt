@@ -5,7 +5,7 @@ use Rattle.std.specs.List.{All, sum_by}
 use Rattle.std.proofs.lemmas.Bool.{cases_lt}
 use Rattle.std.proofs.lemmas.List.Sums.{sum-map, sum_by-cons}
 use Rattle.std.proofs.lemmas.Option.{none-some, same_Some, slice_get_within, get_or_from_slice_get, slice_get-get_or}
-use Rattle.toml.specs.Data.{Data, Members, as_str, as_table, get, integer, string, table}
+use Rattle.toml.specs.Data.{Data, Members, get, integer, string, table}
 use Rattle.rip_wire.specs.Name.{IsName}
 use Rattle.rip_wire.specs.Prefix.{Block}
 use Rattle.rip_plan.specs.declared.error.PlanCode.{PlanCode}
@@ -16,12 +16,12 @@ use Rattle.rip_plan.specs.declared.error.At.TheVariants.{Text, Version, Link, Li
 use Rattle.rip_plan.specs.declared.parts.Interface.{Interface}
 use Rattle.rip_plan.specs.declared.parts.Seat.TheVariants as seats
 use Rattle.rip_plan.specs.Fault.{fault}
-use Rattle.rip_plan.specs.Fields.{◌&>◌, interface_fields, is_version, link_fields, own_fields, root_fields, router_fields}
+use Rattle.rip_plan.specs.Fields.{interface_fields, is_version, link_fields, own_fields, router_fields}
 use Rattle.rip_plan.specs.Network.{Network}
 use Rattle.rip_plan.specs.PlanFaults.{AreTwice, AstrayAt, DoMeet, FaultAt, HasNoAddress, HasOneTwice, HasPrefix, HasTables, HasWrongAlso, HasWrongCost, HasWrongDirect, HaveOneAddress, IsAstray, IsBare, IsClash, IsFault, IsFound, IsItem, IsMisnamed, IsNamedAgain, IsOutside, IsPast, IsSo, IsText, NamesNoLink, TableFault, also_spots, interface_spots, nth, pass_of, place_spots, spots_under}
 use Rattle.rip_plan.specs.PlanOf.{AreAlsoOf, IsAddressOf, IsCostOf, IsDirectOf, IsGatewayOf, IsLinkOf, IsInterfaceOf, IsNameOf, IsOnLink, IsOwned, IsPlaceOf, IsPlanOfText, Matched, Placement, PlanOf, items_in, items_under}
 use Rattle.rip_plan.specs.Relations.{Carries, HasOwnAddress, IsConnected, IsInterface, IsLawful, IsOwnAt, IsPlace, IsPrefix}
-use Rattle.rip_plan.specs.WellFormed.{HasFields, IsWellFormed}
+use Rattle.rip_plan.specs.WellFormed.{IsWellFormed}
 use Rattle.rip_plan.proofs.AlsoSpots.{also_count, also_in, also_items, also_under}
 use Rattle.rip_plan.proofs.Items.{get_seen, get_split, see_got}
 use Rattle.rip_plan.proofs.Matching.{matched_left, matched_length, matched_right}
@@ -31,6 +31,8 @@ use Rattle.rip_plan.proofs.Spots.{get_before, get_past, spots_count}
 use Rattle.rip_plan.proofs.TextFaults.{one_astray, one_fault, one_tables, same_document, version_is, version_told}
 use Rattle.rip_plan.proofs.Texts.{TextLaws, one_address}
 use Rattle.rip_plan.specs.Texts.{IsAddressText, IsPrefixText, IsNoPrefix}
+use Rattle.rip_plan.specs.DocumentTables.{IsLinkTable, IsRouterTable, IsInterfaceTable, IsOwnTable, IsRoot, IsString}
+use Rattle.rip_plan.proofs.DocumentTables.{link_told, link_not, router_told, router_not, interface_told, interface_not, own_not, by_table, by_root, own_told}
 
 -- ---- lists
 
@@ -342,14 +344,14 @@ module _ (laws : TextLaws) (bytes : List ℕ) (w : IsWellFormed bytes) where
   router_named : (r : ℕ) → IsMisnamed w.plan.routers r → ⊥
   router_named r (d, name, at, its, bad) = bad (misnamed_not w.network.routers w.plan.routers w.plan.router_names IsName w.lawful.router_named r name d at its)
 
-  has_fields : {A : Type 0} (fields : Members → Option A) (ds : List Data) (i : ℕ) (d : Data) → All (HasFields fields) ds → nth ds i ≡ Some d → (as_table d &> fields) ≡ None → ⊥
-  has_fields fields ds zero d all at none = none-some d at
-  has_fields fields ds (suc k) d all at none = all_at (HasFields fields) ds k d all at none
+  has_fields : (Is : Data → Type 0) (ds : List Data) (i : ℕ) (d : Data) → All Is ds → nth ds i ≡ Some d → (Is d → ⊥) → ⊥
+  has_fields Is ds zero d all at lacks = none-some d at
+  has_fields Is ds (suc k) d all at lacks = lacks (all_at Is ds k d all at)
 
-  item_fields : {A : Type 0} (fields : Members → Option A) (key : List ℕ) (ds : List Data) (i j : ℕ) (x : Data) → All (λ (at : ℕ × Data). HasFields fields at.1) (items_under key 0 ds) → IsItem key ds i j x → (as_table x &> fields) ≡ None → ⊥
-  item_fields fields key ds i j x all item none =
+  item_fields : (Is : Data → Type 0) (key : List ℕ) (ds : List Data) (i j : ℕ) (x : Data) → All (λ (at : ℕ × Data). Is at.1) (items_under key 0 ds) → IsItem key ds i j x → (Is x → ⊥) → ⊥
+  item_fields Is key ds i j x all item lacks =
       let u = item_under key ds i j x item in
-      all_at (λ (at : ℕ × Data). HasFields fields at.1) (items_under key 0 ds) u.k (u.m, x) all u.at none
+      lacks (all_at (λ (at : ℕ × Data). Is at.1) (items_under key 0 ds) u.k (u.m, x) all u.at)
 
   -- the prefix of an item
   text_not : (i j : ℕ) (x : Data) → IsItem (codes_of "prefixes") w.plan.links i j x → (text : List ℕ) × (x ≡ string text) × ((p : Block) × IsPrefixText text p)
@@ -364,10 +366,10 @@ module _ (laws : TextLaws) (bytes : List ℕ) (w : IsWellFormed bytes) where
       let same : text ≡ other = cc in
       none p (subst (λ (t : List ℕ). IsPrefixText t p) (sym same) parsed)
 
-  key_not : (i j : ℕ) (x : Data) → IsItem (codes_of "prefixes") w.plan.links i j x → as_str x ≡ None → ⊥
+  key_not : (i j : ℕ) (x : Data) → IsItem (codes_of "prefixes") w.plan.links i j x → (IsString x → ⊥) → ⊥
   key_not i j x item none =
       let (text, is, parsed) = text_not i j x item in
-      none-some text (sym none ∙ ap as_str is)
+      none (text, is)
 
   address_told : (r j : ℕ) (x : Data) → IsItem (codes_of "interface") w.plan.routers r j x → HasNoAddress (codes_of "address") x ⊎ HasWrongAlso x → ⊥
   address_told r j x item (inl (text, has, none)) =
@@ -382,33 +384,33 @@ module _ (laws : TextLaws) (bytes : List ℕ) (w : IsWellFormed bytes) where
       let same : text ≡ other = cc in
       none a (subst (λ (t : List ℕ). IsAddressText t a) (sym same) parsed)
 
-  own_told : (r j : ℕ) (x : Data) (text : List ℕ) → IsItem (codes_of "own") w.plan.routers r j x → get (codes_of "prefix") x ≡ Some (string text) → IsNoPrefix text → ⊥
-  own_told r j x text item has none =
+  own_prefix_told : (r j : ℕ) (x : Data) (text : List ℕ) → IsItem (codes_of "own") w.plan.routers r j x → get (codes_of "prefix") x ≡ Some (string text) → IsNoPrefix text → ⊥
+  own_prefix_told r j x text item has none =
       let h = its_own laws w.document w.network w.plan w.lawful r j x item in
       let same : text ≡ h.of.text = text_same (codes_of "prefix") x text h.of.text has h.of.has_prefix in
       none h.q.prefix (subst (λ (t : List ℕ). IsPrefixText t h.q.prefix) (sym same) h.of.prefix)
 
   -- no fault of the tables
   table_not : (c : PlanCode) (place : At) → TableFault w.document w.plan.links w.plan.routers c place → ⊥
-  table_not codes.Key (Link i) f = has_fields link_fields w.plan.links i f.0 w.link_tables f.1 f.2
+  table_not codes.Key (Link i) f = has_fields IsLinkTable w.plan.links i f.0 w.link_tables f.1 f.2
   table_not codes.Name (Link i) f = link_named i f
   table_not codes.DuplicateName (Link i) f = again_not w.network.links w.plan.links w.plan.link_names w.lawful.link_names_differ i f
   table_not codes.Key (LinkPrefix i j) f = key_not i j f.0 f.1 f.2
   table_not codes.Prefix (LinkPrefix i j) f = prefix_not i j f.0 f.1 f.2
   table_not codes.Limit (LinkPrefix i j) f = past_not laws w.document w.network w.plan w.lawful (place_spots w.plan.links w.plan.routers) (LinkPrefix i j) f.0 (few_places laws w.document w.network w.plan w.lawful) f.1 f.2
-  table_not codes.Key (Router r) f = has_fields router_fields w.plan.routers r f.0 w.router_tables f.1 f.2
+  table_not codes.Key (Router r) f = has_fields IsRouterTable w.plan.routers r f.0 w.router_tables f.1 f.2
   table_not codes.Name (Router r) f = router_named r f
   table_not codes.DuplicateName (Router r) f = again_not w.network.routers w.plan.routers w.plan.router_names w.lawful.router_names_differ r f
-  table_not codes.Key (RouterInterface r j) f = item_fields interface_fields (codes_of "interface") w.plan.routers r j f.0 w.interface_tables f.1 f.2
+  table_not codes.Key (RouterInterface r j) f = item_fields IsInterfaceTable (codes_of "interface") w.plan.routers r j f.0 w.interface_tables f.1 f.2
   table_not codes.Address (RouterInterface r j) f = address_told r j f.0 f.1 f.2
   table_not codes.Cost (RouterInterface r j) f = interface_cost laws w.document w.network w.plan w.lawful f.0 (its_interface laws w.document w.network w.plan w.lawful r j f.0 f.1) f.2
   table_not codes.UnknownLink (RouterInterface r j) f = unknown_not laws w.document w.network w.plan w.lawful f.0 (its_interface laws w.document w.network w.plan w.lawful r j f.0 f.1) f.2
   table_not codes.OutsidePrefix (RouterInterface r j) f = outside_not laws w.document w.network w.plan w.lawful f.0 (its_interface laws w.document w.network w.plan w.lawful r j f.0 f.1) f.2
   table_not codes.Limit (RouterInterface r j) f = interface_limit laws w.document w.network w.plan w.lawful r j f
-  table_not codes.Key (RouterOwn r j) f = item_fields own_fields (codes_of "own") w.plan.routers r j f.0 w.own_tables f.1 f.2
+  table_not codes.Key (RouterOwn r j) f = item_fields IsOwnTable (codes_of "own") w.plan.routers r j f.0 w.own_tables f.1 f.2
   table_not codes.Address (RouterOwn r j) f = let h = its_own laws w.document w.network w.plan w.lawful r j f.0 f.1 in gateways f.0 h.of.via h.of.is_via f.2
   table_not codes.UnknownLink (RouterOwn r j) f = let h = its_own laws w.document w.network w.plan w.lawful r j f.0 f.1 in attached_not laws w.document w.network w.plan w.lawful f.0 h.of.link h.of.is_link f.2
-  table_not codes.Prefix (RouterOwn r j) f = own_told r j f.0 f.1 f.2 f.3 f.4
+  table_not codes.Prefix (RouterOwn r j) f = own_prefix_told r j f.0 f.1 f.2 f.3 f.4
   table_not codes.Cost (RouterOwn r j) f = own_cost laws w.document w.network w.plan w.lawful f.0 (its_own laws w.document w.network w.plan w.lawful r j f.0 f.1) f.2
   table_not codes.Limit (RouterOwn r j) f = past_not laws w.document w.network w.plan w.lawful (place_spots w.plan.links w.plan.routers) (RouterOwn r j) f.0 (few_places laws w.document w.network w.plan w.lawful) f.1 f.2
   table_not codes.DuplicatePrefix (LinkPrefix i j) f = clash_not laws w.document w.network w.plan w.lawful DoMeet (place_spots w.plan.links w.plan.routers) (LinkPrefix i j) (meet_not laws w.document w.network w.plan w.lawful) f.0 f.1 f.2
@@ -428,7 +430,7 @@ module _ (laws : TextLaws) (bytes : List ℕ) (w : IsWellFormed bytes) where
   fault_not : (c : PlanCode) (place : At) → FaultAt bytes c place → ⊥
   fault_not codes.Syntax Text f = none-some w.document (sym f.1 ∙ w.text.reads)
   fault_not codes.Version Version f = f.2 (ap (λ (m : Members). get (codes_of "version") (table m)) (same_document bytes w.document f.0 w.text.reads f.1) ∙ w.version)
-  fault_not codes.Key Text f = w.root (ap root_fields (sym (same_document bytes w.document f.0 w.text.reads f.1)) ∙ f.2)
+  fault_not codes.Key Text f = f.2 (subst IsRoot (sym (same_document bytes w.document f.0 w.text.reads f.1)) w.root)
   fault_not codes.Limit Text (inl more) = let few : length bytes ≤ 1048576 = w.text.short in let past : 1048576 < length bytes = more in omega arith
   fault_not codes.Limit Text (inr (other, ls, rs, has, over)) =
       let (one, two, three) = one_tables bytes w.document w.plan.links w.plan.routers tables other ls rs has in
@@ -472,25 +474,27 @@ module _ (bytes : List ℕ) (none : (e : PlanError) → IsFault bytes e → ⊥)
     its_tables : HasTables bytes document plan.links plan.routers
     its_tables = record { text = text; has_links = plan.has_links; has_routers = plan.has_routers }
 
-    its_links : All (HasFields link_fields) plan.links
-    its_links = all_from (HasFields link_fields) plan.links (λ k d at lacks. none_at codes.Key (Link (suc k)) (document, plan.links, plan.routers, its_tables, (d, at, lacks)))
+    its_links : All IsLinkTable plan.links
+    its_links = all_from IsLinkTable plan.links (λ k d at. by_table IsLinkTable link_fields link_told d (λ lacks. none_at codes.Key (Link (suc k)) (document, plan.links, plan.routers, its_tables, (d, at, lacks))) (link_not d))
 
-    its_routers : All (HasFields router_fields) plan.routers
-    its_routers = all_from (HasFields router_fields) plan.routers (λ k d at lacks. none_at codes.Key (Router (suc k)) (document, plan.links, plan.routers, its_tables, (d, at, lacks)))
+    its_routers : All IsRouterTable plan.routers
+    its_routers = all_from IsRouterTable plan.routers (λ k d at. by_table IsRouterTable router_fields router_told d (λ lacks. none_at codes.Key (Router (suc k)) (document, plan.links, plan.routers, its_tables, (d, at, lacks))) (router_not d))
 
-    its_interfaces : All (λ (at : ℕ × Data). HasFields interface_fields at.1) (items_under (codes_of "interface") 0 plan.routers)
+    its_interfaces : All (λ (at : ℕ × Data). IsInterfaceTable at.1) (items_under (codes_of "interface") 0 plan.routers)
     its_interfaces =
-        all_from (λ (at : ℕ × Data). HasFields interface_fields at.1) (items_under (codes_of "interface") 0 plan.routers)
-        (λ k d at lacks.
+        all_from (λ (at : ℕ × Data). IsInterfaceTable at.1) (items_under (codes_of "interface") 0 plan.routers)
+        (λ k d at.
         let (i, j, number, item) = under_item (codes_of "interface") 0 plan.routers k d.0 d.1 at in
-        none_at codes.Key (RouterInterface (suc i) (suc j)) (document, plan.links, plan.routers, its_tables, (d.1, item, lacks)))
+        by_table IsInterfaceTable interface_fields interface_told d.1
+        (λ lacks. none_at codes.Key (RouterInterface (suc i) (suc j)) (document, plan.links, plan.routers, its_tables, (d.1, item, lacks))) (interface_not d.1))
 
-    its_owns : All (λ (at : ℕ × Data). HasFields own_fields at.1) (items_under (codes_of "own") 0 plan.routers)
+    its_owns : All (λ (at : ℕ × Data). IsOwnTable at.1) (items_under (codes_of "own") 0 plan.routers)
     its_owns =
-        all_from (λ (at : ℕ × Data). HasFields own_fields at.1) (items_under (codes_of "own") 0 plan.routers)
-        (λ k d at lacks.
+        all_from (λ (at : ℕ × Data). IsOwnTable at.1) (items_under (codes_of "own") 0 plan.routers)
+        (λ k d at.
         let (i, j, number, item) = under_item (codes_of "own") 0 plan.routers k d.0 d.1 at in
-        none_at codes.Key (RouterOwn (suc i) (suc j)) (document, plan.links, plan.routers, its_tables, (d.1, item, lacks)))
+        by_table IsOwnTable own_fields own_told d.1
+        (λ lacks. none_at codes.Key (RouterOwn (suc i) (suc j)) (document, plan.links, plan.routers, its_tables, (d.1, item, lacks))) (own_not d.1))
 
 pub faultless_is : ((bytes : List ℕ) → ((e : PlanError) → IsFault bytes e → ⊥) → (n : Network) × IsPlanOfText bytes n × IsLawful n)
     → (bytes : List ℕ) → ((e : PlanError) → IsFault bytes e → ⊥) → IsWellFormed bytes
@@ -503,7 +507,7 @@ faultless_is law bytes none =
       version = its_version bytes none is.document text n is.plan;
       network = n;
       plan = is.plan;
-      root = λ lacks. none_at bytes none codes.Key Text (is.document, text, lacks);
+      root = by_root is.document (λ lacks. none_at bytes none codes.Key Text (is.document, text, lacks));
       link_tables = its_links bytes none is.document text n is.plan;
       router_tables = its_routers bytes none is.document text n is.plan;
       interface_tables = its_interfaces bytes none is.document text n is.plan;

@@ -13,6 +13,7 @@ pub mod Network
 pub mod Answers
 pub mod Relations
 pub mod Texts
+pub mod DocumentTables
 pub mod Rows
 pub mod Indexed
 pub mod PlanOf

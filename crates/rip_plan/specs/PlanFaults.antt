@@ -1,7 +1,7 @@
 -- What is wrong with a plan's text, each fault by itself and in the words of its document, and
 -- which of them is told.
 use Rattle.std.specs.Prelude.{◌≡◌, ◌≢◌, ◌⊎◌, ℕ, zero, suc, ◌+◌, ◌<◌, ◌≤◌, ℤ, pos, List, [], ◌∷◌, ◌++◌, length, map, codes, Option, Some, None, slice_get}
-use Rattle.toml.specs.Data.{Data, Members, as_str, as_table, get, integer, string, table}
+use Rattle.toml.specs.Data.{Data, Members, get, integer, string, table}
 use Rattle.rip_wire.specs.Name.{IsName}
 use Rattle.rip_wire.specs.Prefix.{Block, ContainsAddress}
 use Rattle.rip_plan.specs.declared.error.PlanCode.{PlanCode}
@@ -12,7 +12,7 @@ use Rattle.rip_plan.specs.declared.error.At.TheVariants.{Text, Version, Link, Li
 use Rattle.rip_plan.specs.declared.limits.TheConstants.{MOST_ALSO, MOST_COST, MOST_INTERFACES, MOST_LINKS, MOST_PLACES, MOST_PLAN_BYTES, MOST_ROUTERS}
 use Rattle.rip_plan.specs.declared.parts.Seat.TheVariants as seats
 use Rattle.rip_plan.specs.Codes.{number_of_code}
-use Rattle.rip_plan.specs.Fields.{◌&>◌, interface_fields, link_fields, own_fields, root_fields, router_fields}
+use Rattle.rip_plan.specs.DocumentTables.{IsInterfaceTable, IsLinkTable, IsOwnTable, IsRoot, IsRouterTable, IsString}
 use Rattle.rip_plan.specs.Network.{Network}
 use Rattle.rip_plan.specs.PlanOf.{HasItems, HasText, IsCostOf, IsNameOf, PlanOf, items_in, items_under}
 use Rattle.rip_plan.specs.PlanText.{document_of}
@@ -196,22 +196,21 @@ IsBare n r =
 -- what each code says of the tables of a document, and of what stands at this place
 abbrev pub TableFault : Members → List Data → List Data → PlanCode → At → Type 0
 TableFault document links routers codes.Key (Link i) =
-    (d : Data) × (nth links i ≡ Some d) × ((as_table d &> link_fields) ≡ None)
+    (d : Data) × (nth links i ≡ Some d) × (IsLinkTable d → ⊥)
 TableFault document links routers codes.Name (Link i) = IsMisnamed links i
 TableFault document links routers codes.DuplicateName (Link i) = IsNamedAgain links i
 TableFault document links routers codes.Key (LinkPrefix i j) =
-    (d : Data) × IsItem (codes "prefixes") links i j d × (as_str d ≡ None)
+    (d : Data) × IsItem (codes "prefixes") links i j d × (IsString d → ⊥)
 TableFault document links routers codes.Prefix (LinkPrefix i j) =
     (text : List ℕ) × IsItem (codes "prefixes") links i j (string text) × IsNoPrefix text
 TableFault document links routers codes.Limit (LinkPrefix i j) =
     IsPast MOST_PLACES (place_spots links routers) (LinkPrefix i j)
 TableFault document links routers codes.Key (Router r) =
-    (d : Data) × (nth routers r ≡ Some d) × ((as_table d &> router_fields) ≡ None)
+    (d : Data) × (nth routers r ≡ Some d) × (IsRouterTable d → ⊥)
 TableFault document links routers codes.Name (Router r) = IsMisnamed routers r
 TableFault document links routers codes.DuplicateName (Router r) = IsNamedAgain routers r
 TableFault document links routers codes.Key (RouterInterface r j) =
-    (d : Data) × IsItem (codes "interface") routers r j d
-    × ((as_table d &> interface_fields) ≡ None)
+    (d : Data) × IsItem (codes "interface") routers r j d × (IsInterfaceTable d → ⊥)
 TableFault document links routers codes.Address (RouterInterface r j) =
     (d : Data) × IsItem (codes "interface") routers r j d
     × (HasNoAddress (codes "address") d ⊎ HasWrongAlso d)
@@ -225,7 +224,7 @@ TableFault document links routers codes.Limit (RouterInterface r j) =
     IsPast MOST_INTERFACES (interface_spots routers) (RouterInterface r j)
     ⊎ IsPast MOST_ALSO (also_spots routers) (RouterInterface r j)
 TableFault document links routers codes.Key (RouterOwn r j) =
-    (d : Data) × IsItem (codes "own") routers r j d × ((as_table d &> own_fields) ≡ None)
+    (d : Data) × IsItem (codes "own") routers r j d × (IsOwnTable d → ⊥)
 TableFault document links routers codes.Address (RouterOwn r j) =
     (d : Data) × IsItem (codes "own") routers r j d × HasNoAddress (codes "via") d
 TableFault document links routers codes.Prefix (RouterOwn r j) =
@@ -261,7 +260,7 @@ FaultAt bytes codes.Version Version =
     (document : Members) × IsText bytes document
     × (get (codes "version") (table document) ≢ Some (integer (pos 1)))
 FaultAt bytes codes.Key Text =
-    (document : Members) × IsText bytes document × (root_fields document ≡ None)
+    (document : Members) × IsText bytes document × (IsRoot document → ⊥)
 FaultAt bytes codes.Limit Text =
     (MOST_PLAN_BYTES < length bytes)
     ⊎ ((document : Members) × (links routers : List Data) × HasTables bytes document links routers

@@ -163,7 +163,7 @@ abbrev pub IsInside : Network → ℕ → ℕ → Type 0
 IsInside n l a =
     (p : ℕ) × (block : Block) × Carries n l p × IsPrefix n p block × ContainsAddress block a
 
--- ---- The laws of a plan: its refusals turned round
+-- ---- The laws of a plan: what reading refuses breaks one
 
 pub record IsLawful (n : Network) : Type 0 where
   -- limits

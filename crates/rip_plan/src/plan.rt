@@ -111,7 +111,7 @@ fn plan_of(alloc: Global, draft: Draft) -> Result<Plan, AllocError>
     })
 }
 
-/// The plan that the bytes are, a fault, or want of memory.
+/// The plan that the bytes are, a fault, or that memory was refused.
 fn read_plan(alloc: Global, bytes: &[u8]) -> Result<Plan, ReadError>
     ensures gives { Gives (λ plan. plan) result (network_in bytes.now) }
     ensures long { MOST_PLAN_BYTES < length bytes.now
@@ -154,7 +154,7 @@ impl Plan {
         }
     }
 
-    /// A plan keeps the laws: what its refusals say, turned round. This does nothing when it runs.
+    /// A plan keeps the laws, since reading refuses any other. This does nothing when it runs.
     pub fn lawful(&self)
         ensures { IsLawful self.now }
     {

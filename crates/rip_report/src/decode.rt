@@ -125,7 +125,7 @@ fn write_datagram<K: Sink>(datagram: &Datagram<'_>, out: &mut K) -> Result<(), F
 }
 
 /// Prints the datagram that a word spells in hexadecimal digits of either case, or what is wrong
-/// with it. A word of any length is judged. It takes no memory.
+/// with it. A word of any length is judged. It allocates nothing.
 pub fn run_decode<K: Sink>(hex: &str, out: &mut K) -> Result<Status, RunError>
     // The whole text went out, or a beginning where the sink failed.
     ensures prints { Prints K.taken K.broken out.old out.new result (DecodeText hex.now) }

@@ -243,7 +243,7 @@ impl Report for Routes {
 
 /// Prints the routes that a log shows, for the plan that the bytes of a TOML document are, or what
 /// refuses the plan or the log. The source comes back. The hasher is for the prefixes, which strangers
-/// choose. It takes a byte of memory for each router and planned prefix, beside what `table` takes.
+/// choose. It allocates a byte for each router and planned prefix, beside what `table` allocates.
 pub fn run_routes<R: Source, K: Sink, S: BuildHasher + Drop>(
     alloc: Global,
     plan: &[u8],
