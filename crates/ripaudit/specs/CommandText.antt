@@ -7,16 +7,18 @@ use Rattle.rip_report.specs.PlanText.{PlanText}
 use Rattle.rip_report.specs.ReportText.{ReportText}
 use Rattle.rip_report.specs.RoutesText.{RoutesText}
 use Rattle.rip_report.specs.TableText.{TableText}
+use Rattle.rip_report.specs.WhatifText.{WhatifText}
 use Rattle.rip_report.specs.Written.{Written}
 use Rattle.ripaudit.specs.declared.commands.LogCommand.{LogCommand}
 use Rattle.ripaudit.specs.declared.commands.LogCommand.TheVariants.{Audit, Explain, Routes, Table}
 use Rattle.ripaudit.specs.declared.commands.PlanCommand.{PlanCommand}
-use Rattle.ripaudit.specs.declared.commands.PlanCommand.TheVariants.{Plan, Expect}
+use Rattle.ripaudit.specs.declared.commands.PlanCommand.TheVariants.{Plan, Expect, WhatIf}
 
 -- what a command prints of the bytes of a plan
 abbrev pub PlanCommandText : PlanCommand → List ℕ → Written → Type 0
 PlanCommandText Plan plan = PlanText plan
 PlanCommandText Expect plan = ExpectText plan
+PlanCommandText (WhatIf all) plan = WhatifText plan all
 
 -- what a command prints of the bytes of a plan and the text of a log
 abbrev pub LogCommandText : LogCommand → List ℕ → List ℕ → Written → Type 0

@@ -51,6 +51,16 @@ fn on_plan<'a>(
     Command::new(alloc, name).about(about).arg(plan_word(alloc))
 }
 
+/// A command that reads a plan, and tells of everything where `--all` is given.
+fn on_plan_with_all<'a>(
+    alloc: Global,
+    name: &'a str,
+    about: &'a str,
+    all: &'a str,
+) -> Result<Command<'a>, AllocError> {
+    on_plan(alloc, name, about)?.arg(all_word(alloc, all))
+}
+
 /// A command that reads a plan and a log.
 fn on_log<'a>(
     alloc: Global,
@@ -107,6 +117,9 @@ fn commands<'a>(alloc: Global) -> Result<Command<'a>, AllocError> {
     let ripaudit = add(ripaudit, on_log(alloc, "table", table));
     let expect = "Prints the right routes of a plan";
     let ripaudit = add(ripaudit, on_plan(alloc, "expect", expect));
+    let whatif = "Tells what the failure of each link and of each router would cost";
+    let lost = "Name each router and prefix that is lost, and each prefix that is gone";
+    let ripaudit = add(ripaudit, on_plan_with_all(alloc, "whatif", whatif, lost));
     let plan = "Prints the parts of a plan";
     let ripaudit = add(ripaudit, on_plan(alloc, "plan", plan));
     add(ripaudit, decode_command(alloc))
@@ -228,10 +241,11 @@ where
         return Some(run_decode(hex, &mut IntoWrite::new(io::writer(rt))));
     }
     let path = words.get_str("PLAN")?;
-    if let Some(command) = plan_command(word) {
+    let all = words.get_flag("all");
+    if let Some(command) = plan_command(word, all) {
         return Some(plan_file(rt, command, path));
     }
-    let command = log_command(word, words.get_flag("all"))?;
+    let command = log_command(word, all)?;
     Some(report_file(rt, command, path, words.get_str("LOG")))
 }
 

@@ -16,6 +16,7 @@ use rip_log::{Failed, Sink, Source};
 use rip_plan::MOST_PLAN_BYTES;
 use rip_report::{
     RunError, Status, run_audit, run_expect, run_explain, run_plan, run_routes, run_table,
+    run_whatif,
 };
 use std::alloc::Global;
 use std::hash::BuildHasher;
@@ -30,6 +31,9 @@ pub(crate) enum PlanCommand {
     Plan,
     /// Its right routes.
     Expect,
+    /// What each failure would cost, with a line for each pair that is lost and each prefix that is
+    /// gone where all are asked for.
+    WhatIf { all: bool },
 }
 
 /// The commands that read a log.
@@ -45,14 +49,16 @@ pub(crate) enum LogCommand {
     Table,
 }
 
-/// The command of that name that reads a plan alone.
-pub(crate) fn plan_command(word: &str) -> Option<PlanCommand>
+/// The command of that name that reads a plan alone, with all that is lost where it is asked for.
+pub(crate) fn plan_command(word: &str, all: bool) -> Option<PlanCommand>
     ensures plan { (result ≡ Some PlanCommand.Plan) ↔ (word.now ≡ codes "plan") }
     ensures expect { (result ≡ Some PlanCommand.Expect) ↔ (word.now ≡ codes "expect") }
+    ensures whatif { (result ≡ Some (PlanCommand.WhatIf all)) ↔ (word.now ≡ codes "whatif") }
 {
     match word {
         "plan" => Some(PlanCommand::Plan),
         "expect" => Some(PlanCommand::Expect),
+        "whatif" => Some(PlanCommand::WhatIf { all }),
         _ => None,
     }
 }
@@ -113,6 +119,7 @@ pub(crate) fn run_on_plan<K: Sink>(
     match command {
         PlanCommand::Plan => run_plan(alloc, plan, out),
         PlanCommand::Expect => run_expect(alloc, plan, out),
+        PlanCommand::WhatIf { all } => run_whatif(alloc, plan, out, all),
     }
 }
 
