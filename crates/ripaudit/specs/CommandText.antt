@@ -18,7 +18,7 @@ use Rattle.ripaudit.specs.declared.commands.PlanCommand.TheVariants.{Plan, Expec
 abbrev pub PlanCommandText : PlanCommand → List ℕ → Written → Type 0
 PlanCommandText Plan plan = PlanText plan
 PlanCommandText Expect plan = ExpectText plan
-PlanCommandText (WhatIf all) plan = WhatifText plan all
+PlanCommandText (WhatIf all) plan = WhatifText all plan
 
 -- what a command prints of the bytes of a plan and the text of a log
 abbrev pub LogCommandText : LogCommand → List ℕ → List ℕ → Written → Type 0
