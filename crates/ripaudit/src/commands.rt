@@ -22,7 +22,7 @@ use std::alloc::Global;
 use std::hash::BuildHasher;
 
 /// The bytes that are pulled at once from the file of a plan.
-const PIECE_LEN: usize = 65_536;
+const PIECE_LEN: usize = 4_096;
 
 /// The commands that read a plan alone.
 #[derive(Clone, Copy)]

@@ -4,7 +4,7 @@ use Rattle.ripaudit.proofs.commands.read_plan.Given as goal
 abbrev pub invariant-pieces : goal.invariant-pieces
 invariant-pieces g l = record {
   given : g.R.Source.given l.file ≡ g.R.Source.given l.fn.file ++ l.bytes.items;
-  room : length l.piece.items ≡ 65536;
+  room : length l.piece.items ≡ 4096;
 }
 
 abbrev pub decreases-pieces : goal.decreases-pieces
