@@ -131,6 +131,14 @@ module _ (n : Network) (p : ℕ) (sound : IsSound n) where
             omega (arith, le, is)
       ]
 
+  -- where no router below 16 is above m, that is all
+  pub settled_all : (m : ℕ) (metrics : List ℕ) → AreSettled n p (m + 1) metrics → ((r : ℕ) → r < length n.routers → m < get_or metrics r 0 → 16 ≤ get_or metrics r 0) → AreSettled n p 16 metrics
+  settled_all m metrics settled none r lt small =
+      elim (cases_lt m (get_or metrics r 0)) [
+        | inl more ↦ absurd (omega (arith, none r lt more, small))
+        | inr less ↦ settled r lt (omega (arith, less))
+      ]
+
   module _ (metrics : List ℕ) (settled : AreSettled n p 16 metrics) (reached : AreReached n p metrics) (direct : (r c : ℕ) → IsDirect n r p c → get_or metrics r 0 ≤ c) where
     no_path_less : (r : ℕ) (hops : List Hop) (w : ℕ) → IsPath n p r hops w → get_or metrics r 0 ≤ w
     no_path_less r [] w path = direct r w path

@@ -1,5 +1,5 @@
 -- Failures of a link or a router, and the network that is left after one.
-use Rattle.std.specs.Prelude.{ℕ, Bool, true, not, ◌&&◌, ◌==◌, Option, None, Some}
+use Rattle.std.specs.Prelude.{ℕ, ◌<◌, Bool, true, not, ◌&&◌, ◌==◌, Option, None, Some, length}
 use Rattle.std.specs.List.{filter}
 use Rattle.rip_plan.specs.Network.{Network}
 use Rattle.rip_plan.specs.declared.parts.Interface.{Interface}
@@ -7,6 +7,11 @@ use Rattle.rip_plan.specs.declared.parts.Seat.{Seat}
 use Rattle.rip_plan.specs.declared.parts.Seat.TheVariants as seats
 use Rattle.rip_check.specs.declared.failures.Failure.{Failure}
 use Rattle.rip_check.specs.declared.failures.Failure.TheVariants as failures
+
+-- what has failed is a link or a router of the plan
+abbrev pub IsKnown : Network → Failure → Type 0
+IsKnown n (failures.Link l) = l < length n.links
+IsKnown n (failures.Router r) = r < length n.routers
 
 -- link l has not failed
 abbrev pub is_link_up : Option Failure → ℕ → Bool

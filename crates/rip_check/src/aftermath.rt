@@ -3,7 +3,7 @@
 ghost use Rattle.std.specs.Prelude.{◌≡◌, ℕ, ◌<◌, ◌≤◌, Decides, IfOk, length, nat_lt, slice_index};
 ghost use Rattle.rip_plan.specs.Relations.{IsDirect};
 ghost use Rattle.rip_check.specs.Expected.{AreExpected, IsCount};
-ghost use Rattle.rip_check.specs.Failures.{network_after, network_left};
+ghost use Rattle.rip_check.specs.Failures.{IsKnown, network_after, network_left};
 ghost use Rattle.rip_check.specs.Impacts.{AreLeft, HasRoom, IsChange, IsImpact, IsPart};
 ghost use Rattle.rip_check.specs.Losses.{IsGone, IsLost, Loses};
 ghost use Rattle.rip_check.specs.Paths.{IsLeast};
@@ -11,6 +11,7 @@ ghost use Rattle.rip_check.specs.Paths.{IsLeast};
 use crate::expected::{Expected, keep};
 use crate::failures::{Failure, direct_left, is_router_up};
 use crate::least::find_least;
+use crate::untouched::{fill_before, touches};
 use rip_plan::{MOST_ROUTERS, Plan};
 use std::alloc::{AllocError, Global};
 
@@ -84,13 +85,18 @@ fn is_gone(plan: &Plan, failure: Failure, prefix: usize) -> bool
 /// Writes the least metric of each router for a prefix after a failure.
 fn find_after(plan: &Plan, before: &Expected, failure: Failure, prefix: usize, row: &mut [u8])
     requires before { AreExpected plan.now before.now }
+    requires known { IsKnown plan.now failure }
     requires prefix { prefix < length plan.now.prefixes }
     requires size { length row.old ≡ length plan.now.routers }
     ensures { (r : ℕ) → r < length plan.now.routers →
         IsLeast (network_after plan.now failure) prefix r (slice_index row.new r) }
 {
-    let _ = before;
-    find_least(plan, Some(failure), prefix, row);
+    plan.lawful();
+    if touches(plan, before, failure, prefix) {
+        find_least(plan, Some(failure), prefix, row);
+    } else {
+        fill_before(plan, before, failure, prefix, row);
+    }
 }
 
 impl Aftermath {
@@ -109,6 +115,7 @@ impl Aftermath {
     pub fn find(&mut self, plan: &Plan, before: &Expected, failure: Failure)
         requires room { HasRoom plan.now self.old }
         requires before { AreExpected plan.now before.now }
+        requires known { IsKnown plan.now failure }
         ensures { AreLeft plan.now failure self.new }
     {
         plan.lawful();

@@ -1,6 +1,6 @@
 //! The least metrics of all routers for a prefix, from the plan alone, or after a failure.
 
-ghost use Rattle.std.specs.Prelude.{◌≡◌, ℕ, ◌<◌, ◌≤◌, ◌⊎◌, Some, length, slice_get, slice_index, true};
+ghost use Rattle.std.specs.Prelude.{◌≡◌, ℕ, ◌<◌, ◌≤◌, ◌⊎◌, Some, false, length, slice_get, slice_index, true};
 ghost use Rattle.rip_plan.specs.Relations.{IsAttached, IsDirect, IsOn};
 ghost use Rattle.rip_check.specs.Failures.{is_link_up, network_left};
 ghost use Rattle.rip_check.specs.Paths.{IsLeast};
@@ -120,6 +120,20 @@ fn tell_metric(
     }
 }
 
+/// Whether a router has a metric above this one and below 16.
+fn has_more(metrics: &[u8], metric: u32) -> bool
+    ensures { result ≡ false → (r : ℕ) → r < length metrics.now → metric < slice_index metrics.now r →
+        16 ≤ slice_index metrics.now r }
+{
+    for router in 0..metrics.len() {
+        let own = u32::from(metrics[router]);
+        if own > metric && own < 16 {
+            return true;
+        }
+    }
+    false
+}
+
 /// Writes the least metric of each router for a prefix after a failure, if one has failed. It begins with
 /// the metrics at which routers have the prefix themselves. Routers tell their metrics in ascending
 /// order, so that the first that is told on a link is the least one there.
@@ -133,6 +147,9 @@ pub(crate) fn find_least(plan: &Plan, failure: Option<Failure>, prefix: usize, m
     let mut marks = [false; MOST_LINKS];
     for metric in 1..16 {
         tell_metric(plan, failure, prefix, metric, metrics, &mut marks);
+        if !has_more(metrics, metric) {
+            break;
+        }
     }
 }
 

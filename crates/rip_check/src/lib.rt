@@ -14,6 +14,7 @@ mod places;
 mod routes;
 mod surveys;
 mod unsettled;
+mod untouched;
 mod verdict;
 mod way;
 

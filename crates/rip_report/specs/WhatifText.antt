@@ -1,5 +1,5 @@
 -- What `whatif` prints.
-use Rattle.std.specs.Prelude.{◌≡◌, ℕ, ◌<◌, nat_lt, if◌then◌else◌, Bool, true, false, List, [], ◌++◌, length, codes, decimal}
+use Rattle.std.specs.Prelude.{◌≡◌, ℕ, nat_lt, if◌then◌else◌, Bool, true, false, List, [], ◌++◌, length, codes, decimal}
 use Rattle.rip_plan.specs.Network.{Network}
 use Rattle.rip_check.specs.Expected.{IsCount}
 use Rattle.rip_check.specs.Impacts.{IsImpact}
@@ -30,11 +30,6 @@ losing_line links routers = line (codes "losing: " ++ failures_part links router
 abbrev pub failed_part : Network → Failure → List ℕ
 failed_part n (Link l) = codes "link " ++ name_of n.links l
 failed_part n (Router r) = codes "router " ++ name_of n.routers r
-
--- what has failed is a link or a router of the plan
-abbrev pub IsKnown : Network → Failure → Type 0
-IsKnown n (Link l) = l < length n.links
-IsKnown n (Router r) = r < length n.routers
 
 -- `, up to 10`, where some pairs go a longer way: the greatest metric of these
 abbrev pub farthest_part : Impact → List ℕ

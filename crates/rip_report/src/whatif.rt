@@ -2,6 +2,7 @@
 
 ghost use Rattle.std.specs.Prelude.{◌≡◌, ◌≢◌, ◌+◌, ◌≤◌, ◌<◌, ◌++◌, ℕ, List, [], Decides, Err, length};
 ghost use Rattle.rip_check.specs.Expected.{AreExpected, IsCount};
+ghost use Rattle.rip_check.specs.Failures.{IsKnown};
 ghost use Rattle.rip_check.specs.Impacts.{AreLeft, HasRoom};
 ghost use Rattle.rip_check.specs.Losses.{Loses};
 ghost use Rattle.rip_check.specs.declared.failures.Failure.TheVariants as failures;
@@ -9,7 +10,7 @@ ghost use Rattle.rip_report.specs.declared.limits.TheConstants.{LINE_BYTES};
 ghost use Rattle.rip_report.specs.Listings.{Adds, TextsBelow, TextsOfPairs};
 ghost use Rattle.rip_report.specs.PlanText.{IsNoText};
 ghost use Rattle.rip_report.specs.Sent.{Prints, Writes};
-ghost use Rattle.rip_report.specs.WhatifText.{FailureText, FailureTexts, GoneLine, IsKnown, LostLine, UnderText, WhatifText, failed_part, failure_line, failures_part, farthest_part, gone_line, hit_part, losing_line, lost_line, whatif_line};
+ghost use Rattle.rip_report.specs.WhatifText.{FailureText, FailureTexts, GoneLine, LostLine, UnderText, WhatifText, failed_part, failure_line, failures_part, farthest_part, gone_line, hit_part, losing_line, lost_line, whatif_line};
 
 use crate::line::Line;
 use crate::listing::Listing;

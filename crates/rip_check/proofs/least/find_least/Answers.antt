@@ -7,7 +7,7 @@ use Rattle.rip_plan.specs.Relations.{IsDirect}
 use Rattle.rip_check.specs.Failures.{network_left}
 use Rattle.rip_check.proofs.Left.{left_routers, left_sound, was_direct}
 use Rattle.rip_check.proofs.Plans.{direct_least}
-use Rattle.rip_check.proofs.Tellings.{IsReached, settled_least, settled_more, telling_reached, told_more}
+use Rattle.rip_check.proofs.Tellings.{IsReached, settled_all, settled_least, settled_more, telling_reached, told_more}
 use Rattle.rip_check.proofs.least.find_least.Goals as goal
 
 no_mark : (count l : ℕ) → slice_get (replicate count false) l ≡ Some true → ⊥
@@ -65,10 +65,28 @@ loop-metric-preserved c =
           (λ r lt e. c.tell_metric.ensures.all r (omega (arith, lt, left_routers n f)) e);
     }
 
-pub returns : goal.returns
-returns c = λ r lt.
+pub returns-after-loop-metric : goal.returns-after-loop-metric
+returns-after-loop-metric c = λ r lt.
     let n = c.args.plan.now in
     let f = c.args.failure in
     let is : c.loop-metric.metric ≡ 16 = omega (arith, c.loop-metric-test.false, c.loop-metric.auto.metric-end) in
     settled_least (network_left n f) c.args.prefix (left_sound n c.lawful.ensures f) c.loop-metric.metrics (rw is at c.loop-metric.invariant.settled)
     c.loop-metric.invariant.reached c.loop-metric.invariant.direct r (omega (arith, lt, left_routers n f))
+
+pub returns-then-not-has_more : goal.returns-then-not-has_more
+returns-then-not-has_more c = λ r lt.
+    let n = c.args.plan.now in
+    let f = c.args.failure in
+    let p = c.args.prefix in
+    let m = c.loop-metric.metric in
+    let left = network_left n f in
+    let sound = left_sound n c.lawful.ensures f in
+    let xs = c.loop-metric.metrics in
+    let ys = c.tell_metric.new.metrics in
+    let was = c.loop-metric.invariant in
+    let telling = c.tell_metric.ensures.telling in
+    let settled = settled_more left p sound m xs ys c.tell_metric.new.marks was.settled telling (c.tell_metric.ensures.told was.told)
+    (λ r lt e. c.tell_metric.ensures.all r (omega (arith, lt, left_routers n f)) e) in
+    let all = settled_all left p sound m ys settled (λ r lt more. c.has_more.ensures c.if-not-has_more.true r (omega (arith, lt, left_routers n f, c.tell_metric.auto.metrics, c.loop-metric.auto.metrics, c.fill_direct.auto.metrics, c.requires)) more) in
+    settled_least left p sound ys all (telling_reached left p sound m xs ys (omega (arith, c.loop-metric-test.true, c.loop-metric.auto.metric-end)) telling was.reached)
+    (λ r d direct. omega (arith, telling.at_most r, was.direct r d direct)) r (omega (arith, lt, left_routers n f))
