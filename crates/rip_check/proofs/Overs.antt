@@ -14,7 +14,7 @@ use Rattle.rip_check.specs.declared.way.Way.TheVariants.{Unreachable, Here, Over
 use Rattle.rip_check.proofs.Across.{across_place}
 use Rattle.rip_check.proofs.Owned.{its_link}
 use Rattle.rip_check.proofs.Shown.{known_on}
-use Rattle.rip_check.proofs.Passes.{hops_cost, reached_most}
+use Rattle.rip_check.proofs.Tellings.{hops_cost, reached_most}
 
 -- a router has one cost on a link
 pub one_cost : (n : Network) → IsLawful n → (r l c d : ℕ) → HasCost n r l c → HasCost n r l d → c ≡ d

@@ -1,9 +1,8 @@
 -- The two least metrics that different routers have on a link.
-use Rattle.std.specs.Prelude.{◌≡◌, ◌≢◌, ℕ, ◌≤◌, ◌<◌, ◌⊎◌, ◌==◌, Bool, false, if◌then◌else◌, List, Option, None, Some, length, slice_get, slice_index, unwrap_or}
+use Rattle.std.specs.Prelude.{◌≡◌, ◌≢◌, ℕ, ◌≤◌, ◌<◌, ◌⊎◌, List, Some, length, slice_get, unwrap_or}
 use Rattle.rip_plan.specs.Network.{Network}
 use Rattle.rip_plan.specs.Relations.{IsInterface}
 use Rattle.rip_table.specs.State.{State}
-use Rattle.rip_check.specs.declared.keepings.Keeping.{Keeping}
 use Rattle.rip_check.specs.declared.links.TwoLeast.{TwoLeast}
 use Rattle.rip_check.specs.Metrics.{metric_at}
 
@@ -11,23 +10,7 @@ use Rattle.rip_check.specs.Metrics.{metric_at}
 abbrev pub shown_of : State → ℕ → ℕ → ℕ → ℕ → ℕ
 shown_of shown p l j s = unwrap_or (metric_at shown j p) 16
 
--- what is said of a link names link l
-abbrev pub is_link : ℕ → Option ℕ → Bool
-is_link l None = false
-is_link l (Some m) = m == l
-
--- a router has a prefix attached to link l
-abbrev pub has_attached : ℕ → Option Keeping → Bool
-has_attached l None = false
-has_attached l (Some keeping) = is_link l keeping.attached
-
--- the metric of router s, by a list of all routers' metrics for a prefix; 16 on the link to which
--- the router has the prefix attached, where it does not tell of it
-abbrev pub told_in : List Keeping → List ℕ → ℕ → ℕ → ℕ → ℕ
-told_in keepings metrics l j s =
-    if has_attached l (slice_get keepings s) then 16 else slice_index metrics s
-
--- interface j, router s's on link l, has metric v, by what the interfaces show or the routers tell
+-- interface j, router s's on link l, has metric v, by what the interfaces show
 pub record IsSeen (n : Network) (seen : ℕ → ℕ → ℕ → ℕ) (l j s v : ℕ) : Type 0 where
   pub cost : ℕ
   pub its : IsInterface n j s l cost

@@ -21,7 +21,7 @@ pub struct Expected {
 }
 
 /// Keeps a prefix's metrics, which the row has router by router, among those of all prefixes.
-fn keep(row: &[u8], prefix: usize, count: usize, metrics: &mut [u8])
+pub(crate) fn keep(row: &[u8], prefix: usize, count: usize, metrics: &mut [u8])
     requires prefix { prefix < count }
     requires size { length metrics.old ≡ length row.now * count }
     ensures kept { (r : ℕ) → r < length row.now →
@@ -46,14 +46,14 @@ impl Expected {
         let mut room = [0u8; MOST_ROUTERS];
         let row = &mut room[..plan.routers()];
         for prefix in 0..count {
-            find_least(plan, prefix, row);
+            find_least(plan, None, prefix, row);
             keep(row, prefix, count, metrics.as_mut_slice());
         }
         Ok(Expected { metrics })
     }
 
     /// The least metric, as a number.
-    fn number(&self, plan: &Plan, router: usize, prefix: usize) -> u32
+    pub(crate) fn number(&self, plan: &Plan, router: usize, prefix: usize) -> u32
         requires expected { AreExpected plan.now self.now }
         requires router { router < length plan.now.routers }
         requires prefix { prefix < length plan.now.prefixes }

@@ -1,11 +1,12 @@
 //! Laws of settled tables: functions that do nothing, whose contracts hold of every plan and every
 //! table.
 
-ghost use Rattle.std.specs.Prelude.{ℕ, ◌↔◌, ◌<◌, List, length};
+ghost use Rattle.std.specs.Prelude.{ℕ, ◌↔◌, ◌<◌, ◌≤◌, List, length};
 ghost use Rattle.rip_plan.specs.Network.{Network};
-ghost use Rattle.rip_plan.specs.Relations.{IsLawful, IsPlain};
+ghost use Rattle.rip_plan.specs.Relations.{IsAttached, IsLawful, IsPlain};
 ghost use Rattle.rip_table.specs.State.{State};
 ghost use Rattle.rip_check.specs.Expected.{IsExpected};
+ghost use Rattle.rip_check.specs.Failures.{network_after};
 ghost use Rattle.rip_check.specs.Firsts.{IsReadable, IsReason, ShowsTwoWays};
 ghost use Rattle.rip_check.specs.Laws.{Case, EachIsExpected, EachPlaceHolds, GiversAreNear, HasRightTables, IsSettled, MetricsAreReached, NoPathIsCheaper, OneIsShown, OneRouteFits, PoisonHidesNothing, ShowsRightTables, SilenceIsShared, WalksFall};
 ghost use Rattle.rip_check.specs.Metrics.{IsInRange};
@@ -13,6 +14,7 @@ ghost use Rattle.rip_check.specs.Paths.{HasPathOver, Hop, IsLeast, IsPath, IsPla
 ghost use Rattle.rip_check.specs.Settled.{IsPlainRight, IsRight};
 ghost use Rattle.rip_check.specs.Tables.{MayHoldBack, Route};
 ghost use Rattle.rip_check.specs.Walks.{EachCanGoOn, EachEndsThere, EachIsShort};
+ghost use Rattle.rip_check.specs.declared.failures.Failure.{Failure};
 ghost use Rattle.rip_check.specs.declared.verdict.Unclear.TheVariants.{TwoWays};
 ghost use Rattle.rip_check.specs.declared.way.Way.{Way};
 
@@ -100,6 +102,15 @@ pub fn plain_paths()
         IsPath n p r hops v ↔ IsPlainPath n p r hops v }
     ensures routes { (n : Network) (r p : ℕ) (route : Route) → IsPlain n →
         IsRight n r p route ↔ IsPlainRight n r p route }
+{}
+
+/// In a plan in which no prefix is attached to a link no metric is smaller after a failure, since each
+/// path after it is one before it. Where one is attached, its router may keep it no longer, and so go a
+/// shorter way.
+pub fn failures_bring_nothing_nearer()
+    ensures { (n : Network) (f : Failure) (p r v w : ℕ) →
+        ((s q l : ℕ) → IsAttached n s q l → ⊥) → IsLeast n p r v →
+        IsLeast (network_after n f) p r w → v ≤ w }
 {}
 
 /// Where `two ways` is the reason why no route can be read, the router shows 16 on two of its interfaces

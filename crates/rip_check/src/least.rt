@@ -1,84 +1,153 @@
-//! The least metrics of all routers for a prefix, from the plan alone.
+//! The least metrics of all routers for a prefix, from the plan alone, or after a failure.
 
-ghost use Rattle.std.specs.Prelude.{◌≡◌, ℕ, ◌<◌, ◌≤◌, ◌⊎◌, false, length, slice_index};
-ghost use Rattle.rip_plan.specs.Relations.{IsDirect};
-ghost use Rattle.rip_check.specs.Keepings.{AreKeepings};
-ghost use Rattle.rip_check.specs.Passes.{IsPass};
+ghost use Rattle.std.specs.Prelude.{◌≡◌, ℕ, ◌<◌, ◌≤◌, ◌⊎◌, Some, false, length, slice_get, slice_index, true};
+ghost use Rattle.rip_plan.specs.Relations.{IsAttached, IsDirect, IsOn};
+ghost use Rattle.rip_check.specs.Failures.{is_link_up, network_left};
 ghost use Rattle.rip_check.specs.Paths.{IsLeast};
-ghost use Rattle.rip_check.specs.TwoLeasts.{AreTwoLeast, told_in};
+ghost use Rattle.rip_check.specs.Tellings.{AreTold, HasTold, IsTelling, IsTold};
 
-use crate::keepings::{KEEPS_NOTHING, Keeping, ask_keepings};
-use crate::links::{NOTHING, TwoLeast, fill_by_router};
+use crate::failures::{Failure, direct_left, is_alive, takes};
 use crate::lookup::metric_of;
-use crate::offers::{direct_or_16, least_told};
 use rip_plan::{MOST_LINKS, MOST_ROUTERS, Plan};
 use rip_wire::Metric;
 
-/// The most hops of a path that costs less than 16: each hop costs at least 1, and so does the prefix at
-/// the last router (RFC 2453, section 3.5).
-const MOST_HOPS: usize = 14;
-
-/// Writes the metric at which each router has a prefix itself, or 16.
-fn fill_direct(plan: &Plan, prefix: usize, metrics: &mut [u8])
+/// Writes the metric at which each router has a prefix itself after a failure, or 16.
+fn fill_direct(plan: &Plan, failure: Option<Failure>, prefix: usize, metrics: &mut [u8])
+    requires { length metrics.old ≡ length plan.now.routers }
     ensures most { (r : ℕ) → slice_index metrics.new r ≤ 16 }
-    ensures chosen { (r : ℕ) → r < length metrics.new →
-        (slice_index metrics.new r ≡ 16) ⊎ IsDirect plan.now r prefix (slice_index metrics.new r) }
-    ensures least { (r c : ℕ) → IsDirect plan.now r prefix c → slice_index metrics.new r ≤ c }
+    ensures chosen { (r : ℕ) → r < length metrics.new → (slice_index metrics.new r ≡ 16)
+        ⊎ IsDirect (network_left plan.now failure) r prefix (slice_index metrics.new r) }
+    ensures least { (r c : ℕ) → IsDirect (network_left plan.now failure) r prefix c →
+        slice_index metrics.new r ≤ c }
 {
     for router in 0..metrics.len() {
-        metrics[router] = direct_or_16(plan, router, prefix) as u8;
+        metrics[router] = direct_left(plan, failure, router, prefix) as u8;
     }
 }
 
-/// One pass over the metrics, by the two least that are told on each link: whether one has fallen. A
-/// router that keeps the prefix takes nothing.
-fn pass(plan: &Plan, keepings: &[Keeping], links: &[TwoLeast], metrics: &mut [u8]) -> bool
-    requires links { AreTwoLeast plan.now (told_in keepings.now metrics.old) links.now }
-    requires size { length plan.now.links ≤ length links.now }
-    requires keepings { length plan.now.routers ≤ length keepings.now }
-    requires routers { length plan.now.routers ≤ length metrics.old }
-    requires most { (r : ℕ) → slice_index metrics.old r ≤ 16 }
-    ensures pass { (p : ℕ) → AreKeepings plan.now p keepings.now →
-        IsPass plan.now p metrics.old metrics.new }
-    ensures same { result ≡ false → metrics.new ≡ metrics.old }
+/// Tells a metric on a link: each router there that takes offers has no more than it and the cost of its
+/// interface from then on (RFC 2453, section 3.9.2).
+fn tell(
+    plan: &Plan,
+    failure: Option<Failure>,
+    prefix: usize,
+    link: usize,
+    metric: u32,
+    metrics: &mut [u8],
+)
+    requires link { link < length plan.now.links }
+    requires up { is_link_up failure link ≡ true }
+    requires size { length plan.now.routers ≤ length metrics.old }
+    requires metric { metric < 16 }
+    requires teller { (s : ℕ) × (slice_index metrics.old s ≡ metric)
+        × IsOn (network_left plan.now failure) s link
+        × (IsAttached (network_left plan.now failure) s prefix link → ⊥) }
+    ensures telling { IsTelling (network_left plan.now failure) prefix metric
+        metrics.old metrics.new }
+    ensures told { IsTold (network_left plan.now failure) prefix metric metrics.new link }
 {
     plan.lawful();
-    let mut fell = false;
-    for i in 0..plan.interfaces() {
-        let own = plan.interface(i);
-        let router = own.router;
-        let two = links[own.link];
-        let metric = u32::from(metrics[router]);
-        let least = if keepings[router].keeps {
-            metric
-        } else {
-            least_told(own, two, metric)
-        };
-        if least < metric {
-            metrics[router] = least as u8;
-            fell = true;
+    let numbers = plan.on_link(link);
+    for j in numbers {
+        let own = plan.interface(*j);
+        let given = u32::from(own.cost) + metric;
+        if given < u32::from(metrics[own.router]) && takes(plan, failure, own.router, prefix) {
+            metrics[own.router] = given as u8;
         }
     }
-    fell
 }
 
-/// Writes the least metric of each router for a prefix. It begins with the metrics at which routers have
-/// the prefix themselves; each pass counts paths of one hop more, until one changes nothing.
-pub(crate) fn find_least(plan: &Plan, prefix: usize, metrics: &mut [u8])
-    requires { length metrics.old ≡ length plan.now.routers }
-    ensures { (r : ℕ) → r < length plan.now.routers →
-        IsLeast plan.now prefix r (slice_index metrics.new r) }
+/// A router tells its metric on each of its links where none was told before, but where it has the prefix
+/// attached.
+fn tell_on_all(
+    plan: &Plan,
+    failure: Option<Failure>,
+    prefix: usize,
+    router: usize,
+    metrics: &mut [u8],
+    marks: &mut [bool],
+)
+    requires router { router < length plan.now.routers }
+    requires size { length plan.now.routers ≤ length metrics.old }
+    requires marks { length plan.now.links ≤ length marks.old }
+    requires metric { slice_index metrics.old router < 16 }
+    ensures telling { IsTelling (network_left plan.now failure) prefix
+        (slice_index metrics.old router) metrics.old metrics.new }
+    ensures told { AreTold (network_left plan.now failure) prefix
+        (slice_index metrics.old router) metrics.old marks.old →
+        AreTold (network_left plan.now failure) prefix
+        (slice_index metrics.old router) metrics.new marks.new }
+    ensures all { HasTold (network_left plan.now failure) prefix marks.new router }
+    ensures kept { (l : ℕ) → slice_get marks.old l ≡ Some true → slice_get marks.new l ≡ Some true }
 {
     plan.lawful();
-    fill_direct(plan, prefix, metrics);
-    let mut asked = [KEEPS_NOTHING; MOST_ROUTERS];
-    let keepings = &mut asked[..plan.routers()];
-    ask_keepings(plan, prefix, keepings);
-    let mut room = [NOTHING; MOST_LINKS];
-    let links = &mut room[..plan.links()];
-    for _hop in 0..MOST_HOPS {
-        fill_by_router(plan, keepings, metrics, links);
-        if !pass(plan, keepings, links, metrics) {
+    let metric = u32::from(metrics[router]);
+    let attached = plan.attached_link(router, prefix);
+    let numbers = plan.of_router(router);
+    for i in numbers {
+        let link = plan.interface(*i).link;
+        if !marks[link] && is_alive(failure, router, link) && attached != Some(link) {
+            tell(plan, failure, prefix, link, metric, metrics);
+            marks[link] = true;
+        }
+    }
+}
+
+/// Each router that has a metric tells it.
+fn tell_metric(
+    plan: &Plan,
+    failure: Option<Failure>,
+    prefix: usize,
+    metric: u32,
+    metrics: &mut [u8],
+    marks: &mut [bool],
+)
+    requires size { length plan.now.routers ≡ length metrics.old }
+    requires marks { length plan.now.links ≤ length marks.old }
+    requires metric { metric < 16 }
+    ensures telling { IsTelling (network_left plan.now failure) prefix metric
+        metrics.old metrics.new }
+    ensures told { AreTold (network_left plan.now failure) prefix metric metrics.old marks.old →
+        AreTold (network_left plan.now failure) prefix metric metrics.new marks.new }
+    ensures all { (r : ℕ) → r < length plan.now.routers → slice_index metrics.new r ≡ metric →
+        HasTold (network_left plan.now failure) prefix marks.new r }
+{
+    plan.lawful();
+    for router in 0..metrics.len() {
+        if u32::from(metrics[router]) == metric {
+            tell_on_all(plan, failure, prefix, router, metrics, marks);
+        }
+    }
+}
+
+/// Whether a router has a metric above this one and below 16.
+fn has_more(metrics: &[u8], metric: u32) -> bool
+    ensures { result ≡ false → (r : ℕ) → r < length metrics.now → metric < slice_index metrics.now r →
+        16 ≤ slice_index metrics.now r }
+{
+    for router in 0..metrics.len() {
+        let own = u32::from(metrics[router]);
+        if own > metric && own < 16 {
+            return true;
+        }
+    }
+    false
+}
+
+/// Writes the least metric of each router for a prefix after a failure, if one has failed. It begins with
+/// the metrics at which routers have the prefix themselves. Routers tell their metrics in ascending
+/// order, so that the first that is told on a link is the least one there.
+pub(crate) fn find_least(plan: &Plan, failure: Option<Failure>, prefix: usize, metrics: &mut [u8])
+    requires { length metrics.old ≡ length plan.now.routers }
+    ensures { (r : ℕ) → r < length plan.now.routers →
+        IsLeast (network_left plan.now failure) prefix r (slice_index metrics.new r) }
+{
+    plan.lawful();
+    fill_direct(plan, failure, prefix, metrics);
+    let mut marks = [false; MOST_LINKS];
+    for metric in 1..16 {
+        tell_metric(plan, failure, prefix, metric, metrics, &mut marks);
+        if !has_more(metrics, metric) {
             break;
         }
     }
@@ -94,6 +163,6 @@ pub fn least_metric(plan: &Plan, router: usize, prefix: usize) -> Metric
     plan.lawful();
     let mut room = [0u8; MOST_ROUTERS];
     let row = &mut room[..plan.routers()];
-    find_least(plan, prefix, row);
+    find_least(plan, None, prefix, row);
     metric_of(u32::from(row[router]))
 }

@@ -1,9 +1,10 @@
 //! Whether the tables of a RIP-2 network are right.
 #![tactic(auto)]
 
+mod aftermath;
 mod audit;
 mod expected;
-mod keepings;
+mod failures;
 pub mod laws;
 mod least;
 mod links;
@@ -13,11 +14,14 @@ mod places;
 mod routes;
 mod surveys;
 mod unsettled;
+mod untouched;
 mod verdict;
 mod way;
 
+pub use aftermath::{Aftermath, Impact};
 pub use audit::{judge, next_unsettled};
 pub use expected::Expected;
+pub use failures::Failure;
 pub use least::least_metric;
 pub use offers::offer;
 pub use places::{equation, route};

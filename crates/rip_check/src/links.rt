@@ -1,16 +1,14 @@
-//! The two least metrics on each link, of those that are shown or that the routers tell: they serve
-//! every router there.
+//! The two least metrics that are shown on each link: they serve every router there.
 
 ghost use Rattle.std.specs.Prelude.{◌≡◌, ℕ, ◌+◌, ◌<◌, ◌≤◌, length, unwrap_or};
 ghost use Rattle.rip_plan.specs.Network.{Network};
 ghost use Rattle.rip_plan.specs.Relations.{IsInterface};
 ghost use Rattle.rip_table.specs.State.{Fits};
-ghost use Rattle.rip_check.specs.TwoLeasts.{AreTwoLeast, AreTwoLeastBefore, IsSeen, IsTwoLeast, shown_of, told_in};
+ghost use Rattle.rip_check.specs.TwoLeasts.{AreTwoLeast, AreTwoLeastBefore, IsSeen, IsTwoLeast, shown_of};
 ghost use Rattle.rip_check.specs.Metrics.{metric_at};
 
-use crate::keepings::Keeping;
 use crate::lookup::shown_at;
-use rip_plan::{Interface, Plan};
+use rip_plan::Plan;
 use rip_table::MetricTable;
 
 /// The least metric on a link, whose it is, and the least of the other routers'. A plan has at most
@@ -111,37 +109,5 @@ pub(crate) fn fill<T: MetricTable>(plan: &Plan, table: &T, prefix: usize, links:
     for i in 0..plan.interfaces() {
         let metric = seen_at(plan, table, i, prefix);
         add_interface(plan, i, metric, links);
-    }
-}
-
-/// What a router tells on the link of its interface: its metric, or 16 where the prefix is attached.
-fn told_at(own: Interface, keepings: &[Keeping], metrics: &[u8]) -> u32
-    requires keepings { own.router < length keepings.now }
-    requires metrics { own.router < length metrics.now }
-    ensures { (j : ℕ) → result ≡ told_in keepings.now metrics.now own.link j own.router }
-{
-    if keepings[own.router].attached == Some(own.link) {
-        return 16;
-    }
-    u32::from(metrics[own.router])
-}
-
-/// Writes the two least metrics that the routers tell on each link. 16 is there to begin with.
-pub(crate) fn fill_by_router(
-    plan: &Plan,
-    keepings: &[Keeping],
-    metrics: &[u8],
-    links: &mut [TwoLeast],
-)
-    requires keepings { length plan.now.routers ≤ length keepings.now }
-    requires routers { length plan.now.routers ≤ length metrics.now }
-    requires size { length plan.now.links ≤ length links.old }
-    ensures { AreTwoLeast plan.now (told_in keepings.now metrics.now) links.new }
-{
-    plan.lawful();
-    reset(links);
-    for i in 0..plan.interfaces() {
-        let own = plan.interface(i);
-        add_interface(plan, i, told_at(own, keepings, metrics), links);
     }
 }

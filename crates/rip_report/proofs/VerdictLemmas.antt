@@ -1,5 +1,5 @@
 -- Verdicts and their statuses.
-use Rattle.std.proofs.Common.{◌≡◌, ℕ, ◌<◌, length, Bool, List, Option, None, Result, Ok, Err, refl, ap}
+use Rattle.std.proofs.Common.{◌≡◌, ℕ, ◌<◌, length, Bool, List, None, Result, Ok, Err, refl, ap}
 use Rattle.std.specs.Prelude.{◌↔◌, IfOk}
 use Rattle.rip_plan.specs.Network.{Network}
 use Rattle.rip_plan.specs.Relations.{IsAttached, IsLawful}
@@ -119,10 +119,10 @@ ifok-map (Ok x) f p = f x p
 ifok-map (Err e) f p = tt
 
 -- the headline, of what is judged and what is told
-abbrev pub IsHeadline : Network → State → (Written → Type 0) → Option (List ℕ) → Option (List ℕ) → Status → Type 0
+abbrev pub IsHeadline : Network → State → (Written → Type 0) → List ℕ → List ℕ → Status → Type 0
 IsHeadline n s IsText a b status = ((status ≡ Settled) ↔ ShowsRightTables n s) × (status ≡ Settled → PacketsArrive n s) × WentOut IsText a b status
 
-pub headline : (n : Network) (s : State) (IsText : Written → Type 0) (a b : Option (List ℕ)) (outcome : Result Status RunError) → IfOk outcome (IsJudged n s) → IfOk outcome (WentOut IsText a b) → IfOk outcome (IsHeadline n s IsText a b)
+pub headline : (n : Network) (s : State) (IsText : Written → Type 0) (a b : List ℕ) (outcome : Result Status RunError) → IfOk outcome (IsJudged n s) → IfOk outcome (WentOut IsText a b) → IfOk outcome (IsHeadline n s IsText a b)
 headline n s IsText a b (Ok status) j told = (j.settled, j.arrive, told)
 headline n s IsText a b (Err e) j told = tt
 

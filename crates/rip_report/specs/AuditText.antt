@@ -1,5 +1,5 @@
 -- What `audit` prints.
-use Rattle.std.specs.Prelude.{◌≡◌, ◌↔◌, ℕ, ◌==◌, ◌<◌, nat_lt, Bool, true, false, if◌then◌else◌, List, [], ◌++◌, length, filter, codes, decimal, Option, None}
+use Rattle.std.specs.Prelude.{◌≡◌, ◌↔◌, ℕ, ◌==◌, ◌<◌, nat_lt, Bool, true, false, if◌then◌else◌, List, [], ◌++◌, length, filter, codes, decimal, None}
 use Rattle.rip_plan.specs.Network.{Network, each_below, is_of, numbers_where}
 use Rattle.rip_table.specs.State.{State}
 use Rattle.rip_check.specs.declared.verdict.Place2.{Place2}
@@ -154,9 +154,8 @@ verdict_status verdicts.Settled = Settled
 verdict_status (verdicts.Unsettled f) = Unsettled
 verdict_status (verdicts.Unclear trouble) = IsUnclear
 
--- what is written for the bytes of a plan and the text of a log, where it is told: what refuses
--- them, or the verdict on the table of the log's records
-abbrev pub AuditText : List ℕ → Option (List ℕ) → Bool → Written → Type 0
+-- what is written for the bytes of a plan and the text of a log: what refuses them, or the verdict on the table of the log's records
+abbrev pub AuditText : List ℕ → List ℕ → Bool → Written → Type 0
 AuditText plan log all = ReportText (λ n s. VerdictText n s all) plan log
 
 -- ---- What the statuses mean

@@ -9,6 +9,7 @@ pub mod RefusalText
 pub mod Readings
 pub mod ReportText
 pub mod TableText
+pub mod Given
 pub mod Held
 pub mod Finished
 pub mod AuditText
@@ -17,3 +18,4 @@ pub mod Listings
 pub mod ExpectText
 pub mod RoutesText
 pub mod ExplainText
+pub mod WhatifText

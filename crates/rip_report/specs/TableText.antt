@@ -42,7 +42,6 @@ shown_table n s = record {
   status = Done;
 }
 
--- what is written for the bytes of a plan and the text of a log, where it is told: what refuses
--- them, or the table of the log's records
-abbrev pub TableText : List ℕ → Option (List ℕ) → Written → Type 0
+-- what is written for the bytes of a plan and the text of a log: what refuses them, or the table of the log's records
+abbrev pub TableText : List ℕ → List ℕ → Written → Type 0
 TableText plan log = ReportText (λ n s w. w ≡ shown_table n s) plan log

@@ -20,6 +20,7 @@ mod routes;
 mod status;
 mod table;
 mod texts;
+mod whatif;
 
 pub use audit::run_audit;
 pub use decode::run_decode;
@@ -29,3 +30,4 @@ pub use plan::run_plan;
 pub use routes::run_routes;
 pub use status::{RunError, Status, exit_code, fault_line};
 pub use table::run_table;
+pub use whatif::run_whatif;

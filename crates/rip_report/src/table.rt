@@ -1,8 +1,10 @@
 //! The command `table`: what the interfaces of a plan showed in a log.
 
-ghost use Rattle.std.specs.Prelude.{◌≡◌, ◌≢◌, Err, ◌+◌, ◌≤◌, ◌<◌, ◌++◌, [], IfOk, length, codes};
+ghost use Rattle.std.specs.Prelude.{◌≡◌, ◌≢◌, Err, ◌+◌, ◌≤◌, ◌<◌, ◌++◌, [], IfOk, length, codes, ℕ, List, Some};
 ghost use Rattle.std.specs.List.{enumerate_from, flat_map};
 ghost use Rattle.rip_plan.specs.declared.error.PlanError.{PlanError};
+ghost use Rattle.rip_report.specs.Given.{IsGiven};
+ghost use Rattle.rip_log.specs.Wholes.{Went};
 ghost use Rattle.rip_table.specs.State.{Fits, State};
 ghost use Rattle.rip_report.specs.declared.limits.TheConstants.{INTERFACE, LINE_BYTES, WORDS};
 ghost use Rattle.rip_report.specs.Lines.{interface_name, unheard_line};
@@ -211,12 +213,18 @@ pub fn run_table<R: Source, K: Sink, S: BuildHasher + Drop>(
     hasher: S,
 ) -> (R, Result<Status, RunError>)
     // The whole text went out, or a beginning where the sink failed, or nothing.
-    ensures prints { Prints K.taken K.broken out.old out.new result.1
-        (TableText plan.now (R.coming log)) }
+    ensures prints { (text : List ℕ) → IsGiven R.given R.at_end log result.0 text →
+        Prints K.taken K.broken out.old out.new result.1
+        (TableText plan.now text) }
     // What is printed of a table comes only at the source's end, and Read only where it has failed.
     ensures reads { Reads R.broken R.at_end log result.0 result.1 }
+    // Some bytes were given, and where those to come are modelled, they are the first of these.
+    ensures went { Went R.given R.coming R.at_end log result.0 }
+    ensures to_come { (text : List ℕ) → R.coming log ≡ Some text →
+        IsGiven R.given R.at_end log result.0 text }
     // Where plan and log are accepted, it is the table that the log shows.
-    ensures told { (n : Network) (s : State) → IsAccepted plan.now (R.coming log) n s →
+    ensures told { (text : List ℕ) → IsGiven R.given R.at_end log result.0 text →
+        (n : Network) (s : State) → IsAccepted plan.now text n s →
         IfOk result.1
         (WentOut (λ w. w ≡ shown_table n s) (K.taken out.old) (K.taken out.new)) }
     // The source of a refused plan is as it was, and its failure is not told.

@@ -3,6 +3,7 @@ use Rattle.std.proofs.lemmas.Bool.{cases_lt}
 use Rattle.std.proofs.lemmas.List.{get_or-set_other}
 use Rattle.std.proofs.lemmas.Grind.{get_or-set_at}
 use Rattle.rip_plan.specs.Relations.{IsDirect}
+use Rattle.rip_check.specs.Failures.{network_left}
 use Rattle.rip_check.proofs.least.fill_direct.Goals as goal
 
 -- one more is written
@@ -18,15 +19,15 @@ one_more xs i v Q at before here r less =
 
 pub loop-router-preserved : goal.loop-router-preserved
 loop-router-preserved c =
-    let n = c.args.plan.now in
+    let n = network_left c.args.plan.now c.args.failure in
     let p = c.args.prefix in
     let xs = c.loop-router.metrics in
     let i = c.loop-router.router in
-    let v = c.direct_or_16.result in
+    let v = c.direct_left.result in
     let was = c.loop-router.invariant in
     let at : i < length xs = omega (arith, c.loop-router-test.true, c.loop-router.auto.metrics) in
     record {
-      most = one_more xs i v (λ r m. m ≤ 16) at was.most c.direct_or_16.ensures.most;
-      chosen = one_more xs i v (λ r m. (m ≡ 16) ⊎ IsDirect n r p m) at was.chosen c.direct_or_16.ensures.chosen;
-      least = λ r d lt is. one_more xs i v (λ s m. (e : ℕ) → IsDirect n s p e → m ≤ e) at (λ s less e own. was.least s e less own) c.direct_or_16.ensures.least r lt d is;
+      most = one_more xs i v (λ r m. m ≤ 16) at was.most c.direct_left.ensures.most;
+      chosen = one_more xs i v (λ r m. (m ≡ 16) ⊎ IsDirect n r p m) at was.chosen c.direct_left.ensures.chosen;
+      least = λ r d lt is. one_more xs i v (λ s m. (e : ℕ) → IsDirect n s p e → m ≤ e) at (λ s less e own. was.least s e less own) c.direct_left.ensures.least r lt d is;
     }

@@ -1,28 +1,92 @@
-use Rattle.std.proofs.Common.{◌≡◌, arith}
-use Rattle.rip_check.specs.Passes.{IsPass}
-use Rattle.rip_check.proofs.Passes.{pass_reached, pass_farther, enough_hops, at_rest}
+use Rattle.std.proofs.Common.{◌≡◌, ℕ, ◌<◌, ◌≤◌, ◌⊎◌, inl, inr, [], Some, true, false, get_or, length, slice_get, arith}
+use Rattle.std.proofs.lemmas.Bool.{cases_lt}
+use Rattle.std.proofs.Math.ListN.{replicate}
+use Rattle.std.proofs.lemmas.List.{get_or-replicate, length-replicate}
+use Rattle.std.proofs.lemmas.Option.{get_or_from_slice_get, slice_get_within}
+use Rattle.rip_plan.specs.Relations.{IsDirect}
+use Rattle.rip_check.specs.Failures.{network_left}
+use Rattle.rip_check.proofs.Left.{left_routers, left_sound, was_direct}
+use Rattle.rip_check.proofs.Plans.{direct_least}
+use Rattle.rip_check.proofs.Tellings.{IsReached, settled_all, settled_least, settled_more, telling_reached, told_more}
 use Rattle.rip_check.proofs.least.find_least.Goals as goal
 
-pub loop-hop-preserved : goal.loop-hop-preserved
-loop-hop-preserved c =
+no_mark : (count l : ℕ) → slice_get (replicate count false) l ≡ Some true → ⊥
+no_mark count l e =
+    let marked : get_or (replicate count false) l true ≡ true = get_or_from_slice_get (replicate count false) l true true e in
+    let lt : l < count = omega (arith, slice_get_within (replicate count false) l true e, length-replicate count false) in
+    cc (marked, get_or-replicate count l false true lt)
+
+pub loop-metric-init : goal.loop-metric-init
+loop-metric-init c =
     let n = c.args.plan.now in
+    let f = c.args.failure in
     let p = c.args.prefix in
+    let left = network_left n f in
+    let xs = c.fill_direct.new.metrics in
+    let within : (r : ℕ) → r < length left.routers → r < length xs = λ r lt. omega (arith, lt, left_routers n f, c.requires, c.fill_direct.auto.metrics) in
+    let reached : (r v : ℕ) → v ≤ 16 → (v ≡ 16) ⊎ IsDirect left r p v → IsReached left p r v =
+    λ r v most chosen. elim chosen [
+      | inl e ↦ inl e
+      | inr direct ↦ elim (cases_lt v 16) [
+        | inl small ↦ inr (small, ([], direct))
+        | inr big ↦ inl (omega (arith, big, most))
+      ]
+    ] in
+    let low : (r v : ℕ) → (v ≡ 16) ⊎ IsDirect left r p v → v < 1 → ⊥ =
+    λ r v chosen small. elim chosen [
+      | inl e ↦ omega (arith, e, small)
+      | inr direct ↦ omega (arith, direct_least n c.lawful.ensures r p v (was_direct n f r p v direct).0, small)
+    ] in
     record {
-      reached = pass_reached n p c.lawful.ensures c.loop-hop.metrics c.pass.new.metrics (c.pass.ensures.pass p c.ask_keepings.ensures) c.loop-hop.invariant.reached;
-      within = pass_farther n p c.loop-hop.metrics c.pass.new.metrics c.loop-hop._hop (c.pass.ensures.pass p c.ask_keepings.ensures) c.loop-hop.invariant.within;
-      links = omega (arith, c.fill_by_router.auto.links, c.loop-hop.invariant.links);
+      reached = λ r lt. reached r (get_or xs r 0) (c.fill_direct.ensures.most r) (c.fill_direct.ensures.chosen r (within r lt));
+      direct = c.fill_direct.ensures.least;
+      told = λ l e. absurd (no_mark 512 l e);
+      settled = λ r lt small. absurd (low r (get_or xs r 0) (c.fill_direct.ensures.chosen r (within r lt)) small);
     }
 
-pub returns-after-loop-hop : goal.returns-after-loop-hop
-returns-after-loop-hop c =
-    enough_hops c.args.plan.now c.args.prefix c.lawful.ensures c.loop-hop.metrics c.loop-hop._hop (omega (arith, c.loop-hop-test.false)) c.loop-hop.invariant.reached
-    c.loop-hop.invariant.within
-
-pub returns-then-not-pass : goal.returns-then-not-pass
-returns-then-not-pass c =
+pub loop-metric-preserved : goal.loop-metric-preserved
+loop-metric-preserved c =
     let n = c.args.plan.now in
+    let f = c.args.failure in
     let p = c.args.prefix in
-    let e : c.pass.new.metrics ≡ c.loop-hop.metrics = c.pass.ensures.same c.if-not-pass.true in
-    let still : IsPass n p c.loop-hop.metrics c.loop-hop.metrics = rw e at (c.pass.ensures.pass p c.ask_keepings.ensures) in
-    rw e (at_rest n p c.loop-hop.metrics still c.loop-hop.invariant.reached
-    (λ r hops w short path. c.loop-hop.invariant.within r hops w (omega (arith, short)) path))
+    let m = c.loop-metric.metric in
+    let left = network_left n f in
+    let sound = left_sound n c.lawful.ensures f in
+    let xs = c.loop-metric.metrics in
+    let ys = c.tell_metric.new.metrics in
+    let was = c.loop-metric.invariant in
+    let telling = c.tell_metric.ensures.telling in
+    let told = c.tell_metric.ensures.told was.told in
+    record {
+      reached = telling_reached left p sound m xs ys (omega (arith, c.loop-metric-test.true, c.loop-metric.auto.metric-end)) telling was.reached;
+      direct = λ r d direct. omega (arith, telling.at_most r, was.direct r d direct);
+      told = told_more left p sound m ys c.tell_metric.new.marks told;
+      settled = settled_more left p sound m xs ys c.tell_metric.new.marks was.settled telling told
+          (λ r lt e. c.tell_metric.ensures.all r (omega (arith, lt, left_routers n f)) e);
+    }
+
+pub returns-after-loop-metric : goal.returns-after-loop-metric
+returns-after-loop-metric c = λ r lt.
+    let n = c.args.plan.now in
+    let f = c.args.failure in
+    let is : c.loop-metric.metric ≡ 16 = omega (arith, c.loop-metric-test.false, c.loop-metric.auto.metric-end) in
+    settled_least (network_left n f) c.args.prefix (left_sound n c.lawful.ensures f) c.loop-metric.metrics (rw is at c.loop-metric.invariant.settled)
+    c.loop-metric.invariant.reached c.loop-metric.invariant.direct r (omega (arith, lt, left_routers n f))
+
+pub returns-then-not-has_more : goal.returns-then-not-has_more
+returns-then-not-has_more c = λ r lt.
+    let n = c.args.plan.now in
+    let f = c.args.failure in
+    let p = c.args.prefix in
+    let m = c.loop-metric.metric in
+    let left = network_left n f in
+    let sound = left_sound n c.lawful.ensures f in
+    let xs = c.loop-metric.metrics in
+    let ys = c.tell_metric.new.metrics in
+    let was = c.loop-metric.invariant in
+    let telling = c.tell_metric.ensures.telling in
+    let settled = settled_more left p sound m xs ys c.tell_metric.new.marks was.settled telling (c.tell_metric.ensures.told was.told)
+    (λ r lt e. c.tell_metric.ensures.all r (omega (arith, lt, left_routers n f)) e) in
+    let all = settled_all left p sound m ys settled (λ r lt more. c.has_more.ensures c.if-not-has_more.true r (omega (arith, lt, left_routers n f, c.tell_metric.auto.metrics, c.loop-metric.auto.metrics, c.fill_direct.auto.metrics, c.requires)) more) in
+    settled_least left p sound ys all (telling_reached left p sound m xs ys (omega (arith, c.loop-metric-test.true, c.loop-metric.auto.metric-end)) telling was.reached)
+    (λ r d direct. omega (arith, telling.at_most r, was.direct r d direct)) r (omega (arith, lt, left_routers n f))

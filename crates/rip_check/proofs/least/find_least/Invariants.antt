@@ -1,10 +1,14 @@
-use Rattle.std.proofs.Common.{◌≡◌, length}
-use Rattle.rip_check.proofs.Passes.{AreReached, AreLeastWithin}
+use Rattle.std.proofs.Common.{ℕ, ◌≤◌, get_or}
+use Rattle.rip_plan.specs.Relations.{IsDirect}
+use Rattle.rip_check.specs.Failures.{network_left}
+use Rattle.rip_check.specs.Tellings.{AreTold}
+use Rattle.rip_check.proofs.Tellings.{AreReached, AreSettled}
 use Rattle.rip_check.proofs.least.find_least.Given as goal
 
-abbrev pub invariant-loop-hop : goal.invariant-loop-hop
-invariant-loop-hop l = record {
-  reached : AreReached l.plan l.prefix l.metrics;
-  within : AreLeastWithin l.plan l.prefix l.metrics l._hop;
-  links : length l.links ≡ length l.plan.links;
+abbrev pub invariant-loop-metric : goal.invariant-loop-metric
+invariant-loop-metric l = record {
+  reached : AreReached (network_left l.plan l.failure) l.prefix l.metrics;
+  direct : (r c : ℕ) → IsDirect (network_left l.plan l.failure) r l.prefix c → get_or l.metrics r 0 ≤ c;
+  told : AreTold (network_left l.plan l.failure) l.prefix l.metric l.metrics l.marks;
+  settled : AreSettled (network_left l.plan l.failure) l.prefix l.metric l.metrics;
 }

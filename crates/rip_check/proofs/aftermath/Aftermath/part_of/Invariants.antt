@@ -1,0 +1,14 @@
+use Rattle.std.proofs.Common.{ℕ, ◌≤◌}
+use Rattle.rip_check.specs.Expected.{IsCount}
+use Rattle.rip_check.specs.Losses.{IsLonger, IsLost}
+use Rattle.rip_check.proofs.Impacts.{IsFarthestBefore}
+use Rattle.rip_check.proofs.aftermath.Aftermath.part_of.Given as goal
+
+abbrev pub invariant-loop-prefix : goal.invariant-loop-prefix
+invariant-loop-prefix l = record {
+  lost : IsCount (IsLost l.plan l.failure l.router) l.prefix l.part.lost;
+  few_lost : l.part.lost ≤ l.prefix;
+  longer : IsCount (λ p. (w : ℕ) × IsLonger l.plan l.failure l.router p w) l.prefix l.part.longer;
+  few_longer : l.part.longer ≤ l.prefix;
+  farthest : IsFarthestBefore l.plan l.failure l.router l.prefix l.part.farthest;
+}
