@@ -64,3 +64,9 @@ pub(crate) const TABLE_ERROR: usize = WORDS + PREFIX_PART + TWO_NUMBERS;
 pub(crate) const LOG_LINE: usize = NUMBERED + WORDS;
 /// A line of a log, and what refuses it.
 pub(crate) const CAUSE: usize = LOG_LINE + TABLE_ERROR;
+/// A link or a router that has failed.
+pub(crate) const FAILED: usize = "router ".len() + NAME;
+/// The greatest metric of the longer ways.
+pub(crate) const FARTHEST: usize = ", up to ".len() + NUMBER;
+/// The router that loses most, and how much.
+pub(crate) const HIT: usize = ", most lost by ".len() + NAME + ", ".len() + NUMBER;
