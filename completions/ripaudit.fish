@@ -12,6 +12,7 @@ function __ripaudit_commands
         routes 'print the routes that a log shows' \
         table 'print what each interface of a plan shows in a log' \
         expect 'print the right routes of a plan' \
+        whatif 'tell what each failure of a link or a router would cost' \
         plan 'print the parts of a plan' \
         decode 'print one datagram' \
         help 'print the commands, or the words of one'
@@ -23,6 +24,7 @@ complete -c ripaudit -n '__ripaudit_word 1' -l version -d 'print the version'
 complete -c ripaudit -n '__ripaudit_word 1' -a '(__ripaudit_commands)'
 complete -c ripaudit -n '__ripaudit_word 2; and __fish_seen_subcommand_from help' -a '(__ripaudit_commands)'
 complete -c ripaudit -n '__fish_seen_subcommand_from audit explain' -l all -d 'tell of each place, not only of the first'
-complete -c ripaudit -n '__ripaudit_word 2; and __fish_seen_subcommand_from audit explain routes table expect plan' \
+complete -c ripaudit -n '__fish_seen_subcommand_from whatif' -l all -d 'name each router and prefix that is lost, and each prefix that is gone'
+complete -c ripaudit -n '__ripaudit_word 2; and __fish_seen_subcommand_from audit explain routes table expect whatif plan' \
     -k -a '(__fish_complete_suffix .toml)'
 complete -c ripaudit -n '__ripaudit_word 3; and __fish_seen_subcommand_from audit explain routes table' -F
