@@ -1,15 +1,15 @@
 -- Where a failure meets no least path of a prefix, the least metrics of before stay.
-use Rattle.std.proofs.Common.{◌≡◌, ℕ, ◌+◌, ◌<◌, ◌≤◌, ◌⊎◌, ◌↔◌, inl, inr, Bool, true, false, List, [], ◌∷◌, get_or, length, Some, refl, arith}
+use Rattle.std.proofs.Common.{◌≡◌, ℕ, zero, suc, ◌+◌, ◌<◌, ◌≤◌, ◌⊎◌, ◌↔◌, inl, inr, Bool, true, false, not, List, [], ◌∷◌, get_or, length, Some, refl, arith}
 use Rattle.std.specs.List.{Contains}
-use Rattle.std.proofs.lemmas.Bool.{cases_lt}
+use Rattle.std.proofs.lemmas.Bool.{cases_lt, cases_eq}
 use Rattle.rip_plan.specs.Network.{Network}
-use Rattle.rip_plan.specs.Relations.{Carries, HasCost, IsAttached, IsInterface, IsOn}
+use Rattle.rip_plan.specs.Relations.{Carries, HasCost, IsAttached, IsInterface, IsLawful, IsOn}
 use Rattle.rip_plan.specs.declared.parts.Interface.{Interface}
 use Rattle.rip_check.specs.declared.failures.Failure.{Failure}
 use Rattle.rip_check.specs.declared.failures.Failure.TheVariants as failures
 use Rattle.rip_check.specs.Failures.{is_router_up, network_after}
 use Rattle.rip_check.specs.Paths.{Hop, IsLeast, IsPath}
-use Rattle.rip_check.specs.Untouched.{IsStep, IsUntouched}
+use Rattle.rip_check.specs.Untouched.{HasWayLeft, IsStep, IsUntouched, KeepsWay}
 use Rattle.rip_check.proofs.Across.{across_place}
 use Rattle.rip_check.proofs.Left.{other_link, other_router, path_was, still_cost, still_direct, was_attached, was_cost, was_direct, was_kept}
 use Rattle.rip_check.proofs.Owned.{its_link}
@@ -24,42 +24,69 @@ module _ (n : Network) (f : Failure) (p : ℕ) (un : IsUntouched n f p) where
         omega (arith, le);
   }
 
-  -- a least path of before is one after
-  path_still : (r : ℕ) (hops : List Hop) (v : ℕ) → is_router_up (Some f) r ≡ true → v < 16 → IsLeast n p r v → IsPath n p r hops v → IsPath (network_after n f) p r hops v
-  path_still r [] v up small least direct = still_direct n (Some f) r p v up (λ l carried on. un.carried l carried) (λ l at. un.attached r l at) direct
-  path_still r (h ∷ hops) v up small least path =
-      let c = path.0 in
-      let w = path.1 in
-      let near = path.3.neighbour in
-      let sum : v ≡ c + w = path.5 in
-      let next : IsLeast n p h.to w = rest_least r h.link h.to c w hops path.2 (rw sum at least) (omega (arith, small, sum)) (c, w, path.2, path.3, path.4, refl) refl in
-      let step = un.steps r h.link c h.to path.2 near.there (record { own = v; next = w; small = small; here = least; there = next; sum = sum }) in (
-        c,
-        w,
-        still_cost n (Some f) r h.link c path.2 up step.link,
-        record {
-          neighbour = record {
-            other = near.other;
-            here = (c, still_cost n (Some f) r h.link c path.2 up step.link);
-            there = (near.there.0, still_cost n (Some f) h.to h.link near.there.0 near.there.1 step.router step.link);
-          };
-          goes_on = λ kept. path.3.goes_on (was_kept n (Some f) r p kept).0;
-          tells = λ at. path.3.tells (was_attached n (Some f) h.to p h.link at).0;
-        },
-        path_still h.to hops w step.router (omega (arith, small, sum)) next path.4,
-        sum,
-      )
+  -- a router that is up keeps a way of its least metric
+  way_left : (r v : ℕ) → is_router_up (Some f) r ≡ true → v < 16 → IsLeast n p r v → HasWayLeft n f p r v
+  way_left r v up small least = go least.reached
+    where
+      first : (hops : List Hop) → IsPath n p r hops v → HasWayLeft n f p r v
+      first [] direct = inl (still_direct n (Some f) r p v up (λ l carried on. un.carried l carried) (λ l at. un.attached r l at) direct)
+      first (h ∷ hops) path =
+          let c = path.0 in
+          let w = path.1 in
+          let near = path.3.neighbour in
+          let sum : v ≡ c + w = path.5 in
+          let next : IsLeast n p h.to w = rest_least r h.link h.to c w hops path.2 (rw sum at least) (omega (arith, small, sum)) (c, w, path.2, path.3, path.4, refl) refl in
+          elim (un.steps r h.link c h.to path.2 near.there (record { own = v; next = w; small = small; here = least; there = next; sum = sum })) [
+            | inl step ↦ inr (
+              h.link,
+              h.to,
+              c,
+              w,
+              still_cost n (Some f) r h.link c path.2 up step.link,
+              record {
+                neighbour = record {
+                  other = near.other;
+                  here = (c, still_cost n (Some f) r h.link c path.2 up step.link);
+                  there = (near.there.0, still_cost n (Some f) h.to h.link near.there.0 near.there.1 step.router step.link);
+                };
+                goes_on = λ kept. path.3.goes_on (was_kept n (Some f) r p kept).0;
+                tells = λ at. path.3.tells (was_attached n (Some f) h.to p h.link at).0;
+              },
+              next,
+              sum,
+            )
+            | inr keeps ↦ keeps v least small
+          ]
 
-  -- so a router that is up keeps its least metric
-  pub least_stays : (r v : ℕ) → is_router_up (Some f) r ≡ true → IsLeast n p r v → IsLeast (network_after n f) p r v
-  least_stays r v up least = record {
+      go : (v ≡ 16) ⊎ ((v < 16) × ((hops : List Hop) × IsPath n p r hops v)) → HasWayLeft n f p r v
+      go (inl e) = absurd (omega (arith, e, small))
+      go (inr h) = first h.1.0 h.1.1
+
+  -- so a path of it, by descent on the metric
+  path_still : IsLawful n → (bound r v : ℕ) → v < bound → is_router_up (Some f) r ≡ true → v < 16 → IsLeast n p r v → (hops : List Hop) × IsPath (network_after n f) p r hops v
+  path_still plan zero r v below up small least = absurd (omega (arith, below))
+  path_still plan (suc bound) r v below up small least = go (λ s w. path_still plan bound s w) (way_left r v up small least)
+    where
+      go : ((s w : ℕ) → w < bound → is_router_up (Some f) s ≡ true → w < 16 → IsLeast n p s w → (hops : List Hop) × IsPath (network_after n f) p s hops w) →
+          HasWayLeft n f p r v → (hops : List Hop) × IsPath (network_after n f) p r hops v
+      go rec (inl direct) = ([], direct)
+      go rec (inr h) =
+          let has = was_cost n (Some f) r h.0 h.2 h.4 in
+          let cost = plan.cost_least has.0.0 r h.0 h.2 has.0.1 in
+          let there = h.5.neighbour.there in
+          let s_up = (was_cost n (Some f) h.1 h.0 there.0 there.1).1 in
+          let rest = rec h.1 h.3 (omega (arith, below, cost, h.7)) s_up (omega (arith, small, h.7)) h.6 in
+          (record { link = h.0; to = h.1 } ∷ rest.0, (h.2, h.3, h.4, h.5, rest.1, h.7))
+
+  pub least_stays : IsLawful n → (r v : ℕ) → is_router_up (Some f) r ≡ true → IsLeast n p r v → IsLeast (network_after n f) p r v
+  least_stays plan r v up least = record {
     reached = go least.reached;
     least = λ hops w path. least.least hops w (path_was n (Some f) p un.attached r hops w path);
   }
     where
       go : (v ≡ 16) ⊎ ((v < 16) × ((hops : List Hop) × IsPath n p r hops v)) → (v ≡ 16) ⊎ ((v < 16) × ((hops : List Hop) × IsPath (network_after n f) p r hops v))
       go (inl e) = inl e
-      go (inr h) = inr (h.0, (h.1.0, path_still r h.1.0 v up h.0 least h.1.1))
+      go (inr h) = inr (h.0, path_still plan (suc v) r v (omega arith) up h.0 least)
 
 -- a router that has failed has no path
 pub failed_far : (n : Network) (f : Failure) (p r v : ℕ) → is_router_up (Some f) r ≡ false → v ≡ 16 → IsLeast (network_after n f) p r v
@@ -73,33 +100,43 @@ failed_far n f p r v down is = record {
     none (h ∷ hops) w path = let up = (was_cost n (Some f) r h.link path.0 path.2).1 in cc (up, down)
 
 -- so what is written of a router is its least metric
-pub stays : (n : Network) (f : Failure) (p r v : ℕ) → IsUntouched n f p → (is_router_up (Some f) r ≡ true → IsLeast n p r v) → (is_router_up (Some f) r ≡ false → v ≡ 16) → IsLeast (network_after n f) p r v
-stays n f p r v un up down = go (is_router_up (Some f) r) refl
+pub stays : (n : Network) → IsLawful n → (f : Failure) (p r v : ℕ) → IsUntouched n f p → (is_router_up (Some f) r ≡ true → IsLeast n p r v) → (is_router_up (Some f) r ≡ false → v ≡ 16) → IsLeast (network_after n f) p r v
+stays n plan f p r v un up down = go (is_router_up (Some f) r) refl
   where
     go : (b : Bool) → is_router_up (Some f) r ≡ b → IsLeast (network_after n f) p r v
-    go true is = least_stays n f p un r v is (up is)
+    go true is = least_stays n f p un plan r v is (up is)
     go false is = failed_far n f p r v is (down is)
 
 -- ---- what the tests say
 
 -- where no least path goes over the link that has failed
-pub link_untouched : (n : Network) (p x : ℕ) → (Carries n x p → ⊥) → ((r : ℕ) → IsAttached n r p x → ⊥) → ((r c s : ℕ) → HasCost n r x c → IsOn n s x → IsStep n p r c s → ⊥) → IsUntouched n (failures.Link x) p
-link_untouched n p x off loose none = record {
-  steps = λ r l c s has on step. record { link = other_link x l (λ same. none r c s (rw same at has) (rw same at on) step); router = refl };
+pub link_untouched : (n : Network) (p x : ℕ) → (Carries n x p → ⊥) → ((r : ℕ) → IsAttached n r p x → ⊥) → ((r c s : ℕ) → HasCost n r x c → IsOn n s x → IsStep n p r c s → KeepsWay n (failures.Link x) p r) → IsUntouched n (failures.Link x) p
+link_untouched n p x off loose keeps = record {
+  steps = λ r l c s has on step. elim (cases_eq l x) [
+    | inl same ↦ inr (keeps r c s (rw same at has) (rw same at on) step)
+    | inr other ↦ inl (record { link = other_link x l other; router = refl })
+  ];
   carried = λ l carried. other_link x l (λ same. off (rw same at carried));
   attached = λ r l at. other_link x l (λ same. loose r (rw same at at));
 }
 
 -- where none goes on through the router that has failed
-pub router_untouched : (n : Network) (p y : ℕ) → ((l r c : ℕ) → IsOn n y l → HasCost n r l c → IsStep n p r c y → ⊥) → IsUntouched n (failures.Router y) p
-router_untouched n p y none = record {
-  steps = λ r l c s has on step. record {
-    link = refl;
-    router = other_router y s (λ same. let to : IsStep n p r c y = rw same at step in let there : IsOn n y l = rw same at on in none l r c there has to);
-  };
+pub router_untouched : (n : Network) (p y : ℕ) → ((l r c : ℕ) → IsOn n y l → HasCost n r l c → IsStep n p r c y → KeepsWay n (failures.Router y) p r) → IsUntouched n (failures.Router y) p
+router_untouched n p y keeps = record {
+  steps = λ r l c s has on step. elim (cases_eq s y) [
+    | inl same ↦
+        let to : IsStep n p r c y = rw same at step in
+        let there : IsOn n y l = rw same at on in
+        inr (keeps l r c there has to)
+    | inr other ↦ inl (record { link = refl; router = other_router y s other })
+  ];
   carried = λ l carried. refl;
   attached = λ r l at. refl;
 }
+
+pub is_true : (b : Bool) → not b ≡ false → b ≡ true
+is_true true e = refl
+is_true false e = cc e
 
 -- ---- loops over the interfaces on a link
 

@@ -34,14 +34,14 @@ abbrev pub is_any_up : Option Failure → Option ℕ → Bool
 is_any_up f None = true
 is_any_up f (Some l) = is_link_up f l
 
--- a seat is alive where it is neither the failed link, nor the failed router's own, nor an own prefix
--- attached to the failed link
+-- a seat is alive where it is neither the failed link, nor the failed router's own, nor an own
+-- prefix attached to the failed link
 abbrev pub is_alive_seat : Option Failure → Seat → Bool
 is_alive_seat f (seats.Link l) = is_link_up f l
 is_alive_seat f (seats.Own r c kept link via) = is_router_up f r && is_any_up f link
 
--- the network after a failure: its interfaces and places that are alive; links, routers and prefixes
--- keep their numbers
+-- the network after a failure: its interfaces and places that are alive; links, routers and
+-- prefixes keep their numbers
 abbrev pub network_after : Network → Failure → Network
 network_after n f = record {
   links = n.links;

@@ -1,5 +1,5 @@
 -- What a failure leaves of the right routes, and what it costs, in numbers.
-use Rattle.std.specs.Prelude.{◌≡◌, ℕ, ◌+◌, ◌*◌, ◌<◌, ◌≤◌, ◌⊎◌, Bool, Decides, length, slice_get, slice_index, Some}
+use Rattle.std.specs.Prelude.{◌≡◌, ℕ, ◌+◌, ◌*◌, ◌<◌, ◌≤◌, ◌⊎◌, Bool, Decides, Some, length, slice_get, slice_index}
 use Rattle.rip_plan.specs.Network.{Network}
 use Rattle.rip_check.specs.declared.aftermath.Aftermath.{Aftermath}
 use Rattle.rip_check.specs.declared.aftermath.Change.{Change}
@@ -21,7 +21,8 @@ pub record HasRoom (n : Network) (aftermath : Aftermath) : Type 0 where
 pub record AreLeft (n : Network) (f : Failure) (aftermath : Aftermath) : Type 0 where
   pub room : HasRoom n aftermath
   pub least : (r p : ℕ) → r < length n.routers → p < length n.prefixes
-      → IsLeast (network_after n f) p r (slice_index aftermath.metrics.items (r * length n.prefixes + p))
+      → IsLeast (network_after n f) p r
+      (slice_index aftermath.metrics.items (r * length n.prefixes + p))
   pub gone : (p : ℕ) (is_gone : Bool) → slice_get aftermath.gone.items p ≡ Some is_gone
       → Decides is_gone (IsGone n f p)
 
@@ -31,10 +32,11 @@ IsChange n f r p Other = (IsLost n f r p → ⊥) × ((w : ℕ) → IsLonger n f
 IsChange n f r p Lost = IsLost n f r p
 IsChange n f r p (Longer w) = IsLonger n f r p w
 
--- so many prefixes below a bound are lost by router r, or by its longer ways
+-- router r loses so many prefixes
 abbrev pub AreLostBy : Network → Failure → ℕ → ℕ → Type 0
 AreLostBy n f r count = IsCount (IsLost n f r) (length n.prefixes) count
 
+-- router r goes a longer way to so many prefixes
 abbrev pub AreLongerOf : Network → Failure → ℕ → ℕ → Type 0
 AreLongerOf n f r count = IsCount (λ p. (w : ℕ) × IsLonger n f r p w) (length n.prefixes) count
 
@@ -51,8 +53,10 @@ pub record IsPart (n : Network) (f : Failure) (r : ℕ) (part : Part) : Type 0 w
 
 -- m is the greatest metric of all longer ways, or 0 where there is none
 pub record IsFarthest (n : Network) (f : Failure) (m : ℕ) : Type 0 where
-  pub reached : (m ≡ 0) ⊎ ((r p : ℕ) × (r < length n.routers) × (p < length n.prefixes) × IsLonger n f r p m)
-  pub most : (r p w : ℕ) → r < length n.routers → p < length n.prefixes → IsLonger n f r p w → w ≤ m
+  pub reached : (m ≡ 0)
+      ⊎ ((r p : ℕ) × (r < length n.routers) × (p < length n.prefixes) × IsLonger n f r p m)
+  pub most : (r p w : ℕ) → r < length n.routers → p < length n.prefixes → IsLonger n f r p w
+      → w ≤ m
 
 -- router r is the first that loses most prefixes, so many
 pub record IsHardestHit (n : Network) (f : Failure) (r count : ℕ) : Type 0 where

@@ -12,14 +12,14 @@ pub record IsGone (n : Network) (f : Failure) (p : ℕ) : Type 0 where
   pub before : (r c : ℕ) × IsDirect n r p c
   pub after : (r c : ℕ) → IsDirect (network_after n f) r p c → ⊥
 
--- router r, which has not failed, has least metric v for prefix p before the failure, and w after it
+-- router r, which has not failed, has least metric v for prefix p before the failure, and w after
 pub record IsMoved (n : Network) (f : Failure) (r p v w : ℕ) : Type 0 where
   pub alive : is_router_up (Some f) r ≡ true
   pub before : IsLeast n p r v
   pub after : IsLeast (network_after n f) p r w
 
--- router r loses prefix p, which is not gone: its least metric is below 16 before the failure, and 16
--- after it
+-- router r loses prefix p, which is not gone: its least metric is below 16 before the failure, and
+-- 16 after it
 pub record IsLost (n : Network) (f : Failure) (r p : ℕ) : Type 0 where
   pub metric : ℕ
   pub small : metric < 16

@@ -1,5 +1,5 @@
--- How the least metrics of all routers for prefix p are found: routers tell their metrics, the least
--- first.
+-- How the least metrics of all routers for prefix p are found: routers tell their metrics, the
+-- least first.
 use Rattle.std.specs.Prelude.{◌≡◌, ℕ, ◌+◌, ◌≤◌, ◌⊎◌, Bool, true, List, Some, slice_get, slice_index}
 use Rattle.rip_plan.specs.Network.{Network}
 use Rattle.rip_plan.specs.Relations.{HasCost, IsAttached, IsKept}

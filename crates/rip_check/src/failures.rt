@@ -38,7 +38,8 @@ pub(crate) fn is_router_up(failure: Option<Failure>, router: usize) -> bool
 
 /// Whether the interface of a router on a link is alive.
 pub(crate) fn is_alive(failure: Option<Failure>, router: usize, link: usize) -> bool
-    ensures { Decides result ((is_router_up failure router ≡ true) × (is_link_up failure link ≡ true)) }
+    ensures { Decides result
+        ((is_router_up failure router ≡ true) × (is_link_up failure link ≡ true)) }
 {
     is_router_up(failure, router) && is_link_up(failure, link)
 }
@@ -57,8 +58,8 @@ fn is_on(plan: &Plan, router: usize, link: usize) -> bool
     false
 }
 
-/// Whether that by which a router has a prefix itself, if it does, is neither a failed link nor attached to
-/// one.
+/// Whether that by which a router has a prefix itself, if it does, is neither a failed link nor attached
+/// to one.
 fn has_beside(plan: &Plan, failed: usize, router: usize, prefix: usize) -> bool
     requires { router < length plan.now.routers }
     ensures attached { result ≡ true → IsAttached plan.now router prefix failed → ⊥ }
@@ -92,8 +93,8 @@ fn keeps(plan: &Plan, failure: Option<Failure>, router: usize, prefix: usize) ->
     plan.keeps(router, prefix) && is_any_up(failure, plan.attached_link(router, prefix))
 }
 
-/// Whether a router takes what is told of a prefix after a failure: it has not failed, and does not keep
-/// the prefix.
+/// Whether a router takes what is told of a prefix after a failure: it has not failed, and does not
+/// keep the prefix.
 pub(crate) fn takes(plan: &Plan, failure: Option<Failure>, router: usize, prefix: usize) -> bool
     ensures { Decides result ((is_router_up failure router ≡ true)
         × (IsKept (network_left plan.now failure) router prefix → ⊥)) }

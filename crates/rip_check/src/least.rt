@@ -25,8 +25,8 @@ fn fill_direct(plan: &Plan, failure: Option<Failure>, prefix: usize, metrics: &m
     }
 }
 
-/// Tells a metric on a link: each router there that takes offers has no more than it and the cost of its
-/// interface from then on (RFC 2453, section 3.9.2).
+/// Tells a metric on a link: each router there that takes offers has no more than it and the cost of
+/// its interface from then on (RFC 2453, section 3.9.2).
 fn tell(
     plan: &Plan,
     failure: Option<Failure>,
@@ -57,8 +57,8 @@ fn tell(
     }
 }
 
-/// A router tells its metric on each of its links where none was told before, but where it has the prefix
-/// attached.
+/// A router tells its metric on each of its links where none was told before, but where it has the
+/// prefix attached.
 fn tell_on_all(
     plan: &Plan,
     failure: Option<Failure>,
@@ -122,8 +122,8 @@ fn tell_metric(
 
 /// Whether a router has a metric above this one and below 16.
 fn has_more(metrics: &[u8], metric: u32) -> bool
-    ensures { result ≡ false → (r : ℕ) → r < length metrics.now → metric < slice_index metrics.now r →
-        16 ≤ slice_index metrics.now r }
+    ensures { result ≡ false → (r : ℕ) → r < length metrics.now →
+        metric < slice_index metrics.now r → 16 ≤ slice_index metrics.now r }
 {
     for router in 0..metrics.len() {
         let own = u32::from(metrics[router]);
@@ -134,8 +134,8 @@ fn has_more(metrics: &[u8], metric: u32) -> bool
     false
 }
 
-/// Writes the least metric of each router for a prefix after a failure, if one has failed. It begins with
-/// the metrics at which routers have the prefix themselves. Routers tell their metrics in ascending
+/// Writes the least metric of each router for a prefix, after a failure where there is one. It begins
+/// with the metrics at which routers have the prefix themselves. Routers tell their metrics in ascending
 /// order, so that the first that is told on a link is the least one there.
 pub(crate) fn find_least(plan: &Plan, failure: Option<Failure>, prefix: usize, metrics: &mut [u8])
     requires { length metrics.old ≡ length plan.now.routers }

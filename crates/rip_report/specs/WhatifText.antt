@@ -68,8 +68,8 @@ pub data GoneLine (n : Network) (f : Failure) (p : ℕ) : List ℕ → Type 0 wh
   gone : IsGone n f p → GoneLine n f p (gone_line n p)
   not_gone : (IsGone n f p → ⊥) → GoneLine n f p []
 
--- what stands under the line of a failure where all is asked for: what is lost, by router and prefix,
--- and then what is gone
+-- what stands under the line of a failure where all is asked for: what is lost, by router and
+-- prefix, and then what is gone
 abbrev pub UnderText : Network → Failure → Bool → List ℕ → Type 0
 UnderText n f false text = text ≡ []
 UnderText n f true text =

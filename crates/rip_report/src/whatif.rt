@@ -385,9 +385,9 @@ fn write_failures<K: Sink>(
 }
 
 /// Prints what the failure of each link and of each router of the plan would cost that the bytes of a
-/// TOML document are, or their first fault: how many pairs of a router and a prefix are lost, and how many
-/// go a longer way; with `all` each pair that is lost, and each prefix that is gone. It takes two bytes
-/// of memory for each router and prefix, and one for each prefix, beside the plan.
+/// TOML document are, or their first fault: how many pairs of a router and a prefix are lost, and how
+/// many go a longer way; with `all` each pair that is lost, and each prefix that is gone. It takes two
+/// bytes of memory for each router and prefix, and one for each prefix, beside the plan.
 pub fn run_whatif<K: Sink>(
     alloc: Global,
     plan: &[u8],

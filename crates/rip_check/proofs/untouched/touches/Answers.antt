@@ -16,11 +16,11 @@ returns-else-is_attached_to c = λ e.
       | else-is_place w ↦
           let loose : w.is_attached_to.result ≡ false = sym w.value-is ∙ c.if-is_attached_to.false in
           subst (λ (f : Failure). IsUntouched n f p) (sym c.in-Link.is)
-          (link_untouched n p x (not_from_Decides _ c.is_place.ensures w.if-is_place.false) (w.is_attached_to.ensures loose) (c.is_link_used.ensures e))
+          (link_untouched n p x (not_from_Decides _ c.is_place.ensures w.if-is_place.false) (w.is_attached_to.ensures loose) (c.is_any_cut.ensures e))
     ]
 
 pub returns-in-Router : goal.returns-in-Router
 returns-in-Router c = λ e.
     let n = c.args.plan.now in
     let p = c.args.prefix in
-    subst (λ (f : Failure). IsUntouched n f p) (sym c.in-Router.is) (router_untouched n p c.in-Router.router (c.is_router_used.ensures e))
+    subst (λ (f : Failure). IsUntouched n f p) (sym c.in-Router.is) (router_untouched n p c.in-Router.router (c.is_any_cut_from.ensures e))

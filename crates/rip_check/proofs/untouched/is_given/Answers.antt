@@ -1,0 +1,39 @@
+use Rattle.std.proofs.Common.{◌∙◌, get_or, inr, Some, sym}
+use Rattle.rip_check.proofs.Left.{still_cost, was_attached}
+use Rattle.rip_check.proofs.Owned.{its_number, its_own}
+use Rattle.rip_check.proofs.untouched.is_given.Goals as goal
+
+pub interface-own-requires : goal.interface-own-requires
+interface-own-requires c = its_number c.args.plan.now c.args.router c.of_router-numbers.result.now c.of_router-numbers.ensures.exact c.loop-i.i-index c.loop-i-test.true
+
+pub is_given_over-requires-clause-link : goal.is_given_over-requires-clause-link
+is_given_over-requires-clause-link c =
+    let x = c.interface-own.result in
+    c.lawful.ensures.link_known _ x.router x.link x.cost c.interface-own.ensures.is
+
+pub returns-then-is_given_over : goal.returns-then-is_given_over
+returns-then-is_given_over c = λ e.
+    let n = c.args.plan.now in
+    let f = Some c.args.failure in
+    let r = c.args.router in
+    let x = c.interface-own.result in
+    let i = get_or c.of_router-numbers.result.now c.loop-i.i-index 0 in
+    let mine = its_own n r c.of_router-numbers.result.now c.of_router-numbers.ensures.exact c.loop-i.i-index x c.loop-i-test.true c.interface-own.ensures.is in
+    let link_up = sym c.is_link_up.ensures ∙ c.if-is_link_up.true in
+    let given = c.is_given_over.ensures c.if-is_given_over.true in
+    let on = given.3 in
+    let has = still_cost n f r x.link x.cost (i, mine) c.requires.up link_up in
+    inr (
+      x.link,
+      given.0,
+      x.cost,
+      given.1,
+      has,
+      record {
+        neighbour = record { other = given.2; here = (x.cost, has); there = (on.0, still_cost n f given.0 x.link on.0 on.1 given.4 link_up) };
+        goes_on = c.requires.takes;
+        tells = λ at. given.5 (was_attached n f given.0 c.args.prefix x.link at).0;
+      },
+      given.6,
+      given.7,
+    )
