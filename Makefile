@@ -1,20 +1,20 @@
-# `make demo` audits a first network, `make test` proves and tests everything, `make install PREFIX=..` installs, `make deb`
-# makes a Debian package.
+# `make` proves and builds the program, `make demo` audits a first network (before a build too), `make test` proves and tests
+# everything, `make install PREFIX=..` installs, `make deb` makes a Debian package.
 PREFIX ?= /usr/local
 PROGRAM = crates/ripaudit/out/ripaudit
 SHARE = $(DESTDIR)$(PREFIX)/share
 DOC = $(SHARE)/doc/ripaudit
 
-.PHONY: demo test install uninstall deb clean
+.PHONY: all demo test install uninstall deb clean
 
-demo: $(PROGRAM)
-	sh examples/demo
+all: $(PROGRAM)
 
-# The first build proves the program and the libraries below it: 10 to 20 minutes on four cores. The prover's lines go to out/build.log.
+demo:
+	@sh examples/demo
+
+# The first build proves the program and the libraries below it.
 $(PROGRAM): crates.txt HANDLES $(shell find crates/*/src crates/*/specs crates/*/proofs -type f ! -path 'crates/rip_tests/*')
-	@mkdir -p out
-	@echo "building $(PROGRAM); a first build proves it and takes 10 to 20 minutes on four cores (lines in out/build.log)"
-	@cd crates/ripaudit && rt run --jobs "$$(nproc)" -- --version > ../../out/build.log 2>&1 || { tail -n 20 ../../out/build.log; exit 1; }
+	@sh packaging/build
 	@touch $(PROGRAM)
 
 test:

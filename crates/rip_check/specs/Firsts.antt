@@ -1,5 +1,5 @@
 -- Which routes can be read, why others can't, and which place is the first.
-use Rattle.std.specs.Prelude.{◌≡◌, ◌≢◌, ℕ, ◌<◌, ◌≤◌, ◌⊎◌, Option, None, Some, IsTrue, length}
+use Rattle.std.specs.Prelude.{◌≡◌, ◌≢◌, ℕ, ◌<◌, ◌⊎◌, Option, None, Some, IsTrue, length}
 use Rattle.rip_plan.specs.Network.{Network}
 use Rattle.rip_plan.specs.Relations.{IsAttached, IsInterface, IsLeaf}
 use Rattle.rip_table.specs.State.{State}
@@ -33,18 +33,16 @@ abbrev pub AreFine : Network → ℕ → Option (ℕ × ℕ) → (ℕ → ℕ �
 AreFine n count after Fine =
     (r p : ℕ) → r < length n.routers → p < count → IsAfter after r p → Fine r p
 
--- the first number below the bound that is not fine, or the bound where each is
-pub record IsFirstBelow (bound : ℕ) (Fine : ℕ → Type 0) (first : ℕ) : Type 0 where
-  pub most : first ≤ bound
-  pub before : (s : ℕ) → s < first → Fine s
-  pub fails : first < bound → Fine first → ⊥
+-- the first place that is not fine, if there is one
+abbrev pub IsFirstAt : Network → ℕ → (ℕ → ℕ → Type 0) → Option (ℕ × ℕ) → Type 0
+IsFirstAt n count Fine None = AreFine n count None Fine
+IsFirstAt n count Fine (Some a) = IsFirst n count None Fine a.0 a.1
 
--- (r, p) is the first place that is not fine, or r is the number of routers where each place is
--- fine
-pub record IsFirstPlace (n : Network) (count : ℕ) (Fine : ℕ → ℕ → Type 0) (r p : ℕ) : Type 0 where
-  pub most : r ≤ length n.routers
-  pub first : r < length n.routers → IsFirst n count None Fine r p
-  pub fine : r ≡ length n.routers → AreFine n count None Fine
+-- the first number below the bound that is not fine, if there is one
+abbrev pub IsFirstOf : ℕ → (ℕ → Type 0) → Option ℕ → Type 0
+IsFirstOf bound Fine None = (s : ℕ) → s < bound → Fine s
+IsFirstOf bound Fine (Some r) =
+    (r < bound) × ((s : ℕ) → s < r → Fine s) × (Fine r → ⊥)
 
 -- exactly one route fits what router r shows of prefix p; of a router with one interface, at least one
 abbrev pub IsReadable : Network → State → ℕ → ℕ → Type 0

@@ -1,12 +1,12 @@
 -- Verdicts.
-use Rattle.std.specs.Prelude.{◌≡◌, ℕ, ◌≤◌, ◌<◌, ◌⊎◌, ◌↔◌, Option, None, Some, IsTrue, length}
+use Rattle.std.specs.Prelude.{◌≡◌, ℕ, ◌≤◌, ◌<◌, ◌⊎◌, ◌↔◌, Option, None, Some, Result, Ok, Err, IsTrue, length}
 use Rattle.rip_plan.specs.Network.{Network}
 use Rattle.rip_plan.specs.Relations.{IsLeaf}
 use Rattle.rip_table.specs.State.{State}
 use Rattle.rip_check.specs.Tables.{Tables, Shows, Route, FitsShown, IsSilent, MayHoldBack}
 use Rattle.rip_check.specs.Settled.{Holds, IsLeastChoice}
 use Rattle.rip_check.specs.Laws.{ShowsRightTables}
-use Rattle.rip_check.specs.Firsts.{AreFine, IsFirst, IsFirstTrouble}
+use Rattle.rip_check.specs.Firsts.{AreFine, IsFirst, IsFirstAt, IsFirstTrouble, IsReadable}
 use Rattle.rip_check.specs.declared.routes.Reading.{Reading}
 use Rattle.rip_check.specs.declared.verdict.Place2.{Place2}
 use Rattle.rip_check.specs.declared.verdict.Verdict.{Verdict}
@@ -29,39 +29,46 @@ abbrev pub IsSound : Network → State → ℕ → ℕ → Type 0
 IsSound n shown r p = (t : Route) → FitsShown n shown r p t → Holds n shown r p t
 
 -- the values of a place whose route fails
-pub record IsFailing (n : Network) (shown : State) (failing : Place2) : Type 0 where
-  pub fits : FitsShown n shown failing.router failing.prefix
-      (record { metric = failing.metric; way = failing.way })
-  pub fails : Holds n shown failing.router failing.prefix
-      (record { metric = failing.metric; way = failing.way }) → ⊥
-  pub equation : IsLeastChoice n shown failing.router failing.prefix failing.equation
-  pub hidden : IsTrue failing.hidden ↔ IsHidden n shown failing.router failing.prefix
+pub record IsFailing (n : Network) (shown : State) (place : Place2) : Type 0 where
+  pub fits : FitsShown n shown place.router place.prefix
+      (record { metric = place.metric; way = place.way })
+  pub fails : Holds n shown place.router place.prefix
+      (record { metric = place.metric; way = place.way }) → ⊥
+  pub equation : IsLeastChoice n shown place.router place.prefix place.equation
+  pub hidden : IsTrue place.hidden ↔ IsHidden n shown place.router place.prefix
 
 -- the first place after the given one, if one is given, that can be read and does not hold, with
 -- its values
 pub record IsNextUnsettled
-    (n : Network) (shown : State) (after : Option (ℕ × ℕ)) (failing : Place2)
+    (n : Network) (shown : State) (after : Option (ℕ × ℕ)) (place : Place2)
     : Type 0 where
   pub first : IsFirst n (length shown.prefixes) after (IsSound n shown)
-      failing.router failing.prefix
-  pub values : IsFailing n shown failing
+      place.router place.prefix
+  pub values : IsFailing n shown place
 
 -- what a verdict says
 abbrev pub IsVerdict : Network → State → Verdict → Type 0
 IsVerdict n shown Settled = ShowsRightTables n shown
-IsVerdict n shown (Unsettled failing) =
-    ShowsTables n shown × IsNextUnsettled n shown None failing
+IsVerdict n shown (Unsettled place) =
+    ShowsTables n shown × IsNextUnsettled n shown None place
 IsVerdict n shown (IsUnclear unclear) = IsFirstTrouble n shown unclear
+
+-- of the first prefixes: a place is the first that can't be read, or each can be read, and the first
+-- that does not hold is this, if there is one
+abbrev pub IsFirstPlace : Network → State → ℕ → Result (Option (ℕ × ℕ)) (ℕ × ℕ) → Type 0
+IsFirstPlace n shown count (Err a) = IsFirstAt n count (IsReadable n shown) (Some a)
+IsFirstPlace n shown count (Ok failing) =
+    IsFirstAt n count (IsReadable n shown) None × IsFirstAt n count (IsSound n shown) failing
 
 -- the first failing place of router r from a prefix on
 pub record IsRowFirst
-    (n : Network) (shown : State) (r from : ℕ) (failing : Place2)
+    (n : Network) (shown : State) (r from : ℕ) (place : Place2)
     : Type 0 where
-  pub router : failing.router ≡ r
-  pub from_on : from ≤ failing.prefix
-  pub below : failing.prefix < length shown.prefixes
-  pub before : (q : ℕ) → from ≤ q → q < failing.prefix → IsSound n shown r q
-  pub values : IsFailing n shown failing
+  pub router : place.router ≡ r
+  pub from_on : from ≤ place.prefix
+  pub below : place.prefix < length shown.prefixes
+  pub before : (q : ℕ) → from ≤ q → q < place.prefix → IsSound n shown r q
+  pub values : IsFailing n shown place
 
 -- every place after the given one, if one is given, that can be read holds
 abbrev pub HoldsAfter : Network → State → Option (ℕ × ℕ) → Type 0

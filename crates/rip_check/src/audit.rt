@@ -1,17 +1,17 @@
 //! The verdict on a table.
 
-ghost use Rattle.std.specs.Prelude.{◌≡◌, ◌↔◌, ℕ, ◌≤◌, ◌<◌, IfNone, IfSome, None, length};
+ghost use Rattle.std.specs.Prelude.{◌≡◌, ◌↔◌, ℕ, ◌+◌, ◌≤◌, ◌<◌, IfErr, IfNone, IfOk, IfSome, None, Some, length};
 ghost use Rattle.rip_table.specs.State.{Fits};
 ghost use Rattle.rip_check.specs.Tables.{IsHeard};
-ghost use Rattle.rip_check.specs.Firsts.{IsFirstBelow, IsFirstPlace, IsFirstUnheard, IsReadable, IsFirstTrouble};
+ghost use Rattle.rip_check.specs.Firsts.{IsFirstOf, IsFirstUnheard, IsReadable, IsFirstTrouble};
 ghost use Rattle.rip_check.specs.TwoLeasts.{AreLeastShown};
-ghost use Rattle.rip_check.specs.Verdicts.{IsRowFirst, IsSound, IsVerdict, ShowsTables, IsNextUnsettled, HoldsAfter, IsKnownPlace};
+ghost use Rattle.rip_check.specs.Verdicts.{IsFirstPlace, IsRowFirst, IsSound, IsVerdict, ShowsTables, IsNextUnsettled, HoldsAfter, IsKnownPlace};
 ghost use Rattle.rip_check.specs.Laws.{ShowsRightTables, EachPlaceHolds};
 ghost use Rattle.rip_check.specs.Walks.{PacketsArrive};
 
 use crate::links::{NOTHING, TwoLeast, fill};
 use crate::lookup::in_range;
-use crate::places::{failing_place, unmet_equation};
+use crate::places::{failing_equation, failing_place};
 use crate::routes::{read, reason};
 use crate::verdict::{Place2, Unclear, Verdict};
 use rip_plan::{Interface, MOST_LINKS, Plan};
@@ -80,106 +80,123 @@ pub fn next_unsettled<T: MetricTable>(
     None
 }
 
-/// Routers from which on places matter no more: those from `unclear` on need not be readable, and
-/// those from `failing` on need not hold.
-#[derive(Clone, Copy)]
-struct Bounds {
-    unclear: usize,
-    failing: usize,
-}
-
-/// The bounds after the places of one more prefix. Once a place can't be read, none needs to hold.
-fn narrow<T: MetricTable>(
+/// The first router below a bound whose place of a prefix can't be read.
+fn first_unreadable<T: MetricTable>(
     plan: &Plan,
     table: &T,
     links: &[TwoLeast],
     prefix: usize,
-    bounds: Bounds,
-) -> Bounds
+    below: usize,
+) -> Option<usize>
     requires fits { Fits plan.now (T.state table.now) }
     requires prefix { prefix < length (T.state table.now).prefixes }
     requires links { AreLeastShown plan.now (T.state table.now) prefix links.now }
-    requires known { bounds.unclear ≤ length plan.now.routers }
-    requires order { bounds.failing ≤ bounds.unclear }
-    ensures order { result.failing ≤ result.unclear }
-    ensures unclear { IsFirstBelow bounds.unclear
-        (λ s. IsReadable plan.now (T.state table.now) s prefix) result.unclear }
-    ensures failing { result.unclear ≡ bounds.unclear →
-        IsFirstBelow bounds.failing
-        (λ s. IsSound plan.now (T.state table.now) s prefix) result.failing }
+    requires known { below ≤ length plan.now.routers }
+    ensures { IsFirstOf below
+        (λ s. IsReadable plan.now (T.state table.now) s prefix) result }
 {
     plan.lawful();
     in_range(plan, table);
-    let mut failing = bounds.failing;
-    for router in 0..bounds.unclear {
-        match read(plan, table, Some(links), router, prefix) {
-            None => {
-                return Bounds {
-                    unclear: router,
-                    failing: 0,
-                };
+    for router in 0..below {
+        if read(plan, table, Some(links), router, prefix).is_none() {
+            return Some(router);
+        }
+    }
+    None
+}
+
+/// The first router below a bound whose place of a prefix does not hold. The error is the first of all
+/// routers whose place can't be read: where there is one, none needs to hold.
+fn first_failing<T: MetricTable>(
+    plan: &Plan,
+    table: &T,
+    links: &[TwoLeast],
+    prefix: usize,
+    below: usize,
+) -> Result<Option<usize>, usize>
+    requires fits { Fits plan.now (T.state table.now) }
+    requires prefix { prefix < length (T.state table.now).prefixes }
+    requires links { AreLeastShown plan.now (T.state table.now) prefix links.now }
+    requires known { below ≤ length plan.now.routers }
+    ensures unreadable { IfErr result (λ r. IsFirstOf (length plan.now.routers)
+        (λ s. IsReadable plan.now (T.state table.now) s prefix) (Some r)) }
+    ensures readable { IfOk result (λ _. IsFirstOf (length plan.now.routers)
+        (λ s. IsReadable plan.now (T.state table.now) s prefix) None) }
+    ensures failing { IfOk result (λ first. IsFirstOf below
+        (λ s. IsSound plan.now (T.state table.now) s prefix) first) }
+{
+    plan.lawful();
+    in_range(plan, table);
+    let mut first = None;
+    for router in 0..plan.routers() {
+        let Some(route) = read(plan, table, Some(links), router, prefix) else {
+            return Err(router);
+        };
+        if first.is_none()
+            && router < below
+            && failing_equation(plan, table, Some(links), router, prefix, route).is_some()
+        {
+            first = Some(router);
+        }
+    }
+    Ok(first)
+}
+
+/// The first place that can't be read, as the error, or else the first that does not hold, if there is
+/// one: a router and a prefix, by router and then by prefix.
+type FirstPlace = Result<Option<(usize, usize)>, (usize, usize)>;
+
+/// The first place, with the places of one more prefix.
+fn with_prefix<T: MetricTable>(
+    plan: &Plan,
+    table: &T,
+    links: &[TwoLeast],
+    prefix: usize,
+    found: FirstPlace,
+) -> FirstPlace
+    requires fits { Fits plan.now (T.state table.now) }
+    requires prefix { prefix < length (T.state table.now).prefixes }
+    requires links { AreLeastShown plan.now (T.state table.now) prefix links.now }
+    requires found { IsFirstPlace plan.now (T.state table.now) prefix found }
+    ensures { IsFirstPlace plan.now (T.state table.now) (prefix + 1) result }
+{
+    match found {
+        Err((router, first)) => {
+            match first_unreadable(plan, table, links, prefix, router) {
+                Some(sooner) => Err((sooner, prefix)),
+                None => Err((router, first)),
             }
-            Some(route) => {
-                if router < failing
-                    && unmet_equation(plan, table, Some(links), router, prefix, route).is_some()
-                {
-                    failing = router;
-                }
+        }
+        Ok(failing) => {
+            let below = match failing {
+                Some((router, _)) => router,
+                None => plan.routers(),
+            };
+            match first_failing(plan, table, links, prefix, below) {
+                Err(router) => Err((router, prefix)),
+                Ok(Some(router)) => Ok(Some((router, prefix))),
+                Ok(None) => Ok(failing),
             }
         }
     }
-    Bounds {
-        unclear: bounds.unclear,
-        failing,
-    }
 }
 
-/// The first place that can't be read and the first that does not hold, by router and then by
-/// prefix. The number of routers stands for the router of none.
-#[derive(Clone, Copy)]
-struct Firsts {
-    unclear: usize,
-    unclear_prefix: usize,
-    failing: usize,
-    failing_prefix: usize,
-}
-
-/// The first places. This goes prefix by prefix, so that the two least metrics of each link are
-/// found once for all routers.
-fn first_places<T: MetricTable>(plan: &Plan, table: &T) -> Firsts
+/// The first place of a table. This goes prefix by prefix, so that the two least metrics of each link
+/// are found once for all routers.
+fn first_place<T: MetricTable>(plan: &Plan, table: &T) -> FirstPlace
     requires { Fits plan.now (T.state table.now) }
-    ensures unclear { IsFirstPlace plan.now (length (T.state table.now).prefixes)
-        (IsReadable plan.now (T.state table.now)) result.unclear
-        result.unclear_prefix }
-    ensures failing { result.unclear ≡ length plan.now.routers →
-        IsFirstPlace plan.now (length (T.state table.now).prefixes)
-        (IsSound plan.now (T.state table.now)) result.failing result.failing_prefix }
+    ensures { IsFirstPlace plan.now (T.state table.now)
+        (length (T.state table.now).prefixes) result }
 {
     plan.lawful();
     let mut room = [NOTHING; MOST_LINKS];
     let links = &mut room[..plan.links()];
-    let mut unclear = plan.routers();
-    let mut failing = plan.routers();
-    let mut unclear_prefix = 0;
-    let mut failing_prefix = 0;
+    let mut found = Ok(None);
     for prefix in 0..table.prefix_count() {
         fill(plan, table, prefix, links);
-        let next = narrow(plan, table, links, prefix, Bounds { unclear, failing });
-        if next.unclear < unclear {
-            unclear_prefix = prefix;
-        }
-        if next.failing < failing {
-            failing_prefix = prefix;
-        }
-        unclear = next.unclear;
-        failing = next.failing;
+        found = with_prefix(plan, table, links, prefix, found);
     }
-    Firsts {
-        unclear,
-        unclear_prefix,
-        failing,
-        failing_prefix,
-    }
+    found
 }
 
 /// The verdict, by its definition.
@@ -195,16 +212,14 @@ fn decide<T: MetricTable>(plan: &Plan, table: &T) -> Verdict
             link: own.link,
         });
     }
-    let first = first_places(plan, table);
-    if first.unclear < plan.routers() {
-        let unclear = reason(plan, table, first.unclear, first.unclear_prefix);
-        return Verdict::Unclear(unclear);
+    match first_place(plan, table) {
+        Err((router, prefix)) => Verdict::Unclear(reason(plan, table, router, prefix)),
+        Ok(Some((router, prefix))) => {
+            let place = failing_place(plan, table, router, prefix);
+            Verdict::Unsettled(place.unwrap())
+        }
+        Ok(None) => Verdict::Settled,
     }
-    if first.failing < plan.routers() {
-        let place = failing_place(plan, table, first.failing, first.failing_prefix);
-        return Verdict::Unsettled(place.unwrap());
-    }
-    Verdict::Settled
 }
 
 /// The verdict on a table that fits a plan. Settled is answered exactly where the table shows right

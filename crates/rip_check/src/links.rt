@@ -41,8 +41,8 @@ fn seen_at<T: MetricTable>(plan: &Plan, table: &T, interface: usize, prefix: usi
     }
 }
 
-/// The same with one more interface of the link.
-fn with(two: TwoLeast, router: u8, metric: u8) -> TwoLeast
+/// The two least metrics with that of one more interface of the link.
+fn with_metric(two: TwoLeast, router: u8, metric: u8) -> TwoLeast
     ensures { (n : Network) (seen : ℕ → ℕ → ℕ → ℕ) (l j : ℕ) →
         IsTwoLeast n seen l j two → IsSeen n seen l j router metric →
         IsTwoLeast n seen l (j + 1) result }
@@ -82,8 +82,8 @@ fn reset(links: &mut [TwoLeast])
     }
 }
 
-/// Writes the two least metrics with one more interface, which has this metric.
-fn take(plan: &Plan, interface: usize, metric: u32, links: &mut [TwoLeast])
+/// Adds an interface, which has this metric, to the two least metrics of its link.
+fn add_interface(plan: &Plan, interface: usize, metric: u32, links: &mut [TwoLeast])
     requires interface { interface < length plan.now.interfaces }
     requires size { length plan.now.links ≤ length links.old }
     ensures { (seen : ℕ → ℕ → ℕ → ℕ) →
@@ -94,7 +94,7 @@ fn take(plan: &Plan, interface: usize, metric: u32, links: &mut [TwoLeast])
     plan.lawful();
     let own = plan.interface(interface);
     if metric < 16 {
-        links[own.link] = with(links[own.link], own.router as u8, metric as u8);
+        links[own.link] = with_metric(links[own.link], own.router as u8, metric as u8);
     }
 }
 
@@ -108,6 +108,6 @@ pub(crate) fn fill<T: MetricTable>(plan: &Plan, table: &T, prefix: usize, links:
     reset(links);
     for i in 0..plan.interfaces() {
         let metric = seen_at(plan, table, i, prefix);
-        take(plan, i, metric, links);
+        add_interface(plan, i, metric, links);
     }
 }

@@ -19,7 +19,8 @@ pub(crate) fn metric_of(number: u32) -> Metric
     Metric::new(number).unwrap()
 }
 
-/// What the interfaces of the plan show is a metric. This does nothing when it runs.
+/// What the interfaces of the plan show is a metric. This does nothing when it runs: the plan and the
+/// table are what its contract speaks of.
 pub(crate) fn in_range<T: MetricTable>(plan: &Plan, table: &T)
     requires { Fits plan.now (T.state table.now) }
     ensures { IsInRange plan.now (T.state table.now) }
@@ -28,7 +29,8 @@ pub(crate) fn in_range<T: MetricTable>(plan: &Plan, table: &T)
     let _ = table;
 }
 
-/// The metric that an interface shows for a prefix.
+/// The metric that an interface shows for a prefix. The plan is there for the contract alone, which asks
+/// that the table is one of the plan's.
 pub(crate) fn shown_at<T: MetricTable>(
     plan: &Plan,
     table: &T,

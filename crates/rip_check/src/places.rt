@@ -94,7 +94,7 @@ fn is_given<T: MetricTable>(
 }
 
 /// What the equation of a place gives, if the route that was read there does not hold.
-pub(crate) fn unmet_equation<T: MetricTable>(
+pub(crate) fn failing_equation<T: MetricTable>(
     plan: &Plan,
     table: &T,
     links: Option<&[TwoLeast]>,
@@ -166,7 +166,7 @@ pub(crate) fn failing_place<T: MetricTable>(
     let Some(route) = read(plan, table, None, router, prefix) else {
         return None;
     };
-    match unmet_equation(plan, table, None, router, prefix, route) {
+    match failing_equation(plan, table, None, router, prefix, route) {
         Some(equation) => Some(place_of(router, prefix, route, equation)),
         None => None,
     }

@@ -8,7 +8,7 @@ ghost use Rattle.rip_check.specs.Verdicts.{IsFailing, IsSound};
 
 use crate::links::{NOTHING, TwoLeast, fill};
 use crate::lookup::in_range;
-use crate::places::{place_of, unmet_equation};
+use crate::places::{failing_equation, place_of};
 use crate::routes::read;
 use crate::verdict::Place2;
 use rip_plan::{MOST_LINKS, Plan};
@@ -41,7 +41,7 @@ fn mark_of<T: MetricTable>(
     let Some(route) = read(plan, table, Some(links), router, prefix) else {
         return None;
     };
-    match unmet_equation(plan, table, Some(links), router, prefix, route) {
+    match failing_equation(plan, table, Some(links), router, prefix, route) {
         Some(equation) => Some(equation as u8),
         None => None,
     }

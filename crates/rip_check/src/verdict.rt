@@ -26,16 +26,12 @@ pub enum Unclear {
     },
     /// A router shows two metrics below 16 for a prefix.
     TwoMetrics {
-        /// The router.
         router: usize,
-        /// The prefix.
         prefix: usize,
     },
     /// A router shows nothing of a prefix on a link, and no route of it can be read.
     Missing {
-        /// The router.
         router: usize,
-        /// The prefix.
         prefix: usize,
         /// The first link on which it shows nothing.
         link: usize,
@@ -43,9 +39,7 @@ pub enum Unclear {
     /// A router shows a metric below 16 for a prefix on each of its links, also on the one to which the
     /// plan says that the prefix is attached, and no route of it can be read.
     ShownOn {
-        /// The router.
         router: usize,
-        /// The prefix.
         prefix: usize,
         /// The link to which the prefix is attached.
         link: usize,
@@ -53,9 +47,7 @@ pub enum Unclear {
     /// A router shows 16 for a prefix on two links and a metric below 16 on another, as if it had two
     /// ways.
     TwoWays {
-        /// The router.
         router: usize,
-        /// The prefix.
         prefix: usize,
     },
 }
@@ -63,9 +55,7 @@ pub enum Unclear {
 /// A place that does not hold: a router and a prefix, by their numbers, with what was compared there.
 #[derive(Clone, Copy, Debug, PartialEq, Eq)]
 pub struct Place2 {
-    /// The router.
     pub router: usize,
-    /// The prefix.
     pub prefix: usize,
     /// The metric of the router's route.
     pub metric: Metric,

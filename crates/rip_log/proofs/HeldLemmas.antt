@@ -23,6 +23,10 @@ pub held-more : (old new : List ℕ) (start end n : ℕ) → start ≡ 0 → tak
 held-more old new start end n zero front =
     rw (zero, between_from_start new (end + n), between_from_start old end, ← front) (take-add new end n)
 
+-- what is held where no byte came behind it
+pub held-same : (old new : List ℕ) (start end : ℕ) → start ≡ 0 → take end new ≡ take end old → slice_range new start end ≡ slice_range old start end
+held-same old new start end zero front = rw (zero, between_from_start new end, between_from_start old end) front
+
 -- the byte of what follows the first n, at k, is that of the whole at n + k
 pub at-drop : (xs hay : List ℕ) (seen k : ℕ) → hay ≡ drop seen xs → seen ≤ k → get_or hay (k - seen) 0 ≡ get_or xs k 0
 at-drop xs hay seen k e h =

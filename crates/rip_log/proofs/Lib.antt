@@ -14,3 +14,6 @@ pub mod PassLemmas
 pub mod LogLemmas
 pub mod FollowLemmas
 pub mod PairLemmas
+pub mod WholeLemmas
+pub mod CarryLemmas
+pub mod OutcomeLemmas

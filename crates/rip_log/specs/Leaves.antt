@@ -6,6 +6,7 @@ use Rattle.rip_log.specs.Cuts.{PassesLines}
 use Rattle.rip_log.specs.Held.{held, ready_lines, text as window_text}
 use Rattle.rip_log.specs.Lines.{Capture}
 use Rattle.rip_log.specs.Logs.{Log, log_at, Gives}
+use Rattle.rip_log.specs.Wholes.{OfWhole, Went}
 use Rattle.rip_log.specs.declared.error.LogCode.TheVariants.{Ended}
 use Rattle.rip_log.specs.declared.error.LogError.{LogError}
 use Rattle.rip_log.specs.declared.limits.TheConstants.{MOST_LINES}
@@ -28,7 +29,7 @@ lines_behind reader = reader.progress.lines
 abbrev pub has_stopped : {R : Type 0} → LogReader R → Bool
 has_stopped reader = reader.progress.is_stopped
 
--- what is still to come from a reader, where bytes are told
+-- what is still to come from a reader, where the bytes to come are modelled
 abbrev pub log_to_come : {R : Type 0} → (R → Option (List ℕ)) → LogReader R → Option Log
 log_to_come coming reader = log_at (lines_behind reader) (text coming reader)
 
@@ -65,44 +66,59 @@ abbrev pub is_refused : {A : Type 0} → Result A LogError → Bool
 is_refused (Ok x) = false
 is_refused (Err e) = not (is_read e.code)
 
--- how a call moves a reader on
-pub record Moves {R A : Type 0} (coming : R → Option (List ℕ)) (broken at_end : R → Bool)
-    (old new : LogReader R) (result : Result A LogError) : Type 0 where
-  -- the code Read only where the source failed; every other outcome leaves its mark
-  pub failed : is_unreadable result ≡ true → broken (source_of new) ≡ true
-  pub marks : is_unreadable result ≡ false → broken (source_of new) ≡ broken (source_of old)
-  -- the lines behind are those that were passed, and an error is at the line after them
-  pub passed : is_refused result ≡ false →
-      PassesLines (text coming old) (lines_behind old) (text coming new) (lines_behind new)
-  pub here : IfErr result (λ e. e.line ≡ lines_behind new + 1)
-  pub stopped : has_stopped new ≡ is_err result
-  -- past its end the source stays as it is
-  pub unpulled : at_end (source_of old) ≡ true → source_of new ≡ source_of old
-
--- what a call of `next` answers, seen by view and number, and leaves
-pub record Leaves {R X : Type 0} (coming : R → Option (List ℕ)) (broken at_end : R → Bool)
-    (view : X → Capture) (number : X → ℕ) (old new : LogReader R)
-    (result : Result (Option X) LogError) : Type 0 where
+-- what a call answers of the log to come, each record seen by view and number, and the lines behind
+-- the reader then
+pub record Answers {R X : Type 0} (given : R → List ℕ) (at_end : R → Bool) (view : X → Capture)
+    (number : X → ℕ) (old new : LogReader R) (result : Result (Option X) LogError) : Type 0 where
   -- the next record of the log to come, or its end or fault
   pub gives : has_stopped old ≡ false →
-      Gives view number (log_to_come coming old) (log_to_come coming new) result
-  pub moves : Moves coming broken at_end old new result
-  -- after an error there is none but Ended, at the same line, and the source stays as it
-  -- is
-  pub ended : has_stopped old ≡ true →
-      (result ≡ Err (record { code = Ended; line = lines_behind old + 1 }))
-      × (lines_behind new ≡ lines_behind old)
-      × (source_of new ≡ source_of old)
-  -- None only where the source has come to its end, and for good
-  pub over : result ≡ Ok None → IsOver at_end new
-  pub stays_over : has_stopped old ≡ false → IsOver at_end old →
-      (result ≡ Ok None) × IsOver at_end new
+      OfWhole given at_end (source_of new) (λ coming.
+      Gives view number (log_to_come coming old) (log_to_come coming new) result)
+  -- the lines behind are those that were passed, and an error is at the line after them
+  pub passed : is_refused result ≡ false →
+      OfWhole given at_end (source_of new) (λ coming.
+      PassesLines (text coming old) (lines_behind old) (text coming new) (lines_behind new))
+  pub here : IfErr result (λ e. e.line ≡ lines_behind new + 1)
   -- a record is of a line behind it, and each call has a later one
   pub onward : IfOk result (λ found. IfSome found (λ x.
       (lines_behind old + 1 ≤ lines_behind new) × (number x ≡ lines_behind new)))
   pub few : lines_behind new ≤ MOST_LINES
-  -- where each line that the call asked for was ready the source stays as it is, and the lines
-  -- after them are ready still
+  -- after an error there is none but Ended, at the same line
+  pub ended : has_stopped old ≡ true →
+      (result ≡ Err (record { code = Ended; line = lines_behind old + 1 }))
+      × (lines_behind new ≡ lines_behind old)
+
+-- what a call leaves of the marks of the source and the reader
+pub record KeepsMarks {R A : Type 0} (broken at_end : R → Bool) (old new : LogReader R)
+    (result : Result (Option A) LogError) : Type 0 where
+  -- the code Read only where the source failed; every other outcome leaves its mark
+  pub failed : is_unreadable result ≡ true → broken (source_of new) ≡ true
+  pub marks : is_unreadable result ≡ false → broken (source_of new) ≡ broken (source_of old)
+  -- an error is the last answer
+  pub stopped : has_stopped new ≡ is_err result
+  -- None only where the source has come to its end, and for good
+  pub over : result ≡ Ok None → IsOver at_end new
+  pub stays_over : has_stopped old ≡ false → IsOver at_end old →
+      (result ≡ Ok None) × IsOver at_end new
+
+-- what a call pulls
+pub record Pulls {R X : Type 0} (given : R → List ℕ) (coming : R → Option (List ℕ))
+    (at_end : R → Bool) (number : X → ℕ) (old new : LogReader R)
+    (result : Result (Option X) LogError) : Type 0 where
+  -- the source went on
+  pub went : Went given coming at_end (source_of old) (source_of new)
+  -- past its end, and after an error, it stays as it is
+  pub unpulled : at_end (source_of old) ≡ true → source_of new ≡ source_of old
+  pub rests : has_stopped old ≡ true → source_of new ≡ source_of old
+  -- and where each line that the call asked for was ready; then the lines after them are ready still
   pub ready : line_asked number new result ≤ last_ready old → source_of new ≡ source_of old
   pub still_ready : line_asked number new result ≤ last_ready old →
       OnOk result (last_ready new ≡ last_ready old)
+
+-- what a call of `next` answers, each record seen by view and number, and leaves
+pub record Leaves {R X : Type 0} (given : R → List ℕ) (coming : R → Option (List ℕ))
+    (broken at_end : R → Bool) (view : X → Capture) (number : X → ℕ) (old new : LogReader R)
+    (result : Result (Option X) LogError) : Type 0 where
+  pub answers : Answers given at_end view number old new result
+  pub marks : KeepsMarks broken at_end old new result
+  pub pulls : Pulls given coming at_end number old new result

@@ -40,11 +40,11 @@ log_of n (line ∷ rest) =
     if nat_le MOST_LINES n then faulty_log (record { line = n + 1; code = TooManyLines })
     else with_line (n + 1) (judge line) (log_of (n + 1) rest)
 
--- what the lines of a text after n others have, where the text is told
+-- what the lines of a text after n others have, where the text is modelled
 abbrev pub log_at : ℕ → Option (List ℕ) → Option Log
 log_at n t = option_map (λ t. log_of n (lines_of t)) t
 
--- what a whole text has, where it is told
+-- what a whole text has, where it is modelled
 abbrev pub log_in : Option (List ℕ) → Option Log
 log_in t = log_at 0 t
 
@@ -53,7 +53,7 @@ abbrev pub IfElse : Bool → Type 0 → Type 0 → Type 0
 IfElse true p q = p
 IfElse false p q = q
 
--- what a call takes off a log, where it is told: its first record, or its end or fault, or nothing
+-- what a call takes off a log, where it is modelled: its first record, or its end or fault, or nothing
 -- where the source failed
 abbrev pub Gives : {X : Type 0} → (X → Capture) → (X → ℕ) → Option Log → Option Log →
     Result (Option X) LogError → Type 0
@@ -65,7 +65,7 @@ Gives view number (Some log) new (Ok (Some x)) =
 Gives view number (Some log) new (Err e) =
     IfElse (is_read e.code) (new ≡ Some log) (log ≡ faulty_log e)
 
--- nothing was taken off a log, where it is told
+-- nothing was taken off a log, where it is modelled
 abbrev pub SameLog : Option Log → Option Log → Type 0
 SameLog None new = Unit {0}
 SameLog (Some log) new = new ≡ Some log

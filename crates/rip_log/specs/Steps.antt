@@ -1,7 +1,9 @@
 -- What one line does to a reader, and the record that is found in it.
-use Rattle.std.specs.Prelude.{◌≡◌, ◌+◌, ◌<◌, ℕ, Bool, true, List, Option, Some, None, Result, Ok, Err, vec_len}
+use Rattle.std.specs.Prelude.{◌≡◌, ◌+◌, ◌<◌, ℕ, Bool, true, false, List, Option, Some, None, Result, Ok, Err, IfErr, is_err, vec_len}
 use Rattle.rip_log.specs.Held.{held, ready_lines}
-use Rattle.rip_log.specs.Leaves.{source_of, log_to_come, lines_behind, last_ready}
+use Rattle.rip_log.specs.Cuts.{PassesLines}
+use Rattle.rip_log.specs.Leaves.{source_of, log_to_come, lines_behind, last_ready, text, has_stopped, is_refused, is_unreadable}
+use Rattle.rip_log.specs.Wholes.{OfWhole, Went}
 use Rattle.rip_log.specs.Lines.{Capture}
 use Rattle.rip_log.specs.Logs.{Gives, SameLog}
 use Rattle.rip_log.specs.Parts.{AreParts, capture_of_parts}
@@ -34,18 +36,37 @@ GivesFound coming old new result =
 
 -- one line was taken off the log to come: it said nothing, or it is the next record, or there is
 -- none
-abbrev pub LineSays : {R : Type 0} → (R → Option (List ℕ)) → (R → Bool) →
+abbrev pub LineSays : {R : Type 0} → (R → Option (List ℕ)) →
     LogReader R → LogReader R → Result Step LogError → Type 0
-LineSays coming at_end old new (Ok Skipped) =
+LineSays coming old new (Ok Skipped) =
     SameLog (log_to_come coming old) (log_to_come coming new)
-    × (lines_behind new ≡ lines_behind old + 1)
-LineSays coming at_end old new (Ok (Found found)) =
-    GivesFound coming old new (Ok (Some found))
-    × IsGood new found
-    × (lines_behind new ≡ lines_behind old + 1)
-LineSays coming at_end old new (Ok End) =
-    GivesFound coming old new (Ok None) × (at_end (source_of new) ≡ true)
-LineSays coming at_end old new (Err e) = GivesFound coming old new (Err e)
+LineSays coming old new (Ok (Found found)) = GivesFound coming old new (Ok (Some found))
+LineSays coming old new (Ok End) = GivesFound coming old new (Ok None)
+LineSays coming old new (Err e) = GivesFound coming old new (Err e)
+
+-- a record that was found lies in the reader
+abbrev pub FoundIsGood : {R : Type 0} → LogReader R → Result Step LogError → Type 0
+FoundIsGood new (Ok Skipped) = Unit {0}
+FoundIsGood new (Ok (Found found)) = IsGood new found
+FoundIsGood new (Ok End) = Unit {0}
+FoundIsGood new (Err e) = Unit {0}
+
+-- how a line moves a reader on
+pub record Moves {R A : Type 0} (given : R → List ℕ) (coming : R → Option (List ℕ))
+    (broken at_end : R → Bool) (old new : LogReader R) (result : Result A LogError) : Type 0 where
+  -- the source went on
+  pub went : Went given coming at_end (source_of old) (source_of new)
+  -- the code Read only where the source failed; every other outcome leaves its mark
+  pub failed : is_unreadable result ≡ true → broken (source_of new) ≡ true
+  pub marks : is_unreadable result ≡ false → broken (source_of new) ≡ broken (source_of old)
+  -- the lines behind are those that were passed, and an error is at the line after them
+  pub passed : is_refused result ≡ false →
+      OfWhole given at_end (source_of new) (λ coming.
+      PassesLines (text coming old) (lines_behind old) (text coming new) (lines_behind new))
+  pub here : IfErr result (λ e. e.line ≡ lines_behind new + 1)
+  pub stopped : has_stopped new ≡ is_err result
+  -- past its end the source stays as it is
+  pub unpulled : at_end (source_of old) ≡ true → source_of new ≡ source_of old
 
 -- how many lines a step takes
 abbrev pub lines_taken : Result Step LogError → ℕ

@@ -1,6 +1,6 @@
 //! The records of a log, one after the other.
 
-ghost use Rattle.std.specs.Prelude.{◌≡◌, ◌≢◌, ◌+◌, ◌≤◌, ◌<◌, true, false, length, IfErr, IfOk, IfSome};
+ghost use Rattle.std.specs.Prelude.{◌≡◌, ◌≢◌, ◌+◌, ◌≤◌, ◌<◌, ℕ, List, Option, true, false, length, IfErr, IfOk, IfSome};
 ghost use Rattle.std.specs.Borrow.{sem};
 ghost use Rattle.std.specs.Io.BufRead.{Rests};
 ghost use Rattle.rip_wire.specs.Name.{is_name};
@@ -86,10 +86,11 @@ pub struct LogReader<R> {
 
 impl<R: Source> LogReader<R> {
     ghost use Rattle.rip_log.specs.contracts.reader.LogReader.{the_row};
-    ghost use Rattle.rip_log.specs.Leaves.{IsOver, Leaves, Moves, capture_of, has_stopped, line_of, lines_behind, log_to_come, source_of, text};
+    ghost use Rattle.rip_log.specs.Leaves.{IsOver, Leaves, capture_of, has_stopped, line_of, lines_behind, log_to_come, source_of, text};
     ghost use Rattle.rip_log.specs.Logs.{log_in};
-    ghost use Rattle.rip_log.specs.Steps.{IsGood, LineSays, StepsOn, capture_at};
+    ghost use Rattle.rip_log.specs.Steps.{FoundIsGood, IsGood, LineSays, Moves, StepsOn, capture_at};
     ghost use Rattle.rip_log.specs.Held.{held};
+    ghost use Rattle.rip_log.specs.Wholes.{OfWhole};
 
     /// The error at the line that is being read. From now on there are no more records.
     fn stop(&mut self, code: LogCode) -> LogError
@@ -112,8 +113,10 @@ impl<R: Source> LogReader<R> {
         requires running { has_stopped self.old ≡ false }
         requires few { lines_behind self.old < MOST_LINES }
         requires held { 0 < length (held self.old.window) }
-        ensures says { LineSays R.coming R.at_end self.old self.new result }
-        ensures moves { Moves R.coming R.broken R.at_end self.old self.new result }
+        ensures says { OfWhole R.given R.at_end (source_of self.new) (λ coming.
+            LineSays coming self.old self.new result) }
+        ensures good { FoundIsGood self.new result }
+        ensures moves { Moves R.given R.coming R.broken R.at_end self.old self.new result }
         ensures steps { StepsOn self.old self.new result }
         ensures some { result ≢ Ok Step.End }
     {
@@ -138,8 +141,10 @@ impl<R: Source> LogReader<R> {
     /// Takes the next line, if there is one.
     fn step(&mut self) -> Result<Step, LogError>
         requires { has_stopped self.old ≡ false }
-        ensures says { LineSays R.coming R.at_end self.old self.new result }
-        ensures moves { Moves R.coming R.broken R.at_end self.old self.new result }
+        ensures says { OfWhole R.given R.at_end (source_of self.new) (λ coming.
+            LineSays coming self.old self.new result) }
+        ensures good { FoundIsGood self.new result }
+        ensures moves { Moves R.given R.coming R.broken R.at_end self.old self.new result }
         ensures steps { StepsOn self.old self.new result }
         ensures over { result ≡ Ok Step.End → IsOver R.at_end self.new }
         ensures stays_over { IsOver R.at_end self.old → result ≡ Ok Step.End }
@@ -158,7 +163,7 @@ impl<R: Source> LogReader<R> {
     /// Reads up to the next record, and says where it lies.
     #[tactic(auto, using(crate::proofs::PassLemmas::passes_trans))]
     fn advance(&mut self) -> Result<Option<FoundRecord>, LogError>
-        ensures leaves { Leaves R.coming R.broken R.at_end
+        ensures leaves { Leaves R.given R.coming R.broken R.at_end
             (capture_at self.new) (λ _. lines_behind self.new) self.old self.new result }
         ensures good { IfOk result (λ found. IfSome found (IsGood self.new)) }
     {
@@ -166,10 +171,11 @@ impl<R: Source> LogReader<R> {
             return Err(self.stop(LogCode::Ended));
         }
         'lines: loop {
-            match self.step()? {
-                Step::Skipped => {}
-                Step::Found(found) => return Ok(Some(found)),
-                Step::End => return Ok(None),
+            match self.step() {
+                Ok(Step::Skipped) => {}
+                Ok(Step::Found(found)) => return Ok(Some(found)),
+                Ok(Step::End) => return Ok(None),
+                Err(error) => return Err(error),
             }
         }
     }
@@ -193,8 +199,10 @@ impl<R: Source> LogReader<R> {
     /// nothing yet. Where there is none, the error is Memory at line 0, and the source comes back.
     pub fn new(alloc: Global, source: R) -> Result<LogReader<R>, (LogError, R)>
         ensures source { IfOk result (λ r. source_of r ≡ source) }
-        ensures text { IfOk result (λ r. text R.coming r ≡ R.coming source) }
-        ensures to_come { IfOk result (λ r. log_to_come R.coming r ≡ log_in (R.coming source)) }
+        ensures text { IfOk result (λ r. (coming : R → Option (List ℕ)) →
+            text coming r ≡ coming source) }
+        ensures to_come { IfOk result (λ r. (coming : R → Option (List ℕ)) →
+            log_to_come coming r ≡ log_in (coming source)) }
         ensures front { IfOk result (λ r. (lines_behind r ≡ 0) × (has_stopped r ≡ false)) }
         ensures refused { IfErr result
             (λ e. (e.1 ≡ source) × (e.0 ≡ record { code = LogCode.Memory; line = 0 })) }
@@ -223,8 +231,9 @@ impl<R: Source> LogReader<R> {
     /// line was read; after an error each call answers Ended at the same line. It pulls nothing where it
     /// holds each line that it comes to: whole, or more bytes of it than a line may have.
     pub fn next(&mut self) -> Result<Option<Record<'_>>, LogError>
-        ensures* leaves { sem 𝓛 (Rests (the_row R.row) self.entry
-            (λ new. Leaves R.coming R.broken R.at_end capture_of line_of self.old new result)) }
+        // Once the record that it lends is let go, the reader is as `Leaves` says.
+        ensures* leaves { sem 𝓛 (Rests (the_row R.row) self.entry (λ new.
+            Leaves R.given R.coming R.broken R.at_end capture_of line_of self.old new result)) }
     {
         match self.advance() {
             Err(error) => Err(error),

@@ -1,17 +1,23 @@
 //! Devices that take bytes, and keep a mark of their failure.
 
-ghost use Rattle.std.specs.Prelude.{◌≡◌, ◌<◌, ℕ, List, Bool, Option, false, length, true, IfOk, IsErr, is_err};
+ghost use Rattle.std.specs.Prelude.{◌≡◌, ◌<◌, ℕ, List, [], Bool, Option, false, length, true, IfOk, IsErr, is_err};
 ghost use Rattle.std.specs.Io.{WritesAtMost};
 ghost use Rattle.std.specs.Io.KnownBytes.{WriteAppends};
+ghost use Rattle.rip_log.specs.Gave.{Gave};
+ghost use Rattle.rip_log.specs.Marks.{is_written};
 
 use crate::device::Failed;
+use crate::noted_writer::NotedWriter;
 use std::io::Write;
 
 /// A device that takes bytes. Once it has failed it takes no more, and what lies beneath it is left
 /// alone.
 pub trait Sink {
-    // The bytes that it has taken, where they are told.
-    ghost taken: { Self → Option (List ℕ) };
+    // The bytes that it has taken.
+    ghost taken: { Self → List ℕ };
+
+    // The bytes that what lies beneath it holds, where they are modelled.
+    ghost holds: { Self → Option (List ℕ) };
 
     // Whether it has failed.
     ghost broken: { Self → Bool };
@@ -20,8 +26,10 @@ pub trait Sink {
     /// one. An error says that the device has failed, then or before.
     fn push(&mut self, bytes: &[u8]) -> Result<usize, Failed>
         ensures bound { WritesAtMost result bytes.now }
-        // It appends the bytes that it took, and none where it fails.
-        ensures bytes { WriteAppends (taken self.old) (taken self.new) result bytes.now }
+        // The bytes that it took follow those that it had taken. Where it fails, it took none.
+        ensures took { Gave (taken self.old) (taken self.new) result bytes.now }
+        // They went to what lies beneath, where that is modelled.
+        ensures bytes { WriteAppends (holds self.old) (holds self.new) result bytes.now }
         ensures some { 0 < length bytes.now → IfOk result (λ n. 0 < n) }
 
         // An error comes exactly where the device has failed, then or before.
@@ -37,48 +45,80 @@ pub trait Sink {
 }
 
 /// A sink over a writer. Any error of the writer is a failure, an interruption too, and so is a
-/// write that takes nothing.
+/// write that takes nothing. What each write came to is noted, for proofs alone.
 #[derive(Drop)]
 pub struct IntoWrite<W> {
-    writer: W,
+    noted: NotedWriter<W>,
     failed: bool,
+    ghost marked: { is_written failed noted.history.outcomes ≡ true },
 }
 
 impl<W: Write> IntoWrite<W> {
-    ghost use Rattle.rip_log.specs.Writers.{has_failed, writer_of};
+    ghost use Rattle.std.specs.Prelude.{[]};
+    ghost use Rattle.rip_log.specs.Marks.{takes_none};
+    ghost use Rattle.rip_log.specs.Outcomes.{AllMoved, EndIn};
+    ghost use Rattle.rip_log.specs.Writers.{has_failed, writer_of, writes_of};
 
-    /// A sink over a writer that has not failed yet.
+    /// A sink over a writer that was not asked yet.
     pub fn new(writer: W) -> IntoWrite<W>
         ensures writer { writer_of result ≡ writer }
+        ensures writes { writes_of result ≡ [] }
         ensures unbroken { has_failed result ≡ false }
     {
         IntoWrite {
-            writer,
+            noted: NotedWriter::new(writer),
             failed: false,
         }
+    }
+
+    /// What its writes came to: each took some bytes, but for the last one where the sink has failed,
+    /// which failed or took none. Does nothing.
+    pub fn lawful(&self)
+        ensures open { has_failed self.now ≡ false → AllMoved (writes_of self.now) }
+        ensures failed { has_failed self.now ≡ true → EndIn takes_none (writes_of self.now) }
+    {
+        let _ = &self.failed;
     }
 
     /// The writer, as it stands.
     pub fn into_writer(self) -> W
         ensures { result ≡ writer_of self }
     {
-        self.writer
+        self.noted.writer
     }
 }
 
 impl<W: Write> Sink for IntoWrite<W> {
-    ghost taken = { λ s. W.contents s.writer };
+    ghost use Rattle.rip_log.specs.Outcomes.{AtMostOnce};
+    ghost use Rattle.rip_log.specs.Writers.{has_failed, held_by, taken_by, writes_of};
 
-    ghost broken = { λ s. s.failed };
+    ghost taken = { taken_by };
 
-    fn push(&mut self, bytes: &[u8]) -> Result<usize, Failed> {
+    ghost holds = { held_by W.contents };
+
+    ghost broken = { has_failed };
+
+    fn push(&mut self, bytes: &[u8]) -> Result<usize, Failed>
+        // It writes at most once.
+        ensures once { AtMostOnce (writes_of self.old) (writes_of self.new) }
+
+        // As every sink.
+        ensures bound { WritesAtMost result bytes.now }
+        ensures took { Gave (taken_by self.old) (taken_by self.new) result bytes.now }
+        ensures bytes { WriteAppends (held_by W.contents self.old) (held_by W.contents self.new)
+            result bytes.now }
+        ensures some { 0 < length bytes.now → IfOk result (λ n. 0 < n) }
+        ensures failed { is_err result ≡ has_failed self.new }
+        ensures fails_on { has_failed self.old ≡ true → has_failed self.new ≡ true }
+        ensures rests_failed { has_failed self.old ≡ true → self.new ≡ self.old }
+    {
         if self.failed {
             return Err(Failed);
         }
         if bytes.is_empty() {
             return Ok(0);
         }
-        match self.writer.write(bytes) {
+        match self.noted.write(bytes) {
             Ok(count) if count > 0 => Ok(count),
             _ => {
                 self.failed = true;

@@ -1,7 +1,8 @@
 //! The bytes between a source and its lines.
 
-ghost use Rattle.std.specs.Prelude.{◌≡◌, ◌+◌, ◌<◌, ◌≤◌, ◌↔◌, [], true, false, Ok, length, take, drop, is_err, vec_len, IfOk, IfErr, OnOk, OnErr, MatchOption};
-ghost use Rattle.std.specs.Io.KnownBytes.{Keeps, Consumes};
+ghost use Rattle.std.specs.Prelude.{◌≡◌, ◌+◌, ◌<◌, ◌≤◌, ◌↔◌, ◌++◌, [], true, false, Ok, length, take, drop, is_err, vec_len, IfOk, IfErr, OnOk, OnErr, MatchOption};
+ghost use Rattle.std.specs.Io.KnownBytes.{Keeps};
+ghost use Rattle.rip_log.specs.Wholes.{OfWhole, Went};
 ghost use Rattle.rip_log.specs.declared.window.TheConstants.{BUFFER_LEN};
 
 use crate::device::Failed;
@@ -47,9 +48,10 @@ fn pull_behind<R: Source>(source: &mut R, buffer: &mut Vec<u8>, len: usize) -> R
     ensures size { vec_len buffer.new ≡ vec_len buffer.old }
     ensures front { take len buffer.new.items ≡ take len buffer.old.items }
     ensures bound { IfOk result (λ n. len + n ≤ vec_len buffer.new) }
-    ensures ok { IfOk result (λ n. Consumes (R.coming source.old) (R.coming source.new)
-        (take n (drop len buffer.new.items))) }
-    ensures err { OnErr result (Keeps (R.coming source.old) (R.coming source.new)) }
+    ensures ok { IfOk result (λ n.
+        R.given source.new ≡ R.given source.old ++ take n (drop len buffer.new.items)) }
+    ensures err { OnErr result (R.given source.new ≡ R.given source.old) }
+    ensures went { Went R.given R.coming R.at_end source.old source.new }
     ensures failed { is_err result ≡ R.broken source.new }
     ensures fails_on { R.broken source.old ≡ true → R.broken source.new ≡ true }
     ensures ended { R.at_end source.new ≡ true ↔ result ≡ Ok 0 }
@@ -103,7 +105,9 @@ impl<R: Source> Window<R> {
     /// Pulls once behind what is held, and answers how many bytes came.
     fn refill(&mut self) -> Result<usize, Failed>
         requires { length (held self.old) ≤ MOST_LINE_BYTES }
-        ensures text { Keeps (text R.coming self.old) (text R.coming self.new) }
+        ensures text { OfWhole R.given R.at_end self.new.source (λ coming.
+            Keeps (text coming self.old) (text coming self.new)) }
+        ensures went { Went R.given R.coming R.at_end self.old.source self.new.source }
         ensures held { take (length (held self.old)) (held self.new) ≡ held self.old }
         ensures more { IfOk result (λ n. length (held self.new) ≡ length (held self.old) + n) }
         ensures err { OnErr result (held self.new ≡ held self.old) }
@@ -127,8 +131,11 @@ impl<R: Source> Window<R> {
 
     /// Whether there is another line. Pulls at most once, and only where nothing is held.
     pub fn has_line(&mut self) -> Result<bool, Failed>
-        ensures text { Keeps (text R.coming self.old) (text R.coming self.new) }
-        ensures some { IfOk result (HasLine (text R.coming self.new)) }
+        ensures text { OfWhole R.given R.at_end self.new.source (λ coming.
+            Keeps (text coming self.old) (text coming self.new)) }
+        ensures went { Went R.given R.coming R.at_end self.old.source self.new.source }
+        ensures some { IfOk result (λ some. OfWhole R.given R.at_end self.new.source (λ coming.
+            HasLine (text coming self.new) some)) }
         ensures at_end { result ≡ Ok false →
             (held self.new ≡ []) × (R.at_end self.new.source ≡ true) }
         ensures stays { held self.old ≡ [] → R.at_end self.old.source ≡ true →
@@ -166,7 +173,9 @@ impl<R: Source> Window<R> {
 
     /// Pulls until the end of the first line is known, or that it is too long.
     fn find_end(&mut self) -> Result<LineEnd, Failed>
-        ensures text { Keeps (text R.coming self.old) (text R.coming self.new) }
+        ensures text { OfWhole R.given R.at_end self.new.source (λ coming.
+            Keeps (text coming self.old) (text coming self.new)) }
+        ensures went { Went R.given R.coming R.at_end self.old.source self.new.source }
         ensures end { IfOk result (Ends (held self.new) (R.at_end self.new.source)) }
         ensures more { OnOk result (length (held self.old) ≤ length (held self.new)) }
         ensures ok { OnOk result (R.broken self.new.source ≡ R.broken self.old.source) }
@@ -197,9 +206,11 @@ impl<R: Source> Window<R> {
     /// is held, or more bytes than a line may have.
     pub fn take_line(&mut self) -> Result<RawLine, Failed>
         requires { 0 < length (held self.old) }
-        ensures cut { IfOk result
-            (Cuts (text R.coming self.old) (text R.coming self.new) self.new.buffer.items) }
-        ensures kept { OnErr result (Keeps (text R.coming self.old) (text R.coming self.new)) }
+        ensures cut { IfOk result (λ line. OfWhole R.given R.at_end self.new.source (λ coming.
+            Cuts (text coming self.old) (text coming self.new) self.new.buffer.items line)) }
+        ensures kept { OnErr result (OfWhole R.given R.at_end self.new.source (λ coming.
+            Keeps (text coming self.old) (text coming self.new))) }
+        ensures went { Went R.given R.coming R.at_end self.old.source self.new.source }
         ensures within { IfOk result (LiesWithin (vec_len self.new.buffer)) }
         ensures ok { OnOk result (R.broken self.new.source ≡ R.broken self.old.source) }
         ensures err { OnErr result (R.broken self.new.source ≡ true) }

@@ -11,7 +11,7 @@ use Rattle.std.proofs.lemmas.List.Sums.{sum_by_push}
 use Rattle.toml.specs.Data.{Data}
 use Rattle.rip_wire.specs.Address.{address_in}
 use Rattle.rip_wire.specs.Name.{IsName, is_name}
-use Rattle.rip_wire.specs.Prefix.{Block, IsBlock, prefix_in}
+use Rattle.rip_wire.specs.Prefix.{Block, IsBlock}
 use Rattle.rip_plan.specs.declared.draft.DraftInterface.{DraftInterface}
 use Rattle.rip_plan.specs.declared.draft.DraftPlace.{DraftPlace}
 use Rattle.rip_plan.specs.declared.parts.Seat.{Seat}
@@ -21,18 +21,13 @@ use Rattle.rip_plan.specs.Fields.{address_if}
 use Rattle.rip_plan.specs.Seats.{is_on}
 use Rattle.rip_plan.specs.Draft.{Sketch, prefix_step, link_step, interface_step, own_step, router_step, is_full, is_outside, has_address}
 use Rattle.rip_plan.specs.Names.{number_of_name}
-use Rattle.rip_plan.specs.PlanOf.{IsAddressOf, Matched}
+use Rattle.rip_plan.specs.PlanOf.{Matched}
 use Rattle.rip_plan.proofs.Binds.{steps_keep}
 use Rattle.rip_plan.proofs.Items.{or_false, all_none, all_push, all_weaker, distinct_push}
 use Rattle.rip_plan.proofs.StepsTaken.{with_link, with_router, prefix_taken, link_taken, interface_taken, own_taken, router_taken}
-use Rattle.rip_plan.proofs.Standing.{further}
-use Rattle.rip_plan.proofs.Tables.{addresses_are, cost_within, direct_within}
-
--- what is used of the laws of names, addresses and prefixes
-pub record TextLaws : Type 0 where
-  pub name : (text : List ℕ) → is_name text ≡ true → IsName text
-  pub address : (text : List ℕ) (a : ℕ) → address_in text ≡ Some a → a < 2 ^ 32
-  pub prefix : (text : List ℕ) (p : Block) → prefix_in text ≡ Some p → IsBlock p
+use Rattle.rip_plan.proofs.SpotsTaken.{further}
+use Rattle.rip_plan.proofs.Tables.{IsReadOf, addresses_read, cost_within, direct_within}
+use Rattle.rip_plan.proofs.Texts.{TextLaws, address_is, prefix_is}
 
 pub record IsFit (links routers : ℕ) (i : DraftInterface) : Type 0 where
   pub least : 1 ≤ i.interface.cost
@@ -105,13 +100,13 @@ gateway_fits laws (Some text) via h = by_address (address_in text) refl h
   where
     by_address : (o : Option ℕ) → address_in text ≡ o → option_map Some o ≡ Some via → IsFitGateway via
     by_address None e g = absurd (none-some via g)
-    by_address (Some a) e g = subst IsFitGateway (same_Some (Some a) via g) (laws.address text a e)
+    by_address (Some a) e g = subst IsFitGateway (same_Some (Some a) via g) (address_is laws text a e).0
 
-addresses_fit : (laws : TextLaws) (ds : List Data) (also : List ℕ) → Matched IsAddressOf also ds → AreAddresses also
+addresses_fit : (laws : TextLaws) (ds : List Data) (also : List ℕ) → Matched IsReadOf also ds → AreAddresses also
 addresses_fit laws [] [] m = tt
 addresses_fit laws [] (a ∷ also) m = absurd m
 addresses_fit laws (d ∷ ds) [] m = absurd m
-addresses_fit laws (d ∷ ds) (a ∷ also) (of, m) = (laws.address of.0 a of.2, addresses_fit laws ds also m)
+addresses_fit laws (d ∷ ds) (a ∷ also) (of, m) = ((address_is laws of.0 a of.2).0, addresses_fit laws ds also m)
 
 -- an own prefix is on no link
 outside_same : (l a : ℕ) (ps : List DraftPlace) (prefix : Block) (r c : ℕ) (kept : Bool) (link via : Option ℕ) (place : At) → is_outside l a ps ≡ false
@@ -167,7 +162,7 @@ prefix_keeps laws i j d s t some while h =
         interfaces = kept.interfaces;
         inside = all_none _ s.interfaces while.interfaces;
         places = all_push (IsFitPlace (length s.links) (length s.routers)) s.places added kept.places
-            (record { prefix = laws.prefix taken.text taken.prefix taken.parsed; seat = omega arith });
+            (record { prefix = (prefix_is laws taken.text taken.prefix taken.parsed).0; seat = omega arith });
         also = kept.also;
         also_listed = kept.also_listed;
         few_interfaces = kept.few_interfaces;
@@ -188,7 +183,7 @@ link_keeps laws n d s t now h =
     let more : length u.links ≡ length s.links + 1 = omega (arith, length-append s.links (taken.name ∷ [])) in
     let start : WhileLink n u = record {
       kept = record {
-        link_names = all_push IsName s.links taken.name kept.link_names (laws.name taken.name (is_named (is_name taken.name) taken.named));
+        link_names = all_push IsName s.links taken.name kept.link_names ((laws.name taken.name).0 (is_named (is_name taken.name) taken.named));
         links_differ = distinct_push bytes_eq s.links taken.name kept.links_differ taken.fresh;
         router_names = kept.router_names;
         routers_differ = kept.routers_differ;
@@ -243,13 +238,13 @@ interface_keeps laws links r j d s t some while h =
               most = costs.1;
               link = number_below taken.given.link s.links taken.link taken.known;
               router = omega arith;
-              address = laws.address taken.given.address taken.address taken.parsed;
+              address = (address_is laws taken.given.address taken.address taken.parsed).0;
               direct_least = directs.0;
               direct_most = directs.1;
             });
         inside = all_push (IsInsideOf s.places) s.interfaces added kept.inside taken.inside;
         places = kept.places;
-        also = all_push AreAddresses s.also taken.also kept.also (addresses_fit laws taken.given.also taken.also (addresses_are taken.given.also taken.also taken.others));
+        also = all_push AreAddresses s.also taken.also kept.also (addresses_fit laws taken.given.also taken.also (addresses_read taken.given.also taken.also taken.others));
         also_listed = omega (arith, kept.also_listed, length-append s.also (taken.also ∷ []), length-append s.interfaces (added ∷ []));
         few_interfaces = omega (arith, room.0, length-append s.interfaces (added ∷ []));
         few_also = omega (arith, room.1, sum_by_push length s.also taken.also);
@@ -277,7 +272,7 @@ own_keeps laws links r j d s t some while h =
         inside = all_weaker (IsInsideOf s.places) (IsInsideOf (s.places ++ added ∷ []))
             (λ i e. outside_same i.interface.link i.interface.address s.places taken.prefix (r - 1) taken.cost taken.given.kept taken.link taken.via added.at e) s.interfaces kept.inside;
         places = all_push (IsFitPlace (length s.links) (length s.routers)) s.places added kept.places
-            (record { prefix = laws.prefix taken.given.prefix taken.prefix taken.parsed; seat = (omega arith, costs.0, costs.1, gateway_fits laws taken.given.via taken.via taken.gateway) });
+            (record { prefix = (prefix_is laws taken.given.prefix taken.prefix taken.parsed).0; seat = (omega arith, costs.0, costs.1, gateway_fits laws taken.given.via taken.via taken.gateway) });
         also = kept.also;
         also_listed = kept.also_listed;
         few_interfaces = kept.few_interfaces;
@@ -299,7 +294,7 @@ router_keeps laws links n d s t now h =
       kept = record {
         link_names = kept.link_names;
         links_differ = kept.links_differ;
-        router_names = all_push IsName s.routers taken.name kept.router_names (laws.name taken.name (is_named (is_name taken.name) taken.named));
+        router_names = all_push IsName s.routers taken.name kept.router_names ((laws.name taken.name).0 (is_named (is_name taken.name) taken.named));
         routers_differ = distinct_push bytes_eq s.routers taken.name kept.routers_differ taken.fresh;
         interfaces = all_weaker (IsFit (length s.links) (length s.routers)) (IsFit (length s.links) (length u.routers))
             (λ i p. record { least = p.least; most = p.most; link = p.link; router = omega (arith, p.router, more); address = p.address; direct_least = p.direct_least; direct_most = p.direct_most }) s.interfaces kept.interfaces;

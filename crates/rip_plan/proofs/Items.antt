@@ -1,5 +1,5 @@
 -- The items of a list, by their numbers.
-use Rattle.std.proofs.Common.{◌≡◌, ℕ, zero, suc, ◌+◌, ◌<◌, ◌⊎◌, inl, inr, List, [], ◌∷◌, ◌++◌, length, map, Bool, true, false, cond, ◌&&◌, ◌||◌, Option, Some, None, refl, sym, ◌∙◌, ap, subst, arith}
+use Rattle.std.proofs.Common.{◌≡◌, ℕ, zero, suc, ◌+◌, ◌<◌, ◌⊎◌, inl, inr, List, [], ◌∷◌, ◌++◌, length, map, Bool, true, false, cond, ◌&&◌, ◌||◌, Option, Some, None, refl, sym, ◌∙◌, ap, subst, arith, ◌≤◌}
 use Rattle.std.specs.Option.{is_some}
 use Rattle.std.specs.Prelude.{slice_get}
 use Rattle.std.specs.List.{AllByRecursion, IsDistinct, list_any, position_from}
@@ -148,6 +148,18 @@ position_finds {A} test n (x ∷ xs) k h = by_head (test x) refl h (λ t. positi
         let found = later t in
         let at : k ≡ n + 1 + found.0 = found.2 in
         (suc found.0, found.1, omega arith, found.3, found.4)
+
+-- and no item before it passes
+pub position_first : {A : Type 0} (test : A → Bool) (n : ℕ) (xs : List A) (k : ℕ) → position_from test n xs ≡ Some k → (i : ℕ) (x : A) → slice_get xs i ≡ Some x → test x ≡ true → k ≤ n + i
+position_first test n [] k h i x at passes = absurd (none-some k h)
+position_first {A} test n (x ∷ xs) k h i y at passes = by_head (test x) refl h i at (λ t. position_first test (n + 1) xs k t)
+  where
+    by_head : (b : Bool) → test x ≡ b → cond b (Some n) (position_from test (n + 1) xs) ≡ Some k → (i : ℕ) → slice_get (x ∷ xs) i ≡ Some y
+        → (position_from test (n + 1) xs ≡ Some k → (j : ℕ) (z : A) → slice_get xs j ≡ Some z → test z ≡ true → k ≤ n + 1 + j)
+        → k ≤ n + i
+    by_head true e t i at later = let same : n ≡ k = same_Some n k t in omega arith
+    by_head false e t zero at later = let same : x ≡ y = same_Some x y at in absurd (let clash : false ≡ true = sym e ∙ ap test same ∙ passes in cc)
+    by_head false e t (suc j) at later = let le : k ≤ n + 1 + j = later t j y at passes in omega arith
 
 pub position_none : {A : Type 0} (test : A → Bool) (n : ℕ) (xs : List A) → position_from test n xs ≡ None → list_any test xs ≡ false
 position_none test n [] h = refl

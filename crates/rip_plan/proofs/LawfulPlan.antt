@@ -27,7 +27,8 @@ use Rattle.rip_plan.specs.Relations.{IsPrefix, IsInterface, IsConnected, HasAddr
 use Rattle.rip_plan.proofs.Binds.{steps_keep}
 use Rattle.rip_plan.proofs.Items.{both, or_false, all_at, any_at, any_finds, distinct_at, get_seen, see_got, get_some}
 use Rattle.rip_plan.proofs.StepsTaken.{DocumentTaken, text_taken}
-use Rattle.rip_plan.proofs.FirstPass.{AreAddresses, TextLaws, Kept, IsFit, IsFitPlace, IsFitSeat, IsInsideOf, BetweenLinks, BetweenRouters, link_keeps, router_keeps}
+use Rattle.rip_plan.proofs.Texts.{TextLaws}
+use Rattle.rip_plan.proofs.FirstPass.{AreAddresses, Kept, IsFit, IsFitPlace, IsFitSeat, IsInsideOf, BetweenLinks, BetweenRouters, link_keeps, router_keeps}
 use Rattle.rip_plan.proofs.Numbering.{numbers, same_from, same_self}
 use Rattle.rip_plan.proofs.Tables.{chosen}
 use Rattle.rip_plan.proofs.HeldAddresses.{address_held}

@@ -7,6 +7,7 @@ pub mod Below
 pub mod Binds
 pub mod StepsTaken
 pub mod Items
+pub mod Texts
 pub mod FirstPass
 pub mod Numbering
 pub mod SecondPasses
@@ -22,6 +23,7 @@ pub mod WithinPlan
 pub mod Matching
 pub mod EachOnce
 pub mod Tables
+pub mod DocumentTables
 pub mod PlanMatches
 pub mod OnePlan
 pub mod NoMemory
@@ -30,7 +32,7 @@ pub mod Finding
 pub mod Spots
 pub mod AlsoSpots
 pub mod FaultRows
-pub mod Standing
+pub mod SpotsTaken
 pub mod LinkFaults
 pub mod RouterFaults
 pub mod PassFaults

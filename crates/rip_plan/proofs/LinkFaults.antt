@@ -7,7 +7,7 @@ use Rattle.std.proofs.lemmas.List.{length-map}
 use Rattle.std.proofs.lemmas.Bool.Decides.{nat_tests}
 use Rattle.std.proofs.lemmas.Slice.Eq.{bytes_eq-Decides}
 use Rattle.toml.specs.Data.{Data, Members, string, get, as_str, as_table}
-use Rattle.rip_wire.specs.Name.{is_name, IsName}
+use Rattle.rip_wire.specs.Name.{is_name}
 use Rattle.rip_wire.specs.Prefix.{prefix_in}
 use Rattle.rip_plan.specs.declared.error.PlanCode.TheVariants as codes
 use Rattle.rip_plan.specs.declared.error.At.{At}
@@ -23,7 +23,7 @@ use Rattle.rip_plan.specs.PlanFaults.{nth, IsItem, IsMisnamed, IsNamedAgain, spo
 use Rattle.rip_plan.proofs.Finding.{Finds, no_rows, steps_finds}
 use Rattle.rip_plan.proofs.FaultRows.{by_code, IsTold, guard_told, want_told, prefix_from_limit, prefix_from_prefix, prefix_rows, prefix_starts, prefixes_rows, link_from_duplicate, link_from_name, link_rows, link_starts, links_rows, prefix_row_item, link_row_within}
 use Rattle.rip_plan.proofs.Spots.{nth_from, get_before, place_once, prefix_here, nth_here, item_once, count_of}
-use Rattle.rip_plan.proofs.Standing.{place_ats, links_stand, prefixes_stand}
+use Rattle.rip_plan.proofs.SpotsTaken.{place_ats, links_stand, prefixes_stand}
 use Rattle.rip_plan.proofs.Items.{any_at, any_finds, get_split}
 use Rattle.rip_plan.proofs.Tables.{text_is, link_table}
 use Rattle.rip_plan.proofs.Matching.{matched_left, matched_right}
@@ -31,15 +31,14 @@ use Rattle.rip_plan.proofs.OnePlan.{text_same}
 use Rattle.rip_plan.proofs.PlanMatches.{links_added}
 use Rattle.rip_plan.proofs.StepsTaken.{with_link}
 use Rattle.rip_plan.proofs.Lookups.{name_same}
-
--- names are tested by their form
-pub record NameLaws : Type 0 where
-  pub good : (text : List ℕ) → is_name text ≡ true → IsName text
-  pub tested : (text : List ℕ) → IsName text → is_name text ≡ true
+use Rattle.rip_plan.proofs.Texts.{TextLaws, prefix_is, no_prefix}
+use Rattle.rip_plan.specs.Texts.{IsPrefixText}
+use Rattle.rip_plan.specs.DocumentTables.{IsLinkTable, IsString}
+use Rattle.rip_plan.proofs.DocumentTables.{link_told, link_not, string_not}
 
 -- ---- names
 
-module _ (laws : NameLaws) (ds done : List Data) (d : Data) (rest : List Data) (split : ds ≡ done ++ d ∷ rest) where
+module _ (laws : TextLaws) (ds done : List Data) (d : Data) (rest : List Data) (split : ds ≡ done ++ d ∷ rest) where
   pub table_here : nth ds (1 + length done) ≡ Some d
   table_here = rw split (nth_here done d rest (1 + length done) refl)
 
@@ -47,7 +46,7 @@ module _ (laws : NameLaws) (ds done : List Data) (d : Data) (rest : List Data) (
   table_same e h = same_Some e d (sym h ∙ table_here)
 
   pub misnamed_told : (name : List ℕ) → IsNameOf name d → not (is_name name) ≡ true → IsMisnamed ds (1 + length done)
-  misnamed_told name named bad = (d, name, table_here, named, λ good. let tested : is_name name ≡ true = laws.tested name good in absurd (by_test (is_name name) tested bad))
+  misnamed_told name named bad = (d, name, table_here, named, λ good. let tested : is_name name ≡ true = (laws.name name).1 good in absurd (by_test (is_name name) tested bad))
     where
       by_test : (b : Bool) → b ≡ true → not b ≡ true → ⊥
       by_test true e f = cc
@@ -57,7 +56,7 @@ module _ (laws : NameLaws) (ds done : List Data) (d : Data) (rest : List Data) (
   misnamed_clear name named good (e, other, is, its, bad) =
       let same : e ≡ d = table_same e is in
       let one : other ≡ name = text_same (codes_of "name") d other name (subst (IsNameOf other) same its) named in
-      bad (laws.good other (by_test (is_name other) (ap (λ (t : List ℕ). not (is_name t)) one ∙ good)))
+      bad ((laws.name other).0 (by_test (is_name other) (ap (λ (t : List ℕ). not (is_name t)) one ∙ good)))
     where
       by_test : (b : Bool) → not b ≡ false → b ≡ true
       by_test true e' = refl
@@ -92,20 +91,20 @@ abbrev stood : List Data → List At
 stood done = spots_under (codes_of "prefixes") LinkPrefix 1 done
 
 module _ (document : Members) (links routers done : List Data) (d : Data) (rest : List Data) (split : links ≡ done ++ d ∷ rest) where
-  prefix_finds : (front : List Data) (x : Data) (back : List Data) (v : Sketch) → items_in (get (codes_of "prefixes") d) ≡ front ++ x ∷ back → length v.places ≡ length (stood done) + length front
+  prefix_finds : (laws : TextLaws) (front : List Data) (x : Data) (back : List Data) (v : Sketch) → items_in (get (codes_of "prefixes") d) ≡ front ++ x ∷ back → length v.places ≡ length (stood done) + length front
       → Finds (IsTold document links routers) (prefix_rows (1 + length done) (1 + length front)).has (prefix_step (1 + length done) (1 + length front) x v)
   unfolding prefix_step
-  prefix_finds front x back v items count =
+  prefix_finds laws front x back v items count =
       want_told document links routers codes.Key (LinkPrefix i j) (as_str x) (prefix_from_prefix i j) (by_code (LinkPrefix i j) codes.Key codes.Prefix refl (omega arith)) _
-      (λ none. (x, item, none))
-      (λ text is h. none-some text (sym h.2 ∙ ap as_str (item_once (codes_of "prefixes") links i j h.0 x h.1 item) ∙ is))
+      (λ none. (x, item, string_not x none))
+      (λ text is h. h.2 (subst IsString (sym (item_once (codes_of "prefixes") links i j h.0 x h.1 item)) (text, text_is x text is)))
       (λ text is.
       want_told document links routers codes.Prefix (LinkPrefix i j) (prefix_in text) (prefix_from_limit i j) (by_code (LinkPrefix i j) codes.Prefix codes.Limit refl (omega arith)) _
-      (λ none. (text, subst (IsItem (codes_of "prefixes") links i j) (text_is x text is) item, none))
+      (λ none. (text, subst (IsItem (codes_of "prefixes") links i j) (text_is x text is) item, no_prefix laws text none))
       (λ p parsed h.
       let same : string h.0 ≡ string text = item_once (codes_of "prefixes") links i j (string h.0) x h.1 item ∙ text_is x text is in
-      let one : h.0 ≡ text = cc in
-      none-some p (sym h.2 ∙ ap prefix_in one ∙ parsed))
+      let one : text ≡ h.0 = cc in
+      h.2 p (subst (λ (t : List ℕ). IsPrefixText t p) one (prefix_is laws text p parsed)))
       (λ p parsed.
       guard_told document links routers (nat_le 1024 (length v.places)) codes.Limit (LinkPrefix i j) (no_rows (1 ∷ [])) (inl (omega arith)) _
       (λ full. (length v.places, here, grind (arith, nat_tests)))
@@ -130,16 +129,16 @@ module _ (document : Members) (links routers done : List Data) (d : Data) (rest 
   at_count : (u : Sketch) (spots : List At) → place_ats u ≡ spots → length u.places ≡ length spots
   at_count u spots h = sym (length-map u.places (λ (p : DraftPlace). p.at)) ∙ ap length h
 
-  prefixes_find : (u : Sketch) (name : List ℕ) → steps link_step 1 done empty ≡ Ok u → (all : List Data) → items_in (get (codes_of "prefixes") d) ≡ all
+  prefixes_find : (laws : TextLaws) (u : Sketch) (name : List ℕ) → steps link_step 1 done empty ≡ Ok u → (all : List Data) → items_in (get (codes_of "prefixes") d) ≡ all
       → Finds (IsTold document links routers) (prefixes_rows (1 + length done)).has (steps (prefix_step (1 + length done)) 1 all (with_link name u))
-  prefixes_find u name taken all items =
+  prefixes_find laws u name taken all items =
       steps_finds (IsTold document links routers) (prefix_step i) (λ j. (prefix_rows i j).has) (0 ∷ 1 ∷ i ∷ 1 ∷ []) (prefix_starts i) all (with_link name u)
       (λ front x back v parts steps_taken.
       let before = links_stand 1 done empty u taken in
       let inner = prefixes_stand i 1 front (with_link name u) v steps_taken in
       let one : length u.places ≡ length (stood done) = at_count u (stood done) before.places in
       let two : length v.places ≡ length (place_ats u ++ spots_of (LinkPrefix i) 1 front) = at_count v (place_ats u ++ spots_of (LinkPrefix i) 1 front) inner.places in
-      prefix_finds front x back v (items ∙ parts)
+      prefix_finds laws front x back v (items ∙ parts)
       (omega (arith, one, two, length-append (place_ats u) (spots_of (LinkPrefix i) 1 front), count_of (LinkPrefix i) 1 front, length-map u.places (λ (p : DraftPlace). p.at))))
       (λ m o past row f.
       let (x, (e, is, item)) = prefix_row_item document links routers i m o row f in
@@ -151,16 +150,16 @@ module _ (document : Members) (links routers done : List Data) (d : Data) (rest 
       i : ℕ
       i = 1 + length done
 
-  link_finds : (laws : NameLaws) (u : Sketch) → steps link_step 1 done empty ≡ Ok u → Finds (IsTold document links routers) (link_rows (1 + length done)).has (link_step (1 + length done) d u)
+  link_finds : (laws : TextLaws) (u : Sketch) → steps link_step 1 done empty ≡ Ok u → Finds (IsTold document links routers) (link_rows (1 + length done)).has (link_step (1 + length done) d u)
   unfolding link_step
   link_finds laws u taken =
       let i : ℕ = 1 + length done in
-      let added = links_added 0 done empty u taken in
+      let added = links_added laws 0 done empty u taken in
       let names : u.links ≡ added.names = ap (λ (v : Sketch). v.links) added.made in
       let named : Matched IsNameOf u.links done = subst (λ (l : List (List ℕ)). Matched IsNameOf l done) (sym names) added.named in
       want_told document links routers codes.Key (Link i) (as_table d &> link_fields) (link_from_name i) (by_code (Link i) codes.Key codes.Name refl (omega arith)) _
-      (λ none. (d, table_here laws links done d rest split, none))
-      (λ f is h. none-some f (sym h.2 ∙ ap (λ (t : Data). as_table t &> link_fields) (table_same laws links done d rest split h.0 h.1) ∙ is))
+      (λ none. (d, table_here laws links done d rest split, link_not d none))
+      (λ f is h. h.2 (subst IsLinkTable (sym (table_same laws links done d rest split h.0 h.1)) (link_told d f is)))
       (λ f is.
       let table = link_table d f.0 f.1 is in
       guard_told document links routers (not (is_name f.0)) codes.Name (Link i) (link_from_duplicate i) (by_code (Link i) codes.Name codes.DuplicateName refl (omega arith)) _
@@ -170,9 +169,9 @@ module _ (document : Members) (links routers done : List Data) (d : Data) (rest 
       guard_told document links routers (is_one_of f.0 u.links) codes.DuplicateName (Link i) (prefixes_rows i) (inr (refl, inr (refl, inr (refl, inl (omega arith))))) _
       (λ again. again_told laws links done d rest split u.links named f.0 table.named again)
       (λ fresh h. again_clear laws links done d rest split u.links named f.0 table.named fresh h)
-      (λ fresh. prefixes_find u f.0 taken f.1 table.prefixes_are)))
+      (λ fresh. prefixes_find laws u f.0 taken f.1 table.prefixes_are)))
 
-pub links_find : (laws : NameLaws) (document : Members) (links routers : List Data) → Finds (IsTold document links routers) links_rows.has (steps link_step 1 links empty)
+pub links_find : (laws : TextLaws) (document : Members) (links routers : List Data) → Finds (IsTold document links routers) links_rows.has (steps link_step 1 links empty)
 links_find laws document links routers =
     steps_finds (IsTold document links routers) link_step (λ i. (link_rows i).has) (0 ∷ 1 ∷ []) link_starts links empty
     (λ done x rest u split taken. link_finds document links routers done x rest split laws u taken)

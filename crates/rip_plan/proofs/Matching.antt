@@ -31,6 +31,12 @@ pub map_append : {A B : Type 0} (see : A → B) (xs ys : List A) → map see (xs
 map_append see [] ys = refl
 map_append {A} {B} see (x ∷ xs) ys = ap (λ (l : List B). see x ∷ l) (map_append see xs ys)
 
+pub matched_weaker : {A B : Type 0} (R S : A → B → Type 0) → ((x : A) (y : B) → R x y → S x y) → (xs : List A) (ys : List B) → Matched R xs ys → Matched S xs ys
+matched_weaker R S f [] [] m = tt
+matched_weaker R S f [] (y ∷ ys) m = absurd m
+matched_weaker R S f (x ∷ xs) [] m = absurd m
+matched_weaker R S f (x ∷ xs) (y ∷ ys) m = (f x y m.0, matched_weaker R S f xs ys m.1)
+
 -- ---- partners
 
 pub matched_left : {A B : Type 0} (R : A → B → Type 0) (xs : List A) (ys : List B) (k : ℕ) (x : A) → Matched R xs ys → slice_get xs k ≡ Some x → (y : B) × (slice_get ys k ≡ Some y) × R x y

@@ -3,21 +3,20 @@ use Rattle.std.proofs.Common.{◌≡◌, ℕ, inl, inr, List, ◌++◌, map, Boo
 use Rattle.std.specs.Prelude.{pos, slice_get, codes as codes_of}
 use Rattle.std.proofs.lemmas.Option.{none-some, same_Some}
 use Rattle.toml.specs.Data.{Data, Members, string, boolean, integer, array, table, get}
-use Rattle.rip_wire.specs.Address.{address_in}
-use Rattle.rip_wire.specs.Prefix.{Block, prefix_in}
+use Rattle.rip_wire.specs.Prefix.{Block}
 use Rattle.rip_plan.specs.declared.parts.Interface.{Interface}
 use Rattle.rip_plan.specs.declared.parts.Place.{Place}
 use Rattle.rip_plan.specs.declared.parts.Seat.{Seat}
 use Rattle.rip_plan.specs.declared.parts.Seat.TheVariants as seats
 use Rattle.rip_plan.specs.Fields.{list_of}
-use Rattle.rip_plan.specs.Names.{number_of_name}
 use Rattle.rip_plan.specs.Passes.{same_prefix}
 use Rattle.rip_plan.specs.Network.{Network}
-use Rattle.rip_plan.specs.PlanOf.{Matched, HasText, HasItems, IsAddressOf, AreAlsoOf, IsCostOf, IsDirectOf, IsGatewayOf, IsKeptOf, IsLinkOf, IsNameOf, items_in, items_under, IsInterfaceOf, Placement, IsOnLink, IsOwned, IsPlaceOf, each_once, PlanOf}
+use Rattle.rip_plan.specs.PlanOf.{Matched, HasText, HasItems, IsAddressOf, AreAlsoOf, IsCostOf, IsDirectOf, IsGatewayOf, IsKeptOf, IsLinkOf, IsNameOf, items_in, items_under, IsInterfaceOf, Placement, IsOnLink, IsOwned, IsPlaceOf, each_once, PlanOf, IsFirstNamed}
 use Rattle.rip_plan.proofs.Items.{distinct_at}
 use Rattle.rip_plan.proofs.Numbering.{same_self}
 use Rattle.rip_plan.proofs.Matching.{matched_same}
 use Rattle.rip_plan.proofs.EachOnce.{once_distinct}
+use Rattle.rip_plan.proofs.Texts.{TextLaws, one_address, one_prefix, one_named}
 
 pub text_same : (key : List ℕ) (d : Data) (s t : List ℕ) → HasText key d s → HasText key d t → s ≡ t
 text_same key d s t h k = let same : string s ≡ string t = same_Some (string s) (string t) (sym h ∙ k) in cc
@@ -52,21 +51,21 @@ link_same names others same d None (Some m) h k = absurd (none-some _ (sym h ∙
 link_same names others same d (Some l) None h k = absurd (none-some _ (sym k ∙ h.1))
 link_same names others same d (Some l) (Some m) h k =
     let one : h.0 ≡ k.0 = text_same (codes_of "link") d h.0 k.0 h.1 k.1 in
-    sym h.2 ∙ ap (λ (t : List ℕ). number_of_name t names) one ∙ ap (number_of_name k.0) same ∙ k.2
+    ap (λ (n : ℕ). Some n) (one_named names h.0 k.0 l m one h.2 (subst (λ (ns : List (List ℕ)). IsFirstNamed ns k.0 m) (sym same) k.2))
 
-gateway_same : (d : Data) (a b : Option ℕ) → IsGatewayOf d a → IsGatewayOf d b → a ≡ b
-gateway_same d None None h k = refl
-gateway_same d None (Some b) h k = absurd (none-some _ (sym h ∙ k.1))
-gateway_same d (Some a) None h k = absurd (none-some _ (sym k ∙ h.1))
-gateway_same d (Some a) (Some b) h k = let one : h.0 ≡ k.0 = text_same (codes_of "via") d h.0 k.0 h.1 k.1 in sym h.2 ∙ ap address_in one ∙ k.2
+gateway_same : (laws : TextLaws) (d : Data) (a b : Option ℕ) → IsGatewayOf d a → IsGatewayOf d b → a ≡ b
+gateway_same laws d None None h k = refl
+gateway_same laws d None (Some b) h k = absurd (none-some _ (sym h ∙ k.1))
+gateway_same laws d (Some a) None h k = absurd (none-some _ (sym k ∙ h.1))
+gateway_same laws d (Some a) (Some b) h k = let one : h.0 ≡ k.0 = text_same (codes_of "via") d h.0 k.0 h.1 k.1 in ap (λ (n : ℕ). Some n) (one_address laws h.0 k.0 a b one h.2 k.2)
 
-interface_same : (names others : List (List ℕ)) → names ≡ others → (x y : Interface) (at : ℕ × Data) → IsInterfaceOf names x at → IsInterfaceOf others y at → x ≡ y
-interface_same names others same x y at h k =
+interface_same : (laws : TextLaws) (names others : List (List ℕ)) → names ≡ others → (x y : Interface) (at : ℕ × Data) → IsInterfaceOf names x at → IsInterfaceOf others y at → x ≡ y
+interface_same laws names others same x y at h k =
     let router : x.router ≡ y.router = h.router ∙ sym k.router in
     let name : h.link_name ≡ k.link_name = text_same (codes_of "link") at.1 h.link_name k.link_name h.has_link k.has_link in
-    let link : x.link ≡ y.link = same_Some x.link y.link (sym h.link ∙ ap (λ (n : List ℕ). number_of_name n names) name ∙ ap (number_of_name k.link_name) same ∙ k.link) in
+    let link : x.link ≡ y.link = one_named names h.link_name k.link_name x.link y.link name h.link (subst (λ (ns : List (List ℕ)). IsFirstNamed ns k.link_name y.link) (sym same) k.link) in
     let text : h.text ≡ k.text = text_same (codes_of "address") at.1 h.text k.text h.has_address k.has_address in
-    let address : x.address ≡ y.address = same_Some x.address y.address (sym h.address ∙ ap address_in text ∙ k.address) in
+    let address : x.address ≡ y.address = one_address laws h.text k.text x.address y.address text h.address k.address in
     let cost : x.cost ≡ y.cost = cost_same at.1 x.cost y.cost h.cost k.cost in
     let direct : x.direct ≡ y.direct = direct_same at.1 x.cost y.cost cost x.direct y.direct h.direct k.direct in
     ap (λ (v : ℕ). record x { router = v }) router
@@ -75,33 +74,33 @@ interface_same names others same x y at h k =
     ∙ ap (λ (v : ℕ). record { router = y.router; link = y.link; address = y.address; cost = v; direct = x.direct }) cost
     ∙ ap (λ (v : ℕ). record { router = y.router; link = y.link; address = y.address; cost = y.cost; direct = v }) direct
 
-address_same : (a b : ℕ) (d : Data) → IsAddressOf a d → IsAddressOf b d → a ≡ b
-address_same a b d (t, h, is) (u, k, its) =
+address_same : (laws : TextLaws) (a b : ℕ) (d : Data) → IsAddressOf a d → IsAddressOf b d → a ≡ b
+address_same laws a b d (t, h, is) (u, k, its) =
     let same : string t ≡ string u = sym h ∙ k in
     let one : t ≡ u = cc in
-    same_Some a b (sym is ∙ ap address_in one ∙ its)
+    one_address laws t u a b one is its
 
-also_same : (xs ys : List ℕ) (at : ℕ × Data) → AreAlsoOf xs at → AreAlsoOf ys at → xs ≡ ys
-also_same xs ys at h k = matched_same IsAddressOf IsAddressOf address_same xs ys (items_in (get (codes_of "also") at.1)) h k
+also_same : (laws : TextLaws) (xs ys : List ℕ) (at : ℕ × Data) → AreAlsoOf xs at → AreAlsoOf ys at → xs ≡ ys
+also_same laws xs ys at h k = matched_same IsAddressOf IsAddressOf (address_same laws) xs ys (items_in (get (codes_of "also") at.1)) h k
 
 placement_same : (x y : Placement) → x.prefix ≡ y.prefix → x.seat ≡ y.seat → x ≡ y
 placement_same x y e f = ap (λ (v : Block). record x { prefix = v }) e ∙ ap (λ (v : Seat). record { prefix = y.prefix; seat = v }) f
 
-on_link_same : (x y : Placement) (at : ℕ × Data) → IsOnLink x at → IsOnLink y at → x ≡ y
-on_link_same x y at h k =
+on_link_same : (laws : TextLaws) (x y : Placement) (at : ℕ × Data) → IsOnLink x at → IsOnLink y at → x ≡ y
+on_link_same laws x y at h k =
     let same : string h.text ≡ string k.text = sym h.is_text ∙ k.is_text in
     let text : h.text ≡ k.text = cc in
-    placement_same x y (same_Some x.prefix y.prefix (sym h.prefix ∙ ap prefix_in text ∙ k.prefix)) (h.seat ∙ sym k.seat)
+    placement_same x y (one_prefix laws h.text k.text x.prefix y.prefix text h.prefix k.prefix) (h.seat ∙ sym k.seat)
 
-owned_same : (names others : List (List ℕ)) → names ≡ others → (x y : Placement) (at : ℕ × Data) → IsOwned names x at → IsOwned others y at → x ≡ y
-owned_same names others same x y at h k =
+owned_same : (laws : TextLaws) (names others : List (List ℕ)) → names ≡ others → (x y : Placement) (at : ℕ × Data) → IsOwned names x at → IsOwned others y at → x ≡ y
+owned_same laws names others same x y at h k =
     let text : h.text ≡ k.text = text_same (codes_of "prefix") at.1 h.text k.text h.has_prefix k.has_prefix in
     let cost : h.cost ≡ k.cost = cost_same at.1 h.cost k.cost h.is_cost k.is_cost in
     let kept : h.kept ≡ k.kept = kept_same at.1 h.kept k.kept h.is_kept k.is_kept in
     let link : h.link ≡ k.link = link_same names others same at.1 h.link k.link h.is_link k.is_link in
-    let via : h.via ≡ k.via = gateway_same at.1 h.via k.via h.is_via k.is_via in
+    let via : h.via ≡ k.via = gateway_same laws at.1 h.via k.via h.is_via k.is_via in
     let seat : seats.Own at.0 h.cost h.kept h.link h.via ≡ seats.Own at.0 k.cost k.kept k.link k.via = rw (cost, kept, link, via) refl in
-    placement_same x y (same_Some x.prefix y.prefix (sym h.prefix ∙ ap prefix_in text ∙ k.prefix)) (h.seat ∙ seat ∙ sym k.seat)
+    placement_same x y (one_prefix laws h.text k.text x.prefix y.prefix text h.prefix k.prefix) (h.seat ∙ seat ∙ sym k.seat)
 
 place_same : (n m : Network) (bs : List Block) → n.prefixes ≡ each_once bs → n.prefixes ≡ m.prefixes → (x y : Place) (p : Placement) → IsPlaceOf n x p → IsPlaceOf m y p → x ≡ y
 place_same n m bs once same x y p h k =
@@ -119,8 +118,8 @@ network_same n m names others interfaces also prefixes places =
     ∙ ap (λ (v : List Block). record m { prefixes = v; places = n.places }) prefixes
     ∙ ap (λ (v : List Place). record m { places = v }) places
 
-pub one_plan : (document : Members) (n m : Network) → PlanOf document n → PlanOf document m → n ≡ m
-one_plan document n m p q =
+pub one_plan : (laws : TextLaws) (document : Members) (n m : Network) → PlanOf document n → PlanOf document m → n ≡ m
+one_plan laws document n m p q =
     let link_tables : q.links ≡ p.links = items_same (codes_of "link") (table document) q.links p.links q.has_links p.has_links in
     let router_tables : q.routers ≡ p.routers = items_same (codes_of "router") (table document) q.routers p.routers q.has_routers p.has_routers in
     let names : n.links ≡ m.links =
@@ -130,16 +129,16 @@ one_plan document n m p q =
     matched_same IsNameOf IsNameOf (λ x y d h k. text_same (codes_of "name") d x y h k) n.routers m.routers p.routers p.router_names
     (subst (Matched IsNameOf m.routers) router_tables q.router_names) in
     let interfaces : n.interfaces ≡ m.interfaces =
-    matched_same (IsInterfaceOf n.links) (IsInterfaceOf m.links) (interface_same n.links m.links names) n.interfaces m.interfaces (items_under (codes_of "interface") 0 p.routers) p.interfaces
+    matched_same (IsInterfaceOf n.links) (IsInterfaceOf m.links) (interface_same laws n.links m.links names) n.interfaces m.interfaces (items_under (codes_of "interface") 0 p.routers) p.interfaces
     (subst (λ (ds : List Data). Matched (IsInterfaceOf m.links) m.interfaces (items_under (codes_of "interface") 0 ds)) router_tables q.interfaces) in
     let also : n.also ≡ m.also =
-    matched_same AreAlsoOf AreAlsoOf also_same n.also m.also (items_under (codes_of "interface") 0 p.routers) p.also
+    matched_same AreAlsoOf AreAlsoOf (also_same laws) n.also m.also (items_under (codes_of "interface") 0 p.routers) p.also
     (subst (λ (ds : List Data). Matched AreAlsoOf m.also (items_under (codes_of "interface") 0 ds)) router_tables q.also) in
     let on_links : p.on_links ≡ q.on_links =
-    matched_same IsOnLink IsOnLink on_link_same p.on_links q.on_links (items_under (codes_of "prefixes") 0 p.links) p.link_prefixes
+    matched_same IsOnLink IsOnLink (on_link_same laws) p.on_links q.on_links (items_under (codes_of "prefixes") 0 p.links) p.link_prefixes
     (subst (λ (ds : List Data). Matched IsOnLink q.on_links (items_under (codes_of "prefixes") 0 ds)) link_tables q.link_prefixes) in
     let owned : p.owned ≡ q.owned =
-    matched_same (IsOwned n.links) (IsOwned m.links) (owned_same n.links m.links names) p.owned q.owned (items_under (codes_of "own") 0 p.routers) p.own_prefixes
+    matched_same (IsOwned n.links) (IsOwned m.links) (owned_same laws n.links m.links names) p.owned q.owned (items_under (codes_of "own") 0 p.routers) p.own_prefixes
     (subst (λ (ds : List Data). Matched (IsOwned m.links) q.owned (items_under (codes_of "own") 0 ds)) router_tables q.own_prefixes) in
     let placements : q.on_links ++ q.owned ≡ p.on_links ++ p.owned = ap (λ (ps : List Placement). ps ++ q.owned) (sym on_links) ∙ ap (λ (ps : List Placement). p.on_links ++ ps) (sym owned) in
     let prefixes : n.prefixes ≡ m.prefixes = p.prefixes ∙ ap (λ (ps : List Placement). each_once (map (λ (x : Placement). x.prefix) ps)) (sym placements) ∙ sym q.prefixes in

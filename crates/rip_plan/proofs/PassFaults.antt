@@ -35,10 +35,11 @@ use Rattle.rip_plan.proofs.HeldOrder.{held_order, stands_from}
 use Rattle.rip_plan.proofs.Matching.{matched_left, matched_length}
 use Rattle.rip_plan.proofs.OnePlan.{one_plan}
 use Rattle.rip_plan.proofs.Spots.{place_ahead, interface_ahead, place_spot, interface_spot, spot_under, spots_count}
-use Rattle.rip_plan.proofs.Standing.{place_ats, interface_ats}
+use Rattle.rip_plan.proofs.SpotsTaken.{place_ats, interface_ats}
 use Rattle.rip_plan.proofs.Items.{both, any_at, any_finds, none_at, distinct_at, get_seen, get_split, see_got, get_some}
 use Rattle.rip_plan.proofs.Numbering.{numbers, same_is, same_from}
 use Rattle.rip_plan.proofs.SecondPasses.{address_spot, held, held_spot, taken_address, on_touched, own_touched, common}
+use Rattle.rip_plan.proofs.Texts.{TextLaws}
 
 -- ---- the first clash
 
@@ -505,7 +506,7 @@ search_bare is k (suc n) = by_test (is_bare is k) refl (first_bare is (k + 1) n)
 
 -- ---- all later passes
 
-module _ (document : Members) (links routers : List Data) (s : Sketch) (plan : PlanOf document (network_of_sketch s)) (placed : place_ats s ≡ place_spots links routers) (listed : interface_ats s ≡ interface_spots routers) (tables : plan.links ≡ links) where
+module _ (laws : TextLaws) (document : Members) (links routers : List Data) (s : Sketch) (plan : PlanOf document (network_of_sketch s)) (placed : place_ats s ≡ place_spots links routers) (listed : interface_ats s ≡ interface_spots routers) (tables : plan.links ≡ links) where
   place_at : (k : ℕ) (d : DraftPlace) → slice_get s.places k ≡ Some d → slice_get (place_spots links routers) k ≡ Some d.at
   place_at k d h = ap (λ (l : List At). slice_get l k) (sym placed) ∙ see_got (λ (p : DraftPlace). p.at) s.places k d h
 
@@ -532,7 +533,7 @@ module _ (document : Members) (links routers : List Data) (s : Sketch) (plan : P
 
   -- of a network that is the plan too
   of_plan : (P : Network → Type 0) → (n : Network) → PlanOf document n → P n → P (network_of_sketch s)
-  of_plan P n its c = subst P (one_plan document n (network_of_sketch s) its plan) c
+  of_plan P n its c = subst P (one_plan laws document n (network_of_sketch s) its plan) c
 
   duplicate_clear : (place : At) → TableFault document links routers codes.DuplicatePrefix place → IsClash (DoMeet (network_of_sketch s)) (place_spots links routers) place
   duplicate_clear (LinkPrefix i j) f = of_plan (λ n. IsClash (DoMeet n) (place_spots links routers) (LinkPrefix i j)) f.0 f.1 f.2
@@ -693,7 +694,7 @@ module _ (document : Members) (links routers : List Data) (s : Sketch) (plan : P
 
   -- routers
   bare_clear : (place : At) → TableFault document links routers codes.NoInterface place → (r : ℕ) × (place ≡ Router r) × IsBare (network_of_sketch s) r
-  bare_clear (Router r) f = (r, refl, subst (λ (m : Network). IsBare m r) (one_plan document f.0 (network_of_sketch s) f.1 plan) f.2)
+  bare_clear (Router r) f = (r, refl, subst (λ (m : Network). IsBare m r) (one_plan laws document f.0 (network_of_sketch s) f.1 plan) f.2)
   bare_clear place f = absurd f
 
   bare_finds : Finds (IsTold document links routers) (code_rows 4 codes.NoInterface).has (none_found codes.NoInterface (bare_in s.interfaces (length s.routers)))

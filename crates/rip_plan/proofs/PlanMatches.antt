@@ -23,6 +23,7 @@ use Rattle.rip_plan.proofs.Matching.{matched_append, matched_at, map_append}
 use Rattle.rip_plan.proofs.EachOnce.{numbered_once}
 use Rattle.rip_plan.proofs.Items.{get_seen}
 use Rattle.rip_plan.proofs.Tables.{addresses_are, link_table, interface_table, own_table, router_table, then_some, chosen, items_there, text_is}
+use Rattle.rip_plan.proofs.Texts.{TextLaws, address_is, prefix_is, first_named}
 
 abbrev pub placement : DraftPlace → Placement
 placement d = record { prefix = d.prefix; seat = d.seat }
@@ -43,17 +44,17 @@ pub record PrefixesAdded (l : ℕ) (xs : List Data) (s t : Sketch) : Type 0 wher
   pub made : t ≡ record s { places = s.places ++ added }
   pub match : Matched IsOnLink (map placement added) (map (with_number l) xs)
 
-pub prefixes_added : (l j : ℕ) (xs : List Data) (s t : Sketch) → steps (prefix_step (l + 1)) j xs s ≡ Ok t → PrefixesAdded l xs s t
-prefixes_added l j [] s t h = record { added = []; made = sym (ok_same s t h) ∙ ap (λ (ps : List DraftPlace). record s { places = ps }) (sym (append-nil s.places)); match = tt }
-prefixes_added l j (x ∷ xs) s t h =
+pub prefixes_added : (laws : TextLaws) (l j : ℕ) (xs : List Data) (s t : Sketch) → steps (prefix_step (l + 1)) j xs s ≡ Ok t → PrefixesAdded l xs s t
+prefixes_added laws l j [] s t h = record { added = []; made = sym (ok_same s t h) ∙ ap (λ (ps : List DraftPlace). record s { places = ps }) (sym (append-nil s.places)); match = tt }
+prefixes_added laws l j (x ∷ xs) s t h =
     let (u, first, others) = bind_ok (prefix_step (l + 1) j x s) (steps (prefix_step (l + 1)) (j + 1) xs) t h in
     let taken = prefix_taken (l + 1) j x s u first in
-    let rest = prefixes_added l (j + 1) xs u t others in
+    let rest = prefixes_added laws l (j + 1) xs u t others in
     let new : DraftPlace = record { prefix = taken.prefix; seat = seats.Link (l + 1 - 1); at = LinkPrefix (l + 1) j } in
     record {
       added = new ∷ rest.added;
       made = rest.made ∙ ap (λ (v : Sketch). record v { places = v.places ++ rest.added }) taken.added.made ∙ ap (λ (ps : List DraftPlace). record s { places = ps }) (append_assoc s.places (new ∷ []) rest.added);
-      match = (record { text = taken.text; is_text = text_is x taken.text taken.is_text; prefix = taken.parsed; seat = ap seats.Link (back l) }, rest.match);
+      match = (record { text = taken.text; is_text = text_is x taken.text taken.is_text; prefix = prefix_is laws taken.text taken.prefix taken.parsed; seat = ap seats.Link (back l) }, rest.match);
     }
 
 -- ---- links
@@ -65,20 +66,20 @@ pub record LinksAdded (k : ℕ) (xs : List Data) (s t : Sketch) : Type 0 where
   pub named : Matched IsNameOf names xs
   pub placed : Matched IsOnLink (map placement added) (items_under (codes_of "prefixes") k xs)
 
-pub links_added : (k : ℕ) (xs : List Data) (s t : Sketch) → steps link_step (k + 1) xs s ≡ Ok t → LinksAdded k xs s t
-links_added k [] s t h = record {
+pub links_added : (laws : TextLaws) (k : ℕ) (xs : List Data) (s t : Sketch) → steps link_step (k + 1) xs s ≡ Ok t → LinksAdded k xs s t
+links_added laws k [] s t h = record {
   names = [];
   added = [];
   made = sym (ok_same s t h) ∙ ap (λ (ls : List (List ℕ)). record s { links = ls }) (sym (append-nil s.links)) ∙ ap (λ (ps : List DraftPlace). record s { links = s.links ++ []; places = ps }) (sym (append-nil s.places));
   named = tt;
   placed = tt;
 }
-links_added k (x ∷ xs) s t h =
+links_added laws k (x ∷ xs) s t h =
     let (u, first, others) = bind_ok (link_step (k + 1) x s) (steps link_step (k + 1 + 1) xs) t h in
     let taken = link_taken (k + 1) x s u first in
     let fields = link_table x taken.name taken.prefixes taken.fields in
-    let inner = prefixes_added k 1 taken.prefixes (with_link taken.name s) u taken.others in
-    let rest = links_added (k + 1) xs u t others in
+    let inner = prefixes_added laws k 1 taken.prefixes (with_link taken.name s) u taken.others in
+    let rest = links_added laws (k + 1) xs u t others in
     record {
       names = taken.name ∷ rest.names;
       added = inner.added ++ rest.added;
@@ -100,8 +101,8 @@ pub record InterfacesAdded (r : ℕ) (xs : List Data) (s t : Sketch) : Type 0 wh
   pub match : Matched (IsInterfaceOf s.links) (map its_interface added) (map (with_number r) xs)
   pub also_match : Matched AreAlsoOf further (map (with_number r) xs)
 
-pub interfaces_added : (r j : ℕ) (xs : List Data) (s t : Sketch) → steps (interface_step (r + 1)) j xs s ≡ Ok t → InterfacesAdded r xs s t
-interfaces_added r j [] s t h = record {
+pub interfaces_added : (laws : TextLaws) (r j : ℕ) (xs : List Data) (s t : Sketch) → steps (interface_step (r + 1)) j xs s ≡ Ok t → InterfacesAdded r xs s t
+interfaces_added laws r j [] s t h = record {
   added = [];
   further = [];
   made = sym (ok_same s t h)
@@ -110,11 +111,11 @@ interfaces_added r j [] s t h = record {
   match = tt;
   also_match = tt;
 }
-interfaces_added r j (x ∷ xs) s t h =
+interfaces_added laws r j (x ∷ xs) s t h =
     let (u, first, others) = bind_ok (interface_step (r + 1) j x s) (steps (interface_step (r + 1)) (j + 1) xs) t h in
     let taken = interface_taken (r + 1) j x s u first in
     let fields = interface_table x taken.given taken.cost taken.direct taken.fields taken.costs taken.directs in
-    let rest = interfaces_added r (j + 1) xs u t others in
+    let rest = interfaces_added laws r (j + 1) xs u t others in
     let new : DraftInterface = record { interface = record { router = r + 1 - 1; link = taken.link; address = taken.address; cost = taken.cost; direct = taken.direct }; at = RouterInterface (r + 1) j } in
     record {
       added = new ∷ rest.added;
@@ -124,10 +125,10 @@ interfaces_added r j (x ∷ xs) s t h =
           ∙ ap (λ (is : List DraftInterface). record s { interfaces = is; also = (s.also ++ taken.also ∷ []) ++ rest.further }) (append_assoc s.interfaces (new ∷ []) rest.added)
           ∙ ap (λ (l : List (List ℕ)). record s { interfaces = s.interfaces ++ new ∷ rest.added; also = l }) (append_assoc s.also (taken.also ∷ []) rest.further);
       match = (
-        record { router = back r; link_name = taken.given.link; has_link = fields.has.has_link; link = taken.known; text = taken.given.address; has_address = fields.has.has_address; address = taken.parsed; cost = fields.cost; direct = fields.direct },
+        record { router = back r; link_name = taken.given.link; has_link = fields.has.has_link; link = first_named taken.given.link s.links taken.link taken.known; text = taken.given.address; has_address = fields.has.has_address; address = address_is laws taken.given.address taken.address taken.parsed; cost = fields.cost; direct = fields.direct },
         subst (λ (names : List (List ℕ)). Matched (IsInterfaceOf names) (map its_interface rest.added) (map (with_number r) xs)) (ap (λ (v : Sketch). v.links) taken.made) rest.match,
       );
-      also_match = (subst (Matched IsAddressOf taken.also) (sym fields.has.also_are) (addresses_are taken.given.also taken.also taken.others), rest.also_match);
+      also_match = (subst (Matched IsAddressOf taken.also) (sym fields.has.also_are) (addresses_are laws taken.given.also taken.also taken.others), rest.also_match);
     }
 
 pub record OwnsAdded (r : ℕ) (xs : List Data) (s t : Sketch) : Type 0 where
@@ -135,13 +136,13 @@ pub record OwnsAdded (r : ℕ) (xs : List Data) (s t : Sketch) : Type 0 where
   pub made : t ≡ record s { places = s.places ++ added }
   pub match : Matched (IsOwned s.links) (map placement added) (map (with_number r) xs)
 
-pub owns_added : (r j : ℕ) (xs : List Data) (s t : Sketch) → steps (own_step (r + 1)) j xs s ≡ Ok t → OwnsAdded r xs s t
-owns_added r j [] s t h = record { added = []; made = sym (ok_same s t h) ∙ ap (λ (ps : List DraftPlace). record s { places = ps }) (sym (append-nil s.places)); match = tt }
-owns_added r j (x ∷ xs) s t h =
+pub owns_added : (laws : TextLaws) (r j : ℕ) (xs : List Data) (s t : Sketch) → steps (own_step (r + 1)) j xs s ≡ Ok t → OwnsAdded r xs s t
+owns_added laws r j [] s t h = record { added = []; made = sym (ok_same s t h) ∙ ap (λ (ps : List DraftPlace). record s { places = ps }) (sym (append-nil s.places)); match = tt }
+owns_added laws r j (x ∷ xs) s t h =
     let (u, first, others) = bind_ok (own_step (r + 1) j x s) (steps (own_step (r + 1)) (j + 1) xs) t h in
     let taken = own_taken (r + 1) j x s u first in
-    let fields = own_table x s.links taken.given taken.cost taken.link taken.via taken.fields taken.costs taken.known taken.gateway in
-    let rest = owns_added r (j + 1) xs u t others in
+    let fields = own_table laws x s.links taken.given taken.cost taken.link taken.via taken.fields taken.costs taken.known taken.gateway in
+    let rest = owns_added laws r (j + 1) xs u t others in
     let new : DraftPlace = record { prefix = taken.prefix; seat = seats.Own (r + 1 - 1) taken.cost taken.given.kept taken.link taken.via; at = RouterOwn (r + 1) j } in
     record {
       added = new ∷ rest.added;
@@ -150,7 +151,7 @@ owns_added r j (x ∷ xs) s t h =
         record {
           text = taken.given.prefix;
           has_prefix = fields.has.has_prefix;
-          prefix = taken.parsed;
+          prefix = prefix_is laws taken.given.prefix taken.prefix taken.parsed;
           cost = taken.cost;
           is_cost = fields.cost;
           kept = taken.given.kept;
@@ -178,8 +179,8 @@ pub record RoutersAdded (k : ℕ) (xs : List Data) (s t : Sketch) : Type 0 where
   pub further : Matched AreAlsoOf also (items_under (codes_of "interface") k xs)
   pub own : Matched (IsOwned s.links) (map placement owned) (items_under (codes_of "own") k xs)
 
-pub routers_added : (k : ℕ) (xs : List Data) (s t : Sketch) → steps router_step (k + 1) xs s ≡ Ok t → RoutersAdded k xs s t
-routers_added k [] s t h = record {
+pub routers_added : (laws : TextLaws) (k : ℕ) (xs : List Data) (s t : Sketch) → steps router_step (k + 1) xs s ≡ Ok t → RoutersAdded k xs s t
+routers_added laws k [] s t h = record {
   names = [];
   interfaces = [];
   also = [];
@@ -194,13 +195,13 @@ routers_added k [] s t h = record {
   further = tt;
   own = tt;
 }
-routers_added k (x ∷ xs) s t h =
+routers_added laws k (x ∷ xs) s t h =
     let (u, first, others) = bind_ok (router_step (k + 1) x s) (steps router_step (k + 1 + 1) xs) t h in
     let taken = router_taken (k + 1) x s u first in
     let fields = router_table x taken.name taken.interfaces taken.owns taken.fields in
-    let inner = interfaces_added k 1 taken.interfaces (with_router taken.name s) taken.between taken.first in
-    let own = owns_added k 1 taken.owns taken.between u taken.second in
-    let rest = routers_added (k + 1) xs u t others in
+    let inner = interfaces_added laws k 1 taken.interfaces (with_router taken.name s) taken.between taken.first in
+    let own = owns_added laws k 1 taken.owns taken.between u taken.second in
+    let rest = routers_added laws (k + 1) xs u t others in
     let here : u ≡ record s { routers = s.routers ++ taken.name ∷ []; interfaces = s.interfaces ++ inner.added; also = s.also ++ inner.further; places = s.places ++ own.added } =
     own.made ∙ ap (λ (v : Sketch). record v { places = v.places ++ own.added }) inner.made in
     let between : taken.between.links ≡ s.links = ap (λ (v : Sketch). v.links) inner.made in
@@ -269,11 +270,11 @@ pub record TablesTaken (doc : Members) (t : Sketch) : Type 0 where
   pub first : steps link_step 1 links empty ≡ Ok between
   pub second : steps router_step 1 routers between ≡ Ok t
 
-pub document_matches : (doc : Members) (s : Sketch) → TablesTaken doc s → PlanOf doc (network_of_sketch s)
-document_matches doc s taken =
+pub document_matches : (laws : TextLaws) (doc : Members) (s : Sketch) → TablesTaken doc s → PlanOf doc (network_of_sketch s)
+document_matches laws doc s taken =
     let root = root_table doc taken.links taken.routers taken.root in
-    let links = links_added 0 taken.links empty taken.between taken.first in
-    let routers = routers_added 0 taken.routers taken.between s taken.second in
+    let links = links_added laws 0 taken.links empty taken.between taken.first in
+    let routers = routers_added laws 0 taken.routers taken.between s taken.second in
     let made : s ≡ record { links = links.names; routers = routers.names; interfaces = routers.interfaces; also = routers.also; places = links.added ++ routers.owned } =
     routers.made ∙ ap (λ (v : Sketch). record v { routers = v.routers ++ routers.names; interfaces = v.interfaces ++ routers.interfaces; also = v.also ++ routers.also; places = v.places ++ routers.owned }) links.made in
     let names : s.links ≡ taken.between.links = ap (λ (v : Sketch). v.links) routers.made in
@@ -301,21 +302,21 @@ document_matches doc s taken =
 
     interfaces_match : (m : Members) (v : Sketch) (was : TablesTaken m v) → Matched (IsInterfaceOf v.links) (map its_interface v.interfaces) (items_under (codes_of "interface") 0 was.routers)
     interfaces_match m v was =
-        let links = links_added 0 was.links empty was.between was.first in
-        let routers = routers_added 0 was.routers was.between v was.second in
+        let links = links_added laws 0 was.links empty was.between was.first in
+        let routers = routers_added laws 0 was.routers was.between v was.second in
         let none : was.between.interfaces ≡ [] = ap (λ (w : Sketch). w.interfaces) links.made in
         let are : v.interfaces ≡ routers.interfaces = ap (λ (w : Sketch). w.interfaces) routers.made ∙ ap (λ (is : List DraftInterface). is ++ routers.interfaces) none in
         let names : v.links ≡ was.between.links = ap (λ (w : Sketch). w.links) routers.made in
         subst (λ (is : List DraftInterface). Matched (IsInterfaceOf v.links) (map its_interface is) (items_under (codes_of "interface") 0 was.routers)) (sym are)
         (subst (λ (ls : List (List ℕ)). Matched (IsInterfaceOf ls) (map its_interface routers.interfaces) (items_under (codes_of "interface") 0 was.routers)) (sym names) routers.on_links)
 
-matches : (bytes : List ℕ) (s : Sketch) → sketch_of bytes ≡ Ok s → IsPlanOfText bytes (network_of_sketch s)
-matches bytes s h =
+matches : (laws : TextLaws) (bytes : List ℕ) (s : Sketch) → sketch_of bytes ≡ Ok s → IsPlanOfText bytes (network_of_sketch s)
+matches laws bytes s h =
     let taken = text_taken bytes s h in
-    record { document = taken.document; reads = taken.read; plan = document_matches taken.document s (record { links = taken.taken.links; routers = taken.taken.routers; root = taken.taken.root; between = taken.taken.between; first = taken.taken.first; second = taken.taken.second }) }
+    record { document = taken.document; reads = taken.read; plan = document_matches laws taken.document s (record { links = taken.taken.links; routers = taken.taken.routers; root = taken.taken.root; between = taken.taken.between; first = taken.taken.first; second = taken.taken.second }) }
 
 -- of a network that the bytes are
-pub network_matches : (bytes : List ℕ) (n : Network) → network_in bytes ≡ Ok n → IsPlanOfText bytes n
-network_matches bytes n h =
+pub network_matches : (laws : TextLaws) (bytes : List ℕ) (n : Network) → network_in bytes ≡ Ok n → IsPlanOfText bytes n
+network_matches laws bytes n h =
     let (s, read, made) = bind_ok (sketch_of bytes) (λ t. Ok (network_of_sketch t)) n h in
-    subst (IsPlanOfText bytes) (ok_same (network_of_sketch s) n made) (matches bytes s read)
+    subst (IsPlanOfText bytes) (ok_same (network_of_sketch s) n made) (matches laws bytes s read)

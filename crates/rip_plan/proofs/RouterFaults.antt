@@ -23,25 +23,29 @@ use Rattle.rip_plan.specs.Fields.{InterfaceFields, ◌&>◌, interface_fields, o
 use Rattle.rip_plan.specs.Names.{is_one_of, number_of_name}
 use Rattle.rip_plan.specs.Seats.{is_on}
 use Rattle.rip_plan.specs.Draft.{Sketch, prefix_step, link_step, interface_step, own_step, router_step, is_full, is_outside, has_address}
-use Rattle.rip_plan.specs.PlanOf.{Matched, IsAddressOf, IsNameOf, items_in, items_under, IsOnLink, IsOwned, Placement}
+use Rattle.rip_plan.specs.PlanOf.{Matched, IsNameOf, items_in, items_under, IsOnLink, IsOwned, Placement}
 use Rattle.rip_plan.specs.PlanText.{empty}
-use Rattle.rip_plan.specs.PlanFaults.{nth, IsItem, IsPast, NamesNoLink, IsOutside, HasNoAddress, HasPrefix, HasWrongAlso, HasWrongCost, HasWrongDirect, spots_of, spots_under, place_spots, interface_spots, also_spots}
+use Rattle.rip_plan.specs.PlanFaults.{nth, IsItem, IsPast, NamesNoLink, IsOutside, HasNoAddress, HasPrefix, HasWrongAlso, HasWrongCost, HasWrongDirect, spots_of, spots_under, place_spots, interface_spots, also_spots, IsOutsideOf}
 use Rattle.rip_plan.proofs.Finding.{Finds, no_rows, ranked, steps_finds, bind_rows}
 use Rattle.rip_plan.proofs.FaultRows.{by_code, IsTold, guard_told, want_told, both_told, interface_from_address, interface_from_cost, interface_from_link, interface_from_outside, interface_from_limit, interface_rows, interface_starts, interfaces_rows, own_from_via, own_from_prefix, own_from_cost, own_from_link, own_from_limit, own_rows, own_starts, owns_rows, router_lists, router_from_duplicate, router_from_name, router_rows, router_starts, routers_rows, interface_row_item, own_row_item, router_row_within, starts_shorter}
 use Rattle.rip_plan.proofs.AlsoSpots.{also_here, also_in, also_items, also_under, also_within}
 use Rattle.rip_plan.proofs.FirstPass.{room_for}
 use Rattle.rip_plan.proofs.Orders.{starts_high}
 use Rattle.rip_plan.proofs.Spots.{nth_from, get_before, place_once, interface_once, own_here, under_here, nth_here, item_once, count_of}
-use Rattle.rip_plan.proofs.Standing.{further, place_ats, interface_ats, links_stand, interfaces_stand, owns_stand, routers_stand}
+use Rattle.rip_plan.proofs.SpotsTaken.{further, place_ats, interface_ats, links_stand, interfaces_stand, owns_stand, routers_stand}
 use Rattle.rip_plan.proofs.Items.{both, any_at, any_finds, get_split, position_finds, position_none, distinct_at, distinct_push, get_seen, see_got}
-use Rattle.rip_plan.proofs.Tables.{HasInterfaceFields, IsTextIf, router_table, interface_texts, own_texts, addresses_are, addresses_told, addresses_clear, cost_is, cost_within, cost_told, cost_clear, direct_told, direct_clear, gateway_told, gateway_clear}
+use Rattle.rip_plan.proofs.Tables.{HasInterfaceFields, IsTextIf, router_table, interface_texts, own_texts, addresses_told, addresses_clear, cost_is, cost_within, cost_told, cost_clear, direct_told, direct_clear, gateway_told, gateway_clear, IsReadOf, addresses_read}
 use Rattle.rip_plan.proofs.Matching.{matched_left, matched_length, matched_right}
 use Rattle.rip_plan.proofs.OnePlan.{cost_same, text_same}
 use Rattle.rip_plan.proofs.PlanMatches.{placement, links_added, routers_added}
 use Rattle.rip_plan.proofs.Binds.{bind_ok, ok_same}
 use Rattle.rip_plan.proofs.StepsTaken.{with_link, with_router, prefix_taken, link_taken, interface_taken, own_taken, router_taken}
 use Rattle.rip_plan.proofs.Lookups.{name_same, on_seat}
-use Rattle.rip_plan.proofs.LinkFaults.{NameLaws, table_here, table_same, misnamed_told, misnamed_clear, again_told, again_clear}
+use Rattle.rip_plan.proofs.LinkFaults.{table_here, table_same, misnamed_told, misnamed_clear, again_told, again_clear}
+use Rattle.rip_plan.proofs.Texts.{TextLaws, address_is, prefix_is, no_address, no_prefix, one_address, one_prefix}
+use Rattle.rip_plan.specs.Texts.{IsAddressText, IsPrefixText}
+use Rattle.rip_plan.specs.DocumentTables.{IsRouterTable, IsInterfaceTable, IsOwnTable}
+use Rattle.rip_plan.proofs.DocumentTables.{router_told, router_not, interface_told, interface_not, own_told, own_not}
 
 past_most : (n : ℕ) → nat_le 1024 n ≡ false → 1024 ≤ n → ⊥
 past_most n e le = grind (arith, nat_tests)
@@ -105,25 +109,25 @@ attached_clear links v matched x (Some name) link has h n = by_number (number_of
 -- ---- own prefixes
 
 module _ (document : Members) (links routers done : List Data) (d : Data) (rest : List Data) (split : routers ≡ done ++ d ∷ rest) where
-  own_finds : (front : List Data) (x : Data) (back : List Data) (v : Sketch) → items_in (get (codes_of "own") d) ≡ front ++ x ∷ back → Matched IsNameOf v.links links
+  own_finds : (laws : TextLaws) (front : List Data) (x : Data) (back : List Data) (v : Sketch) → items_in (get (codes_of "own") d) ≡ front ++ x ∷ back → Matched IsNameOf v.links links
       → length v.places ≡ length (spots_under (codes_of "prefixes") LinkPrefix 1 links) + (length (spots_under (codes_of "own") RouterOwn 1 done) + length front)
       → Finds (IsTold document links routers) (own_rows (1 + length done) (1 + length front)).has (own_step (1 + length done) (1 + length front) x v)
   unfolding own_step
-  own_finds front x back v items named count =
+  own_finds laws front x back v items named count =
       want_told document links routers codes.Key (RouterOwn r j) (as_table x &> own_fields) (own_from_via r j) (by_code (RouterOwn r j) codes.Key codes.Address refl (omega arith)) _
-      (λ none. (x, item, none))
-      (λ f is h. none-some f (sym h.2 ∙ ap (λ (t : Data). as_table t &> own_fields) (one h.0 h.1) ∙ is))
+      (λ none. (x, item, own_not x none))
+      (λ f is h. h.2 (subst IsOwnTable (sym (one h.0 h.1)) (own_told x f is)))
       (λ f is.
       let fields = own_texts x f is in
       want_told document links routers codes.Address (RouterOwn r j) (address_if f.via) (own_from_prefix r j) (by_code (RouterOwn r j) codes.Address codes.Prefix refl (omega arith)) _
-      (λ none. (x, item, gateway_told x f.via fields.via none))
-      (λ via gateway h. gateway_clear x f.via via fields.via gateway (subst (HasNoAddress (codes_of "via")) (one h.0 h.1) h.2))
+      (λ none. (x, item, gateway_told laws x f.via fields.via none))
+      (λ via gateway h. gateway_clear laws x f.via via fields.via gateway (subst (HasNoAddress (codes_of "via")) (one h.0 h.1) h.2))
       (λ via gateway.
       want_told document links routers codes.Prefix (RouterOwn r j) (prefix_in f.prefix) (own_from_cost r j) (by_code (RouterOwn r j) codes.Prefix codes.Cost refl (omega arith)) _
-      (λ none. (x, f.prefix, item, fields.has_prefix, none))
+      (λ none. (x, f.prefix, item, fields.has_prefix, no_prefix laws f.prefix none))
       (λ p parsed h.
       let same : h.1 ≡ f.prefix = text_same (codes_of "prefix") x h.1 f.prefix (ap (get (codes_of "prefix")) (sym (one h.0 h.2)) ∙ h.3) fields.has_prefix in
-      none-some p (sym h.4 ∙ ap prefix_in same ∙ parsed))
+      h.4 p (subst (λ (t : List ℕ). IsPrefixText t p) (sym same) (prefix_is laws f.prefix p parsed)))
       (λ p parsed.
       want_told document links routers codes.Cost (RouterOwn r j) (cost_of f.cost) (own_from_link r j) (by_code (RouterOwn r j) codes.Cost codes.UnknownLink refl (omega arith)) _
       (λ none. (x, item, cost_told (get (codes_of "cost") x) f.cost fields.cost none))
@@ -155,20 +159,20 @@ module _ (document : Members) (links routers done : List Data) (d : Data) (rest 
 
 -- ---- the fields of an interface
 
-also_told : (x : Data) (f : InterfaceFields) → HasInterfaceFields x f → addresses_in f.also ≡ None → HasWrongAlso x
-also_told x f fields none =
+also_told : (laws : TextLaws) (x : Data) (f : InterfaceFields) → HasInterfaceFields x f → addresses_in f.also ≡ None → HasWrongAlso x
+also_told laws x f fields none =
     let (k, text, at, bad) = addresses_told f.also fields.also_texts none in
-    (k, text, ap (λ (l : List Data). slice_get l k) fields.also_are ∙ at, bad)
+    (k, text, ap (λ (l : List Data). slice_get l k) fields.also_are ∙ at, no_address laws text bad)
 
 also_length : (x : Data) (f : InterfaceFields) → HasInterfaceFields x f → (also : List ℕ) → addresses_in f.also ≡ Some also → length also ≡ length (also_items x)
-also_length x f fields also others = matched_length IsAddressOf also f.also (addresses_are f.also also others) ∙ ap length (sym fields.also_are)
+also_length x f fields also others = matched_length IsReadOf also f.also (addresses_read f.also also others) ∙ ap length (sym fields.also_are)
 
-address_clear : (x : Data) (f : InterfaceFields) → HasInterfaceFields x f → (a : ℕ) (also : List ℕ) → address_in f.address ≡ Some a → addresses_in f.also ≡ Some also → HasNoAddress (codes_of "address") x ⊎ HasWrongAlso x → ⊥
-address_clear x f fields a also parsed others (inl (text, has, none)) =
+address_clear : (laws : TextLaws) (x : Data) (f : InterfaceFields) → HasInterfaceFields x f → (a : ℕ) (also : List ℕ) → address_in f.address ≡ Some a → addresses_in f.also ≡ Some also → HasNoAddress (codes_of "address") x ⊎ HasWrongAlso x → ⊥
+address_clear laws x f fields a also parsed others (inl (text, has, none)) =
     let same : text ≡ f.address = text_same (codes_of "address") x text f.address has fields.has_address in
-    none-some a (sym none ∙ ap address_in same ∙ parsed)
-address_clear x f fields a also parsed others (inr (k, text, at, none)) =
-    addresses_clear f.also also others k text (ap (λ (l : List Data). slice_get l k) (sym fields.also_are) ∙ at) none
+    none a (subst (λ (t : List ℕ). IsAddressText t a) (sym same) (address_is laws f.address a parsed))
+address_clear laws x f fields a also parsed others (inr (k, text, at, none)) =
+    addresses_clear laws f.also also others k text (ap (λ (l : List Data). slice_get l k) (sym fields.also_are) ∙ at) none
 
 metric_told : (x : Data) (f : InterfaceFields) → HasInterfaceFields x f → (c : ℕ) → cost_of f.cost ≡ Some c → direct_of c f.direct ≡ None → HasWrongDirect x
 metric_told x f fields c costs none =
@@ -180,7 +184,7 @@ costs_clear : (x : Data) (f : InterfaceFields) → HasInterfaceFields x f → (c
 costs_clear x f fields c e costs directs (inl (z, is, bad)) = cost_clear (get (codes_of "cost") x) f.cost c fields.cost costs z is bad
 costs_clear x f fields c e costs directs (inr (b, z, is_cost, least, most, is, bad)) =
     let same : b ≡ c = cost_same x b c is_cost (cost_is (get (codes_of "cost") x) f.cost c fields.cost costs) in
-    direct_clear c (get (codes_of "direct") x) f.direct e fields.direct directs z is (ap (λ (n : ℕ). direct_of n (Some z)) (sym same) ∙ bad)
+    direct_clear c (get (codes_of "direct") x) f.direct e fields.direct directs z is (subst (λ (n : ℕ). IsOutsideOf n z) same bad)
 
 -- ---- interfaces
 
@@ -213,13 +217,13 @@ has_prefix links v linked l k q h on =
           absurd cc
     ]
 
-place_has : (links : List Data) (v : Sketch) → Linked links v → (l : ℕ) (p : Block) → HasPrefix links l p → (k : ℕ) × (q : DraftPlace) × (slice_get v.places k ≡ Some q) × (q.seat ≡ seats.Link l) × (q.prefix ≡ p)
-place_has links v linked l p (k, text, is, parsed) =
+place_has : (laws : TextLaws) (links : List Data) (v : Sketch) → Linked links v → (l : ℕ) (p : Block) → HasPrefix links l p → (k : ℕ) × (q : DraftPlace) × (slice_get v.places k ≡ Some q) × (q.seat ≡ seats.Link l) × (q.prefix ≡ p)
+place_has laws links v linked l p (k, text, is, parsed) =
     let (x, at, of) = matched_right IsOnLink (map placement linked.on_links) (items_under (codes_of "prefixes") 0 links) k (l, string text) linked.placed is in
     let (q, listed, seen) = get_seen placement linked.on_links k x at in
     let same : string text ≡ string of.text = of.is_text in
     let one : text ≡ of.text = cc in
-    let block : x.prefix ≡ p = same_Some x.prefix p (sym of.prefix ∙ ap prefix_in (sym one) ∙ parsed) in
+    let block : x.prefix ≡ p = one_prefix laws of.text text x.prefix p (sym one) of.prefix parsed in
     (k, q, rw linked.places (get_before linked.on_links linked.owned k q listed), ap (λ (w : Placement). w.seat) seen ∙ of.seat, ap (λ (w : Placement). w.prefix) seen ∙ block)
 
 self_on : (l : ℕ) (q : DraftPlace) → q.seat ≡ seats.Link l → is_on l q.seat ≡ true
@@ -244,9 +248,9 @@ contains_test p a h = grind (arith, nat_tests)
 test_contains : (p : Block) (a : ℕ) → has_address p a ≡ true → ContainsAddress p a
 test_contains p a h = grind (arith, nat_tests)
 
-outside_told : (links : List Data) (v : Sketch) → Linked links v → (x : Data) (name text : List ℕ) (a l : ℕ) → get (codes_of "link") x ≡ Some (string name) → get (codes_of "address") x ≡ Some (string text) → address_in text ≡ Some a
+outside_told : (laws : TextLaws) (links : List Data) (v : Sketch) → Linked links v → (x : Data) (name text : List ℕ) (a l : ℕ) → get (codes_of "link") x ≡ Some (string name) → get (codes_of "address") x ≡ Some (string text) → address_in text ≡ Some a
     → number_of_name name v.links ≡ Some l → is_outside l a v.places ≡ true → IsOutside links x
-outside_told links v linked x name text a l has has_text parsed h out =
+outside_told laws links v linked x name text a l has has_text parsed h out =
     let found = named_at links v linked.named name l h in
     let (some, none) = both_not (list_any (λ (p : DraftPlace). is_on l p.seat) v.places) (list_any (λ (p : DraftPlace). is_on l p.seat && has_address p.prefix a) v.places) out in
     let (k, q, at, on) = any_finds (λ (p : DraftPlace). is_on l p.seat) v.places some in
@@ -254,7 +258,7 @@ outside_told links v linked x name text a l has has_text parsed h out =
       text = text;
       has_address = has_text;
       address = a;
-      parsed = parsed;
+      spelled = address_is laws text a parsed;
       name = name;
       has_link = has;
       link = l;
@@ -263,23 +267,23 @@ outside_told links v linked x name text a l has has_text parsed h out =
       named = found.its;
       some = (q.prefix, has_prefix links v linked l k q at on);
       none = λ p its holds.
-          let (m, w, there, seat, block) = place_has links v linked l p its in
+          let (m, w, there, seat, block) = place_has laws links v linked l p its in
           let test : (is_on l w.seat && has_address w.prefix a) ≡ true = both_true (is_on l w.seat) (has_address w.prefix a) (self_on l w seat) (ap (λ (b : Block). has_address b a) block ∙ contains_test p a holds) in
           let all : list_any (λ (p : DraftPlace). is_on l p.seat && has_address p.prefix a) v.places ≡ true = any_at (λ (p : DraftPlace). is_on l p.seat && has_address p.prefix a) v.places m w there test in
           cc;
     }
 
-outside_clear : (links : List Data) (v : Sketch) → Linked links v → (x : Data) (name text : List ℕ) (a l : ℕ) → get (codes_of "link") x ≡ Some (string name) → get (codes_of "address") x ≡ Some (string text) → address_in text ≡ Some a
+outside_clear : (laws : TextLaws) (links : List Data) (v : Sketch) → Linked links v → (x : Data) (name text : List ℕ) (a l : ℕ) → get (codes_of "link") x ≡ Some (string name) → get (codes_of "address") x ≡ Some (string text) → address_in text ≡ Some a
     → number_of_name name v.links ≡ Some l → is_outside l a v.places ≡ false → IsOutside links x → ⊥
-outside_clear links v linked x name text a l has has_text parsed h inside o =
+outside_clear laws links v linked x name text a l has has_text parsed h inside o =
     let found = named_at links v linked.named name l h in
     let one : o.name ≡ name = text_same (codes_of "link") x o.name name o.has_link has in
     let two : o.text ≡ text = text_same (codes_of "address") x o.text text o.has_address has_text in
-    let address : o.address ≡ a = same_Some o.address a (sym o.parsed ∙ ap address_in two ∙ parsed) in
+    let address : o.address ≡ a = one_address laws o.text text o.address a two o.spelled (address_is laws text a parsed) in
     let (m, at, of) = matched_right IsNameOf v.links links o.link o.link_table linked.named o.listed in
     let named : m ≡ name = text_same (codes_of "name") o.link_table m o.name of o.named ∙ one in
     let number : o.link ≡ l = distinct_at bytes_eq v.links o.link l name name linked.differ (at ∙ ap (λ (t : List ℕ). Some t) named) found.kept (name_same name) (name_same name) in
-    let (k, w, there, seat, block) = place_has links v linked l o.some.0 (subst (λ (n : ℕ). HasPrefix links n o.some.0) number o.some.1) in
+    let (k, w, there, seat, block) = place_has laws links v linked l o.some.0 (subst (λ (n : ℕ). HasPrefix links n o.some.0) number o.some.1) in
     let some : list_any (λ (p : DraftPlace). is_on l p.seat) v.places ≡ true = any_at (λ (p : DraftPlace). is_on l p.seat) v.places k w there (self_on l w seat) in
     let holds = not_both (list_any (λ (p : DraftPlace). is_on l p.seat) v.places) (list_any (λ (p : DraftPlace). is_on l p.seat && has_address p.prefix a) v.places) inside some in
     let (n, q, its, tests) = any_finds (λ (p : DraftPlace). is_on l p.seat && has_address p.prefix a) v.places holds in
@@ -287,20 +291,20 @@ outside_clear links v linked x name text a l has has_text parsed h inside o =
     o.none q.prefix (subst (λ (i : ℕ). HasPrefix links i q.prefix) (sym number) (has_prefix links v linked l n q its on)) (subst (λ (i : ℕ). ContainsAddress q.prefix i) (sym address) (test_contains q.prefix a within))
 
 module _ (document : Members) (links routers done : List Data) (d : Data) (rest : List Data) (split : routers ≡ done ++ d ∷ rest) where
-  interface_finds : (front : List Data) (x : Data) (back : List Data) (v : Sketch) → items_in (get (codes_of "interface") d) ≡ front ++ x ∷ back → Linked links v
+  interface_finds : (laws : TextLaws) (front : List Data) (x : Data) (back : List Data) (v : Sketch) → items_in (get (codes_of "interface") d) ≡ front ++ x ∷ back → Linked links v
       → length v.interfaces ≡ length (spots_under (codes_of "interface") RouterInterface 1 done) + length front → further v ≡ also_under done + also_in front → further v ≤ 1024
       → Finds (IsTold document links routers) (interface_rows (1 + length done) (1 + length front)).has (interface_step (1 + length done) (1 + length front) x v)
   unfolding interface_step
-  interface_finds front x back v items linked count sum few =
+  interface_finds laws front x back v items linked count sum few =
       want_told document links routers codes.Key (RouterInterface r j) (as_table x &> interface_fields) (interface_from_address r j) (by_code (RouterInterface r j) codes.Key codes.Address refl (omega arith)) _
-      (λ none. (x, item, none))
-      (λ f is h. none-some f (sym h.2 ∙ ap (λ (t : Data). as_table t &> interface_fields) (one h.0 h.1) ∙ is))
+      (λ none. (x, item, interface_not x none))
+      (λ f is h. h.2 (subst IsInterfaceTable (sym (one h.0 h.1)) (interface_told x f is)))
       (λ f is.
       let fields = interface_texts x f is in
       both_told document links routers codes.Address (RouterInterface r j) (address_in f.address) (λ a. addresses_in f.also) (interface_from_cost r j) (by_code (RouterInterface r j) codes.Address codes.Cost refl (omega arith)) _
-      (λ none. (x, item, inl (f.address, fields.has_address, none)))
-      (λ a parsed none. (x, item, inr (also_told x f fields none)))
-      (λ a also parsed others h. address_clear x f fields a also parsed others (subst (λ (t : Data). HasNoAddress (codes_of "address") t ⊎ HasWrongAlso t) (one h.0 h.1) h.2))
+      (λ none. (x, item, inl (f.address, fields.has_address, no_address laws f.address none)))
+      (λ a parsed none. (x, item, inr (also_told laws x f fields none)))
+      (λ a also parsed others h. address_clear laws x f fields a also parsed others (subst (λ (t : Data). HasNoAddress (codes_of "address") t ⊎ HasWrongAlso t) (one h.0 h.1) h.2))
       (λ a also parsed others.
       both_told document links routers codes.Cost (RouterInterface r j) (cost_of f.cost) (λ c. direct_of c f.direct) (interface_from_link r j) (by_code (RouterInterface r j) codes.Cost codes.UnknownLink refl (omega arith)) _
       (λ none. (x, item, inl (cost_told (get (codes_of "cost") x) f.cost fields.cost none)))
@@ -312,8 +316,8 @@ module _ (document : Members) (links routers done : List Data) (d : Data) (rest 
       (λ l known h. unknown_clear links v linked.named x f.link fields.has_link l known (subst (NamesNoLink links) (one h.0 h.1) h.2))
       (λ l known.
       guard_told document links routers (is_outside l a v.places) codes.OutsidePrefix (RouterInterface r j) (interface_from_limit r j) (by_code (RouterInterface r j) codes.OutsidePrefix codes.Limit refl (omega arith)) _
-      (λ out. (x, item, outside_told links v linked x f.link f.address a l fields.has_link fields.has_address parsed known out))
-      (λ inside h. outside_clear links v linked x f.link f.address a l fields.has_link fields.has_address parsed known inside (subst (IsOutside links) (one h.0 h.1) h.2))
+      (λ out. (x, item, outside_told laws links v linked x f.link f.address a l fields.has_link fields.has_address parsed known out))
+      (λ inside h. outside_clear laws links v linked x f.link f.address a l fields.has_link fields.has_address parsed known inside (subst (IsOutside links) (one h.0 h.1) h.2))
       (λ inside.
       guard_told document links routers (is_full v also) codes.Limit (RouterInterface r j) (no_rows (1 ∷ [])) (inl (omega arith)) _
       (λ full. full_told also (also_length x f fields also others) full)
@@ -425,10 +429,10 @@ none_differ : IsDistinct bytes_eq []
 unfolding IsDistinct
 none_differ = tt
 
-linked_through : (links done : List Data) (w u : Sketch) → steps link_step 1 links empty ≡ Ok w → steps router_step 1 done w ≡ Ok u → Linked links u
-linked_through links done w u first second =
-    let added = links_added 0 links empty w first in
-    let more = routers_added 0 done w u second in
+linked_through : (laws : TextLaws) (links done : List Data) (w u : Sketch) → steps link_step 1 links empty ≡ Ok w → steps router_step 1 done w ≡ Ok u → Linked links u
+linked_through laws links done w u first second =
+    let added = links_added laws 0 links empty w first in
+    let more = routers_added laws 0 done w u second in
     let names : u.links ≡ added.names = ap (λ (v : Sketch). v.links) more.made ∙ ap (λ (v : Sketch). v.links) added.made in
     record {
       named = subst (λ (l : List (List ℕ)). Matched IsNameOf l links) (sym names) added.named;
@@ -449,12 +453,12 @@ interfaces_count : (u : Sketch) (spots : List At) → interface_ats u ≡ spots 
 interfaces_count u spots h = sym (length-map u.interfaces (λ (p : DraftInterface). p.at)) ∙ ap length h
 
 module _ (document : Members) (links routers done : List Data) (d : Data) (rest : List Data) (split : routers ≡ done ++ d ∷ rest) (w u : Sketch) (first : steps link_step 1 links empty ≡ Ok w) (second : steps router_step 1 done w ≡ Ok u) where
-  interfaces_find : (name : List ℕ) (all : List Data) → items_in (get (codes_of "interface") d) ≡ all → Finds (IsTold document links routers) (interfaces_rows (1 + length done)).has (steps (interface_step (1 + length done)) 1 all (with_router name u))
-  interfaces_find name all items =
+  interfaces_find : (laws : TextLaws) (name : List ℕ) (all : List Data) → items_in (get (codes_of "interface") d) ≡ all → Finds (IsTold document links routers) (interfaces_rows (1 + length done)).has (steps (interface_step (1 + length done)) 1 all (with_router name u))
+  interfaces_find laws name all items =
       steps_finds (IsTold document links routers) (interface_step r) (λ j. (interface_rows r j).has) (0 ∷ 2 ∷ r ∷ 1 ∷ []) (interface_starts r) all (with_router name u)
       (λ front x back v parts taken.
       let left = interfaces_leave r 1 front (with_router name u) v taken in
-      let linked = linked_same links u v left.0 left.1 (linked_through links done w u first second) in
+      let linked = linked_same links u v left.0 left.1 (linked_through laws links done w u first second) in
       let none = links_stand 1 links empty w first in
       let before = routers_stand 1 done w u second in
       let inner = interfaces_stand r 1 front (with_router name u) v taken in
@@ -463,7 +467,7 @@ module _ (document : Members) (links routers done : List Data) (d : Data) (rest 
       let three : length (interface_ats u) ≡ length (spots_under (codes_of "interface") RouterInterface 1 done) = ap length start in
       let empty_none : further empty ≡ 0 = refl in
       let few : further u ≤ 1024 = few_routers 1 done w u (omega (arith, none.also)) second in
-      interface_finds document links routers done d rest split front x back v (items ∙ parts) linked
+      interface_finds document links routers done d rest split laws front x back v (items ∙ parts) linked
       (omega (arith, two, three, length-append (interface_ats u) (spots_of (RouterInterface r) 1 front), count_of (RouterInterface r) 1 front))
       (omega (arith, none.also, before.also, inner.also))
       (few_interfaces r 1 front (with_router name u) v few taken))
@@ -477,9 +481,9 @@ module _ (document : Members) (links routers done : List Data) (d : Data) (rest 
       r : ℕ
       r = 1 + length done
 
-  owns_find : (name : List ℕ) (ins : List Data) (v0 : Sketch) → steps (interface_step (1 + length done)) 1 ins (with_router name u) ≡ Ok v0 → (all : List Data) → items_in (get (codes_of "own") d) ≡ all
+  owns_find : (laws : TextLaws) (name : List ℕ) (ins : List Data) (v0 : Sketch) → steps (interface_step (1 + length done)) 1 ins (with_router name u) ≡ Ok v0 → (all : List Data) → items_in (get (codes_of "own") d) ≡ all
       → Finds (IsTold document links routers) (owns_rows (1 + length done)).has (steps (own_step (1 + length done)) 1 all v0)
-  owns_find name ins v0 between all items =
+  owns_find laws name ins v0 between all items =
       steps_finds (IsTold document links routers) (own_step r) (λ j. (own_rows r j).has) (0 ∷ 2 ∷ r ∷ 2 ∷ []) (own_starts r) all v0
       (λ front x back v parts taken.
       let left = interfaces_leave r 1 ins (with_router name u) v0 between in
@@ -493,7 +497,7 @@ module _ (document : Members) (links routers done : List Data) (d : Data) (rest 
       let two : length v.places ≡ length (place_ats v0 ++ spots_of (RouterOwn r) 1 front) = places_count v (place_ats v0 ++ spots_of (RouterOwn r) 1 front) inner.places in
       let three : length (place_ats v0) ≡ length (on_links ++ own) = ap length same in
       let names : v.links ≡ u.links = owns_leave r 1 front v0 v taken ∙ left.0 in
-      own_finds document links routers done d rest split front x back v (items ∙ parts) (subst (λ (l : List (List ℕ)). Matched IsNameOf l links) (sym names) (linked_through links done w u first second).named)
+      own_finds document links routers done d rest split laws front x back v (items ∙ parts) (subst (λ (l : List (List ℕ)). Matched IsNameOf l links) (sym names) (linked_through laws links done w u first second).named)
       (omega (arith, two, three, length-append on_links own, length-append (place_ats v0) (spots_of (RouterOwn r) 1 front), count_of (RouterOwn r) 1 front)))
       (λ m o past row f.
       let (x, (e, is, item)) = own_row_item document links routers r m o row f in
@@ -505,17 +509,17 @@ module _ (document : Members) (links routers done : List Data) (d : Data) (rest 
       r : ℕ
       r = 1 + length done
 
-  router_finds : (laws : NameLaws) → Finds (IsTold document links routers) (router_rows (1 + length done)).has (router_step (1 + length done) d u)
+  router_finds : (laws : TextLaws) → Finds (IsTold document links routers) (router_rows (1 + length done)).has (router_step (1 + length done) d u)
   unfolding router_step
   router_finds laws =
       let r : ℕ = 1 + length done in
-      let before = links_added 0 links empty w first in
-      let added = routers_added 0 done w u second in
+      let before = links_added laws 0 links empty w first in
+      let added = routers_added laws 0 done w u second in
       let names : u.routers ≡ added.names = ap (λ (v : Sketch). v.routers) added.made ∙ ap (λ (v : Sketch). v.routers ++ added.names) before.made in
       let named : Matched IsNameOf u.routers done = subst (λ (l : List (List ℕ)). Matched IsNameOf l done) (sym names) added.named in
       want_told document links routers codes.Key (Router r) (as_table d &> router_fields) (router_from_name r) (by_code (Router r) codes.Key codes.Name refl (omega arith)) _
-      (λ none. (d, table_here laws routers done d rest split, none))
-      (λ f is h. none-some f (sym h.2 ∙ ap (λ (t : Data). as_table t &> router_fields) (table_same laws routers done d rest split h.0 h.1) ∙ is))
+      (λ none. (d, table_here laws routers done d rest split, router_not d none))
+      (λ f is h. h.2 (subst IsRouterTable (sym (table_same laws routers done d rest split h.0 h.1)) (router_told d f is)))
       (λ f is.
       let table = router_table d f.0 f.1 f.2 is in
       guard_told document links routers (not (is_name f.0)) codes.Name (Router r) (router_from_duplicate r) (by_code (Router r) codes.Name codes.DuplicateName refl (omega arith)) _
@@ -528,10 +532,10 @@ module _ (document : Members) (links routers done : List Data) (d : Data) (rest 
       (λ fresh.
       bind_rows (IsTold document links routers) (interfaces_rows r).has (owns_rows r) (steps (interface_step r) 1 f.1 (with_router f.0 u)) (steps (own_step r) 1 f.2)
       (λ e h. starts_high (0 ∷ 2 ∷ r ∷ []) 1 (ranked e) 2 (1 ∷ []) (omega arith) (starts_shorter (0 ∷ 2 ∷ r ∷ []) 1 [] h.0 (ranked e) (interface_starts r h.0 e h.2)))
-      (interfaces_find f.0 f.1 table.interfaces_are)
-      (λ v between. owns_find f.0 f.1 v between f.2 table.owns_are))))
+      (interfaces_find laws f.0 f.1 table.interfaces_are)
+      (λ v between. owns_find laws f.0 f.1 v between f.2 table.owns_are))))
 
-pub routers_find : (laws : NameLaws) (document : Members) (links routers : List Data) (w : Sketch) → steps link_step 1 links empty ≡ Ok w → Finds (IsTold document links routers) routers_rows.has (steps router_step 1 routers w)
+pub routers_find : (laws : TextLaws) (document : Members) (links routers : List Data) (w : Sketch) → steps link_step 1 links empty ≡ Ok w → Finds (IsTold document links routers) routers_rows.has (steps router_step 1 routers w)
 routers_find laws document links routers w first =
     steps_finds (IsTold document links routers) router_step (λ r. (router_rows r).has) (0 ∷ 2 ∷ []) router_starts routers w
     (λ done x rest u split taken. router_finds document links routers done x rest split w u first taken laws)

@@ -9,8 +9,10 @@ use Rattle.rip_wire.specs.Address.{address_in}
 use Rattle.rip_plan.specs.Fields.{InterfaceFields, OwnFields, ◌&>◌, has_only, list_of, text_at, items_at, items_if, integer_if, texts_of, flag_if, text_if, address_if, link_if, addresses_in, link_keys, interface_keys, own_keys, router_keys, is_between, link_fields, interface_fields, own_fields, router_fields, cost_of, direct_of}
 use Rattle.rip_plan.specs.Names.{number_of_name}
 use Rattle.rip_plan.specs.PlanOf.{HasText, IsAddressOf, IsCostOf, IsDirectOf, IsGatewayOf, IsKeptOf, IsLinkOf, IsNameOf, Matched, items_in}
-use Rattle.rip_plan.specs.PlanFaults.{HasNoAddress}
-use Rattle.rip_plan.proofs.Matching.{matched_right}
+use Rattle.rip_plan.specs.PlanFaults.{HasNoAddress, IsOutsideOf}
+use Rattle.rip_plan.proofs.Matching.{matched_right, matched_weaker}
+use Rattle.rip_plan.proofs.Texts.{TextLaws, address_is, no_address, first_named}
+use Rattle.rip_plan.specs.Texts.{IsAddressText, IsNoAddress}
 
 pub then_some : {A B : Type 0} (o : Option A) (f : A → Option B) (y : B) → (o &> f) ≡ Some y → (x : A) × (o ≡ Some x) × (f x ≡ Some y)
 then_some None f y h = absurd (none-some y h)
@@ -47,7 +49,7 @@ integer_is (boolean b) z h = absurd (none-some z h)
 integer_is (datetime u) z h = absurd (none-some z h)
 integer_is (array ds) z h = absurd (none-some z h)
 
-array_is : (d : Data) (xs : List Data) → option_map list_of (as_array d) ≡ Some xs → (items : Items) × (d ≡ array items) × (list_of items ≡ xs)
+pub array_is : (d : Data) (xs : List Data) → option_map list_of (as_array d) ≡ Some xs → (items : Items) × (d ≡ array items) × (list_of items ≡ xs)
 array_is (array ds) xs h = (ds, refl, same_Some (list_of ds) xs h)
 array_is (string s) xs h = absurd (none-some xs h)
 array_is (integer z) xs h = absurd (none-some xs h)
@@ -97,7 +99,7 @@ direct_is o cost given c h e = given_is o given (direct_of cost) c cost refl wit
     within (pos n) f = ap pos (cond_some (is_between 1 cost n) n c f).1
     within (negsuc n) f = absurd (none-some c f)
 
-boolean_is : (d : Data) (b : Bool) → as_bool d ≡ Some b → d ≡ boolean b
+pub boolean_is : (d : Data) (b : Bool) → as_bool d ≡ Some b → d ≡ boolean b
 boolean_is (boolean a) b h = ap boolean (same_Some a b h)
 boolean_is (string s) b h = absurd (none-some b h)
 boolean_is (table ms) b h = absurd (none-some b h)
@@ -225,24 +227,24 @@ link_is links d (Some name) link has h = by_number (number_of_name name links) r
   where
     by_number : (o : Option ℕ) → number_of_name name links ≡ o → option_map Some o ≡ Some link → IsLinkOf links d link
     by_number None e g = absurd (none-some link g)
-    by_number (Some l) e g = subst (IsLinkOf links d) (same_Some (Some l) link g) (name, has, e)
+    by_number (Some l) e g = subst (IsLinkOf links d) (same_Some (Some l) link g) (name, has, first_named name links l e)
 
-gateway_is : (d : Data) (text : Option (List ℕ)) (via : Option ℕ) → IsTextIf (get (codes_of "via") d) text → address_if text ≡ Some via → IsGatewayOf d via
-gateway_is d None via has h = let same : None ≡ via = same_Some None via h in subst (IsGatewayOf d) same has
-gateway_is d (Some text) via has h = by_address (address_in text) refl h
+gateway_is : (laws : TextLaws) (d : Data) (text : Option (List ℕ)) (via : Option ℕ) → IsTextIf (get (codes_of "via") d) text → address_if text ≡ Some via → IsGatewayOf d via
+gateway_is laws d None via has h = let same : None ≡ via = same_Some None via h in subst (IsGatewayOf d) same has
+gateway_is laws d (Some text) via has h = by_address (address_in text) refl h
   where
     by_address : (o : Option ℕ) → address_in text ≡ o → option_map Some o ≡ Some via → IsGatewayOf d via
     by_address None e g = absurd (none-some via g)
-    by_address (Some a) e g = subst (IsGatewayOf d) (same_Some (Some a) via g) (text, has, e)
+    by_address (Some a) e g = subst (IsGatewayOf d) (same_Some (Some a) via g) (text, has, address_is laws text a e)
 
-pub own_table : (d : Data) (links : List (List ℕ)) (f : OwnFields) (c : ℕ) (link via : Option ℕ) → (as_table d &> own_fields) ≡ Some f → cost_of f.cost ≡ Some c → link_if f.link links ≡ Some link → address_if f.via ≡ Some via → IsOwnTable d links f c link via
-own_table d links f c link via h costs known gateway =
+pub own_table : (laws : TextLaws) (d : Data) (links : List (List ℕ)) (f : OwnFields) (c : ℕ) (link via : Option ℕ) → (as_table d &> own_fields) ≡ Some f → cost_of f.cost ≡ Some c → link_if f.link links ≡ Some link → address_if f.via ≡ Some via → IsOwnTable d links f c link via
+own_table laws d links f c link via h costs known gateway =
     let has = own_texts d f h in
     record {
       has = has;
       cost = cost_is (get (codes_of "cost") d) f.cost c has.cost costs;
       link = link_is links d f.link link has.link known;
-      via = gateway_is d f.via via has.via gateway;
+      via = gateway_is laws d f.via via has.via gateway;
     }
 
 pub record IsRouterTable (d : Data) (name : List ℕ) (interfaces owns : List Data) : Type 0 where
@@ -278,22 +280,37 @@ integer_told f c (Some d) given some h e = by_given (as_integer d) refl h
         let same : Some z ≡ given = same_Some (Some z) given g in
         (z, ap (λ (x : Data). Some x) (integer_is d z k), ap f same ∙ e)
 
-integer_clear : (f : Option ℤ → Option ℕ) (o : Option Data) (given : Option ℤ) (c : ℕ) → integer_if o ≡ Some given → f given ≡ Some c → (z : ℤ) → o ≡ Some (integer z) → f (Some z) ≡ None → ⊥
-integer_clear f o given c h e z is none =
+integer_clear : (f : Option ℤ → Option ℕ) (o : Option Data) (given : Option ℤ) (c : ℕ) → integer_if o ≡ Some given → f given ≡ Some c → (z : ℤ) → o ≡ Some (integer z) → f (Some z) ≡ Some c
+integer_clear f o given c h e z is =
     let same : Some z ≡ given = same_Some (Some z) given (ap integer_if (sym is) ∙ h) in
-    none-some c (sym none ∙ ap f same ∙ e)
+    ap f same ∙ e
 
-pub cost_told : (o : Option Data) (given : Option ℤ) → integer_if o ≡ Some given → cost_of given ≡ None → (z : ℤ) × (o ≡ Some (integer z)) × (cost_of (Some z) ≡ None)
-cost_told o given h e = integer_told cost_of 1 o given refl h e
+cost_direct : (z : ℤ) → cost_of (Some z) ≡ direct_of 15 (Some z)
+cost_direct (pos n) = refl
+cost_direct (negsuc n) = refl
 
-pub cost_clear : (o : Option Data) (given : Option ℤ) (c : ℕ) → integer_if o ≡ Some given → cost_of given ≡ Some c → (z : ℤ) → o ≡ Some (integer z) → cost_of (Some z) ≡ None → ⊥
-cost_clear o given c h e z is none = integer_clear cost_of o given c h e z is none
+outside : (most : ℕ) (z : ℤ) → direct_of most (Some z) ≡ None → IsOutsideOf most z
+outside most z none c is least few =
+    let within : is_between 1 most c ≡ true = grind (arith, nat_tests) in
+    none-some c (sym none ∙ ap (λ (y : ℤ). direct_of most (Some y)) is ∙ ap (λ (b : Bool). cond b (Some c) None) within)
 
-pub direct_told : (cost : ℕ) (o : Option Data) (given : Option ℤ) → integer_if o ≡ Some given → direct_of cost given ≡ None → (z : ℤ) × (o ≡ Some (integer z)) × (direct_of cost (Some z) ≡ None)
-direct_told cost o given h e = integer_told (direct_of cost) cost o given refl h e
+not_outside : (most : ℕ) (z : ℤ) (c : ℕ) → direct_of most (Some z) ≡ Some c → IsOutsideOf most z → ⊥
+not_outside most (pos n) c h bad =
+    let (between, same) = cond_some (is_between 1 most n) n c h in
+    bad n refl (grind (arith, nat_tests)) (grind (arith, nat_tests))
+not_outside most (negsuc n) c h bad = none-some c h
 
-pub direct_clear : (cost : ℕ) (o : Option Data) (given : Option ℤ) (c : ℕ) → integer_if o ≡ Some given → direct_of cost given ≡ Some c → (z : ℤ) → o ≡ Some (integer z) → direct_of cost (Some z) ≡ None → ⊥
-direct_clear cost o given c h e z is none = integer_clear (direct_of cost) o given c h e z is none
+pub cost_told : (o : Option Data) (given : Option ℤ) → integer_if o ≡ Some given → cost_of given ≡ None → (z : ℤ) × (o ≡ Some (integer z)) × IsOutsideOf 15 z
+cost_told o given h e = let (z, is, none) = integer_told cost_of 1 o given refl h e in (z, is, outside 15 z (sym (cost_direct z) ∙ none))
+
+pub cost_clear : (o : Option Data) (given : Option ℤ) (c : ℕ) → integer_if o ≡ Some given → cost_of given ≡ Some c → (z : ℤ) → o ≡ Some (integer z) → IsOutsideOf 15 z → ⊥
+cost_clear o given c h e z is bad = not_outside 15 z c (sym (cost_direct z) ∙ integer_clear cost_of o given c h e z is) bad
+
+pub direct_told : (cost : ℕ) (o : Option Data) (given : Option ℤ) → integer_if o ≡ Some given → direct_of cost given ≡ None → (z : ℤ) × (o ≡ Some (integer z)) × IsOutsideOf cost z
+direct_told cost o given h e = let (z, is, none) = integer_told (direct_of cost) cost o given refl h e in (z, is, outside cost z none)
+
+pub direct_clear : (cost : ℕ) (o : Option Data) (given : Option ℤ) (c : ℕ) → integer_if o ≡ Some given → direct_of cost given ≡ Some c → (z : ℤ) → o ≡ Some (integer z) → IsOutsideOf cost z → ⊥
+direct_clear cost o given c h e z is bad = not_outside cost z c (integer_clear (direct_of cost) o given c h e z is) bad
 
 -- ---- costs that may stand
 
@@ -313,33 +330,42 @@ direct_within cost (Some (negsuc n)) c least h = absurd (none-some c h)
 
 -- ---- a gateway that is no address
 
-pub gateway_told : (d : Data) (text : Option (List ℕ)) → IsTextIf (get (codes_of "via") d) text → address_if text ≡ None → HasNoAddress (codes_of "via") d
-gateway_told d None has h = absurd (none-some None (sym h))
-gateway_told d (Some text) has h = by_address (address_in text) refl h
+pub gateway_told : (laws : TextLaws) (d : Data) (text : Option (List ℕ)) → IsTextIf (get (codes_of "via") d) text → address_if text ≡ None → HasNoAddress (codes_of "via") d
+gateway_told laws d None has h = absurd (none-some None (sym h))
+gateway_told laws d (Some text) has h = by_address (address_in text) refl h
   where
     by_address : (o : Option ℕ) → address_in text ≡ o → option_map Some o ≡ None → HasNoAddress (codes_of "via") d
-    by_address None e g = (text, has, e)
+    by_address None e g = (text, has, no_address laws text e)
     by_address (Some a) e g = absurd (none-some (Some a) (sym g))
 
-pub gateway_clear : (d : Data) (text : Option (List ℕ)) (via : Option ℕ) → IsTextIf (get (codes_of "via") d) text → address_if text ≡ Some via → HasNoAddress (codes_of "via") d → ⊥
-gateway_clear d None via has h (t, there, none) = none-some (string t) (sym has ∙ there)
-gateway_clear d (Some text) via has h (t, there, none) =
+pub gateway_clear : (laws : TextLaws) (d : Data) (text : Option (List ℕ)) (via : Option ℕ) → IsTextIf (get (codes_of "via") d) text → address_if text ≡ Some via → HasNoAddress (codes_of "via") d → ⊥
+gateway_clear laws d None via has h (t, there, none) = none-some (string t) (sym has ∙ there)
+gateway_clear laws d (Some text) via has h (t, there, none) =
     let same : string text ≡ string t = same_Some (string text) (string t) (sym has ∙ there) in
-    let one : text ≡ t = cc in
-    let lacks : address_if (Some text) ≡ None = ap (λ (o : Option ℕ). option_map Some o) (ap address_in one ∙ none) in
-    none-some via (sym lacks ∙ h)
+    by_address (address_in text) refl h cc
+  where
+    by_address : (o : Option ℕ) → address_in text ≡ o → option_map Some o ≡ Some via → text ≡ t → ⊥
+    by_address None e g one = none-some via g
+    by_address (Some a) e g one = none a (subst (λ (s : List ℕ). IsAddressText s a) one (address_is laws text a e))
 
 -- ---- further addresses
 
--- the addresses of these texts
-pub addresses_are : (ds : List Data) (also : List ℕ) → addresses_in ds ≡ Some also → Matched IsAddressOf also ds
-addresses_are [] also h = let same : [] ≡ also = same_Some [] also h in subst (λ (l : List ℕ). Matched IsAddressOf l []) same tt
-addresses_are (d ∷ ds) also h =
+-- the item is a text of which this address is read
+abbrev pub IsReadOf : ℕ → Data → Type 0
+IsReadOf a d = (text : List ℕ) × (d ≡ string text) × (address_in text ≡ Some a)
+
+pub addresses_read : (ds : List Data) (also : List ℕ) → addresses_in ds ≡ Some also → Matched IsReadOf also ds
+addresses_read [] also h = let same : [] ≡ also = same_Some [] also h in subst (λ (l : List ℕ). Matched IsReadOf l []) same tt
+addresses_read (d ∷ ds) also h =
     let (a, first, h1) = then_some (as_str d &> address_in) _ also h in
     let (text, is, parsed) = then_some (as_str d) address_in a first in
     let (others, rest, h2) = then_some (addresses_in ds) _ also h1 in
     let same : a ∷ others ≡ also = same_Some (a ∷ others) also h2 in
-    subst (λ (l : List ℕ). Matched IsAddressOf l (d ∷ ds)) same ((text, text_is d text is, parsed), addresses_are ds others rest)
+    subst (λ (l : List ℕ). Matched IsReadOf l (d ∷ ds)) same ((text, text_is d text is, parsed), addresses_read ds others rest)
+
+-- the addresses of these texts
+pub addresses_are : (laws : TextLaws) (ds : List Data) (also : List ℕ) → addresses_in ds ≡ Some also → Matched IsAddressOf also ds
+addresses_are laws ds also h = matched_weaker IsReadOf IsAddressOf (λ a d read. (read.0, read.1, address_is laws read.0 a read.2)) also ds (addresses_read ds also h)
 
 -- a text among them that is no address
 pub addresses_told : (ds : List Data) → list_all (λ x. is_some (as_str x)) ds ≡ true → addresses_in ds ≡ None → (k : ℕ) × (text : List ℕ) × (slice_get ds k ≡ Some (string text)) × (address_in text ≡ None)
@@ -360,9 +386,9 @@ addresses_told (d ∷ ds) all h = by_text (as_str d) refl all h (addresses_told 
         by_address None i k = (zero, text, ap (λ (x : Data). Some x) (text_is d text e), i)
         by_address (Some a) i k = let (m, t, at, none) = later texts (by_rest (addresses_in ds) refl a k) in (suc m, t, at, none)
 
-pub addresses_clear : (ds : List Data) (also : List ℕ) → addresses_in ds ≡ Some also → (k : ℕ) (text : List ℕ) → slice_get ds k ≡ Some (string text) → address_in text ≡ None → ⊥
-addresses_clear ds also h k text at none =
-    let (a, listed, (t, is, parsed)) = matched_right IsAddressOf also ds k (string text) (addresses_are ds also h) at in
-    let same : string text ≡ string t = is in
-    let one : text ≡ t = cc in
-    none-some a (sym none ∙ ap address_in one ∙ parsed)
+pub addresses_clear : (laws : TextLaws) (ds : List Data) (also : List ℕ) → addresses_in ds ≡ Some also → (k : ℕ) (text : List ℕ) → slice_get ds k ≡ Some (string text) → IsNoAddress text → ⊥
+addresses_clear laws ds also h k text at none =
+    let (a, listed, (t, is, spelled)) = matched_right IsAddressOf also ds k (string text) (addresses_are laws ds also h) at in
+    let same : string t ≡ string text = sym is in
+    let one : t ≡ text = cc in
+    none a (subst (λ (s : List ℕ). IsAddressText s a) one spelled)

@@ -24,20 +24,22 @@ use Rattle.rip_plan.specs.Relations.{IsLawful}
 use Rattle.rip_plan.proofs.Binds.{bind_ok}
 use Rattle.rip_plan.proofs.FaultRows.{IsAstrayAt, IsOfTables, IsTold, covers, told_finds, first_rows, first_high, first_sooner, links_rows, links_high, routers_rows, pass_rows, table_rows}
 use Rattle.rip_plan.proofs.Finding.{Found, ranked, row_at, Rows, row_then, Finds, finds_in, guard_finds, want_finds, bind_rows}
-use Rattle.rip_plan.proofs.FirstPass.{TextLaws}
 use Rattle.rip_plan.proofs.Items.{or_false}
 use Rattle.rip_plan.proofs.LawfulPlan.{lawful, not_false}
-use Rattle.rip_plan.proofs.LinkFaults.{NameLaws, links_find}
+use Rattle.rip_plan.proofs.LinkFaults.{links_find}
 use Rattle.rip_plan.proofs.OnePlan.{items_same}
 use Rattle.rip_plan.proofs.Orders.{before_not, before_trans, before_or}
 use Rattle.rip_plan.proofs.PassFaults.{passes_find}
 use Rattle.rip_plan.proofs.PlanMatches.{root_table, document_matches, network_matches}
 use Rattle.rip_plan.proofs.RouterFaults.{routers_find}
-use Rattle.rip_plan.proofs.Standing.{place_ats, interface_ats, links_stand, routers_stand}
+use Rattle.rip_plan.proofs.SpotsTaken.{place_ats, interface_ats, links_stand, routers_stand}
+use Rattle.rip_plan.proofs.Texts.{TextLaws}
+use Rattle.rip_plan.specs.DocumentTables.{IsRoot}
+use Rattle.rip_plan.proofs.DocumentTables.{root_told, root_not}
 
 -- ---- the tables
 
-module _ (laws : NameLaws) (document : Members) (links routers : List Data) (root : root_fields document ≡ Some (links, routers)) where
+module _ (laws : TextLaws) (document : Members) (links routers : List Data) (root : root_fields document ≡ Some (links, routers)) where
   tables_find : Finds (IsOfTables document links routers) table_rows.has (steps link_step 1 links empty >>= steps router_step 1 routers >>= (λ s. second_passes s >>= (λ _. Ok s)))
   tables_find =
       let F = IsOfTables document links routers in
@@ -47,13 +49,13 @@ module _ (laws : NameLaws) (document : Members) (links routers : List Data) (roo
       (bind_rows T links_rows.has routers_rows (steps link_step 1 links empty) (steps router_step 1 routers) (λ e h. links_high e h) (links_find laws document links routers) (λ w is. routers_find laws document links routers w is)))
       (λ s taken.
       let (w, first, second) = bind_ok (steps link_step 1 links empty) (steps router_step 1 routers) s taken in
-      let plan : PlanOf document (network_of_sketch s) = document_matches document s (record { links = links; routers = routers; root = root; between = w; first = first; second = second }) in
+      let plan : PlanOf document (network_of_sketch s) = document_matches laws document s (record { links = links; routers = routers; root = root; between = w; first = first; second = second }) in
       let one = links_stand 1 links empty w first in
       let two = routers_stand 1 routers w s second in
       let placed : place_ats s ≡ place_spots links routers = two.places ∙ ap (λ (l : List At). l ++ spots_under (codes_of "own") RouterOwn 1 routers) one.places in
       let listed : interface_ats s ≡ interface_spots routers = two.interfaces ∙ ap (λ (l : List At). l ++ spots_under (codes_of "interface") RouterInterface 1 routers) one.interfaces in
       let tables : plan.links ≡ links = items_same (codes_of "link") (table document) plan.links links plan.has_links (root_table document links routers root).has_links in
-      then_ok F s (second_passes s) (passes_find document links routers s plan placed listed tables))
+      then_ok F s (second_passes s) (passes_find laws document links routers s plan placed listed tables))
     where
       then_ok : (F : Found → Type 0) (s : Sketch) (r : Result (Unit {0}) PlanError) → Finds F pass_rows.has r → Finds F pass_rows.has (r >>= (λ _. Ok s))
       then_ok F s (Ok x) h = h
@@ -136,7 +138,7 @@ module _ (bytes : List ℕ) (document : Members) (links routers : List Data) (ha
       (subst (λ (l : List Data). IsAstrayAt document l rs place) two
       (subst (λ (m : Members). IsAstrayAt m ls rs place) one f))
 
-module _ (laws : NameLaws) (bytes : List ℕ) (document : Members) (short : length bytes ≤ 1048576) (reads : document_of bytes ≡ Some document) where
+module _ (laws : TextLaws) (bytes : List ℕ) (document : Members) (short : length bytes ≤ 1048576) (reads : document_of bytes ≡ Some document) where
   text : IsText bytes document
   text = record { short = short; reads = reads }
 
@@ -203,10 +205,10 @@ module _ (laws : NameLaws) (bytes : List ℕ) (document : Members) (short : leng
       h.2 (ap (get_member (codes_of "version")) same ∙ its))
       (λ good.
       want_finds (IsTextFault bytes) (row_at codes.Key Text) (root_fields document) from_limit (inr (refl, inr (refl, inr (refl, inr (refl, inr (refl, inl (omega arith))))))) _
-      (λ none. inl ((document, text, none), refl))
+      (λ none. inl ((document, text, root_not document none), refl))
       (λ r is f.
       let h = in_table bytes 0 codes.Key Text (λ a. a) f in
-      none-some r (sym h.2 ∙ ap root_fields (same_document bytes document h.0 reads h.1) ∙ is))
+      h.2 (subst IsRoot (sym (same_document bytes document h.0 reads h.1)) (root_told document r is)))
       (λ r is.
       guard_finds (IsTextFault bytes) (nat_lt 512 (length r.0) || nat_lt 128 (length r.1)) (row_at codes.Limit Text) table_rows (inr (refl, inl (omega arith))) _
       (λ over. inl (inr (document, r.0, r.1, tables r.0 r.1 is, over_told r.0 r.1 over), refl))
@@ -242,7 +244,7 @@ module _ (laws : NameLaws) (bytes : List ℕ) (document : Members) (short : leng
 
 -- ---- the text
 
-text_finds : (laws : NameLaws) (bytes : List ℕ) → Finds (IsTextFault bytes) (λ o. Unit {0}) (sketch_of bytes)
+text_finds : (laws : TextLaws) (bytes : List ℕ) → Finds (IsTextFault bytes) (λ o. Unit {0}) (sketch_of bytes)
 unfolding sketch_of
 text_finds laws bytes = by_length (nat_lt 1048576 (length bytes)) refl
   where
@@ -321,7 +323,7 @@ rank_length : (pass : ℕ) (c : PlanCode) (place : At) → length (rank pass (fa
 rank_length pass c (Link i) = omega arith
 rank_length pass c place = omega arith
 
-pub fault_first : (laws : NameLaws) (bytes : List ℕ) (e : PlanError) → sketch_of bytes ≡ Err e → PlanFault bytes e
+pub fault_first : (laws : TextLaws) (bytes : List ℕ) (e : PlanError) → sketch_of bytes ≡ Err e → PlanFault bytes e
 fault_first laws bytes e h =
     let found : Finds (IsTextFault bytes) {A = Sketch} (λ o. Unit {0}) (Err e) = subst (λ (r : Result Sketch PlanError). Finds (IsTextFault bytes) (λ o. Unit {0}) r) h (text_finds laws bytes) in
     record {
@@ -339,14 +341,14 @@ fault_first laws bytes e h =
           ];
     }
 
-pub faultless : (laws : NameLaws) (bytes : List ℕ) (s : Sketch) → sketch_of bytes ≡ Ok s → (e : PlanError) → IsFault bytes e → ⊥
+pub faultless : (laws : TextLaws) (bytes : List ℕ) (s : Sketch) → sketch_of bytes ≡ Ok s → (e : PlanError) → IsFault bytes e → ⊥
 faultless laws bytes s h e f =
     let found : Finds (IsTextFault bytes) {A = Sketch} (λ o. Unit {0}) (Ok s) = subst (λ (r : Result Sketch PlanError). Finds (IsTextFault bytes) (λ o. Unit {0}) r) h (text_finds laws bytes) in
     found (record { pass = f.0; error = e }) tt f.1
 
 -- ---- the laws
 
-pub fault_told : (laws : NameLaws) (bytes : List ℕ) (e : PlanError) → (first_fault bytes ≡ Some e) ↔ PlanFault bytes e
+pub fault_told : (laws : TextLaws) (bytes : List ℕ) (e : PlanError) → (first_fault bytes ≡ Some e) ↔ PlanFault bytes e
 fault_told laws bytes e = by_sketch (sketch_of bytes) refl
   where
     one : (d : PlanError) → PlanFault bytes d → PlanFault bytes e → d ≡ e
@@ -370,7 +372,7 @@ fault_told laws bytes e = by_sketch (sketch_of bytes) refl
       λ p. ap (λ (r : Result Sketch PlanError). result_err (r >>= (λ s. Ok (network_of_sketch s)))) h ∙ ap (λ (x : PlanError). Some x) (one d (fault_first laws bytes d h) p),
     )
 
-pub none_told : (laws : NameLaws) (bytes : List ℕ) → (first_fault bytes ≡ None) ↔ ((e : PlanError) → IsFault bytes e → ⊥)
+pub none_told : (laws : TextLaws) (bytes : List ℕ) → (first_fault bytes ≡ None) ↔ ((e : PlanError) → IsFault bytes e → ⊥)
 none_told laws bytes = by_sketch (sketch_of bytes) refl
   where
     by_sketch : (r : Result Sketch PlanError) → sketch_of bytes ≡ r → (result_err (sketch_of bytes >>= (λ s. Ok (network_of_sketch s))) ≡ None) ↔ ((e : PlanError) → IsFault bytes e → ⊥)
@@ -383,9 +385,9 @@ none_told laws bytes = by_sketch (sketch_of bytes) refl
       λ p. let told = fault_first laws bytes d h in absurd (p d (told.pass, told.found)),
     )
 
-pub plan_stands : (names : NameLaws) (laws : TextLaws) (bytes : List ℕ) → ((e : PlanError) → IsFault bytes e → ⊥) → (n : Network) × IsPlanOfText bytes n × IsLawful n
-plan_stands names laws bytes none = by_sketch (sketch_of bytes) refl
+pub plan_stands : (laws : TextLaws) (bytes : List ℕ) → ((e : PlanError) → IsFault bytes e → ⊥) → (n : Network) × IsPlanOfText bytes n × IsLawful n
+plan_stands laws bytes none = by_sketch (sketch_of bytes) refl
   where
     by_sketch : (r : Result Sketch PlanError) → sketch_of bytes ≡ r → (n : Network) × IsPlanOfText bytes n × IsLawful n
-    by_sketch (Ok s) h = (network_of_sketch s, network_matches bytes (network_of_sketch s) (ap (λ (r : Result Sketch PlanError). r >>= (λ t. Ok (network_of_sketch t))) h), lawful laws bytes s h)
-    by_sketch (Err d) h = let told = fault_first names bytes d h in absurd (none d (told.pass, told.found))
+    by_sketch (Ok s) h = (network_of_sketch s, network_matches laws bytes (network_of_sketch s) (ap (λ (r : Result Sketch PlanError). r >>= (λ t. Ok (network_of_sketch t))) h), lawful laws bytes s h)
+    by_sketch (Err d) h = let told = fault_first laws bytes d h in absurd (none d (told.pass, told.found))

@@ -1,17 +1,13 @@
 -- Bytes without a fault are the well-formed ones.
-use Rattle.std.proofs.Common.{◌≡◌, ℕ, zero, suc, ◌+◌, ◌<◌, ◌≤◌, ◌⊎◌, inl, inr, List, [], ◌∷◌, ◌++◌, map, length, length-append, sum, Bool, true, false, cond, not, Option, None, Some, refl, sym, ◌∙◌, ap, subst, arith}
-use Rattle.std.specs.Prelude.{ℤ, pos, slice_get, get_or, codes as codes_of}
+use Rattle.std.proofs.Common.{◌≡◌, ℕ, zero, suc, ◌+◌, ◌<◌, ◌≤◌, ◌⊎◌, inl, inr, List, [], ◌∷◌, ◌++◌, map, length, length-append, sum, Bool, true, false, not, Option, None, Some, refl, sym, ◌∙◌, ap, subst, arith}
+use Rattle.std.specs.Prelude.{pos, slice_get, get_or, codes as codes_of}
 use Rattle.std.specs.List.{All, sum_by}
-use Rattle.std.specs.Str.{bytes_eq}
 use Rattle.std.proofs.lemmas.Bool.{cases_lt}
-use Rattle.std.proofs.lemmas.Bool.Decides.{nat_tests}
 use Rattle.std.proofs.lemmas.List.Sums.{sum-map, sum_by-cons}
 use Rattle.std.proofs.lemmas.Option.{none-some, same_Some, slice_get_within, get_or_from_slice_get, slice_get-get_or}
-use Rattle.std.proofs.lemmas.Slice.Eq.{bytes_eq-Decides}
-use Rattle.toml.specs.Data.{Data, Members, as_str, as_table, get, integer, string, table}
-use Rattle.rip_wire.specs.Address.{address_in}
+use Rattle.toml.specs.Data.{Data, Members, get, integer, string, table}
 use Rattle.rip_wire.specs.Name.{IsName}
-use Rattle.rip_wire.specs.Prefix.{Block, prefix_in}
+use Rattle.rip_wire.specs.Prefix.{Block}
 use Rattle.rip_plan.specs.declared.error.PlanCode.{PlanCode}
 use Rattle.rip_plan.specs.declared.error.PlanCode.TheVariants as codes
 use Rattle.rip_plan.specs.declared.error.PlanError.{PlanError}
@@ -20,20 +16,23 @@ use Rattle.rip_plan.specs.declared.error.At.TheVariants.{Text, Version, Link, Li
 use Rattle.rip_plan.specs.declared.parts.Interface.{Interface}
 use Rattle.rip_plan.specs.declared.parts.Seat.TheVariants as seats
 use Rattle.rip_plan.specs.Fault.{fault}
-use Rattle.rip_plan.specs.Fields.{◌&>◌, cost_of, direct_of, interface_fields, is_between, is_version, link_fields, own_fields, root_fields, router_fields}
-use Rattle.rip_plan.specs.Names.{number_of_name}
+use Rattle.rip_plan.specs.Fields.{interface_fields, is_version, link_fields, own_fields, router_fields}
 use Rattle.rip_plan.specs.Network.{Network}
 use Rattle.rip_plan.specs.PlanFaults.{AreTwice, AstrayAt, DoMeet, FaultAt, HasNoAddress, HasOneTwice, HasPrefix, HasTables, HasWrongAlso, HasWrongCost, HasWrongDirect, HaveOneAddress, IsAstray, IsBare, IsClash, IsFault, IsFound, IsItem, IsMisnamed, IsNamedAgain, IsOutside, IsPast, IsSo, IsText, NamesNoLink, TableFault, also_spots, interface_spots, nth, pass_of, place_spots, spots_under}
 use Rattle.rip_plan.specs.PlanOf.{AreAlsoOf, IsAddressOf, IsCostOf, IsDirectOf, IsGatewayOf, IsLinkOf, IsInterfaceOf, IsNameOf, IsOnLink, IsOwned, IsPlaceOf, IsPlanOfText, Matched, Placement, PlanOf, items_in, items_under}
 use Rattle.rip_plan.specs.Relations.{Carries, HasOwnAddress, IsConnected, IsInterface, IsLawful, IsOwnAt, IsPlace, IsPrefix}
-use Rattle.rip_plan.specs.WellFormed.{HasFields, IsWellFormed}
+use Rattle.rip_plan.specs.WellFormed.{IsWellFormed}
 use Rattle.rip_plan.proofs.AlsoSpots.{also_count, also_in, also_items, also_under}
-use Rattle.rip_plan.proofs.Items.{get_seen, get_split, position_finds, see_got}
+use Rattle.rip_plan.proofs.Items.{get_seen, get_split, see_got}
 use Rattle.rip_plan.proofs.Matching.{matched_left, matched_length, matched_right}
 use Rattle.rip_plan.proofs.OnePlan.{cost_same, one_plan, text_same}
 use Rattle.rip_plan.proofs.PlanMatches.{with_number}
 use Rattle.rip_plan.proofs.Spots.{get_before, get_past, spots_count}
 use Rattle.rip_plan.proofs.TextFaults.{one_astray, one_fault, one_tables, same_document, version_is, version_told}
+use Rattle.rip_plan.proofs.Texts.{TextLaws, one_address}
+use Rattle.rip_plan.specs.Texts.{IsAddressText, IsPrefixText, IsNoPrefix}
+use Rattle.rip_plan.specs.DocumentTables.{IsLinkTable, IsRouterTable, IsInterfaceTable, IsOwnTable, IsRoot, IsString}
+use Rattle.rip_plan.proofs.DocumentTables.{link_told, link_not, router_told, router_not, interface_told, interface_not, own_not, by_table, by_root, own_told}
 
 -- ---- lists
 
@@ -87,26 +86,24 @@ costs : (d : Data) (c : ℕ) → IsCostOf d c → 1 ≤ c → c ≤ 15 → HasWr
 costs d c (inr given) least most (z, is, none) = none-some (integer z) (sym given.0 ∙ is)
 costs d c (inl given) least most (z, is, none) =
     let same : integer (pos c) ≡ integer z = same_Some (integer (pos c)) (integer z) (sym given ∙ is) in
-    let number : pos c ≡ z = cc in
-    let within : is_between 1 15 c ≡ true = grind (arith, nat_tests) in
-    none-some c (sym none ∙ ap (λ (y : ℤ). cost_of (Some y)) (sym number) ∙ ap (λ (b : Bool). cond b (Some c) None) within)
+    let number : z ≡ pos c = cc in
+    none c number least most
 
 -- a direct metric that may stand beside the cost
 directs : (d : Data) (c e : ℕ) → IsCostOf d c → IsDirectOf d c e → 1 ≤ e → e ≤ c → HasWrongDirect d → ⊥
 directs d c e cost (inr given) least most (b, z, is_cost, one, fifteen, is, none) = none-some (integer z) (sym given.0 ∙ is)
 directs d c e cost (inl given) least most (b, z, is_cost, one, fifteen, is, none) =
     let same : integer (pos e) ≡ integer z = same_Some (integer (pos e)) (integer z) (sym given ∙ is) in
-    let number : pos e ≡ z = cc in
-    let within : is_between 1 c e ≡ true = grind (arith, nat_tests) in
-    let lacks : direct_of c (Some (pos e)) ≡ None = ap (λ (m : ℕ). direct_of m (Some (pos e))) (cost_same d c b cost is_cost) ∙ ap (λ (y : ℤ). direct_of b (Some y)) number ∙ none in
-    none-some e (sym lacks ∙ ap (λ (t : Bool). cond t (Some e) None) within)
+    let its : b ≡ c = cost_same d b c is_cost cost in
+    let number : z ≡ pos e = cc in
+    none e number least (subst (λ (n : ℕ). e ≤ n) (sym its) most)
 
 -- a gateway that is an address
 gateways : (d : Data) (via : Option ℕ) → IsGatewayOf d via → HasNoAddress (codes_of "via") d → ⊥
 gateways d None is (text, has, none) = none-some (string text) (sym is ∙ has)
 gateways d (Some a) (other, its, parsed) (text, has, none) =
     let same : text ≡ other = text_same (codes_of "via") d text other has its in
-    none-some a (sym none ∙ ap address_in same ∙ parsed)
+    none a (subst (λ (t : List ℕ). IsAddressText t a) (sym same) parsed)
 
 -- ---- further addresses
 
@@ -159,7 +156,7 @@ again_not names ds named differ (suc i) (d, earlier, suc k, name, at, its, less,
 
 -- ---- a plan that keeps the laws
 
-module _ (document : Members) (n : Network) (plan : PlanOf document n) (lawful : IsLawful n) where
+module _ (laws : TextLaws) (document : Members) (n : Network) (plan : PlanOf document n) (lawful : IsLawful n) where
   places_count : length n.places ≡ length (place_spots plan.links plan.routers)
   places_count =
       omega (
@@ -226,7 +223,7 @@ module _ (document : Members) (n : Network) (plan : PlanOf document n) (lawful :
             let ((m, item), is, on) = matched_left IsOnLink plan.on_links (items_under (codes_of "prefixes") 0 plan.links) k q plan.link_prefixes here.0 in
             let seat : seats.Link l ≡ seats.Link m = of.seat ∙ on.seat in
             let number : m ≡ l = cc in
-            (k, on.text, is ∙ ap (λ (y : ℕ × Data). Some y) (ap (λ (v : ℕ). (v, item)) number ∙ ap (λ (y : Data). (l, y)) on.is_text), on.prefix ∙ ap (λ (b : Block). Some b) (sym same))
+            (k, on.text, is ∙ ap (λ (y : ℕ × Data). Some y) (ap (λ (v : ℕ). (v, item)) number ∙ ap (λ (y : Data). (l, y)) on.is_text), subst (IsPrefixText on.text) (sym same) on.prefix)
         | inr there ↦
             let ((m, item), is, own) = matched_left (IsOwned n.links) plan.owned (items_under (codes_of "own") 0 plan.routers) there.0 q plan.own_prefixes there.2 in
             let seat : seats.Link l ≡ seats.Own m own.cost own.kept own.link own.via = of.seat ∙ own.seat in
@@ -234,34 +231,30 @@ module _ (document : Members) (n : Network) (plan : PlanOf document n) (lawful :
       ]
 
   -- a link of the plan has the name
-  link_there : (name : List ℕ) (l : ℕ) → number_of_name name n.links ≡ Some l → ((m : ℕ) (link : Data) → slice_get plan.links m ≡ Some link → IsNameOf name link → ⊥) → ⊥
+  link_there : (name : List ℕ) (l : ℕ) → slice_get n.links l ≡ Some name → ((m : ℕ) (link : Data) → slice_get plan.links m ≡ Some link → IsNameOf name link → ⊥) → ⊥
   link_there name l known none =
-      let (k, other, number, at, test) = position_finds (λ (y : List ℕ). bytes_eq y name) 0 n.links l known in
-      let same : other ≡ name = (bytes_eq-Decides other name).0 test in
-      let (link, listed, its) = matched_left IsNameOf n.links plan.links k other plan.link_names at in
-      none k link listed (subst (λ (t : List ℕ). IsNameOf t link) same its)
+      let (link, listed, its) = matched_left IsNameOf n.links plan.links l name plan.link_names known in
+      none l link listed its
 
   unknown_not : (x : Data) → HasInterface x → NamesNoLink plan.links x → ⊥
   unknown_not x h (name, has, none) =
       let same : h.of.link_name ≡ name = text_same (codes_of "link") x h.of.link_name name h.of.has_link has in
-      link_there name h.i.link (ap (λ (t : List ℕ). number_of_name t n.links) (sym same) ∙ h.of.link) none
+      link_there name h.i.link (h.of.link.0 ∙ ap (λ (t : List ℕ). Some t) same) none
 
   attached_not : (x : Data) (link : Option ℕ) → IsLinkOf n.links x link → NamesNoLink plan.links x → ⊥
   attached_not x None is (name, has, none) = none-some (string name) (sym is ∙ has)
   attached_not x (Some l) (other, its, known) (name, has, none) =
       let same : other ≡ name = text_same (codes_of "link") x other name its has in
-      link_there name l (ap (λ (t : List ℕ). number_of_name t n.links) (sym same) ∙ known) none
+      link_there name l (known.0 ∙ ap (λ (t : List ℕ). Some t) same) none
 
   outside_not : (x : Data) → HasInterface x → IsOutside plan.links x → ⊥
   outside_not x h o =
-      let (k, other, number, at, test) = position_finds (λ (y : List ℕ). bytes_eq y h.of.link_name) 0 n.links h.i.link h.of.link in
-      let same : other ≡ o.name = (bytes_eq-Decides other h.of.link_name).0 test ∙ text_same (codes_of "link") x h.of.link_name o.name h.of.has_link o.has_link in
-      let here : h.i.link ≡ k = omega arith in
-      let one : slice_get n.links h.i.link ≡ Some o.name = ap (slice_get n.links) here ∙ at ∙ ap (λ (t : List ℕ). Some t) same in
+      let same : h.of.link_name ≡ o.name = text_same (codes_of "link") x h.of.link_name o.name h.of.has_link o.has_link in
+      let one : slice_get n.links h.i.link ≡ Some o.name = h.of.link.0 ∙ ap (λ (t : List ℕ). Some t) same in
       let two : slice_get n.links o.link ≡ Some o.name = names_good n.links plan.links plan.link_names (suc o.link) o.link o.name o.link_table refl o.listed o.named in
       let link : h.i.link ≡ o.link = lawful.link_names_differ h.i.link o.link o.name one two in
       let text : h.of.text ≡ o.text = text_same (codes_of "address") x h.of.text o.text h.of.has_address o.has_address in
-      let address : h.i.address ≡ o.address = same_Some h.i.address o.address (sym h.of.address ∙ ap address_in text ∙ o.parsed) in
+      let address : h.i.address ≡ o.address = one_address laws h.of.text o.text h.i.address o.address text h.of.address o.spelled in
       let (p, carries) = has_carrier o.link o.some.0 o.some.1 in
       let is : HasOwnAddress n h.k o.link o.address = record {
         router = h.i.router;
@@ -275,7 +268,7 @@ module _ (document : Members) (n : Network) (plan : PlanOf document n) (lawful :
   -- two items that clash
   clash_not : (Clash : Network → ℕ → ℕ → Type 0) (spots : List At) (place : At) → ((j k : ℕ) → Clash n j k → j ≡ k) → (m : Network) → PlanOf document m → IsClash (Clash m) spots place → ⊥
   clash_not Clash spots place apart m its c =
-      let (j, k, at, less, meet) = subst (λ (v : Network). IsClash (Clash v) spots place) (one_plan document m n its plan) c in
+      let (j, k, at, less, meet) = subst (λ (v : Network). IsClash (Clash v) spots place) (one_plan laws document m n its plan) c in
       let same : j ≡ k = apart j k meet in
       omega arith
 
@@ -294,16 +287,16 @@ module _ (document : Members) (n : Network) (plan : PlanOf document n) (lawful :
 
   address_clash_not : (place : At) (m : Network) → PlanOf document m → IsClash (HaveOneAddress m) (interface_spots plan.routers) place ⊎ IsSo (HasOneTwice m) (interface_spots plan.routers) place → ⊥
   address_clash_not place m its (inl c) = clash_not HaveOneAddress (interface_spots plan.routers) place address_not m its c
-  address_clash_not place m its (inr c) = let (k, at, twice) = subst (λ (v : Network). IsSo (HasOneTwice v) (interface_spots plan.routers) place) (one_plan document m n its plan) c in once_not k twice
+  address_clash_not place m its (inr c) = let (k, at, twice) = subst (λ (v : Network). IsSo (HasOneTwice v) (interface_spots plan.routers) place) (one_plan laws document m n its plan) c in once_not k twice
 
   astray_not : (place : At) (m : Network) → PlanOf document m → IsSo (IsAstray m) (place_spots plan.links plan.routers) place → ⊥
   astray_not place m its c =
-      let (k, at, (p, r, l, h, none)) = subst (λ (v : Network). IsSo (IsAstray v) (place_spots plan.links plan.routers) place) (one_plan document m n its plan) c in
+      let (k, at, (p, r, l, h, none)) = subst (λ (v : Network). IsSo (IsAstray v) (place_spots plan.links plan.routers) place) (one_plan laws document m n its plan) c in
       none (lawful.attached_there r p l (k, h))
 
   bare_not : (r : ℕ) (m : Network) → PlanOf document m → IsBare m r → ⊥
   bare_not r m its b =
-      let (k, number, less, none) = subst (λ (v : Network). IsBare v r) (one_plan document m n its plan) b in
+      let (k, number, less, none) = subst (λ (v : Network). IsBare v r) (one_plan laws document m n its plan) b in
       let (i, l, c, is) = lawful.one_interface k less in
       none i l c is
 
@@ -344,87 +337,87 @@ module _ (document : Members) (n : Network) (plan : PlanOf document n) (lawful :
 
 -- ---- bytes that are well formed
 
-module _ (bytes : List ℕ) (w : IsWellFormed bytes) where
+module _ (laws : TextLaws) (bytes : List ℕ) (w : IsWellFormed bytes) where
   link_named : (i : ℕ) → IsMisnamed w.plan.links i → ⊥
   link_named i (d, name, at, its, bad) = bad (misnamed_not w.network.links w.plan.links w.plan.link_names IsName w.lawful.link_named i name d at its)
 
   router_named : (r : ℕ) → IsMisnamed w.plan.routers r → ⊥
   router_named r (d, name, at, its, bad) = bad (misnamed_not w.network.routers w.plan.routers w.plan.router_names IsName w.lawful.router_named r name d at its)
 
-  has_fields : {A : Type 0} (fields : Members → Option A) (ds : List Data) (i : ℕ) (d : Data) → All (HasFields fields) ds → nth ds i ≡ Some d → (as_table d &> fields) ≡ None → ⊥
-  has_fields fields ds zero d all at none = none-some d at
-  has_fields fields ds (suc k) d all at none = all_at (HasFields fields) ds k d all at none
+  has_fields : (Is : Data → Type 0) (ds : List Data) (i : ℕ) (d : Data) → All Is ds → nth ds i ≡ Some d → (Is d → ⊥) → ⊥
+  has_fields Is ds zero d all at lacks = none-some d at
+  has_fields Is ds (suc k) d all at lacks = lacks (all_at Is ds k d all at)
 
-  item_fields : {A : Type 0} (fields : Members → Option A) (key : List ℕ) (ds : List Data) (i j : ℕ) (x : Data) → All (λ (at : ℕ × Data). HasFields fields at.1) (items_under key 0 ds) → IsItem key ds i j x → (as_table x &> fields) ≡ None → ⊥
-  item_fields fields key ds i j x all item none =
+  item_fields : (Is : Data → Type 0) (key : List ℕ) (ds : List Data) (i j : ℕ) (x : Data) → All (λ (at : ℕ × Data). Is at.1) (items_under key 0 ds) → IsItem key ds i j x → (Is x → ⊥) → ⊥
+  item_fields Is key ds i j x all item lacks =
       let u = item_under key ds i j x item in
-      all_at (λ (at : ℕ × Data). HasFields fields at.1) (items_under key 0 ds) u.k (u.m, x) all u.at none
+      lacks (all_at (λ (at : ℕ × Data). Is at.1) (items_under key 0 ds) u.k (u.m, x) all u.at)
 
   -- the prefix of an item
-  text_not : (i j : ℕ) (x : Data) → IsItem (codes_of "prefixes") w.plan.links i j x → (text : List ℕ) × (x ≡ string text) × ((p : Block) × (prefix_in text ≡ Some p))
+  text_not : (i j : ℕ) (x : Data) → IsItem (codes_of "prefixes") w.plan.links i j x → (text : List ℕ) × (x ≡ string text) × ((p : Block) × IsPrefixText text p)
   text_not i j x item =
       let u = item_under (codes_of "prefixes") w.plan.links i j x item in
       let (q, listed, of) = matched_right IsOnLink w.plan.on_links (items_under (codes_of "prefixes") 0 w.plan.links) u.k (u.m, x) w.plan.link_prefixes u.at in
       (of.text, of.is_text, (q.prefix, of.prefix))
 
-  prefix_not : (i j : ℕ) (text : List ℕ) → IsItem (codes_of "prefixes") w.plan.links i j (string text) → prefix_in text ≡ None → ⊥
+  prefix_not : (i j : ℕ) (text : List ℕ) → IsItem (codes_of "prefixes") w.plan.links i j (string text) → IsNoPrefix text → ⊥
   prefix_not i j text item none =
       let (other, is, (p, parsed)) = text_not i j (string text) item in
       let same : text ≡ other = cc in
-      none-some p (sym none ∙ ap prefix_in same ∙ parsed)
+      none p (subst (λ (t : List ℕ). IsPrefixText t p) (sym same) parsed)
 
-  key_not : (i j : ℕ) (x : Data) → IsItem (codes_of "prefixes") w.plan.links i j x → as_str x ≡ None → ⊥
+  key_not : (i j : ℕ) (x : Data) → IsItem (codes_of "prefixes") w.plan.links i j x → (IsString x → ⊥) → ⊥
   key_not i j x item none =
       let (text, is, parsed) = text_not i j x item in
-      none-some text (sym none ∙ ap as_str is)
+      none (text, is)
 
   address_told : (r j : ℕ) (x : Data) → IsItem (codes_of "interface") w.plan.routers r j x → HasNoAddress (codes_of "address") x ⊎ HasWrongAlso x → ⊥
   address_told r j x item (inl (text, has, none)) =
-      let h = its_interface w.document w.network w.plan w.lawful r j x item in
+      let h = its_interface laws w.document w.network w.plan w.lawful r j x item in
       let same : text ≡ h.of.text = text_same (codes_of "address") x text h.of.text has h.of.has_address in
-      none-some h.i.address (sym none ∙ ap address_in same ∙ h.of.address)
+      none h.i.address (subst (λ (t : List ℕ). IsAddressText t h.i.address) (sym same) h.of.address)
   address_told r j x item (inr (k, text, at, none)) =
       let u = item_under (codes_of "interface") w.plan.routers r j x item in
       let (also, listed, of) = matched_right AreAlsoOf w.network.also (items_under (codes_of "interface") 0 w.plan.routers) u.k (u.m, x) w.plan.also u.at in
       let (a, there, (other, is, parsed)) = matched_right IsAddressOf also (also_items x) k (string text) of at in
       let strings : string text ≡ string other = is in
       let same : text ≡ other = cc in
-      none-some a (sym none ∙ ap address_in same ∙ parsed)
+      none a (subst (λ (t : List ℕ). IsAddressText t a) (sym same) parsed)
 
-  own_told : (r j : ℕ) (x : Data) (text : List ℕ) → IsItem (codes_of "own") w.plan.routers r j x → get (codes_of "prefix") x ≡ Some (string text) → prefix_in text ≡ None → ⊥
-  own_told r j x text item has none =
-      let h = its_own w.document w.network w.plan w.lawful r j x item in
+  own_prefix_told : (r j : ℕ) (x : Data) (text : List ℕ) → IsItem (codes_of "own") w.plan.routers r j x → get (codes_of "prefix") x ≡ Some (string text) → IsNoPrefix text → ⊥
+  own_prefix_told r j x text item has none =
+      let h = its_own laws w.document w.network w.plan w.lawful r j x item in
       let same : text ≡ h.of.text = text_same (codes_of "prefix") x text h.of.text has h.of.has_prefix in
-      none-some h.q.prefix (sym none ∙ ap prefix_in same ∙ h.of.prefix)
+      none h.q.prefix (subst (λ (t : List ℕ). IsPrefixText t h.q.prefix) (sym same) h.of.prefix)
 
   -- no fault of the tables
   table_not : (c : PlanCode) (place : At) → TableFault w.document w.plan.links w.plan.routers c place → ⊥
-  table_not codes.Key (Link i) f = has_fields link_fields w.plan.links i f.0 w.link_tables f.1 f.2
+  table_not codes.Key (Link i) f = has_fields IsLinkTable w.plan.links i f.0 w.link_tables f.1 f.2
   table_not codes.Name (Link i) f = link_named i f
   table_not codes.DuplicateName (Link i) f = again_not w.network.links w.plan.links w.plan.link_names w.lawful.link_names_differ i f
   table_not codes.Key (LinkPrefix i j) f = key_not i j f.0 f.1 f.2
   table_not codes.Prefix (LinkPrefix i j) f = prefix_not i j f.0 f.1 f.2
-  table_not codes.Limit (LinkPrefix i j) f = past_not w.document w.network w.plan w.lawful (place_spots w.plan.links w.plan.routers) (LinkPrefix i j) f.0 (few_places w.document w.network w.plan w.lawful) f.1 f.2
-  table_not codes.Key (Router r) f = has_fields router_fields w.plan.routers r f.0 w.router_tables f.1 f.2
+  table_not codes.Limit (LinkPrefix i j) f = past_not laws w.document w.network w.plan w.lawful (place_spots w.plan.links w.plan.routers) (LinkPrefix i j) f.0 (few_places laws w.document w.network w.plan w.lawful) f.1 f.2
+  table_not codes.Key (Router r) f = has_fields IsRouterTable w.plan.routers r f.0 w.router_tables f.1 f.2
   table_not codes.Name (Router r) f = router_named r f
   table_not codes.DuplicateName (Router r) f = again_not w.network.routers w.plan.routers w.plan.router_names w.lawful.router_names_differ r f
-  table_not codes.Key (RouterInterface r j) f = item_fields interface_fields (codes_of "interface") w.plan.routers r j f.0 w.interface_tables f.1 f.2
+  table_not codes.Key (RouterInterface r j) f = item_fields IsInterfaceTable (codes_of "interface") w.plan.routers r j f.0 w.interface_tables f.1 f.2
   table_not codes.Address (RouterInterface r j) f = address_told r j f.0 f.1 f.2
-  table_not codes.Cost (RouterInterface r j) f = interface_cost w.document w.network w.plan w.lawful f.0 (its_interface w.document w.network w.plan w.lawful r j f.0 f.1) f.2
-  table_not codes.UnknownLink (RouterInterface r j) f = unknown_not w.document w.network w.plan w.lawful f.0 (its_interface w.document w.network w.plan w.lawful r j f.0 f.1) f.2
-  table_not codes.OutsidePrefix (RouterInterface r j) f = outside_not w.document w.network w.plan w.lawful f.0 (its_interface w.document w.network w.plan w.lawful r j f.0 f.1) f.2
-  table_not codes.Limit (RouterInterface r j) f = interface_limit w.document w.network w.plan w.lawful r j f
-  table_not codes.Key (RouterOwn r j) f = item_fields own_fields (codes_of "own") w.plan.routers r j f.0 w.own_tables f.1 f.2
-  table_not codes.Address (RouterOwn r j) f = let h = its_own w.document w.network w.plan w.lawful r j f.0 f.1 in gateways f.0 h.of.via h.of.is_via f.2
-  table_not codes.UnknownLink (RouterOwn r j) f = let h = its_own w.document w.network w.plan w.lawful r j f.0 f.1 in attached_not w.document w.network w.plan w.lawful f.0 h.of.link h.of.is_link f.2
-  table_not codes.Prefix (RouterOwn r j) f = own_told r j f.0 f.1 f.2 f.3 f.4
-  table_not codes.Cost (RouterOwn r j) f = own_cost w.document w.network w.plan w.lawful f.0 (its_own w.document w.network w.plan w.lawful r j f.0 f.1) f.2
-  table_not codes.Limit (RouterOwn r j) f = past_not w.document w.network w.plan w.lawful (place_spots w.plan.links w.plan.routers) (RouterOwn r j) f.0 (few_places w.document w.network w.plan w.lawful) f.1 f.2
-  table_not codes.DuplicatePrefix (LinkPrefix i j) f = clash_not w.document w.network w.plan w.lawful DoMeet (place_spots w.plan.links w.plan.routers) (LinkPrefix i j) (meet_not w.document w.network w.plan w.lawful) f.0 f.1 f.2
-  table_not codes.DuplicatePrefix (RouterOwn r j) f = clash_not w.document w.network w.plan w.lawful DoMeet (place_spots w.plan.links w.plan.routers) (RouterOwn r j) (meet_not w.document w.network w.plan w.lawful) f.0 f.1 f.2
-  table_not codes.TwiceOnLink (RouterInterface r j) f = clash_not w.document w.network w.plan w.lawful AreTwice (interface_spots w.plan.routers) (RouterInterface r j) (twice_not w.document w.network w.plan w.lawful) f.0 f.1 f.2
-  table_not codes.DuplicateAddress (RouterInterface r j) f = address_clash_not w.document w.network w.plan w.lawful (RouterInterface r j) f.0 f.1 f.2
-  table_not codes.NoInterface (Router r) f = bare_not w.document w.network w.plan w.lawful r f.0 f.1 f.2
+  table_not codes.Cost (RouterInterface r j) f = interface_cost laws w.document w.network w.plan w.lawful f.0 (its_interface laws w.document w.network w.plan w.lawful r j f.0 f.1) f.2
+  table_not codes.UnknownLink (RouterInterface r j) f = unknown_not laws w.document w.network w.plan w.lawful f.0 (its_interface laws w.document w.network w.plan w.lawful r j f.0 f.1) f.2
+  table_not codes.OutsidePrefix (RouterInterface r j) f = outside_not laws w.document w.network w.plan w.lawful f.0 (its_interface laws w.document w.network w.plan w.lawful r j f.0 f.1) f.2
+  table_not codes.Limit (RouterInterface r j) f = interface_limit laws w.document w.network w.plan w.lawful r j f
+  table_not codes.Key (RouterOwn r j) f = item_fields IsOwnTable (codes_of "own") w.plan.routers r j f.0 w.own_tables f.1 f.2
+  table_not codes.Address (RouterOwn r j) f = let h = its_own laws w.document w.network w.plan w.lawful r j f.0 f.1 in gateways f.0 h.of.via h.of.is_via f.2
+  table_not codes.UnknownLink (RouterOwn r j) f = let h = its_own laws w.document w.network w.plan w.lawful r j f.0 f.1 in attached_not laws w.document w.network w.plan w.lawful f.0 h.of.link h.of.is_link f.2
+  table_not codes.Prefix (RouterOwn r j) f = own_prefix_told r j f.0 f.1 f.2 f.3 f.4
+  table_not codes.Cost (RouterOwn r j) f = own_cost laws w.document w.network w.plan w.lawful f.0 (its_own laws w.document w.network w.plan w.lawful r j f.0 f.1) f.2
+  table_not codes.Limit (RouterOwn r j) f = past_not laws w.document w.network w.plan w.lawful (place_spots w.plan.links w.plan.routers) (RouterOwn r j) f.0 (few_places laws w.document w.network w.plan w.lawful) f.1 f.2
+  table_not codes.DuplicatePrefix (LinkPrefix i j) f = clash_not laws w.document w.network w.plan w.lawful DoMeet (place_spots w.plan.links w.plan.routers) (LinkPrefix i j) (meet_not laws w.document w.network w.plan w.lawful) f.0 f.1 f.2
+  table_not codes.DuplicatePrefix (RouterOwn r j) f = clash_not laws w.document w.network w.plan w.lawful DoMeet (place_spots w.plan.links w.plan.routers) (RouterOwn r j) (meet_not laws w.document w.network w.plan w.lawful) f.0 f.1 f.2
+  table_not codes.TwiceOnLink (RouterInterface r j) f = clash_not laws w.document w.network w.plan w.lawful AreTwice (interface_spots w.plan.routers) (RouterInterface r j) (twice_not laws w.document w.network w.plan w.lawful) f.0 f.1 f.2
+  table_not codes.DuplicateAddress (RouterInterface r j) f = address_clash_not laws w.document w.network w.plan w.lawful (RouterInterface r j) f.0 f.1 f.2
+  table_not codes.NoInterface (Router r) f = bare_not laws w.document w.network w.plan w.lawful r f.0 f.1 f.2
   table_not c place f = absurd f
 
   tables : HasTables bytes w.document w.plan.links w.plan.routers
@@ -437,7 +430,7 @@ module _ (bytes : List ℕ) (w : IsWellFormed bytes) where
   fault_not : (c : PlanCode) (place : At) → FaultAt bytes c place → ⊥
   fault_not codes.Syntax Text f = none-some w.document (sym f.1 ∙ w.text.reads)
   fault_not codes.Version Version f = f.2 (ap (λ (m : Members). get (codes_of "version") (table m)) (same_document bytes w.document f.0 w.text.reads f.1) ∙ w.version)
-  fault_not codes.Key Text f = w.root (ap root_fields (sym (same_document bytes w.document f.0 w.text.reads f.1)) ∙ f.2)
+  fault_not codes.Key Text f = f.2 (subst IsRoot (sym (same_document bytes w.document f.0 w.text.reads f.1)) w.root)
   fault_not codes.Limit Text (inl more) = let few : length bytes ≤ 1048576 = w.text.short in let past : 1048576 < length bytes = more in omega arith
   fault_not codes.Limit Text (inr (other, ls, rs, has, over)) =
       let (one, two, three) = one_tables bytes w.document w.plan.links w.plan.routers tables other ls rs has in
@@ -447,15 +440,15 @@ module _ (bytes : List ℕ) (w : IsWellFormed bytes) where
   last_not : (place : At) → AstrayAt bytes place → ⊥
   last_not (RouterOwn r j) f =
       let its = one_astray bytes w.document w.plan.links w.plan.routers tables (RouterOwn r j) f.0 f.1 f.2 f.3 f.4 in
-      astray_not w.document w.network w.plan w.lawful (RouterOwn r j) its.0 its.1 its.2
+      astray_not laws w.document w.network w.plan w.lawful (RouterOwn r j) its.0 its.1 its.2
   last_not place f = absurd f
 
   found_not : (pass : ℕ) (e : PlanError) → IsFound bytes pass e → ⊥
   found_not pass e (inl f) = fault_not e.code e.place f.0
   found_not pass e (inr f) = last_not e.place f.0
 
-pub is_faultless : (bytes : List ℕ) → IsWellFormed bytes → (e : PlanError) → IsFault bytes e → ⊥
-is_faultless bytes w e f = found_not bytes w f.0 e f.1
+pub is_faultless : (laws : TextLaws) (bytes : List ℕ) → IsWellFormed bytes → (e : PlanError) → IsFault bytes e → ⊥
+is_faultless laws bytes w e f = found_not laws bytes w f.0 e f.1
 
 -- ---- bytes that have no fault
 
@@ -481,25 +474,27 @@ module _ (bytes : List ℕ) (none : (e : PlanError) → IsFault bytes e → ⊥)
     its_tables : HasTables bytes document plan.links plan.routers
     its_tables = record { text = text; has_links = plan.has_links; has_routers = plan.has_routers }
 
-    its_links : All (HasFields link_fields) plan.links
-    its_links = all_from (HasFields link_fields) plan.links (λ k d at lacks. none_at codes.Key (Link (suc k)) (document, plan.links, plan.routers, its_tables, (d, at, lacks)))
+    its_links : All IsLinkTable plan.links
+    its_links = all_from IsLinkTable plan.links (λ k d at. by_table IsLinkTable link_fields link_told d (λ lacks. none_at codes.Key (Link (suc k)) (document, plan.links, plan.routers, its_tables, (d, at, lacks))) (link_not d))
 
-    its_routers : All (HasFields router_fields) plan.routers
-    its_routers = all_from (HasFields router_fields) plan.routers (λ k d at lacks. none_at codes.Key (Router (suc k)) (document, plan.links, plan.routers, its_tables, (d, at, lacks)))
+    its_routers : All IsRouterTable plan.routers
+    its_routers = all_from IsRouterTable plan.routers (λ k d at. by_table IsRouterTable router_fields router_told d (λ lacks. none_at codes.Key (Router (suc k)) (document, plan.links, plan.routers, its_tables, (d, at, lacks))) (router_not d))
 
-    its_interfaces : All (λ (at : ℕ × Data). HasFields interface_fields at.1) (items_under (codes_of "interface") 0 plan.routers)
+    its_interfaces : All (λ (at : ℕ × Data). IsInterfaceTable at.1) (items_under (codes_of "interface") 0 plan.routers)
     its_interfaces =
-        all_from (λ (at : ℕ × Data). HasFields interface_fields at.1) (items_under (codes_of "interface") 0 plan.routers)
-        (λ k d at lacks.
+        all_from (λ (at : ℕ × Data). IsInterfaceTable at.1) (items_under (codes_of "interface") 0 plan.routers)
+        (λ k d at.
         let (i, j, number, item) = under_item (codes_of "interface") 0 plan.routers k d.0 d.1 at in
-        none_at codes.Key (RouterInterface (suc i) (suc j)) (document, plan.links, plan.routers, its_tables, (d.1, item, lacks)))
+        by_table IsInterfaceTable interface_fields interface_told d.1
+        (λ lacks. none_at codes.Key (RouterInterface (suc i) (suc j)) (document, plan.links, plan.routers, its_tables, (d.1, item, lacks))) (interface_not d.1))
 
-    its_owns : All (λ (at : ℕ × Data). HasFields own_fields at.1) (items_under (codes_of "own") 0 plan.routers)
+    its_owns : All (λ (at : ℕ × Data). IsOwnTable at.1) (items_under (codes_of "own") 0 plan.routers)
     its_owns =
-        all_from (λ (at : ℕ × Data). HasFields own_fields at.1) (items_under (codes_of "own") 0 plan.routers)
-        (λ k d at lacks.
+        all_from (λ (at : ℕ × Data). IsOwnTable at.1) (items_under (codes_of "own") 0 plan.routers)
+        (λ k d at.
         let (i, j, number, item) = under_item (codes_of "own") 0 plan.routers k d.0 d.1 at in
-        none_at codes.Key (RouterOwn (suc i) (suc j)) (document, plan.links, plan.routers, its_tables, (d.1, item, lacks)))
+        by_table IsOwnTable own_fields own_told d.1
+        (λ lacks. none_at codes.Key (RouterOwn (suc i) (suc j)) (document, plan.links, plan.routers, its_tables, (d.1, item, lacks))) (own_not d.1))
 
 pub faultless_is : ((bytes : List ℕ) → ((e : PlanError) → IsFault bytes e → ⊥) → (n : Network) × IsPlanOfText bytes n × IsLawful n)
     → (bytes : List ℕ) → ((e : PlanError) → IsFault bytes e → ⊥) → IsWellFormed bytes
@@ -512,7 +507,7 @@ faultless_is law bytes none =
       version = its_version bytes none is.document text n is.plan;
       network = n;
       plan = is.plan;
-      root = λ lacks. none_at bytes none codes.Key Text (is.document, text, lacks);
+      root = by_root is.document (λ lacks. none_at bytes none codes.Key Text (is.document, text, lacks));
       link_tables = its_links bytes none is.document text n is.plan;
       router_tables = its_routers bytes none is.document text n is.plan;
       interface_tables = its_interfaces bytes none is.document text n is.plan;

@@ -12,6 +12,8 @@ pub mod Touches
 pub mod Network
 pub mod Answers
 pub mod Relations
+pub mod Texts
+pub mod DocumentTables
 pub mod Rows
 pub mod Indexed
 pub mod PlanOf

@@ -1,10 +1,9 @@
 -- What is wrong with a plan's text, each fault by itself and in the words of its document, and
 -- which of them is told.
 use Rattle.std.specs.Prelude.{◌≡◌, ◌≢◌, ◌⊎◌, ℕ, zero, suc, ◌+◌, ◌<◌, ◌≤◌, ℤ, pos, List, [], ◌∷◌, ◌++◌, length, map, codes, Option, Some, None, slice_get}
-use Rattle.toml.specs.Data.{Data, Members, as_str, as_table, get, integer, string, table}
-use Rattle.rip_wire.specs.Address.{address_in}
+use Rattle.toml.specs.Data.{Data, Members, get, integer, string, table}
 use Rattle.rip_wire.specs.Name.{IsName}
-use Rattle.rip_wire.specs.Prefix.{Block, ContainsAddress, prefix_in}
+use Rattle.rip_wire.specs.Prefix.{Block, ContainsAddress}
 use Rattle.rip_plan.specs.declared.error.PlanCode.{PlanCode}
 use Rattle.rip_plan.specs.declared.error.PlanCode.TheVariants as codes
 use Rattle.rip_plan.specs.declared.error.PlanError.{PlanError}
@@ -13,11 +12,12 @@ use Rattle.rip_plan.specs.declared.error.At.TheVariants.{Text, Version, Link, Li
 use Rattle.rip_plan.specs.declared.limits.TheConstants.{MOST_ALSO, MOST_COST, MOST_INTERFACES, MOST_LINKS, MOST_PLACES, MOST_PLAN_BYTES, MOST_ROUTERS}
 use Rattle.rip_plan.specs.declared.parts.Seat.TheVariants as seats
 use Rattle.rip_plan.specs.Codes.{number_of_code}
-use Rattle.rip_plan.specs.Fields.{◌&>◌, cost_of, direct_of, interface_fields, link_fields, own_fields, root_fields, router_fields}
+use Rattle.rip_plan.specs.DocumentTables.{IsInterfaceTable, IsLinkTable, IsOwnTable, IsRoot, IsRouterTable, IsString}
 use Rattle.rip_plan.specs.Network.{Network}
 use Rattle.rip_plan.specs.PlanOf.{HasItems, HasText, IsCostOf, IsNameOf, PlanOf, items_in, items_under}
 use Rattle.rip_plan.specs.PlanText.{document_of}
 use Rattle.rip_plan.specs.Relations.{HasAddress, HasAddresses, IsInterface, IsAttachedAt, IsOn, IsPlace, Touches}
+use Rattle.rip_plan.specs.Texts.{IsAddressText, IsNoAddress, IsNoPrefix, IsPrefixText}
 
 -- ---- the tables of a document and their items, numbered from 1
 
@@ -96,44 +96,44 @@ IsNamedAgain ds i =
 abbrev pub IsPast : ℕ → List At → At → Type 0
 IsPast most spots at = (k : ℕ) × (slice_get spots k ≡ Some at) × (most ≤ k)
 
--- the text is no prefix, or a host bit is set
-abbrev pub IsNoPrefix : List ℕ → Type 0
-IsNoPrefix text = prefix_in text ≡ None
+-- the integer is none of 1 to the most
+abbrev pub IsOutsideOf : ℕ → ℤ → Type 0
+IsOutsideOf most z = (c : ℕ) → z ≡ pos c → 1 ≤ c → c ≤ most → ⊥
 
 -- the cost is an integer outside 1 to 15
 abbrev pub HasWrongCost : Data → Type 0
-HasWrongCost d = (z : ℤ) × (get (codes "cost") d ≡ Some (integer z)) × (cost_of (Some z) ≡ None)
+HasWrongCost d = (z : ℤ) × (get (codes "cost") d ≡ Some (integer z)) × IsOutsideOf MOST_COST z
 
 -- the direct metric is an integer outside 1 to the cost, which is 1 to 15 itself
 abbrev pub HasWrongDirect : Data → Type 0
 HasWrongDirect d =
     (c : ℕ) × (z : ℤ) × IsCostOf d c × (1 ≤ c) × (c ≤ MOST_COST)
-    × (get (codes "direct") d ≡ Some (integer z)) × (direct_of c (Some z) ≡ None)
+    × (get (codes "direct") d ≡ Some (integer z)) × IsOutsideOf c z
 
 -- the text at the key is no address
 abbrev pub HasNoAddress : List ℕ → Data → Type 0
-HasNoAddress key d = (text : List ℕ) × HasText key d text × (address_in text ≡ None)
+HasNoAddress key d = (text : List ℕ) × HasText key d text × IsNoAddress text
 
 -- a further address is a text that is no address
 abbrev pub HasWrongAlso : Data → Type 0
 HasWrongAlso d =
     (k : ℕ) × (text : List ℕ)
     × (slice_get (items_in (get (codes "also") d)) k ≡ Some (string text))
-    × (address_in text ≡ None)
+    × IsNoAddress text
 
 -- a text in the list of link l, which is counted from 0, is this prefix
 abbrev pub HasPrefix : List Data → ℕ → Block → Type 0
 HasPrefix links l p =
     (k : ℕ) × (text : List ℕ)
     × (slice_get (items_under (codes "prefixes") 0 links) k ≡ Some (l, string text))
-    × (prefix_in text ≡ Some p)
+    × IsPrefixText text p
 
 -- the link that the interface names has prefixes, and none contains the interface's address
 pub record IsOutside (links : List Data) (d : Data) : Type 0 where
   pub text : List ℕ
   pub has_address : HasText (codes "address") d text
   pub address : ℕ
-  pub parsed : address_in text ≡ Some address
+  pub spelled : IsAddressText text address
   pub name : List ℕ
   pub has_link : HasText (codes "link") d name
   pub link : ℕ
@@ -196,22 +196,21 @@ IsBare n r =
 -- what each code says of the tables of a document, and of what stands at this place
 abbrev pub TableFault : Members → List Data → List Data → PlanCode → At → Type 0
 TableFault document links routers codes.Key (Link i) =
-    (d : Data) × (nth links i ≡ Some d) × ((as_table d &> link_fields) ≡ None)
+    (d : Data) × (nth links i ≡ Some d) × (IsLinkTable d → ⊥)
 TableFault document links routers codes.Name (Link i) = IsMisnamed links i
 TableFault document links routers codes.DuplicateName (Link i) = IsNamedAgain links i
 TableFault document links routers codes.Key (LinkPrefix i j) =
-    (d : Data) × IsItem (codes "prefixes") links i j d × (as_str d ≡ None)
+    (d : Data) × IsItem (codes "prefixes") links i j d × (IsString d → ⊥)
 TableFault document links routers codes.Prefix (LinkPrefix i j) =
     (text : List ℕ) × IsItem (codes "prefixes") links i j (string text) × IsNoPrefix text
 TableFault document links routers codes.Limit (LinkPrefix i j) =
     IsPast MOST_PLACES (place_spots links routers) (LinkPrefix i j)
 TableFault document links routers codes.Key (Router r) =
-    (d : Data) × (nth routers r ≡ Some d) × ((as_table d &> router_fields) ≡ None)
+    (d : Data) × (nth routers r ≡ Some d) × (IsRouterTable d → ⊥)
 TableFault document links routers codes.Name (Router r) = IsMisnamed routers r
 TableFault document links routers codes.DuplicateName (Router r) = IsNamedAgain routers r
 TableFault document links routers codes.Key (RouterInterface r j) =
-    (d : Data) × IsItem (codes "interface") routers r j d
-    × ((as_table d &> interface_fields) ≡ None)
+    (d : Data) × IsItem (codes "interface") routers r j d × (IsInterfaceTable d → ⊥)
 TableFault document links routers codes.Address (RouterInterface r j) =
     (d : Data) × IsItem (codes "interface") routers r j d
     × (HasNoAddress (codes "address") d ⊎ HasWrongAlso d)
@@ -225,7 +224,7 @@ TableFault document links routers codes.Limit (RouterInterface r j) =
     IsPast MOST_INTERFACES (interface_spots routers) (RouterInterface r j)
     ⊎ IsPast MOST_ALSO (also_spots routers) (RouterInterface r j)
 TableFault document links routers codes.Key (RouterOwn r j) =
-    (d : Data) × IsItem (codes "own") routers r j d × ((as_table d &> own_fields) ≡ None)
+    (d : Data) × IsItem (codes "own") routers r j d × (IsOwnTable d → ⊥)
 TableFault document links routers codes.Address (RouterOwn r j) =
     (d : Data) × IsItem (codes "own") routers r j d × HasNoAddress (codes "via") d
 TableFault document links routers codes.Prefix (RouterOwn r j) =
@@ -261,7 +260,7 @@ FaultAt bytes codes.Version Version =
     (document : Members) × IsText bytes document
     × (get (codes "version") (table document) ≢ Some (integer (pos 1)))
 FaultAt bytes codes.Key Text =
-    (document : Members) × IsText bytes document × (root_fields document ≡ None)
+    (document : Members) × IsText bytes document × (IsRoot document → ⊥)
 FaultAt bytes codes.Limit Text =
     (MOST_PLAN_BYTES < length bytes)
     ⊎ ((document : Members) × (links routers : List Data) × HasTables bytes document links routers

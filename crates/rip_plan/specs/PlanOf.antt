@@ -1,19 +1,18 @@
 -- What it is for a network to be the plan of a document: each list is matched item by item with the
 -- document's tables.
-use Rattle.std.specs.Prelude.{◌≡◌, ◌⊎◌, ℕ, ◌+◌, pos, List, [], ◌∷◌, ◌++◌, map, filter, Bool, false, not, codes, Option, None, Some}
+use Rattle.std.specs.Prelude.{◌≡◌, ◌⊎◌, ℕ, ◌+◌, ◌≤◌, pos, List, [], ◌∷◌, ◌++◌, map, filter, Bool, false, not, codes, Option, None, Some, slice_get}
 use Rattle.toml.specs.Data.{Data, Items, Members, string, boolean, integer, array, table, get}
-use Rattle.rip_wire.specs.Address.{address_in}
-use Rattle.rip_wire.specs.Prefix.{Block, prefix_in}
+use Rattle.rip_wire.specs.Prefix.{Block}
 use Rattle.rip_plan.specs.declared.parts.Interface.{Interface}
 use Rattle.rip_plan.specs.declared.parts.Place.{Place}
 use Rattle.rip_plan.specs.declared.parts.Seat.{Seat}
 use Rattle.rip_plan.specs.declared.parts.Seat.TheVariants as seats
 use Rattle.rip_plan.specs.Fields.{list_of}
-use Rattle.rip_plan.specs.Names.{number_of_name}
 use Rattle.rip_plan.specs.Passes.{same_prefix}
 use Rattle.rip_plan.specs.PlanText.{document_of}
 use Rattle.rip_plan.specs.Network.{Network}
 use Rattle.rip_plan.specs.Relations.{IsPrefix}
+use Rattle.rip_plan.specs.Texts.{IsAddressText, IsPrefixText}
 
 -- each item of the one list with the item of the other that has the same number
 abbrev pub Matched : {A B : Type 0} → (A → B → Type 0) → List A → List B → Type 0
@@ -50,21 +49,26 @@ IsKeptOf d kept =
     (get (codes "kept") d ≡ Some (boolean kept))
     ⊎ ((get (codes "kept") d ≡ None) × (kept ≡ false))
 
+-- name l is the first that is this one
+abbrev pub IsFirstNamed : List (List ℕ) → List ℕ → ℕ → Type 0
+IsFirstNamed names name l =
+    (slice_get names l ≡ Some name) × ((k : ℕ) → slice_get names k ≡ Some name → l ≤ k)
+
 -- the link that the table gives by its name, or nothing where it gives none
 abbrev pub IsLinkOf : List (List ℕ) → Data → Option ℕ → Type 0
 IsLinkOf links d None = get (codes "link") d ≡ None
 IsLinkOf links d (Some l) =
-    (name : List ℕ) × HasText (codes "link") d name × (number_of_name name links ≡ Some l)
+    (name : List ℕ) × HasText (codes "link") d name × IsFirstNamed links name l
 
 -- the gateway that the table gives, or nothing where it gives none
 abbrev pub IsGatewayOf : Data → Option ℕ → Type 0
 IsGatewayOf d None = get (codes "via") d ≡ None
 IsGatewayOf d (Some a) =
-    (text : List ℕ) × HasText (codes "via") d text × (address_in text ≡ Some a)
+    (text : List ℕ) × HasText (codes "via") d text × IsAddressText text a
 
 -- the item is the text of this address
 abbrev pub IsAddressOf : ℕ → Data → Type 0
-IsAddressOf a d = (text : List ℕ) × (d ≡ string text) × (address_in text ≡ Some a)
+IsAddressOf a d = (text : List ℕ) × (d ≡ string text) × IsAddressText text a
 
 abbrev pub IsNameOf : List ℕ → Data → Type 0
 IsNameOf name d = HasText (codes "name") d name
@@ -86,10 +90,10 @@ pub record IsInterfaceOf (links : List (List ℕ)) (i : Interface) (at : ℕ × 
   pub router : i.router ≡ at.0
   pub link_name : List ℕ
   pub has_link : HasText (codes "link") at.1 link_name
-  pub link : number_of_name link_name links ≡ Some i.link
+  pub link : IsFirstNamed links link_name i.link
   pub text : List ℕ
   pub has_address : HasText (codes "address") at.1 text
-  pub address : address_in text ≡ Some i.address
+  pub address : IsAddressText text i.address
   pub cost : IsCostOf at.1 i.cost
   pub direct : IsDirectOf at.1 i.cost i.direct
 
@@ -106,14 +110,14 @@ pub record Placement : Type 0 where
 pub record IsOnLink (p : Placement) (at : ℕ × Data) : Type 0 where
   pub text : List ℕ
   pub is_text : at.1 ≡ string text
-  pub prefix : prefix_in text ≡ Some p.prefix
+  pub prefix : IsPrefixText text p.prefix
   pub seat : p.seat ≡ seats.Link at.0
 
 -- the own prefix of this table, with the router of this number
 pub record IsOwned (links : List (List ℕ)) (p : Placement) (at : ℕ × Data) : Type 0 where
   pub text : List ℕ
   pub has_prefix : HasText (codes "prefix") at.1 text
-  pub prefix : prefix_in text ≡ Some p.prefix
+  pub prefix : IsPrefixText text p.prefix
   pub cost : ℕ
   pub is_cost : IsCostOf at.1 cost
   pub kept : Bool

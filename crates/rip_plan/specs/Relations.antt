@@ -1,6 +1,6 @@
 -- What stands in a network: who is on which link at what cost, where each prefix is, and the laws
 -- that a plan keeps.
-use Rattle.std.specs.Prelude.{◌≡◌, ◌≢◌, ℕ, ◌<◌, ◌≤◌, ◌^◌, ◌⊎◌, List, [], ◌∷◌, length, map, sum, Bool, true, Contains, Option, Some, slice_get}
+use Rattle.std.specs.Prelude.{◌≡◌, ◌≢◌, ℕ, ◌<◌, ◌≤◌, ◌^◌, ◌⊎◌, List, ◌∷◌, length, map, sum, Bool, true, Contains, Option, Some, slice_get}
 use Rattle.rip_wire.specs.Name.{IsName}
 use Rattle.rip_wire.specs.Prefix.{Block, ContainsAddress, IsBlock}
 use Rattle.rip_plan.specs.declared.limits.TheConstants.{MOST_ALSO, MOST_COST, MOST_INTERFACES, MOST_LINKS, MOST_PLACES, MOST_ROUTERS}
@@ -163,7 +163,7 @@ abbrev pub IsInside : Network → ℕ → ℕ → Type 0
 IsInside n l a =
     (p : ℕ) × (block : Block) × Carries n l p × IsPrefix n p block × ContainsAddress block a
 
--- ---- The laws of a plan: its refusals turned round
+-- ---- The laws of a plan: what reading refuses breaks one
 
 pub record IsLawful (n : Network) : Type 0 where
   -- limits

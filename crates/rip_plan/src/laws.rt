@@ -39,7 +39,11 @@ pub fn senders()
 /// A document has one plan: two networks that are the plan of one document are equal.
 pub fn one_plan()
     ensures { (document : Members) (n m : Network) → PlanOf document n → PlanOf document m → n ≡ m }
-{}
+{
+    rip_wire::laws::names();
+    rip_wire::laws::address_texts();
+    rip_wire::laws::prefix_texts();
+}
 
 /// Bytes are refused exactly by the first of their faults, which is never Memory; and where they have
 /// none, they have a plan, which is lawful.
@@ -64,4 +68,7 @@ pub fn well_formed_texts()
         ((e : PlanError) → IsFault bytes e → ⊥) ↔ IsWellFormed bytes }
 {
     first_faults();
+    rip_wire::laws::names();
+    rip_wire::laws::address_texts();
+    rip_wire::laws::prefix_texts();
 }

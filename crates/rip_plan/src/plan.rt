@@ -3,7 +3,7 @@
 ghost use Rattle.std.specs.Prelude.{◌≡◌, ◌==◌, ◌<◌, ◌≤◌, ◌↔◌, ◌⊎◌, ℕ, Contains, Decides, IfErr, IfOk, IfSome, IsErrOf, None, Some, false, is_some, length, not, option_and_then, slice_get};
 ghost use Rattle.std.specs.Str.{is_utf8};
 ghost use Rattle.std.specs.List.Sorted.{IsStrictlyIncreasing};
-ghost use Rattle.rip_plan.specs.Answers.{IsAnswer, out_of_memory};
+ghost use Rattle.rip_plan.specs.Answers.{out_of_memory};
 ghost use Rattle.rip_plan.specs.PlanFaults.{IsFault, PlanFault};
 ghost use Rattle.rip_plan.specs.PlanOf.{IsPlanOfText};
 ghost use Rattle.rip_plan.specs.Fault.{Gives};
@@ -111,7 +111,7 @@ fn plan_of(alloc: Global, draft: Draft) -> Result<Plan, AllocError>
     })
 }
 
-/// The plan that the bytes are, a fault, or want of memory.
+/// The plan that the bytes are, a fault, or that memory was refused.
 fn read_plan(alloc: Global, bytes: &[u8]) -> Result<Plan, ReadError>
     ensures gives { Gives (λ plan. plan) result (network_in bytes.now) }
     ensures long { MOST_PLAN_BYTES < length bytes.now
@@ -132,7 +132,6 @@ impl Plan {
     /// the text where a growth was refused. A text that is too long or not UTF-8 is refused without
     /// memory.
     pub fn read(alloc: Global, bytes: &[u8]) -> Result<Plan, PlanError>
-        ensures exact { IsAnswer result (network_in bytes.now) }
         ensures plan { IfOk result (λ plan. IsPlanOfText bytes.now plan) }
         ensures told { IfErr result (λ e. (e ≡ out_of_memory) ⊎ PlanFault bytes.now e) }
         ensures no_fault { IfOk result (λ plan. (e : PlanError) → IsFault bytes.now e → ⊥) }
@@ -142,6 +141,9 @@ impl Plan {
             → IsErrOf result (record { code = PlanCode.Syntax; place = At.Text }) }
     {
         first_faults();
+        laws::names();
+        laws::address_texts();
+        laws::prefix_texts();
         match read_plan(alloc, bytes) {
             Ok(plan) => Ok(plan),
             Err(ReadError::Fault(fault)) => Err(fault),
@@ -152,7 +154,7 @@ impl Plan {
         }
     }
 
-    /// A plan keeps the laws: what its refusals say, turned round. This does nothing when it runs.
+    /// A plan keeps the laws, since reading refuses any other. This does nothing when it runs.
     pub fn lawful(&self)
         ensures { IsLawful self.now }
     {

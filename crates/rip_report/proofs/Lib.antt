@@ -10,4 +10,5 @@ pub mod TextLemmas
 pub mod ListingLemmas
 pub mod ExpectLemmas
 pub mod ExplainLemmas
+pub mod GivenLemmas
 pub mod WhatifLemmas

@@ -1,10 +1,11 @@
 -- What is said of a plan and a log that were read, and of those that were refused.
-use Rattle.std.proofs.Common.{◌≡◌, ℕ, List, Bool, true, false, Option, Some, None, Result, Ok, Err, ◌⊎◌, inl, inr, refl, sym, ap, subst, ◌∙◌}
+use Rattle.std.proofs.Common.{◌≡◌, ℕ, List, Bool, true, false, Option, Some, None, Result, Ok, Err, inl, inr, refl, sym, ap, subst, ◌∙◌}
 use Rattle.std.specs.Prelude.{◌↔◌, if◌then◌else◌, IfOk}
 use Rattle.std.proofs.lemmas.Option.{same_Some}
 use Rattle.rip_plan.specs.Network.{Network}
-use Rattle.rip_plan.specs.PlanFaults.{PlanFault}
+use Rattle.rip_plan.specs.PlanFaults.{IsFault, PlanFault}
 use Rattle.rip_plan.specs.PlanOf.{IsPlanOfText, PlanOf}
+use Rattle.rip_plan.specs.WellFormed.{IsWellFormed}
 use Rattle.rip_plan.specs.declared.error.PlanCode.TheVariants.{Memory as OutOfMemory}
 use Rattle.rip_plan.specs.declared.error.PlanError.{PlanError}
 use Rattle.rip_log.specs.LogText.{LogFault, LogText}
@@ -45,21 +46,16 @@ pub refusal_said : (n : Network) (old : State) (log : Log) (s : State) (collecte
 refusal_said n old log s (Ok done) h = h
 refusal_said n old log s (Err e) h = of_causes (IsOutcome n old log s) e (is_memory e.cause) (is_read_cause e.cause) h
 
--- what is made of a log that is told
-pub made_of : (words : LogWords) (n : Network) (text : Option (List ℕ)) (s : State) (collected : Result (Unit {0}) CollectError) → ((log : Log) → log_in text ≡ Some log → SaidOutcome n (new_state n) log s collected)
+-- what is made of a log
+pub made_of : (words : LogWords) (n : Network) (text : List ℕ) (s : State) (collected : Result (Unit {0}) CollectError) → ((log : Log) → log_in (Some text) ≡ Some log → SaidOutcome n (new_state n) log s collected)
     → IfOk (refusal_in collected) (LogMakes n text s)
-made_of words n None s collected said = untold (refusal_in collected)
+made_of words n text s collected said = found (log_in (Some text)) refl
   where
-    untold : (r : Result (Option CollectError) RunError) → IfOk r (LogMakes n None s)
-    untold (Ok refusal) = tt
-    untold (Err f) = tt
-made_of words n (Some text) s collected said = found (log_in (Some text)) refl
-  where
-    of_log : (log : Log) → log_in (Some text) ≡ Some log → (r : Result (Option CollectError) RunError) → IfOk r (IsOutcome n (new_state n) log s) → IfOk r (LogMakes n (Some text) s)
+    of_log : (log : Log) → log_in (Some text) ≡ Some log → (r : Result (Option CollectError) RunError) → IfOk r (IsOutcome n (new_state n) log s) → IfOk r (LogMakes n text s)
     of_log log h (Ok refusal) made = (log, in_words words text log.records log.fault h, made)
     of_log log h (Err f) made = tt
 
-    found : (log : Option Log) → log_in (Some text) ≡ log → IfOk (refusal_in collected) (LogMakes n (Some text) s)
+    found : (log : Option Log) → log_in (Some text) ≡ log → IfOk (refusal_in collected) (LogMakes n text s)
     found None h = absurd (cc)
     found (Some log) h = of_log log h (refusal_in collected) (refusal_said n (new_state n) log s collected (said log h))
 
@@ -76,15 +72,15 @@ joined_alone one n s t log (Some e) whole (inr own) h = absurd (never own.fault 
     never f h = absurd (cc)
 
 -- a log makes one table, and where it has one nothing refuses it
-pub same_table : (words : LogWords) (one : OneJoin) (n : Network) (text : Option (List ℕ)) (s t : State) (refusal : Option CollectError) → LogMakes n text s refusal → IsTable n text t → (s ≡ t) × (refusal ≡ None)
+pub same_table : (words : LogWords) (one : OneJoin) (n : Network) (text : List ℕ) (s t : State) (refusal : Option CollectError) → LogMakes n text s refusal → IsTable n text t → (s ≡ t) × (refusal ≡ None)
 same_table words one n text s t refusal made h =
-    let (log, says, outcome) = rw h.told at made in
-    let read = as_read words h.bytes log.records log.fault says in
-    let both = same_Some _ _ (sym read ∙ (words.text h.bytes h.records).1 h.text) in
+    let (log, says, outcome) = made in
+    let read = as_read words text log.records log.fault says in
+    let both = same_Some _ _ (sym read ∙ (words.text text h.records).1 h.text) in
     joined_alone one n s t log refusal (ap (λ (o : Log). o.fault) both) outcome (subst (λ rs. IsJoined n (new_state n) rs t) (sym (ap (λ (o : Log). o.records) both)) h.joined)
 
 -- a log that is refused has no table
-pub no_table : (P : Type 0) (words : LogWords) (one : OneJoin) (n : Network) (text : Option (List ℕ)) (s t : State) (e : CollectError) → LogMakes n text s (Some e) → IsTable n text t → P
+pub no_table : (P : Type 0) (words : LogWords) (one : OneJoin) (n : Network) (text : List ℕ) (s t : State) (e : CollectError) → LogMakes n text s (Some e) → IsTable n text t → P
 no_table P words one n text s t e made h = absurd (never (same_table words one n text s t (Some e) made h).1)
   where
     never : ◌≡◌ {A = Option CollectError} (Some e) None → ⊥
@@ -99,18 +95,24 @@ same_plan bytes n m one_plan p q =
     let one : p.document ≡ q.document = same_Some p.document q.document (sym p.reads ∙ q.reads) in
     one_plan n m q (subst (λ d. PlanOf d n) one p.plan) q.plan
 
+-- a plan that is accepted is the document's
+pub accepted_plan : (bytes log : List ℕ) (n : Network) (s : State) → IsAccepted bytes log n s → IsPlanOfText bytes n
+accepted_plan bytes log n s h =
+    let w = h.well_formed in
+    record { document = w.document; reads = w.text.reads; plan = subst (PlanOf w.document) h.network w.plan }
+
 -- what is said of the plan that was read is said of every plan of the bytes
-pub of_read : (IsSaid : Network → State → Type 0) (bytes : List ℕ) (log : Option (List ℕ)) (n m : Network) (s : State) → HasOnePlan bytes → IsPlanOfText bytes m
+pub of_read : (IsSaid : Network → State → Type 0) (bytes log : List ℕ) (n m : Network) (s : State) → HasOnePlan bytes → IsPlanOfText bytes m
     → ((t : State) → IsTable m log t → IsSaid m t) → IsAccepted bytes log n s → IsSaid n s
 of_read IsSaid bytes log n m s one_plan is told h =
-    let same = same_plan bytes n m one_plan h.plan_of is in
+    let same = same_plan bytes n m one_plan (accepted_plan bytes log n s h) is in
     subst (λ (k : Network). IsSaid k s) (sym same) (told s (subst (λ (k : Network). IsTable k log s) same h.table))
 
 -- the bytes of a plan that is refused have a fault
-pub of_refused : (IsSaid : Status → Type 0) (bytes : List ℕ) (log : Option (List ℕ)) (n : Network) (s : State) (e : PlanError) (outcome : Result Status RunError) → ((e.code ≡ OutOfMemory → ⊥) → PlanFault bytes e)
-    → (outcome ≡ Err Memory) ↔ (e.code ≡ OutOfMemory) → IsAccepted bytes log n s → IfOk outcome IsSaid
-of_refused IsSaid bytes log n s e (Ok status) told wanted k = let fault = told (λ m. other (wanted.1 m)) in absurd (k.faultless e (fault.pass, fault.found))
+pub of_refused : (IsSaid : Status → Type 0) (bytes log : List ℕ) (n : Network) (s : State) (e : PlanError) (outcome : Result Status RunError) → ((e.code ≡ OutOfMemory → ⊥) → PlanFault bytes e)
+    → (outcome ≡ Err Memory) ↔ (e.code ≡ OutOfMemory) → ((e : PlanError) → IsFault bytes e → ⊥) ↔ IsWellFormed bytes → IsAccepted bytes log n s → IfOk outcome IsSaid
+of_refused IsSaid bytes log n s e (Ok status) told wanted words k = let fault = told (λ m. other (wanted.1 m)) in absurd (words.1 k.well_formed e (fault.pass, fault.found))
   where
     other : ◌≡◌ {A = Result Status RunError} (Ok status) (Err Memory) → ⊥
     other h = absurd (cc)
-of_refused IsSaid bytes log n s e (Err f) told wanted k = tt
+of_refused IsSaid bytes log n s e (Err f) told wanted words k = tt

@@ -6,7 +6,8 @@ use Rattle.std.proofs.lemmas.Option.{get_or_from_slice_get}
 use Rattle.rip_wire.specs.Prefix.{Block, prefix_text}
 use Rattle.rip_plan.specs.Network.{Network}
 use Rattle.rip_plan.specs.declared.parts.Interface.{Interface}
-use Rattle.rip_report.specs.TableText.{interface_name, metric_line}
+use Rattle.rip_report.specs.Lines.{interface_name}
+use Rattle.rip_report.specs.TableText.{metric_line}
 use Rattle.rip_report.specs.Texts.{IsText, text_of}
 use Rattle.rip_report.specs.Written.{line}
 use Rattle.rip_report.specs.declared.texts.text.Text.{Text}

@@ -1,5 +1,5 @@
 -- What `audit` prints.
-use Rattle.std.specs.Prelude.{◌≡◌, ◌↔◌, ℕ, ◌==◌, ◌<◌, nat_lt, Bool, true, false, if◌then◌else◌, List, [], ◌++◌, length, filter, codes, decimal, Option, None, Some}
+use Rattle.std.specs.Prelude.{◌≡◌, ◌↔◌, ℕ, ◌==◌, ◌<◌, nat_lt, Bool, true, false, if◌then◌else◌, List, [], ◌++◌, length, filter, codes, decimal, None}
 use Rattle.rip_plan.specs.Network.{Network, each_below, is_of, numbers_where}
 use Rattle.rip_table.specs.State.{State}
 use Rattle.rip_check.specs.declared.verdict.Place2.{Place2}
@@ -9,6 +9,7 @@ use Rattle.rip_check.specs.declared.verdict.Verdict.{Verdict}
 use Rattle.rip_check.specs.declared.verdict.Verdict.TheVariants as verdicts
 use Rattle.rip_check.specs.declared.way.Way.{Way}
 use Rattle.rip_check.specs.declared.way.Way.TheVariants.{Unreachable, Here, Over}
+use Rattle.rip_report.specs.Lines.{reason_part}
 use Rattle.rip_report.specs.Listings.{TextsOfPairs}
 use Rattle.rip_report.specs.Names.{IsKnownWay, counts_part, name_of, prefix_name}
 use Rattle.rip_report.specs.ReportText.{ReportText}
@@ -97,25 +98,9 @@ subject_part n s (Missing r p l) = place_part n s r p
 subject_part n s (ShownOn r p l) = place_part n s r p
 subject_part n s (TwoWays r p) = place_part n s r p
 
--- why no route can be read
-abbrev pub reason_part : Network → Unclear → List ℕ
-reason_part n (NotHeard r l) = codes "not heard"
-reason_part n (TwoMetrics r p) = codes "two metrics"
-reason_part n (Missing r p l) = codes "missing on " ++ name_of n.links l
-reason_part n (ShownOn r p l) = codes "shown on " ++ name_of n.links l
-reason_part n (TwoWays r p) = codes "two ways"
-
 -- `router r1 link a: not heard`, or a place and why its route can't be read
 abbrev pub trouble_part : Network → State → Unclear → List ℕ
 trouble_part n s trouble = subject_part n s trouble ++ reason_part n trouble
-
--- the link of a reason is one of the plan
-abbrev pub IsKnownReason : Network → Unclear → Type 0
-IsKnownReason n (NotHeard r l) = Unit {0}
-IsKnownReason n (TwoMetrics r p) = Unit {0}
-IsKnownReason n (Missing r p l) = l < length n.links
-IsKnownReason n (ShownOn r p l) = l < length n.links
-IsKnownReason n (TwoWays r p) = Unit {0}
 
 -- the router, the prefix and the link of a trouble are known
 abbrev pub IsTroubleOf : Network → State → Unclear → Type 0
@@ -169,9 +154,8 @@ verdict_status verdicts.Settled = Settled
 verdict_status (verdicts.Unsettled f) = Unsettled
 verdict_status (verdicts.Unclear trouble) = IsUnclear
 
--- what is written for the bytes of a plan and the text of a log, where it is told: what refuses
--- them, or the verdict on the table of the log's records
-abbrev pub AuditText : List ℕ → Option (List ℕ) → Bool → Written → Type 0
+-- what is written for the bytes of a plan and the text of a log: what refuses them, or the verdict on the table of the log's records
+abbrev pub AuditText : List ℕ → List ℕ → Bool → Written → Type 0
 AuditText plan log all = ReportText (λ n s. VerdictText n s all) plan log
 
 -- ---- What the statuses mean

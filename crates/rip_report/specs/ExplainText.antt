@@ -15,9 +15,9 @@ use Rattle.rip_check.specs.declared.verdict.Place2.{Place2}
 use Rattle.rip_check.specs.declared.verdict.Unclear.{Unclear}
 use Rattle.rip_check.specs.declared.verdict.Unclear.TheVariants.{NotHeard, TwoMetrics, Missing, ShownOn, TwoWays}
 use Rattle.rip_report.specs.AuditText.{AllFailing, VerdictText, settled_line, unclear_line, unsettled_line}
+use Rattle.rip_report.specs.Lines.{read_part}
 use Rattle.rip_report.specs.Listings.{TextsBelow, TextsOf, TextsOfPairs}
 use Rattle.rip_report.specs.Names.{name_of, prefix_name}
-use Rattle.rip_report.specs.RoutesText.{read_part}
 use Rattle.rip_report.specs.Written.{Written, line}
 use Rattle.rip_report.specs.declared.status.Status.TheVariants.{Settled, Unsettled, Unclear as IsUnclear}
 
@@ -34,8 +34,8 @@ shown_line n l shown =
     line (codes "  shown on " ++ name_of n.links l ++ codes ": " ++ shown_word shown)
 
 -- `  read: 2 over a`
-unfoldable pub reading_line : Network → Route → Bool → List ℕ
-reading_line n route hidden = line (codes "  read: " ++ read_part n route hidden)
+unfoldable pub read_route_line : Network → Route → Bool → List ℕ
+read_route_line n route hidden = line (codes "  read: " ++ read_part n route hidden)
 
 -- `  direct: 1`, or `  direct: 7, kept`
 unfoldable pub direct_line : ℕ → Bool → List ℕ
@@ -130,7 +130,7 @@ pub record PlaceLines (n : Network) (s : State) (f : Place2) (text : List ℕ) :
   pub offer_lines : OfferLines n s f.router f.prefix offers
   pub is_least : IsLeast n f.prefix f.router least
   pub whole : text ≡ unsettled_line n s f ++ (shown
-      ++ (reading_line n (record { metric = f.metric; way = f.way }) f.hidden
+      ++ (read_route_line n (record { metric = f.metric; way = f.way }) f.hidden
       ++ (direct ++ (offers ++ least_line n f.prefix least))))
 
 -- ---- What a trouble comes from

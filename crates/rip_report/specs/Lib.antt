@@ -2,12 +2,14 @@ pub mod Statuses
 pub mod Written
 pub mod Sent
 pub mod Names
+pub mod Lines
 pub mod DecodeText
 pub mod PlanText
 pub mod RefusalText
 pub mod Readings
 pub mod ReportText
 pub mod TableText
+pub mod Given
 pub mod Held
 pub mod Finished
 pub mod AuditText

@@ -56,7 +56,7 @@ at_text (places.RouterInterface i j) =
     numbered (codes "router ") i ++ numbered (codes " interface ") j
 at_text (places.RouterOwn i j) = numbered (codes "router ") i ++ numbered (codes " own ") j
 
--- bytes that are no text of a plan, which is known before any memory is asked for: too many, or no
+-- bytes that are no text of a plan, which is known before anything is allocated: too many, or no
 -- UTF-8
 abbrev pub IsNoText : List ℕ → Type 0
 IsNoText bytes =

@@ -8,10 +8,9 @@ use Rattle.rip_check.specs.Paths.{IsLeast}
 use Rattle.rip_check.specs.Tables.{FitsShown, IsOnlyRoute, Route}
 use Rattle.rip_check.specs.Verdicts.{IsHidden}
 use Rattle.rip_check.specs.declared.verdict.Unclear.{Unclear}
-use Rattle.rip_report.specs.AuditText.{reason_part}
+use Rattle.rip_report.specs.Lines.{read_part, reason_part, unheard_line}
 use Rattle.rip_report.specs.Listings.{TextsBelow, TextsOfPairs}
-use Rattle.rip_report.specs.Names.{counts_part, name_of, prefix_name, way_text}
-use Rattle.rip_report.specs.TableText.{unheard_line}
+use Rattle.rip_report.specs.Names.{counts_part, name_of, prefix_name}
 use Rattle.rip_report.specs.Written.{Written, line}
 use Rattle.rip_report.specs.declared.status.Status.TheVariants.{Done}
 
@@ -19,15 +18,6 @@ use Rattle.rip_report.specs.declared.status.Status.TheVariants.{Done}
 unfoldable pub routes_line : Network → State → List ℕ
 routes_line n s =
     line (codes "routes: " ++ counts_part (length n.routers) (length s.prefixes))
-
--- `, leaf`, where a leaf cannot show its route
-abbrev pub leaf_word : Bool → List ℕ
-leaf_word hidden = if hidden then codes ", leaf" else []
-
--- `2 over a`, or of a leaf that cannot show it `2 over a, leaf`
-abbrev pub read_part : Network → Route → Bool → List ℕ
-read_part n route hidden =
-    decimal route.metric ++ codes " " ++ way_text n route.way ++ leaf_word hidden
 
 -- `, least 2`, where the metric is not the least
 abbrev pub least_part : ℕ → ℕ → List ℕ

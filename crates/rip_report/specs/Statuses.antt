@@ -5,7 +5,7 @@ use Rattle.rip_report.specs.declared.status.Status.TheVariants.{Settled, Done, U
 use Rattle.rip_report.specs.declared.status.RunError.{RunError}
 use Rattle.rip_report.specs.declared.status.RunError.TheVariants.{Read, Write, Memory}
 
--- 0 for what is well, 1 unsettled, 2 unclear, 3 refused, 4 a failure of a device or want of memory
+-- 0 for what is well, 1 unsettled, 2 unclear, 3 refused, 4 a failure of a device or of memory
 abbrev pub exit_code_of : Result Status RunError → ℕ
 exit_code_of (Ok Settled) = 0
 exit_code_of (Ok Done) = 0

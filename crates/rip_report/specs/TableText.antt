@@ -5,7 +5,7 @@ use Rattle.rip_wire.specs.Prefix.{Block, prefix_text}
 use Rattle.rip_plan.specs.Network.{Network}
 use Rattle.rip_plan.specs.declared.parts.Interface.{Interface}
 use Rattle.rip_table.specs.State.{State}
-use Rattle.rip_report.specs.Names.{name_of}
+use Rattle.rip_report.specs.Lines.{interface_name, unheard_line}
 use Rattle.rip_report.specs.ReportText.{ReportText}
 use Rattle.rip_report.specs.Written.{Written, line}
 use Rattle.rip_report.specs.declared.status.Status.TheVariants.{Done}
@@ -15,14 +15,6 @@ unfoldable pub table_line : ℕ → ℕ → List ℕ
 table_line interfaces prefixes =
     line (codes "table: " ++ decimal interfaces ++ codes " interfaces, "
     ++ decimal prefixes ++ codes " prefixes")
-
--- an interface by its router and its link, as `r1 a`
-abbrev pub interface_name : Network → Interface → List ℕ
-interface_name n i = name_of n.routers i.router ++ codes " " ++ name_of n.links i.link
-
--- `r1 a not heard`
-unfoldable pub unheard_line : Network → Interface → List ℕ
-unheard_line n i = line (interface_name n i ++ codes " not heard")
 
 -- `r1 a 10.2.0.0/16 16`
 unfoldable pub metric_line : Network → Interface → Block → ℕ → List ℕ
@@ -50,7 +42,6 @@ shown_table n s = record {
   status = Done;
 }
 
--- what is written for the bytes of a plan and the text of a log, where it is told: what refuses
--- them, or the table of the log's records
-abbrev pub TableText : List ℕ → Option (List ℕ) → Written → Type 0
+-- what is written for the bytes of a plan and the text of a log: what refuses them, or the table of the log's records
+abbrev pub TableText : List ℕ → List ℕ → Written → Type 0
 TableText plan log = ReportText (λ n s w. w ≡ shown_table n s) plan log

@@ -1,33 +1,32 @@
 //! The command `audit`: whether the tables that a log shows are right.
 
-pub(crate) mod lines;
-
-ghost use Rattle.std.specs.Prelude.{◌≡◌, ◌≢◌, ◌↔◌, ◌++◌, ℕ, List, [], Err, IfOk, IfSome, None, false, is_err, is_some, true, length};
+ghost use Rattle.std.specs.Prelude.{◌≡◌, ◌≢◌, ◌↔◌, ◌++◌, ℕ, List, [], Err, IfOk, IfSome, None, false, is_err, is_some, true, length, Some};
 ghost use Rattle.rip_plan.specs.Network.{Network};
 ghost use Rattle.rip_plan.specs.PlanFaults.{PlanFault};
 ghost use Rattle.rip_plan.specs.Relations.{IsPlain};
 ghost use Rattle.rip_plan.specs.declared.error.PlanError.{PlanError};
+ghost use Rattle.rip_log.specs.Wholes.{Went};
 ghost use Rattle.rip_table.specs.State.{Fits, State};
 ghost use Rattle.rip_check.specs.Marks.{AreUnsettled};
 ghost use Rattle.rip_check.specs.Verdicts.{IsVerdict, IsNextUnsettled};
 ghost use Rattle.rip_report.specs.AuditText.{AllFailing, AuditText, FailingText, IsJudged, ShowsPlainRightTables, UnsettledLine, UnsettledLines, VerdictText, unsettled_line, verdict_status};
+ghost use Rattle.rip_report.specs.Given.{IsGiven};
 ghost use Rattle.rip_report.specs.PlanText.{IsNoText};
 ghost use Rattle.rip_report.specs.ReportText.{IsAccepted};
 ghost use Rattle.rip_report.specs.Sent.{Prints, Reads, WentOut, Writes};
 ghost use Rattle.rip_check.specs.Laws.{OneIsShown, ShowsRightTables};
 ghost use Rattle.rip_check.specs.Walks.{PacketsArrive};
 
-use crate::each::{PairText, add_pairs};
+use crate::lines::verdicts::{settled_text, unclear_text, unsettled_text};
 use crate::listing::Listing;
+use crate::loops::{PairText, add_pairs};
 use crate::output::{finish, write_all};
 use crate::report::{Report, run_report};
 use crate::status::{RunError, Status};
-use lines::{settled_text, unclear_text, unsettled_text};
 use rip_check::laws::{one_set_of_tables, plain_paths};
 use rip_check::{Place2, Unsettled, Verdict, judge};
 use rip_log::{Failed, Sink, Source};
 use rip_plan::Plan;
-use rip_plan::laws::{first_faults, one_plan};
 use rip_table::MetricTable;
 use std::alloc::{AllocError, Global};
 use std::hash::BuildHasher;
@@ -232,32 +231,44 @@ pub fn run_audit<R: Source, K: Sink, S: BuildHasher + Drop>(
 ) -> (R, Result<Status, RunError>)
     // Settled is answered exactly where the log shows right tables, and then packets arrive;
     // otherwise the first place that does not hold is named, or the first trouble.
-    ensures headline { (n : Network) (s : State) → IsAccepted plan.now (R.coming log) n s →
+    ensures headline { (text : List ℕ) → IsGiven R.given R.at_end log result.0 text →
+        (n : Network) (s : State) → IsAccepted plan.now text n s →
+        IfOk result.1 (λ status. ((status ≡ Status.Settled) ↔ ShowsRightTables n s)
+        × (status ≡ Status.Settled → PacketsArrive n s)
+        × WentOut (VerdictText n s all) (K.taken out.old) (K.taken out.new) status) }
+    // The same of all the text that was to come, where its bytes are modelled.
+    ensures known { (text : List ℕ) → R.coming log ≡ Some text →
+        (n : Network) (s : State) → IsAccepted plan.now text n s →
         IfOk result.1 (λ status. ((status ≡ Status.Settled) ↔ ShowsRightTables n s)
         × (status ≡ Status.Settled → PacketsArrive n s)
         × WentOut (VerdictText n s all) (K.taken out.old) (K.taken out.new) status) }
     // Of a plan that says nothing beside RFC 2453 the paths go over any neighbours.
-    ensures plain { (n : Network) (s : State) → IsAccepted plan.now (R.coming log) n s → IsPlain n →
+    ensures plain { (text : List ℕ) → IsGiven R.given R.at_end log result.0 text →
+        (n : Network) (s : State) → IsAccepted plan.now text n s → IsPlain n →
         IfOk result.1 (λ status. (status ≡ Status.Settled) ↔ ShowsPlainRightTables n s) }
     // No two sets of tables are shown.
-    ensures one_set { (n : Network) (s : State) → IsAccepted plan.now (R.coming log) n s →
+    ensures one_set { (text : List ℕ) → IsGiven R.given R.at_end log result.0 text →
+        (n : Network) (s : State) → IsAccepted plan.now text n s →
         OneIsShown n s }
     // What each verdict is answered for.
-    ensures judged { (n : Network) (s : State) → IsAccepted plan.now (R.coming log) n s →
+    ensures judged { (text : List ℕ) → IsGiven R.given R.at_end log result.0 text →
+        (n : Network) (s : State) → IsAccepted plan.now text n s →
         IfOk result.1 (IsJudged n s) }
     // The whole text went out, or a beginning where the sink failed, or nothing.
-    ensures prints { Prints K.taken K.broken out.old out.new result.1
-        (AuditText plan.now (R.coming log) all) }
+    ensures prints { (text : List ℕ) → IsGiven R.given R.at_end log result.0 text →
+        Prints K.taken K.broken out.old out.new result.1 (AuditText plan.now text all) }
     // What is printed of a table comes only at the source's end, and Read only where it has failed.
     ensures reads { Reads R.broken R.at_end log result.0 result.1 }
+    // Some bytes were given, and where those to come are modelled, they are the first of these.
+    ensures went { Went R.given R.coming R.at_end log result.0 }
+    ensures to_come { (text : List ℕ) → R.coming log ≡ Some text →
+        IsGiven R.given R.at_end log result.0 text }
     // The source of a refused plan is as it was, and its failure is not told.
     ensures untouched { (e : PlanError) → PlanFault plan.now e →
         (result.0 ≡ log) × (result.1 ≢ Err RunError.Read) }
     // Bytes that are no text of a plan are refused without memory.
     ensures no_text { IsNoText plan.now → result.1 ≢ Err RunError.Memory }
 {
-    first_faults();
-    one_plan();
     one_set_of_tables();
     plain_paths();
     run_report(alloc, &Audit { all }, plan, log, out, hasher)

@@ -4,17 +4,18 @@ ghost use Rattle.std.specs.Prelude.{◌≡◌, ◌+◌, ◌≤◌, ◌%◌, ◌�
 ghost use Rattle.std.specs.List.{AllPass};
 ghost use Rattle.hex.specs.Hex.{decode_of, is_hex_digit};
 ghost use Rattle.rip_wire.specs.Datagram.{datagram_bytes, entries_of, kind_of, message_of};
-ghost use Rattle.rip_report.specs.declared.limits.TheConstants.{LINE_BYTES};
-ghost use Rattle.rip_report.specs.DecodeText.{DecodeText, entry_line, entry_lines, refused_wire, shown, shown_response, wire_code_text, wire_fault_text};
+ghost use Rattle.rip_report.specs.declared.limits.TheConstants.{WORDS};
+ghost use Rattle.rip_report.specs.DecodeText.{DecodeText, entry_line, entry_lines, refused_wire, shown, shown_response};
 ghost use Rattle.rip_report.specs.Held.{held};
 ghost use Rattle.rip_report.specs.Sent.{Prints, Writes};
 ghost use Rattle.rip_report.specs.Written.{line};
 
 use crate::line::Line;
 use crate::output::{Page, finish, write_all};
+use crate::refusal::push_wire_fault;
 use crate::status::{RunError, Status};
 use rip_log::{Failed, Sink, decode_digits};
-use rip_wire::{Datagram, Entry, Kind, MOST_BYTES, WireCode, WireError, read};
+use rip_wire::{Datagram, Entry, Kind, MOST_BYTES, WireError, read};
 
 /// How many bytes are looked at: one more than a datagram can have.
 const KEPT_BYTES: usize = MOST_BYTES + 1;
@@ -42,39 +43,6 @@ fn bytes_of_hex<'a>(word: &[u8], room: &'a mut [u8; KEPT_BYTES]) -> Option<&'a [
     } else {
         unreachable!()
     }
-}
-
-/// The number and the word of a code.
-fn code_text(code: WireCode) -> &'static str
-    ensures text { result.now ≡ wire_code_text code }
-    ensures short { length result.now ≤ 32 }
-{
-    match code {
-        WireCode::Short => "1 Short",
-        WireCode::Command => "2 Command",
-        WireCode::Version => "3 Version",
-        WireCode::Zero => "4 Zero",
-        WireCode::Ragged => "5 Ragged",
-        WireCode::Empty => "6 Empty",
-        WireCode::TooMany => "7 TooMany",
-        WireCode::Authentication => "8 Authentication",
-        WireCode::Family => "9 Family",
-        WireCode::Mask => "10 Mask",
-        WireCode::NoMask => "11 NoMask",
-        WireCode::HostBits => "12 HostBits",
-        WireCode::Metric => "13 Metric",
-    }
-}
-
-/// Adds a fault of a datagram.
-pub(crate) fn push_wire_fault(text: &mut Line, error: WireError)
-    requires { length text.old + 56 ≤ LINE_BYTES }
-    ensures text { text.new ≡ text.old ++ wire_fault_text error.code error.at }
-    ensures size { length text.new ≤ length text.old + 56 }
-{
-    text.push(code_text(error.code));
-    text.push(" at ");
-    text.push_number(error.at as u64);
 }
 
 /// The line of a fault.
@@ -107,7 +75,7 @@ fn entry_text(entry: Entry) -> Line
 
 /// The line of a kind and a number of entries.
 fn kind_text(kind: &str, count: usize) -> Line
-    requires { length kind.now ≤ 32 }
+    requires { length kind.now ≤ WORDS }
     ensures { result ≡ line (kind.now ++ decimal count) }
 {
     let mut text = Line::new();
@@ -157,7 +125,7 @@ fn write_datagram<K: Sink>(datagram: &Datagram<'_>, out: &mut K) -> Result<(), F
 }
 
 /// Prints the datagram that a word spells in hexadecimal digits of either case, or what is wrong
-/// with it. A word of any length is judged. It takes no memory.
+/// with it. A word of any length is judged. It allocates nothing.
 pub fn run_decode<K: Sink>(hex: &str, out: &mut K) -> Result<Status, RunError>
     // The whole text went out, or a beginning where the sink failed.
     ensures prints { Prints K.taken K.broken out.old out.new result (DecodeText hex.now) }

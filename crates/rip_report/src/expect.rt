@@ -3,7 +3,7 @@
 ghost use Rattle.std.specs.Prelude.{◌≡◌, ◌≢◌, ◌+◌, ◌≤◌, ◌<◌, ◌++◌, ℕ, List, [], Err, IfOk, is_err, false, true, length};
 ghost use Rattle.rip_check.specs.Expected.{AreExpected, AreUnreachable};
 ghost use Rattle.rip_check.specs.declared.way.Way.TheVariants.{Over};
-ghost use Rattle.rip_report.specs.declared.limits.TheConstants.{LINE_BYTES};
+ghost use Rattle.rip_report.specs.declared.limits.TheConstants.{LINE_BYTES, NUMBERED};
 ghost use Rattle.rip_report.specs.ExpectText.{ExpectText, OverLines, PairLines, RouterLines, WayLine, expect_line, route_line, unreachable_part};
 ghost use Rattle.rip_report.specs.Listings.{Adds, TextsBelow};
 ghost use Rattle.rip_report.specs.Names.{IsKnownWay};
@@ -14,7 +14,7 @@ use crate::line::Line;
 use crate::listing::Listing;
 use crate::names::{push_counts, push_router, push_way};
 use crate::output::finish;
-use crate::plan::refuse_plan;
+use crate::refusal::refuse_plan;
 use crate::status::{RunError, Status};
 use rip_check::{Expected, Way};
 use rip_log::{Failed, Sink};
@@ -24,9 +24,9 @@ use std::alloc::Global;
 
 /// Adds how many pairs of a router and a prefix are unreachable, where some are.
 fn push_unreachable(text: &mut Line, pairs: usize)
-    requires { length text.old + 40 ≤ LINE_BYTES }
+    requires { length text.old + NUMBERED ≤ LINE_BYTES }
     ensures text { text.new ≡ text.old ++ unreachable_part pairs }
-    ensures size { length text.new ≤ length text.old + 40 }
+    ensures size { length text.new ≤ length text.old + NUMBERED }
 {
     if pairs > 0 {
         text.push(", ");
@@ -193,8 +193,8 @@ fn write_expected<K: Sink>(plan: &Plan, expected: &Expected, out: &mut K) -> Res
 }
 
 /// Prints the right routes of the plan that the bytes of a TOML document are, or their first fault: what
-/// the tables are once the network has settled. It takes a byte of memory for each router and prefix,
-/// beside the plan.
+/// the tables are once the network has settled. It allocates a byte for each router and prefix, beside
+/// the plan.
 pub fn run_expect<K: Sink>(alloc: Global, plan: &[u8], out: &mut K) -> Result<Status, RunError>
     // The whole text went out, or a beginning where the sink failed, or nothing.
     ensures prints { Prints K.taken K.broken out.old out.new result (ExpectText plan.now) }

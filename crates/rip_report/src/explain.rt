@@ -4,10 +4,12 @@ mod lines;
 mod places;
 mod troubles;
 
-ghost use Rattle.std.specs.Prelude.{◌≡◌, ◌≢◌, ◌↔◌, ◌++◌, ℕ, Bool, List, [], Err, IfOk, IsTrue, None, false, true, length};
+ghost use Rattle.std.specs.Prelude.{◌≡◌, ◌≢◌, ◌↔◌, ◌++◌, ℕ, Bool, List, [], Err, IfOk, IsTrue, None, false, true, length, Some};
 ghost use Rattle.rip_plan.specs.Network.{Network};
 ghost use Rattle.rip_plan.specs.PlanFaults.{PlanFault};
 ghost use Rattle.rip_plan.specs.declared.error.PlanError.{PlanError};
+ghost use Rattle.rip_report.specs.Given.{IsGiven};
+ghost use Rattle.rip_log.specs.Wholes.{Went};
 ghost use Rattle.rip_table.specs.State.{Fits, State};
 ghost use Rattle.rip_check.specs.Expected.{AreExpected};
 ghost use Rattle.rip_check.specs.Firsts.{IsFirstTrouble};
@@ -20,9 +22,9 @@ ghost use Rattle.rip_report.specs.PlanText.{IsNoText};
 ghost use Rattle.rip_report.specs.ReportText.{IsAccepted, ReportText};
 ghost use Rattle.rip_report.specs.Sent.{Prints, Reads, WentOut};
 
-use crate::audit::lines::settled_text;
-use crate::each::{PairText, add_pairs};
+use crate::lines::verdicts::settled_text;
 use crate::listing::Listing;
+use crate::loops::{PairText, add_pairs};
 use crate::output::finish;
 use crate::report::{Report, run_report};
 use crate::status::{RunError, Status};
@@ -232,26 +234,33 @@ pub fn run_explain<R: Source, K: Sink, S: BuildHasher + Drop>(
     hasher: S,
 ) -> (R, Result<Status, RunError>)
     // Settled is answered exactly where the log shows right tables, and then packets arrive.
-    ensures headline { (n : Network) (s : State) → IsAccepted plan.now (R.coming log) n s →
+    ensures headline { (text : List ℕ) → IsGiven R.given R.at_end log result.0 text →
+        (n : Network) (s : State) → IsAccepted plan.now text n s →
         IfOk result.1 (λ status. ((status ≡ Status.Settled) ↔ ShowsRightTables n s)
         × (status ≡ Status.Settled → PacketsArrive n s)
         × WentOut (ExplainText n s all) (K.taken out.old) (K.taken out.new) status) }
     // What each verdict is answered for.
-    ensures judged { (n : Network) (s : State) → IsAccepted plan.now (R.coming log) n s →
+    ensures judged { (text : List ℕ) → IsGiven R.given R.at_end log result.0 text →
+        (n : Network) (s : State) → IsAccepted plan.now text n s →
         IfOk result.1 (IsJudged n s) }
     // Without `all` the first line is that of `audit`.
-    ensures verdict { all ≡ false → (n : Network) (s : State) →
-        IsAccepted plan.now (R.coming log) n s →
+    ensures verdict { all ≡ false → (text : List ℕ) → IsGiven R.given R.at_end log result.0 text →
+        (n : Network) (s : State) → IsAccepted plan.now text n s →
         IfOk result.1 (WentOut (BeginsWithVerdict n s) (K.taken out.old) (K.taken out.new)) }
     // With `all` the places that do not hold are those that `audit` names with `all`.
-    ensures places { all ≡ true → (n : Network) (s : State) →
-        IsAccepted plan.now (R.coming log) n s →
+    ensures places { all ≡ true → (text : List ℕ) → IsGiven R.given R.at_end log result.0 text →
+        (n : Network) (s : State) → IsAccepted plan.now text n s →
         IfOk result.1 (WentOut (ExplainsAll n s) (K.taken out.old) (K.taken out.new)) }
     // The whole text went out, or a beginning where the sink failed, or nothing.
-    ensures prints { Prints K.taken K.broken out.old out.new result.1
-        (ReportText (λ n s. ExplainText n s all) plan.now (R.coming log)) }
+    ensures prints { (text : List ℕ) → IsGiven R.given R.at_end log result.0 text →
+        Prints K.taken K.broken out.old out.new result.1
+        (ReportText (λ n s. ExplainText n s all) plan.now text) }
     // What is printed of a table comes only at the source's end, and Read only where it has failed.
     ensures reads { Reads R.broken R.at_end log result.0 result.1 }
+    // Some bytes were given, and where those to come are modelled, they are the first of these.
+    ensures went { Went R.given R.coming R.at_end log result.0 }
+    ensures to_come { (text : List ℕ) → R.coming log ≡ Some text →
+        IsGiven R.given R.at_end log result.0 text }
     // The source of a refused plan is as it was, and its failure is not told.
     ensures untouched { (e : PlanError) → PlanFault plan.now e →
         (result.0 ≡ log) × (result.1 ≢ Err RunError.Read) }

@@ -3,12 +3,13 @@
 
 mod audit;
 mod decode;
-mod each;
 mod expect;
 mod explain;
 mod limits;
 mod line;
+mod lines;
 mod listing;
+mod loops;
 mod names;
 mod output;
 mod plan;

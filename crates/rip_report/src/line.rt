@@ -3,10 +3,10 @@
 ghost use Rattle.std.specs.Prelude.{◌≡◌, ◌+◌, ◌^◌, ◌<◌, ◌≤◌, ◌∷◌, ◌++◌, [], decimal, length};
 ghost use Rattle.rip_wire.specs.Address.{address_text};
 ghost use Rattle.rip_wire.specs.Prefix.{prefix_text};
-ghost use Rattle.rip_report.specs.declared.limits.TheConstants.{LINE_BYTES};
+ghost use Rattle.rip_report.specs.declared.limits.TheConstants.{ADDRESS, LINE_BYTES, NUMBER, NUMBERED, PREFIX, WORDS};
 ghost use Rattle.rip_report.specs.Names.{numbered};
 
-use crate::limits::LINE_BYTES;
+use crate::limits::{ADDRESS, LINE_BYTES, PREFIX};
 use itoa::Buffer;
 use rip_wire::{Address, Metric, Prefix};
 use std::marker::Model;
@@ -58,21 +58,21 @@ impl Line {
         self.used = end;
     }
 
-    /// Adds a number in decimal digits, at most 20 of them.
+    /// Adds a number in decimal digits.
     pub(crate) fn push_number(&mut self, number: u64)
-        requires { length self.old + 20 ≤ LINE_BYTES }
+        requires { length self.old + NUMBER ≤ LINE_BYTES }
         ensures text { self.new ≡ self.old ++ decimal number }
-        ensures size { length self.new ≤ length self.old + 20 }
+        ensures size { length self.new ≤ length self.old + NUMBER }
     {
         self.push(Buffer::new().format(number));
     }
 
     /// Adds a word and a number.
     pub(crate) fn push_numbered(&mut self, word: &str, number: usize)
-        requires short { length word.now ≤ 16 }
-        requires room { length self.old + 36 ≤ LINE_BYTES }
+        requires short { length word.now ≤ WORDS }
+        requires room { length self.old + NUMBERED ≤ LINE_BYTES }
         ensures text { self.new ≡ self.old ++ numbered word.now number }
-        ensures size { length self.new ≤ length self.old + 36 }
+        ensures size { length self.new ≤ length self.old + NUMBERED }
     {
         self.push(word);
         self.push_number(number as u64);
@@ -80,29 +80,29 @@ impl Line {
 
     /// Adds a metric.
     pub(crate) fn push_metric(&mut self, metric: Metric)
-        requires { length self.old + 20 ≤ LINE_BYTES }
+        requires { length self.old + NUMBER ≤ LINE_BYTES }
         ensures text { self.new ≡ self.old ++ decimal metric }
-        ensures size { length self.new ≤ length self.old + 20 }
+        ensures size { length self.new ≤ length self.old + NUMBER }
     {
         self.push_number(u64::from(metric.get()));
     }
 
     /// Adds an address.
     pub(crate) fn push_address(&mut self, address: Address)
-        requires { length self.old + 15 ≤ LINE_BYTES }
+        requires { length self.old + ADDRESS ≤ LINE_BYTES }
         ensures text { self.new ≡ self.old ++ address_text address }
-        ensures size { length self.new ≤ length self.old + 15 }
+        ensures size { length self.new ≤ length self.old + ADDRESS }
     {
-        self.push(address.encode(&mut [0; 15]));
+        self.push(address.encode(&mut [0; ADDRESS]));
     }
 
     /// Adds a prefix.
     pub(crate) fn push_prefix(&mut self, prefix: Prefix)
-        requires { length self.old + 18 ≤ LINE_BYTES }
+        requires { length self.old + PREFIX ≤ LINE_BYTES }
         ensures text { self.new ≡ self.old ++ prefix_text prefix }
-        ensures size { length self.new ≤ length self.old + 18 }
+        ensures size { length self.new ≤ length self.old + PREFIX }
     {
-        self.push(prefix.encode(&mut [0; 18]));
+        self.push(prefix.encode(&mut [0; PREFIX]));
     }
 
     /// Ends the line.

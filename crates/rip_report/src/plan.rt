@@ -1,95 +1,21 @@
 //! The command `plan`: the parts of a plan.
 
-ghost use Rattle.std.specs.Prelude.{◌≡◌, ◌≢◌, ◌+◌, ◌≤◌, ◌<◌, ◌↔◌, ◌++◌, [], Err, IfSome, length};
+ghost use Rattle.std.specs.Prelude.{◌≡◌, ◌≢◌, ◌+◌, ◌≤◌, ◌<◌, ◌++◌, [], Err, IfSome, length};
 ghost use Rattle.std.specs.List.{flat_map};
-ghost use Rattle.rip_report.specs.declared.limits.TheConstants.{LINE_BYTES};
-ghost use Rattle.rip_report.specs.PlanText.{IsNoText, IsSeat, PlanText, address_part, also_text, at_text, attached_text, counts_line, direct_text, gateway_text, interface_line, interface_lines, interface_text, kept_text, place_line, plan_code_text, refused_plan, seat_text, shown_plan, word_of};
+ghost use Rattle.rip_report.specs.declared.limits.TheConstants.{CODE_WORD, GATEWAY, LINE_BYTES, NAMED, NUMBERED, PLAN_CODE, POSITION, SEAT, WORDS};
+ghost use Rattle.rip_report.specs.PlanText.{IsNoText, IsSeat, PlanText, address_part, also_text, attached_text, counts_line, direct_text, gateway_text, interface_line, interface_lines, interface_text, kept_text, place_line, seat_text, shown_plan};
 ghost use Rattle.rip_report.specs.Held.{held};
 ghost use Rattle.rip_report.specs.Sent.{Prints, Writes};
 
 use crate::line::Line;
 use crate::names::{push_link, push_router};
-use crate::output::{Page, finish, write_all};
+use crate::output::{Page, finish};
+use crate::refusal::refuse_plan;
 use crate::status::{RunError, Status};
 use rip_log::{Failed, Sink};
-use rip_plan::{At, Interface, Place, Plan, PlanCode, PlanError, Seat};
+use rip_plan::{Interface, Place, Plan, Seat};
 use rip_wire::Address;
 use std::alloc::Global;
-
-/// The word of a code.
-fn word(code: PlanCode) -> &'static str
-    ensures text { result.now ≡ word_of code }
-    ensures short { length result.now ≤ 32 }
-{
-    match code {
-        PlanCode::Syntax => "Syntax",
-        PlanCode::Version => "Version",
-        PlanCode::Key => "Key",
-        PlanCode::Name => "Name",
-        PlanCode::DuplicateName => "DuplicateName",
-        PlanCode::Address => "Address",
-        PlanCode::Prefix => "Prefix",
-        PlanCode::Cost => "Cost",
-        PlanCode::DuplicatePrefix => "DuplicatePrefix",
-        PlanCode::UnknownLink => "UnknownLink",
-        PlanCode::TwiceOnLink => "TwiceOnLink",
-        PlanCode::DuplicateAddress => "DuplicateAddress",
-        PlanCode::OutsidePrefix => "OutsidePrefix",
-        PlanCode::NoInterface => "NoInterface",
-        PlanCode::Limit => "Limit",
-        PlanCode::Memory => "Memory",
-    }
-}
-
-/// Adds the number and the word of a code.
-fn push_code(text: &mut Line, code: PlanCode)
-    requires { length text.old + 53 ≤ LINE_BYTES }
-    ensures text { text.new ≡ text.old ++ plan_code_text code }
-    ensures size { length text.new ≤ length text.old + 53 }
-{
-    text.push_number(u64::from(code.number()));
-    text.push(" ");
-    text.push(word(code));
-}
-
-/// Adds a position in a plan's text.
-fn push_at(text: &mut Line, place: At)
-    requires { length text.old + 72 ≤ LINE_BYTES }
-    ensures text { text.new ≡ text.old ++ at_text place }
-    ensures size { length text.new ≤ length text.old + 72 }
-{
-    match place {
-        At::Text => text.push("text"),
-        At::Version => text.push("version"),
-        At::Link(i) => text.push_numbered("link ", i),
-        At::LinkPrefix(i, j) => {
-            text.push_numbered("link ", i);
-            text.push_numbered(" prefix ", j);
-        }
-        At::Router(i) => text.push_numbered("router ", i),
-        At::RouterInterface(i, j) => {
-            text.push_numbered("router ", i);
-            text.push_numbered(" interface ", j);
-        }
-        At::RouterOwn(i, j) => {
-            text.push_numbered("router ", i);
-            text.push_numbered(" own ", j);
-        }
-    }
-}
-
-/// The line of a fault.
-fn fault_text(error: PlanError) -> Line
-    ensures { result ≡ (refused_plan error).text }
-{
-    let mut text = Line::new();
-    text.push("refused: plan ");
-    push_code(&mut text, error.code);
-    text.push(" at ");
-    push_at(&mut text, error.place);
-    text.end();
-    text
-}
 
 /// The line of the counts.
 #[tactic(auto, unfolding(crate::specs::PlanText::counts_line))]
@@ -112,9 +38,9 @@ fn counts_text(plan: &Plan) -> Line
 
 /// Adds the metric at which a router has the prefixes of a link, where it is not the cost.
 fn push_direct(text: &mut Line, interface: Interface)
-    requires { length text.old + 28 ≤ LINE_BYTES }
+    requires { length text.old + NUMBERED ≤ LINE_BYTES }
     ensures text { text.new ≡ text.old ++ direct_text interface }
-    ensures size { length text.new ≤ length text.old + 28 }
+    ensures size { length text.new ≤ length text.old + NUMBERED }
 {
     if interface.direct != interface.cost {
         text.push(" direct ");
@@ -211,9 +137,9 @@ fn write_interfaces<K: Sink>(page: &mut Page, plan: &Plan, out: &mut K) -> Resul
 
 /// Adds that a router keeps a prefix of its own, where the plan says so.
 fn push_kept(text: &mut Line, kept: bool)
-    requires { length text.old + 5 ≤ LINE_BYTES }
+    requires { length text.old + WORDS ≤ LINE_BYTES }
     ensures text { text.new ≡ text.old ++ kept_text kept }
-    ensures size { length text.new ≤ length text.old + 5 }
+    ensures size { length text.new ≤ length text.old + WORDS }
 {
     if kept {
         text.push(" kept");
@@ -223,9 +149,9 @@ fn push_kept(text: &mut Line, kept: bool)
 /// Adds the link to which a prefix is attached, if it is.
 fn push_attached(text: &mut Line, plan: &Plan, link: Option<usize>)
     requires known { IfSome link (λ l. l < length plan.now.links) }
-    requires room { length text.old + 38 ≤ LINE_BYTES }
+    requires room { length text.old + NAMED ≤ LINE_BYTES }
     ensures text { text.new ≡ text.old ++ attached_text plan.now link }
-    ensures size { length text.new ≤ length text.old + 38 }
+    ensures size { length text.new ≤ length text.old + NAMED }
 {
     if let Some(link) = link {
         text.push(" link ");
@@ -235,9 +161,9 @@ fn push_attached(text: &mut Line, plan: &Plan, link: Option<usize>)
 
 /// Adds the gateway of a prefix, if it has one.
 fn push_gateway(text: &mut Line, via: Option<Address>)
-    requires { length text.old + 20 ≤ LINE_BYTES }
+    requires { length text.old + GATEWAY ≤ LINE_BYTES }
     ensures text { text.new ≡ text.old ++ gateway_text via }
-    ensures size { length text.new ≤ length text.old + 20 }
+    ensures size { length text.new ≤ length text.old + GATEWAY }
 {
     if let Some(gateway) = via {
         text.push(" via ");
@@ -248,9 +174,9 @@ fn push_gateway(text: &mut Line, via: Option<Address>)
 /// Adds the seat of a place.
 fn push_seat(text: &mut Line, plan: &Plan, seat: Seat)
     requires known { IsSeat plan.now seat }
-    requires room { length text.old + 129 ≤ LINE_BYTES }
+    requires room { length text.old + SEAT ≤ LINE_BYTES }
     ensures text { text.new ≡ text.old ++ seat_text plan.now seat }
-    ensures size { length text.new ≤ length text.old + 129 }
+    ensures size { length text.new ≤ length text.old + SEAT }
 {
     match seat {
         Seat::Link(link) => {
@@ -311,22 +237,6 @@ fn write_plan<K: Sink>(plan: &Plan, out: &mut K) -> Result<(), Failed>
     write_interfaces(&mut page, plan, out)?;
     write_places(&mut page, plan, out)?;
     page.flush(out)
-}
-
-/// Ends a run whose plan is refused, or for whose plan there is no memory.
-pub(crate) fn refuse_plan<K: Sink>(error: PlanError, out: &mut K) -> Result<Status, RunError>
-    ensures prints { Prints K.taken K.broken out.old out.new result
-        (λ w. w ≡ refused_plan error) }
-    ensures wanted { (result ≡ Err RunError.Memory) ↔ (error.code ≡ PlanCode.Memory) }
-    ensures read { result ≢ Err RunError.Read }
-{
-    if error.code == PlanCode::Memory {
-        return Err(RunError::Memory);
-    }
-    finish(
-        write_all(out, fault_text(error).as_bytes()),
-        Status::Refused,
-    )
 }
 
 /// Prints the plan that the bytes of a TOML document are, or their first fault.

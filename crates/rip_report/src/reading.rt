@@ -1,6 +1,8 @@
 //! From a log to a table.
 
-ghost use Rattle.std.specs.Prelude.{◌≡◌, ◌≢◌, true, IfOk, Ok, Err, None};
+ghost use Rattle.std.specs.Prelude.{◌≡◌, ◌≢◌, true, IfOk, Ok, Err, None, ℕ, List, Some};
+ghost use Rattle.rip_report.specs.Given.{IsGiven};
+ghost use Rattle.rip_log.specs.Wholes.{Went};
 ghost use Rattle.rip_table.specs.State.{Fits, new_state};
 ghost use Rattle.rip_report.specs.Readings.{refusal_in};
 ghost use Rattle.rip_report.specs.ReportText.{LogMakes};
@@ -40,7 +42,9 @@ pub(crate) fn read_log<R: Source, T: MetricTable>(
     table: &mut T,
 ) -> (R, Result<Option<CollectError>, RunError>)
     requires { T.state table.old ≡ new_state plan.now }
-    ensures told { IfOk result.1 (LogMakes plan.now (R.coming log) (T.state table.new)) }
+    ensures told { (text : List ℕ) → IsGiven R.given R.at_end log result.0 text →
+        IfOk result.1 (LogMakes plan.now text (T.state table.new)) }
+    ensures went { Went R.given R.coming R.at_end log result.0 }
     ensures fits { Fits plan.now (T.state table.new) }
     ensures read { result.1 ≡ Err RunError.Read → R.broken result.0 ≡ true }
     ensures write { result.1 ≢ Err RunError.Write }

@@ -1,21 +1,25 @@
-//! What is printed where a log is refused.
+//! What is printed where a plan or a log is refused.
+
+mod plan;
+mod wire;
 
 ghost use Rattle.std.specs.Prelude.{◌≡◌, ◌+◌, ◌≤◌, ◌++◌, length};
-ghost use Rattle.rip_report.specs.declared.limits.TheConstants.{LINE_BYTES};
+ghost use Rattle.rip_report.specs.declared.limits.TheConstants.{CAUSE, LINE_BYTES, LOG_CODE, LOG_LINE, PREFIX_PART, TABLE_ERROR, TWO_NUMBERS, WORDS};
 ghost use Rattle.rip_report.specs.RefusalText.{at_line, cause_text, change_text, log_code_text, prefix_part, refused_log, table_error_text};
 
-use crate::decode::push_wire_fault;
 use crate::line::Line;
+pub(crate) use plan::refuse_plan;
 use rip_log::LogCode;
 use rip_table::{CollectCause, CollectError, TableError};
 use rip_wire::{Metric, Prefix};
+pub(crate) use wire::push_wire_fault;
 
 /// Adds the number and the word of a code of a log.
 #[tactic(auto, unfolding(crate::specs::RefusalText::log_code_text))]
 fn push_log_code(text: &mut Line, code: LogCode)
-    requires { length text.old + 72 ≤ LINE_BYTES }
+    requires { length text.old + LOG_CODE ≤ LINE_BYTES }
     ensures text { text.new ≡ text.old ++ log_code_text code }
-    ensures size { length text.new ≤ length text.old + 72 }
+    ensures size { length text.new ≤ length text.old + LOG_CODE }
 {
     match code {
         LogCode::LongLine => text.push("1 LongLine"),
@@ -37,9 +41,9 @@ fn push_log_code(text: &mut Line, code: LogCode)
 
 /// Adds a prefix, after its word.
 fn push_prefix_part(text: &mut Line, prefix: Prefix)
-    requires { length text.old + 26 ≤ LINE_BYTES }
+    requires { length text.old + PREFIX_PART ≤ LINE_BYTES }
     ensures text { text.new ≡ text.old ++ prefix_part prefix }
-    ensures size { length text.new ≤ length text.old + 26 }
+    ensures size { length text.new ≤ length text.old + PREFIX_PART }
 {
     text.push(" prefix ");
     text.push_prefix(prefix);
@@ -47,9 +51,9 @@ fn push_prefix_part(text: &mut Line, prefix: Prefix)
 
 /// Adds from which metric to which.
 fn push_change(text: &mut Line, old: Metric, new: Metric)
-    requires { length text.old + 56 ≤ LINE_BYTES }
+    requires { length text.old + TWO_NUMBERS ≤ LINE_BYTES }
     ensures text { text.new ≡ text.old ++ change_text old new }
-    ensures size { length text.new ≤ length text.old + 56 }
+    ensures size { length text.new ≤ length text.old + TWO_NUMBERS }
 {
     text.push(" from ");
     text.push_metric(old);
@@ -60,9 +64,9 @@ fn push_change(text: &mut Line, old: Metric, new: Metric)
 /// Adds the number and the word of what a table refuses.
 #[tactic(auto, unfolding(crate::specs::RefusalText::table_error_text))]
 fn push_table_error(text: &mut Line, error: TableError)
-    requires { length text.old + 96 ≤ LINE_BYTES }
+    requires { length text.old + TABLE_ERROR ≤ LINE_BYTES }
     ensures text { text.new ≡ text.old ++ table_error_text error }
-    ensures size { length text.new ≤ length text.old + 96 }
+    ensures size { length text.new ≤ length text.old + TABLE_ERROR }
 {
     match error {
         TableError::Changed { prefix, old, new } => {
@@ -81,10 +85,10 @@ fn push_table_error(text: &mut Line, error: TableError)
 
 /// Adds a line of the log, after its word.
 fn push_line(text: &mut Line, word: &str, line: u32)
-    requires short { length word.now ≤ 16 }
-    requires room { length text.old + 40 ≤ LINE_BYTES }
+    requires short { length word.now ≤ WORDS }
+    requires room { length text.old + LOG_LINE ≤ LINE_BYTES }
     ensures text { text.new ≡ text.old ++ at_line word.now line }
-    ensures size { length text.new ≤ length text.old + 40 }
+    ensures size { length text.new ≤ length text.old + LOG_LINE }
 {
     text.push_numbered(word, line as usize);
     text.push(": ");
@@ -92,9 +96,9 @@ fn push_line(text: &mut Line, word: &str, line: u32)
 
 /// Adds a line of the log and what refuses it.
 fn push_cause(text: &mut Line, line: u32, cause: CollectCause)
-    requires { length text.old + 144 ≤ LINE_BYTES }
+    requires { length text.old + CAUSE ≤ LINE_BYTES }
     ensures text { text.new ≡ text.old ++ cause_text line cause }
-    ensures size { length text.new ≤ length text.old + 144 }
+    ensures size { length text.new ≤ length text.old + CAUSE }
 {
     match cause {
         CollectCause::Log(error) => {

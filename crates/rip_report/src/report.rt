@@ -1,9 +1,11 @@
 //! Reports on the table of a log: what the commands share that read a plan and a log.
 
-ghost use Rattle.std.specs.Prelude.{◌≡◌, ◌≢◌, Err, IfOk};
+ghost use Rattle.std.specs.Prelude.{◌≡◌, ◌≢◌, Err, IfOk, ℕ, List, Some};
 ghost use Rattle.rip_plan.specs.Network.{Network};
 ghost use Rattle.rip_plan.specs.PlanFaults.{PlanFault};
 ghost use Rattle.rip_plan.specs.declared.error.PlanError.{PlanError};
+ghost use Rattle.rip_report.specs.Given.{IsGiven};
+ghost use Rattle.rip_log.specs.Wholes.{Went};
 ghost use Rattle.rip_table.specs.State.{Fits, State, new_state};
 ghost use Rattle.rip_report.specs.PlanText.{IsNoText};
 ghost use Rattle.rip_report.specs.ReportText.{IsAccepted, IsTable, ReportOf, ReportText};
@@ -11,14 +13,13 @@ ghost use Rattle.rip_report.specs.Sent.{Prints, Reads, WentOut};
 ghost use Rattle.rip_report.specs.Written.{Written};
 
 use crate::output::{finish, write_all};
-use crate::plan::refuse_plan;
 use crate::reading::read_log;
-use crate::refusal::refusal_text;
+use crate::refusal::{refusal_text, refuse_plan};
 use crate::status::{RunError, Status};
 use rip_log::laws::log_texts;
 use rip_log::{Sink, Source};
 use rip_plan::Plan;
-use rip_plan::laws::one_plan;
+use rip_plan::laws::{one_plan, well_formed_texts};
 use rip_table::laws::one_join;
 use rip_table::{GridTable, MetricTable};
 use std::alloc::Global;
@@ -59,12 +60,16 @@ fn report_log<C: Report, R: Source, K: Sink, T: MetricTable>(
     out: &mut K,
 ) -> (R, Result<Status, RunError>)
     requires { T.state table.old ≡ new_state plan.now }
-    ensures prints { Prints K.taken K.broken out.old out.new result.1
-        (ReportOf (C.is_text command.now plan.now) plan.now (R.coming log)) }
+    ensures prints { (text : List ℕ) → IsGiven R.given R.at_end log result.0 text →
+        Prints K.taken K.broken out.old out.new result.1
+        (ReportOf (C.is_text command.now plan.now) plan.now text) }
     ensures reads { Reads R.broken R.at_end log result.0 result.1 }
-    ensures told { (s : State) → IsTable plan.now (R.coming log) s → IfOk result.1
+    ensures went { Went R.given R.coming R.at_end log result.0 }
+    ensures told { (text : List ℕ) → IsGiven R.given R.at_end log result.0 text →
+        (s : State) → IsTable plan.now text s → IfOk result.1
         (WentOut (C.is_text command.now plan.now s) (K.taken out.old) (K.taken out.new)) }
-    ensures meaning { (s : State) → IsTable plan.now (R.coming log) s →
+    ensures meaning { (text : List ℕ) → IsGiven R.given R.at_end log result.0 text →
+        (s : State) → IsTable plan.now text s →
         IfOk result.1 (C.means command.now plan.now s) }
 {
     log_texts();
@@ -94,14 +99,21 @@ pub(crate) fn run_report<C: Report, R: Source, K: Sink, S: BuildHasher + Drop>(
     hasher: S,
 ) -> (R, Result<Status, RunError>)
     // The whole text went out, or a beginning where the sink failed, or nothing.
-    ensures prints { Prints K.taken K.broken out.old out.new result.1
-        (ReportText (C.is_text command.now) plan.now (R.coming log)) }
+    ensures prints { (text : List ℕ) → IsGiven R.given R.at_end log result.0 text →
+        Prints K.taken K.broken out.old out.new result.1
+        (ReportText (C.is_text command.now) plan.now text) }
     // What is printed of a table comes only at the source's end, and Read only where it has failed.
     ensures reads { Reads R.broken R.at_end log result.0 result.1 }
+    // Some bytes were given, and where those to come are modelled, they are the first of these.
+    ensures went { Went R.given R.coming R.at_end log result.0 }
+    ensures to_come { (text : List ℕ) → R.coming log ≡ Some text →
+        IsGiven R.given R.at_end log result.0 text }
     // Where plan and log are accepted, the text is that of the table that the log shows.
-    ensures told { (n : Network) (s : State) → IsAccepted plan.now (R.coming log) n s →
+    ensures told { (text : List ℕ) → IsGiven R.given R.at_end log result.0 text →
+        (n : Network) (s : State) → IsAccepted plan.now text n s →
         IfOk result.1 (WentOut (C.is_text command.now n s) (K.taken out.old) (K.taken out.new)) }
-    ensures meaning { (n : Network) (s : State) → IsAccepted plan.now (R.coming log) n s →
+    ensures meaning { (text : List ℕ) → IsGiven R.given R.at_end log result.0 text →
+        (n : Network) (s : State) → IsAccepted plan.now text n s →
         IfOk result.1 (C.means command.now n s) }
     // The source of a refused plan is as it was, and its failure is not told.
     ensures untouched { (e : PlanError) → PlanFault plan.now e →
@@ -110,6 +122,7 @@ pub(crate) fn run_report<C: Report, R: Source, K: Sink, S: BuildHasher + Drop>(
     ensures no_text { IsNoText plan.now → result.1 ≢ Err RunError.Memory }
 {
     one_plan();
+    well_formed_texts();
     let plan = match Plan::read(alloc, plan) {
         Ok(plan) => plan,
         Err(error) => return (log, refuse_plan(error, out)),

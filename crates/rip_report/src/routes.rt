@@ -1,29 +1,31 @@
 //! The command `routes`: the routes that a log shows, beside the least metrics of the plan.
 
-ghost use Rattle.std.specs.Prelude.{◌≡◌, ◌≢◌, Err, ◌+◌, ◌≤◌, ◌<◌, ◌⊎◌, ◌++◌, ◌==◌, [], IfOk, IsTrue, List, ℕ, false, if◌then◌else◌, length};
+ghost use Rattle.std.specs.Prelude.{◌≡◌, ◌≢◌, Err, ◌+◌, ◌≤◌, ◌<◌, ◌⊎◌, ◌++◌, ◌==◌, [], IfOk, IsTrue, List, ℕ, false, if◌then◌else◌, length, Some};
 ghost use Rattle.rip_plan.specs.Network.{Network};
 ghost use Rattle.rip_plan.specs.PlanFaults.{PlanFault};
 ghost use Rattle.rip_plan.specs.declared.error.PlanError.{PlanError};
+ghost use Rattle.rip_report.specs.Given.{IsGiven};
+ghost use Rattle.rip_log.specs.Wholes.{Went};
 ghost use Rattle.rip_table.specs.State.{Fits, State};
 ghost use Rattle.rip_check.specs.Expected.{AreExpected};
-ghost use Rattle.rip_report.specs.declared.limits.TheConstants.{LINE_BYTES};
-ghost use Rattle.rip_report.specs.AuditText.{IsKnownReason};
+ghost use Rattle.rip_report.specs.declared.limits.TheConstants.{LINE_BYTES, NUMBERED, PLACE};
+ghost use Rattle.rip_report.specs.Lines.{IsKnownReason, read_part, unheard_line};
 ghost use Rattle.rip_report.specs.Listings.{TextsBelow, TextsOfPairs};
 ghost use Rattle.rip_report.specs.Names.{IsKnownWay};
 ghost use Rattle.rip_report.specs.PlanText.{IsNoText};
 ghost use Rattle.rip_report.specs.ReportText.{IsAccepted, ReportText};
-ghost use Rattle.rip_report.specs.RoutesText.{RouteLine, RoutesText, UnheardLine, leaf_word, least_part, pair_part, read_line, read_part, routes_line, unread_line};
+ghost use Rattle.rip_report.specs.RoutesText.{RouteLine, RoutesText, UnheardLine, least_part, pair_part, read_line, routes_line, unread_line};
 ghost use Rattle.rip_report.specs.Sent.{Prints, Reads, WentOut, Writes};
 
-use crate::audit::lines::push_reason;
-use crate::each::{InterfaceText, PairText, add_interfaces, add_pairs};
 use crate::line::Line;
+use crate::lines::verdicts::push_reason;
+use crate::lines::{push_route, unheard_text};
 use crate::listing::Listing;
-use crate::names::{push_counts, push_router, push_way};
+use crate::loops::{InterfaceText, PairText, add_interfaces, add_pairs};
+use crate::names::{push_counts, push_router};
 use crate::output::finish;
 use crate::report::{Report, run_report};
 use crate::status::{RunError, Status};
-use crate::table::unheard_text;
 use rip_check::{Expected, Route, Unclear, route};
 use rip_log::{Failed, Sink, Source};
 use rip_plan::Plan;
@@ -48,9 +50,9 @@ fn counts_text<T: MetricTable>(plan: &Plan, table: &T) -> Line
 fn push_pair<T: MetricTable>(text: &mut Line, plan: &Plan, table: &T, router: usize, prefix: usize)
     requires router { router < length plan.now.routers }
     requires prefix { prefix < length (T.state table.now).prefixes }
-    requires room { length text.old + 52 ≤ LINE_BYTES }
+    requires room { length text.old + PLACE ≤ LINE_BYTES }
     ensures text { text.new ≡ text.old ++ pair_part plan.now (T.state table.now) router prefix }
-    ensures size { length text.new ≤ length text.old + 52 }
+    ensures size { length text.new ≤ length text.old + PLACE }
 {
     push_router(text, plan, router);
     text.push(" ");
@@ -58,27 +60,11 @@ fn push_pair<T: MetricTable>(text: &mut Line, plan: &Plan, table: &T, router: us
     text.push(" ");
 }
 
-/// Adds a route.
-pub(crate) fn push_route(text: &mut Line, plan: &Plan, route: &Route)
-    requires way { IsKnownWay plan.now route.now.way }
-    requires room { length text.old + 67 ≤ LINE_BYTES }
-    ensures text { text.new ≡ text.old ++ read_part plan.now
-        (record { metric = route.now.metric; way = route.now.way }) route.now.hidden }
-    ensures size { length text.new ≤ length text.old + 67 }
-{
-    text.push_metric(route.metric);
-    text.push(" ");
-    push_way(text, plan, route.way);
-    if route.hidden {
-        text.push(", leaf");
-    }
-}
-
 /// Adds the least metric, where the metric is another.
 fn push_least(text: &mut Line, metric: Metric, least: Metric)
-    requires { length text.old + 28 ≤ LINE_BYTES }
+    requires { length text.old + NUMBERED ≤ LINE_BYTES }
     ensures text { text.new ≡ text.old ++ least_part metric least }
-    ensures size { length text.new ≤ length text.old + 28 }
+    ensures size { length text.new ≤ length text.old + NUMBERED }
 {
     if metric != least {
         text.push(", least ");
@@ -257,7 +243,7 @@ impl Report for Routes {
 
 /// Prints the routes that a log shows, for the plan that the bytes of a TOML document are, or what
 /// refuses the plan or the log. The source comes back. The hasher is for the prefixes, which strangers
-/// choose. It takes a byte of memory for each router and planned prefix, beside what `table` takes.
+/// choose. It allocates a byte for each router and planned prefix, beside what `table` allocates.
 pub fn run_routes<R: Source, K: Sink, S: BuildHasher + Drop>(
     alloc: Global,
     plan: &[u8],
@@ -266,12 +252,18 @@ pub fn run_routes<R: Source, K: Sink, S: BuildHasher + Drop>(
     hasher: S,
 ) -> (R, Result<Status, RunError>)
     // The whole text went out, or a beginning where the sink failed, or nothing.
-    ensures prints { Prints K.taken K.broken out.old out.new result.1
-        (ReportText RoutesText plan.now (R.coming log)) }
+    ensures prints { (text : List ℕ) → IsGiven R.given R.at_end log result.0 text →
+        Prints K.taken K.broken out.old out.new result.1
+        (ReportText RoutesText plan.now text) }
     // What is printed of a table comes only at the source's end, and Read only where it has failed.
     ensures reads { Reads R.broken R.at_end log result.0 result.1 }
+    // Some bytes were given, and where those to come are modelled, they are the first of these.
+    ensures went { Went R.given R.coming R.at_end log result.0 }
+    ensures to_come { (text : List ℕ) → R.coming log ≡ Some text →
+        IsGiven R.given R.at_end log result.0 text }
     // Where plan and log are accepted, they are the routes of the table that the log shows.
-    ensures told { (n : Network) (s : State) → IsAccepted plan.now (R.coming log) n s →
+    ensures told { (text : List ℕ) → IsGiven R.given R.at_end log result.0 text →
+        (n : Network) (s : State) → IsAccepted plan.now text n s →
         IfOk result.1 (WentOut (RoutesText n s) (K.taken out.old) (K.taken out.new)) }
     // The source of a refused plan is as it was, and its failure is not told.
     ensures untouched { (e : PlanError) → PlanFault plan.now e →

@@ -1,11 +1,14 @@
 //! The command `table`: what the interfaces of a plan showed in a log.
 
-ghost use Rattle.std.specs.Prelude.{◌≡◌, ◌≢◌, Err, ◌+◌, ◌≤◌, ◌<◌, ◌++◌, [], IfOk, length, codes};
+ghost use Rattle.std.specs.Prelude.{◌≡◌, ◌≢◌, Err, ◌+◌, ◌≤◌, ◌<◌, ◌++◌, [], IfOk, length, codes, ℕ, List, Some};
 ghost use Rattle.std.specs.List.{enumerate_from, flat_map};
 ghost use Rattle.rip_plan.specs.declared.error.PlanError.{PlanError};
+ghost use Rattle.rip_report.specs.Given.{IsGiven};
+ghost use Rattle.rip_log.specs.Wholes.{Went};
 ghost use Rattle.rip_table.specs.State.{Fits, State};
-ghost use Rattle.rip_report.specs.declared.limits.TheConstants.{LINE_BYTES};
-ghost use Rattle.rip_report.specs.TableText.{TableText, interface_lines, interface_name, prefix_lines, shown_lines, shown_table, table_line, unheard_line};
+ghost use Rattle.rip_report.specs.declared.limits.TheConstants.{INTERFACE, LINE_BYTES, WORDS};
+ghost use Rattle.rip_report.specs.Lines.{interface_name, unheard_line};
+ghost use Rattle.rip_report.specs.TableText.{TableText, interface_lines, prefix_lines, shown_lines, shown_table, table_line};
 ghost use Rattle.rip_report.specs.Held.{held};
 ghost use Rattle.rip_report.specs.PlanText.{IsNoText};
 ghost use Rattle.rip_report.specs.ReportText.{IsAccepted};
@@ -17,7 +20,7 @@ ghost use Rattle.rip_plan.specs.declared.parts.Interface.{Interface};
 ghost use Rattle.rip_wire.specs.Prefix.{Block, prefix_text};
 
 use crate::line::Line;
-use crate::names::{push_link, push_router};
+use crate::lines::{push_interface, unheard_text};
 use crate::output::{Page, finish};
 use crate::report::{Report, run_report};
 use crate::status::{RunError, Status};
@@ -44,39 +47,12 @@ fn counts_text(interfaces: usize, prefixes: usize) -> Line
     text
 }
 
-/// Adds an interface by its router and its link.
-fn push_interface(text: &mut Line, plan: &Plan, interface: Interface)
-    requires router { interface.router < length plan.now.routers }
-    requires link { interface.link < length plan.now.links }
-    requires room { length text.old + 65 ≤ LINE_BYTES }
-    ensures text { text.new ≡ text.old ++ interface_name plan.now interface }
-    ensures size { length text.new ≤ length text.old + 65 }
-{
-    push_router(text, plan, interface.router);
-    text.push(" ");
-    push_link(text, plan, interface.link);
-}
-
-/// The line of an interface that was not heard.
-#[tactic(auto, unfolding(crate::specs::TableText::unheard_line))]
-pub(crate) fn unheard_text(plan: &Plan, interface: Interface) -> Line
-    requires router { interface.router < length plan.now.routers }
-    requires link { interface.link < length plan.now.links }
-    ensures { result ≡ unheard_line plan.now interface }
-{
-    let mut text = Line::new();
-    push_interface(&mut text, plan, interface);
-    text.push(" not heard");
-    text.end();
-    text
-}
-
 /// An interface and a blank: what each of its lines begins with.
 fn front_text(plan: &Plan, interface: Interface) -> Line
     requires router { interface.router < length plan.now.routers }
     requires link { interface.link < length plan.now.links }
     ensures text { result ≡ interface_name plan.now interface ++ codes " " }
-    ensures size { length result ≤ 66 }
+    ensures size { length result ≤ INTERFACE + WORDS }
 {
     let mut text = Line::new();
     push_interface(&mut text, plan, interface);
@@ -93,7 +69,7 @@ fn write_prefix<K: Sink>(
     metric: Option<Metric>,
     out: &mut K,
 ) -> Result<(), Failed>
-    requires front { length front.now ≤ 66 }
+    requires front { length front.now ≤ INTERFACE + WORDS }
     requires metrics { AreOfMetrics metrics.now }
     ensures { (n : Network) (i : Interface) (p : Block) →
         front.now ≡ interface_name n i ++ codes " " →
@@ -237,12 +213,18 @@ pub fn run_table<R: Source, K: Sink, S: BuildHasher + Drop>(
     hasher: S,
 ) -> (R, Result<Status, RunError>)
     // The whole text went out, or a beginning where the sink failed, or nothing.
-    ensures prints { Prints K.taken K.broken out.old out.new result.1
-        (TableText plan.now (R.coming log)) }
+    ensures prints { (text : List ℕ) → IsGiven R.given R.at_end log result.0 text →
+        Prints K.taken K.broken out.old out.new result.1
+        (TableText plan.now text) }
     // What is printed of a table comes only at the source's end, and Read only where it has failed.
     ensures reads { Reads R.broken R.at_end log result.0 result.1 }
+    // Some bytes were given, and where those to come are modelled, they are the first of these.
+    ensures went { Went R.given R.coming R.at_end log result.0 }
+    ensures to_come { (text : List ℕ) → R.coming log ≡ Some text →
+        IsGiven R.given R.at_end log result.0 text }
     // Where plan and log are accepted, it is the table that the log shows.
-    ensures told { (n : Network) (s : State) → IsAccepted plan.now (R.coming log) n s →
+    ensures told { (text : List ℕ) → IsGiven R.given R.at_end log result.0 text →
+        (n : Network) (s : State) → IsAccepted plan.now text n s →
         IfOk result.1
         (WentOut (λ w. w ≡ shown_table n s) (K.taken out.old) (K.taken out.new)) }
     // The source of a refused plan is as it was, and its failure is not told.

@@ -6,7 +6,7 @@ ghost use Rattle.rip_check.specs.Failures.{IsKnown};
 ghost use Rattle.rip_check.specs.Impacts.{AreLeft, HasRoom};
 ghost use Rattle.rip_check.specs.Losses.{Loses};
 ghost use Rattle.rip_check.specs.declared.failures.Failure.TheVariants as failures;
-ghost use Rattle.rip_report.specs.declared.limits.TheConstants.{LINE_BYTES};
+ghost use Rattle.rip_report.specs.declared.limits.TheConstants.{FAILED, FARTHEST, HIT, LINE_BYTES, TWO_NUMBERS};
 ghost use Rattle.rip_report.specs.Listings.{Adds, TextsBelow, TextsOfPairs};
 ghost use Rattle.rip_report.specs.PlanText.{IsNoText};
 ghost use Rattle.rip_report.specs.Sent.{Prints, Writes};
@@ -16,7 +16,7 @@ use crate::line::Line;
 use crate::listing::Listing;
 use crate::names::{push_link, push_router};
 use crate::output::finish;
-use crate::plan::refuse_plan;
+use crate::refusal::refuse_plan;
 use crate::status::{RunError, Status};
 use rip_check::{Aftermath, Expected, Failure, Impact};
 use rip_log::{Failed, Sink};
@@ -25,9 +25,9 @@ use std::alloc::Global;
 
 /// Adds how many links and routers there are.
 fn push_failures(text: &mut Line, links: usize, routers: usize)
-    requires { length text.old + 60 ≤ LINE_BYTES }
+    requires { length text.old + TWO_NUMBERS ≤ LINE_BYTES }
     ensures text { text.new ≡ text.old ++ failures_part links routers }
-    ensures size { length text.new ≤ length text.old + 60 }
+    ensures size { length text.new ≤ length text.old + TWO_NUMBERS }
 {
     text.push_number(links as u64);
     text.push(" links, ");
@@ -62,9 +62,9 @@ fn losing_text(links: usize, routers: usize) -> Line
 /// Adds what has failed.
 fn push_failed(text: &mut Line, plan: &Plan, failure: Failure)
     requires known { IsKnown plan.now failure }
-    requires room { length text.old + 40 ≤ LINE_BYTES }
+    requires room { length text.old + FAILED ≤ LINE_BYTES }
     ensures text { text.new ≡ text.old ++ failed_part plan.now failure }
-    ensures size { length text.new ≤ length text.old + 40 }
+    ensures size { length text.new ≤ length text.old + FAILED }
 {
     match failure {
         Failure::Link(link) => {
@@ -80,9 +80,9 @@ fn push_failed(text: &mut Line, plan: &Plan, failure: Failure)
 
 /// Adds the greatest metric of the longer ways, where there are some.
 fn push_farthest(text: &mut Line, impact: Impact)
-    requires { length text.old + 30 ≤ LINE_BYTES }
+    requires { length text.old + FARTHEST ≤ LINE_BYTES }
     ensures text { text.new ≡ text.old ++ farthest_part impact }
-    ensures size { length text.new ≤ length text.old + 30 }
+    ensures size { length text.new ≤ length text.old + FARTHEST }
 {
     if impact.longer > 0 {
         text.push(", up to ");
@@ -93,9 +93,9 @@ fn push_farthest(text: &mut Line, impact: Impact)
 /// Adds which router loses most, where something is lost.
 fn push_hit(text: &mut Line, plan: &Plan, impact: Impact)
     requires known { impact.hardest_hit < length plan.now.routers }
-    requires room { length text.old + 70 ≤ LINE_BYTES }
+    requires room { length text.old + HIT ≤ LINE_BYTES }
     ensures text { text.new ≡ text.old ++ hit_part plan.now impact }
-    ensures size { length text.new ≤ length text.old + 70 }
+    ensures size { length text.new ≤ length text.old + HIT }
 {
     if impact.lost > 0 {
         text.push(", most lost by ");

@@ -52,7 +52,7 @@ tell P false false w f g k = g w
 tell P false true w f g k = cc k
 
 -- a reader that answers no error had not stopped
-pub runs : {A E P Q : Type 0} (b : Bool) (x : A) (e : E) → (b ≡ true → (Ok x ≡ Err e) × P × Q) → b ≡ false
+pub runs : {A E P : Type 0} (b : Bool) (x : A) (e : E) → (b ≡ true → (Ok x ≡ Err e) × P) → b ≡ false
 runs true x e h = let k = (h refl).0 in cc k
 runs false x e h = refl
 

@@ -5,6 +5,7 @@ use Rattle.std.proofs.lemmas.Bool.Decides.{nat_tests}
 use Rattle.rip_wire.specs.Prefix.{Block}
 use Rattle.rip_wire.specs.Message.{Message, request, response, message_in}
 use Rattle.rip_wire.specs.Datagram.{message_or_request}
+use Rattle.rip_wire.specs.Response.{IsResponseOf}
 use Rattle.rip_wire.specs.declared.entry.Entry.{Entry}
 use Rattle.rip_wire.specs.declared.error.WireError.{WireError}
 use Rattle.rip_plan.specs.Network.{Network}
@@ -26,7 +27,7 @@ use Rattle.rip_table.proofs.Truth.{then-split}
 use Rattle.rip_table.proofs.CheckLemmas.{heard_valid, joined-append}
 use Rattle.rip_table.proofs.HopLemmas.{address_held, gateway_known, held_address, known_gateway}
 use Rattle.rip_table.proofs.JoinLemmas.{outcome_of-front}
-use Rattle.rip_table.proofs.MetricLemmas.{AreMetrics, LowerLaws, front_metrics}
+use Rattle.rip_table.proofs.MetricLemmas.{AreMetrics, LowerLaws, front_metrics, response_metrics}
 use Rattle.rip_table.proofs.OneJoin.{one_join, one_taken}
 use Rattle.rip_table.proofs.SaidLemmas.{fits_log, interface_below, item-is_among, join_made, log_then, makes_entries, makes_log, taken_made}
 
@@ -253,17 +254,17 @@ from_cause : (r : Result State TableError) (cause : CollectCause) → as_cause r
 from_cause (Ok u) cause h = absurd (cc h)
 from_cause (Err e) cause h = (e, refl, cc h)
 
-bad_entry : (below : LowerLaws) (n : Network) (s : State) (c : Capture) (i : ℕ) (es : List Entry) (error : TableError) → IsState s → i < s.interfaces → message_in c.datagram ≡ Ok (response es) → interface_of n c ≡ Some i
+bad_entry : (below : LowerLaws) (n : Network) (s : State) (c : Capture) (i : ℕ) (es : List Entry) (error : TableError) → IsState s → i < s.interfaces → IsResponseOf es c.datagram → interface_of n c ≡ Some i
     → joined_message n i s (response es) ≡ Err error → HasBadEntry n s c error
 bad_entry below n s c i es error valid lt says found h =
     let first = first_bad n i (with_heard s i) es error h in
-    let metrics = front_metrics first.front (first.entry ∷ first.rest) (subst AreMetrics first.split (below.metrics c.datagram es says)) in
+    let metrics = front_metrics first.front (first.entry ∷ first.rest) (subst AreMetrics first.split (response_metrics c.datagram es says)) in
     record {
       interface = i;
       front = first.front;
       entry = first.entry;
       rest = first.rest;
-      response = record { from = below.gives n c.link c.sender i found; says = says ∙ ap (λ (ds : List Entry). Ok (response ds)) first.split };
+      response = record { from = below.gives n c.link c.sender i found; says = subst (λ (ds : List Entry). IsResponseOf ds c.datagram) first.split says };
       state = first.state;
       joined = entries_joined n i (with_heard s i) first.state first.front metrics (heard_valid s i valid) lt first.joined;
       bad = first.bad;
@@ -279,17 +280,17 @@ refused_of below n s c cause lawful valid fits h = by (message_in c.datagram) re
         let same : UnknownSender ≡ cause = cc k in
         subst (IsRefused n s c) same (record {
           entries = es;
-          says = is;
+          says = (below.fields es c.datagram).0 is;
           nobody = λ i at. let clash : Some i ≡ None = sym (below.finds n c.link c.sender i lawful at) ∙ found in cc clash;
         })
     by (Ok (response es)) is (Some i) found k =
         let split = from_cause (joined_message n i s (response es)) cause k in
-        subst (IsRefused n s c) split.2 (bad_entry below n s c i es split.0 valid (interface_below n s c.link c.sender i fits (below.gives n c.link c.sender i found)) is found split.1)
+        subst (IsRefused n s c) split.2 (bad_entry below n s c i es split.0 valid (interface_below n s c.link c.sender i fits (below.gives n c.link c.sender i found)) ((below.fields es c.datagram).0 is) found split.1)
 
 pub refused_at : (below : LowerLaws) (n : Network) (s : State) (c : Capture) (cause : CollectCause) → IsLawful n → IsState s → Fits n s → IsRefused n s c cause → joined_capture n s c ≡ Err cause
 refused_at below n s c (OfLog e) lawful valid fits h = absurd h
 refused_at below n s c UnknownSender lawful valid fits h =
-    ap (λ (m : Result Message WireError). joined_from n s (message_or_request m) (interface_of n c)) h.says ∙ by (interface_of n c) refl
+    ap (λ (m : Result Message WireError). joined_from n s (message_or_request m) (interface_of n c)) ((below.fields h.entries c.datagram).1 h.says) ∙ by (interface_of n c) refl
   where
     by : (o : Option ℕ) → interface_of n c ≡ o → joined_from n s (response h.entries) o ≡ Err UnknownSender
     by None found = refl
@@ -299,16 +300,16 @@ refused_at below n s c (Table error) lawful valid fits h =
     let es = h.front ++ h.entry ∷ h.rest in
     let at = (h.response).from in
     let lt = interface_below n s c.link c.sender i fits at in
-    let metrics = below.metrics c.datagram es (h.response).says in
+    let metrics = response_metrics c.datagram es (h.response).says in
     let joined = joined_of_entries n i (with_heard s i) h.state h.front (front_metrics h.front (h.entry ∷ h.rest) metrics) (heard_valid s i valid) lt h.joined in
-    ap (λ (m : Result Message WireError). joined_from n s (message_or_request m) (interface_of n c)) (h.response).says
+    ap (λ (m : Result Message WireError). joined_from n s (message_or_request m) (interface_of n c)) ((below.fields es c.datagram).1 (h.response).says)
     ∙ ap (joined_from n s (response es)) (below.finds n c.link c.sender i lawful at)
     ∙ ap as_cause (bad_entries n i (with_heard s i) h.state h.front h.rest h.entry error metrics (heard_valid s i valid) lt joined h.bad)
 
 -- what a response of an interface makes of a table
 response_joined : (below : LowerLaws) (n : Network) (s : State) (c : Capture) (i : ℕ) (es : List Entry) → IsLawful n → IsResponse n c i es → joined_capture n s c ≡ as_cause (joined_message n i s (response es))
 response_joined below n s c i es lawful is =
-    ap (λ (m : Result Message WireError). joined_from n s (message_or_request m) (interface_of n c)) is.says
+    ap (λ (m : Result Message WireError). joined_from n s (message_or_request m) (interface_of n c)) ((below.fields es c.datagram).1 is.says)
     ∙ ap (joined_from n s (response es)) (below.finds n c.link c.sender i lawful is.from)
 
 pub response_refused : (below : LowerLaws) (n : Network) (s : State) (c : Capture) (i : ℕ) (es : List Entry) (error : TableError) → IsLawful n → IsState s → Fits n s → IsResponse n c i es

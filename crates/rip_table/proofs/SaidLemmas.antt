@@ -7,6 +7,7 @@ use Rattle.std.proofs.lemmas.Bool.Decides.{nat_tests}
 use Rattle.rip_wire.specs.Prefix.{Block}
 use Rattle.rip_wire.specs.Message.{Message, request, response, message_in}
 use Rattle.rip_wire.specs.Datagram.{message_or_request}
+use Rattle.rip_wire.specs.Response.{IsResponseOf}
 use Rattle.rip_wire.specs.declared.entry.Entry.{Entry}
 use Rattle.rip_wire.specs.declared.error.WireError.{WireError}
 use Rattle.rip_plan.specs.Network.{Network, number_of_prefix}
@@ -26,7 +27,7 @@ use Rattle.rip_table.proofs.FitLemmas.{Fits-joined}
 use Rattle.rip_table.proofs.AfterLemmas.{joined_is, new_among}
 use Rattle.rip_table.proofs.Truth.{then-split}
 use Rattle.rip_table.proofs.CheckLemmas.{heard_valid, valid_with}
-use Rattle.rip_table.proofs.MetricLemmas.{AreMetrics, LowerLaws}
+use Rattle.rip_table.proofs.MetricLemmas.{AreMetrics, LowerLaws, response_metrics, same_entries}
 use Rattle.rip_table.proofs.MakesLemmas.{Joining, Makes, either_list, front_at, makes_as, makes_both, makes_nothing}
 
 both : (a b : Bool) → (a && b) ≡ true → (a ≡ true) × (b ≡ true)
@@ -255,7 +256,7 @@ makes_message net i s t es metrics valid lt h =
     )
 
 -- a capture that is no response says nothing
-says_nothing : (n : Network) (c : Capture) (s t : State) → ((es : List Entry) → message_in c.datagram ≡ Ok (response es) → ⊥) → IsState s → s ≡ t
+says_nothing : (n : Network) (c : Capture) (s t : State) → ((es : List Entry) → IsResponseOf es c.datagram → ⊥) → IsState s → s ≡ t
     → MakesState (says_capture n c) earlier (hears_capture n c) s t
 says_nothing n c s t none valid same =
     subst (MakesState (says_capture n c) earlier (hears_capture n c) s) same
@@ -277,15 +278,12 @@ interface_below n s name a i fits at = omega (arith, fits.interfaces, slice_get_
 pub same_interface : (below : LowerLaws) (n : Network) (c : Capture) (i j : ℕ) → IsLawful n → interface_of n c ≡ Some i → IsAt n c.link c.sender j → j ≡ i
 same_interface below n c i j lawful found at = let same : Some j ≡ Some i = sym (below.finds n c.link c.sender j lawful at) ∙ found in cc same
 
-pub same_entries : (c : Capture) (es fs : List Entry) → message_in c.datagram ≡ Ok (response es) → message_in c.datagram ≡ Ok (response fs) → es ≡ fs
-same_entries c es fs h k = let same : ◌≡◌ {A = Result Message WireError} (Ok (response es)) (Ok (response fs)) = sym h ∙ k in cc same
-
-says_response : (below : LowerLaws) (n : Network) (s t : State) (c : Capture) (i : ℕ) (es : List Entry) → IsLawful n → message_in c.datagram ≡ Ok (response es) → interface_of n c ≡ Some i
+says_response : (below : LowerLaws) (n : Network) (s t : State) (c : Capture) (i : ℕ) (es : List Entry) → IsLawful n → IsResponseOf es c.datagram → interface_of n c ≡ Some i
     → MakesState (says_entries i es) earlier (λ j. j ≡ i) s t → MakesState (says_capture n c) earlier (hears_capture n c) s t
 says_response below n s t c i es lawful says found made = (
   makes_as (says_entries i es) (says_capture n c) earlier (λ j. j ≡ i) (hears_capture n c) s t
       (λ k j p m h. (es, response_of j h.0, h.1))
-      (λ k j p m h. (same_interface below n c i j lawful found (h.1).from, subst (λ (fs : List Entry). HasEntry fs k p m) (same_entries c h.0 es (h.1).says says) h.2))
+      (λ k j p m h. (same_interface below n c i j lawful found (h.1).from, subst (λ (fs : List Entry). HasEntry fs k p m) (same_entries below.fields c.datagram h.0 es (h.1).says says) h.2))
       (λ j h. (es, response_of j h))
       (λ j h. same_interface below n c i j lawful found (h.1).from)
       made.0,
@@ -302,14 +300,15 @@ makes_capture below n s t c lawful valid fits h = by (message_in c.datagram) ref
     by : (m : Result Message WireError) → message_in c.datagram ≡ m → (o : Option ℕ) → interface_of n c ≡ o → joined_from n s (message_or_request m) o ≡ Ok t
         → MakesState (says_capture n c) earlier (hears_capture n c) s t
     by (Err e) is o found k =
-        says_nothing n c s t (λ es r. let clash : ◌≡◌ {A = Result Message WireError} (Err e) (Ok (response es)) = sym is ∙ r in cc clash) valid (from_request n s t o k)
+        says_nothing n c s t (λ es r. let clash : ◌≡◌ {A = Result Message WireError} (Err e) (Ok (response es)) = sym is ∙ (below.fields es c.datagram).1 r in cc clash) valid (from_request n s t o k)
     by (Ok request) is o found k =
-        says_nothing n c s t (λ es r. let clash : ◌≡◌ {A = Result Message WireError} (Ok request) (Ok (response es)) = sym is ∙ r in cc clash) valid (from_request n s t o k)
+        says_nothing n c s t (λ es r. let clash : ◌≡◌ {A = Result Message WireError} (Ok request) (Ok (response es)) = sym is ∙ (below.fields es c.datagram).1 r in cc clash) valid (from_request n s t o k)
     by (Ok (response es)) is None found k = absurd (cc k)
     by (Ok (response es)) is (Some i) found k =
         let lt = interface_below n s c.link c.sender i fits (below.gives n c.link c.sender i found) in
-        says_response below n s t c i es lawful is found
-        (makes_message n i s t es (below.metrics c.datagram es is) valid lt (from_cause (joined_message n i s (response es)) t k))
+        let says : IsResponseOf es c.datagram = (below.fields es c.datagram).0 is in
+        says_response below n s t c i es lawful says found
+        (makes_message n i s t es (response_metrics c.datagram es says) valid lt (from_cause (joined_message n i s (response es)) t k))
 
 -- ---- a log
 

@@ -13,10 +13,10 @@ use Rattle.rip_table.specs.declared.error.CollectCause.TheVariants.{Table}
 use Rattle.rip_table.specs.declared.error.TableError.TheVariants.{Changed}
 use Rattle.rip_table.proofs.CheckLemmas.{heard_valid}
 use Rattle.rip_table.proofs.MakesLemmas.{either_list}
-use Rattle.rip_table.proofs.MetricLemmas.{LowerLaws}
+use Rattle.rip_table.proofs.MetricLemmas.{LowerLaws, ResponseFields, same_entries}
 use Rattle.rip_table.proofs.OneJoin.{differ_others, log_lists, new_named}
 use Rattle.rip_table.proofs.RefusedLemmas.{entries_joined, is_joined, outcome_is}
-use Rattle.rip_table.proofs.SaidLemmas.{fits_log, interface_below, join_made, makes_log, same_entries}
+use Rattle.rip_table.proofs.SaidLemmas.{fits_log, interface_below, join_made, makes_log}
 
 only_item : (ps : List Block) (p : Block) → ((j k : ℕ) (q : Block) → slice_get ps j ≡ Some q → slice_get ps k ≡ Some q → j ≡ k) → ((k : ℕ) (q : Block) → slice_get ps k ≡ Some q → p ≡ q)
     → (k : ℕ) → slice_get ps k ≡ Some p → ps ≡ p ∷ []
@@ -35,22 +35,22 @@ module _ (n : Network) (r : Numbered) (i : ℕ) (e : Entry) (response : IsRespon
   first_told = (0, 0, first_said)
 
 -- the one record says the one entry
-said_one : (n : Network) (r : Numbered) (i j k l m : ℕ) (q : Block) (e : Entry) → IsResponse n r.capture i (e ∷ []) → IsSaid n (r ∷ []) k l j q m → e.prefix ≡ q
-said_one n r i j (suc k) l m q e response h = let has = h.1 in absurd (cc has.1)
-said_one n r i j zero l m q e response h =
+said_one : (fields : ResponseFields) (n : Network) (r : Numbered) (i j k l m : ℕ) (q : Block) (e : Entry) → IsResponse n r.capture i (e ∷ []) → IsSaid n (r ∷ []) k l j q m → e.prefix ≡ q
+said_one fields n r i j (suc k) l m q e response h = let has = h.1 in absurd (cc has.1)
+said_one fields n r i j zero l m q e response h =
     let has = h.1 in
     let entry = h.2 in
     let is : has.0 ≡ r = cc has.1 in
-    let one = same_entries r.capture h.0 (e ∷ []) (subst (λ (x : Numbered). IsResponse n x.capture j h.0) is has.2).says response.says in
+    let one = same_entries fields r.capture.datagram h.0 (e ∷ []) (subst (λ (x : Numbered). IsResponse n x.capture j h.0) is has.2).says response.says in
     by l (ap (λ (es : List Entry). slice_get es l) (sym one) ∙ entry.1) ∙ entry.2
   where
     by : (l : ℕ) {d : Entry} → slice_get (e ∷ []) l ≡ Some d → e.prefix ≡ d.prefix
     by zero {d} at = let here : e ≡ d = cc at in ap (λ (x : Entry). x.prefix) here
     by (suc l) {d} at = absurd (cc at)
 
-pub new_prefix : (n : Network) (old new : State) (r : Numbered) (i : ℕ) (e : Entry) → IsState new → IsJoin n old (r ∷ []) new → IsResponse n r.capture i (e ∷ [])
+pub new_prefix : (fields : ResponseFields) (n : Network) (old new : State) (r : Numbered) (i : ℕ) (e : Entry) → IsState new → IsJoin n old (r ∷ []) new → IsResponse n r.capture i (e ∷ [])
     → (IsListed old e.prefix → ⊥) → (new.prefixes ≡ old.prefixes ++ e.prefix ∷ []) × (new.shows i e.prefix ≡ Some e.metric) × (new.heard i ≡ true)
-new_prefix n old new r i e valid join response none = (
+new_prefix fields n old new r i e valid join response none = (
   join.prefixes ∙ ap (λ (ps : List Block). old.prefixes ++ ps) others,
   (join.shown i e.prefix e.metric).1 (inr told),
   (join.heard i).1 (inr (0, e ∷ [], (r, refl, response))),
@@ -63,7 +63,7 @@ new_prefix n old new r i e valid join response none = (
     all k q at =
         let found = new_named (IsNamed n (r ∷ [])) old.prefixes new.prefixes (log_lists n old new (r ∷ []) valid join) q (k, at) in
         let named = found.2 in
-        said_one n r i named.0 found.0 found.1 named.1 q e response named.2
+        said_one fields n r i named.0 found.0 found.1 named.1 q e response named.2
 
     others : join.others ≡ e.prefix ∷ []
     others =

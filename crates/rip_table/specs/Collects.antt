@@ -5,6 +5,7 @@ use Rattle.rip_log.specs.Codes.{is_read}
 use Rattle.rip_log.specs.Leaves.{IsOver, has_stopped, lines_behind, log_to_come, source_of}
 use Rattle.rip_log.specs.Lines.{Capture}
 use Rattle.rip_log.specs.Logs.{Log, Numbered, IfElse}
+use Rattle.rip_log.specs.Wholes.{OfWhole, Went}
 use Rattle.rip_log.specs.declared.error.LogCode.TheVariants as codes
 use Rattle.rip_log.specs.declared.reader.LogReader.{LogReader}
 use Rattle.rip_table.specs.State.{Fits, State}
@@ -106,28 +107,48 @@ already_ended before = record {
   cause = OfLog (record { code = codes.Ended; line = lines_behind before + 1 });
 }
 
-pub record Collects {R : Type 0} (coming : R → Option (List ℕ)) (broken at_end : R → Bool)
-    (n : Network) (old new : State) (before after : LogReader R)
-    (result : Result (Unit {0}) CollectError) : Type 0 where
-  pub told : has_stopped before ≡ false
-      → ToldOutcome n old (log_to_come coming before) new (log_to_come coming after) result
-  pub said : has_stopped before ≡ false → (log : Log) → log_to_come coming before ≡ Some log
-      → SaidOutcome n old log new result
-  -- a reader that had stopped changes nothing
+-- what was joined of the log, and what is answered of it
+pub record JoinsLog {R : Type 0} (given : R → List ℕ) (at_end : R → Bool) (n : Network)
+    (old new : State) (before after : LogReader R) (result : Result (Unit {0}) CollectError)
+    : Type 0 where
+  -- of whichever text the source has begun to give
+  pub told : has_stopped before ≡ false → OfWhole given at_end (source_of after) (λ coming.
+      ToldOutcome n old (log_to_come coming before) new (log_to_come coming after) result)
+  pub said : has_stopped before ≡ false → OfWhole given at_end (source_of after) (λ coming.
+      (log : Log) → log_to_come coming before ≡ Some log → SaidOutcome n old log new result)
+  -- of a reader that had stopped there is nothing to join
   pub stopped : has_stopped before ≡ true
       → (new ≡ old) × (result ≡ Err (already_ended before))
-  pub refused : has_stopped before ≡ false → has_stopped after ≡ reader_refused result
-  pub here : IfErr result (λ e. IsAtLine (lines_behind after) e.line e.cause)
-  pub fits : Fits n new
-  -- a record that is not joined is taken from the reader, and no other
-  pub behind : has_stopped before ≡ false → IfErr result (λ e. is_log_cause e.cause ≡ false →
-      StandsBehindKnown (log_to_come coming before) e.line (log_to_come coming after))
-  -- Memory only behind a further line, and only of a table to which some record would bring a pair,
-  -- whether bytes are told or not; where they are told, it is the record of that line (`told`)
+  -- Memory only behind a further line, and only of a table to which some record would bring a pair;
+  -- which record it is, `told` says
   pub wanted : IfErr result (λ e. is_memory e.cause ≡ true →
       (lines_behind before < lines_behind after) × ((c : Capture) × WantsFor n new c))
-  -- an Ok only where the source has come to its end and nothing is held, Read only where it has
-  -- failed
+  pub fits : Fits n new
+
+-- where the reader stands then
+pub record MovesReader {R : Type 0} (given : R → List ℕ) (coming : R → Option (List ℕ))
+    (at_end : R → Bool) (before after : LogReader R) (result : Result (Unit {0}) CollectError)
+    : Type 0 where
+  pub went : Went given coming at_end (source_of before) (source_of after)
+  pub refused : has_stopped before ≡ false → has_stopped after ≡ reader_refused result
+  pub here : IfErr result (λ e. IsAtLine (lines_behind after) e.line e.cause)
+  -- a record that is not joined is taken from the reader, and no other
+  pub behind : has_stopped before ≡ false → IfErr result (λ e. is_log_cause e.cause ≡ false →
+      OfWhole given at_end (source_of after) (λ coming.
+      StandsBehindKnown (log_to_come coming before) e.line (log_to_come coming after)))
+
+-- the marks of the source then
+pub record KeepsSource {R : Type 0} (broken at_end : R → Bool) (before after : LogReader R)
+    (result : Result (Unit {0}) CollectError) : Type 0 where
+  -- an Ok only where it has come to its end and nothing is held, Read only where it has failed
   pub over : is_ok result ≡ true → IsOver at_end after
   pub failed : failed_to_read result ≡ true → broken (source_of after) ≡ true
   pub marks : failed_to_read result ≡ false → broken (source_of after) ≡ broken (source_of before)
+
+-- what `collect` answers and leaves
+pub record Collects {R : Type 0} (given : R → List ℕ) (coming : R → Option (List ℕ))
+    (broken at_end : R → Bool) (n : Network) (old new : State) (before after : LogReader R)
+    (result : Result (Unit {0}) CollectError) : Type 0 where
+  pub joined : JoinsLog given at_end n old new before after result
+  pub reader : MovesReader given coming at_end before after result
+  pub marks : KeepsSource broken at_end before after result

@@ -102,7 +102,7 @@ abbrev pub brings_pair : ℕ → State → Message → Bool
 brings_pair i s request = false
 brings_pair i s (response es) = list_any (λ e. is_none (s.shows i e.prefix)) es
 
--- a response without a bad entry that brings a pair of interface and prefix: it may want memory
+-- a response without a bad entry that brings a pair of interface and prefix: it may allocate
 pub record Wants (n : Network) (i : ℕ) (s : State) (m : Message) : Type 0 where
   pub good : is_ok (joined_message n i s m) ≡ true
   pub brings : brings_pair i s m ≡ true
@@ -126,7 +126,7 @@ as_cause (Ok s) = Ok s
 as_cause (Err e) = Err (Table e)
 
 -- a message of the interface that sent it; where there is none, a response is refused and a request
--- passed over
+-- skipped
 abbrev pub joined_from : Network → State → Message → Option ℕ → Result State CollectCause
 joined_from n s request None = Ok s
 joined_from n s (response es) None = Err UnknownSender
@@ -144,7 +144,7 @@ interface_of n c = found_at n c.link c.sender
 abbrev pub joined_capture : Network → State → Capture → Result State CollectCause
 joined_capture n s c = joined_from n s (message_of_capture c) (interface_of n c)
 
--- a record may want memory
+-- a record may allocate
 abbrev pub WantsAt : Network → State → Message → Option ℕ → Type 0
 WantsAt n s m None = ⊥
 WantsAt n s m (Some i) = Wants n i s m

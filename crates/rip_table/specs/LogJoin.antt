@@ -1,8 +1,8 @@
 -- What a log makes of a table: who tells what, what stands in the table then, and what refuses a
 -- log.
-use Rattle.std.specs.Prelude.{◌≡◌, ◌≢◌, ◌↔◌, ◌⊎◌, ℕ, ◌<◌, ◌≤◌, true, List, ◌∷◌, ◌++◌, length, Option, Some, None, Ok, slice_get}
+use Rattle.std.specs.Prelude.{◌≡◌, ◌≢◌, ◌↔◌, ◌⊎◌, ℕ, ◌<◌, ◌≤◌, true, List, ◌∷◌, ◌++◌, length, Option, Some, None, slice_get}
 use Rattle.rip_wire.specs.Prefix.{Block}
-use Rattle.rip_wire.specs.Message.{response, message_in}
+use Rattle.rip_wire.specs.Response.{IsResponseOf}
 use Rattle.rip_wire.specs.declared.entry.Entry.{Entry}
 use Rattle.rip_plan.specs.Network.{Network}
 use Rattle.rip_plan.specs.Relations.{HasAddress, IsAt, IsGateway, IsInterface, IsPrefix}
@@ -24,7 +24,7 @@ use Rattle.rip_table.specs.declared.error.CollectError.{CollectError}
 -- sender has the address there
 pub record IsResponse (n : Network) (c : Capture) (i : ℕ) (entries : List Entry) : Type 0 where
   pub from : IsAt n c.link c.sender i
-  pub says : message_in c.datagram ≡ Ok (response entries)
+  pub says : IsResponseOf entries c.datagram
 
 -- record k of a log is a response of interface i, with these entries
 abbrev pub HasResponse : Network → List Numbered → ℕ → ℕ → List Entry → Type 0
@@ -179,7 +179,7 @@ pub record HasBadEntry (n : Network) (s : State) (c : Capture) (error : TableErr
 -- a response that no interface of the plan sent
 pub record IsUnknown (n : Network) (c : Capture) : Type 0 where
   pub entries : List Entry
-  pub says : message_in c.datagram ≡ Ok (response entries)
+  pub says : IsResponseOf entries c.datagram
   pub nobody : (i : ℕ) → IsAt n c.link c.sender i → ⊥
 
 -- a record is refused, where this is the table before it

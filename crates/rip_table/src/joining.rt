@@ -39,7 +39,7 @@ pub fn collect<R: Source, T: MetricTable>(
     table: &mut T,
 ) -> Result<(), CollectError>
     requires { Fits plan.now (T.state table.old) }
-    ensures { Collects R.coming R.broken R.at_end plan.now (T.state table.old)
+    ensures { Collects R.given R.coming R.broken R.at_end plan.now (T.state table.old)
         (T.state table.new) reader.old reader.new result }
 {
     plan.lawful();

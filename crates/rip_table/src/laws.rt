@@ -37,7 +37,7 @@ pub fn joined_logs()
     ensures fits { (n : Network) (old new : State) (log : List Numbered) →
         Fits n old → joined_records n old log ≡ Ok new → Fits n new }
 {
-    laws::metric_bounds();
+    laws::response_fields();
     rip_plan::laws::senders();
 }
 
@@ -47,9 +47,7 @@ pub fn joined_responses()
     ensures { (n : Network) (old new : State) (c : Capture) (i : ℕ) (front rest : List Entry) →
         IsState old → Fits n old → IsResponse n c i (front ++ rest) →
         (joined_entries n i old front ≡ Ok new) ↔ AreJoined n i old front new }
-{
-    laws::metric_bounds();
-}
+{}
 
 /// What a log makes of a table is one table: two that are a join of the same are the same, the order
 /// of their prefixes included.
@@ -69,7 +67,7 @@ pub fn refused_logs()
         IsLawful n → IsState old → Fits n old →
         (outcome n old log ≡ record { state = s; fault = fault }) ↔ IsOutcome n old log s fault }
 {
-    laws::metric_bounds();
+    laws::response_fields();
     rip_plan::laws::senders();
 }
 
@@ -79,7 +77,7 @@ pub fn refused_responses()
         (error : TableError) → IsLawful n → IsState s → Fits n s → IsResponse n c i entries →
         (joined_message n i s (response entries) ≡ Err error) ↔ HasBadEntry n s c error }
 {
-    laws::metric_bounds();
+    laws::response_fields();
     rip_plan::laws::senders();
 }
 
@@ -114,7 +112,9 @@ pub fn new_prefixes()
         (new.prefixes ≡ old.prefixes ++ e.prefix ∷ [])
         × (new.shows i e.prefix ≡ Some e.metric)
         × (new.heard i ≡ true) }
-{}
+{
+    laws::response_fields();
+}
 
 /// A response with one entry that gives a prefix another metric than the one before is refused on its
 /// line, whatever follows.
@@ -128,6 +128,6 @@ pub fn changed_metrics()
         outcome n old log
         ≡ refused_at s second.line (Table (Changed f.prefix e.metric f.metric)) }
 {
-    laws::metric_bounds();
+    laws::response_fields();
     rip_plan::laws::senders();
 }

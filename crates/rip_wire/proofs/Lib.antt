@@ -5,6 +5,7 @@ pub mod Spellings
 pub mod Messages
 pub mod Walks
 pub mod Views
+pub mod Responses
 pub mod FaultLemmas
 pub mod Answering
 pub mod TextLemmas

@@ -8,6 +8,7 @@ use Rattle.rip_wire.specs.declared.entry.Entry.{Entry}
 use Rattle.rip_wire.specs.Prefix.{Block, block, size_of, mask_of, IsBlock}
 use Rattle.rip_wire.specs.Fields.{number_at, bytes_of_number}
 use Rattle.rip_wire.specs.Grammar.{IsEntry, EntryBytes, entry_bytes, entries_bytes}
+use Rattle.rip_wire.specs.Response.{IsEntryAt}
 use Rattle.rip_wire.specs.Message.{prefix_of, metric_of, entry_at, entries_at, bits_of_mask}
 use Rattle.rip_wire.proofs.Binds.{bind_ok, passed, same_Ok}
 use Rattle.rip_wire.proofs.Masks.{bits_of_mask-Some, bits_of_mask-mask_of}
@@ -18,6 +19,7 @@ record IsReadPrefix (address : ℕ) (found : Option ℕ) (p : Block) : Type 0 wh
   bits : ℕ
   found_is : found ≡ Some bits
   hosts : address % size_of bits ≡ 0
+  default : bits ≡ 0 → address ≡ 0
   prefix : block address bits ≡ p
 
 read_prefix : (k address : ℕ) (found : Option ℕ) (p : Block) → prefix_of k address found ≡ Ok p → IsReadPrefix address found p
@@ -25,7 +27,7 @@ read_prefix k address None p h = absurd (cc)
 read_prefix k address (Some bits) p h =
     let one = passed (eqb bits 0 && not (eqb address 0)) _ _ p h in
     let two = passed (not (eqb (address % size_of bits) 0)) _ _ p one.1 in
-    record { bits = bits; found_is = refl; hosts = grind (arith, nat_tests); prefix = same_Ok _ _ two.1 }
+    record { bits = bits; found_is = refl; hosts = grind (arith, nat_tests); default = λ none. grind (arith, nat_tests); prefix = same_Ok _ _ two.1 }
 
 read_metric : (k metric m : ℕ) → metric_of k metric ≡ Ok m → (1 ≤ metric) × (metric ≤ 16) × (metric ≡ m)
 read_metric k metric m h =
@@ -60,6 +62,44 @@ read k b e h =
 
 pub read_metric_bounds : (k : ℕ) (b : List ℕ) (e : Entry) → entry_at k b ≡ Ok e → (1 ≤ e.metric) × (e.metric ≤ 16)
 read_metric_bounds k b e h = let r = read k b e h in (r.metric.0, r.metric.1)
+
+ok_metric : (k m : ℕ) → 1 ≤ m → m ≤ 16 → metric_of k m ≡ Ok m
+ok_metric k m low high =
+    let fits : (eqb m 0 || ltb 16 m) ≡ false = grind (arith, nat_tests) in
+    rw fits refl
+
+-- an entry is read exactly of its fields
+pub entry_fields : (k : ℕ) (b : List ℕ) (e : Entry) → entry_at k b ≡ Ok e → IsEntryAt b k e
+entry_fields k b e h =
+    let r = read k b e h in
+    let mask = bits_of_mask-Some (number_at 4 (k + 8) b) r.prefix.bits r.prefix.found_is in
+    let network = ap (λ (p : Block). p.network) r.prefix.prefix in
+    let bits = ap (λ (p : Block). p.prefix_len) r.prefix.prefix in
+    record {
+      family = r.family;
+      tag = r.tag;
+      address = network;
+      mask = mask.1 ∙ ap mask_of bits;
+      next_hop = r.next_hop;
+      metric = r.metric.2;
+      bits = subst (λ (n : ℕ). n ≤ 32) bits mask.0;
+      covered = subst (λ (p : Block). p.network % size_of p.prefix_len ≡ 0) r.prefix.prefix r.prefix.hosts;
+      default = subst (λ (p : Block). p.prefix_len ≡ 0 → p.network ≡ 0) r.prefix.prefix r.prefix.default;
+      reachable = r.metric.0;
+      infinity = r.metric.1;
+    }
+
+pub fields_entry : (k : ℕ) (b : List ℕ) (e : Entry) → IsEntryAt b k e → entry_at k b ≡ Ok e
+unfolding entry_at
+fields_entry k b e f =
+    let ones = bits_of_mask-mask_of e.prefix.prefix_len f.bits in
+    rw (f.family, f.tag, f.address, f.mask, f.next_hop, f.metric, ones, covered_prefix k e.prefix f.covered f.default, ok_metric k e.metric f.reachable f.infinity) refl
+  where
+    covered_prefix : (k : ℕ) (p : Block) → p.network % size_of p.prefix_len ≡ 0 → (p.prefix_len ≡ 0 → p.network ≡ 0) → prefix_of k p.network (Some p.prefix_len) ≡ Ok p
+    covered_prefix k p none zero_bits =
+        let has_mask : (eqb p.prefix_len 0 && not (eqb p.network 0)) ≡ false = grind (arith, nat_tests) in
+        let has_hosts : not (eqb (p.network % size_of p.prefix_len) 0) ≡ false = grind (arith, nat_tests) in
+        rw (has_mask, has_hosts) refl
 
 -- an entry that is read is spelled by its twenty bytes
 pub spelled : (k : ℕ) (b : List ℕ) (e : Entry) → IsBytes b → k + 20 ≤ length b → entry_at k b ≡ Ok e → EntryBytes e (take 20 (drop k b))
@@ -105,11 +145,6 @@ ok_prefix k p is =
     let has_mask : (eqb p.prefix_len 0 && not (eqb p.network 0)) ≡ false = grind (arith, nat_tests) in
     let has_hosts : not (eqb (p.network % size_of p.prefix_len) 0) ≡ false = grind (arith, nat_tests) in
     rw (has_mask, has_hosts) refl
-
-ok_metric : (k m : ℕ) → 1 ≤ m → m ≤ 16 → metric_of k m ≡ Ok m
-ok_metric k m low high =
-    let fits : (eqb m 0 || ltb 16 m) ≡ false = grind (arith, nat_tests) in
-    rw fits refl
 
 -- an entry has twenty bytes
 pub length-entry_bytes : (e : Entry) → length (entry_bytes e) ≡ 20

@@ -2,6 +2,7 @@ pub mod Address
 pub mod Prefix
 pub mod Fields
 pub mod Grammar
+pub mod Response
 pub mod Faults
 pub mod Message
 pub mod Whole

@@ -11,6 +11,7 @@ ghost use Rattle.rip_wire.specs.Grammar.{EntryBytes, IsEntry, ResponseBytes};
 ghost use Rattle.rip_wire.specs.Message.{message_in, response};
 ghost use Rattle.rip_wire.specs.Name.{IsName};
 ghost use Rattle.rip_wire.specs.Name as name;
+ghost use Rattle.rip_wire.specs.Response.{IsResponseOf};
 ghost use Rattle.rip_wire.specs.Prefix.{Block, IsBlock, prefix_in, prefix_text};
 
 use crate::limits::{MOST_BYTES, MOST_ENTRIES};
@@ -52,6 +53,15 @@ pub fn reads_back()
 pub fn first_faults()
     ensures { (b : List ℕ) (code : WireCode) (at : ℕ) →
         (message_in b ≡ Err (record { code = code; at = at })) ↔ WireFault b code at }
+{}
+
+/// A response is read exactly of bytes in which its fields stand: its header, and the numbers of each
+/// entry at their places. On bytes this is their spelling.
+pub fn response_fields()
+    ensures exact { (entries : List Entry) (b : List ℕ) →
+        (message_in b ≡ Ok (response entries)) ↔ IsResponseOf entries b }
+    ensures spelled { (entries : List Entry) (b : List ℕ) →
+        ResponseBytes entries b → IsResponseOf entries b }
 {}
 
 /// The metrics that are read are 1 to 16 (RFC 2453, section 4).

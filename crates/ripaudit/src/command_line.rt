@@ -1,22 +1,18 @@
 //! The words of the command line, and what they ask for.
 
+use crate::commands::{
+    LogCommand, PlanCommand, log_command, plan_command, read_plan, run_on_log, run_on_plan,
+};
 use clap::error::ErrorKind;
 use clap::{Arg, ArgAction, ArgMatches, Command, Error};
 use rip_log::{FromRead, IntoWrite};
-use rip_plan::MOST_PLAN_BYTES;
-use rip_report::{
-    RunError, Status, exit_code, fault_line, run_audit, run_decode, run_expect, run_explain,
-    run_plan, run_routes, run_table, run_whatif,
-};
+use rip_report::{RunError, Status, exit_code, fault_line, run_decode};
 use std::alloc::{AllocError, Global};
 use std::collections::hash_map::RandomState;
 use std::io::{IsTerminal, Read};
 use std::random::RandomSource;
 use std::rt::Files;
 use std::{env, fs, io};
-
-/// The most bytes of a plan's file that are read: one more than a plan may have.
-const MOST_FILE_BYTES: u64 = MOST_PLAN_BYTES as u64 + 1;
 
 /// A word that stands in its place.
 fn word<'a>(alloc: Global, name: &'a str, help: &'a str, is_required: bool) -> Arg<'a> {
@@ -47,7 +43,7 @@ fn all_word<'a>(alloc: Global, help: &'a str) -> Arg<'a> {
 }
 
 /// A command that reads a plan.
-fn plan_command<'a>(
+fn on_plan<'a>(
     alloc: Global,
     name: &'a str,
     about: &'a str,
@@ -55,32 +51,33 @@ fn plan_command<'a>(
     Command::new(alloc, name).about(about).arg(plan_word(alloc))
 }
 
+/// A command that reads a plan, and tells of everything where `--all` is given.
+fn on_plan_with_all<'a>(
+    alloc: Global,
+    name: &'a str,
+    about: &'a str,
+    all: &'a str,
+) -> Result<Command<'a>, AllocError> {
+    on_plan(alloc, name, about)?.arg(all_word(alloc, all))
+}
+
 /// A command that reads a plan and a log.
-fn log_command<'a>(
+fn on_log<'a>(
     alloc: Global,
     name: &'a str,
     about: &'a str,
 ) -> Result<Command<'a>, AllocError> {
-    plan_command(alloc, name, about)?.arg(log_word(alloc))
+    on_plan(alloc, name, about)?.arg(log_word(alloc))
 }
 
 /// A command that reads a plan and a log, and tells of all places where `--all` is given.
-fn all_command<'a>(
+fn on_log_with_all<'a>(
     alloc: Global,
     name: &'a str,
     about: &'a str,
     all: &'a str,
 ) -> Result<Command<'a>, AllocError> {
-    log_command(alloc, name, about)?.arg(all_word(alloc, all))
-}
-
-/// The command that tells what failures cost, and of each pair and prefix where `--all` is given.
-fn whatif_command<'a>(
-    alloc: Global,
-    about: &'a str,
-    all: &'a str,
-) -> Result<Command<'a>, AllocError> {
-    plan_command(alloc, "whatif", about)?.arg(all_word(alloc, all))
+    on_log(alloc, name, about)?.arg(all_word(alloc, all))
 }
 
 /// The command that reads a datagram.
@@ -109,22 +106,22 @@ fn commands<'a>(alloc: Global) -> Result<Command<'a>, AllocError> {
     );
     let audit = "Tells whether the routes that a log shows are right";
     let each = "Name each place that does not hold, not only the first";
-    let ripaudit = add(ripaudit, all_command(alloc, "audit", audit, each));
+    let ripaudit = add(ripaudit, on_log_with_all(alloc, "audit", audit, each));
     let explain = "Tells the verdict of audit, and what it comes from";
     let of_each =
         "Tell of each place that does not hold or cannot be read, or of each interface not heard";
-    let ripaudit = add(ripaudit, all_command(alloc, "explain", explain, of_each));
+    let ripaudit = add(ripaudit, on_log_with_all(alloc, "explain", explain, of_each));
     let routes = "Prints the routes that a log shows";
-    let ripaudit = add(ripaudit, log_command(alloc, "routes", routes));
+    let ripaudit = add(ripaudit, on_log(alloc, "routes", routes));
     let table = "Prints what each interface of a plan shows in a log";
-    let ripaudit = add(ripaudit, log_command(alloc, "table", table));
+    let ripaudit = add(ripaudit, on_log(alloc, "table", table));
     let expect = "Prints the right routes of a plan";
-    let ripaudit = add(ripaudit, plan_command(alloc, "expect", expect));
+    let ripaudit = add(ripaudit, on_plan(alloc, "expect", expect));
     let whatif = "Tells what the failure of each link and of each router would cost";
     let lost = "Name each router and prefix that is lost, and each prefix that is gone";
-    let ripaudit = add(ripaudit, whatif_command(alloc, whatif, lost));
+    let ripaudit = add(ripaudit, on_plan_with_all(alloc, "whatif", whatif, lost));
     let plan = "Prints the parts of a plan";
-    let ripaudit = add(ripaudit, plan_command(alloc, "plan", plan));
+    let ripaudit = add(ripaudit, on_plan(alloc, "plan", plan));
     add(ripaudit, decode_command(alloc))
 }
 
@@ -162,23 +159,11 @@ fn read_failure(error: &io::Error) -> RunError {
 }
 
 /// The bytes of a plan's file, or the first of them where there are too many.
-fn read_plan<R: Files + AllocGlobal>(rt: &R, path: &str) -> io::Result<Vec<u8>> {
-    let mut bytes = Vec::new(rt.alloc());
-    let mut file = fs::open(rt, path)?.take(MOST_FILE_BYTES);
-    file.read_to_end(&mut bytes)?;
-    Ok(bytes)
-}
-
-/// The commands that read a plan alone.
-#[derive(Clone, Copy)]
-enum PlanCommand {
-    /// The parts of the plan.
-    Plan,
-    /// Its right routes.
-    Expect,
-    /// What each failure would cost, with a line for each pair that is lost and each prefix that is
-    /// gone where all are asked for.
-    WhatIf { all: bool },
+fn read_plan_file<R: Files + AllocGlobal>(rt: &R, path: &str) -> Result<Vec<u8>, RunError> {
+    match fs::open(rt, path) {
+        Ok(file) => read_plan(rt.alloc(), &mut FromRead::new(file)),
+        Err(error) => Err(read_failure(&error)),
+    }
 }
 
 /// Runs a command on a file of a plan.
@@ -187,27 +172,9 @@ fn plan_file<R: Files + AllocGlobal + Print>(
     command: PlanCommand,
     path: &str,
 ) -> Result<Status, RunError> {
-    let plan = read_plan(rt, path).map_err(|error| read_failure(&error))?;
-    let alloc = rt.alloc();
+    let plan = read_plan_file(rt, path)?;
     let mut out = IntoWrite::new(io::writer(rt));
-    match command {
-        PlanCommand::Plan => run_plan(alloc, plan.as_slice(), &mut out),
-        PlanCommand::Expect => run_expect(alloc, plan.as_slice(), &mut out),
-        PlanCommand::WhatIf { all } => run_whatif(alloc, plan.as_slice(), &mut out, all),
-    }
-}
-
-/// The commands that read a log.
-#[derive(Clone, Copy)]
-enum LogCommand {
-    /// The verdict, with a line for each place that does not hold where all are asked for.
-    Audit { all: bool },
-    /// The verdict and what it comes from, for the first place that does not hold or for all.
-    Explain { all: bool },
-    /// The routes.
-    Routes,
-    /// The table.
-    Table,
+    run_on_plan(rt.alloc(), command, plan.as_slice(), &mut out)
 }
 
 /// Runs a command on a log.
@@ -218,15 +185,9 @@ fn report_from<R: AllocGlobal + Print, L: Read + Drop>(
     log: L,
     hasher: RandomState,
 ) -> Result<Status, RunError> {
-    let alloc = rt.alloc();
     let mut out = IntoWrite::new(io::writer(rt));
     let log = FromRead::new(log);
-    let (_, outcome) = match command {
-        LogCommand::Audit { all } => run_audit(alloc, plan, log, &mut out, all, hasher),
-        LogCommand::Explain { all } => run_explain(alloc, plan, log, &mut out, all, hasher),
-        LogCommand::Routes => run_routes(alloc, plan, log, &mut out, hasher),
-        LogCommand::Table => run_table(alloc, plan, log, &mut out, hasher),
-    };
+    let (_, outcome) = run_on_log(rt.alloc(), command, plan, log, &mut out, hasher);
     outcome
 }
 
@@ -253,7 +214,7 @@ fn report_file<R: Files + AllocGlobal + RandomSource + Input + Print + Eprint>(
 where
     R::Reader: IsTerminal,
 {
-    let plan = read_plan(rt, path).map_err(|error| read_failure(&error))?;
+    let plan = read_plan_file(rt, path)?;
     let Ok(hasher) = RandomState::new(rt) else {
         return Err(RunError::Read);
     };
@@ -266,8 +227,8 @@ where
     }
 }
 
-/// Runs a command that reads a log, if the word is of one.
-fn run_on_log<R: Files + AllocGlobal + RandomSource + Input + Print + Eprint>(
+/// Runs the command that was found, if it has its words.
+fn run_found<R: Files + AllocGlobal + RandomSource + Input + Print + Eprint>(
     rt: &R,
     word: &str,
     words: &ArgMatches<'_>,
@@ -275,18 +236,16 @@ fn run_on_log<R: Files + AllocGlobal + RandomSource + Input + Print + Eprint>(
 where
     R::Reader: IsTerminal,
 {
-    let command = match word {
-        "audit" => LogCommand::Audit {
-            all: words.get_flag("all"),
-        },
-        "explain" => LogCommand::Explain {
-            all: words.get_flag("all"),
-        },
-        "routes" => LogCommand::Routes,
-        "table" => LogCommand::Table,
-        _ => return None,
-    };
+    if word == "decode" {
+        let hex = words.get_str("HEX")?;
+        return Some(run_decode(hex, &mut IntoWrite::new(io::writer(rt))));
+    }
     let path = words.get_str("PLAN")?;
+    let all = words.get_flag("all");
+    if let Some(command) = plan_command(word, all) {
+        return Some(plan_file(rt, command, path));
+    }
+    let command = log_command(word, all)?;
     Some(report_file(rt, command, path, words.get_str("LOG")))
 }
 
@@ -299,20 +258,7 @@ where
     R::Reader: IsTerminal,
 {
     let outcome = match matches.subcommand() {
-        Some(("plan", words)) => words
-            .get_str("PLAN")
-            .map(|path| plan_file(rt, PlanCommand::Plan, path)),
-        Some(("expect", words)) => words
-            .get_str("PLAN")
-            .map(|path| plan_file(rt, PlanCommand::Expect, path)),
-        Some(("whatif", words)) => words.get_str("PLAN").map(|path| {
-            let all = words.get_flag("all");
-            plan_file(rt, PlanCommand::WhatIf { all }, path)
-        }),
-        Some(("decode", words)) => words
-            .get_str("HEX")
-            .map(|hex| run_decode(hex, &mut IntoWrite::new(io::writer(rt)))),
-        Some((word, words)) => run_on_log(rt, word, words),
+        Some((word, words)) => run_found(rt, word, words),
         None => None,
     };
     end_run(rt, outcome.unwrap_or(Ok(Status::Refused)))

@@ -1,13 +1,13 @@
 //! The lines under a verdict.
 
 ghost use Rattle.std.specs.Prelude.{◌≡◌, ◌+◌, ◌≤◌, ◌<◌, ◌++◌, length};
-ghost use Rattle.rip_report.specs.declared.limits.TheConstants.{LINE_BYTES};
-ghost use Rattle.rip_report.specs.ExplainText.{direct_line, heard_line, least_line, none_heard_line, offer_line, reading_line, shown_line, shown_word, sum_part, unplanned_part, unreachable_line};
+ghost use Rattle.rip_report.specs.declared.limits.TheConstants.{LINE_BYTES, NUMBER, SUM, WORDS};
+ghost use Rattle.rip_report.specs.ExplainText.{direct_line, heard_line, least_line, none_heard_line, offer_line, read_route_line, shown_line, shown_word, sum_part, unplanned_part, unreachable_line};
 ghost use Rattle.rip_report.specs.Names.{IsKnownWay};
 
 use crate::line::Line;
+use crate::lines::push_route;
 use crate::names::{push_link, push_router};
-use crate::routes::push_route;
 use rip_check::{Place2, Route};
 use rip_plan::{Interface, Plan};
 use rip_table::MetricTable;
@@ -15,9 +15,9 @@ use rip_wire::Metric;
 
 /// Adds a metric that is shown, or that nothing is.
 fn push_shown(text: &mut Line, shown: Option<Metric>)
-    requires { length text.old + 20 ≤ LINE_BYTES }
+    requires { length text.old + NUMBER ≤ LINE_BYTES }
     ensures text { text.new ≡ text.old ++ shown_word shown }
-    ensures size { length text.new ≤ length text.old + 20 }
+    ensures size { length text.new ≤ length text.old + NUMBER }
 {
     match shown {
         Some(metric) => text.push_metric(metric),
@@ -41,10 +41,10 @@ pub(crate) fn shown_text(plan: &Plan, link: usize, shown: Option<Metric>) -> Lin
 }
 
 /// The line of the route that was read at a place.
-#[tactic(auto, unfolding(crate::specs::ExplainText::reading_line))]
-pub(crate) fn reading_text(plan: &Plan, place: &Place2) -> Line
+#[tactic(auto, unfolding(crate::specs::ExplainText::read_route_line))]
+pub(crate) fn read_route_text(plan: &Plan, place: &Place2) -> Line
     requires { IsKnownWay plan.now place.now.way }
-    ensures { result ≡ reading_line plan.now
+    ensures { result ≡ read_route_line plan.now
         (record { metric = place.now.metric; way = place.now.way }) place.now.hidden }
 {
     let route = Route {
@@ -76,9 +76,9 @@ pub(crate) fn direct_text(cost: u8, is_kept: bool) -> Line
 
 /// Adds the sum that a router offers, or that it shows nothing.
 fn push_sum(text: &mut Line, cost: u8, shown: Option<Metric>, value: Metric)
-    requires { length text.old + 66 ≤ LINE_BYTES }
+    requires { length text.old + SUM ≤ LINE_BYTES }
     ensures text { text.new ≡ text.old ++ sum_part cost shown value }
-    ensures size { length text.new ≤ length text.old + 66 }
+    ensures size { length text.new ≤ length text.old + SUM }
 {
     match shown {
         Some(metric) => {
@@ -118,9 +118,9 @@ pub(crate) fn offer_text(
 
 /// Adds that a prefix is not planned, where it is not.
 fn push_unplanned(text: &mut Line, plan: &Plan, prefix: usize)
-    requires { length text.old + 17 ≤ LINE_BYTES }
+    requires { length text.old + WORDS ≤ LINE_BYTES }
     ensures text { text.new ≡ text.old ++ unplanned_part plan.now prefix }
-    ensures size { length text.new ≤ length text.old + 17 }
+    ensures size { length text.new ≤ length text.old + WORDS }
 {
     if prefix >= plan.prefixes() {
         text.push(", not in the plan");

@@ -10,10 +10,10 @@ ghost use Rattle.rip_report.specs.AuditText.{AreKnown, FailingText};
 ghost use Rattle.rip_report.specs.ExplainText.{DirectLine, OfferLine, OfferLines, OffersOver, PlaceLines, ShownLine, ShownLines};
 ghost use Rattle.rip_report.specs.Listings.{Adds};
 
-use crate::audit::lines::unsettled_text;
-use crate::each::{InterfaceText, PairText, add_listed};
-use crate::explain::lines::{direct_text, least_text, offer_text, reading_text, shown_text};
+use crate::explain::lines::{direct_text, least_text, offer_text, read_route_text, shown_text};
+use crate::lines::verdicts::unsettled_text;
 use crate::listing::Listing;
+use crate::loops::{InterfaceText, PairText, add_listed};
 use rip_check::{Expected, Place2, Unsettled, offer};
 use rip_log::Sink;
 use rip_plan::{Interface, Plan};
@@ -189,7 +189,7 @@ pub(crate) fn add_place<T: MetricTable, K: Sink>(
 {
     listing.add(&unsettled_text(plan, table, place), out);
     add_shown(listing, plan, table, place.router, place.prefix, out);
-    listing.add(&reading_text(plan, place), out);
+    listing.add(&read_route_text(plan, place), out);
     add_direct(listing, plan, place.router, place.prefix, out);
     add_offers(listing, plan, table, place.router, place.prefix, out);
     listing.add(&least_text(plan, place.prefix, least), out);

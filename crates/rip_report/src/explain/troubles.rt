@@ -7,11 +7,11 @@ ghost use Rattle.rip_report.specs.AuditText.{IsTroubleOf};
 ghost use Rattle.rip_report.specs.ExplainText.{AllTroubles, HeardLine, HeardLines, TroubleLines, UnclearText, UnderTrouble, UnheardLines, UnreadLines};
 ghost use Rattle.rip_report.specs.Listings.{Adds};
 
-use crate::audit::lines::unclear_text;
-use crate::each::{InterfaceText, PairText, add_interfaces, add_listed, add_pairs};
 use crate::explain::lines::{heard_text, none_heard_text};
 use crate::explain::places::add_shown;
+use crate::lines::verdicts::unclear_text;
 use crate::listing::Listing;
+use crate::loops::{InterfaceText, PairText, add_interfaces, add_listed, add_pairs};
 use rip_check::{Unclear, route};
 use rip_log::Sink;
 use rip_plan::Plan;

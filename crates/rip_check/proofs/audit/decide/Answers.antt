@@ -1,41 +1,29 @@
-use Rattle.std.proofs.Common.{◌≡◌, ◌<◌, length, arith}
 use Rattle.rip_check.specs.Firsts.{IsFirstUnclear}
 use Rattle.rip_check.proofs.Readable.{tables_shown}
-use Rattle.rip_check.proofs.Single.{trouble_from, sound_is_right}
+use Rattle.rip_check.proofs.OneVerdict.{trouble_from, sound_is_right}
 use Rattle.rip_check.proofs.audit.decide.Goals as goal
 
-pub returns-then-first-routers : goal.returns-then-first-routers
-returns-then-first-routers g c =
+pub returns-in-Err : goal.returns-in-Err
+returns-in-Err g c =
     let n = c.args.plan.now in
     let shown = (g.T.MetricTable.state c.args.table.now) in
-    let first = c.first_places-first.result in
-    let is : IsFirstUnclear n shown c.reason-unclear.result = record {
-      router = first.unclear;
-      prefix = first.unclear_prefix;
-      first = c.first_places-first.ensures.unclear.first (omega (arith, c.if-first-routers.true, c.routers.ensures));
-      reason = c.reason-unclear.ensures;
-    } in
-    trouble_from n shown c.reason-unclear.result c.in_default.ensures.none is
+    let first = rw c.in-Err.is at c.first_place.ensures in
+    let is : IsFirstUnclear n shown c.reason.result = record { router = c.in-Err.router; prefix = c.in-Err.prefix; first = first; reason = c.reason.ensures } in
+    trouble_from n shown c.reason.result c.in_default.ensures.none is
 
-pub returns-then-first-routers-2 : goal.returns-then-first-routers-2
-returns-then-first-routers-2 g c =
+pub returns-in-Ok-Some : goal.returns-in-Ok-Some
+returns-in-Ok-Some g c =
     let n = c.args.plan.now in
     let shown = (g.T.MetricTable.state c.args.table.now) in
-    let first = c.first_places-first.result in
-    let is = c.first_places-first.ensures in
-    let clear : first.unclear ≡ length n.routers = omega (arith, c.if-first-routers.false, c.routers.ensures, is.unclear.most) in
-    let known : first.failing < length n.routers = omega (arith, c.if-first-routers-2.true, c.routers-2.ensures) in
+    let first = rw (c.in-Ok-Some.is, c.in-Ok-Some.field-0-is) at c.first_place.ensures in
     let place = rw c.unwrap.ensures at c.failing_place-place.ensures.some in (
-      tables_shown n c.lawful.ensures shown c.in_range.ensures c.in_default.ensures.none (is.unclear.fine clear),
-      record { first = rw place.0 (rw place.1 ((is.failing clear).first known)); values = place.2 },
+      tables_shown n c.lawful.ensures shown c.in_range.ensures c.in_default.ensures.none first.0,
+      record { first = rw place.0 (rw place.1 first.1); values = place.2 },
     )
 
-pub returns : goal.returns
-returns g c =
+pub returns-in-Ok-None : goal.returns-in-Ok-None
+returns-in-Ok-None g c =
     let n = c.args.plan.now in
     let shown = (g.T.MetricTable.state c.args.table.now) in
-    let first = c.first_places-first.result in
-    let is = c.first_places-first.ensures in
-    let clear : first.unclear ≡ length n.routers = omega (arith, c.if-first-routers.false, c.routers.ensures, is.unclear.most) in
-    let sound : first.failing ≡ length n.routers = omega (arith, c.if-first-routers-2.false, c.routers-2.ensures, (is.failing clear).most) in
-    sound_is_right n shown c.lawful.ensures c.in_range.ensures c.in_default.ensures.none (is.unclear.fine clear) ((is.failing clear).fine sound)
+    let first = rw (c.in-Ok-None.is, c.in-Ok-None.field-0-is) at c.first_place.ensures in
+    sound_is_right n shown c.lawful.ensures c.in_range.ensures c.in_default.ensures.none first.0 first.1

@@ -9,8 +9,8 @@ loop-i-init g c = record { size = c.reset.auto.links; two = c.reset.ensures c.ar
 pub loop-i-preserved : goal.loop-i-preserved
 loop-i-preserved g c =
     record {
-      size = omega (arith, c.take.auto.links, c.loop-i.invariant.size);
-      two = c.take.ensures (shown_of (g.T.MetricTable.state c.args.table.now) c.args.prefix) (λ s l d its. c.seen_at-metric.ensures.value) c.loop-i.invariant.two;
+      size = omega (arith, c.add_interface.auto.links, c.loop-i.invariant.size);
+      two = c.add_interface.ensures (shown_of (g.T.MetricTable.state c.args.table.now) c.args.prefix) (λ s l d its. c.seen_at-metric.ensures.value) c.loop-i.invariant.two;
     }
 
 pub returns : goal.returns

@@ -13,16 +13,16 @@ returns-in-None-clause-none g c =
     one_sound c.args.plan.now c.lawful.ensures (g.T.MetricTable.state c.args.table.now) c.in_range.ensures c.args.router c.args.prefix (route_of c.in-Some.route)
     c.requires.router c.in-Some.ensures.fits c.in-None.ensures.holds
 
-pub returns-in-Some-unmet_equation-clause-some : goal.returns-in-Some-unmet_equation-clause-some
-returns-in-Some-unmet_equation-clause-some g c =
-    let unmet = c.in-Some-unmet_equation.ensures in
+pub returns-in-Some-failing_equation-clause-some : goal.returns-in-Some-failing_equation-clause-some
+returns-in-Some-failing_equation-clause-some g c =
+    let failing = c.in-Some-failing_equation.ensures in
     rw c.place_of.ensures (
       refl,
       refl,
       record {
         fits = c.in-Some.ensures.fits;
-        fails = unmet.fails;
-        equation = unmet.equation.2;
+        fails = failing.fails;
+        equation = failing.equation.2;
         hidden = c.in-Some.ensures.hidden;
       },
     )

@@ -3,7 +3,7 @@ use Rattle.std.proofs.lemmas.Bool.Decides.{not_from_Decides}
 use Rattle.rip_check.specs.Metrics.{metric_at}
 use Rattle.rip_check.specs.Tables.{IsLeastOffer, IsSilent}
 use Rattle.rip_check.proofs.Owned.{first_is_leaf, its_number, some_number, within}
-use Rattle.rip_check.proofs.Standing.{high_is_silent, poison_is}
+use Rattle.rip_check.proofs.OnePlace.{high_is_silent, poison_is}
 use Rattle.rip_check.proofs.LeafRouters.{low_fits, here_fits, nowhere_fits, not_told, over_fits, least_offer, low_one, nowhere_one, low_shows, nowhere_shows}
 use Rattle.rip_check.proofs.Plans.{attached_test, direct_most, held_back_direct}
 use Rattle.rip_plan.specs.Relations.{IsDirect}

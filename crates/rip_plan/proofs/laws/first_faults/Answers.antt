@@ -1,30 +1,18 @@
-use Rattle.rip_plan.proofs.FirstPass.{TextLaws}
-use Rattle.rip_plan.proofs.LinkFaults.{NameLaws}
 use Rattle.rip_plan.proofs.NoMemory.{never_memory}
+use Rattle.rip_plan.proofs.Texts.{TextLaws}
 use Rattle.rip_plan.proofs.TextFaults.{fault_told, none_told, plan_stands}
 use Rattle.rip_plan.proofs.laws.first_faults.Goals as goal
 
 pub returns-clause-told : goal.returns-clause-told
-returns-clause-told c =
-    let names : NameLaws = record { good = λ text h. (c.names.ensures.exact text).0 h; tested = λ text h. (c.names.ensures.exact text).1 h } in
-    fault_told names
+returns-clause-told c = fault_told (record { name = c.names.ensures.exact; address = c.address_texts.ensures.exact; prefix = c.prefix_texts.ensures.exact })
 
 pub returns-clause-none : goal.returns-clause-none
-returns-clause-none c =
-    let names : NameLaws = record { good = λ text h. (c.names.ensures.exact text).0 h; tested = λ text h. (c.names.ensures.exact text).1 h } in
-    none_told names
+returns-clause-none c = none_told (record { name = c.names.ensures.exact; address = c.address_texts.ensures.exact; prefix = c.prefix_texts.ensures.exact })
 
 pub returns-clause-plan : goal.returns-clause-plan
-returns-clause-plan c =
-    let names : NameLaws = record { good = λ text h. (c.names.ensures.exact text).0 h; tested = λ text h. (c.names.ensures.exact text).1 h } in
-    let laws : TextLaws = record {
-      name = λ text h. (c.names.ensures.exact text).0 h;
-      address = λ text a h. ((c.address_texts.ensures.exact text a).0 h).0;
-      prefix = λ text p h. ((c.prefix_texts.ensures.exact text p).0 h).0;
-    } in
-    plan_stands names laws
+returns-clause-plan c = plan_stands (record { name = c.names.ensures.exact; address = c.address_texts.ensures.exact; prefix = c.prefix_texts.ensures.exact })
 
 pub returns-clause-memory : goal.returns-clause-memory
 returns-clause-memory c =
-    let names : NameLaws = record { good = λ text h. (c.names.ensures.exact text).0 h; tested = λ text h. (c.names.ensures.exact text).1 h } in
-    λ bytes e fault. never_memory bytes e ((fault_told names bytes e).1 fault)
+    let laws : TextLaws = record { name = c.names.ensures.exact; address = c.address_texts.ensures.exact; prefix = c.prefix_texts.ensures.exact } in
+    λ bytes e fault. never_memory bytes e ((fault_told laws bytes e).1 fault)

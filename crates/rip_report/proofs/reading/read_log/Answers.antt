@@ -1,16 +1,19 @@
-use Rattle.std.proofs.Common.{subst, ◌∙◌}
-use Rattle.std.specs.Prelude.{IfOk}
+use Rattle.std.proofs.Common.{subst, ◌∙◌, ◌++◌, ap}
+use Rattle.rip_log.specs.Logs.{log_in}
+use Rattle.rip_log.specs.Wholes.{rest_of}
 use Rattle.rip_table.specs.Collects.{SaidOutcome}
-use Rattle.rip_report.specs.ReportText.{LogMakes}
+use Rattle.rip_report.proofs.GivenLemmas.{rest_given}
 use Rattle.rip_report.proofs.ReportLemmas.{LogWords, made_of}
 use Rattle.rip_report.proofs.reading.read_log.Goals as goal
 
 pub returns-in-Ok-clause-told : goal.returns-in-Ok-clause-told
-returns-in-Ok-clause-told g c =
+returns-in-Ok-clause-told g c = λ text begins.
     let n = c.args.plan.now in
-    let text = g.R.Source.coming c.args.log in
+    let S = g.R.Source in
+    let whole = S.given c.args.log ++ text in
+    let begun = rw c.into_source.ensures at begins in
     let s = g.T.MetricTable.state c.collect-collected.new.table in
     let collected = c.collect-collected.result in
     let words : LogWords = record { text = c.log_texts.ensures.text; fault = c.log_texts.ensures.fault } in
-    let made = made_of words n text s collected (λ log h. subst (λ old. SaidOutcome n old log s collected) c.requires (c.collect-collected.ensures.said c.in-Ok.ensures.front.1 log (c.in-Ok.ensures.to_come ∙ h))) in
+    let made = made_of words n text s collected (λ log h. subst (λ old. SaidOutcome n old log s collected) c.requires (c.collect-collected.ensures.joined.said c.in-Ok.ensures.front.1 whole begun log (c.in-Ok.ensures.to_come (rest_of S.given whole) ∙ ap log_in (rest_given S.given c.args.log text) ∙ h))) in
     rw c.refusal.ensures made

@@ -10,44 +10,50 @@ use Rattle.rip_report.proofs.SentLemmas.{Writes-same}
 use Rattle.rip_report.proofs.report.report_log.Goals as goal
 
 pub returns-in-Ok-None-clause-prints : goal.returns-in-Ok-None-clause-prints
-returns-in-Ok-None-clause-prints g c =
+returns-in-Ok-None-clause-prints g c = λ text begins.
     let s = g.T.MetricTable.state c.read_log-source.new.table in
-    let told = rw (c.in-Ok-None.is, c.in-Ok-None.field-0-is) at c.read_log-source.ensures.told in
+    let told_of = rw (c.in-Ok-None.is, c.in-Ok-None.field-0-is) at c.read_log-source.ensures.told in
+    let told = told_of text begins in
     let says = g.C.Report.is_text c.args.command.now c.args.plan.now in
-    prints_also (says s) (ReportOf says c.args.plan.now (g.R.Source.coming c.args.log)) g.K.Sink.taken g.K.Sink.broken c.args.out.now c.write.new.out c.write.result (λ w h. of_table s w told h) c.write.ensures.prints
+    prints_also (says s) (ReportOf says c.args.plan.now text) g.K.Sink.taken g.K.Sink.broken c.args.out.now c.write.new.out c.write.result (λ w h. of_table s w told h) c.write.ensures.prints
 
 pub returns-in-Ok-None-clause-told : goal.returns-in-Ok-None-clause-told
-returns-in-Ok-None-clause-told g c =
+returns-in-Ok-None-clause-told g c = λ text begins.
     let n = c.args.plan.now in
     let s = g.T.MetricTable.state c.read_log-source.new.table in
     let a = g.K.Sink.taken c.args.out.now in
     let b = g.K.Sink.taken c.write.new.out in
-    let told = rw (c.in-Ok-None.is, c.in-Ok-None.field-0-is) at c.read_log-source.ensures.told in
-    λ t table. subst (λ (u : State). IfOk c.write.result (WentOut (g.C.Report.is_text c.args.command.now n u) a b)) (same_table (record { text = c.log_texts.ensures.text; fault = c.log_texts.ensures.fault }) c.one_join.ensures n (g.R.Source.coming c.args.log) s t None told table).0 c.write.ensures.prints.text
+    let told_of = rw (c.in-Ok-None.is, c.in-Ok-None.field-0-is) at c.read_log-source.ensures.told in
+    let told = told_of text begins in
+    λ t table. subst (λ (u : State). IfOk c.write.result (WentOut (g.C.Report.is_text c.args.command.now n u) a b)) (same_table (record { text = c.log_texts.ensures.text; fault = c.log_texts.ensures.fault }) c.one_join.ensures n text s t None told table).0 c.write.ensures.prints.text
 
 pub returns-in-Ok-None-clause-meaning : goal.returns-in-Ok-None-clause-meaning
-returns-in-Ok-None-clause-meaning g c =
+returns-in-Ok-None-clause-meaning g c = λ text begins.
     let n = c.args.plan.now in
     let s = g.T.MetricTable.state c.read_log-source.new.table in
-    let told = rw (c.in-Ok-None.is, c.in-Ok-None.field-0-is) at c.read_log-source.ensures.told in
-    λ t table. subst (λ (u : State). IfOk c.write.result (g.C.Report.means c.args.command.now n u)) (same_table (record { text = c.log_texts.ensures.text; fault = c.log_texts.ensures.fault }) c.one_join.ensures n (g.R.Source.coming c.args.log) s t None told table).0 c.write.ensures.meaning
+    let told_of = rw (c.in-Ok-None.is, c.in-Ok-None.field-0-is) at c.read_log-source.ensures.told in
+    let told = told_of text begins in
+    λ t table. subst (λ (u : State). IfOk c.write.result (g.C.Report.means c.args.command.now n u)) (same_table (record { text = c.log_texts.ensures.text; fault = c.log_texts.ensures.fault }) c.one_join.ensures n text s t None told table).0 c.write.ensures.meaning
 
 pub returns-in-Ok-Some-clause-prints : goal.returns-in-Ok-Some-clause-prints
-returns-in-Ok-Some-clause-prints g c =
+returns-in-Ok-Some-clause-prints g c = λ text begins.
     let n = c.args.plan.now in
     let e = c.in-Ok-Some.error in
     let s = g.T.MetricTable.state c.read_log-source.new.table in
-    let told = rw (c.in-Ok-Some.is, c.in-Ok-Some.field-0-is) at c.read_log-source.ensures.told in
+    let told_of = rw (c.in-Ok-Some.is, c.in-Ok-Some.field-0-is) at c.read_log-source.ensures.told in
+    let told = told_of text begins in
     let line = c.as_bytes.ensures ∙ c.refusal_text.ensures in
     let wrote = Writes-same g.K.Sink.taken g.K.Sink.broken c.args.out.now c.write_all.new.out c.write_all.result _ _ [] line c.write_all.ensures in
-    finished_prints (ReportOf (g.C.Report.is_text c.args.command.now n) n (g.R.Source.coming c.args.log)) (refused_log e) g.K.Sink.taken g.K.Sink.broken c.args.out.now c.write_all.new.out c.write_all.result c.finish.result (a_refusal s e told) c.finish.ensures wrote
+    finished_prints (ReportOf (g.C.Report.is_text c.args.command.now n) n text) (refused_log e) g.K.Sink.taken g.K.Sink.broken c.args.out.now c.write_all.new.out c.write_all.result c.finish.result (a_refusal s e told) c.finish.ensures wrote
 
 pub returns-in-Ok-Some-clause-told : goal.returns-in-Ok-Some-clause-told
-returns-in-Ok-Some-clause-told g c =
-    let told = rw (c.in-Ok-Some.is, c.in-Ok-Some.field-0-is) at c.read_log-source.ensures.told in
-    λ t table. no_table _ (record { text = c.log_texts.ensures.text; fault = c.log_texts.ensures.fault }) c.one_join.ensures c.args.plan.now (g.R.Source.coming c.args.log) (g.T.MetricTable.state c.read_log-source.new.table) t c.in-Ok-Some.error told table
+returns-in-Ok-Some-clause-told g c = λ text begins.
+    let told_of = rw (c.in-Ok-Some.is, c.in-Ok-Some.field-0-is) at c.read_log-source.ensures.told in
+    let told = told_of text begins in
+    λ t table. no_table _ (record { text = c.log_texts.ensures.text; fault = c.log_texts.ensures.fault }) c.one_join.ensures c.args.plan.now text (g.T.MetricTable.state c.read_log-source.new.table) t c.in-Ok-Some.error told table
 
 pub returns-in-Ok-Some-clause-meaning : goal.returns-in-Ok-Some-clause-meaning
-returns-in-Ok-Some-clause-meaning g c =
-    let told = rw (c.in-Ok-Some.is, c.in-Ok-Some.field-0-is) at c.read_log-source.ensures.told in
-    λ t table. no_table _ (record { text = c.log_texts.ensures.text; fault = c.log_texts.ensures.fault }) c.one_join.ensures c.args.plan.now (g.R.Source.coming c.args.log) (g.T.MetricTable.state c.read_log-source.new.table) t c.in-Ok-Some.error told table
+returns-in-Ok-Some-clause-meaning g c = λ text begins.
+    let told_of = rw (c.in-Ok-Some.is, c.in-Ok-Some.field-0-is) at c.read_log-source.ensures.told in
+    let told = told_of text begins in
+    λ t table. no_table _ (record { text = c.log_texts.ensures.text; fault = c.log_texts.ensures.fault }) c.one_join.ensures c.args.plan.now text (g.T.MetricTable.state c.read_log-source.new.table) t c.in-Ok-Some.error told table

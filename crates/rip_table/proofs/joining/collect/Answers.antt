@@ -1,5 +1,7 @@
 use Rattle.std.proofs.Common.{◌≡◌, ◌∙◌, arith, sym, refl, false, subst, Some, Ok, Err}
-use Rattle.rip_log.specs.Leaves.{capture_of, line_of, lines_behind, log_to_come, has_stopped}
+use Rattle.rip_log.specs.Leaves.{capture_of, line_of, lines_behind, log_to_come, has_stopped, source_of}
+use Rattle.rip_log.specs.Wholes.{OfWhole, rest_of}
+use Rattle.rip_log.proofs.WholeLemmas.{begins_back, went_on}
 use Rattle.rip_table.specs.State.{State, Fits}
 use Rattle.rip_table.specs.Joined.{WantsFor, is_memory}
 use Rattle.rip_table.specs.Collects.{is_read_cause, StuckKnown, OutcomeKnown, PassedKnown, ToldOutcome}
@@ -13,43 +15,50 @@ use Rattle.rip_table.proofs.joining.collect.Goals as goal
 
 pub records-preserved : goal.records-preserved
 records-preserved g c =
+    let S = g.R.Source in
+    let now = c.next.follows.lender-at-none in
     let h = rw (c.in-Ok-Some.is, c.in-Ok-Some.field-0-is) at c.next.follows.holds-at-none in
-    let run : has_stopped c.records.reader ≡ false = runs _ _ _ h.ended in
+    let run : has_stopped c.records.reader ≡ false = runs _ _ _ h.answers.ended in
     let was_run : has_stopped c.args.reader.now ≡ false = sym c.records.invariant.running ∙ run in
     let joins = rw c.in-Ok.is at c.join.ensures in
     record {
-      passed = λ was. PassedKnown-more capture_of line_of _ _ _ (g.T.MetricTable.state c.records.table) (g.T.MetricTable.state c.join.new.table) _ _ _ (c.records.invariant.passed was) (h.gives run) joins;
+      passed = λ was whole begins.
+          let coming = rest_of S.given whole in
+          let before = begins_back S.given S.coming S.at_end whole (source_of c.records.reader) (source_of now) h.pulls.went begins in
+          PassedKnown-more capture_of line_of c.args.plan.now (g.T.MetricTable.state c.args.table.now) (log_to_come coming c.args.reader.now) (g.T.MetricTable.state c.records.table) (g.T.MetricTable.state c.join.new.table) (log_to_come coming c.records.reader) (log_to_come coming now) c.in-Ok-Some.record (c.records.invariant.passed was whole before) (h.answers.gives run whole begins) joins;
+      went = went_on S.given S.coming S.at_end (source_of c.args.reader.now) (source_of c.records.reader) (source_of now) c.records.invariant.went h.pulls.went;
       fits = Fits-joined c.args.plan.now (g.T.MetricTable.state c.records.table) (g.T.MetricTable.state c.join.new.table) (capture_of c.in-Ok-Some.record) c.records.invariant.fits joins;
-      running = h.moves.stopped ∙ sym was_run;
-      marks = h.moves.marks refl ∙ c.records.invariant.marks;
+      running = h.marks.stopped ∙ sym was_run;
+      marks = h.marks.marks refl ∙ c.records.invariant.marks;
       still = λ was. cc (was, was_run);
       here = λ was. cc (was, was_run);
-      lines = let later = h.onward.1 in let first = c.records.invariant.lines in omega arith;
+      lines = let later = h.answers.onward.1 in let first = c.records.invariant.lines in omega arith;
     }
 
 pub returns-in-Err-join : goal.returns-in-Err-join
 returns-in-Err-join g c =
     let state = g.T.MetricTable.state in
-    let coming = g.R.Source.coming in
+    let S = g.R.Source in
     let plan = c.args.plan.now in
     let before = c.records.reader in
     let after = c.next.follows.lender-at-none in
     let entry = capture_of c.in-Ok-Some.record in
     let cause = c.in-Err-join.cause in
     let inv = c.records.invariant in
-    let log = log_to_come coming c.args.reader.now in
     let old = state c.args.table.now in
     let h = rw (c.in-Ok-Some.is, c.in-Ok-Some.field-0-is) at c.next.follows.holds-at-none in
-    let run : has_stopped c.records.reader ≡ false = runs _ _ _ h.ended in
+    let run : has_stopped c.records.reader ≡ false = runs _ _ _ h.answers.ended in
     let was_run : has_stopped c.args.reader.now ≡ false = sym inv.running ∙ run in
     let joins = rw c.in-Err-join.is at c.join.ensures in
     let blame = Joins-blame plan (state c.records.table) entry (state c.join.new.table) cause joins in
     let not_read = not_log-not_read cause blame in
     let new = state c.join.new.table in
     let error : CollectError = record { line = c.in-Ok-Some.record.line; cause = cause } in
-    let told : has_stopped c.args.reader.now ≡ false → ToldOutcome plan old log new (log_to_come coming after) (Err error) = λ was.
-    let passed = inv.passed was in
-    let gives = h.gives run in
+    let told : has_stopped c.args.reader.now ≡ false → OfWhole S.given S.at_end (source_of after) (λ coming. ToldOutcome plan old (log_to_come coming c.args.reader.now) new (log_to_come coming after) (Err error)) = λ was whole begins.
+    let coming = rest_of S.given whole in
+    let log = log_to_come coming c.args.reader.now in
+    let passed = inv.passed was whole (begins_back S.given S.coming S.at_end whole (source_of before) (source_of after) h.pulls.went begins) in
+    let gives = h.answers.gives run whole begins in
     tell (PassedKnown plan old log new (log_to_come coming after)) (is_memory cause) (is_read_cause cause) joins.1
     (λ w. subst (λ (s : State). StuckKnown plan old log s (log_to_come coming after) c.in-Ok-Some.record.line) (sym joins.0)
     (StuckKnown-wants capture_of line_of plan old log (state c.records.table) (log_to_come coming before) (log_to_come coming after) c.in-Ok-Some.record passed gives w))
@@ -57,65 +66,92 @@ returns-in-Err-join g c =
     (OutcomeKnown-refused capture_of line_of plan old log (state c.records.table) (log_to_come coming before) (log_to_come coming after) c.in-Ok-Some.record cause passed gives j))
     not_read in
     record {
-      told = told;
-      said = λ was. said_outcome c.refused_logs.ensures.outcome plan old new log (log_to_come coming after) (Err error) c.lawful.ensures (g.T.MetricTable.is_state c.args.table.now) c.requires (told was);
-      stopped = λ was. cc (was, was_run);
-      refused = λ was. h.moves.stopped ∙ sym blame;
-      here = at_last (lines_behind after) c.in-Ok-Some.record.line cause blame h.onward.1;
-      fits = subst (λ (s : State). Fits plan s) (sym joins.0) inv.fits;
-      behind = λ was is_record. stands_behind capture_of line_of plan old log (state c.records.table) (log_to_come coming before) (log_to_come coming after) c.in-Ok-Some.record (inv.passed was) (h.gives run);
-      wanted = λ w. (let later = h.onward.1 in let first = inv.lines in omega arith, (entry, subst (λ (s : State). WantsFor plan s entry) (sym joins.0) (when_memory _ (is_memory cause) w joins.1)));
-      over = λ fine. cc fine;
-      failed = λ bad. cc (bad, not_read);
-      marks = λ fine. h.moves.marks refl ∙ inv.marks;
+      joined = record {
+        told = told;
+        said = λ was whole begins. said_outcome c.refused_logs.ensures.outcome plan old new (log_to_come (rest_of S.given whole) c.args.reader.now) (log_to_come (rest_of S.given whole) after) (Err error) c.lawful.ensures (g.T.MetricTable.is_state c.args.table.now) c.requires (told was whole begins);
+        stopped = λ was. cc (was, was_run);
+        wanted = λ w. (let later = h.answers.onward.1 in let first = inv.lines in omega arith, (entry, subst (λ (s : State). WantsFor plan s entry) (sym joins.0) (when_memory _ (is_memory cause) w joins.1)));
+        fits = subst (λ (s : State). Fits plan s) (sym joins.0) inv.fits;
+      };
+      reader = record {
+        went = went_on S.given S.coming S.at_end (source_of c.args.reader.now) (source_of before) (source_of after) inv.went h.pulls.went;
+        refused = λ was. h.marks.stopped ∙ sym blame;
+        here = at_last (lines_behind after) c.in-Ok-Some.record.line cause blame h.answers.onward.1;
+        behind = λ was is_record whole begins.
+            let coming = rest_of S.given whole in
+            stands_behind capture_of line_of plan old (log_to_come coming c.args.reader.now) (state c.records.table) (log_to_come coming before) (log_to_come coming after) c.in-Ok-Some.record (inv.passed was whole (begins_back S.given S.coming S.at_end whole (source_of before) (source_of after) h.pulls.went begins)) (h.answers.gives run whole begins);
+      };
+      marks = record {
+        over = λ fine. cc fine;
+        failed = λ bad. cc (bad, not_read);
+        marks = λ fine. h.marks.marks refl ∙ inv.marks;
+      };
     }
 
 pub returns-in-Ok-None : goal.returns-in-Ok-None
 returns-in-Ok-None g c =
     let h = rw (c.in-Ok-None.is, c.in-Ok-None.field-0-is) at c.next.follows.holds-at-none in
-    let run : has_stopped c.records.reader ≡ false = runs _ _ _ h.ended in
+    let run : has_stopped c.records.reader ≡ false = runs _ _ _ h.answers.ended in
     let was_run : has_stopped c.args.reader.now ≡ false = sym c.records.invariant.running ∙ run in
-    let log = log_to_come g.R.Source.coming c.args.reader.now in
-    let left = log_to_come g.R.Source.coming c.next.follows.lender-at-none in
+    let S = g.R.Source in
+    let before = c.records.reader in
+    let after = c.next.follows.lender-at-none in
     let old = g.T.MetricTable.state c.args.table.now in
     let new = g.T.MetricTable.state c.records.table in
-    let told : has_stopped c.args.reader.now ≡ false → ToldOutcome c.args.plan.now old log new left (Ok tt) = λ was.
-    OutcomeKnown-none capture_of line_of _ _ _ _ _ _ (c.records.invariant.passed was) (h.gives run) in
+    let told : has_stopped c.args.reader.now ≡ false → OfWhole S.given S.at_end (source_of after) (λ coming. ToldOutcome c.args.plan.now old (log_to_come coming c.args.reader.now) new (log_to_come coming after) (Ok tt)) = λ was whole begins.
+    let coming = rest_of S.given whole in
+    OutcomeKnown-none capture_of line_of c.args.plan.now old (log_to_come coming c.args.reader.now) new (log_to_come coming before) (log_to_come coming after) (c.records.invariant.passed was whole (begins_back S.given S.coming S.at_end whole (source_of before) (source_of after) h.pulls.went begins)) (h.answers.gives run whole begins) in
     record {
-      told = told;
-      said = λ was. said_outcome c.refused_logs.ensures.outcome c.args.plan.now old new log left (Ok tt) c.lawful.ensures (g.T.MetricTable.is_state c.args.table.now) c.requires (told was);
-      stopped = λ was. cc (was, was_run);
-      refused = λ was. h.moves.stopped;
-      here = tt;
-      fits = c.records.invariant.fits;
-      behind = λ was. tt;
-      wanted = tt;
-      over = λ fine. h.over refl;
-      failed = λ bad. cc bad;
-      marks = λ fine. h.moves.marks refl ∙ c.records.invariant.marks;
+      joined = record {
+        told = told;
+        said = λ was whole begins. said_outcome c.refused_logs.ensures.outcome c.args.plan.now old new (log_to_come (rest_of S.given whole) c.args.reader.now) (log_to_come (rest_of S.given whole) after) (Ok tt) c.lawful.ensures (g.T.MetricTable.is_state c.args.table.now) c.requires (told was whole begins);
+        stopped = λ was. cc (was, was_run);
+        wanted = tt;
+        fits = c.records.invariant.fits;
+      };
+      reader = record {
+        went = went_on S.given S.coming S.at_end (source_of c.args.reader.now) (source_of before) (source_of after) c.records.invariant.went h.pulls.went;
+        refused = λ was. h.marks.stopped;
+        here = tt;
+        behind = λ was. tt;
+      };
+      marks = record {
+        over = λ fine. h.marks.over refl;
+        failed = λ bad. cc bad;
+        marks = λ fine. h.marks.marks refl ∙ c.records.invariant.marks;
+      };
     }
 
 pub returns-in-Err : goal.returns-in-Err
 returns-in-Err g c =
     let h = rw c.in-Err.is at c.next.follows.holds-at-none in
     let inv = c.records.invariant in
-    let log = log_to_come g.R.Source.coming c.args.reader.now in
-    let left = log_to_come g.R.Source.coming c.next.follows.lender-at-none in
+    let S = g.R.Source in
+    let before = c.records.reader in
+    let after = c.next.follows.lender-at-none in
     let old = g.T.MetricTable.state c.args.table.now in
     let new = g.T.MetricTable.state c.records.table in
     let error : CollectError = record { line = c.in-Err.error.line; cause = OfLog c.in-Err.error } in
-    let told : has_stopped c.args.reader.now ≡ false → ToldOutcome c.args.plan.now old log new left (Err error) = λ was.
-    told_bad capture_of line_of _ _ _ _ _ _ c.in-Err.error (inv.passed was) (h.gives (inv.running ∙ was)) in
+    let told : has_stopped c.args.reader.now ≡ false → OfWhole S.given S.at_end (source_of after) (λ coming. ToldOutcome c.args.plan.now old (log_to_come coming c.args.reader.now) new (log_to_come coming after) (Err error)) = λ was whole begins.
+    let coming = rest_of S.given whole in
+    told_bad capture_of line_of c.args.plan.now old (log_to_come coming c.args.reader.now) new (log_to_come coming before) (log_to_come coming after) c.in-Err.error (inv.passed was whole (begins_back S.given S.coming S.at_end whole (source_of before) (source_of after) h.pulls.went begins)) (h.answers.gives (inv.running ∙ was) whole begins) in
     record {
-      told = told;
-      said = λ was. said_outcome c.refused_logs.ensures.outcome c.args.plan.now old new log left (Err error) c.lawful.ensures (g.T.MetricTable.is_state c.args.table.now) c.requires (told was);
-      stopped = λ was. (inv.still was, again c.in-Err.error _ _ (h.ended (inv.running ∙ was)).0 (inv.here was));
-      refused = λ was. h.moves.stopped;
-      here = (h.moves.here, h.moves.here);
-      fits = inv.fits;
-      behind = λ was is_record. cc is_record;
-      wanted = λ w. cc w;
-      over = λ fine. cc fine;
-      failed = λ bad. h.moves.failed bad;
-      marks = λ fine. h.moves.marks fine ∙ inv.marks;
+      joined = record {
+        told = told;
+        said = λ was whole begins. said_outcome c.refused_logs.ensures.outcome c.args.plan.now old new (log_to_come (rest_of S.given whole) c.args.reader.now) (log_to_come (rest_of S.given whole) after) (Err error) c.lawful.ensures (g.T.MetricTable.is_state c.args.table.now) c.requires (told was whole begins);
+        stopped = λ was. (inv.still was, again c.in-Err.error _ _ (h.answers.ended (inv.running ∙ was)).0 (inv.here was));
+        wanted = λ w. cc w;
+        fits = inv.fits;
+      };
+      reader = record {
+        went = went_on S.given S.coming S.at_end (source_of c.args.reader.now) (source_of before) (source_of after) inv.went h.pulls.went;
+        refused = λ was. h.marks.stopped;
+        here = (h.answers.here, h.answers.here);
+        behind = λ was is_record. cc is_record;
+      };
+      marks = record {
+        over = λ fine. cc fine;
+        failed = λ bad. h.marks.failed bad;
+        marks = λ fine. h.marks.marks fine ∙ inv.marks;
+      };
     }

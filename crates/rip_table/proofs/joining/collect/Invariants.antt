@@ -1,15 +1,17 @@
 use Rattle.std.proofs.Common.{◌≡◌, ◌-◌, ◌≤◌, true, false}
 use Rattle.rip_log.specs.Leaves.{log_to_come, lines_behind, has_stopped, source_of}
+use Rattle.rip_log.specs.Wholes.{OfWhole, Went}
 use Rattle.rip_table.specs.State.{Fits}
 use Rattle.rip_table.specs.Collects.{PassedKnown}
 use Rattle.rip_table.proofs.joining.collect.Given as goal
 
 abbrev pub invariant-records : goal.invariant-records
 invariant-records g l =
-    let coming = g.R.Source.coming in
+    let S = g.R.Source in
     let state = g.T.MetricTable.state in
     record {
-      passed : has_stopped l.fn.reader ≡ false → PassedKnown l.plan (state l.fn.table) (log_to_come coming l.fn.reader) (state l.table) (log_to_come coming l.reader);
+      passed : has_stopped l.fn.reader ≡ false → OfWhole S.given S.at_end (source_of l.reader) (λ coming. PassedKnown l.plan (state l.fn.table) (log_to_come coming l.fn.reader) (state l.table) (log_to_come coming l.reader));
+      went : Went S.given S.coming S.at_end (source_of l.fn.reader) (source_of l.reader);
       fits : Fits l.plan (state l.table);
       running : has_stopped l.reader ≡ has_stopped l.fn.reader;
       marks : g.R.Source.broken (source_of l.reader) ≡ g.R.Source.broken (source_of l.fn.reader);

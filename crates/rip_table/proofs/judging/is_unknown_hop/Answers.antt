@@ -1,5 +1,5 @@
-use Rattle.std.proofs.Common.{◌≡◌, true, false, not, ◌||◌, ap, refl, sym, ◌∙◌}
-use Rattle.rip_table.specs.Joined.{holds_address, knows_gateway}
+use Rattle.std.proofs.Common.{not, ◌||◌, ap, sym, ◌∙◌}
+use Rattle.rip_table.specs.Joined.{knows_gateway}
 use Rattle.rip_table.proofs.HopLemmas.{address_decided, gateway_decided}
 use Rattle.rip_table.proofs.judging.is_unknown_hop.Goals as goal
 

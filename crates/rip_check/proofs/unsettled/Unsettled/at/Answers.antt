@@ -1,4 +1,4 @@
-use Rattle.std.proofs.Common.{◌≡◌, ◌≤◌, ◌<◌, ℕ, ◌*◌, ◌+◌, Option, None, Some, IfNone, IsSome, get_or, length, refl, sym, ◌∙◌, subst, arith}
+use Rattle.std.proofs.Common.{◌≡◌, ◌≤◌, ◌<◌, ℕ, ◌*◌, ◌+◌, Option, None, Some, IfNone, IsSome, get_or, length, refl, arith}
 use Rattle.std.proofs.lemmas.List.{get_or_read}
 use Rattle.std.proofs.lemmas.Nat.{mul-add-lt}
 use Rattle.rip_plan.specs.Network.{Network}
@@ -22,8 +22,8 @@ mark_at n s unsettled are r p w mark e router prefix read =
     rw (← is) at (are.marks r p router prefix)
 
 -- the equation of a marked place
-unmet_at : (n : Network) (s : State) (r p v : ℕ) (mark : Option ℕ) → mark ≡ Some v → IsMark n s r p mark → (1 ≤ v) × (v ≤ 16) × IsUnmet n s r p v
-unmet_at n s r p v mark e is = rw e at is.fails
+failing_at : (n : Network) (s : State) (r p v : ℕ) (mark : Option ℕ) → mark ≡ Some v → IsMark n s r p mark → (1 ≤ v) × (v ≤ 16) × IsUnmet n s r p v
+failing_at n s r p v mark e is = rw e at is.fails
 
 there : (P : Type 0) (o : Option Reading) → IfNone o (P → ⊥) → P → IsSome o
 there P None none p = absurd (none p)
@@ -41,16 +41,16 @@ unwrap-route-requires g c =
     let n = c.args.plan.now in
     let s = g.T.MetricTable.state c.args.table.now in
     let is = mark_at n s c.args.self.now c.requires.places c.args.router c.args.prefix c.prefix_count.result c.index.result.now c.prefix_count.ensures c.requires.router c.requires.prefix c.index.ensures in
-    let unmet = unmet_at n s c.args.router c.args.prefix c.in-Some.equation c.index.result.now c.in-Some.is is in
-    there _ c.read.result c.read.ensures.none (fits_readable n c.lawful.ensures s c.in_range.ensures c.args.router c.args.prefix unmet.2.route c.requires.router unmet.2.fits)
+    let failing = failing_at n s c.args.router c.args.prefix c.in-Some.equation c.index.result.now c.in-Some.is is in
+    there _ c.read.result c.read.ensures.none (fits_readable n c.lawful.ensures s c.in_range.ensures c.args.router c.args.prefix failing.2.route c.requires.router failing.2.fits)
 
 pub place_of-requires-clause-equation : goal.place_of-requires-clause-equation
 place_of-requires-clause-equation g c =
     let n = c.args.plan.now in
     let s = g.T.MetricTable.state c.args.table.now in
     let is = mark_at n s c.args.self.now c.requires.places c.args.router c.args.prefix c.prefix_count.result c.index.result.now c.prefix_count.ensures c.requires.router c.requires.prefix c.index.ensures in
-    let unmet = unmet_at n s c.args.router c.args.prefix c.in-Some.equation c.index.result.now c.in-Some.is is in
-    (omega (arith, unmet.0, c.from.ensures), omega (arith, unmet.1, c.from.ensures))
+    let failing = failing_at n s c.args.router c.args.prefix c.in-Some.equation c.index.result.now c.in-Some.is is in
+    (omega (arith, failing.0, c.from.ensures), omega (arith, failing.1, c.from.ensures))
 
 pub returns-clause-some : goal.returns-clause-some
 returns-clause-some g c =
@@ -62,15 +62,15 @@ returns-clause-some g c =
     let fits = rw c.unwrap-route.ensures at c.read.ensures.fits in
     let hidden = rw c.unwrap-route.ensures at c.read.ensures.hidden in
     let is = mark_at n s c.args.self.now c.requires.places r p c.prefix_count.result c.index.result.now c.prefix_count.ensures c.requires.router c.requires.prefix c.index.ensures in
-    let unmet = (unmet_at n s r p c.in-Some.equation c.index.result.now c.in-Some.is is).2 in
-    let one : unmet.route ≡ t = one_route n c.lawful.ensures s r p unmet.route t c.requires.router unmet.fits fits in
+    let failing = (failing_at n s r p c.in-Some.equation c.index.result.now c.in-Some.is is).2 in
+    let one : failing.route ≡ t = one_route n c.lawful.ensures s r p failing.route t c.requires.router failing.fits fits in
     rw c.place_of.ensures (
       refl,
       refl,
       record {
         fits = fits;
-        fails = λ holds. unmet.fails (rw one holds);
-        equation = rw c.from.ensures unmet.equation;
+        fails = λ holds. failing.fails (rw one holds);
+        equation = rw c.from.ensures failing.equation;
         hidden = hidden;
       },
     )

@@ -2,11 +2,13 @@ use Rattle.std.proofs.Common.{◌≡◌, ◌≤◌, ◌-◌, ◌<◌, length, tr
 use Rattle.std.specs.Io.KnownBytes.{Keeps}
 use Rattle.rip_log.specs.Held.{held, ready_lines, text}
 use Rattle.rip_log.specs.Ends.{NoFeedBelow}
+use Rattle.rip_log.specs.Wholes.{OfWhole, Went}
 use Rattle.rip_log.proofs.window.Window.find_end.Given as goal
 
 abbrev pub invariant-loop-at : goal.invariant-loop-at
 invariant-loop-at g l = record {
-  kept : Keeps (text g.R.Source.coming l.fn.self) (text g.R.Source.coming l.self);
+  kept : OfWhole g.R.Source.given g.R.Source.at_end l.self.source (λ coming. Keeps (text coming l.fn.self) (text coming l.self));
+  went : Went g.R.Source.given g.R.Source.coming g.R.Source.at_end l.fn.self.source l.self.source;
   more : length (held l.fn.self) ≤ length (held l.self);
   within : l.seen ≤ length (held l.self);
   before : NoFeedBelow (held l.self) l.seen;

@@ -1,7 +1,9 @@
-use Rattle.std.proofs.Common.{arith, ◌∙◌, ◌+◌, ap, sym}
+use Rattle.std.proofs.Common.{arith, ◌∙◌, ◌+◌, ap, sym, slice_range}
 use Rattle.rip_log.proofs.CutLemmas.{length-range, feed-cut, last-cut, long-cut, range-back, range-nothing}
-use Rattle.rip_log.specs.Held.{held, ready_lines}
+use Rattle.rip_log.specs.Held.{held, ready_lines, text}
 use Rattle.rip_log.proofs.ReadyLemmas.{ready-feed, none-before}
+use Rattle.rip_log.specs.Wholes.{rest_of}
+use Rattle.rip_log.proofs.WholeLemmas.{none_left}
 use Rattle.rip_log.proofs.window.Window.take_line.Goals as goal
 
 pub invariant_of-self : goal.invariant_of-self
@@ -12,22 +14,26 @@ invariant_of-self g c =
     record { ordered = omega (arith, end.0.inside, len); within = w.within; room = w.room }
 
 pub returns-in-Feed-clause-cut : goal.returns-in-Feed-clause-cut
-returns-in-Feed-clause-cut g c =
+returns-in-Feed-clause-cut g c = λ whole begins.
     let w = c.find_end.new.self in
-    feed-cut _ _ w.buffer.items w.start w.end c.in-Feed.at w.ordered (omega (arith, w.within, w.room, w.buffer.ok.0)) c.find_end.ensures.text (rw c.in-Feed.is at c.in_ok-at.ensures.end).0
+    let rest = rest_of g.R.Source.given whole in
+    feed-cut (text rest c.args.self.now) (rest w.source) w.buffer.items w.start w.end c.in-Feed.at w.ordered (omega (arith, w.within, w.room, w.buffer.ok.0)) (c.find_end.ensures.text whole begins) (rw c.in-Feed.is at c.in_ok-at.ensures.end).0
 
 pub returns-in-Last-clause-cut : goal.returns-in-Last-clause-cut
-returns-in-Last-clause-cut g c =
+returns-in-Last-clause-cut g c = λ whole begins.
     let w = c.find_end.new.self in
+    let S = g.R.Source in
+    let rest = rest_of S.given whole in
     let end = rw c.in-Last.is at c.in_ok-at.ensures.end in
     let len = length-range w.buffer.items w.start w.end w.ordered (omega (arith, w.within, w.room, w.buffer.ok.0)) in
-    last-cut _ _ _ _ (range-nothing w.buffer.items w.end) (omega (arith, len, c.requires, c.in_ok-at.ensures.more)) (g.met.R.Source.nothing_left w.source end.1) c.find_end.ensures.text end.0
+    last-cut (text rest c.args.self.now) (rest w.source) (slice_range w.buffer.items w.start w.end) (slice_range w.buffer.items w.end w.end) (range-nothing w.buffer.items w.end) (omega (arith, len, c.requires, c.in_ok-at.ensures.more)) (none_left S.given S.coming S.at_end whole w.source end.1 begins) (c.find_end.ensures.text whole begins) end.0
 
 pub returns-in-Long-clause-cut : goal.returns-in-Long-clause-cut
-returns-in-Long-clause-cut g c =
+returns-in-Long-clause-cut g c = λ whole begins.
     let w = c.find_end.new.self in
+    let rest = rest_of g.R.Source.given whole in
     let end = rw c.in-Long.is at c.in_ok-at.ensures.end in
-    long-cut _ _ _ c.find_end.ensures.text end.0 end.1
+    long-cut (text rest c.args.self.now) (rest w.source) (slice_range w.buffer.items w.start w.end) (c.find_end.ensures.text whole begins) end.0 end.1
 
 pub returns-in-Feed-clause-others : goal.returns-in-Feed-clause-others
 returns-in-Feed-clause-others g c = λ ready.

@@ -1,7 +1,7 @@
 use Rattle.std.proofs.Common.{◌++◌, refl}
 use Rattle.rip_check.specs.Tables.{Route}
 use Rattle.rip_report.specs.AuditText.{unsettled_line}
-use Rattle.rip_report.specs.ExplainText.{least_line, reading_line}
+use Rattle.rip_report.specs.ExplainText.{least_line, read_route_line}
 use Rattle.rip_report.proofs.ListingLemmas.{adds_same, adds_then}
 use Rattle.rip_report.proofs.explain.places.add_place.Goals as goal
 
@@ -19,13 +19,13 @@ returns g c =
     let direct = c.add_direct.ensures in
     let offers = c.add_offers.ensures in
     let verdict = adds_same taken broken out c.add.new.out listing c.add.new.self _ (unsettled_line n s f) c.unsettled_text.ensures c.add.ensures in
-    let reading = adds_same taken broken c.add_shown.new.out c.add-2.new.out c.add_shown.new.listing c.add-2.new.self _ (reading_line n route f.hidden) c.reading_text.ensures c.add-2.ensures in
+    let reading = adds_same taken broken c.add_shown.new.out c.add-2.new.out c.add_shown.new.listing c.add-2.new.self _ (read_route_line n route f.hidden) c.read_route_text.ensures c.add-2.ensures in
     let least = adds_same taken broken c.add_offers.new.out c.add-3.new.out c.add_offers.new.listing c.add-3.new.self _ (least_line n f.prefix c.args.least) c.least_text.ensures c.add-3.ensures in
     let from_offers = adds_then taken broken c.add_direct.new.out c.add_offers.new.out c.add-3.new.out c.add_direct.new.listing c.add_offers.new.listing c.add-3.new.self offers.0 _ offers.2 least in
     let from_direct = adds_then taken broken c.add-2.new.out c.add_direct.new.out c.add-3.new.out c.add-2.new.self c.add_direct.new.listing c.add-3.new.self direct.0 _ direct.2 from_offers in
-    let from_reading = adds_then taken broken c.add_shown.new.out c.add-2.new.out c.add-3.new.out c.add_shown.new.listing c.add-2.new.self c.add-3.new.self (reading_line n route f.hidden) _ reading from_direct in
+    let from_reading = adds_then taken broken c.add_shown.new.out c.add-2.new.out c.add-3.new.out c.add_shown.new.listing c.add-2.new.self c.add-3.new.self (read_route_line n route f.hidden) _ reading from_direct in
     let from_shown = adds_then taken broken c.add.new.out c.add_shown.new.out c.add-3.new.out c.add.new.self c.add_shown.new.listing c.add-3.new.self shown.0 _ shown.2 from_reading in (
-      unsettled_line n s f ++ (shown.0 ++ (reading_line n route f.hidden ++ (direct.0 ++ (offers.0 ++ least_line n f.prefix c.args.least)))),
+      unsettled_line n s f ++ (shown.0 ++ (read_route_line n route f.hidden ++ (direct.0 ++ (offers.0 ++ least_line n f.prefix c.args.least)))),
       record {
         shown = shown.0;
         direct = direct.0;

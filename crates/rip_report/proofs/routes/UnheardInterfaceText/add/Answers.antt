@@ -1,6 +1,6 @@
 use Rattle.std.proofs.Common.{[]}
 use Rattle.rip_report.specs.RoutesText.{heard, unheard}
-use Rattle.rip_report.specs.TableText.{unheard_line}
+use Rattle.rip_report.specs.Lines.{unheard_line}
 use Rattle.rip_report.proofs.ListingLemmas.{adds_none, adds_same}
 use Rattle.rip_report.proofs.routes.UnheardInterfaceText.add.Goals as goal
 

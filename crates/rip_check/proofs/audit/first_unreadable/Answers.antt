@@ -1,0 +1,18 @@
+use Rattle.std.proofs.Common.{◌≡◌, ◌<◌, Option, Some, None, IfSome, is_some, true, below_more, length, arith}
+use Rattle.rip_check.specs.Verdicts.{route_of}
+use Rattle.rip_check.specs.declared.routes.Reading.{Reading}
+use Rattle.rip_check.proofs.Readable.{fits_readable}
+use Rattle.rip_check.proofs.audit.first_unreadable.Goals as goal
+
+of_some : {P : Reading → Type 0} {Q : Type 0} (o : Option Reading) → IfSome o P → is_some o ≡ true → ((t : Reading) → P t → Q) → Q
+of_some None h e then = absurd cc
+of_some (Some t) h e then = then t h
+
+pub loop-router-preserved : goal.loop-router-preserved
+loop-router-preserved g c =
+    let n = c.args.plan.now in
+    let shown = (g.T.MetricTable.state c.args.table.now) in
+    let r = c.loop-router.router in
+    let known : r < length n.routers = omega (arith, c.loop-router-test.true, c.requires.known) in
+    below_more _ _ c.loop-router.invariant (of_some c.read.result c.read.ensures.fits c.if-is_none.ensures
+    (λ t fits. fits_readable n c.lawful.ensures shown c.in_range.ensures r c.args.prefix (route_of t) known fits))

@@ -1,0 +1,50 @@
+//! The reader beneath a source.
+
+ghost use Rattle.std.specs.Prelude.{◌≡◌, ◌++◌, [], ◌∷◌};
+ghost use Rattle.std.specs.Io.{ReadsAtMost};
+ghost use Rattle.std.specs.Io.KnownBytes.{ReadConsumes};
+ghost use Rattle.rip_log.specs.Outcomes.{outcome_of};
+
+use crate::device::Failed;
+use crate::history::History;
+use std::io::Read;
+
+/// A reader, and the history of its reads.
+#[derive(Drop)]
+pub struct NotedReader<R> {
+    pub reader: R,
+    pub history: History,
+}
+
+impl<R: Read> NotedReader<R> {
+    /// A reader that was not asked yet.
+    pub fn new(reader: R) -> NotedReader<R>
+        ensures reader { result.reader ≡ reader }
+        ensures history { result.history.outcomes ≡ [] }
+    {
+        NotedReader {
+            reader,
+            history: History::new(),
+        }
+    }
+
+    /// Reads once, and notes what came, or that the read failed.
+    pub fn read(&mut self, buffer: &mut [u8]) -> Result<usize, Failed>
+        ensures noted { self.new.history.outcomes
+            ≡ self.old.history.outcomes ++ outcome_of result buffer.new ∷ [] }
+        ensures bound { ReadsAtMost result buffer.new }
+        ensures bytes { ReadConsumes (R.remaining self.old.reader) (R.remaining self.new.reader)
+            result buffer.new }
+    {
+        match self.reader.read(buffer) {
+            Ok(count) => {
+                self.history.note(&buffer[..count]);
+                Ok(count)
+            }
+            Err(_) => {
+                self.history.note_failure();
+                Err(Failed)
+            }
+        }
+    }
+}

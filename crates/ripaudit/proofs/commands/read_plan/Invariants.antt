@@ -1,0 +1,11 @@
+use Rattle.std.proofs.Common.{◌≡◌, ◌++◌, ◌-◌, length}
+use Rattle.ripaudit.proofs.commands.read_plan.Given as goal
+
+abbrev pub invariant-pieces : goal.invariant-pieces
+invariant-pieces g l = record {
+  given : g.R.Source.given l.file ≡ g.R.Source.given l.fn.file ++ l.bytes.items;
+  room : length l.piece.items ≡ 4096;
+}
+
+abbrev pub decreases-pieces : goal.decreases-pieces
+decreases-pieces g l = 1048577 - length l.bytes.items

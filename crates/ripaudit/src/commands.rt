@@ -1,0 +1,153 @@
+//! The commands that the words may ask for, and what each of them runs.
+
+ghost use Rattle.std.specs.Prelude.{◌≡◌, ◌≢◌, ◌⊎◌, ◌<◌, ◌↔◌, ◌++◌, ℕ, List, Bool, Option, Some, None, Ok, Err, true, codes, length, IfOk};
+ghost use Rattle.rip_plan.specs.Network.{Network};
+ghost use Rattle.rip_log.specs.Wholes.{Went};
+ghost use Rattle.rip_table.specs.State.{State};
+ghost use Rattle.rip_check.specs.Laws.{ShowsRightTables};
+ghost use Rattle.rip_check.specs.Walks.{PacketsArrive};
+ghost use Rattle.rip_report.specs.AuditText.{VerdictText};
+ghost use Rattle.rip_report.specs.Given.{IsGiven};
+ghost use Rattle.rip_report.specs.ReportText.{IsAccepted};
+ghost use Rattle.rip_report.specs.Sent.{Prints, Reads, WentOut};
+ghost use Rattle.ripaudit.specs.CommandText.{LogCommandText, PlanCommandText};
+
+use rip_log::{Failed, Sink, Source};
+use rip_plan::MOST_PLAN_BYTES;
+use rip_report::{
+    RunError, Status, run_audit, run_expect, run_explain, run_plan, run_routes, run_table,
+    run_whatif,
+};
+use std::alloc::Global;
+use std::hash::BuildHasher;
+
+/// The bytes that are pulled at once from the file of a plan.
+const PIECE_LEN: usize = 4_096;
+
+/// The commands that read a plan alone.
+#[derive(Clone, Copy)]
+pub(crate) enum PlanCommand {
+    /// The parts of the plan.
+    Plan,
+    /// Its right routes.
+    Expect,
+    /// What each failure would cost, with a line for each pair that is lost and each prefix that is
+    /// gone where all are asked for.
+    WhatIf { all: bool },
+}
+
+/// The commands that read a log.
+#[derive(Clone, Copy)]
+pub(crate) enum LogCommand {
+    /// The verdict, with a line for each place that does not hold where all are asked for.
+    Audit { all: bool },
+    /// The verdict and what it comes from, for the first place that does not hold or for all.
+    Explain { all: bool },
+    /// The routes.
+    Routes,
+    /// The table.
+    Table,
+}
+
+/// The command of that name that reads a plan alone, with all that is lost where it is asked for.
+pub(crate) fn plan_command(word: &str, all: bool) -> Option<PlanCommand>
+    ensures plan { (result ≡ Some PlanCommand.Plan) ↔ (word.now ≡ codes "plan") }
+    ensures expect { (result ≡ Some PlanCommand.Expect) ↔ (word.now ≡ codes "expect") }
+    ensures whatif { (result ≡ Some (PlanCommand.WhatIf all)) ↔ (word.now ≡ codes "whatif") }
+{
+    match word {
+        "plan" => Some(PlanCommand::Plan),
+        "expect" => Some(PlanCommand::Expect),
+        "whatif" => Some(PlanCommand::WhatIf { all }),
+        _ => None,
+    }
+}
+
+/// The command of that name that reads a log, with all places where these are asked for.
+pub(crate) fn log_command(word: &str, all: bool) -> Option<LogCommand>
+    ensures audit { (result ≡ Some (LogCommand.Audit all)) ↔ (word.now ≡ codes "audit") }
+    ensures explain { (result ≡ Some (LogCommand.Explain all)) ↔ (word.now ≡ codes "explain") }
+    ensures routes { (result ≡ Some LogCommand.Routes) ↔ (word.now ≡ codes "routes") }
+    ensures table { (result ≡ Some LogCommand.Table) ↔ (word.now ≡ codes "table") }
+{
+    match word {
+        "audit" => Some(LogCommand::Audit { all }),
+        "explain" => Some(LogCommand::Explain { all }),
+        "routes" => Some(LogCommand::Routes),
+        "table" => Some(LogCommand::Table),
+        _ => None,
+    }
+}
+
+/// All bytes of a plan's file, or the first of them where there are more than a plan may have.
+pub(crate) fn read_plan<R: Source>(alloc: Global, file: &mut R) -> Result<Vec<u8>, RunError>
+    ensures given { IfOk result (λ bytes. R.given file.new ≡ R.given file.old ++ bytes.items) }
+    ensures whole { IfOk result (λ bytes.
+        (R.at_end file.new ≡ true) ⊎ (MOST_PLAN_BYTES < length bytes.items)) }
+    ensures read { result ≡ Err RunError.Read → R.broken file.new ≡ true }
+    ensures write { result ≢ Err RunError.Write }
+{
+    let mut bytes = Vec::new(alloc);
+    let Ok(mut piece) = vec![in alloc; 0u8; PIECE_LEN] else {
+        return Err(RunError::Memory);
+    };
+    'pieces: while bytes.len() <= MOST_PLAN_BYTES {
+        let Ok(count) = file.pull(piece.as_mut_slice()) else {
+            return Err(RunError::Read);
+        };
+        if count == 0 {
+            return Ok(bytes);
+        }
+        if bytes.extend_from_slice(&piece.as_slice()[..count]).is_err() {
+            return Err(RunError::Memory);
+        }
+    }
+    Ok(bytes)
+}
+
+/// Runs a command on the bytes of a plan.
+pub(crate) fn run_on_plan<K: Sink>(
+    alloc: Global,
+    command: PlanCommand,
+    plan: &[u8],
+    out: &mut K,
+) -> Result<Status, RunError>
+    ensures prints { Prints K.taken K.broken out.old out.new result
+        (PlanCommandText command plan.now) }
+    ensures read { result ≢ Err RunError.Read }
+{
+    match command {
+        PlanCommand::Plan => run_plan(alloc, plan, out),
+        PlanCommand::Expect => run_expect(alloc, plan, out),
+        PlanCommand::WhatIf { all } => run_whatif(alloc, plan, out, all),
+    }
+}
+
+/// Runs a command on the bytes of a plan and on a log. The source comes back.
+pub(crate) fn run_on_log<R: Source, K: Sink, S: BuildHasher + Drop>(
+    alloc: Global,
+    command: LogCommand,
+    plan: &[u8],
+    log: R,
+    out: &mut K,
+    hasher: S,
+) -> (R, Result<Status, RunError>)
+    ensures prints { (text : List ℕ) → IsGiven R.given R.at_end log result.0 text →
+        Prints K.taken K.broken out.old out.new result.1 (LogCommandText command plan.now text) }
+    ensures reads { Reads R.broken R.at_end log result.0 result.1 }
+    ensures went { Went R.given R.coming R.at_end log result.0 }
+    // `audit` answers Settled exactly where the log shows right tables, and then packets arrive.
+    ensures headline { (all : Bool) → command ≡ LogCommand.Audit all →
+        (text : List ℕ) → IsGiven R.given R.at_end log result.0 text →
+        (n : Network) (s : State) → IsAccepted plan.now text n s →
+        IfOk result.1 (λ status. ((status ≡ Status.Settled) ↔ ShowsRightTables n s)
+        × (status ≡ Status.Settled → PacketsArrive n s)
+        × WentOut (VerdictText n s all) (K.taken out.old) (K.taken out.new) status) }
+{
+    match command {
+        LogCommand::Audit { all } => run_audit(alloc, plan, log, out, all, hasher),
+        LogCommand::Explain { all } => run_explain(alloc, plan, log, out, all, hasher),
+        LogCommand::Routes => run_routes(alloc, plan, log, out, hasher),
+        LogCommand::Table => run_table(alloc, plan, log, out, hasher),
+    }
+}
