@@ -43,11 +43,7 @@ fn all_word<'a>(alloc: Global, help: &'a str) -> Arg<'a> {
 }
 
 /// A command that reads a plan.
-fn on_plan<'a>(
-    alloc: Global,
-    name: &'a str,
-    about: &'a str,
-) -> Result<Command<'a>, AllocError> {
+fn on_plan<'a>(alloc: Global, name: &'a str, about: &'a str) -> Result<Command<'a>, AllocError> {
     Command::new(alloc, name).about(about).arg(plan_word(alloc))
 }
 
@@ -62,11 +58,7 @@ fn on_plan_with_all<'a>(
 }
 
 /// A command that reads a plan and a log.
-fn on_log<'a>(
-    alloc: Global,
-    name: &'a str,
-    about: &'a str,
-) -> Result<Command<'a>, AllocError> {
+fn on_log<'a>(alloc: Global, name: &'a str, about: &'a str) -> Result<Command<'a>, AllocError> {
     on_plan(alloc, name, about)?.arg(log_word(alloc))
 }
 
@@ -110,7 +102,10 @@ fn commands<'a>(alloc: Global) -> Result<Command<'a>, AllocError> {
     let explain = "Tells the verdict of audit, and what it comes from";
     let of_each =
         "Tell of each place that does not hold or cannot be read, or of each interface not heard";
-    let ripaudit = add(ripaudit, on_log_with_all(alloc, "explain", explain, of_each));
+    let ripaudit = add(
+        ripaudit,
+        on_log_with_all(alloc, "explain", explain, of_each),
+    );
     let routes = "Prints the routes that a log shows";
     let ripaudit = add(ripaudit, on_log(alloc, "routes", routes));
     let table = "Prints what each interface of a plan shows in a log";
