@@ -1,6 +1,6 @@
 //! The reader beneath a source.
 
-ghost use Rattle.std.specs.Prelude.{◌≡◌, ◌++◌, [], ◌∷◌};
+ghost use Rattle.std.specs.Prelude.{◌≡◌, ◌<◌, ◌++◌, [], ◌∷◌, length};
 ghost use Rattle.std.specs.Io.{ReadsAtMost};
 ghost use Rattle.std.specs.Io.KnownBytes.{ReadConsumes};
 ghost use Rattle.rip_log.specs.Outcomes.{outcome_of};
@@ -28,8 +28,10 @@ impl<R: Read> NotedReader<R> {
         }
     }
 
-    /// Reads once, and notes what came, or that the read failed.
+    /// Reads once into room for some bytes, and notes what came, or that the read failed. Without room
+    /// nothing would come, whether it is the end or not.
     pub fn read(&mut self, buffer: &mut [u8]) -> Result<usize, Failed>
+        requires room { 0 < length buffer.old }
         ensures noted { self.new.history.outcomes
             ≡ self.old.history.outcomes ++ outcome_of result buffer.new ∷ [] }
         ensures bound { ReadsAtMost result buffer.new }

@@ -1,6 +1,6 @@
 //! The writer beneath a sink.
 
-ghost use Rattle.std.specs.Prelude.{◌≡◌, ◌++◌, [], ◌∷◌};
+ghost use Rattle.std.specs.Prelude.{◌≡◌, ◌<◌, ◌++◌, [], ◌∷◌, length};
 ghost use Rattle.std.specs.Io.{WritesAtMost};
 ghost use Rattle.std.specs.Io.KnownBytes.{WriteAppends};
 ghost use Rattle.rip_log.specs.Outcomes.{outcome_of};
@@ -28,8 +28,9 @@ impl<W: Write> NotedWriter<W> {
         }
     }
 
-    /// Writes once, and notes what was taken, or that the write failed.
+    /// Writes some bytes once, and notes what was taken, or that the write failed.
     pub fn write(&mut self, bytes: &[u8]) -> Result<usize, Failed>
+        requires some { 0 < length bytes.now }
         ensures noted { self.new.history.outcomes
             ≡ self.old.history.outcomes ++ outcome_of result bytes.now ∷ [] }
         ensures bound { WritesAtMost result bytes.now }

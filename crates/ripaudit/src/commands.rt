@@ -54,6 +54,8 @@ pub(crate) fn plan_command(word: &str, all: bool) -> Option<PlanCommand>
     ensures plan { (result ≡ Some PlanCommand.Plan) ↔ (word.now ≡ codes "plan") }
     ensures expect { (result ≡ Some PlanCommand.Expect) ↔ (word.now ≡ codes "expect") }
     ensures whatif { (result ≡ Some (PlanCommand.WhatIf all)) ↔ (word.now ≡ codes "whatif") }
+    ensures no_other { word.now ≢ codes "plan" → word.now ≢ codes "expect" →
+        word.now ≢ codes "whatif" → result ≡ None }
 {
     match word {
         "plan" => Some(PlanCommand::Plan),
@@ -69,6 +71,8 @@ pub(crate) fn log_command(word: &str, all: bool) -> Option<LogCommand>
     ensures explain { (result ≡ Some (LogCommand.Explain all)) ↔ (word.now ≡ codes "explain") }
     ensures routes { (result ≡ Some LogCommand.Routes) ↔ (word.now ≡ codes "routes") }
     ensures table { (result ≡ Some LogCommand.Table) ↔ (word.now ≡ codes "table") }
+    ensures no_other { word.now ≢ codes "audit" → word.now ≢ codes "explain" →
+        word.now ≢ codes "routes" → word.now ≢ codes "table" → result ≡ None }
 {
     match word {
         "audit" => Some(LogCommand::Audit { all }),
