@@ -12,8 +12,8 @@ use std::io::Read;
 /// A reader, and the history of its reads.
 #[derive(Drop)]
 pub struct NotedReader<R> {
-    pub reader: R,
-    pub history: History,
+    reader: R,
+    history: History,
 }
 
 impl<R: Read> NotedReader<R> {
@@ -26,6 +26,13 @@ impl<R: Read> NotedReader<R> {
             reader,
             history: History::new(),
         }
+    }
+
+    /// The reader, as it stands.
+    pub fn into_reader(self) -> R
+        ensures { result ≡ self.reader }
+    {
+        self.reader
     }
 
     /// Reads once into room for some bytes, and notes what came, or that the read failed. Without room

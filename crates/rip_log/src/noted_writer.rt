@@ -12,8 +12,8 @@ use std::io::Write;
 /// A writer, and the history of its writes.
 #[derive(Drop)]
 pub struct NotedWriter<W> {
-    pub writer: W,
-    pub history: History,
+    writer: W,
+    history: History,
 }
 
 impl<W: Write> NotedWriter<W> {
@@ -26,6 +26,13 @@ impl<W: Write> NotedWriter<W> {
             writer,
             history: History::new(),
         }
+    }
+
+    /// The writer, as it stands.
+    pub fn into_writer(self) -> W
+        ensures { result ≡ self.writer }
+    {
+        self.writer
     }
 
     /// Writes some bytes once, and notes what was taken, or that the write failed.

@@ -84,7 +84,7 @@ impl<W: Write> IntoWrite<W> {
     pub fn into_writer(self) -> W
         ensures { result ≡ writer_of self }
     {
-        self.noted.writer
+        self.noted.into_writer()
     }
 }
 

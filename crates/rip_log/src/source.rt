@@ -109,7 +109,7 @@ impl<R: Read> FromRead<R> {
     pub fn into_reader(self) -> R
         ensures { result ≡ reader_of self }
     {
-        self.noted.reader
+        self.noted.into_reader()
     }
 }
 
