@@ -2,6 +2,8 @@
 
 ghost use Rattle.std.specs.Prelude.{◌≡◌, ◌≢◌, ◌⊎◌, ◌<◌, ◌↔◌, ◌++◌, ℕ, List, Bool, Option, Some, None, Ok, Err, true, codes, length, IfOk};
 ghost use Rattle.rip_plan.specs.Network.{Network};
+ghost use Rattle.rip_plan.specs.PlanFaults.{PlanFault};
+ghost use Rattle.rip_plan.specs.declared.error.PlanError.{PlanError};
 ghost use Rattle.rip_log.specs.Wholes.{Went};
 ghost use Rattle.rip_table.specs.State.{State};
 ghost use Rattle.rip_check.specs.Laws.{ShowsRightTables};
@@ -140,6 +142,9 @@ pub(crate) fn run_on_log<R: Source, K: Sink, S: BuildHasher + Drop>(
         Prints K.taken K.broken out.old out.new result.1 (LogCommandText command plan.now text) }
     ensures reads { Reads R.broken R.at_end log result.0 result.1 }
     ensures went { Went R.given R.coming R.at_end log result.0 }
+    // If the plan is refused, the log is not touched.
+    ensures untouched { (e : PlanError) → PlanFault plan.now e →
+        (result.0 ≡ log) × (result.1 ≢ Err RunError.Read) }
     // `audit` answers Settled exactly where the log shows right tables, and then packets arrive.
     ensures headline { (all : Bool) → command ≡ LogCommand.Audit all →
         (text : List ℕ) → IsGiven R.given R.at_end log result.0 text →
