@@ -1,6 +1,6 @@
 //! The commands that the words may ask for, and what each of them runs.
 
-ghost use Rattle.std.specs.Prelude.{◌≡◌, ◌≢◌, ◌⊎◌, ◌<◌, ◌↔◌, ◌++◌, ℕ, List, Bool, Option, Some, None, Ok, Err, true, codes, length, IfOk};
+ghost use Rattle.std.specs.Prelude.{◌≡◌, ◌≢◌, ◌⊎◌, ◌+◌, ◌≤◌, ◌<◌, ◌↔◌, ◌++◌, ℕ, List, Bool, Option, Some, None, Ok, Err, true, codes, length, IfOk};
 ghost use Rattle.rip_plan.specs.Network.{Network};
 ghost use Rattle.rip_plan.specs.PlanFaults.{PlanFault};
 ghost use Rattle.rip_plan.specs.declared.error.PlanError.{PlanError};
@@ -12,6 +12,7 @@ ghost use Rattle.rip_report.specs.AuditText.{VerdictText};
 ghost use Rattle.rip_report.specs.Given.{IsGiven};
 ghost use Rattle.rip_report.specs.ReportText.{IsAccepted};
 ghost use Rattle.rip_report.specs.Sent.{Prints, Reads, WentOut};
+ghost use Rattle.ripaudit.specs.declared.commands.TheConstants.{PIECE_LEN};
 ghost use Rattle.ripaudit.specs.CommandText.{LogCommandText, PlanCommandText};
 
 use rip_log::{Failed, Sink, Source};
@@ -90,6 +91,7 @@ pub(crate) fn read_plan<R: Source>(alloc: Global, file: &mut R) -> Result<Vec<u8
     ensures given { IfOk result (λ bytes. R.given file.new ≡ R.given file.old ++ bytes.items) }
     ensures whole { IfOk result (λ bytes.
         (R.at_end file.new ≡ true) ⊎ (MOST_PLAN_BYTES < length bytes.items)) }
+    ensures few { IfOk result (λ bytes. length bytes.items ≤ MOST_PLAN_BYTES + PIECE_LEN) }
     ensures read { result ≡ Err RunError.Read → R.broken file.new ≡ true }
     ensures write { result ≢ Err RunError.Write }
 {

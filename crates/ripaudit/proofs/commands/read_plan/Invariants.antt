@@ -1,10 +1,11 @@
-use Rattle.std.proofs.Common.{◌≡◌, ◌++◌, ◌-◌, length}
+use Rattle.std.proofs.Common.{◌≡◌, ◌≤◌, ◌++◌, ◌-◌, length}
 use Rattle.ripaudit.proofs.commands.read_plan.Given as goal
 
 abbrev pub invariant-pieces : goal.invariant-pieces
 invariant-pieces g l = record {
   given : g.R.Source.given l.file ≡ g.R.Source.given l.fn.file ++ l.bytes.items;
   room : length l.piece.items ≡ 4096;
+  few : length l.bytes.items ≤ 1052672;
 }
 
 abbrev pub decreases-pieces : goal.decreases-pieces
