@@ -41,7 +41,8 @@ is_alive_seat f (seats.Link l) = is_link_up f l
 is_alive_seat f (seats.Own r c kept link via) = is_router_up f r && is_any_up f link
 
 -- the network after a failure: its interfaces and places that are alive; links, routers and
--- prefixes keep their numbers
+-- prefixes keep their numbers. Further addresses stay as they were, by the numbers that the
+-- interfaces had: they are for senders, and a path reads none.
 abbrev pub network_after : Network → Failure → Network
 network_after n f = record {
   links = n.links;
