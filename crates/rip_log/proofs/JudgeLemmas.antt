@@ -1,14 +1,17 @@
 -- A line and the line without its carriage return.
-use Rattle.std.proofs.Common.{◌≡◌, ◌+◌, ◌-◌, ◌≤◌, ◌<◌, ℕ, List, length, take, drop, slice_range, Option, Some, None, Result, Ok, Err, refl, sym, ap, ◌∙◌, arith, Bool, true, false, cond}
+use Rattle.std.proofs.Common.{◌≡◌, ◌+◌, ◌-◌, ◌≤◌, ◌<◌, ℕ, List, length, take, drop, slice_range, Option, Some, None, Result, Ok, Err, IfSome, refl, sym, ap, ◌∙◌, arith, Bool, true, false, cond}
 use Rattle.std.proofs.lemmas.List.{take-take, drop-take, length-take, take_all}
 use Rattle.std.specs.Io.BufRead.{strip_last, ends_with_byte}
 use Rattle.rip_wire.specs.Name.{is_name}
 use Rattle.rip_log.specs.Fields.{fields_of}
 use Rattle.rip_log.specs.Lines.{Capture, judge, judge_short, unless_skipped}
-use Rattle.rip_log.specs.Parts.{IsSaid, AreParts, capture_of_parts}
+use Rattle.rip_log.specs.Said.{Origin, origin_by, origin_of}
+use Rattle.rip_log.specs.Parts.{IsSaid, IsFront, AreParts, capture_of_parts, origin_at}
 use Rattle.rip_log.specs.declared.error.LogCode.{LogCode}
 use Rattle.rip_log.specs.declared.error.LogCode.TheVariants.{LongLine}
 use Rattle.rip_log.specs.Spans.{slice_of}
+use Rattle.rip_log.specs.declared.line.Fault.{Fault}
+use Rattle.rip_log.specs.declared.line.Front.{Front as LineFront}
 use Rattle.rip_log.specs.declared.line.Parts.{Parts}
 
 pub judge-short : (line : List ℕ) → length line ≤ 2048 → judge line ≡ judge_short line
@@ -42,7 +45,25 @@ parts-front line front room m p fits is parts =
       record { link = record { ordered = parts.link.ordered; within = omega arith }; name = ap is_name (sym same) ∙ parts.name; count = parts.count; valid = parts.valid },
     )
 
-pub IsSaid-line : (line room : List ℕ) (r : Result (Option Parts) LogCode) → length line ≤ 2048 → IsSaid (unless_skipped (fields_of (strip_last 13 line))) (strip_last 13 line) room r → IsSaid (judge line) line room r
+-- and of its origin
+front-within : (line front : List ℕ) (m : ℕ) (f : LineFront) → m ≤ length line → front ≡ take m line → IsFront front f
+    → (slice_of front f.link ≡ slice_of line f.link) × IsFront line f
+front-within line front m f fits is at =
+    let short : f.link.to ≤ m = omega (arith, at.link.within, ap length is, length-take m line) in
+    let same : slice_of front f.link ≡ slice_of line f.link = ap (λ l. slice_of l f.link) is ∙ first-part line m f.link.from f.link.to short at.link.ordered in
+    (same, record { link = record { ordered = at.link.ordered; within = omega arith }; name = ap is_name (sym same) ∙ at.name })
+
+front-origin : (line front : List ℕ) (m : ℕ) (o : Option LineFront) → m ≤ length line → front ≡ take m line → IfSome o (IsFront front)
+    → (origin_at front o ≡ origin_at line o) × IfSome o (IsFront line)
+front-origin line front m None fits is at = (refl, tt)
+front-origin line front m (Some f) fits is at =
+    let found = front-within line front m f fits is at in
+    (ap (λ (l : List ℕ). Some (origin l f.sender)) found.0, found.1) where
+      origin : List ℕ → ℕ → Origin
+      origin l a = record { link = l; sender = a }
+
+pub IsSaid-line : (line room : List ℕ) (r : Result (Option Parts) Fault) → length line ≤ 2048
+    → IsSaid (unless_skipped (fields_of (strip_last 13 line))) (origin_by (fields_of (strip_last 13 line))) (strip_last 13 line) room r → IsSaid (judge line) (origin_of line) line room r
 unfolding Front
 IsSaid-line line room (Ok None) h said = judge-short line h ∙ said
 IsSaid-line line room (Ok (Some p)) h said =
@@ -50,4 +71,7 @@ IsSaid-line line room (Ok (Some p)) h said =
     let moved = parts-front line (strip_last 13 line) room front.0 p front.1 front.2 said.1 in
     let said_of : Capture → Result (Option Capture) LogCode = λ e. Ok (Some e) in
     (judge-short line h ∙ said.0 ∙ ap said_of moved.0, moved.1)
-IsSaid-line line room (Err code) h said = judge-short line h ∙ said
+IsSaid-line line room (Err fault) h said =
+    let front = front-of (ends_with_byte 13 line) line in
+    let moved = front-origin line (strip_last 13 line) front.0 fault.front front.1 front.2 said.front in
+    record { code = judge-short line h ∙ said.code; origin = said.origin ∙ moved.0; front = moved.1 }

@@ -34,7 +34,7 @@ HasFields-line line short = record {
   are_fields = AreFields-fields_of (strip_last 13 line);
 }
 
-fields-same : (line : List ℕ) (fields : List (List ℕ)) → HasFields line fields → fields_of (strip_last 13 line) ≡ fields
+pub fields-same : (line : List ℕ) (fields : List (List ℕ)) → HasFields line fields → fields_of (strip_last 13 line) ≡ fields
 fields-same line fields has = ap fields_of (strip_last-IsBare line has.bare has.is_bare) ∙ fields_of-AreFields has.bare fields has.are_fields
 
 -- the test of a comment

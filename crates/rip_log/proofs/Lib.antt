@@ -2,6 +2,7 @@ pub mod FieldLemmas
 pub mod LinesLemmas
 pub mod HeldLemmas
 pub mod ReadyLemmas
+pub mod SkipLemmas
 pub mod CutLemmas
 pub mod DigitLemmas
 pub mod JudgeLemmas
@@ -16,4 +17,7 @@ pub mod FollowLemmas
 pub mod PairLemmas
 pub mod WholeLemmas
 pub mod CarryLemmas
+pub mod SaidLemmas
+pub mod SaidRelations
 pub mod OutcomeLemmas
+pub mod TakenLemmas

@@ -14,10 +14,11 @@ use Rattle.rip_log.specs.Cuts.{FirstLine, LongFirst, HasLine}
 use Rattle.rip_log.specs.Fields.{fields_of, is_comment}
 use Rattle.rip_log.specs.Lines.{Capture, lines_of, judge, judge_short, unless_skipped, said_by, with_sender, capture_in, sized, checked}
 use Rattle.rip_log.specs.Logs.{Log, log_of, log_at, faulty_log, onto_log, Gives, SameLog, IfElse}
+use Rattle.rip_log.specs.Steps.{IsPastLast}
 use Rattle.rip_log.proofs.JudgeLemmas.{judge-long}
 use Rattle.rip_log.proofs.LogLemmas.{first-line, too-many}
 use Rattle.rip_log.specs.declared.error.LogCode.{LogCode}
-use Rattle.rip_log.specs.declared.error.LogCode.TheVariants.{TooManyLines, LongLine, LongDatagram, LinkName, Read}
+use Rattle.rip_log.specs.declared.error.LogCode.TheVariants.{TooManyLines, LongLine, LongDatagram, LinkName}
 use Rattle.rip_log.specs.declared.error.LogError.{LogError}
 
 pub SameLog-here : (a : Option Log) → SameLog a a
@@ -87,15 +88,15 @@ unfolding SaysLine
 says-long line true = refl
 says-long line false = says-bare (fields_of (strip_last 13 line))
 
-not-read : (line : List ℕ) (code : LogCode) → judge line ≡ Err code → is_read code ≡ false
+pub not-read : (line : List ℕ) (code : LogCode) → judge line ≡ Err code → is_read code ≡ false
 unfolding SaysLine
 not-read line code e = subst SaysLine e (says-long line (nat_lt 2048 (length line)))
 
-else-holds : (P Q : Type 0) (b : Bool) → b ≡ false → Q → IfElse b P Q
+pub else-holds : (P Q : Type 0) (b : Bool) → b ≡ false → Q → IfElse b P Q
 else-holds P Q true e q = cc e
 else-holds P Q false e q = q
 
-then-holds : (P Q : Type 0) (b : Bool) → b ≡ true → P → IfElse b P Q
+pub then-holds : (P Q : Type 0) (b : Bool) → b ≡ true → P → IfElse b P Q
 then-holds P Q true e p = p
 then-holds P Q false e p = cc e
 
@@ -116,15 +117,15 @@ module _ {X : Type 0} (view : X → Capture) (number : X → ℕ) where
   Gives-on (Some log) b c r same gives = subst (λ (x : Option Log). Gives view number x c r) same gives
 
   -- the source failed
-  pub Gives-unreadable : (a b : Option Log) (e : LogError) → e.code ≡ Read → SameLog a b → Gives view number a b (Err e)
-  Gives-unreadable None b e what same = tt
-  Gives-unreadable (Some log) b e what same = then-holds _ _ (is_read e.code) (ap is_read what) same
+  Gives-unreadable : (a b : Option Log) (e : LogError) → is_read e.code ≡ true → SameLog a b → Gives view number a b (Err e)
+  Gives-unreadable None b e read same = tt
+  Gives-unreadable (Some log) b e read same = then-holds _ _ (is_read e.code) read same
 
   -- no line is left
-  pub Gives-end : (t mid : Option (List ℕ)) (n : ℕ) → Keeps t mid → HasLine mid false → Gives view number (log_at n t) (log_at n mid) (Ok None)
-  Gives-end None mid n keeps none = tt
-  Gives-end (Some t) None n keeps none = absurd keeps
-  Gives-end (Some t) (Some m) n keeps none = (ap (λ (l : List ℕ). log_of n (lines_of l)) (sym keeps ∙ none), ap (λ (l : List ℕ). Some (log_of n (lines_of l))) none)
+  pub Gives-end : (t mid : Option (List ℕ)) (n after : ℕ) → Keeps t mid → HasLine mid false → after ≡ n → Gives view number (log_at n t) (log_at after mid) (Ok None)
+  Gives-end None mid n after keeps none same = tt
+  Gives-end (Some t) None n after keeps none same = absurd keeps
+  Gives-end (Some t) (Some m) n after keeps none same = (ap (λ (l : List ℕ). log_of n (lines_of l)) (sym keeps ∙ none), ap (λ (l : List ℕ). Some (log_of after (lines_of l))) none)
 
   -- a line is a record
   pub Gives-found : (t new : Option (List ℕ)) (n after : ℕ) (line : List ℕ) (x : X) → n < 1000000 → judge line ≡ Ok (Some (view x)) → FirstLine t new line
@@ -156,8 +157,19 @@ module _ {X : Type 0} (view : X → Capture) (number : X → ℕ) where
       bad (log_of n (lines_of t)) left (n + 1) LongLine e (ap (log_of n) long.3 ∙ first-line n long.0 long.1 (Err LongLine) few (judge-long long.0 long.2)) refl at what
 
   -- there is a line too many
-  pub Gives-many : (t mid : Option (List ℕ)) (left : Option Log) (n : ℕ) (e : LogError) → 1000000 ≤ n → Keeps t mid → HasLine mid true → e.line ≡ n + 1 → e.code ≡ TooManyLines → Gives view number (log_at n t) left (Err e)
+  Gives-many : (t mid : Option (List ℕ)) (left : Option Log) (n : ℕ) (e : LogError) → 1000000 ≤ n → Keeps t mid → HasLine mid true → e.line ≡ n + 1 → e.code ≡ TooManyLines → Gives view number (log_at n t) left (Err e)
   Gives-many None mid left n e many keeps some at what = tt
   Gives-many (Some t) None left n e many keeps some at what = absurd keeps
   Gives-many (Some t) (Some m) left n e many keeps some at what =
       bad (log_of n (lines_of t)) left (n + 1) TooManyLines e (ap (λ (l : List ℕ). log_of n (lines_of l)) (sym keeps) ∙ ap (log_of n) some.2 ∙ too-many n some.0 some.1 many) refl at what
+
+  failed-by : (t new : Option (List ℕ)) (n : ℕ) (e : LogError) (x : Bool) → is_read e.code ≡ x → IfElse x (Keeps t new) (IsPastLast t new n e.code) → e.line ≡ n + 1
+      → Gives view number (log_at n t) (log_at n new) (Err e)
+  failed-by t new n e true read says at = Gives-unreadable (log_at n t) (log_at n new) e read (SameLog-kept t new n says)
+  failed-by t new n e false read says at = Gives-many t new (log_at n new) n e says.2 says.0 says.1 at says.3
+
+  -- the source failed, or there is a line too many
+  pub Gives-failed : (t new : Option (List ℕ)) (n after : ℕ) (e : LogError) → IfElse (is_read e.code) (Keeps t new) (IsPastLast t new n e.code) → e.line ≡ after + 1 → after ≡ n
+      → Gives view number (log_at n t) (log_at after new) (Err e)
+  Gives-failed t new n after e says at same =
+      subst (λ (k : ℕ). Gives view number (log_at n t) (log_at k new) (Err e)) (sym same) (failed-by t new n e (is_read e.code) refl says (at ∙ ap (λ k. k + 1) same))

@@ -1,9 +1,10 @@
 -- What taking the first line off a text leaves.
 use Rattle.std.specs.Prelude.{◌≡◌, ◌<◌, ◌≤◌, ◌+◌, ℕ, Bool, true, false, List, [], ◌∷◌, ◌++◌, Option, Some, None, length}
-use Rattle.rip_log.specs.Held.{ready_lines}
+use Rattle.std.specs.Io.KnownBytes.{Keeps}
+use Rattle.rip_log.specs.Held.{ended_lines, ready_lines}
 use Rattle.rip_log.specs.Lines.{lines_of}
 use Rattle.rip_log.specs.Spans.{IsWithin, slice_of}
-use Rattle.rip_log.specs.declared.limits.TheConstants.{MOST_LINE_BYTES}
+use Rattle.rip_log.specs.declared.limits.TheConstants.{MOST_LINE_BYTES, MOST_PASSED_BYTES}
 use Rattle.rip_log.specs.declared.window.RawLine.{RawLine}
 use Rattle.rip_log.specs.declared.window.RawLine.TheVariants.{Line, Long}
 
@@ -26,10 +27,21 @@ LongFirst (Some t) =
     (line : List ℕ) × (rest : List (List ℕ))
     × (MOST_LINE_BYTES < length line) × (lines_of t ≡ line ∷ rest)
 
--- the line was taken off the text; items is the buffer then
+-- known text begins with a line, and goes on with what is left
+abbrev pub DropsFirst : Option (List ℕ) → Option (List ℕ) → Type 0
+DropsFirst t left = (line : List ℕ) × FirstLine t left line
+
+-- known text begins with a line of more bytes than are passed over
+abbrev pub IsEndless : Option (List ℕ) → Type 0
+IsEndless None = Unit {0}
+IsEndless (Some t) =
+    (line : List ℕ) × (rest : List (List ℕ))
+    × (MOST_PASSED_BYTES < length line) × (lines_of t ≡ line ∷ rest)
+
+-- the line was taken off the text, or is too long and still there; items is the buffer then
 abbrev pub Cuts : Option (List ℕ) → Option (List ℕ) → List ℕ → RawLine → Type 0
 Cuts old new items (Line span) = FirstLine old new (slice_of items span)
-Cuts old new items Long = LongFirst old
+Cuts old new items Long = LongFirst old × Keeps old new
 
 -- where the line lies
 abbrev pub LiesWithin : ℕ → RawLine → Type 0
@@ -40,6 +52,11 @@ LiesWithin n Long = Unit {0}
 abbrev pub TakesReady : List ℕ → List ℕ → RawLine → Type 0
 TakesReady old new (Line span) = ready_lines old ≡ ready_lines new + 1
 TakesReady old new Long = Unit {0}
+
+-- one of the lines that a line feed ends was taken, and the others are there still
+abbrev pub TakesEnded : List ℕ → List ℕ → RawLine → Type 0
+TakesEnded old new (Line span) = ended_lines old ≡ ended_lines new + 1
+TakesEnded old new Long = new ≡ old
 
 -- these many lines of known text, of which n others come before, were passed
 abbrev pub PassesLines : Option (List ℕ) → ℕ → Option (List ℕ) → ℕ → Type 0

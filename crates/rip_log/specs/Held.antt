@@ -22,3 +22,8 @@ ready_behind n (b ∷ bytes) =
 -- after them that is too long already
 abbrev pub ready_lines : List ℕ → ℕ
 ready_lines bytes = ready_behind 0 bytes
+
+-- how many lines a line feed ends in these bytes
+abbrev pub ended_lines : List ℕ → ℕ
+ended_lines [] = 0
+ended_lines (b ∷ bytes) = if b == 10 then ended_lines bytes + 1 else ended_lines bytes

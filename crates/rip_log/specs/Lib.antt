@@ -2,9 +2,11 @@ pub mod Codes
 pub mod Cuts
 pub mod Ends
 pub mod Fields
+pub mod FoundLines
 pub mod Gave
 pub mod Held
 pub mod Leaves
+pub mod LeavesLine
 pub mod Lines
 pub mod LogText
 pub mod Logs
@@ -14,7 +16,9 @@ pub mod Pairs
 pub mod Parts
 pub mod Readers
 pub mod Runs
+pub mod Said
 pub mod Spans
 pub mod Steps
+pub mod Taken
 pub mod Wholes
 pub mod Writers

@@ -1,18 +1,26 @@
 -- What one line does to a reader, and the record that is found in it.
-use Rattle.std.specs.Prelude.{◌≡◌, ◌+◌, ◌<◌, ℕ, Bool, true, false, List, Option, Some, None, Result, Ok, Err, IfErr, is_err, vec_len}
-use Rattle.rip_log.specs.Held.{held, ready_lines}
-use Rattle.rip_log.specs.Cuts.{PassesLines}
-use Rattle.rip_log.specs.Leaves.{source_of, log_to_come, lines_behind, last_ready, text, has_stopped, is_refused, is_unreadable}
-use Rattle.rip_log.specs.Wholes.{OfWhole, Went}
-use Rattle.rip_log.specs.Lines.{Capture}
-use Rattle.rip_log.specs.Logs.{Gives, SameLog}
-use Rattle.rip_log.specs.Parts.{AreParts, capture_of_parts}
+use Rattle.std.specs.Prelude.{◌≡◌, ◌⊎◌, ◌+◌, ◌<◌, ◌≤◌, ℕ, Bool, true, false, List, Option, Some, None, Result, Ok, Err, IfErr, IfSome, is_err, vec_len, length}
+use Rattle.std.specs.Io.KnownBytes.{Keeps}
+use Rattle.rip_log.specs.Codes.{is_read}
+use Rattle.rip_log.specs.Said.{Origin, origin_of}
+use Rattle.rip_log.specs.Held.{ended_lines, held, ready_lines}
+use Rattle.rip_log.specs.Cuts.{FirstLine, HasLine, LongFirst}
+use Rattle.rip_log.specs.Leaves.{source_of, lines_behind, last_ready, text, has_stopped, is_unreadable}
+use Rattle.rip_log.specs.LeavesLine.{last_ended}
+use Rattle.rip_log.specs.Wholes.{Went}
+use Rattle.rip_log.specs.Lines.{Capture, judge}
+use Rattle.rip_log.specs.Logs.{IfElse}
+use Rattle.rip_log.specs.Parts.{AreParts, IsFront, capture_of_parts, origin_at}
 use Rattle.rip_log.specs.Spans.{IsWithin, slice_of}
+use Rattle.rip_log.specs.declared.error.LogCode.{LogCode}
+use Rattle.rip_log.specs.declared.error.LogCode.TheVariants.{Read, TooManyLines}
 use Rattle.rip_log.specs.declared.error.LogError.{LogError}
+use Rattle.rip_log.specs.declared.limits.TheConstants.{MOST_LINES}
+use Rattle.rip_log.specs.declared.reader.FoundFault.{FoundFault}
 use Rattle.rip_log.specs.declared.reader.FoundRecord.{FoundRecord}
 use Rattle.rip_log.specs.declared.reader.LogReader.{LogReader}
 use Rattle.rip_log.specs.declared.reader.Step.{Step}
-use Rattle.rip_log.specs.declared.reader.Step.TheVariants.{Skipped, Found, End}
+use Rattle.rip_log.specs.declared.reader.Step.TheVariants.{Skipped, Found, Bad, Long, End}
 
 -- the line of the record
 abbrev pub line_at : {R : Type 0} → LogReader R → FoundRecord → List ℕ
@@ -27,29 +35,61 @@ pub record IsGood {R : Type 0} (reader : LogReader R) (found : FoundRecord) : Ty
   pub line : IsWithin (vec_len reader.window.buffer) found.line
   pub parts : AreParts (line_at reader found) reader.room found.parts
 
--- what a line takes off the log to come
-abbrev pub GivesFound : {R : Type 0} → (R → Option (List ℕ)) → LogReader R → LogReader R →
-    Result (Option FoundRecord) LogError → Type 0
-GivesFound coming old new result =
-    Gives (capture_at new) (λ _. lines_behind new)
-    (log_to_come coming old) (log_to_come coming new) result
+-- the line that is bad
+abbrev pub bad_line_at : {R : Type 0} → LogReader R → FoundFault → List ℕ
+bad_line_at reader found = slice_of reader.window.buffer.items found.line
 
--- one line was taken off the log to come: it said nothing, or it is the next record, or there is
--- none
+-- the origin of a line that is bad
+abbrev pub origin_found : {R : Type 0} → LogReader R → FoundFault → Option Origin
+origin_found reader found = origin_at (bad_line_at reader found) found.fault.front
+
+-- the bad line lies in the reader
+pub record IsGoodFault {R : Type 0} (reader : LogReader R) (found : FoundFault) : Type 0 where
+  pub line : IsWithin (vec_len reader.window.buffer) found.line
+  pub front : IfSome found.fault.front (IsFront (bad_line_at reader found))
+  pub code : is_read found.fault.code ≡ false
+
+-- a line was taken off known text, and is judged so
+abbrev pub TakesLine : Option (List ℕ) → Option (List ℕ) → Result (Option Capture) LogCode → Type 0
+TakesLine old new judged = (line : List ℕ) × FirstLine old new line × (judge line ≡ judged)
+
+-- a line was taken off known text, and is bad by this code, with this origin
+abbrev pub TakesBad : Option (List ℕ) → Option (List ℕ) → LogCode → Option Origin → Type 0
+TakesBad old new code origin =
+    (line : List ℕ) × FirstLine old new line
+    × (judge line ≡ Err code) × (origin_of line code ≡ origin)
+
+-- there is a line after as many as are read
+abbrev pub IsPastLast : Option (List ℕ) → Option (List ℕ) → ℕ → LogCode → Type 0
+IsPastLast old new n code =
+    Keeps old new × HasLine new true × (MOST_LINES ≤ n) × (code ≡ TooManyLines)
+
+-- what a step does to the text to come: a line was taken off it, or is too long and still there; or
+-- there is none, or the source failed, or there are too many
 abbrev pub LineSays : {R : Type 0} → (R → Option (List ℕ)) →
     LogReader R → LogReader R → Result Step LogError → Type 0
-LineSays coming old new (Ok Skipped) =
-    SameLog (log_to_come coming old) (log_to_come coming new)
-LineSays coming old new (Ok (Found found)) = GivesFound coming old new (Ok (Some found))
-LineSays coming old new (Ok End) = GivesFound coming old new (Ok None)
-LineSays coming old new (Err e) = GivesFound coming old new (Err e)
+LineSays coming old new (Ok Skipped) = TakesLine (text coming old) (text coming new) (Ok None)
+LineSays coming old new (Ok (Found found)) =
+    TakesLine (text coming old) (text coming new) (Ok (Some (capture_at new found)))
+LineSays coming old new (Ok (Bad found)) =
+    TakesBad (text coming old) (text coming new) found.fault.code (origin_found new found)
+LineSays coming old new (Ok Long) =
+    LongFirst (text coming old) × Keeps (text coming old) (text coming new)
+LineSays coming old new (Ok End) =
+    Keeps (text coming old) (text coming new) × HasLine (text coming new) false
+LineSays coming old new (Err e) =
+    IfElse (is_read e.code) (Keeps (text coming old) (text coming new))
+    (IsPastLast (text coming old) (text coming new) (lines_behind old) e.code)
 
--- a record that was found lies in the reader
+-- a line that was found lies in the reader, and an error is one of these
 abbrev pub FoundIsGood : {R : Type 0} → LogReader R → Result Step LogError → Type 0
 FoundIsGood new (Ok Skipped) = Unit {0}
 FoundIsGood new (Ok (Found found)) = IsGood new found
+FoundIsGood new (Ok (Bad found)) = IsGoodFault new found
+FoundIsGood new (Ok Long) = 0 < length (held new.window)
 FoundIsGood new (Ok End) = Unit {0}
-FoundIsGood new (Err e) = Unit {0}
+FoundIsGood new (Err e) =
+    (e.code ≡ Read) ⊎ ((e.code ≡ TooManyLines) × (e.line ≡ MOST_LINES + 1))
 
 -- how a line moves a reader on
 pub record Moves {R A : Type 0} (given : R → List ℕ) (coming : R → Option (List ℕ))
@@ -59,31 +99,53 @@ pub record Moves {R A : Type 0} (given : R → List ℕ) (coming : R → Option 
   -- the code Read only where the source failed; every other outcome leaves its mark
   pub failed : is_unreadable result ≡ true → broken (source_of new) ≡ true
   pub marks : is_unreadable result ≡ false → broken (source_of new) ≡ broken (source_of old)
-  -- the lines behind are those that were passed, and an error is at the line after them
-  pub passed : is_refused result ≡ false →
-      OfWhole given at_end (source_of new) (λ coming.
-      PassesLines (text coming old) (lines_behind old) (text coming new) (lines_behind new))
+  -- an error is at the line after those behind
   pub here : IfErr result (λ e. e.line ≡ lines_behind new + 1)
   pub stopped : has_stopped new ≡ is_err result
   -- past its end the source stays as it is
   pub unpulled : at_end (source_of old) ≡ true → source_of new ≡ source_of old
 
--- how many lines a step takes
+-- how many lines a step counts
 abbrev pub lines_taken : Result Step LogError → ℕ
 lines_taken (Ok Skipped) = 1
 lines_taken (Ok (Found found)) = 1
+lines_taken (Ok (Bad found)) = 0
+lines_taken (Ok Long) = 0
 lines_taken (Ok End) = 0
 lines_taken (Err e) = 0
+
+-- a step came to a line that is read
+abbrev pub is_line : Result Step LogError → Bool
+is_line (Ok Skipped) = true
+is_line (Ok (Found found)) = true
+is_line (Ok (Bad found)) = true
+is_line (Ok Long) = true
+is_line (Ok End) = false
+is_line (Err e) = false
 
 -- where a line was ready it was taken, or it is bad, and the others are ready still
 abbrev pub TakesOne : {R : Type 0} → LogReader R → LogReader R → Result Step LogError → Type 0
 TakesOne old new (Ok Skipped) = last_ready new ≡ last_ready old
 TakesOne old new (Ok (Found found)) = last_ready new ≡ last_ready old
+TakesOne old new (Ok (Bad found)) = Unit {0}
+TakesOne old new (Ok Long) = Unit {0}
 TakesOne old new (Ok End) = ⊥
 TakesOne old new (Err e) = Unit {0}
+
+-- where a line feed ends a line it was taken, or it is too long, and the others are there still
+abbrev pub TakesOneEnded : {R : Type 0} → LogReader R → LogReader R → Result Step LogError → Type 0
+TakesOneEnded old new (Ok Skipped) = last_ended new ≡ last_ended old
+TakesOneEnded old new (Ok (Found found)) = last_ended new ≡ last_ended old
+TakesOneEnded old new (Ok (Bad found)) = last_ended new + 1 ≡ last_ended old
+TakesOneEnded old new (Ok Long) = held new.window ≡ held old.window
+TakesOneEnded old new (Ok End) = ⊥
+TakesOneEnded old new (Err e) = Unit {0}
 
 -- how a step moves on, and that it leaves the source as it is where a line is ready
 pub record StepsOn {R : Type 0} (old new : LogReader R) (result : Result Step LogError) : Type 0 where
   pub behind : lines_behind new ≡ lines_behind old + lines_taken result
+  pub few : is_line result ≡ true → lines_behind old < MOST_LINES
   pub unpulled : 0 < ready_lines (held old.window) → source_of new ≡ source_of old
   pub takes : 0 < ready_lines (held old.window) → TakesOne old new result
+  pub ended : 0 < ended_lines (held old.window) → source_of new ≡ source_of old
+  pub takes_ended : 0 < ended_lines (held old.window) → TakesOneEnded old new result

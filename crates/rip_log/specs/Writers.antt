@@ -1,6 +1,7 @@
 -- What an `IntoWrite` stands for.
 use Rattle.std.specs.Prelude.{Bool, ℕ, List, Option}
 use Rattle.rip_log.specs.Outcomes.{Outcome, moved}
+use Rattle.rip_log.specs.Taken.{Taken}
 use Rattle.rip_log.specs.declared.sink.IntoWrite.{IntoWrite}
 
 -- the writer beneath
@@ -15,10 +16,7 @@ has_failed s = s.failed
 abbrev pub writes_of : {W : Type 0} → IntoWrite W → List Outcome
 writes_of s = s.noted.history.outcomes
 
--- the bytes that it has taken
-abbrev pub taken_by : {W : Type 0} → IntoWrite W → List ℕ
-taken_by s = moved (writes_of s)
-
--- what the writer beneath holds, where `contents` says what a writer holds
-abbrev pub held_by : {W : Type 0} → (W → Option (List ℕ)) → IntoWrite W → Option (List ℕ)
-held_by contents s = contents s.noted.writer
+-- the bytes that it has taken, and what the writer beneath holds, where `contents` says what a writer
+-- holds
+abbrev pub taken_by : {W : Type 0} → (W → Option (List ℕ)) → IntoWrite W → Taken
+taken_by contents s = record { bytes = moved (writes_of s); beneath = contents (writer_of s) }

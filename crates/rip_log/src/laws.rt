@@ -4,6 +4,7 @@
 ghost use Rattle.std.specs.Prelude.{◌≡◌, ◌⊎◌, ◌↔◌, ◌+◌, ◌≤◌, ℕ, List, [], ◌∷◌, ◌++◌, length, Option, Some, None, Result, Ok, Err, false, true};
 ghost use Rattle.rip_log.specs.Codes.{is_read};
 ghost use Rattle.rip_log.specs.Cuts.{PassesLines};
+ghost use Rattle.rip_log.specs.Said.{AllSaid, AreAllSaid, HasNoFault, all_said, captured_all, said_at};
 ghost use Rattle.rip_log.specs.Leaves.{capture_of, line_of};
 ghost use Rattle.rip_log.specs.Lines.{Capture, judge};
 ghost use Rattle.rip_log.specs.Logs.{Gives, Log, Numbered, log_at, log_in};
@@ -45,6 +46,27 @@ pub fn log_texts()
 {
     judged_lines();
 }
+
+/// What all lines of a text say is what the words of the format say: each that is not skipped is a
+/// record, or is bad, and of a bad datagram its link and sender are told.
+pub fn said_lines()
+    ensures { (text : List ℕ) (all : AllSaid) → (all_said text ≡ all) ↔ AreAllSaid text all }
+{
+    judged_lines();
+    laws::address_texts();
+}
+
+/// Lines say records alone, and are not too many, exactly where they are a log without a fault, and
+/// then its records.
+pub fn good_lines()
+    ensures log { (n : ℕ) (text : List ℕ) (records : List Numbered) →
+        (log_at n (Some text) ≡ Some (record { records = records; fault = None }))
+        ↔ (said_at n (Some text)
+        ≡ Some (record { said = captured_all records; too_many = false })) }
+    ensures records { (all : AllSaid) → HasNoFault all
+        ↔ ((records : List Numbered)
+        × (all ≡ record { said = captured_all records; too_many = false })) }
+{}
 
 /// A line's fault is the same whatever follows the line, and that of a line that is too long, or one
 /// too many, whatever else follows.

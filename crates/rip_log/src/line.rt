@@ -1,8 +1,9 @@
 //! What one line says.
 
-ghost use Rattle.std.specs.Prelude.{◌≡◌, ◌≤◌, length};
+ghost use Rattle.std.specs.Prelude.{◌≡◌, ◌≤◌, [], ◌∷◌, length, Some, None, if◌then◌else◌};
 ghost use Rattle.std.specs.Io.BufRead.{strip_last};
 ghost use Rattle.rip_log.specs.Fields.{fields_of};
+ghost use Rattle.rip_log.specs.Said.{is_of_datagram, origin_by, origin_of};
 ghost use Rattle.rip_log.specs.Lines.{judge, three_fields, unless_skipped};
 ghost use Rattle.rip_log.specs.Parts.{IsSaid};
 ghost use Rattle.rip_log.specs.Spans.{IsWithin, slice_of};
@@ -23,6 +24,47 @@ pub struct Parts {
     pub count: usize,
 }
 
+/// The front of a line whose first two fields are good: where the link's name lies, and the sender.
+#[derive(Clone, Copy)]
+pub struct Front {
+    pub link: Span,
+    pub sender: Address,
+}
+
+/// Why a line is bad, and its front where that is by its datagram alone.
+#[derive(Clone, Copy)]
+pub struct Fault {
+    pub code: LogCode,
+    pub front: Option<Front>,
+}
+
+impl From<LogCode> for Fault {
+    ghost from_gives = { λ code fault. fault ≡ record { code = code; front = None } };
+
+    /// A fault before the datagram.
+    fn from(code: LogCode) -> Fault {
+        Fault { code, front: None }
+    }
+}
+
+impl Fault {
+    /// A fault behind a good front, which it has where it is the datagram's.
+    fn behind(front: Front, code: LogCode) -> Fault
+        ensures { result ≡ record {
+          code = code;
+          front = if is_of_datagram code then Some front else None;
+        } }
+    {
+        match code {
+            LogCode::LongDatagram | LogCode::Wire(_) => Fault {
+                code,
+                front: Some(front),
+            },
+            _ => Fault { code, front: None },
+        }
+    }
+}
+
 /// The line without a carriage return at its end.
 fn without_return(line: &[u8]) -> &[u8]
     ensures { result.now ≡ strip_last 13 line.now }
@@ -41,23 +83,32 @@ fn judge_fields(
     sender: Span,
     digits: Span,
     room: &mut [u8; MOST_BYTES],
-) -> Result<Option<Parts>, LogCode>
+) -> Result<Option<Parts>, Fault>
     requires link { IsWithin (length line.now) link }
     requires sender { IsWithin (length line.now) sender }
     requires digits { IsWithin (length line.now) digits }
     ensures { IsSaid (three_fields
         (slice_of line.now link) (slice_of line.now sender) (slice_of line.now digits))
+        (origin_by (slice_of line.now link ∷ slice_of line.now sender
+        ∷ slice_of line.now digits ∷ []))
         line.now room.new result }
 {
     if !is_name(&line[link.from..link.to]) {
-        return Err(LogCode::LinkName);
+        return Err(Fault::from(LogCode::LinkName));
     }
     let Some(address) = Address::parse_bytes(&line[sender.from..sender.to]) else {
-        return Err(LogCode::Sender);
+        return Err(Fault::from(LogCode::Sender));
     };
-    let count = decode(&line[digits.from..digits.to], room)?;
+    let front = Front {
+        link,
+        sender: address,
+    };
+    let count = match decode(&line[digits.from..digits.to], room) {
+        Err(code) => return Err(Fault::behind(front, code)),
+        Ok(count) => count,
+    };
     match read(&room[..count]) {
-        Err(error) => Err(LogCode::Wire(error)),
+        Err(error) => Err(Fault::behind(front, LogCode::Wire(error))),
         Ok(_) => Ok(Some(Parts {
             link,
             sender: address,
@@ -67,20 +118,21 @@ fn judge_fields(
 }
 
 /// Judges a line without its carriage return, and writes its datagram to the room.
-fn judge_bare(bare: &[u8], room: &mut [u8; MOST_BYTES]) -> Result<Option<Parts>, LogCode>
-    ensures { IsSaid (unless_skipped (fields_of bare.now)) bare.now room.new result }
+fn judge_bare(bare: &[u8], room: &mut [u8; MOST_BYTES]) -> Result<Option<Parts>, Fault>
+    ensures { IsSaid (unless_skipped (fields_of bare.now)) (origin_by (fields_of bare.now))
+        bare.now room.new result }
 {
     match split(bare) {
         Fields::Nothing | Fields::Comment => Ok(None),
-        Fields::Other => Err(LogCode::Fields),
+        Fields::Other => Err(Fault::from(LogCode::Fields)),
         Fields::Three(link, sender, digits) => judge_fields(bare, link, sender, digits, room),
     }
 }
 
 /// Judges a line of at most 2,048 bytes, and writes its datagram to the room.
-pub fn judge_line(line: &[u8], room: &mut [u8; MOST_BYTES]) -> Result<Option<Parts>, LogCode>
+pub fn judge_line(line: &[u8], room: &mut [u8; MOST_BYTES]) -> Result<Option<Parts>, Fault>
     requires { length line.now ≤ MOST_LINE_BYTES }
-    ensures { IsSaid (judge line.now) line.now room.new result }
+    ensures { IsSaid (judge line.now) (origin_of line.now) line.now room.new result }
 {
     judge_bare(without_return(line), room)
 }

@@ -6,10 +6,13 @@ ghost use Rattle.std.specs.Io.BufRead.{Rests};
 ghost use Rattle.rip_wire.specs.Name.{is_name};
 ghost use Rattle.rip_log.specs.declared.limits.TheConstants.{MOST_LINES};
 
+mod lines;
+
+pub use self::lines::{BadLine, Line, Origin};
 use crate::device::Failed;
 use crate::error::{LogCode, LogError};
 use crate::limits::MOST_LINES;
-use crate::line::{Parts, judge_line};
+use crate::line::{Fault, Parts, judge_line};
 use crate::source::Source;
 use crate::span::Span;
 use crate::window::{RawLine, Window};
@@ -47,11 +50,21 @@ struct FoundRecord {
     parts: Parts,
 }
 
-/// What a line says: nothing, or a record, or there is no line.
+/// Where a bad line lies in the window's buffer, and why it is bad.
+#[derive(Clone, Copy)]
+struct FoundFault {
+    line: Span,
+    fault: Fault,
+}
+
+/// What a line says: nothing, or a record, or it is bad, or too long and not passed yet; or there is
+/// no line.
 #[derive(Clone, Copy)]
 enum Step {
     Skipped,
     Found(FoundRecord),
+    Bad(FoundFault),
+    Long,
     End,
 }
 
@@ -107,8 +120,7 @@ impl<R: Source> LogReader<R> {
         }
     }
 
-    /// Takes a line that there is.
-    #[tactic(auto, using(crate::proofs::PassLemmas::passes_line))]
+    /// Takes a line that there is, or leaves one that is too long.
     fn read_line(&mut self) -> Result<Step, LogError>
         requires running { has_stopped self.old ≡ false }
         requires few { lines_behind self.old < MOST_LINES }
@@ -122,11 +134,11 @@ impl<R: Source> LogReader<R> {
     {
         let line = match self.window.take_line() {
             Err(Failed) => return Err(self.stop(LogCode::Read)),
-            Ok(RawLine::Long) => return Err(self.stop(LogCode::LongLine)),
+            Ok(RawLine::Long) => return Ok(Step::Long),
             Ok(RawLine::Line(line)) => line,
         };
         match judge_line(self.window.range(line), &mut self.room) {
-            Err(code) => Err(self.stop(code)),
+            Err(fault) => Ok(Step::Bad(FoundFault { line, fault })),
             Ok(None) => {
                 self.progress.lines += 1;
                 Ok(Step::Skipped)
@@ -138,7 +150,7 @@ impl<R: Source> LogReader<R> {
         }
     }
 
-    /// Takes the next line, if there is one.
+    /// Takes the next line, if there is one, or leaves one that is too long.
     fn step(&mut self) -> Result<Step, LogError>
         requires { has_stopped self.old ≡ false }
         ensures says { OfWhole R.given R.at_end (source_of self.new) (λ coming.
@@ -174,6 +186,8 @@ impl<R: Source> LogReader<R> {
             match self.step() {
                 Ok(Step::Skipped) => {}
                 Ok(Step::Found(found)) => return Ok(Some(found)),
+                Ok(Step::Bad(found)) => return Err(self.stop(found.fault.code)),
+                Ok(Step::Long) => return Err(self.stop(LogCode::LongLine)),
                 Ok(Step::End) => return Ok(None),
                 Err(error) => return Err(error),
             }

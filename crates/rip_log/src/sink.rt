@@ -1,10 +1,9 @@
 //! Devices that take bytes, and keep a mark of their failure.
 
-ghost use Rattle.std.specs.Prelude.{◌≡◌, ◌<◌, ℕ, List, [], Bool, Option, false, length, true, IfOk, IsErr, is_err};
+ghost use Rattle.std.specs.Prelude.{◌≡◌, ◌<◌, ℕ, List, [], Bool, false, length, true, IfOk, is_err};
 ghost use Rattle.std.specs.Io.{WritesAtMost};
-ghost use Rattle.std.specs.Io.KnownBytes.{WriteAppends};
-ghost use Rattle.rip_log.specs.Gave.{Gave};
 ghost use Rattle.rip_log.specs.Marks.{is_written};
+ghost use Rattle.rip_log.specs.Taken.{Pushed, Taken};
 
 use crate::device::Failed;
 use crate::noted_writer::NotedWriter;
@@ -13,11 +12,8 @@ use std::io::Write;
 /// A device that takes bytes. Once it has failed it takes no more, and what lies beneath it is left
 /// alone.
 pub trait Sink {
-    // The bytes that it has taken.
-    ghost taken: { Self → List ℕ };
-
-    // The bytes that what lies beneath it holds, where they are modelled.
-    ghost holds: { Self → Option (List ℕ) };
+    // The bytes that it has taken, and all that what lies beneath it holds, where that is modelled.
+    ghost taken: { Self → Taken };
 
     // Whether it has failed.
     ghost broken: { Self → Bool };
@@ -26,10 +22,9 @@ pub trait Sink {
     /// one. An error says that the device has failed, then or before.
     fn push(&mut self, bytes: &[u8]) -> Result<usize, Failed>
         ensures bound { WritesAtMost result bytes.now }
-        // The bytes that it took follow those that it had taken. Where it fails, it took none.
-        ensures took { Gave (taken self.old) (taken self.new) result bytes.now }
-        // They went to what lies beneath, where that is modelled.
-        ensures bytes { WriteAppends (holds self.old) (holds self.new) result bytes.now }
+        // The bytes that it took follow those that it had taken, and what lay beneath. Where it fails,
+        // it took none.
+        ensures took { Pushed (taken self.old) (taken self.new) result bytes.now }
         ensures some { 0 < length bytes.now → IfOk result (λ n. 0 < n) }
 
         // An error comes exactly where the device has failed, then or before.
@@ -90,11 +85,9 @@ impl<W: Write> IntoWrite<W> {
 
 impl<W: Write> Sink for IntoWrite<W> {
     ghost use Rattle.rip_log.specs.Outcomes.{AtMostOnce};
-    ghost use Rattle.rip_log.specs.Writers.{has_failed, held_by, taken_by, writes_of};
+    ghost use Rattle.rip_log.specs.Writers.{has_failed, taken_by, writes_of};
 
-    ghost taken = { taken_by };
-
-    ghost holds = { held_by W.contents };
+    ghost taken = { taken_by W.contents };
 
     ghost broken = { has_failed };
 
@@ -104,9 +97,8 @@ impl<W: Write> Sink for IntoWrite<W> {
 
         // As every sink.
         ensures bound { WritesAtMost result bytes.now }
-        ensures took { Gave (taken_by self.old) (taken_by self.new) result bytes.now }
-        ensures bytes { WriteAppends (held_by W.contents self.old) (held_by W.contents self.new)
-            result bytes.now }
+        ensures took { Pushed (taken_by W.contents self.old) (taken_by W.contents self.new) result
+            bytes.now }
         ensures some { 0 < length bytes.now → IfOk result (λ n. 0 < n) }
         ensures failed { is_err result ≡ has_failed self.new }
         ensures fails_on { has_failed self.old ≡ true → has_failed self.new ≡ true }

@@ -1,8 +1,9 @@
 //! The bytes between a source and its lines.
 
-ghost use Rattle.std.specs.Prelude.{◌≡◌, ◌+◌, ◌<◌, ◌≤◌, ◌↔◌, ◌++◌, [], true, false, Ok, length, take, drop, is_err, vec_len, IfOk, IfErr, OnOk, OnErr, MatchOption};
+ghost use Rattle.std.specs.Prelude.{◌≡◌, ◌+◌, ◌<◌, ◌≤◌, ◌↔◌, ◌⊎◌, ◌++◌, [], true, false, Ok, length, take, drop, is_err, vec_len, IfOk, IfErr, OnOk, OnErr, MatchOption};
 ghost use Rattle.std.specs.Io.KnownBytes.{Keeps};
 ghost use Rattle.rip_log.specs.Wholes.{OfWhole, Went};
+ghost use Rattle.rip_log.specs.declared.window.RawLine.{RawLine};
 ghost use Rattle.rip_log.specs.declared.window.TheConstants.{BUFFER_LEN};
 
 use crate::device::Failed;
@@ -60,9 +61,9 @@ fn pull_behind<R: Source>(source: &mut R, buffer: &mut Vec<u8>, len: usize) -> R
 }
 
 impl<R: Source> Window<R> {
-    ghost use Rattle.rip_log.specs.Held.{held, ready_lines, text};
+    ghost use Rattle.rip_log.specs.Held.{ended_lines, held, ready_lines, text};
     ghost use Rattle.rip_log.specs.Ends.{NoFeedBelow, FirstFeed, Ends};
-    ghost use Rattle.rip_log.specs.Cuts.{Cuts, HasLine, LiesWithin, TakesReady};
+    ghost use Rattle.rip_log.specs.Cuts.{Cuts, DropsFirst, HasLine, IsEndless, LiesWithin, TakesEnded, TakesReady};
     ghost use Rattle.rip_log.specs.Spans.{IsWithin, slice_of};
 
     /// A window that holds nothing yet.
@@ -218,6 +219,10 @@ impl<R: Source> Window<R> {
         ensures ready { 0 < ready_lines (held self.old) → self.new.source ≡ self.old.source }
         ensures others { 0 < ready_lines (held self.old) →
             IfOk result (TakesReady (held self.old) (held self.new)) }
+        ensures ended { 0 < ended_lines (held self.old) → self.new.source ≡ self.old.source }
+        ensures ended_others { 0 < ended_lines (held self.old) →
+            IfOk result (TakesEnded (held self.old) (held self.new)) }
+        ensures long { result ≡ Ok RawLine.Long → 0 < length (held self.new) }
     {
         match self.find_end()? {
             LineEnd::Feed(at) => {
@@ -232,6 +237,38 @@ impl<R: Source> Window<R> {
                 Ok(RawLine::Line(Span { from, to }))
             }
             LineEnd::Long => Ok(RawLine::Long),
+        }
+    }
+
+    /// Passes over the first line, where bytes of it are held. Pulls nothing where its end is held. It
+    /// fails where the source does, and at a line of more than `MOST_PASSED_BYTES` bytes.
+    pub fn pass_line(&mut self) -> Result<(), Failed>
+        requires { 0 < length (held self.old) }
+        ensures passed { OnOk result (OfWhole R.given R.at_end self.new.source (λ coming.
+            DropsFirst (text coming self.old) (text coming self.new))) }
+        ensures failed { OnErr result (OfWhole R.given R.at_end self.new.source (λ coming.
+            (R.broken self.new.source ≡ true) ⊎ IsEndless (text coming self.old))) }
+        ensures went { Went R.given R.coming R.at_end self.old.source self.new.source }
+        ensures ok { OnOk result (R.broken self.new.source ≡ R.broken self.old.source) }
+        ensures unpulled { R.at_end self.old.source ≡ true → self.new.source ≡ self.old.source }
+        ensures ended { 0 < ended_lines (held self.old) → self.new.source ≡ self.old.source }
+        ensures ended_others { 0 < ended_lines (held self.old) →
+            (result ≡ Ok tt) × (ended_lines (held self.old) ≡ ended_lines (held self.new) + 1) }
+    {
+        let mut passed = 0u64;
+        'pulls: loop {
+            if let Some(at) = self.feed_from(0) {
+                self.start += at + 1;
+                return Ok(());
+            }
+            let Some(more) = passed.checked_add((self.end - self.start) as u64) else {
+                return Err(Failed);
+            };
+            passed = more;
+            self.start = self.end;
+            if !self.has_line()? {
+                return Ok(());
+            }
         }
     }
 

@@ -1,7 +1,8 @@
 use Rattle.std.proofs.Common.{◌≡◌, sym, subst, true}
 use Rattle.rip_log.specs.Marks.{is_written, takes_none}
 use Rattle.rip_log.specs.Outcomes.{all_moved, outcome_of}
-use Rattle.rip_log.proofs.OutcomeLemmas.{gave-noted, none_written, not_written, noted_none, noted_some, noted_last}
+use Rattle.rip_log.proofs.OutcomeLemmas.{none_written, not_written, noted_some, noted_last}
+use Rattle.rip_log.proofs.TakenLemmas.{none_noted, pushed_noted}
 use Rattle.rip_log.proofs.sink.IntoWriteSink.push.Goals.{in_default-via-in-Ok+else-count-gt0, in_default-via-in_default}
 use Rattle.rip_log.proofs.sink.IntoWriteSink.push.Goals as goal
 
@@ -28,14 +29,16 @@ invariant_of-self-in_default g c =
 
 pub returns-in-Ok-clause-took : goal.returns-in-Ok-clause-took
 returns-in-Ok-clause-took g c =
-    let noted = gave-noted c.args.self.now.noted.history.outcomes c.write.new.self.history.outcomes c.write.result c.args.bytes.now c.write.ensures.noted in
-    rw c.in-Ok.is at noted
+    let old = c.args.self.now in
+    let write = c.write in
+    pushed_noted old.noted.history.outcomes write.new.self.history.outcomes (g.W.Write.contents old.noted.writer) (g.W.Write.contents write.new.self.writer) write.result c.in-Ok.count c.args.bytes.now c.in-Ok.is write.ensures.noted write.ensures.bytes
 
 pub returns-in_default-clause-took : goal.returns-in_default-clause-took
 returns-in_default-clause-took g c =
+    let old = c.args.self.now in
     let write = c.write in
     let none : takes_none (outcome_of write.result c.args.bytes.now) ≡ true = elim c.in_default.branch [
       | in_default-via-in-Ok+else-count-gt0 w ↦ none_written write.result w.in-Ok.count c.args.bytes.now w.in-Ok.is w.if-count-gt0.false
       | in_default-via-in_default w ↦ not_written write.result w.in_default.field-0 c.args.bytes.now w.in_default.is
     ] in
-    noted_none c.args.self.now.noted.history.outcomes write.new.self.history.outcomes (outcome_of write.result c.args.bytes.now) write.ensures.noted none
+    none_noted old.noted.history.outcomes write.new.self.history.outcomes (g.W.Write.contents old.noted.writer) (g.W.Write.contents write.new.self.writer) write.result c.args.bytes.now none write.ensures.noted write.ensures.bytes
