@@ -21,3 +21,10 @@ pub mod OneJoin
 pub mod UpdateLemmas
 pub mod OutcomeLemmas
 pub mod PairLemmas
+pub mod EventLemmas
+pub mod HearingLemmas
+pub mod CalmLemmas
+mod CountLemmas
+pub mod TallyLemmas
+pub mod StrangerLemmas
+pub mod TalliedLemmas

@@ -65,7 +65,7 @@ foreign-IsElsewhere net i e h =
       no_gateway = λ knows. true-false (knows_gateway net i e.prefix e.next_hop) (gateway_known net i e.prefix e.next_hop knows) others.1;
     }
 
-IsElsewhere-foreign : (net : Network) (i : ℕ) (e : Entry) → IsElsewhere net i e → is_foreign net i e ≡ true
+pub IsElsewhere-foreign : (net : Network) (i : ℕ) (e : Entry) → IsElsewhere net i e → is_foreign net i e ≡ true
 IsElsewhere-foreign net i e h =
     let lt = h.reachable in
     let low : nat_lt e.metric 16 ≡ true = grind (arith, nat_tests) in

@@ -22,7 +22,7 @@ pub record Passed (n : Network) (old : State) (log : Log) (new : State) (left : 
   pub fault : log.fault ≡ left.fault
   pub joined : joined_records n old taken ≡ Ok new
 
--- the same where bytes are told
+-- the same, of a log that is modelled
 abbrev pub PassedKnown : Network → State → Option Log → State → Option Log → Type 0
 PassedKnown n old None new left = Unit {0}
 PassedKnown n old (Some log) new None = ⊥
@@ -50,7 +50,7 @@ pub record StandsBehind (log : Log) (line : ℕ) (left : Log) : Type 0 where
   pub records : log.records ≡ before ++ (record { line = line; capture = capture }) ∷ left.records
   pub fault : log.fault ≡ left.fault
 
--- the same where bytes are told
+-- the same, of a log that is modelled
 abbrev pub StandsBehindKnown : Option Log → ℕ → Option Log → Type 0
 StandsBehindKnown None line left = Unit {0}
 StandsBehindKnown (Some log) line None = ⊥
@@ -85,7 +85,7 @@ abbrev pub IsAtLine : ℕ → ℕ → CollectCause → Type 0
 IsAtLine behind line (OfLog e) = (line ≡ behind + 1) × (e.line ≡ behind + 1)
 IsAtLine behind line other = line ≡ behind
 
--- what was joined, where bytes are told
+-- what was joined, of a log that is modelled
 abbrev pub ToldOutcome : Network → State → Option Log → State → Option Log
     → Result (Unit {0}) CollectError → Type 0
 ToldOutcome n old log new left (Ok u) = OutcomeKnown n old log new None
@@ -94,7 +94,7 @@ ToldOutcome n old log new left (Err e) =
     (IfElse (is_read_cause e.cause) (PassedKnown n old log new left)
     (OutcomeKnown n old log new (Some e)))
 
--- the same in the words of the subject, of a log that is told
+-- the same in the words of the subject, of a log that is modelled
 abbrev pub SaidOutcome : Network → State → Log → State → Result (Unit {0}) CollectError → Type 0
 SaidOutcome n old log new (Ok u) = IsOutcome n old log new None
 SaidOutcome n old log new (Err e) =

@@ -5,4 +5,7 @@ pub mod Numbers
 pub mod ListState
 pub mod Rows
 pub mod LogJoin
+pub mod Events
+pub mod CollectsAll
 pub mod Examples
+pub mod Tallies

@@ -78,3 +78,24 @@ pub struct CollectError {
     /// Why it is refused.
     pub cause: CollectCause,
 }
+
+/// Why a log was not read to its end.
+#[derive(Clone, Copy, Debug, PartialEq, Eq, Error)]
+pub enum CollectAllError {
+    /// The reader failed, by Read, or had stopped before.
+    #[error("{0:?}")]
+    Log(LogError),
+    /// The table or the listener wanted memory.
+    #[error("out of memory")]
+    Memory,
+}
+
+impl From<AllocError> for CollectAllError {
+    ghost use Rattle.rip_table.specs.declared.error.CollectAllError.TheVariants.{Memory};
+
+    ghost from_gives = { λ _ error. error ≡ Memory };
+
+    fn from(_refused: AllocError) -> CollectAllError {
+        CollectAllError::Memory
+    }
+}

@@ -31,8 +31,7 @@ fn join<T: MetricTable>(plan: &Plan, table: &mut T, found: &Record<'_>) -> Resul
 
 /// Joins the records to come of a log into a table that fits the plan. The error is that of the first
 /// line that is refused; the table then holds what the lines before it gave. Memory comes only at a
-/// line with a record, and where bytes are told, at a response that brings a pair of interface and
-/// prefix; the reader then stands after that line.
+/// response that brings a pair of interface and prefix; the reader then stands behind its line.
 pub fn collect<R: Source, T: MetricTable>(
     plan: &Plan,
     reader: &mut LogReader<R>,

@@ -119,7 +119,7 @@ fn is_unknown_hop(plan: &Plan, interface: usize, prefix: Prefix, hop: Address) -
 
 /// Whether an entry that an interface sends below 16 has a next hop that is neither 0.0.0.0, nor an
 /// address of the interface, nor a gateway of its router for the prefix (RFC 2453, section 4.4).
-fn is_elsewhere(plan: &Plan, interface: usize, entry: &Entry) -> bool
+pub(crate) fn is_elsewhere(plan: &Plan, interface: usize, entry: &Entry) -> bool
     requires { interface < length plan.now.interfaces }
     ensures { result ≡ is_foreign plan.now interface entry.now }
 {

@@ -7,9 +7,12 @@ ghost use Rattle.rip_wire.specs.declared.entry.Entry.{Entry};
 ghost use Rattle.rip_plan.specs.Network.{Network, found_at};
 ghost use Rattle.rip_plan.specs.Relations.{IsAt, IsLawful};
 ghost use Rattle.rip_log.specs.Lines.{Capture};
-ghost use Rattle.rip_log.specs.Logs.{Log, Numbered};
-ghost use Rattle.rip_table.specs.State.{Fits, IsState, State};
+ghost use Rattle.rip_log.specs.Said.{AllSaid, SaidAt, said_at};
+ghost use Rattle.rip_log.specs.Logs.{Log, Numbered, log_at};
+ghost use Rattle.rip_table.specs.State.{Fits, IsState, State, new_state};
 ghost use Rattle.rip_table.specs.Joined.{brings_pair, joined_capture, joined_entries, joined_message, joined_records, outcome, refused_at};
+ghost use Rattle.rip_table.specs.Events.{AreCalm, ComeTo, EventAt, all_events, events_of, state_after};
+ghost use Rattle.rip_table.specs.Tallies.{counts_of};
 ghost use Rattle.rip_table.specs.LogJoin.{AreJoined, HasBadEntry, IsFirstRefused, IsJoin, IsJoined, IsListed, IsOutcome, IsResponse};
 ghost use Rattle.rip_table.specs.declared.error.CollectCause.{CollectCause};
 ghost use Rattle.rip_table.specs.declared.error.CollectCause.TheVariants.{Table};
@@ -25,6 +28,11 @@ pub mod examples;
 /// The limit of a table.
 pub fn limits()
     ensures { MOST_PREFIXES ≡ 2048 }
+{}
+
+/// The table of a plan in which nothing was heard is a table, and fits the plan.
+pub fn new_states()
+    ensures { (n : Network) → IsLawful n → IsState (new_state n) × Fits n (new_state n) }
 {}
 
 /// A log is joined exactly where no record is refused, and then into the table that it makes: the
@@ -70,6 +78,38 @@ pub fn refused_logs()
     laws::response_fields();
     rip_plan::laws::senders();
 }
+
+/// What lines come to is what the words say: each comes to one event, by the table that those before it
+/// leave.
+pub fn lines_come_to()
+    ensures { (n : Network) (old new : State) (said : List SaidAt) (events : List EventAt) →
+        IsLawful n → IsState old → Fits n old →
+        ((events_of n old said ≡ events) × (state_after n old said ≡ new))
+        ↔ ComeTo n old said events new }
+{
+    laws::response_fields();
+    rip_plan::laws::senders();
+}
+
+/// Nothing is refused, a stranger's or bad exactly where the log is accepted, and the table is then the
+/// one that the log makes.
+pub fn calm_logs()
+    ensures { (n : Network) (old new : State) (k : ℕ) (text : List ℕ) (log : Log) (all : AllSaid) →
+        IsLawful n → IsState old → Fits n old →
+        log_at k (Some text) ≡ Some log → said_at k (Some text) ≡ Some all →
+        IsOutcome n old log new None
+        ↔ (AreCalm (all_events n old all) × (state_after n old all.said ≡ new)) }
+{
+    rip_log::laws::good_lines();
+    joined_logs();
+}
+
+/// Nothing is refused, a stranger's or bad exactly where the counts of these are 0.
+pub fn calm_counts()
+    ensures { (events : List EventAt) → AreCalm events
+        ↔ (((counts_of events).refused ≡ 0) × ((counts_of events).strangers ≡ 0)
+        × ((counts_of events).bad ≡ 0)) }
+{}
 
 /// A response of an interface is refused exactly by its first bad entry.
 pub fn refused_responses()

@@ -2,17 +2,29 @@
 #![tactic(auto)]
 
 mod error;
+mod events;
 mod grid;
+mod hearing;
 mod joining;
 mod judging;
 pub mod laws;
 mod limits;
 mod list;
+mod listener;
 mod table;
+mod tallies;
 
-pub use error::{CollectCause, CollectError, TableError};
+pub use error::{CollectAllError, CollectCause, CollectError, TableError};
+pub use events::{Bad, Event, Refused, Sender};
 pub use grid::GridTable;
+pub use hearing::collect_all;
 pub use joining::collect;
 pub use limits::MOST_PREFIXES;
 pub use list::ListTable;
+pub use listener::Listener;
 pub use table::MetricTable;
+pub use tallies::Tallies;
+pub use tallies::counts::Counts;
+pub use tallies::interface::{InterfaceTally, Refusal};
+pub use tallies::lines::Lines;
+pub use tallies::strangers::{MOST_STRANGERS, Stranger, StrangerTally};

@@ -1,0 +1,29 @@
+//! Who is told what becomes of the lines of a log.
+
+ghost use Rattle.std.specs.Prelude.{[], ◌∷◌, List, OnOk};
+ghost use Rattle.rip_plan.specs.Network.{Network};
+ghost use Rattle.rip_table.specs.Events.{EventAt};
+ghost use Rattle.rip_table.specs.CollectsAll.{HasRoom, HoldsMore, IsPlanned, event_told};
+
+use crate::events::Event;
+use rip_plan::Plan;
+use std::alloc::AllocError;
+
+/// Who is told what becomes of the lines of a log.
+pub trait Listener {
+    // It holds what is to be held of these events, which it has heard.
+    ghost holds: { Self → List EventAt → Type 0 };
+
+    // It is for a plan.
+    ghost suits: { Network → Self → Type 0 };
+
+    /// Hears of a line, by its number and what became of it. It may want memory.
+    fn hear(&mut self, plan: &Plan, line: u32, event: &Event<'_>) -> Result<(), AllocError>
+        requires suits { suits plan.now self.old }
+        // It has not heard of more events than a log has lines.
+        requires room { HasRoom (holds self.old) }
+        requires planned { IsPlanned plan.now (event_told plan.now event.now) }
+        ensures heard { OnOk result (HoldsMore (holds self.old) (holds self.new)
+            ((record { line = line; event = event_told plan.now event.now }) ∷ [])) }
+        ensures suits { suits plan.now self.new };
+}
