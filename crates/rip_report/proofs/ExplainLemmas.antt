@@ -10,6 +10,7 @@ use Rattle.rip_wire.specs.Prefix.{Block, block}
 use Rattle.rip_plan.specs.Network.{Network}
 use Rattle.rip_plan.specs.Relations.{IsInterface}
 use Rattle.rip_plan.specs.declared.parts.Interface.{Interface}
+use Rattle.rip_log.specs.Taken.{Taken}
 use Rattle.rip_table.specs.State.{State}
 use Rattle.rip_check.specs.Metrics.{metric_at}
 use Rattle.rip_check.specs.Paths.{Hop, IsLeast, IsPath}
@@ -70,12 +71,12 @@ explained n s all v w j (a_settled lines right under) = rw (j.settled.1 right) a
 explained n s all v w j (an_unclear trouble text first h) = rw ((j.unclear trouble).1 first) at (judged n s v j)
 explained n s all v w j (an_unsettled f text shows first h) = rw ((j.unsettled f).1 (shows, first)) at (judged n s v j)
 
-pub explained_out : (n : Network) (s : State) (all : Bool) (v : Verdict) (a b : List ℕ) (outcome : Result Status RunError) → Judges n s v → IfOk outcome (WentOut (ExplainText n s all) a b) → IfOk outcome (IsJudged n s)
+pub explained_out : (n : Network) (s : State) (all : Bool) (v : Verdict) (a b : Taken) (outcome : Result Status RunError) → Judges n s v → IfOk outcome (WentOut (ExplainText n s all) a b) → IfOk outcome (IsJudged n s)
 explained_out n s all v a b (Ok status) j h = explained n s all v (record { text = h.0; status = status }) j h.1
 explained_out n s all v a b (Err e) j h = tt
 
 -- a run without `all` has written a text that begins with the verdict
-pub begins_out : (n : Network) (s : State) (all : Bool) (a b : List ℕ) (outcome : Result Status RunError) → all ≡ false → IfOk outcome (WentOut (ExplainText n s all) a b) → IfOk outcome (WentOut (BeginsWithVerdict n s) a b)
+pub begins_out : (n : Network) (s : State) (all : Bool) (a b : Taken) (outcome : Result Status RunError) → all ≡ false → IfOk outcome (WentOut (ExplainText n s all) a b) → IfOk outcome (WentOut (BeginsWithVerdict n s) a b)
 begins_out n s all a b (Ok status) off h =
     let text : ExplainText n s false (record { text = h.0; status = status }) = rw off at h.1 in
     (h.0, begins n s (record { text = h.0; status = status }) text, h.2)
@@ -120,7 +121,7 @@ explains_each n s w (an_unclear trouble text first h) = λ e. absurd cc
 explains_each n s w (an_unsettled f text shows first h) = λ e. let all = explains_all n s text h in (all.0, unsettled_verdict f all.0 shows first all.1, all.2)
 
 -- a run with `all` has written a text with the lines of `audit --all`
-pub explains_out : (n : Network) (s : State) (all : Bool) (a b : List ℕ) (outcome : Result Status RunError) → all ≡ true → IfOk outcome (WentOut (ExplainText n s all) a b) → IfOk outcome (WentOut (ExplainsAll n s) a b)
+pub explains_out : (n : Network) (s : State) (all : Bool) (a b : Taken) (outcome : Result Status RunError) → all ≡ true → IfOk outcome (WentOut (ExplainText n s all) a b) → IfOk outcome (WentOut (ExplainsAll n s) a b)
 explains_out n s all a b (Ok status) on h =
     let text : ExplainText n s true (record { text = h.0; status = status }) = rw on at h.1 in
     (h.0, explains_each n s (record { text = h.0; status = status }) text, h.2)

@@ -5,6 +5,7 @@ use Rattle.rip_plan.specs.Answers.{out_of_memory}
 use Rattle.rip_plan.specs.PlanFaults.{PlanFault}
 use Rattle.rip_plan.specs.declared.error.PlanCode.TheVariants.{Memory as OutOfMemory}
 use Rattle.rip_plan.specs.declared.error.PlanError.{PlanError}
+use Rattle.rip_log.specs.Taken.{Taken}
 use Rattle.rip_log.specs.declared.device.Failed.{Failed}
 use Rattle.rip_report.specs.Finished.{finished}
 use Rattle.rip_report.specs.PlanText.{refused_plan}
@@ -16,7 +17,7 @@ use Rattle.rip_report.specs.declared.status.RunError.TheVariants.{Memory, Write}
 use Rattle.rip_report.proofs.SentLemmas.{Sent-whole}
 
 -- a run that has written one of its texts prints it
-pub finished_prints : {K : Type 0} (IsText : Written → Type 0) (w : Written) (taken : K → List ℕ) (broken : K → Bool) (a b : K) (r : Result (Unit {0}) Failed) (outcome : Result Status RunError)
+pub finished_prints : {K : Type 0} (IsText : Written → Type 0) (w : Written) (taken : K → Taken) (broken : K → Bool) (a b : K) (r : Result (Unit {0}) Failed) (outcome : Result Status RunError)
     → IsText w → outcome ≡ finished r w.status → Writes taken broken a b r w.text [] → Prints taken broken a b outcome IsText
 finished_prints IsText w taken broken a b (Ok done) outcome told is v = rw is (record {
   text = (w.text, told, Sent-whole (taken a) (taken b) w.text v.ok);
@@ -34,7 +35,7 @@ finished_prints IsText w taken broken a b (Err f) outcome told is v = rw is (rec
 })
 
 -- what prints one of these texts prints one of more
-pub prints_also : {K : Type 0} (IsText IsAlso : Written → Type 0) (taken : K → List ℕ) (broken : K → Bool) (a b : K) (outcome : Result Status RunError)
+pub prints_also : {K : Type 0} (IsText IsAlso : Written → Type 0) (taken : K → Taken) (broken : K → Bool) (a b : K) (outcome : Result Status RunError)
     → ((w : Written) → IsText w → IsAlso w) → Prints taken broken a b outcome IsText → Prints taken broken a b outcome IsAlso
 prints_also IsText IsAlso taken broken a b outcome also p = record {
   text = went_on outcome p.text;
@@ -55,7 +56,7 @@ not_memory status h = absurd (cc)
 write_is_not_memory : ◌≡◌ {A = Result Status RunError} (Err Write) (Err Memory) → ⊥
 write_is_not_memory h = absurd (cc)
 
-pub refused_prints : {K : Type 0} (IsText : Written → Type 0) (e : PlanError) (taken : K → List ℕ) (broken : K → Bool) (a b : K) (outcome : Result Status RunError)
+pub refused_prints : {K : Type 0} (IsText : Written → Type 0) (e : PlanError) (taken : K → Taken) (broken : K → Bool) (a b : K) (outcome : Result Status RunError)
     → ((e.code ≡ OutOfMemory → ⊥) → IsText (refused_plan e))
     → (outcome ≡ Err Memory) ↔ (e.code ≡ OutOfMemory) → Prints taken broken a b outcome (λ w. w ≡ refused_plan e) → Prints taken broken a b outcome IsText
 refused_prints IsText e taken broken a b (Ok status) told wanted p =

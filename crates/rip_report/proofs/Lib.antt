@@ -5,6 +5,7 @@ pub mod UnsettledLemmas
 pub mod VerdictLemmas
 pub mod FinishLemmas
 pub mod ReportLemmas
+pub mod AcceptedLemmas
 pub mod DecodeLemmas
 pub mod TextLemmas
 pub mod ListingLemmas
@@ -12,3 +13,5 @@ pub mod ExpectLemmas
 pub mod ExplainLemmas
 pub mod GivenLemmas
 pub mod WhatifLemmas
+pub mod HearingLemmas
+pub mod HeardLemmas

@@ -2,6 +2,7 @@
 use Rattle.std.proofs.Common.{◌≡◌, ℕ, zero, suc, ◌+◌, ◌≤◌, Bool, List, [], ◌∷◌, ◌++◌, Some, Result, Ok, length, drop, refl, sym, ap, subst, ◌∙◌, append_assoc, append-nil, arith}
 use Rattle.std.specs.List.{slice_get, enumerate_from, flat_map}
 use Rattle.std.proofs.lemmas.List.{drop_all}
+use Rattle.rip_log.specs.Taken.{Taken}
 use Rattle.rip_log.specs.declared.device.Failed.{Failed}
 use Rattle.rip_report.specs.Sent.{Sent, Began, Writes}
 use Rattle.rip_report.proofs.SentLemmas.{Sent-on, Began-on, onerr-map, onok-map}
@@ -38,25 +39,25 @@ held-next : {A : Type 0} (line : A → List ℕ) (held : List ℕ) (xs : List A)
 held-next line held xs i x h = ap (λ (l : List ℕ). held ++ l) (lines-next line xs i x h) ∙ sym (append_assoc held (line x) (flat_map line (drop (i + 1) xs)))
 
 -- one more line is written
-Sent-line : {A : Type 0} (line : A → List ℕ) (a b c : List ℕ) (text held left : List ℕ) (xs : List A) (i : ℕ) (x : A) → slice_get xs i ≡ Some x
+Sent-line : {A : Type 0} (line : A → List ℕ) (a b c : Taken) (text held left : List ℕ) (xs : List A) (i : ℕ) (x : A) → slice_get xs i ≡ Some x
     → Sent a b text (held ++ flat_map line (drop i xs)) → Sent b c (held ++ line x) left → Sent a c text (left ++ flat_map line (drop (i + 1) xs))
 Sent-line line a b c text held left xs i x h s t =
     Sent-on a b c text (held ++ line x) _ left (subst (λ (l : List ℕ). Sent a b text l) (held-next line held xs i x h) s) t
 
 -- a line was begun
-Began-line : {A : Type 0} (line : A → List ℕ) (a b c : List ℕ) (text held : List ℕ) (xs : List A) (i : ℕ) (x : A) → slice_get xs i ≡ Some x
+Began-line : {A : Type 0} (line : A → List ℕ) (a b c : Taken) (text held : List ℕ) (xs : List A) (i : ℕ) (x : A) → slice_get xs i ≡ Some x
     → Sent a b text (held ++ flat_map line (drop i xs)) → Began b c (held ++ line x) → Began a c text
 Began-line line a b c text held xs i x h s t =
     Began-on a b c text (held ++ line x) _ (subst (λ (l : List ℕ). Sent a b text l) (held-next line held xs i x h) s) t
 
 -- after the last item nothing is left
-Sent-lines : {A : Type 0} (line : A → List ℕ) (a b : List ℕ) (text held : List ℕ) (xs : List A) (i : ℕ) → length xs ≤ i
+Sent-lines : {A : Type 0} (line : A → List ℕ) (a b : Taken) (text held : List ℕ) (xs : List A) (i : ℕ) → length xs ≤ i
     → Sent a b text (held ++ flat_map line (drop i xs)) → Sent a b text held
 Sent-lines line a b text held xs i le s =
     subst (λ (l : List ℕ). Sent a b text l) (ap (λ rest. held ++ flat_map line rest) (drop_all i xs le) ∙ append-nil held) s
 
 -- one more line is written, or begun
-pub Writes-line : {A K : Type 0} (line : A → List ℕ) (taken : K → List ℕ) (broken : K → Bool) (a b c : K) (done : Unit {0}) (r : Result (Unit {0}) Failed) (text held left : List ℕ) (xs : List A) (i : ℕ) (x : A) → slice_get xs i ≡ Some x
+pub Writes-line : {A K : Type 0} (line : A → List ℕ) (taken : K → Taken) (broken : K → Bool) (a b c : K) (done : Unit {0}) (r : Result (Unit {0}) Failed) (text held left : List ℕ) (xs : List A) (i : ℕ) (x : A) → slice_get xs i ≡ Some x
     → Writes taken broken a b (Ok done) text (held ++ flat_map line (drop i xs)) → Writes taken broken b c r (held ++ line x) left → Writes taken broken a c r text (left ++ flat_map line (drop (i + 1) xs))
 Writes-line line taken broken a b c done r text held left xs i x h w v = record {
   ok = onok-map r (Sent-line line (taken a) (taken b) (taken c) text held left xs i x h w.ok) v.ok;
@@ -66,7 +67,7 @@ Writes-line line taken broken a b c done r text held left xs i x h w v = record 
 }
 
 -- all lines are written
-pub Writes-lines : {A K : Type 0} (line : A → List ℕ) (taken : K → List ℕ) (broken : K → Bool) (a b : K) (done : Unit {0}) (text held : List ℕ) (xs : List A) (i : ℕ) → length xs ≤ i
+pub Writes-lines : {A K : Type 0} (line : A → List ℕ) (taken : K → Taken) (broken : K → Bool) (a b : K) (done : Unit {0}) (text held : List ℕ) (xs : List A) (i : ℕ) → length xs ≤ i
     → Writes taken broken a b (Ok done) text (held ++ flat_map line (drop i xs)) → Writes taken broken a b (Ok done) text held
 Writes-lines line taken broken a b done text held xs i le w = record {
   ok = Sent-lines line (taken a) (taken b) text held xs i le w.ok;

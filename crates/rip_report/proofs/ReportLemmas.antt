@@ -16,7 +16,7 @@ use Rattle.rip_table.specs.Joined.{is_memory}
 use Rattle.rip_table.specs.LogJoin.{IsJoin, IsJoined, IsOutcome}
 use Rattle.rip_table.specs.State.{IsState, State, new_state}
 use Rattle.rip_table.specs.declared.error.CollectError.{CollectError}
-use Rattle.rip_report.specs.Readings.{refusal_in}
+use Rattle.rip_report.specs.LogRefusals.{refusal_in}
 use Rattle.rip_report.specs.ReportText.{IsAccepted, IsTable, LogMakes, LogSays}
 use Rattle.rip_report.specs.declared.status.Status.{Status}
 use Rattle.rip_report.specs.declared.status.RunError.{RunError}

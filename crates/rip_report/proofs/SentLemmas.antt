@@ -2,59 +2,52 @@
 use Rattle.std.proofs.Common.{◌≡◌, ℕ, List, [], ◌++◌, take, drop, Result, Ok, Err, Bool, true, false, is_err, refl, sym, ap, subst, ◌∙◌, append_assoc, append-nil}
 use Rattle.std.specs.Prelude.{OnErr, OnOk}
 use Rattle.std.proofs.lemmas.List.{take-append-drop}
+use Rattle.rip_log.specs.Taken.{Taken, Took}
+use Rattle.rip_log.proofs.TakenLemmas.{Took-both, Took-none}
 use Rattle.rip_log.specs.declared.device.Failed.{Failed}
-use Rattle.rip_report.specs.Sent.{Appends, Keeps, Sent, Began, Writes}
-
-pub Appends-none : (t : List ℕ) → Appends t t []
-Appends-none t = sym (append-nil t)
-
-pub Appends-kept : (a b : List ℕ) → Keeps a b → Appends a b []
-Appends-kept a b h = h ∙ sym (append-nil a)
-
-pub Appends-both : (a b c : List ℕ) (x y : List ℕ) → Appends a b x → Appends b c y → Appends a c (x ++ y)
-Appends-both a b c x y h k = k ∙ ap (λ (l : List ℕ). l ++ y) h ∙ append_assoc a x y
+use Rattle.rip_report.specs.Sent.{Sent, Began, Writes}
 
 -- nothing has gone out yet
-pub Sent-none : (t : List ℕ) (text : List ℕ) → Sent t t text text
-Sent-none t text = record { front = []; sent = Appends-none t; whole = refl }
+pub Sent-none : (t : Taken) (text : List ℕ) → Sent t t text text
+Sent-none t text = record { front = []; sent = Took-none t; whole = refl }
 
 -- a part of what was left went out
-pub Sent-on : (a b c : List ℕ) (text part rest left : List ℕ) → Sent a b text (part ++ rest) → Sent b c part left → Sent a c text (left ++ rest)
+pub Sent-on : (a b c : Taken) (text part rest left : List ℕ) → Sent a b text (part ++ rest) → Sent b c part left → Sent a c text (left ++ rest)
 Sent-on a b c text part rest left s t = record {
   front = s.front ++ t.front;
-  sent = Appends-both a b c s.front t.front s.sent t.sent;
+  sent = Took-both a b c s.front t.front s.sent t.sent;
   whole = s.whole ∙ ap (λ (l : List ℕ). s.front ++ (l ++ rest)) t.whole ∙ ap (λ (l : List ℕ). s.front ++ l) (append_assoc t.front left rest) ∙ sym (append_assoc s.front t.front (left ++ rest));
 }
 
-pub Began-on : (a b c : List ℕ) (text part rest : List ℕ) → Sent a b text (part ++ rest) → Began b c part → Began a c text
+pub Began-on : (a b c : Taken) (text part rest : List ℕ) → Sent a b text (part ++ rest) → Began b c part → Began a c text
 Began-on a b c text part rest s t = record { left = t.left ++ rest; sent = Sent-on a b c text part rest t.left s t.sent }
 
 -- all of it went out
-pub Sent-all : (a b c : List ℕ) (text part : List ℕ) → Sent a b text part → Sent b c part [] → Sent a c text []
+pub Sent-all : (a b c : Taken) (text part : List ℕ) → Sent a b text part → Sent b c part [] → Sent a c text []
 Sent-all a b c text part s t = record {
   front = s.front ++ t.front;
-  sent = Appends-both a b c s.front t.front s.sent t.sent;
+  sent = Took-both a b c s.front t.front s.sent t.sent;
   whole = s.whole ∙ ap (λ (l : List ℕ). s.front ++ l) t.whole ∙ sym (append_assoc s.front t.front []);
 }
 
-pub Began-all : (a b c : List ℕ) (text part : List ℕ) → Sent a b text part → Began b c part → Began a c text
+pub Began-all : (a b c : Taken) (text part : List ℕ) → Sent a b text part → Began b c part → Began a c text
 Began-all a b c text part s t = record {
   left = t.left;
   sent = record {
     front = s.front ++ t.sent.front;
-    sent = Appends-both a b c s.front t.sent.front s.sent t.sent.sent;
+    sent = Took-both a b c s.front t.sent.front s.sent t.sent.sent;
     whole = s.whole ∙ ap (λ (l : List ℕ). s.front ++ l) t.sent.whole ∙ sym (append_assoc s.front t.sent.front t.left);
   };
 }
 
 -- one push
-pub Sent-push : (a b : List ℕ) (bytes : List ℕ) (n : ℕ) → Appends a b (take n bytes) → Sent a b bytes (drop n bytes)
+pub Sent-push : (a b : Taken) (bytes : List ℕ) (n : ℕ) → Took a b (take n bytes) → Sent a b bytes (drop n bytes)
 Sent-push a b bytes n h = record { front = take n bytes; sent = h; whole = sym (take-append-drop n bytes) }
 
-pub Sent-then : (a b c : List ℕ) (text part left : List ℕ) → Sent a b text part → Sent b c part left → Sent a c text left
+pub Sent-then : (a b c : Taken) (text part left : List ℕ) → Sent a b text part → Sent b c part left → Sent a c text left
 Sent-then a b c text part left s t = record {
   front = s.front ++ t.front;
-  sent = Appends-both a b c s.front t.front s.sent t.sent;
+  sent = Took-both a b c s.front t.front s.sent t.sent;
   whole = s.whole ∙ ap (λ (l : List ℕ). s.front ++ l) t.whole ∙ sym (append_assoc s.front t.front left);
 }
 
@@ -72,31 +65,31 @@ unbroken true b e h = h refl
 unbroken false b e h = sym e
 
 -- what goes out of a front of the text goes out of the text
-pub Sent-front : (a b : List ℕ) (x left y : List ℕ) → Sent a b x left → Sent a b (x ++ y) (left ++ y)
+pub Sent-front : (a b : Taken) (x left y : List ℕ) → Sent a b x left → Sent a b (x ++ y) (left ++ y)
 Sent-front a b x left y s = Sent-on a a b (x ++ y) x y left (Sent-none a (x ++ y)) s
 
-pub Began-front : (a b : List ℕ) (x y : List ℕ) → Began a b x → Began a b (x ++ y)
+pub Began-front : (a b : Taken) (x y : List ℕ) → Began a b x → Began a b (x ++ y)
 Began-front a b x y s = Began-on a a b (x ++ y) x y (Sent-none a (x ++ y)) s
 
 -- the text is out, and nothing else
-pub Sent-whole : (old new : List ℕ) (text : List ℕ) → Sent old new text [] → Appends old new text
-Sent-whole old new text s = s.sent ∙ ap (λ (l : List ℕ). old ++ l) (sym (s.whole ∙ append-nil s.front))
+pub Sent-whole : (old new : Taken) (text : List ℕ) → Sent old new text [] → Took old new text
+Sent-whole old new text s = subst (Took old new) (sym (s.whole ∙ append-nil s.front)) s.sent
 
 pub onok-map : {A E P Q : Type 0} (r : Result A E) → (P → Q) → OnOk r P → OnOk r Q
 onok-map (Ok x) f p = f p
 onok-map (Err e) f p = tt
 
 -- more text was held, and what no longer is went out
-pub Sent-more : (a b c : List ℕ) (text held more left : List ℕ) → Sent a b text held → Sent b c (held ++ more) left → Sent a c (text ++ more) left
+pub Sent-more : (a b c : Taken) (text held more left : List ℕ) → Sent a b text held → Sent b c (held ++ more) left → Sent a c (text ++ more) left
 Sent-more a b c text held more left s t = Sent-then a b c (text ++ more) (held ++ more) left (Sent-front a b text held more s) t
 
-pub Began-more : (a b c : List ℕ) (text held more : List ℕ) → Sent a b text held → Began b c (held ++ more) → Began a c (text ++ more)
+pub Began-more : (a b c : Taken) (text held more : List ℕ) → Sent a b text held → Began b c (held ++ more) → Began a c (text ++ more)
 Began-more a b c text held more s t = Began-all a b c (text ++ more) (held ++ more) (Sent-front a b text held more s) t
 
 -- ---- A call that writes, after one that did not fail
 
 -- a call that failed wrote a beginning of its text, and of every longer one
-pub Writes-fails : {K : Type 0} (taken : K → List ℕ) (broken : K → Bool) (a b : K) (e : Failed) (r : Result (Unit {0}) Failed) (text left rest : List ℕ) → is_err r ≡ true → Writes taken broken a b (Err e) text left → Writes taken broken a b r text rest
+pub Writes-fails : {K : Type 0} (taken : K → Taken) (broken : K → Bool) (a b : K) (e : Failed) (r : Result (Unit {0}) Failed) (text left rest : List ℕ) → is_err r ≡ true → Writes taken broken a b (Err e) text left → Writes taken broken a b r text rest
 Writes-fails taken broken a b e (Ok done) text left rest fails w = absurd (cc)
 Writes-fails taken broken a b e (Err f) text left rest fails w = record {
   ok = tt;
@@ -105,7 +98,7 @@ Writes-fails taken broken a b e (Err f) text left rest fails w = record {
   marks = λ h. absurd (cc);
 }
 
-pub Writes-cut : {K : Type 0} (taken : K → List ℕ) (broken : K → Bool) (a b : K) (e : Failed) (r : Result (Unit {0}) Failed) (text more left rest : List ℕ) → is_err r ≡ true → Writes taken broken a b (Err e) text left → Writes taken broken a b r (text ++ more) rest
+pub Writes-cut : {K : Type 0} (taken : K → Taken) (broken : K → Bool) (a b : K) (e : Failed) (r : Result (Unit {0}) Failed) (text more left rest : List ℕ) → is_err r ≡ true → Writes taken broken a b (Err e) text left → Writes taken broken a b r (text ++ more) rest
 Writes-cut taken broken a b e r text more left rest fails w = Writes-fails taken broken a b e r (text ++ more) left rest fails (record {
   ok = tt;
   err = Began-front (taken a) (taken b) text more w.err;
@@ -114,11 +107,11 @@ Writes-cut taken broken a b e r text more left rest fails w = Writes-fails taken
 })
 
 -- the same text by another name
-pub Writes-same : {K : Type 0} (taken : K → List ℕ) (broken : K → Bool) (a b : K) (r : Result (Unit {0}) Failed) (text line left : List ℕ) → text ≡ line → Writes taken broken a b r text left → Writes taken broken a b r line left
+pub Writes-same : {K : Type 0} (taken : K → Taken) (broken : K → Bool) (a b : K) (r : Result (Unit {0}) Failed) (text line left : List ℕ) → text ≡ line → Writes taken broken a b r text left → Writes taken broken a b r line left
 Writes-same taken broken a b r text line left same w = subst (λ (l : List ℕ). Writes taken broken a b r l left) same w
 
 -- what was held, and more, is written next
-pub Writes-more : {K : Type 0} (taken : K → List ℕ) (broken : K → Bool) (a b c : K) (done : Unit {0}) (r : Result (Unit {0}) Failed) (text held more left : List ℕ) → Writes taken broken a b (Ok done) text held
+pub Writes-more : {K : Type 0} (taken : K → Taken) (broken : K → Bool) (a b c : K) (done : Unit {0}) (r : Result (Unit {0}) Failed) (text held more left : List ℕ) → Writes taken broken a b (Ok done) text held
     → Writes taken broken b c r (held ++ more) left → Writes taken broken a c r (text ++ more) left
 Writes-more taken broken a b c done r text held more left w v = record {
   ok = onok-map r (Sent-more (taken a) (taken b) (taken c) text held more left w.ok) v.ok;
@@ -128,7 +121,7 @@ Writes-more taken broken a b c done r text held more left w v = record {
 }
 
 -- what was held is written, and nothing more
-pub Writes-held : {K : Type 0} (taken : K → List ℕ) (broken : K → Bool) (a b c : K) (done : Unit {0}) (r : Result (Unit {0}) Failed) (text held left : List ℕ) → Writes taken broken a b (Ok done) text held
+pub Writes-held : {K : Type 0} (taken : K → Taken) (broken : K → Bool) (a b c : K) (done : Unit {0}) (r : Result (Unit {0}) Failed) (text held left : List ℕ) → Writes taken broken a b (Ok done) text held
     → Writes taken broken b c r held left → Writes taken broken a c r text left
 Writes-held taken broken a b c done r text held left w v = record {
   ok = onok-map r (Sent-then (taken a) (taken b) (taken c) text held left w.ok) v.ok;
@@ -138,6 +131,6 @@ Writes-held taken broken a b c done r text held left w v = record {
 }
 
 -- the same where nothing is held afterwards
-pub Writes-more-held : {K : Type 0} (taken : K → List ℕ) (broken : K → Bool) (a b c : K) (done : Unit {0}) (r : Result (Unit {0}) Failed) (text more held left : List ℕ) → left ≡ [] → Writes taken broken a b (Ok done) text held
+pub Writes-more-held : {K : Type 0} (taken : K → Taken) (broken : K → Bool) (a b c : K) (done : Unit {0}) (r : Result (Unit {0}) Failed) (text more held left : List ℕ) → left ≡ [] → Writes taken broken a b (Ok done) text held
     → Writes taken broken b c r (held ++ more) [] → Writes taken broken a c r (text ++ more) left
 Writes-more-held taken broken a b c done r text more held left none w v = subst (λ (l : List ℕ). Writes taken broken a c r (text ++ more) l) (sym none) (Writes-more taken broken a b c done r text held more [] w v)

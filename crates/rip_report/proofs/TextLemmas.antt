@@ -7,7 +7,7 @@ use Rattle.rip_wire.specs.Prefix.{Block, prefix_text}
 use Rattle.rip_plan.specs.Network.{Network}
 use Rattle.rip_plan.specs.declared.parts.Interface.{Interface}
 use Rattle.rip_report.specs.Lines.{interface_name}
-use Rattle.rip_report.specs.TableText.{metric_line}
+use Rattle.rip_report.specs.TableText.{metric_line, table_line}
 use Rattle.rip_report.specs.Texts.{IsText, text_of}
 use Rattle.rip_report.specs.Written.{line}
 use Rattle.rip_report.specs.declared.texts.text.Text.{Text}
@@ -54,3 +54,7 @@ pub item-below : {A : Type 0} (xs : List A) (k : ℕ) → k < length xs → (x :
 item-below [] k lt = absurd (omega arith)
 item-below (x ∷ xs) zero lt = (x, refl)
 item-below (x ∷ xs) (suc k) lt = item-below xs k (omega arith)
+
+-- the line of the counts, by what they are
+pub same_counts : (i j p q : ℕ) → i ≡ j → p ≡ q → table_line i p ≡ table_line j q
+same_counts i j p q interfaces prefixes = ap (λ (k : ℕ). table_line k p) interfaces ∙ ap (table_line j) prefixes

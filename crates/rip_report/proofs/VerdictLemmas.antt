@@ -3,6 +3,7 @@ use Rattle.std.proofs.Common.{◌≡◌, ℕ, ◌<◌, length, Bool, List, None,
 use Rattle.std.specs.Prelude.{◌↔◌, IfOk}
 use Rattle.rip_plan.specs.Network.{Network}
 use Rattle.rip_plan.specs.Relations.{IsAttached, IsLawful}
+use Rattle.rip_log.specs.Taken.{Taken}
 use Rattle.rip_log.specs.declared.device.Failed.{Failed}
 use Rattle.rip_table.specs.State.{State}
 use Rattle.rip_check.specs.Verdicts.{IsVerdict, ShowsTables, IsNextUnsettled}
@@ -12,7 +13,7 @@ use Rattle.rip_check.specs.declared.verdict.Unclear.TheVariants.{NotHeard, TwoMe
 use Rattle.rip_check.specs.declared.verdict.Verdict.{Verdict}
 use Rattle.rip_check.specs.declared.verdict.Verdict.TheVariants as verdicts
 use Rattle.rip_report.specs.Lines.{IsKnownReason}
-use Rattle.rip_report.specs.AuditText.{IsJudged, IsTroubleOf, ShowsPlainRightTables, UnsettledLines, VerdictText, a_settled, an_unclear, an_unsettled, settled_line, unclear_line, verdict_status}
+use Rattle.rip_report.specs.AuditText.{AnswersRightly, IsJudged, IsTroubleOf, ShowsPlainRightTables, UnsettledLines, VerdictText, a_settled, an_unclear, an_unsettled, settled_line, unclear_line, verdict_status}
 use Rattle.rip_report.specs.Finished.{finished}
 use Rattle.rip_report.specs.Sent.{WentOut}
 use Rattle.rip_report.specs.Written.{Written}
@@ -119,10 +120,7 @@ ifok-map (Ok x) f p = f x p
 ifok-map (Err e) f p = tt
 
 -- the headline, of what is judged and what is told
-abbrev pub IsHeadline : Network → State → (Written → Type 0) → List ℕ → List ℕ → Status → Type 0
-IsHeadline n s IsText a b status = ((status ≡ Settled) ↔ ShowsRightTables n s) × (status ≡ Settled → PacketsArrive n s) × WentOut IsText a b status
-
-pub headline : (n : Network) (s : State) (IsText : Written → Type 0) (a b : List ℕ) (outcome : Result Status RunError) → IfOk outcome (IsJudged n s) → IfOk outcome (WentOut IsText a b) → IfOk outcome (IsHeadline n s IsText a b)
+pub headline : (n : Network) (s : State) (IsText : Written → Type 0) (a b : Taken) (outcome : Result Status RunError) → IfOk outcome (IsJudged n s) → IfOk outcome (WentOut IsText a b) → IfOk outcome (AnswersRightly n s IsText a b)
 headline n s IsText a b (Ok status) j told = (j.settled, j.arrive, told)
 headline n s IsText a b (Err e) j told = tt
 

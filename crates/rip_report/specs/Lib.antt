@@ -6,7 +6,7 @@ pub mod Lines
 pub mod DecodeText
 pub mod PlanText
 pub mod RefusalText
-pub mod Readings
+pub mod LogRefusals
 pub mod ReportText
 pub mod TableText
 pub mod Given
@@ -19,3 +19,7 @@ pub mod ExpectText
 pub mod RoutesText
 pub mod ExplainText
 pub mod WhatifText
+pub mod LeftOut
+pub mod HeardText
+pub mod AnywayText
+pub mod Hearings

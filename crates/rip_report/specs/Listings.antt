@@ -1,5 +1,6 @@
 -- The texts of numbered things, one after the other, and what goes on being written.
 use Rattle.std.specs.Prelude.{◌≡◌, ℕ, zero, suc, Bool, List, [], ◌++◌, length, slice_index}
+use Rattle.rip_log.specs.Taken.{Taken}
 use Rattle.rip_report.specs.Held.{held}
 use Rattle.rip_report.specs.Sent.{Writes}
 use Rattle.rip_report.specs.declared.listing.Listing.{Listing}
@@ -20,7 +21,7 @@ TextsOfPairs IsText rows columns = TextsBelow (λ r. TextsBelow (IsText r) colum
 
 -- whatever was written before of lines, this text comes after it
 abbrev pub Adds
-    : {K : Type 0} → (K → List ℕ) → (K → Bool) → K → K → Listing → Listing → List ℕ
+    : {K : Type 0} → (K → Taken) → (K → Bool) → K → K → Listing → Listing → List ℕ
     → Type 0
 Adds {K} taken broken old new before after more =
     (start : K) (text : List ℕ) → Writes taken broken start old before.wrote text (held before.page)

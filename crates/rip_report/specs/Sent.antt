@@ -1,6 +1,7 @@
--- What has gone out of a text, by the bytes that a sink has taken before and after, and what a run
--- leaves of its source.
+-- What has gone out of a text, by what a sink has taken before and after, and what a run leaves of its
+-- source.
 use Rattle.std.specs.Prelude.{◌≡◌, ◌≢◌, ℕ, Bool, true, false, List, ◌++◌, Result, Err, IfOk, OnErr, OnOk, is_err}
+use Rattle.rip_log.specs.Taken.{Taken, Took}
 use Rattle.rip_log.specs.declared.device.Failed.{Failed}
 use Rattle.rip_report.specs.Written.{Written}
 use Rattle.rip_report.specs.declared.status.Status.{Status}
@@ -8,22 +9,18 @@ use Rattle.rip_report.specs.declared.status.Status.TheVariants.{Refused}
 use Rattle.rip_report.specs.declared.status.RunError.{RunError}
 use Rattle.rip_report.specs.declared.status.RunError.TheVariants.{Read, Write, Memory}
 
--- these bytes were taken
-abbrev pub Appends : List ℕ → List ℕ → List ℕ → Type 0
-Appends old new bytes = new ≡ old ++ bytes
-
--- none were
-abbrev pub Keeps : List ℕ → List ℕ → Type 0
+-- nothing was taken
+abbrev pub Keeps : Taken → Taken → Type 0
 Keeps old new = new ≡ old
 
 -- a front of the text went out, and `left` is the rest of it
-pub record Sent (old new : List ℕ) (text left : List ℕ) : Type 0 where
+pub record Sent (old new : Taken) (text left : List ℕ) : Type 0 where
   pub front : List ℕ
-  pub sent : Appends old new front
+  pub sent : Took old new front
   pub whole : text ≡ front ++ left
 
 -- a beginning of the text went out
-pub record Began (old new : List ℕ) (text : List ℕ) : Type 0 where
+pub record Began (old new : Taken) (text : List ℕ) : Type 0 where
   pub left : List ℕ
   pub sent : Sent old new text left
 
@@ -31,7 +28,7 @@ pub record Began (old new : List ℕ) (text : List ℕ) : Type 0 where
 -- beginning went out
 pub record Writes
     {K : Type 0}
-    (taken : K → List ℕ)
+    (taken : K → Taken)
     (broken : K → Bool)
     (old new : K)
     (result : Result (Unit {0}) Failed)
@@ -43,18 +40,18 @@ pub record Writes
   pub marks : is_err result ≡ false → broken new ≡ broken old
 
 -- the whole of one of these texts went out, and its status is the one that is answered
-abbrev pub WentOut : (Written → Type 0) → List ℕ → List ℕ → Status → Type 0
+abbrev pub WentOut : (Written → Type 0) → Taken → Taken → Status → Type 0
 WentOut IsText old new status =
-    (text : List ℕ) × IsText (record { text = text; status = status }) × Appends old new text
+    (text : List ℕ) × IsText (record { text = text; status = status }) × Took old new text
 
 -- a beginning of one of these texts went out
-abbrev pub BeginningOut : (Written → Type 0) → List ℕ → List ℕ → Type 0
+abbrev pub BeginningOut : (Written → Type 0) → Taken → Taken → Type 0
 BeginningOut IsText old new = (w : Written) × IsText w × Began old new w.text
 
 -- what a run leaves that prints one of these texts
 pub record Prints
     {K : Type 0}
-    (taken : K → List ℕ)
+    (taken : K → Taken)
     (broken : K → Bool)
     (old new : K)
     (result : Result Status RunError)

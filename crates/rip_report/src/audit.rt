@@ -9,13 +9,12 @@ ghost use Rattle.rip_log.specs.Wholes.{Went};
 ghost use Rattle.rip_table.specs.State.{Fits, State};
 ghost use Rattle.rip_check.specs.Marks.{AreUnsettled};
 ghost use Rattle.rip_check.specs.Verdicts.{IsVerdict, IsNextUnsettled};
-ghost use Rattle.rip_report.specs.AuditText.{AllFailing, AuditText, FailingText, IsJudged, ShowsPlainRightTables, UnsettledLine, UnsettledLines, VerdictText, unsettled_line, verdict_status};
+ghost use Rattle.rip_report.specs.AuditText.{AllFailing, AnswersRightly, AuditText, FailingText, IsJudged, ShowsPlainRightTables, UnsettledLine, UnsettledLines, VerdictText, unsettled_line, verdict_status};
 ghost use Rattle.rip_report.specs.Given.{IsGiven};
 ghost use Rattle.rip_report.specs.PlanText.{IsNoText};
 ghost use Rattle.rip_report.specs.ReportText.{IsAccepted};
 ghost use Rattle.rip_report.specs.Sent.{Prints, Reads, WentOut, Writes};
-ghost use Rattle.rip_check.specs.Laws.{OneIsShown, ShowsRightTables};
-ghost use Rattle.rip_check.specs.Walks.{PacketsArrive};
+ghost use Rattle.rip_check.specs.Laws.{OneIsShown};
 
 use crate::lines::verdicts::{settled_text, unclear_text, unsettled_text};
 use crate::listing::Listing;
@@ -233,15 +232,11 @@ pub fn run_audit<R: Source, K: Sink, S: BuildHasher + Drop>(
     // otherwise the first place that does not hold is named, or the first trouble.
     ensures headline { (text : List ℕ) → IsGiven R.given R.at_end log result.0 text →
         (n : Network) (s : State) → IsAccepted plan.now text n s →
-        IfOk result.1 (λ status. ((status ≡ Status.Settled) ↔ ShowsRightTables n s)
-        × (status ≡ Status.Settled → PacketsArrive n s)
-        × WentOut (VerdictText n s all) (K.taken out.old) (K.taken out.new) status) }
+        IfOk result.1 (AnswersRightly n s (VerdictText n s all) (K.taken out.old) (K.taken out.new)) }
     // The same of all the text that was to come, where its bytes are modelled.
     ensures known { (text : List ℕ) → R.coming log ≡ Some text →
         (n : Network) (s : State) → IsAccepted plan.now text n s →
-        IfOk result.1 (λ status. ((status ≡ Status.Settled) ↔ ShowsRightTables n s)
-        × (status ≡ Status.Settled → PacketsArrive n s)
-        × WentOut (VerdictText n s all) (K.taken out.old) (K.taken out.new) status) }
+        IfOk result.1 (AnswersRightly n s (VerdictText n s all) (K.taken out.old) (K.taken out.new)) }
     // Of a plan that says nothing beside RFC 2453 the paths go over any neighbours.
     ensures plain { (text : List ℕ) → IsGiven R.given R.at_end log result.0 text →
         (n : Network) (s : State) → IsAccepted plan.now text n s → IsPlain n →
@@ -266,7 +261,7 @@ pub fn run_audit<R: Source, K: Sink, S: BuildHasher + Drop>(
     // The source of a refused plan is as it was, and its failure is not told.
     ensures untouched { (e : PlanError) → PlanFault plan.now e →
         (result.0 ≡ log) × (result.1 ≢ Err RunError.Read) }
-    // Bytes that are no text of a plan are refused without memory.
+    // Bytes that are no text of a plan do not answer Memory.
     ensures no_text { IsNoText plan.now → result.1 ≢ Err RunError.Memory }
 {
     one_set_of_tables();

@@ -15,8 +15,7 @@ ghost use Rattle.rip_check.specs.Expected.{AreExpected};
 ghost use Rattle.rip_check.specs.Firsts.{IsFirstTrouble};
 ghost use Rattle.rip_check.specs.Laws.{ShowsRightTables};
 ghost use Rattle.rip_check.specs.Verdicts.{IsNextUnsettled, ShowsTables};
-ghost use Rattle.rip_check.specs.Walks.{PacketsArrive};
-ghost use Rattle.rip_report.specs.AuditText.{IsJudged};
+ghost use Rattle.rip_report.specs.AuditText.{AnswersRightly, IsJudged};
 ghost use Rattle.rip_report.specs.ExplainText.{BeginsWithVerdict, ExplainText, ExplainsAll, UnreachableLine};
 ghost use Rattle.rip_report.specs.PlanText.{IsNoText};
 ghost use Rattle.rip_report.specs.ReportText.{IsAccepted, ReportText};
@@ -236,9 +235,7 @@ pub fn run_explain<R: Source, K: Sink, S: BuildHasher + Drop>(
     // Settled is answered exactly where the log shows right tables, and then packets arrive.
     ensures headline { (text : List ℕ) → IsGiven R.given R.at_end log result.0 text →
         (n : Network) (s : State) → IsAccepted plan.now text n s →
-        IfOk result.1 (λ status. ((status ≡ Status.Settled) ↔ ShowsRightTables n s)
-        × (status ≡ Status.Settled → PacketsArrive n s)
-        × WentOut (ExplainText n s all) (K.taken out.old) (K.taken out.new) status) }
+        IfOk result.1 (AnswersRightly n s (ExplainText n s all) (K.taken out.old) (K.taken out.new)) }
     // What each verdict is answered for.
     ensures judged { (text : List ℕ) → IsGiven R.given R.at_end log result.0 text →
         (n : Network) (s : State) → IsAccepted plan.now text n s →
@@ -264,7 +261,7 @@ pub fn run_explain<R: Source, K: Sink, S: BuildHasher + Drop>(
     // The source of a refused plan is as it was, and its failure is not told.
     ensures untouched { (e : PlanError) → PlanFault plan.now e →
         (result.0 ≡ log) × (result.1 ≢ Err RunError.Read) }
-    // Bytes that are no text of a plan are refused without memory.
+    // Bytes that are no text of a plan do not answer Memory.
     ensures no_text { IsNoText plan.now → result.1 ≢ Err RunError.Memory }
 {
     run_report(alloc, &Explain { all }, plan, log, out, hasher)

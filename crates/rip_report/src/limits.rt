@@ -70,3 +70,17 @@ pub(crate) const FAILED: usize = "router ".len() + NAME;
 pub(crate) const FARTHEST: usize = ", up to ".len() + NUMBER;
 /// The router that loses most, and how much.
 pub(crate) const HIT: usize = ", most lost by ".len() + NAME + ", ".len() + NUMBER;
+/// The lines of a kind: the first and the last.
+pub(crate) const LINES_PART: usize = ", lines ".len() + NUMBER + " to ".len() + NUMBER;
+/// How many lines of a kind there are, and these, with a word.
+pub(crate) const COUNTED: usize = NUMBER + WORDS + LINES_PART;
+/// What is left out: three counts with their words.
+pub(crate) const LEFT_OUT: usize = 3 * NUMBERED;
+/// The line of what is left out.
+pub(crate) const LEFT_OUT_LINE: usize = "left out".len() + LEFT_OUT + "\n".len();
+/// Who has an address.
+pub(crate) const WHO: usize = NAME + " has the address on ".len() + NAME;
+/// Who has the address of a stranger.
+pub(crate) const STRANGER_WHO: usize = "no link of that name, ".len() + WHO;
+/// The next hop of a bad entry, and who has it.
+pub(crate) const BY_HOP: usize = " by ".len() + ADDRESS + ": ".len() + WHO;

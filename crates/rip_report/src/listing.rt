@@ -29,13 +29,27 @@ impl Listing {
         }
     }
 
-    /// Adds a line, unless a write before has failed.
+    /// Adds bytes, unless a write before has failed.
+    fn add_bytes<K: Sink>(&mut self, bytes: &[u8], out: &mut K)
+        ensures { Adds K.taken K.broken out.old out.new self.old self.new bytes.now }
+    {
+        if self.wrote.is_ok() {
+            self.wrote = self.page.write(out, bytes);
+        }
+    }
+
+    /// Adds a line.
     pub(crate) fn add<K: Sink>(&mut self, line: &Line, out: &mut K)
         ensures { Adds K.taken K.broken out.old out.new self.old self.new line.now }
     {
-        if self.wrote.is_ok() {
-            self.wrote = self.page.write(out, line.as_bytes());
-        }
+        self.add_bytes(line.as_bytes(), out);
+    }
+
+    /// Adds a text that may be longer than a line's parts are.
+    pub(crate) fn add_text<K: Sink>(&mut self, text: &str, out: &mut K)
+        ensures { Adds K.taken K.broken out.old out.new self.old self.new text.now }
+    {
+        self.add_bytes(text.as_bytes(), out);
     }
 
     /// Sends what is left, and tells whether all lines went out.

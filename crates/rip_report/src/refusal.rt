@@ -16,7 +16,7 @@ pub(crate) use wire::push_wire_fault;
 
 /// Adds the number and the word of a code of a log.
 #[tactic(auto, unfolding(crate::specs::RefusalText::log_code_text))]
-fn push_log_code(text: &mut Line, code: LogCode)
+pub(crate) fn push_log_code(text: &mut Line, code: LogCode)
     requires { length text.old + LOG_CODE ≤ LINE_BYTES }
     ensures text { text.new ≡ text.old ++ log_code_text code }
     ensures size { length text.new ≤ length text.old + LOG_CODE }
@@ -63,7 +63,7 @@ fn push_change(text: &mut Line, old: Metric, new: Metric)
 
 /// Adds the number and the word of what a table refuses.
 #[tactic(auto, unfolding(crate::specs::RefusalText::table_error_text))]
-fn push_table_error(text: &mut Line, error: TableError)
+pub(crate) fn push_table_error(text: &mut Line, error: TableError)
     requires { length text.old + TABLE_ERROR ≤ LINE_BYTES }
     ensures text { text.new ≡ text.old ++ table_error_text error }
     ensures size { length text.new ≤ length text.old + TABLE_ERROR }

@@ -12,8 +12,8 @@ ghost use Rattle.rip_report.specs.ReportText.{IsAccepted, IsTable, ReportOf, Rep
 ghost use Rattle.rip_report.specs.Sent.{Prints, Reads, WentOut};
 ghost use Rattle.rip_report.specs.Written.{Written};
 
+use crate::log::read_log;
 use crate::output::{finish, write_all};
-use crate::reading::read_log;
 use crate::refusal::{refusal_text, refuse_plan};
 use crate::status::{RunError, Status};
 use rip_log::laws::log_texts;
@@ -118,7 +118,7 @@ pub(crate) fn run_report<C: Report, R: Source, K: Sink, S: BuildHasher + Drop>(
     // The source of a refused plan is as it was, and its failure is not told.
     ensures untouched { (e : PlanError) → PlanFault plan.now e →
         (result.0 ≡ log) × (result.1 ≢ Err RunError.Read) }
-    // Bytes that are no text of a plan are refused without memory.
+    // Bytes that are no text of a plan do not answer Memory.
     ensures no_text { IsNoText plan.now → result.1 ≢ Err RunError.Memory }
 {
     one_plan();

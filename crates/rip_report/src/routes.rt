@@ -4,11 +4,14 @@ ghost use Rattle.std.specs.Prelude.{◌≡◌, ◌≢◌, Err, ◌+◌, ◌≤�
 ghost use Rattle.rip_plan.specs.Network.{Network};
 ghost use Rattle.rip_plan.specs.PlanFaults.{PlanFault};
 ghost use Rattle.rip_plan.specs.declared.error.PlanError.{PlanError};
+ghost use Rattle.rip_report.specs.AnywayText.{AnywayRoutes};
 ghost use Rattle.rip_report.specs.Given.{IsGiven};
+ghost use Rattle.rip_report.specs.Hearings.{IsUnread, RoutesAnyway};
+ghost use Rattle.rip_table.specs.Tallies.{counts_of};
 ghost use Rattle.rip_log.specs.Wholes.{Went};
 ghost use Rattle.rip_table.specs.State.{Fits, State};
 ghost use Rattle.rip_check.specs.Expected.{AreExpected};
-ghost use Rattle.rip_report.specs.declared.limits.TheConstants.{LINE_BYTES, NUMBERED, PLACE};
+ghost use Rattle.rip_report.specs.declared.limits.TheConstants.{LINE_BYTES, NUMBERED, PLACE, TWO_NUMBERS, WORDS};
 ghost use Rattle.rip_report.specs.Lines.{IsKnownReason, read_part, unheard_line};
 ghost use Rattle.rip_report.specs.Listings.{TextsBelow, TextsOfPairs};
 ghost use Rattle.rip_report.specs.Names.{IsKnownWay};
@@ -17,6 +20,8 @@ ghost use Rattle.rip_report.specs.ReportText.{IsAccepted, ReportText};
 ghost use Rattle.rip_report.specs.RoutesText.{RouteLine, RoutesText, UnheardLine, least_part, pair_part, read_line, routes_line, unread_line};
 ghost use Rattle.rip_report.specs.Sent.{Prints, Reads, WentOut, Writes};
 
+use crate::events::{EventReport, run_counted};
+use crate::left_out::{anyway_status, push_left_out_line};
 use crate::line::Line;
 use crate::lines::verdicts::push_reason;
 use crate::lines::{push_route, unheard_text};
@@ -29,7 +34,7 @@ use crate::status::{RunError, Status};
 use rip_check::{Expected, Route, Unclear, route};
 use rip_log::{Failed, Sink, Source};
 use rip_plan::Plan;
-use rip_table::MetricTable;
+use rip_table::{Counts, MetricTable};
 use rip_wire::Metric;
 use std::alloc::Global;
 use std::hash::BuildHasher;
@@ -37,7 +42,8 @@ use std::hash::BuildHasher;
 /// The line of the counts.
 #[tactic(auto, unfolding(crate::specs::RoutesText::routes_line))]
 fn counts_text<T: MetricTable>(plan: &Plan, table: &T) -> Line
-    ensures { result ≡ routes_line plan.now (T.state table.now) }
+    ensures text { result ≡ routes_line plan.now (T.state table.now) }
+    ensures size { length result ≤ TWO_NUMBERS + WORDS }
 {
     let mut text = Line::new();
     text.push("routes: ");
@@ -192,12 +198,13 @@ impl PairText for RouteAndLeast {
     }
 }
 
-/// Writes the routes of a table: the counts, the interfaces that were not heard, and a line for each
-/// router and prefix.
+/// Writes the first lines of the routes of a table, the interfaces that were not heard, and a line
+/// for each router and prefix.
 fn write_routes<T: MetricTable, K: Sink>(
     plan: &Plan,
     expected: Expected,
     table: &T,
+    first: &Line,
     out: &mut K,
 ) -> Result<(), Failed>
     requires fits { Fits plan.now (T.state table.now) }
@@ -207,13 +214,35 @@ fn write_routes<T: MetricTable, K: Sink>(
         × TextsOfPairs (RouteLine plan.now (T.state table.now))
         (length plan.now.routers) (length (T.state table.now).prefixes) text
         × Writes K.taken K.broken out.old out.new result
-        ((routes_line plan.now (T.state table.now) ++ silent) ++ text) [] }
+        ((first.now ++ silent) ++ text) [] }
 {
     let mut listing = Listing::new();
-    listing.add(&counts_text(plan, table), out);
+    listing.add(first, out);
     add_interfaces(&Unheard, &mut listing, plan, table, out);
     add_pairs(&RouteAndLeast { expected }, &mut listing, plan, table, out);
     listing.finish(out)
+}
+
+/// Writes the routes of a table, with how much is left out of it after the counts.
+pub(crate) fn write_routes_anyway<T: MetricTable, K: Sink>(
+    alloc: Global,
+    plan: &Plan,
+    table: &T,
+    left_out: Counts,
+    out: &mut K,
+) -> Result<Status, RunError>
+    requires { Fits plan.now (T.state table.now) }
+    ensures prints { Prints K.taken K.broken out.old out.new result
+        (AnywayRoutes plan.now (T.state table.now) left_out) }
+    ensures read { result ≢ Err RunError.Read }
+{
+    let Ok(expected) = Expected::find(alloc, plan) else {
+        return Err(RunError::Memory);
+    };
+    let mut first = counts_text(plan, table);
+    push_left_out_line(&mut first, left_out);
+    let status = anyway_status(left_out, Status::Done);
+    finish(write_routes(plan, expected, table, &first, out), status)
 }
 
 /// The command `routes`.
@@ -234,10 +263,29 @@ impl Report for Routes {
         table: &T,
         out: &mut K,
     ) -> Result<Status, RunError> {
-        match Expected::find(alloc, plan) {
-            Ok(expected) => finish(write_routes(plan, expected, table, out), Status::Done),
-            Err(_) => Err(RunError::Memory),
-        }
+        let Ok(expected) = Expected::find(alloc, plan) else {
+            return Err(RunError::Memory);
+        };
+        let counts = counts_text(plan, table);
+        finish(
+            write_routes(plan, expected, table, &counts, out),
+            Status::Done,
+        )
+    }
+}
+
+impl EventReport<Counts> for Routes {
+    ghost is_text = { λ _ n events s. AnywayRoutes n s (counts_of events) };
+
+    fn write<T: MetricTable, K: Sink>(
+        &self,
+        alloc: Global,
+        plan: &Plan,
+        table: &T,
+        left_out: &Counts,
+        out: &mut K,
+    ) -> Result<Status, RunError> {
+        write_routes_anyway(alloc, plan, table, *left_out, out)
     }
 }
 
@@ -268,8 +316,43 @@ pub fn run_routes<R: Source, K: Sink, S: BuildHasher + Drop>(
     // The source of a refused plan is as it was, and its failure is not told.
     ensures untouched { (e : PlanError) → PlanFault plan.now e →
         (result.0 ≡ log) × (result.1 ≢ Err RunError.Read) }
-    // Bytes that are no text of a plan are refused without memory.
+    // Bytes that are no text of a plan do not answer Memory.
     ensures no_text { IsNoText plan.now → result.1 ≢ Err RunError.Memory }
 {
     run_report(alloc, &Routes, plan, log, out, hasher)
+}
+
+/// Prints the routes of what is not refused in a log, good or bad, with how much is left out, for the plan
+/// that the bytes of a TOML document are; or what refuses the plan. The log is read to its end, whatever
+/// its lines say, up to line 1,000,001. The source comes back. The hasher is for the prefixes, which
+/// strangers choose. `Done` where nothing is left out, and else `Refused`.
+pub fn run_routes_anyway<R: Source, K: Sink, S: BuildHasher + Drop>(
+    alloc: Global,
+    plan: &[u8],
+    log: R,
+    out: &mut K,
+    hasher: S,
+) -> (R, Result<Status, RunError>)
+    // The whole text went out, or a beginning where the sink failed, or nothing.
+    ensures prints { (text : List ℕ) → IsGiven R.given R.at_end log result.0 text →
+        Prints K.taken K.broken out.old out.new result.1 (RoutesAnyway plan.now text) }
+    // Read only where the source has failed, or a line has more than 2^64 - 1 bytes.
+    ensures read { (text : List ℕ) → IsGiven R.given R.at_end log result.0 text →
+        result.1 ≡ Err RunError.Read → IsUnread (R.broken result.0) text }
+    ensures source { result.1 ≢ Err RunError.Read → R.broken result.0 ≡ R.broken log }
+    ensures went { Went R.given R.coming R.at_end log result.0 }
+    ensures to_come { (text : List ℕ) → R.coming log ≡ Some text →
+        IsGiven R.given R.at_end log result.0 text }
+    // Of a log that is accepted it is what `routes` prints.
+    ensures accepted { (text : List ℕ) → IsGiven R.given R.at_end log result.0 text →
+        (n : Network) (s : State) → IsAccepted plan.now text n s →
+        IfOk result.1
+        (WentOut (RoutesText n s) (K.taken out.old) (K.taken out.new)) }
+    // If the plan is refused, the log is not touched.
+    ensures untouched { (e : PlanError) → PlanFault plan.now e →
+        (result.0 ≡ log) × (result.1 ≢ Err RunError.Read) }
+    // Bytes that are no text of a plan do not answer Memory.
+    ensures no_text { IsNoText plan.now → result.1 ≢ Err RunError.Memory }
+{
+    run_counted(alloc, &Routes, plan, log, out, hasher)
 }

@@ -3,10 +3,13 @@
 ghost use Rattle.std.specs.Prelude.{◌≡◌, ◌≢◌, Err, ◌+◌, ◌≤◌, ◌<◌, ◌++◌, [], IfOk, length, codes, ℕ, List, Some};
 ghost use Rattle.std.specs.List.{enumerate_from, flat_map};
 ghost use Rattle.rip_plan.specs.declared.error.PlanError.{PlanError};
+ghost use Rattle.rip_report.specs.AnywayText.{AnywayTable};
 ghost use Rattle.rip_report.specs.Given.{IsGiven};
+ghost use Rattle.rip_report.specs.Hearings.{IsUnread, TableAnyway};
+ghost use Rattle.rip_table.specs.Tallies.{counts_of};
 ghost use Rattle.rip_log.specs.Wholes.{Went};
 ghost use Rattle.rip_table.specs.State.{Fits, State};
-ghost use Rattle.rip_report.specs.declared.limits.TheConstants.{INTERFACE, LINE_BYTES, WORDS};
+ghost use Rattle.rip_report.specs.declared.limits.TheConstants.{INTERFACE, LINE_BYTES, TWO_NUMBERS, WORDS};
 ghost use Rattle.rip_report.specs.Lines.{interface_name, unheard_line};
 ghost use Rattle.rip_report.specs.TableText.{TableText, interface_lines, prefix_lines, shown_lines, shown_table, table_line};
 ghost use Rattle.rip_report.specs.Held.{held};
@@ -19,6 +22,8 @@ ghost use Rattle.rip_plan.specs.PlanFaults.{PlanFault};
 ghost use Rattle.rip_plan.specs.declared.parts.Interface.{Interface};
 ghost use Rattle.rip_wire.specs.Prefix.{Block, prefix_text};
 
+use crate::events::{EventReport, run_counted};
+use crate::left_out::{anyway_status, push_left_out_line};
 use crate::line::Line;
 use crate::lines::{push_interface, unheard_text};
 use crate::output::{Page, finish};
@@ -27,7 +32,7 @@ use crate::status::{RunError, Status};
 use crate::texts::{METRICS, Text, Texts};
 use rip_log::{Failed, Sink, Source};
 use rip_plan::{Interface, Plan};
-use rip_table::MetricTable;
+use rip_table::{Counts, MetricTable};
 use rip_wire::Metric;
 use std::alloc::Global;
 use std::hash::BuildHasher;
@@ -35,7 +40,8 @@ use std::hash::BuildHasher;
 /// The line of the counts.
 #[tactic(auto, unfolding(crate::specs::TableText::table_line))]
 fn counts_text(interfaces: usize, prefixes: usize) -> Line
-    ensures { result ≡ table_line interfaces prefixes }
+    ensures text { result ≡ table_line interfaces prefixes }
+    ensures size { length result ≤ TWO_NUMBERS + WORDS }
 {
     let mut text = Line::new();
     text.push("table: ");
@@ -163,22 +169,51 @@ fn write_interfaces<T: MetricTable, K: Sink>(
     Ok(())
 }
 
-/// Writes a table: its counts and its interfaces.
-pub(crate) fn write_table<T: MetricTable, K: Sink>(
+/// Writes the first lines of a table, and its interfaces.
+fn write_lines<T: MetricTable, K: Sink>(
     plan: &Plan,
     table: &T,
+    first: &Line,
     out: &mut K,
 ) -> Result<(), Failed>
     requires { Fits plan.now (T.state table.now) }
     ensures { Writes K.taken K.broken out.old out.new result
-        (shown_table plan.now (T.state table.now)).text [] }
+        (first.now ++ flat_map (interface_lines plan.now (T.state table.now))
+        (enumerate_from 0 plan.now.interfaces)) [] }
 {
     let mut page = Page::new();
-    let counts = counts_text(plan.interfaces(), table.prefix_count());
-    page.write(out, counts.as_bytes())?;
+    page.write(out, first.as_bytes())?;
     let texts = Texts::of(table);
     write_interfaces(&mut page, plan, table, &texts, out)?;
     page.flush(out)
+}
+
+/// Writes a table: its counts and its interfaces.
+fn write_table<T: MetricTable, K: Sink>(plan: &Plan, table: &T, out: &mut K) -> Result<(), Failed>
+    requires { Fits plan.now (T.state table.now) }
+    ensures { Writes K.taken K.broken out.old out.new result
+        (shown_table plan.now (T.state table.now)).text [] }
+{
+    let counts = counts_text(plan.interfaces(), table.prefix_count());
+    write_lines(plan, table, &counts, out)
+}
+
+/// Writes a table, with how much is left out of it after its counts.
+pub(crate) fn write_table_anyway<T: MetricTable, K: Sink>(
+    plan: &Plan,
+    table: &T,
+    left_out: Counts,
+    out: &mut K,
+) -> Result<Status, RunError>
+    requires { Fits plan.now (T.state table.now) }
+    ensures prints { Prints K.taken K.broken out.old out.new result
+        (AnywayTable plan.now (T.state table.now) left_out) }
+    ensures read { result ≢ Err RunError.Read }
+{
+    let mut first = counts_text(plan.interfaces(), table.prefix_count());
+    push_left_out_line(&mut first, left_out);
+    let status = anyway_status(left_out, Status::Done);
+    finish(write_lines(plan, table, &first, out), status)
 }
 
 /// The command `table`.
@@ -200,6 +235,21 @@ impl Report for Table {
         out: &mut K,
     ) -> Result<Status, RunError> {
         finish(write_table(plan, table, out), Status::Done)
+    }
+}
+
+impl EventReport<Counts> for Table {
+    ghost is_text = { λ _ n events s. AnywayTable n s (counts_of events) };
+
+    fn write<T: MetricTable, K: Sink>(
+        &self,
+        _: Global,
+        plan: &Plan,
+        table: &T,
+        left_out: &Counts,
+        out: &mut K,
+    ) -> Result<Status, RunError> {
+        write_table_anyway(plan, table, *left_out, out)
     }
 }
 
@@ -230,8 +280,43 @@ pub fn run_table<R: Source, K: Sink, S: BuildHasher + Drop>(
     // The source of a refused plan is as it was, and its failure is not told.
     ensures untouched { (e : PlanError) → PlanFault plan.now e →
         (result.0 ≡ log) × (result.1 ≢ Err RunError.Read) }
-    // Bytes that are no text of a plan are refused without memory.
+    // Bytes that are no text of a plan do not answer Memory.
     ensures no_text { IsNoText plan.now → result.1 ≢ Err RunError.Memory }
 {
     run_report(alloc, &Table, plan, log, out, hasher)
+}
+
+/// Prints the table of what is not refused in a log, good or bad, with how much is left out of it, for the
+/// plan that the bytes of a TOML document are; or what refuses the plan. The log is read to its end,
+/// whatever its lines say, up to line 1,000,001. The source comes back. The hasher is for the prefixes,
+/// which strangers choose. `Done` where nothing is left out, and else `Refused`.
+pub fn run_table_anyway<R: Source, K: Sink, S: BuildHasher + Drop>(
+    alloc: Global,
+    plan: &[u8],
+    log: R,
+    out: &mut K,
+    hasher: S,
+) -> (R, Result<Status, RunError>)
+    // The whole text went out, or a beginning where the sink failed, or nothing.
+    ensures prints { (text : List ℕ) → IsGiven R.given R.at_end log result.0 text →
+        Prints K.taken K.broken out.old out.new result.1 (TableAnyway plan.now text) }
+    // Read only where the source has failed, or a line has more than 2^64 - 1 bytes.
+    ensures read { (text : List ℕ) → IsGiven R.given R.at_end log result.0 text →
+        result.1 ≡ Err RunError.Read → IsUnread (R.broken result.0) text }
+    ensures source { result.1 ≢ Err RunError.Read → R.broken result.0 ≡ R.broken log }
+    ensures went { Went R.given R.coming R.at_end log result.0 }
+    ensures to_come { (text : List ℕ) → R.coming log ≡ Some text →
+        IsGiven R.given R.at_end log result.0 text }
+    // Of a log that is accepted it is what `table` prints.
+    ensures accepted { (text : List ℕ) → IsGiven R.given R.at_end log result.0 text →
+        (n : Network) (s : State) → IsAccepted plan.now text n s →
+        IfOk result.1
+        (WentOut (λ w. w ≡ shown_table n s) (K.taken out.old) (K.taken out.new)) }
+    // If the plan is refused, the log is not touched.
+    ensures untouched { (e : PlanError) → PlanFault plan.now e →
+        (result.0 ≡ log) × (result.1 ≢ Err RunError.Read) }
+    // Bytes that are no text of a plan do not answer Memory.
+    ensures no_text { IsNoText plan.now → result.1 ≢ Err RunError.Memory }
+{
+    run_counted(alloc, &Table, plan, log, out, hasher)
 }

@@ -1,6 +1,7 @@
 use Rattle.std.proofs.Common.{arith, take, drop, length, ℕ, ◌+◌, ◌≤◌, ◌∙◌, List, subst}
 use Rattle.std.proofs.lemmas.List.{drop-drop, length-drop, take_rest}
-use Rattle.rip_report.specs.Sent.{Appends, Sent}
+use Rattle.rip_log.specs.Taken.{Took}
+use Rattle.rip_report.specs.Sent.{Sent}
 use Rattle.rip_report.proofs.SentLemmas.{Sent-then, Sent-push, unbroken}
 use Rattle.rip_report.proofs.output.write_all.Goals as goal
 
@@ -14,7 +15,7 @@ pieces-preserved g c =
     let now = taken c.pieces.out in
     let new = taken c.push.new.self in
     let full = take_rest bytes c.pieces.at in
-    let went = subst (λ (l : List ℕ). Appends now new (take n l)) full c.in_ok-at.ensures.took in
+    let went = subst (λ (l : List ℕ). Took now new (take n l)) full c.in_ok-at.ensures.took in
     let bound = subst (λ (l : List ℕ). n ≤ length l) full c.in_ok-at.ensures.bound in
     record {
       sent = Sent-then (taken c.args.out.now) now new bytes rest (drop (c.pieces.at + n) bytes) inv.sent

@@ -4,7 +4,7 @@ use Rattle.rip_log.specs.Wholes.{rest_of}
 use Rattle.rip_table.specs.Collects.{SaidOutcome}
 use Rattle.rip_report.proofs.GivenLemmas.{rest_given}
 use Rattle.rip_report.proofs.ReportLemmas.{LogWords, made_of}
-use Rattle.rip_report.proofs.reading.read_log.Goals as goal
+use Rattle.rip_report.proofs.log.read_log.Goals as goal
 
 pub returns-in-Ok-clause-told : goal.returns-in-Ok-clause-told
 returns-in-Ok-clause-told g c = λ text begins.

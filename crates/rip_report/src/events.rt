@@ -1,0 +1,146 @@
+//! Reports on a log that is read to its end: what the commands share that leave out what is bad or refused.
+
+ghost use Rattle.std.specs.Prelude.{◌≡◌, ◌≢◌, [], ℕ, Err, IfOk, List, Some};
+ghost use Rattle.rip_plan.specs.Network.{Network};
+ghost use Rattle.rip_plan.specs.PlanFaults.{PlanFault};
+ghost use Rattle.rip_plan.specs.declared.error.PlanError.{PlanError};
+ghost use Rattle.rip_log.specs.Wholes.{Went};
+ghost use Rattle.rip_table.specs.Events.{EventAt};
+ghost use Rattle.rip_table.specs.State.{Fits, State, new_state};
+ghost use Rattle.rip_report.specs.Given.{IsGiven};
+ghost use Rattle.rip_report.specs.Hearings.{EventsOf, EventsText, IsUnread, OfAccepted};
+ghost use Rattle.rip_report.specs.PlanText.{IsNoText};
+ghost use Rattle.rip_report.specs.ReportText.{IsAccepted};
+ghost use Rattle.rip_report.specs.Sent.{Prints, WentOut};
+ghost use Rattle.rip_report.specs.Written.{Written};
+
+use crate::laws::accepted_logs;
+use crate::log::hear_log;
+use crate::refusal::refuse_plan;
+use crate::status::{RunError, Status};
+use rip_log::{Sink, Source};
+use rip_plan::Plan;
+use rip_plan::laws::{one_plan, well_formed_texts};
+use rip_table::{Counts, GridTable, Listener, MetricTable};
+use std::alloc::Global;
+use std::hash::BuildHasher;
+
+/// A command that reads a plan and a log to its end: what it writes of the table, and of what a
+/// listener has heard.
+pub(crate) trait EventReport<L: Listener> {
+    // The texts that it may write where the lines of a log come to these events and this table.
+    ghost is_text: { Self → Network → List EventAt → State → Written → Type 0 };
+
+    /// Writes what there is to say of a table, and of what a listener has heard.
+    fn write<T: MetricTable, K: Sink>(
+        &self,
+        alloc: Global,
+        plan: &Plan,
+        table: &T,
+        listener: &L,
+        out: &mut K,
+    ) -> Result<Status, RunError>
+        requires fits { Fits plan.now (T.state table.now) }
+        requires suits { L.suits plan.now listener.now }
+        ensures prints { (events : List EventAt) → L.holds listener.now events →
+            Prints K.taken K.broken out.old out.new result
+            (is_text self.now plan.now events (T.state table.now)) }
+        ensures read { result ≢ Err RunError.Read };
+}
+
+/// Writes the report on a log by its plan. The table is new, and the listener has heard nothing.
+fn report_to<C: EventReport<L>, L: Listener, R: Source, K: Sink, T: MetricTable>(
+    alloc: Global,
+    command: &C,
+    plan: &Plan,
+    log: R,
+    table: &mut T,
+    listener: &mut L,
+    out: &mut K,
+) -> (R, Result<Status, RunError>)
+    requires table { T.state table.old ≡ new_state plan.now }
+    requires suits { L.suits plan.now listener.old }
+    requires new { L.holds listener.old [] }
+    ensures prints { (text : List ℕ) → IsGiven R.given R.at_end log result.0 text →
+        Prints K.taken K.broken out.old out.new result.1
+        (EventsOf (C.is_text command.now plan.now) plan.now text) }
+    ensures read { (text : List ℕ) → IsGiven R.given R.at_end log result.0 text →
+        result.1 ≡ Err RunError.Read → IsUnread (R.broken result.0) text }
+    ensures source { result.1 ≢ Err RunError.Read → R.broken result.0 ≡ R.broken log }
+    ensures went { Went R.given R.coming R.at_end log result.0 }
+{
+    let (source, heard) = hear_log(alloc, plan, log, table, listener);
+    match heard {
+        Ok(()) => (source, command.write(alloc, plan, table, listener, out)),
+        Err(error) => (source, Err(error)),
+    }
+}
+
+/// Writes the report on a log by its plan, for a listener that has heard nothing. The source comes back.
+/// The hasher is for the prefixes, which strangers choose.
+pub(crate) fn report_events<
+    C: EventReport<L>,
+    L: Listener,
+    R: Source,
+    K: Sink,
+    S: BuildHasher + Drop,
+>(
+    alloc: Global,
+    command: &C,
+    plan: &Plan,
+    log: R,
+    listener: &mut L,
+    out: &mut K,
+    hasher: S,
+) -> (R, Result<Status, RunError>)
+    requires suits { L.suits plan.now listener.old }
+    requires new { L.holds listener.old [] }
+    ensures prints { (text : List ℕ) → IsGiven R.given R.at_end log result.0 text →
+        Prints K.taken K.broken out.old out.new result.1
+        (EventsOf (C.is_text command.now plan.now) plan.now text) }
+    ensures read { (text : List ℕ) → IsGiven R.given R.at_end log result.0 text →
+        result.1 ≡ Err RunError.Read → IsUnread (R.broken result.0) text }
+    ensures source { result.1 ≢ Err RunError.Read → R.broken result.0 ≡ R.broken log }
+    ensures went { Went R.given R.coming R.at_end log result.0 }
+{
+    match GridTable::with_hasher(alloc, plan, hasher) {
+        Ok(mut table) => report_to(alloc, command, plan, log, &mut table, listener, out),
+        Err(_) => (log, Err(RunError::Memory)),
+    }
+}
+
+/// Writes the report on a log, of which it is counted what is left out, for the plan that the bytes of a
+/// TOML document are, or what refuses the plan. The source comes back.
+pub(crate) fn run_counted<C: EventReport<Counts>, R: Source, K: Sink, S: BuildHasher + Drop>(
+    alloc: Global,
+    command: &C,
+    plan: &[u8],
+    log: R,
+    out: &mut K,
+    hasher: S,
+) -> (R, Result<Status, RunError>)
+    ensures prints { (text : List ℕ) → IsGiven R.given R.at_end log result.0 text →
+        Prints K.taken K.broken out.old out.new result.1
+        (EventsText (C.is_text command.now) plan.now text) }
+    ensures read { (text : List ℕ) → IsGiven R.given R.at_end log result.0 text →
+        result.1 ≡ Err RunError.Read → IsUnread (R.broken result.0) text }
+    ensures source { result.1 ≢ Err RunError.Read → R.broken result.0 ≡ R.broken log }
+    ensures went { Went R.given R.coming R.at_end log result.0 }
+    ensures to_come { (text : List ℕ) → R.coming log ≡ Some text →
+        IsGiven R.given R.at_end log result.0 text }
+    // Of a log that is accepted nothing is left out.
+    ensures accepted { (text : List ℕ) → IsGiven R.given R.at_end log result.0 text →
+        (n : Network) (s : State) → IsAccepted plan.now text n s → IfOk result.1
+        (WentOut (OfAccepted (C.is_text command.now) n s) (K.taken out.old) (K.taken out.new)) }
+    ensures untouched { (e : PlanError) → PlanFault plan.now e →
+        (result.0 ≡ log) × (result.1 ≢ Err RunError.Read) }
+    ensures no_text { IsNoText plan.now → result.1 ≢ Err RunError.Memory }
+{
+    one_plan();
+    well_formed_texts();
+    accepted_logs();
+    match Plan::read(alloc, plan) {
+        Ok(plan) => report_events(alloc, command, &plan, log, &mut Counts::new(), out, hasher),
+        Err(error) => (log, refuse_plan(error, out)),
+    }
+}
