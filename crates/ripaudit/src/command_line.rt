@@ -1,7 +1,8 @@
 //! The words of the command line, and what they ask for.
 
 use crate::commands::{
-    LogCommand, PlanCommand, log_command, plan_command, read_plan, run_on_log, run_on_plan,
+    AnywayCommand, LogCommand, PlanCommand, anyway_command, log_command, plan_command, read_plan,
+    run_anyway, run_on_log, run_on_plan,
 };
 use clap::error::ErrorKind;
 use clap::{Arg, ArgAction, ArgMatches, Command, Error};
@@ -13,6 +14,13 @@ use std::io::{IsTerminal, Read};
 use std::random::RandomSource;
 use std::rt::Files;
 use std::{env, fs, io};
+
+/// The commands that read a log: up to what refuses it, or to its end.
+#[derive(Clone, Copy)]
+enum ReadCommand {
+    Judged(LogCommand),
+    Anyway(AnywayCommand),
+}
 
 /// A word that stands in its place.
 fn word<'a>(alloc: Global, name: &'a str, help: &'a str, is_required: bool) -> Arg<'a> {
@@ -34,10 +42,10 @@ fn log_word<'a>(alloc: Global) -> Arg<'a> {
     )
 }
 
-/// The word `--all`.
-fn all_word<'a>(alloc: Global, help: &'a str) -> Arg<'a> {
-    Arg::new(alloc, "all")
-        .long("all")
+/// A flag: a word that begins with two hyphens and may be given.
+fn flag<'a>(alloc: Global, name: &'a str, help: &'a str) -> Arg<'a> {
+    Arg::new(alloc, name)
+        .long(name)
         .action(ArgAction::SetTrue)
         .help(help)
 }
@@ -54,7 +62,7 @@ fn on_plan_with_all<'a>(
     about: &'a str,
     all: &'a str,
 ) -> Result<Command<'a>, AllocError> {
-    on_plan(alloc, name, about)?.arg(all_word(alloc, all))
+    on_plan(alloc, name, about)?.arg(flag(alloc, "all", all))
 }
 
 /// A command that reads a plan and a log.
@@ -69,7 +77,17 @@ fn on_log_with_all<'a>(
     about: &'a str,
     all: &'a str,
 ) -> Result<Command<'a>, AllocError> {
-    on_log(alloc, name, about)?.arg(all_word(alloc, all))
+    on_log(alloc, name, about)?.arg(flag(alloc, "all", all))
+}
+
+/// A command that reads a plan and a log, and goes on where it is refused if `--anyway` is given.
+fn on_log_with_anyway<'a>(
+    alloc: Global,
+    name: &'a str,
+    about: &'a str,
+) -> Result<Command<'a>, AllocError> {
+    let anyway = "Leave out what is refused, a stranger's or bad, and go on";
+    on_log(alloc, name, about)?.arg(flag(alloc, "anyway", anyway))
 }
 
 /// The command that reads a datagram.
@@ -106,10 +124,12 @@ fn commands<'a>(alloc: Global) -> Result<Command<'a>, AllocError> {
         ripaudit,
         on_log_with_all(alloc, "explain", explain, of_each),
     );
+    let heard = "Tells who is in a log, and all that is refused, a stranger's or bad";
+    let ripaudit = add(ripaudit, on_log(alloc, "heard", heard));
     let routes = "Prints the routes that a log shows";
-    let ripaudit = add(ripaudit, on_log(alloc, "routes", routes));
+    let ripaudit = add(ripaudit, on_log_with_anyway(alloc, "routes", routes));
     let table = "Prints what each interface of a plan shows in a log";
-    let ripaudit = add(ripaudit, on_log(alloc, "table", table));
+    let ripaudit = add(ripaudit, on_log_with_anyway(alloc, "table", table));
     let expect = "Prints the right routes of a plan";
     let ripaudit = add(ripaudit, on_plan(alloc, "expect", expect));
     let whatif = "Tells what the failure of each link and of each router would cost";
@@ -173,16 +193,31 @@ fn plan_file<R: Files + AllocGlobal + Print>(
 }
 
 /// Runs a command on a log.
-fn report_from<R: AllocGlobal + Print, L: Read + Drop>(
+fn report_from<R: AllocGlobal + RandomSource + Print, L: Read + Drop>(
     rt: &R,
-    command: LogCommand,
+    command: ReadCommand,
     plan: &[u8],
     log: L,
-    hasher: RandomState,
 ) -> Result<Status, RunError> {
+    let (Ok(prefixes), Ok(strangers)) = (RandomState::new(rt), RandomState::new(rt)) else {
+        return Err(RunError::Read);
+    };
     let mut out = IntoWrite::new(io::writer(rt));
     let log = FromRead::new(log);
-    let (_, outcome) = run_on_log(rt.alloc(), command, plan, log, &mut out, hasher);
+    let (_, outcome) = match command {
+        ReadCommand::Judged(command) => {
+            run_on_log(rt.alloc(), command, plan, log, &mut out, prefixes)
+        }
+        ReadCommand::Anyway(command) => run_anyway(
+            rt.alloc(),
+            command,
+            plan,
+            log,
+            &mut out,
+            prefixes,
+            strangers,
+        ),
+    };
     outcome
 }
 
@@ -202,7 +237,7 @@ where
 /// Runs a command on a file of a plan and on a log, which is standard input where no file is named.
 fn report_file<R: Files + AllocGlobal + RandomSource + Input + Print + Eprint>(
     rt: &R,
-    command: LogCommand,
+    command: ReadCommand,
     path: &str,
     log: Option<&str>,
 ) -> Result<Status, RunError>
@@ -210,15 +245,20 @@ where
     R::Reader: IsTerminal,
 {
     let plan = read_plan_file(rt, path)?;
-    let Ok(hasher) = RandomState::new(rt) else {
-        return Err(RunError::Read);
-    };
     match log {
-        None => report_from(rt, command, plan.as_slice(), log_of_input(rt), hasher),
+        None => report_from(rt, command, plan.as_slice(), log_of_input(rt)),
         Some(log) => match fs::open(rt, log) {
-            Ok(file) => report_from(rt, command, plan.as_slice(), file, hasher),
+            Ok(file) => report_from(rt, command, plan.as_slice(), file),
             Err(error) => Err(read_failure(&error)),
         },
+    }
+}
+
+/// The command of that name that reads a log, by the flags that are given.
+fn read_command(word: &str, all: bool, anyway: bool) -> Option<ReadCommand> {
+    match anyway_command(word, anyway) {
+        Some(command) => Some(ReadCommand::Anyway(command)),
+        None => Some(ReadCommand::Judged(log_command(word, all)?)),
     }
 }
 
@@ -240,7 +280,7 @@ where
     if let Some(command) = plan_command(word, all) {
         return Some(plan_file(rt, command, path));
     }
-    let command = log_command(word, all)?;
+    let command = read_command(word, all, words.get_flag("anyway"))?;
     Some(report_file(rt, command, path, words.get_str("LOG")))
 }
 

@@ -3,23 +3,25 @@
 ghost use Rattle.std.specs.Prelude.{◌≡◌, ◌≢◌, ◌⊎◌, ◌+◌, ◌≤◌, ◌<◌, ◌↔◌, ◌++◌, ℕ, List, Bool, Option, Some, None, Ok, Err, true, codes, length, IfOk};
 ghost use Rattle.rip_plan.specs.Network.{Network};
 ghost use Rattle.rip_plan.specs.PlanFaults.{PlanFault};
+ghost use Rattle.rip_plan.specs.Relations.{IsPlain};
 ghost use Rattle.rip_plan.specs.declared.error.PlanError.{PlanError};
 ghost use Rattle.rip_log.specs.Wholes.{Went};
 ghost use Rattle.rip_table.specs.State.{State};
-ghost use Rattle.rip_check.specs.Laws.{ShowsRightTables};
-ghost use Rattle.rip_check.specs.Walks.{PacketsArrive};
-ghost use Rattle.rip_report.specs.AuditText.{VerdictText};
+ghost use Rattle.rip_check.specs.Laws.{OneIsShown};
+ghost use Rattle.rip_report.specs.AuditText.{AnswersRightly, IsJudged, ShowsPlainRightTables, VerdictText};
 ghost use Rattle.rip_report.specs.Given.{IsGiven};
+ghost use Rattle.rip_report.specs.Hearings.{IsUnread};
 ghost use Rattle.rip_report.specs.ReportText.{IsAccepted};
-ghost use Rattle.rip_report.specs.Sent.{Prints, Reads, WentOut};
+ghost use Rattle.rip_report.specs.Sent.{Prints, Reads};
 ghost use Rattle.ripaudit.specs.declared.commands.TheConstants.{PIECE_LEN};
-ghost use Rattle.ripaudit.specs.CommandText.{LogCommandText, PlanCommandText};
+ghost use Rattle.ripaudit.specs.CommandText.{AnywayCommandText, LogCommandText, PlanCommandText};
 
+use rip_check::laws::one_set_of_tables;
 use rip_log::{Failed, Sink, Source};
 use rip_plan::MOST_PLAN_BYTES;
 use rip_report::{
-    RunError, Status, run_audit, run_expect, run_explain, run_plan, run_routes, run_table,
-    run_whatif,
+    RunError, Status, run_audit, run_expect, run_explain, run_heard, run_plan, run_routes,
+    run_routes_anyway, run_table, run_table_anyway, run_whatif,
 };
 use std::alloc::Global;
 use std::hash::BuildHasher;
@@ -49,6 +51,17 @@ pub(crate) enum LogCommand {
     /// The routes.
     Routes,
     /// The table.
+    Table,
+}
+
+/// The commands that read a log to its end, whatever its lines say.
+#[derive(Clone, Copy)]
+pub(crate) enum AnywayCommand {
+    /// Who is in the log, and all that is refused.
+    Heard,
+    /// The routes of what is not refused.
+    Routes,
+    /// The table of what is not refused.
     Table,
 }
 
@@ -86,6 +99,25 @@ pub(crate) fn log_command(word: &str, all: bool) -> Option<LogCommand>
     }
 }
 
+/// The command of that name that reads a log to its end: `heard`, and where this is asked for those
+/// that may leave out what is refused.
+pub(crate) fn anyway_command(word: &str, anyway: bool) -> Option<AnywayCommand>
+    ensures heard { (result ≡ Some AnywayCommand.Heard) ↔ (word.now ≡ codes "heard") }
+    ensures routes { (result ≡ Some AnywayCommand.Routes)
+        ↔ ((word.now ≡ codes "routes") × (anyway ≡ true)) }
+    ensures table { (result ≡ Some AnywayCommand.Table)
+        ↔ ((word.now ≡ codes "table") × (anyway ≡ true)) }
+    ensures no_other { word.now ≢ codes "heard" → word.now ≢ codes "routes" →
+        word.now ≢ codes "table" → result ≡ None }
+{
+    match word {
+        "heard" => Some(AnywayCommand::Heard),
+        "routes" if anyway => Some(AnywayCommand::Routes),
+        "table" if anyway => Some(AnywayCommand::Table),
+        _ => None,
+    }
+}
+
 /// All bytes of a plan's file, or the first of them where there are more than a plan may have.
 pub(crate) fn read_plan<R: Source>(alloc: Global, file: &mut R) -> Result<Vec<u8>, RunError>
     ensures given { IfOk result (λ bytes. R.given file.new ≡ R.given file.old ++ bytes.items) }
@@ -93,6 +125,7 @@ pub(crate) fn read_plan<R: Source>(alloc: Global, file: &mut R) -> Result<Vec<u8
         (R.at_end file.new ≡ true) ⊎ (MOST_PLAN_BYTES < length bytes.items)) }
     ensures few { IfOk result (λ bytes. length bytes.items ≤ MOST_PLAN_BYTES + PIECE_LEN) }
     ensures read { result ≡ Err RunError.Read → R.broken file.new ≡ true }
+    ensures mark { result ≢ Err RunError.Read → R.broken file.new ≡ R.broken file.old }
     ensures write { result ≢ Err RunError.Write }
 {
     let mut bytes = Vec::new(alloc);
@@ -151,14 +184,60 @@ pub(crate) fn run_on_log<R: Source, K: Sink, S: BuildHasher + Drop>(
     ensures headline { (all : Bool) → command ≡ LogCommand.Audit all →
         (text : List ℕ) → IsGiven R.given R.at_end log result.0 text →
         (n : Network) (s : State) → IsAccepted plan.now text n s →
-        IfOk result.1 (λ status. ((status ≡ Status.Settled) ↔ ShowsRightTables n s)
-        × (status ≡ Status.Settled → PacketsArrive n s)
-        × WentOut (VerdictText n s all) (K.taken out.old) (K.taken out.new) status) }
+        IfOk result.1 (AnswersRightly n s (VerdictText n s all) (K.taken out.old) (K.taken out.new)) }
+    // The same of all the text that was to come, where its bytes are modelled.
+    ensures known { (all : Bool) → command ≡ LogCommand.Audit all →
+        (text : List ℕ) → R.coming log ≡ Some text →
+        (n : Network) (s : State) → IsAccepted plan.now text n s →
+        IfOk result.1 (AnswersRightly n s (VerdictText n s all) (K.taken out.old) (K.taken out.new)) }
+    // Of a plan that says nothing beside RFC 2453 the paths of `audit` go over any neighbours.
+    ensures plain { (all : Bool) → command ≡ LogCommand.Audit all →
+        (text : List ℕ) → IsGiven R.given R.at_end log result.0 text →
+        (n : Network) (s : State) → IsAccepted plan.now text n s → IsPlain n →
+        IfOk result.1 (λ status. (status ≡ Status.Settled) ↔ ShowsPlainRightTables n s) }
+    // No two sets of tables are shown.
+    ensures one_set { (text : List ℕ) → IsGiven R.given R.at_end log result.0 text →
+        (n : Network) (s : State) → IsAccepted plan.now text n s →
+        OneIsShown n s }
+    // What each verdict of `audit` is answered for.
+    ensures judged { (all : Bool) → command ≡ LogCommand.Audit all →
+        (text : List ℕ) → IsGiven R.given R.at_end log result.0 text →
+        (n : Network) (s : State) → IsAccepted plan.now text n s →
+        IfOk result.1 (IsJudged n s) }
 {
+    one_set_of_tables();
     match command {
         LogCommand::Audit { all } => run_audit(alloc, plan, log, out, all, hasher),
         LogCommand::Explain { all } => run_explain(alloc, plan, log, out, all, hasher),
         LogCommand::Routes => run_routes(alloc, plan, log, out, hasher),
         LogCommand::Table => run_table(alloc, plan, log, out, hasher),
+    }
+}
+
+/// Runs a command on the bytes of a plan and on a log, which is read to its end. The source comes back.
+pub(crate) fn run_anyway<R: Source, K: Sink, S: BuildHasher + Drop>(
+    alloc: Global,
+    command: AnywayCommand,
+    plan: &[u8],
+    log: R,
+    out: &mut K,
+    prefixes: S,
+    strangers: S,
+) -> (R, Result<Status, RunError>)
+    ensures prints { (text : List ℕ) → IsGiven R.given R.at_end log result.0 text →
+        Prints K.taken K.broken out.old out.new result.1 (AnywayCommandText command plan.now text) }
+    // Read only where the source has failed, or a line has more than 2^64 - 1 bytes.
+    ensures read { (text : List ℕ) → IsGiven R.given R.at_end log result.0 text →
+        result.1 ≡ Err RunError.Read → IsUnread (R.broken result.0) text }
+    ensures source { result.1 ≢ Err RunError.Read → R.broken result.0 ≡ R.broken log }
+    ensures went { Went R.given R.coming R.at_end log result.0 }
+    // If the plan is refused, the log is not touched.
+    ensures untouched { (e : PlanError) → PlanFault plan.now e →
+        (result.0 ≡ log) × (result.1 ≢ Err RunError.Read) }
+{
+    match command {
+        AnywayCommand::Heard => run_heard(alloc, plan, log, out, prefixes, strangers),
+        AnywayCommand::Routes => run_routes_anyway(alloc, plan, log, out, prefixes),
+        AnywayCommand::Table => run_table_anyway(alloc, plan, log, out, prefixes),
     }
 }
