@@ -12,6 +12,7 @@ mod digits;
 mod faults;
 mod growths;
 mod limits;
+mod lines;
 mod pulls;
 mod sinks;
 mod sources;

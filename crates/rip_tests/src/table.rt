@@ -11,6 +11,7 @@ use std::hash::{BuildHasherDefault, FoldHasher};
 use std::process::Abort;
 use std::test::Fail;
 
+mod events;
 mod growths;
 mod limits;
 mod logs;

@@ -1,9 +1,9 @@
-//! The caller of `rip_report`.
+//! The callers of `rip_report`.
 
-ghost use Rattle.std.specs.Prelude.{ℕ, List, IfOk};
+ghost use Rattle.std.specs.Prelude.{◌≡◌, ◌++◌, ℕ, List, Err, IfOk, false};
 ghost use Rattle.rip_plan.specs.Network.{Network};
 ghost use Rattle.rip_table.specs.State.{State};
-ghost use Rattle.rip_report.specs.AuditText.{IsJudged};
+ghost use Rattle.rip_report.specs.AuditText.{AuditText, IsJudged};
 ghost use Rattle.rip_report.specs.Given.{IsGiven};
 ghost use Rattle.rip_report.specs.ReportText.{IsAccepted};
 
@@ -28,6 +28,29 @@ fn verdict_of<R: Source, K: Sink>(
     run_audit(alloc, plan, log, out, false, hasher)
 }
 
+/// Audits a plan and a log in memory, and adds the lines of the verdict to a vector. The vector comes
+/// back: it holds what it held, and then the whole text, or a beginning where memory for more is refused.
+fn audit_into(
+    alloc: Global,
+    plan: &[u8],
+    log: &[u8],
+    lines: Vec<u8>,
+) -> (Vec<u8>, Result<Status, RunError>)
+    ensures text { IfOk result.1 (λ status. (text : List ℕ)
+        × AuditText plan.now log.now false (record { text = text; status = status })
+        × (result.0.items ≡ lines.items ++ text)) }
+    ensures write { result.1 ≡ Err RunError.Write → (front left : List ℕ)
+        × (status : Status)
+        × AuditText plan.now log.now false (record { text = front ++ left; status = status })
+        × (result.0.items ≡ lines.items ++ front) }
+    ensures memory { result.1 ≡ Err RunError.Memory → result.0.items ≡ lines.items }
+{
+    let hasher = BuildHasherDefault::<FoldHasher>::default();
+    let mut out = IntoWrite::new(lines);
+    let (_, answer) = run_audit(alloc, plan, FromRead::new(log), &mut out, false, hasher);
+    (out.into_writer(), answer)
+}
+
 #[test]
 fn a_log_is_audited(rt: HostRuntime) {
     let mut out = IntoWrite::new(Vec::new(rt.alloc()));
@@ -36,4 +59,20 @@ fn a_log_is_audited(rt: HostRuntime) {
         let (_, answer) = verdict_of(rt.alloc(), TRIANGLE.as_bytes(), log, &mut out);
         assert_eq!(rt; answer, Ok(status));
     }
+}
+
+#[test]
+fn verdicts_are_added(rt: HostRuntime) {
+    let alloc = rt.alloc();
+    let plan = TRIANGLE.as_bytes();
+    let (lines, first) = audit_into(alloc, plan, SETTLED.as_bytes(), Vec::new(alloc));
+    let (lines, second) = audit_into(alloc, plan, PHANTOM.as_bytes(), lines);
+    assert_eq!(rt;
+        (first, second),
+        (Ok(Status::Settled), Ok(Status::Unsettled))
+    );
+    let both = b"settled: 3 routers, 3 prefixes
+unsettled: router r1 prefix 10.9.0.0/16: metric 2, equation 3
+";
+    assert!(rt; lines.as_slice() == &both[..]);
 }

@@ -1,0 +1,144 @@
+//! What the lines of a log come to.
+
+ghost use Rattle.std.specs.Prelude.{⊤};
+
+use crate::examples::{SETTLED, TRIANGLE};
+use rip_log::{FromRead, LogCode, LogReader};
+use rip_plan::Plan;
+use rip_table::{Counts, Event, Lines, ListTable, Listener, MetricTable, Tallies, collect_all};
+use std::alloc::AllocError;
+use std::hash::{BuildHasherDefault, FoldHasher};
+use std::test::Fail;
+
+/// After the settled log: a changed metric, another router's next hop in the second entry, a stranger, a
+/// request of r1, a bad sender, and a response of r1 that is cut.
+const LINES: &str = "c 10.3.0.1 02020000000200000a020000ffff00000000000000000003
+a 10.1.0.1 02020000000200000a320000ffff00000000000000000010000200000a330000ffff00000a01000200000001
+a 10.1.0.9 02020000000200000a030000ffff00000000000000000001
+a 10.1.0.1 01020000
+a 10.1.0.01 02
+a 10.1.0.1 02
+";
+
+/// An event in short: 0 joined, 1 refused, 2 a stranger's, 3 a request, 4 bad; the interface; the number of a
+/// next hop or a sender.
+type Note = (u32, u32, Option<usize>, Option<u32>);
+
+/// A listener that writes down what it hears.
+#[derive(Drop)]
+struct Notes {
+    notes: Vec<Note>,
+}
+
+impl Listener for Notes {
+    ghost holds = { λ _ _. ⊤ };
+
+    ghost suits = { λ _ _. ⊤ };
+
+    fn hear(&mut self, plan: &Plan, line: u32, event: &Event<'_>) -> Result<(), AllocError> {
+        let note = match event {
+            Event::Joined(interface) => (line, 0, Some(*interface), None),
+            Event::Refused(refused) => {
+                let hop = refused.next_hop(plan).map(|hop| hop.get());
+                (line, 1, Some(refused.interface), hop)
+            }
+            Event::Stranger(sender) => (line, 2, None, Some(sender.address.get())),
+            Event::Request(interface) => (line, 3, *interface, None),
+            Event::Bad(bad) => {
+                let sender = match &bad.origin {
+                    Some(origin) => Some(origin.address.get()),
+                    None => None,
+                };
+                (line, 4, bad.interface, sender)
+            }
+        };
+        self.notes.push(note)?;
+        Ok(())
+    }
+}
+
+#[test]
+fn lines_of_each_kind(rt: HostRuntime) -> Result<(), Fail> {
+    let alloc = rt.alloc();
+    let Ok(plan) = Plan::read(alloc, TRIANGLE.as_bytes()) else {
+        panic!(rt; "no plan");
+    };
+    let log = format!(in alloc; "{SETTLED}{LINES}")?;
+    let mut table = ListTable::new(alloc, &plan)?;
+    let mut notes = Notes {
+        notes: Vec::new(alloc),
+    };
+    let Ok(mut reader) = LogReader::new(alloc, FromRead::new(log.as_bytes())) else {
+        panic!(rt; "no memory");
+    };
+    assert_eq!(rt;
+        collect_all(&plan, &mut reader, &mut table, &mut notes),
+        Ok(())
+    );
+    let heard = [
+        (1, 0, Some(0), None),
+        (2, 0, Some(1), None),
+        (3, 0, Some(2), None),
+        (4, 0, Some(3), None),
+        (5, 0, Some(4), None),
+        (6, 0, Some(5), None),
+        (7, 1, Some(1), None),
+        (8, 1, Some(0), Some(0x0A01_0002)),
+        (9, 2, None, Some(0x0A01_0009)),
+        (10, 3, Some(0), None),
+        (11, 4, None, None),
+        (12, 4, Some(0), Some(0x0A01_0001)),
+    ];
+    assert_eq!(rt; notes.notes.as_slice(), &heard[..]);
+    assert_eq!(rt; table.prefix_count(), 3);
+    Ok(())
+}
+
+/// Lines from one to another.
+fn lines(count: u32, first: u32, last: u32) -> Lines {
+    Lines { count, first, last }
+}
+
+#[test]
+fn who_is_in_a_log(rt: HostRuntime) -> Result<(), Fail> {
+    let alloc = rt.alloc();
+    let Ok(plan) = Plan::read(alloc, TRIANGLE.as_bytes()) else {
+        panic!(rt; "no plan");
+    };
+    let log = format!(in alloc; "{SETTLED}{LINES}")?;
+    let mut table = ListTable::new(alloc, &plan)?;
+    let mut tallies = Tallies::with_hasher(alloc, &plan, BuildHasherDefault::<FoldHasher>::new())?;
+    let Ok(mut reader) = LogReader::new(alloc, FromRead::new(log.as_bytes())) else {
+        panic!(rt; "no memory");
+    };
+    assert_eq!(rt;
+        collect_all(&plan, &mut reader, &mut table, &mut tallies),
+        Ok(())
+    );
+    let counts = Counts {
+        joined: 6,
+        refused: 2,
+        strangers: 1,
+        bad: 2,
+    };
+    assert_eq!(rt; tallies.counts(), counts);
+    let own = tallies.interface(0);
+    assert_eq!(rt; own.joined, lines(1, 1, 1));
+    assert_eq!(rt; (own.refused, own.runs), (lines(1, 8, 8), 1));
+    assert_eq!(rt;
+        (own.bad, own.requests),
+        (lines(1, 12, 12), lines(1, 10, 10))
+    );
+    assert_eq!(rt; tallies.strangers(), 1);
+    assert_eq!(rt;
+        (tallies.stranger_link(0), tallies.stranger_address(0).get()),
+        ("a", 0x0A01_0009)
+    );
+    assert_eq!(rt; tallies.stranger(0).responses, lines(1, 9, 9));
+    assert_eq!(rt; tallies.bad(LogCode::Sender), lines(1, 11, 11));
+    assert_eq!(rt;
+        tallies.other_strangers().count + tallies.other_requests().count,
+        0
+    );
+    Ok(())
+}
