@@ -15,10 +15,11 @@ _ripaudit() {
     case $command:$given:$current in
     :0:-*) _ripaudit_words --help --version ;;
     audit:*:-* | explain:*:-* | whatif:*:-*) _ripaudit_words --all --help ;;
+    routes:*:-* | table:*:-*) _ripaudit_words --anyway --help ;;
     *:-*) _ripaudit_words --help ;;
-    :0:* | help:0:*) _ripaudit_words audit explain routes table expect whatif plan decode help ;;
-    audit:0:* | explain:0:* | routes:0:* | table:0:* | expect:0:* | whatif:0:* | plan:0:*) _ripaudit_files '*.toml' ;;
-    audit:1:* | explain:1:* | routes:1:* | table:1:*) _ripaudit_files '*' ;;
+    :0:* | help:0:*) _ripaudit_words audit explain heard routes table expect whatif plan decode help ;;
+    audit:0:* | explain:0:* | heard:0:* | routes:0:* | table:0:* | expect:0:* | whatif:0:* | plan:0:*) _ripaudit_files '*.toml' ;;
+    audit:1:* | explain:1:* | heard:1:* | routes:1:* | table:1:*) _ripaudit_files '*' ;;
     esac
 }
 

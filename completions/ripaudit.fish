@@ -9,6 +9,7 @@ function __ripaudit_commands
     printf '%s\t%s\n' \
         audit 'tell whether the routes that a log shows are right' \
         explain 'tell the verdict of audit, and what it comes from' \
+        heard "tell who is in a log, and all that is refused, a stranger's or bad" \
         routes 'print the routes that a log shows' \
         table 'print what each interface of a plan shows in a log' \
         expect 'print the right routes of a plan' \
@@ -24,7 +25,8 @@ complete -c ripaudit -n '__ripaudit_word 1' -l version -d 'print the version'
 complete -c ripaudit -n '__ripaudit_word 1' -a '(__ripaudit_commands)'
 complete -c ripaudit -n '__ripaudit_word 2; and __fish_seen_subcommand_from help' -a '(__ripaudit_commands)'
 complete -c ripaudit -n '__fish_seen_subcommand_from audit explain' -l all -d 'tell of each place, not only of the first'
+complete -c ripaudit -n '__fish_seen_subcommand_from routes table' -l anyway -d "leave out what is refused, a stranger's or bad, and go on"
 complete -c ripaudit -n '__fish_seen_subcommand_from whatif' -l all -d 'name each router and prefix that is lost, and each prefix that is gone'
-complete -c ripaudit -n '__ripaudit_word 2; and __fish_seen_subcommand_from audit explain routes table expect whatif plan' \
+complete -c ripaudit -n '__ripaudit_word 2; and __fish_seen_subcommand_from audit explain heard routes table expect whatif plan' \
     -k -a '(__fish_complete_suffix .toml)'
-complete -c ripaudit -n '__ripaudit_word 3; and __fish_seen_subcommand_from audit explain routes table' -F
+complete -c ripaudit -n '__ripaudit_word 3; and __fish_seen_subcommand_from audit explain heard routes table' -F
