@@ -88,6 +88,16 @@ enum Command {
 /// A command, a log of the triangle, and what is answered and printed.
 type Row = (Command, &'static str, Status, &'static str);
 
+/// Each command once.
+const COMMANDS: [Command; 6] = [
+    Command::Audit { all: false },
+    Command::Audit { all: true },
+    Command::Explain { all: false },
+    Command::Explain { all: true },
+    Command::Routes,
+    Command::Table,
+];
+
 const ROWS: [Row; 9] = [
     (
         Command::Audit { all: false },
@@ -185,7 +195,7 @@ fn expect_read_failure(rt: &impl Abort, alloc: Global, command: Command, fails_a
 /// The log has 600 bytes, and the pull after them is the one that finds its end.
 #[test]
 fn a_source_that_fails(rt: HostRuntime) {
-    for (command, _, _, _) in ROWS {
+    for command in COMMANDS {
         for fails_at in 1..602 {
             expect_read_failure(&rt, rt.alloc(), command, fails_at);
         }
@@ -201,7 +211,7 @@ fn a_source_that_would_fail_later(rt: HostRuntime) {
         expect_row(&rt, rt.alloc(), row, Pieces::failing(log, fails_at));
     }
     let (log, text) = ("a 10.1.0.1\n", "refused: log line 1: 2 Fields\n");
-    for (command, _, _, _) in ROWS {
+    for command in COMMANDS {
         let row = (command, log, Status::Refused, text);
         expect_row(&rt, rt.alloc(), row, Pieces::failing(log.as_bytes(), 12));
     }
@@ -250,7 +260,7 @@ fn sources_that_never_end(rt: HostRuntime) {
 
 #[test]
 fn a_refused_plan_leaves_the_source(rt: HostRuntime) {
-    for (command, _, _, _) in ROWS {
+    for command in COMMANDS {
         let mut out = IntoWrite::new(Vec::new(rt.alloc()));
         let log = ("version = 2\n", Endless::new(b'x', 1));
         let (source, outcome) = run(rt.alloc(), command, log, &mut out);
