@@ -13,6 +13,7 @@ use crate::error::{CollectAllError, TableError};
 use crate::events::{Bad, Event, Refused, Sender};
 use crate::laws;
 use crate::listener::Listener;
+use crate::recent::Recent;
 use crate::table::MetricTable;
 use rip_log::{BadLine, Line, LogCode, LogReader, Record, Source};
 use rip_plan::Plan;
@@ -22,6 +23,7 @@ use rip_wire::Kind;
 /// became of it.
 fn hear_record<T: MetricTable, L: Listener>(
     plan: &Plan,
+    recent: &mut Recent,
     table: &mut T,
     listener: &mut L,
     found: &Record<'_>,
@@ -34,7 +36,7 @@ fn hear_record<T: MetricTable, L: Listener>(
     ensures fits { Fits plan.now (T.state table.new) }
     ensures suits { L.suits plan.now listener.new }
 {
-    let interface = plan.find(found.link, found.sender());
+    let interface = recent.find(plan, found.link, found.sender());
     let event = match (found.datagram.kind(), interface) {
         (Kind::Request, _) => Event::Request(interface),
         (Kind::Response, None) => Event::Stranger(Sender {
@@ -60,6 +62,7 @@ fn hear_record<T: MetricTable, L: Listener>(
 /// Tells of a bad line.
 fn hear_bad<L: Listener>(
     plan: &Plan,
+    recent: &mut Recent,
     listener: &mut L,
     line: &BadLine<'_>,
 ) -> Result<(), CollectAllError>
@@ -84,7 +87,7 @@ fn hear_bad<L: Listener>(
                     link: origin.link,
                     address,
                 }),
-                interface: plan.find(origin.link, address),
+                interface: recent.find(plan, origin.link, address),
             })
         }
     };
@@ -95,6 +98,7 @@ fn hear_bad<L: Listener>(
 /// Joins and tells of a line, good or bad.
 fn hear_line<T: MetricTable, L: Listener>(
     plan: &Plan,
+    recent: &mut Recent,
     table: &mut T,
     listener: &mut L,
     line: &Line<'_>,
@@ -108,8 +112,8 @@ fn hear_line<T: MetricTable, L: Listener>(
     ensures suits { L.suits plan.now listener.new }
 {
     match line {
-        Line::Record(record) => hear_record(plan, table, listener, record),
-        Line::Bad(line) => hear_bad(plan, listener, line),
+        Line::Record(record) => hear_record(plan, recent, table, listener, record),
+        Line::Bad(line) => hear_bad(plan, recent, listener, line),
     }
 }
 
@@ -158,9 +162,10 @@ pub fn collect_all<R: Source, T: MetricTable, L: Listener>(
 {
     plan.lawful();
     laws::lines_come_to();
+    let mut recent = Recent::new();
     'lines: loop {
         match reader.next_line() {
-            Ok(Some(line)) => match hear_line(plan, table, listener, &line) {
+            Ok(Some(line)) => match hear_line(plan, &mut recent, table, listener, &line) {
                 Ok(()) => {}
                 Err(error) => return Err(error),
             },

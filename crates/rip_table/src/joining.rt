@@ -7,17 +7,23 @@ ghost use Rattle.rip_table.specs.State.{Fits};
 
 use crate::error::{CollectCause, CollectError};
 use crate::laws;
+use crate::recent::Recent;
 use crate::table::MetricTable;
 use rip_log::{LogReader, Record, Source};
 use rip_plan::Plan;
 use rip_wire::Kind;
 
 /// Joins one record into a table.
-fn join<T: MetricTable>(plan: &Plan, table: &mut T, found: &Record<'_>) -> Result<(), CollectCause>
+fn join<T: MetricTable>(
+    plan: &Plan,
+    recent: &mut Recent,
+    table: &mut T,
+    found: &Record<'_>,
+) -> Result<(), CollectCause>
     requires { Fits plan.now (T.state table.old) }
     ensures { Joins plan.now (T.state table.old) (capture_of found.now) (T.state table.new) result }
 {
-    match plan.find(found.link, found.sender()) {
+    match recent.find(plan, found.link, found.sender()) {
         None => match found.datagram.kind() {
             Kind::Request => Ok(()),
             Kind::Response => Err(CollectCause::UnknownSender),
@@ -43,11 +49,12 @@ pub fn collect<R: Source, T: MetricTable>(
 {
     plan.lawful();
     laws::refused_logs();
+    let mut recent = Recent::new();
     'records: loop {
         match reader.next() {
             Ok(Some(record)) => {
                 let line = record.line;
-                match join(plan, table, &record) {
+                match join(plan, &mut recent, table, &record) {
                     Ok(()) => {}
                     Err(cause) => return Err(CollectError { line, cause }),
                 }

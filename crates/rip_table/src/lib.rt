@@ -11,6 +11,7 @@ pub mod laws;
 mod limits;
 mod list;
 mod listener;
+mod recent;
 mod table;
 mod tallies;
 

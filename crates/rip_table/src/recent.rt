@@ -1,0 +1,62 @@
+//! Who sent of late.
+
+ghost use Rattle.std.specs.Prelude.{◌≡◌, ◌<◌, IfSome, true, length};
+ghost use Rattle.rip_plan.specs.Network.{found_at};
+ghost use Rattle.rip_plan.specs.Relations.{IsAt};
+
+use rip_plan::Plan;
+use rip_plan::laws::senders;
+use rip_wire::Address;
+
+/// How many slots there are: a power of two, more than a plan has interfaces.
+const SLOTS: usize = 4_096;
+
+/// The interface that was found last for the addresses of each slot. A sender is looked at there first,
+/// and looked up only where it is another: the senders of a log are few, and come again and again.
+#[derive(Drop)]
+pub(crate) struct Recent {
+    slots: [u16; SLOTS],
+}
+
+/// The slot of an address.
+fn slot_of(address: Address) -> usize
+    ensures { result < SLOTS }
+{
+    (address.get().wrapping_mul(2_654_435_769) >> 20) as usize % SLOTS
+}
+
+/// Whether an interface is on the link of this name and sends from this address, its own.
+fn is_at(plan: &Plan, i: usize, link_name: &str, address: Address) -> bool
+    requires { i < length plan.now.interfaces }
+    ensures { result ≡ true → IsAt plan.now link_name.now address i }
+{
+    plan.lawful();
+    let interface = plan.interface(i);
+    interface.address == address && plan.link_name(interface.link) == link_name
+}
+
+impl Recent {
+    /// Nobody has sent.
+    pub fn new() -> Recent {
+        Recent { slots: [0; SLOTS] }
+    }
+
+    /// The interface on the link of this name with this address, as `Plan::find` answers it.
+    pub fn find(&mut self, plan: &Plan, link_name: &str, address: Address) -> Option<usize>
+        ensures below { IfSome result (λ i. i < length plan.now.interfaces) }
+        ensures value { result ≡ found_at plan.now link_name.now address }
+    {
+        plan.lawful();
+        senders();
+        let slot = slot_of(address);
+        let likely = usize::from(self.slots[slot]);
+        if likely < plan.interfaces() && is_at(plan, likely, link_name, address) {
+            return Some(likely);
+        }
+        let found = plan.find(link_name, address);
+        if let Some(i) = found {
+            self.slots[slot] = i as u16;
+        }
+        found
+    }
+}
