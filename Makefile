@@ -22,6 +22,7 @@ test:
 	sh tests/run $(PROGRAM)
 	sh tests/limits $(PROGRAM)
 	sh tests/pages $(PROGRAM)
+	sh tests/tools $(PROGRAM)
 	sh tests/growths
 	sh tests/completions
 
@@ -30,12 +31,14 @@ install: $(PROGRAM)
 	install -D $(PROGRAM) $(DESTDIR)$(PREFIX)/bin/ripaudit
 	install -D -m 644 docs/ripaudit.1 $(SHARE)/man/man1/ripaudit.1
 	install -D -m 644 docs/tcpdump-to-log.awk $(SHARE)/ripaudit/tcpdump-to-log.awk
+	install -m 755 share/plan-from-routers share/plan-to-dot $(SHARE)/ripaudit
+	install -m 644 share/*.awk $(SHARE)/ripaudit
 	install -D -m 644 completions/ripaudit.bash $(SHARE)/bash-completion/completions/ripaudit
 	install -D -m 644 completions/_ripaudit $(SHARE)/zsh/site-functions/_ripaudit
 	install -D -m 644 completions/ripaudit.fish $(SHARE)/fish/vendor_completions.d/ripaudit.fish
 	install -d $(DOC)/docs
 	install -m 644 README.md $(DOC)
-	install -m 644 docs/*.md $(DOC)/docs
+	install -m 644 docs/*.md docs/lab.svg $(DOC)/docs
 	rm -rf $(DOC)/examples
 	cp -R examples $(DOC)
 	rm $(DOC)/examples/demo

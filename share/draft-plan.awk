@@ -1,0 +1,78 @@
+# Prints the plan of what read-routers.awk has noted and join-links.awk has joined. A comment says what is guessed in a line.
+
+# Adds to what is guessed in the line that is being made.
+function guess(text) { guessed = guessed (guessed == "" ? "   # guessed: " : "; ") text }
+
+# Prints the line of an item of a list.
+function item(text) {
+    print "    { " text " }," guessed
+    guessed = ""
+}
+
+# An interface: its cost is that of BIRD, or of an offset-list of FRR. Both show the link's network at 1, whatever the cost.
+function interface_item(router, net,    name, text, key, further, n, i) {
+    name = at[router, net]
+    text = "link = \"" label[net] "\", address = \"" host(address[router, name]) "\""
+    key = (router, name) in cost ? name : ""
+    if (cost[router, key] > 1) text = text ", cost = " cost[router, key] ", direct = 1"
+    if ((router, key) in list) guess("the cost, from offset-list " list[router, key])
+    if ((router, "ip rip") in shown && !((router, "running-config") in shown)) guess("the cost")
+    n = split(also[router, name], further, " ")
+    for (i = 1; i <= n; i++) {
+        text = text (i == 1 ? ", also = [\"" : "\", \"") host(further[i]) (i == n ? "\"]" : "")
+        attached[router, network(further[i])] = label[net]
+    }
+    if (!((router, net) in metric)) guess("it does not tell of " net)
+    item(text)
+}
+
+# A prefix of the router's own. FRR announces what it redistributes at a metric of its configuration.
+function own_item(router, prefix,    text, letter, cost_here, hop, i) {
+    cost_here = metric[router, prefix]
+    letter = kind[router, prefix]
+    if (letter != "" && letter != "R") {
+        if ((router, letter) in given) cost_here = given[router, letter]
+        else if (letter != "C") cost_here = usual[router]
+        if ((router, letter) in mapped) guess("the cost, by a route-map")
+        else if (!((router, "running-config") in shown)) guess("the cost")
+    }
+    text = "prefix = \"" prefix "\""
+    if (cost_here > 1) {
+        text = text ", cost = " cost_here ", kept = true"
+        guess("that it is kept")
+    }
+    hop = gateway[router, prefix]
+    for (i = 1; i <= joins[router]; i++)
+        if (network(hop "/" bits(joined[router, i])) == joined[router, i]) {
+            if (hop in planned) guess("its gateway is " planned[hop])
+            else text = text ", via = \"" hop "\""
+        }
+    if ((router, prefix) in attached) text = text ", link = \"" attached[router, prefix] "\""
+    item(text)
+}
+
+# A router, with its interfaces and its own prefixes.
+function print_router(router,    i, begun) {
+    print "\n[[router]]\nname = \"" router "\"\ninterface = ["
+    for (i = 1; i <= joins[router]; i++) interface_item(router, joined[router, i])
+    print "]"
+    for (i = 1; i <= owns[router]; i++) {
+        if ((router, own[router, i]) in at) continue
+        if (!begun++) print "own = ["
+        own_item(router, own[router, i])
+    }
+    if (begun) print "]"
+}
+
+END {
+    print "# A first draft of a plan, from what the routers themselves say. It writes down faults as they are: a wrong cost or a missing"
+    print "# network of today becomes part of the plan, and what is down now is not in it. Look at each line that is marked guessed."
+    print "version = 1"
+    print "link = ["
+    for (l = 1; l <= links; l++) {
+        if (members[nets[l]] == 1) guess("that " last[nets[l]] " alone speaks here")
+        item("name = \"" label[nets[l]] "\", prefixes = [\"" nets[l] "\"]")
+    }
+    print "]"
+    for (r = 1; r <= routers; r++) print_router(names[r])
+}

@@ -1,0 +1,80 @@
+# Reads what daemons of FRR and BIRD say, in a file for each router, for draft-plan.awk. In a file `== show WORDS` stands above
+# what a command printed. Of a router it notes the interfaces on which it speaks RIP (`on`), all its addresses, what interfaces
+# cost, and the prefixes that it announces itself (`own`) with the next hop and the metric of each.
+
+# Ends with a line on standard error.
+function stop(text) {
+    print "plan-from-routers: " text | "cat >&2"
+    close("cat >&2")
+    stopped = 1
+    exit 1
+}
+
+# Notes the first address of an interface, or a further one.
+function add_address(text) {
+    if ((router, name) in address) also[router, name] = also[router, name] " " text
+    else address[router, name] = text
+}
+
+# Notes a prefix that the router announces itself.
+function add_own(text, hop, cost) {
+    if ((router, text) in metric) stop(router ": " text " is listed twice")
+    own[router, ++owns[router]] = prefix = text
+    gateway[router, prefix] = hop
+    metric[router, prefix] = cost
+}
+
+FNR == 1 {
+    router = FILENAME
+    sub(/.*\//, "", router)
+    names[++routers] = router
+    section = ""
+}
+{ sub(/\r$/, "") }
+/^== show / {
+    section = $0
+    sub(/^== show /, "", section)
+    sub(/ (\||export ).*/, "", section)
+    shown[router, section] = 1
+    part = ""
+    protocol = $NF
+    next
+}
+/^% |^syntax error|^No valid tables/ { stop(router ": show " section ": " $0) }
+
+# FRR. Below `Passive Interface(s):` stand those that do not speak. `show ip rip` has metric 1 for what is redistributed.
+section == "ip rip status" && /^  [^ ]/ { part = $1 }
+section == "ip rip status" && /Default redistribution metric/ { usual[router] = $NF }
+section == "ip rip status" && / Send +Recv / { part = "Speaking"; next }
+section == "ip rip status" && /^    / && part == "Speaking" { on[router, ++count[router]] = $1 }
+section == "ip rip status" && /^    / && part == "Passive" { quiet[router, $1] = 1 }
+section == "interface" && /^Interface / { name = $2 }
+section == "interface" && /^  Type: Loopback/ { quiet[router, name] = 1 }
+section == "interface" && /^  inet / && !/ secondary/ { add_address($2) }
+section == "ip rip" && $5 == "self" && $4 < 16 {
+    add_own($2, $3, $4)
+    kind[router, prefix] = substr($1, 1, 1)
+}
+section == "running-config" && $1 == "offset-list" && $3 == "in" {
+    cost[router, $5] = $4
+    list[router, $5] = $2
+}
+section == "running-config" && $1 == "redistribute" {
+    letter = toupper(substr($2, 1, 1))
+    if ($3 == "metric") given[router, letter] = $4
+    if (/ route-map /) mapped[router, letter] = 1
+}
+
+# BIRD. It lists interfaces that are down too, and all that it exports, also what it learned by RIP.
+section == "rip interfaces" && $2 == "Up" {
+    on[router, ++count[router]] = $1
+    cost[router, $1] = $3
+}
+section == "interfaces" && /^[^ \t]/ { name = $1 }
+section == "interfaces" && /^\t[0-9.]+\/[0-9]+ .*Preferred/ { add_address($1) }
+section == "route all" && /^[^ \t]/ {
+    prefix = ""
+    if (/^[0-9.]+\/[0-9]+ / && $3 != "[" protocol) add_own($1, "", 1)
+}
+section == "route all" && $1 == "via" && prefix != "" { gateway[router, prefix] = $2 }
+section == "route all" && $1 == "RIP.metric:" && prefix != "" { metric[router, prefix] = $2 }
