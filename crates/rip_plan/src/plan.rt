@@ -129,8 +129,8 @@ fn read_plan(alloc: Global, bytes: &[u8]) -> Result<Plan, ReadError>
 impl Plan {
     /// Reads the text of a plan: a TOML document of at most 1,048,576 bytes. The answer is the plan
     /// of the document where the text has no fault; else the first fault with its place, or Memory at
-    /// the text where a growth was refused. A text that is too long or not UTF-8 is refused without
-    /// memory.
+    /// the text where a growth was refused. A text that is too long or not UTF-8 is refused as
+    /// such, and never with Memory.
     pub fn read(alloc: Global, bytes: &[u8]) -> Result<Plan, PlanError>
         ensures plan { IfOk result (λ plan. IsPlanOfText bytes.now plan) }
         ensures told { IfErr result (λ e. (e ≡ out_of_memory) ⊎ PlanFault bytes.now e) }

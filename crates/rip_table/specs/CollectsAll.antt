@@ -51,18 +51,18 @@ HoldsMore was then more = (events : List EventAt) → was events → then (event
 abbrev pub HasRoom : (List EventAt → Type 0) → Type 0
 HasRoom holds = (events : List EventAt) × holds events × (length events ≤ MOST_LINES)
 
--- a table may want memory for a line that says this: for a record that brings a pair
+-- a table may allocate for a line that says this: for a record that brings a pair
 abbrev pub MayWant : Network → State → Said → Type 0
 MayWant n s (captured c) = WantsFor n s c
 MayWant n s (bad_line code o) = ⊥
 
--- memory was wanted at a line that says this: by the table, which is as it was, and nothing is told of
--- the line; or by the listener, which was told of it, and the table is what the line makes of it
+-- memory was refused at a line that says this: to the table, which is as it was, and nothing is told of
+-- the line; or to the listener, which was told of it, and the table is what the line makes of it
 abbrev pub IsWanted : Network → State → Said → State → Type 0 → Type 0
 IsWanted n old said new untold =
     ((new ≡ old) × MayWant n old said × untold) ⊎ (new ≡ (came n old said).state)
 
--- what a line that says this makes of the table and the listener, or that memory was wanted
+-- what a line that says this makes of the table and the listener, or that memory was refused
 abbrev pub Hears : Network → State → Said → ℕ → State → (List EventAt → Type 0)
     → (List EventAt → Type 0) → Result (Unit {0}) CollectAllError → Type 0
 Hears n old said line new was then (Ok u) =
@@ -80,7 +80,7 @@ pub record Told (n : Network) (old : State) (all : AllSaid) (new : State) (event
   pub events_are : events ≡ events_of n old taken
   pub state_is : new ≡ state_after n old taken
 
--- the same where bytes are told
+-- the same where bytes are modelled
 abbrev pub ToldKnown
     : Network → State → Option AllSaid → State → List EventAt → Option AllSaid → Type 0
 ToldKnown n old None new events left = Unit {0}
@@ -115,14 +115,14 @@ pub record UnreadAt (n : Network) (old : State) (text : List ℕ) (others behind
   pub heard : HoldsMore was then events
   pub cause : (failed ≡ true) ⊎ BeginsEndless rest
 
--- the same where bytes are told
+-- the same where bytes are modelled
 abbrev pub UnreadAtKnown : Network → State → Option (List ℕ) → ℕ → ℕ → Bool → State
     → (List EventAt → Type 0) → (List EventAt → Type 0) → Type 0
 UnreadAtKnown n old None others behind failed new was then = Unit {0}
 UnreadAtKnown n old (Some text) others behind failed new was then =
     UnreadAt n old text others behind failed new was then
 
--- memory was wanted at a line: those before it were told, and those after it are left
+-- memory was refused at a line: those before it were told, and those after it are left
 pub record StuckAt (n : Network) (old : State) (all : AllSaid) (new : State)
     (was then : List EventAt → Type 0) (line : ℕ) (left : AllSaid) : Type 0 where
   pub said : Said
@@ -131,7 +131,7 @@ pub record StuckAt (n : Network) (old : State) (all : AllSaid) (new : State)
   pub told : Told n old all mid events (onto_said (record { line = line; said = said }) left)
   pub wanted : IsWanted n mid said new (HoldsMore was then events)
 
--- the same where bytes are told; or it was wanted at the line too many, at which the reader stops
+-- the same where bytes are modelled; or memory was refused at the line too many, at which the reader stops
 abbrev pub StuckAtKnown : Network → State → Option AllSaid → State → (List EventAt → Type 0)
     → (List EventAt → Type 0) → ℕ → Option AllSaid → Bool → Type 0
 StuckAtKnown n old None new was then line left stopped = Unit {0}

@@ -85,7 +85,7 @@ pub enum CollectAllError {
     /// The reader failed, by Read, or had stopped before.
     #[error("{0:?}")]
     Log(LogError),
-    /// The table or the listener wanted memory.
+    /// The table or the listener was refused memory.
     #[error("out of memory")]
     Memory,
 }

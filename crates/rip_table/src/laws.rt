@@ -121,7 +121,7 @@ pub fn refused_responses()
     rip_plan::laws::senders();
 }
 
-/// A response brings a pair of interface and prefix, for which memory may be wanted, exactly where an
+/// A response brings a pair of interface and prefix, for which a table may allocate, exactly where an
 /// entry is of a prefix that its interface did not show.
 pub fn new_pairs()
     ensures { (i : ℕ) (s : State) (entries : List Entry) →

@@ -17,7 +17,7 @@ pub trait Listener {
     // It is for a plan.
     ghost suits: { Network → Self → Type 0 };
 
-    /// Hears of a line, by its number and what became of it. It may want memory.
+    /// Hears of a line, by its number and what became of it. It may allocate.
     fn hear(&mut self, plan: &Plan, line: u32, event: &Event<'_>) -> Result<(), AllocError>
         requires suits { suits plan.now self.old }
         // It has not heard of more events than a log has lines.
