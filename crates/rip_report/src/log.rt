@@ -10,7 +10,7 @@ ghost use Rattle.rip_report.specs.LogRefusals.{refusal_in};
 ghost use Rattle.rip_report.specs.ReportText.{LogMakes};
 
 use crate::status::RunError;
-use rip_log::laws::{said_lines, log_texts};
+use rip_log::laws::{log_texts, said_lines};
 use rip_log::{LogCode, LogError, LogReader, Source};
 use rip_plan::Plan;
 use rip_table::{
