@@ -1,8 +1,8 @@
 //! The words of the command line, and what they ask for.
 
 use crate::commands::{
-    AnywayCommand, LogCommand, PlanCommand, anyway_command, log_command, plan_command, read_plan,
-    run_anyway, run_on_log, run_on_plan,
+    PlanCommand, ReadCommand, plan_command, read_command, read_plan, run_anyway, run_on_log,
+    run_on_plan,
 };
 use clap::error::ErrorKind;
 use clap::{Arg, ArgAction, ArgMatches, Command, Error};
@@ -14,13 +14,6 @@ use std::io::{IsTerminal, Read};
 use std::random::RandomSource;
 use std::rt::Files;
 use std::{env, fs, io};
-
-/// The commands that read a log: up to what refuses it, or to its end.
-#[derive(Clone, Copy)]
-enum ReadCommand {
-    Judged(LogCommand),
-    Anyway(AnywayCommand),
-}
 
 /// A word that stands in its place.
 fn word<'a>(alloc: Global, name: &'a str, help: &'a str, is_required: bool) -> Arg<'a> {
@@ -251,14 +244,6 @@ where
             Ok(file) => report_from(rt, command, plan.as_slice(), file),
             Err(error) => Err(read_failure(&error)),
         },
-    }
-}
-
-/// The command of that name that reads a log, by the flags that are given.
-fn read_command(word: &str, all: bool, anyway: bool) -> Option<ReadCommand> {
-    match anyway_command(word, anyway) {
-        Some(command) => Some(ReadCommand::Anyway(command)),
-        None => Some(ReadCommand::Judged(log_command(word, all)?)),
     }
 }
 

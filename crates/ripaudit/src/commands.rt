@@ -1,6 +1,6 @@
 //! The commands that the words may ask for, and what each of them runs.
 
-ghost use Rattle.std.specs.Prelude.{◌≡◌, ◌≢◌, ◌⊎◌, ◌+◌, ◌≤◌, ◌<◌, ◌↔◌, ◌++◌, ℕ, List, Bool, Option, Some, None, Ok, Err, true, codes, length, IfOk};
+ghost use Rattle.std.specs.Prelude.{◌≡◌, ◌≢◌, ◌⊎◌, ◌+◌, ◌≤◌, ◌<◌, ◌↔◌, ◌++◌, ℕ, List, Bool, Option, Some, None, Ok, Err, false, true, codes, length, IfOk};
 ghost use Rattle.rip_plan.specs.Network.{Network};
 ghost use Rattle.rip_plan.specs.PlanFaults.{PlanFault};
 ghost use Rattle.rip_plan.specs.Relations.{IsPlain};
@@ -11,6 +11,7 @@ ghost use Rattle.rip_check.specs.Laws.{OneIsShown};
 ghost use Rattle.rip_report.specs.AuditText.{AnswersRightly, IsJudged, ShowsPlainRightTables, VerdictText};
 ghost use Rattle.rip_report.specs.Given.{IsGiven};
 ghost use Rattle.rip_report.specs.Hearings.{IsUnread};
+ghost use Rattle.rip_report.specs.PlanText.{IsNoText};
 ghost use Rattle.rip_report.specs.ReportText.{IsAccepted};
 ghost use Rattle.rip_report.specs.Sent.{Prints, Reads};
 ghost use Rattle.ripaudit.specs.declared.commands.TheConstants.{PIECE_LEN};
@@ -41,7 +42,7 @@ pub(crate) enum PlanCommand {
     WhatIf { all: bool },
 }
 
-/// The commands that read a log.
+/// The commands that read a log up to the first line that is refused.
 #[derive(Clone, Copy)]
 pub(crate) enum LogCommand {
     /// The verdict, with a line for each place that does not hold where all are asked for.
@@ -65,6 +66,15 @@ pub(crate) enum AnywayCommand {
     Table,
 }
 
+/// The commands that read a log.
+#[derive(Clone, Copy)]
+pub(crate) enum ReadCommand {
+    /// Those that end at the first line that is refused.
+    Judged(LogCommand),
+    /// Those that read it to its end, whatever its lines say.
+    Anyway(AnywayCommand),
+}
+
 /// The command of that name that reads a plan alone, with all that is lost where it is asked for.
 pub(crate) fn plan_command(word: &str, all: bool) -> Option<PlanCommand>
     ensures plan { (result ≡ Some PlanCommand.Plan) ↔ (word.now ≡ codes "plan") }
@@ -81,41 +91,37 @@ pub(crate) fn plan_command(word: &str, all: bool) -> Option<PlanCommand>
     }
 }
 
-/// The command of that name that reads a log, with all places where these are asked for.
-pub(crate) fn log_command(word: &str, all: bool) -> Option<LogCommand>
-    ensures audit { (result ≡ Some (LogCommand.Audit all)) ↔ (word.now ≡ codes "audit") }
-    ensures explain { (result ≡ Some (LogCommand.Explain all)) ↔ (word.now ≡ codes "explain") }
-    ensures routes { (result ≡ Some LogCommand.Routes) ↔ (word.now ≡ codes "routes") }
-    ensures table { (result ≡ Some LogCommand.Table) ↔ (word.now ≡ codes "table") }
-    ensures no_other { word.now ≢ codes "audit" → word.now ≢ codes "explain" →
-        word.now ≢ codes "routes" → word.now ≢ codes "table" → result ≡ None }
-{
-    match word {
-        "audit" => Some(LogCommand::Audit { all }),
-        "explain" => Some(LogCommand::Explain { all }),
-        "routes" => Some(LogCommand::Routes),
-        "table" => Some(LogCommand::Table),
-        _ => None,
-    }
-}
-
-/// The command of that name that reads a log to its end: `heard`, and where this is asked for those
-/// that may leave out what is refused.
-pub(crate) fn anyway_command(word: &str, anyway: bool) -> Option<AnywayCommand>
-    ensures heard { (result ≡ Some AnywayCommand.Heard) ↔ (word.now ≡ codes "heard") }
-    ensures routes { (result ≡ Some AnywayCommand.Routes)
+/// The command of that name that reads a log, by the flags that are given: whether all places are asked
+/// for, and whether what is not refused is.
+pub(crate) fn read_command(word: &str, all: bool, anyway: bool) -> Option<ReadCommand>
+    ensures audit { (result ≡ Some (ReadCommand.Judged (LogCommand.Audit all)))
+        ↔ (word.now ≡ codes "audit") }
+    ensures explain { (result ≡ Some (ReadCommand.Judged (LogCommand.Explain all)))
+        ↔ (word.now ≡ codes "explain") }
+    ensures routes { (result ≡ Some (ReadCommand.Judged LogCommand.Routes))
+        ↔ ((word.now ≡ codes "routes") × (anyway ≡ false)) }
+    ensures table { (result ≡ Some (ReadCommand.Judged LogCommand.Table))
+        ↔ ((word.now ≡ codes "table") × (anyway ≡ false)) }
+    ensures heard { (result ≡ Some (ReadCommand.Anyway AnywayCommand.Heard))
+        ↔ (word.now ≡ codes "heard") }
+    ensures routes_anyway { (result ≡ Some (ReadCommand.Anyway AnywayCommand.Routes))
         ↔ ((word.now ≡ codes "routes") × (anyway ≡ true)) }
-    ensures table { (result ≡ Some AnywayCommand.Table)
+    ensures table_anyway { (result ≡ Some (ReadCommand.Anyway AnywayCommand.Table))
         ↔ ((word.now ≡ codes "table") × (anyway ≡ true)) }
-    ensures no_other { word.now ≢ codes "heard" → word.now ≢ codes "routes" →
-        word.now ≢ codes "table" → result ≡ None }
+    ensures no_other { word.now ≢ codes "audit" → word.now ≢ codes "explain" →
+        word.now ≢ codes "routes" → word.now ≢ codes "table" → word.now ≢ codes "heard" →
+        result ≡ None }
 {
-    match word {
-        "heard" => Some(AnywayCommand::Heard),
-        "routes" if anyway => Some(AnywayCommand::Routes),
-        "table" if anyway => Some(AnywayCommand::Table),
-        _ => None,
-    }
+    Some(match word {
+        "audit" => ReadCommand::Judged(LogCommand::Audit { all }),
+        "explain" => ReadCommand::Judged(LogCommand::Explain { all }),
+        "routes" if anyway => ReadCommand::Anyway(AnywayCommand::Routes),
+        "routes" => ReadCommand::Judged(LogCommand::Routes),
+        "table" if anyway => ReadCommand::Anyway(AnywayCommand::Table),
+        "table" => ReadCommand::Judged(LogCommand::Table),
+        "heard" => ReadCommand::Anyway(AnywayCommand::Heard),
+        _ => return None,
+    })
 }
 
 /// All bytes of a plan's file, or the first of them where there are more than a plan may have.
@@ -231,9 +237,13 @@ pub(crate) fn run_anyway<R: Source, K: Sink, S: BuildHasher + Drop>(
         result.1 ≡ Err RunError.Read → IsUnread (R.broken result.0) text }
     ensures source { result.1 ≢ Err RunError.Read → R.broken result.0 ≡ R.broken log }
     ensures went { Went R.given R.coming R.at_end log result.0 }
+    ensures to_come { (text : List ℕ) → R.coming log ≡ Some text →
+        IsGiven R.given R.at_end log result.0 text }
     // If the plan is refused, the log is not touched.
     ensures untouched { (e : PlanError) → PlanFault plan.now e →
         (result.0 ≡ log) × (result.1 ≢ Err RunError.Read) }
+    // Bytes that are no text of a plan do not answer Memory.
+    ensures no_text { IsNoText plan.now → result.1 ≢ Err RunError.Memory }
 {
     match command {
         AnywayCommand::Heard => run_heard(alloc, plan, log, out, prefixes, strangers),
