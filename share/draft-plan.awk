@@ -66,7 +66,7 @@ function print_router(router,    i, begun) {
 
 END {
     print "# A first draft of a plan, from what the routers themselves say. It writes down faults as they are: a wrong cost or a missing"
-    print "# network of today becomes part of the plan, and what is down now is not in it. Look at each line that is marked guessed."
+    print "# network of today becomes part of the plan, and what is down now is not in it. Read every line, those marked guessed first."
     print "version = 1"
     print "link = ["
     for (l = 1; l <= links; l++) {

@@ -241,7 +241,7 @@ impl<R: Source> Window<R> {
     }
 
     /// Passes over the first line, where bytes of it are held. Pulls nothing where its end is held. It
-    /// fails where the source does, and at a line of more than `MOST_PASSED_BYTES` bytes.
+    /// fails where the source does, and may fail at a line of more than `MOST_PASSED_BYTES` bytes.
     pub fn pass_line(&mut self) -> Result<(), Failed>
         requires { 0 < length (held self.old) }
         ensures passed { OnOk result (OfWhole R.given R.at_end self.new.source (λ coming.
