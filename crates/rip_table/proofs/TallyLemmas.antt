@@ -1,14 +1,17 @@
 -- What one event more makes of the tallies.
-use Rattle.std.proofs.Common.{◌≡◌, ℕ, zero, suc, ◌+◌, ◌≤◌, ◌<◌, ◌==◌, Bool, true, false, ◌&&◌, ◌||◌, not, if◌then◌else◌, List, [], ◌∷◌, ◌++◌, length, Option, Some, None, refl, ap, sym, arith}
+use Rattle.std.proofs.Common.{◌≡◌, ℕ, zero, suc, ◌+◌, ◌≤◌, ◌<◌, ◌==◌, Bool, true, false, ◌&&◌, ◌||◌, not, if◌then◌else◌, List, [], ◌∷◌, ◌++◌, length, Option, Some, None, Result, Ok, Err, refl, ap, sym, arith}
 use Rattle.std.proofs.Math.Dec.{eqb-suc-zero}
 use Rattle.std.proofs.lemmas.Bool.{eqb-true, eqb-false}
 use Rattle.std.proofs.lemmas.List.{length-set}
 use Rattle.std.specs.List.{slice_get}
-use Rattle.std.specs.Prelude.{slice_set}
-use Rattle.std.specs.Option.{option_or}
+use Rattle.std.specs.Prelude.{OnErr, slice_set}
+use Rattle.std.specs.Option.{option_map, option_or}
 use Rattle.rip_table.specs.Events.{Event, EventAt, joined, refused, stranger, request, bad}
-use Rattle.rip_table.specs.Tallies.{lines_where, lines_in, last_of, with_line, if_line, first_of, outcomes_of, last_outcome, runs_in, is_joined, is_refused, is_asked, is_bad, refusal_of, code_of, interface_tally, with_event, sent_event, IsAtMost, AreInterfaceTallies}
+use Rattle.rip_table.specs.Tallies.{lines_where, lines_in, last_of, with_line, if_line, first_of, outcomes_of, last_outcome, runs_in, is_joined, is_refused, is_asked, is_bad, refusal_of, code_of, interface_tally, with_event, sent_event, IsAtMost, AreInterfaceTallies, IsOfStranger}
 use Rattle.rip_log.specs.Said.{Origin}
+use Rattle.rip_log.specs.declared.error.LogCode.{LogCode}
+use Rattle.rip_table.specs.CollectsAll.{origin_of_sender}
+use Rattle.rip_table.specs.declared.events.Sender.{Sender}
 use Rattle.rip_table.specs.declared.tallies.interface.InterfaceTally.{InterfaceTally}
 use Rattle.rip_table.specs.declared.tallies.interface.Sent.{Sent}
 use Rattle.rip_table.specs.declared.tallies.interface.Sent.TheVariants.{Joined, Refused, Bad, Asked}
@@ -203,3 +206,16 @@ set-tallies rows events j line origin sent t h made = record { at = λ i below. 
         rw (is, tally_more j events (record { line = line; event = sent_event j origin sent }), sym made) (get-same rows j t (omega (arith, is, below)))
     at-one i below false other =
         rw (tally_more i events (record { line = line; event = sent_event j origin sent }), other-step i j origin sent (interface_tally i events) line other, get-other rows i j t (eqb-false i j other)) (h.at i below)
+
+-- ---- where memory may be wanted
+
+pub on_err : {T E : Type 0} (r : Result T E) (P : Type 0) → P → OnErr r P
+on_err (Ok x) P is = tt
+on_err (Err e) P is = is
+
+-- a bad line that has an origin and no interface is a stranger's
+pub bad_of_stranger : (code : LogCode) (origin : Option Sender) (i : Option ℕ) (s : Sender) → ((x : ℕ) → i ≡ Some x → ⊥) → origin ≡ Some s
+    → IsOfStranger (bad code (option_map origin_of_sender origin) i)
+bad_of_stranger code None i s never is = cc is
+bad_of_stranger code (Some t) None s never is = (origin_of_sender t, refl)
+bad_of_stranger code (Some t) (Some x) s never is = absurd (never x refl)

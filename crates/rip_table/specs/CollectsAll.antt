@@ -57,19 +57,21 @@ MayWant n s (captured c) = WantsFor n s c
 MayWant n s (bad_line code o) = ⊥
 
 -- memory was refused at a line that says this: to the table, which is as it was, and nothing is told of
--- the line; or to the listener, which was told of it, and the table is what the line makes of it
-abbrev pub IsWanted : Network → State → Said → State → Type 0 → Type 0
-IsWanted n old said new untold =
-    ((new ≡ old) × MayWant n old said × untold) ⊎ (new ≡ (came n old said).state)
+-- the line; or to the listener, which may allocate at such an event, and the table is what the line makes
+-- of it
+abbrev pub IsWanted : (Event → Type 0) → Network → State → Said → State → Type 0 → Type 0
+IsWanted may n old said new untold =
+    ((new ≡ old) × MayWant n old said × untold)
+    ⊎ ((new ≡ (came n old said).state) × may (came n old said).event)
 
 -- what a line that says this makes of the table and the listener, or that memory was refused
-abbrev pub Hears : Network → State → Said → ℕ → State → (List EventAt → Type 0)
+abbrev pub Hears : (Event → Type 0) → Network → State → Said → ℕ → State → (List EventAt → Type 0)
     → (List EventAt → Type 0) → Result (Unit {0}) CollectAllError → Type 0
-Hears n old said line new was then (Ok u) =
+Hears may n old said line new was then (Ok u) =
     (new ≡ (came n old said).state)
     × HoldsMore was then ((record { line = line; event = (came n old said).event }) ∷ [])
-Hears n old said line new was then (Err e) =
-    (e ≡ Memory) × IsWanted n old said new (HoldsMore was then [])
+Hears may n old said line new was then (Err e) =
+    (e ≡ Memory) × IsWanted may n old said new (HoldsMore was then [])
 
 -- of what is said some lines were told, and the others are left
 pub record Told (n : Network) (old : State) (all : AllSaid) (new : State) (events : List EventAt)
@@ -123,23 +125,23 @@ UnreadAtKnown n old (Some text) others behind failed new was then =
     UnreadAt n old text others behind failed new was then
 
 -- memory was refused at a line: those before it were told, and those after it are left
-pub record StuckAt (n : Network) (old : State) (all : AllSaid) (new : State)
+pub record StuckAt (may : Event → Type 0) (n : Network) (old : State) (all : AllSaid) (new : State)
     (was then : List EventAt → Type 0) (line : ℕ) (left : AllSaid) : Type 0 where
   pub said : Said
   pub mid : State
   pub events : List EventAt
   pub told : Told n old all mid events (onto_said (record { line = line; said = said }) left)
-  pub wanted : IsWanted n mid said new (HoldsMore was then events)
+  pub wanted : IsWanted may n mid said new (HoldsMore was then events)
 
 -- the same where bytes are modelled; or memory was refused at the line too many, at which the reader stops
-abbrev pub StuckAtKnown : Network → State → Option AllSaid → State → (List EventAt → Type 0)
-    → (List EventAt → Type 0) → ℕ → Option AllSaid → Bool → Type 0
-StuckAtKnown n old None new was then line left stopped = Unit {0}
-StuckAtKnown n old (Some all) new was then line left true =
-    (all.too_many ≡ true) × (new ≡ state_after n old all.said)
-StuckAtKnown n old (Some all) new was then line None false = ⊥
-StuckAtKnown n old (Some all) new was then line (Some left) false =
-    StuckAt n old all new was then line left
+abbrev pub StuckAtKnown : (Event → Type 0) → Network → State → Option AllSaid → State
+    → (List EventAt → Type 0) → (List EventAt → Type 0) → ℕ → Option AllSaid → Bool → Type 0
+StuckAtKnown may n old None new was then line left stopped = Unit {0}
+StuckAtKnown may n old (Some all) new was then line left true =
+    (all.too_many ≡ true) × (new ≡ state_after n old all.said) × may (bad codes.TooManyLines None None)
+StuckAtKnown may n old (Some all) new was then line None false = ⊥
+StuckAtKnown may n old (Some all) new was then line (Some left) false =
+    StuckAt may n old all new was then line left
 
 -- the reader's error is this one
 abbrev pub IsLogError : Result (Unit {0}) CollectAllError → (LogError → Type 0) → Type 0
@@ -161,7 +163,8 @@ has_failed (Err Memory) = false
 -- what `collect_all` tells a listener and leaves
 pub record CollectsAll {R : Type 0} (given : R → List ℕ) (coming : R → Option (List ℕ))
     (broken at_end : R → Bool) (n : Network) (old new : State) (before after : LogReader R)
-    (was then : List EventAt → Type 0) (result : Result (Unit {0}) CollectAllError) : Type 0 where
+    (may : Event → Type 0) (was then : List EventAt → Type 0)
+    (result : Result (Unit {0}) CollectAllError) : Type 0 where
   -- of whichever text the source has begun to give
   pub told : has_stopped before ≡ false → OfWhole given at_end (source_of after) (λ coming.
       ToldOutcome n old (said_to_come coming before) new was then result)
@@ -176,9 +179,9 @@ pub record CollectsAll {R : Type 0} (given : R → List ℕ) (coming : R → Opt
   -- it is at the line after those behind the reader, which has stopped
   pub here : IsLogError result (λ e.
       (e.line ≡ lines_behind after + 1) × (has_stopped after ≡ true))
-  -- Memory only at a line that was read, or at the line too many
+  -- Memory only at a line that was read, or at the line too many, where table or listener may allocate
   pub wanted : result ≡ Err Memory → OfWhole given at_end (source_of after) (λ coming.
-      StuckAtKnown n old (said_to_come coming before) new was then (lines_behind after)
+      StuckAtKnown may n old (said_to_come coming before) new was then (lines_behind after)
       (said_to_come coming after) (has_stopped after))
   pub further : result ≡ Err Memory →
       (lines_behind before < lines_behind after) ⊎ (has_stopped after ≡ true)

@@ -169,6 +169,10 @@ stranger_of (stranger o) = Some o
 stranger_of (bad code (Some o) None) = Some o
 stranger_of other = None
 
+-- a stranger sent it
+abbrev pub IsOfStranger : Event → Type 0
+IsOfStranger e = (o : Origin) × (stranger_of e ≡ Some o)
+
 -- a response of the stranger
 abbrev pub is_response_of : Origin → Event → Bool
 is_response_of o (stranger p) = same_origin o p

@@ -1,6 +1,6 @@
 //! The loop over all lines of a log, good and bad.
 
-ghost use Rattle.std.specs.Prelude.{◌≡◌, [], ◌∷◌, None, MatchResult};
+ghost use Rattle.std.specs.Prelude.{◌≡◌, [], ◌∷◌, None, MatchResult, OnErr};
 ghost use Rattle.std.specs.Option.{option_map};
 ghost use Rattle.rip_log.specs.Said.{captured, bad as bad_line};
 ghost use Rattle.rip_log.specs.Leaves.{capture_of};
@@ -31,8 +31,8 @@ fn hear_record<T: MetricTable, L: Listener>(
     requires fits { Fits plan.now (T.state table.old) }
     requires suits { L.suits plan.now listener.old }
     requires room { HasRoom (L.holds listener.old) }
-    ensures hears { Hears plan.now (T.state table.old) (captured (capture_of found.now)) found.now.line
-        (T.state table.new) (L.holds listener.old) (L.holds listener.new) result }
+    ensures hears { Hears L.may_want plan.now (T.state table.old) (captured (capture_of found.now))
+        found.now.line (T.state table.new) (L.holds listener.old) (L.holds listener.new) result }
     ensures fits { Fits plan.now (T.state table.new) }
     ensures suits { L.suits plan.now listener.new }
 {
@@ -69,8 +69,8 @@ fn hear_bad<L: Listener>(
     requires suits { L.suits plan.now listener.old }
     requires room { HasRoom (L.holds listener.old) }
     ensures hears { (s : State) →
-        Hears plan.now s (bad_line line.now.code (option_map origin_lent line.now.origin)) line.now.line
-        s (L.holds listener.old) (L.holds listener.new) result }
+        Hears L.may_want plan.now s (bad_line line.now.code (option_map origin_lent line.now.origin))
+        line.now.line s (L.holds listener.old) (L.holds listener.new) result }
     ensures suits { L.suits plan.now listener.new }
 {
     let event = match &line.origin {
@@ -106,8 +106,8 @@ fn hear_line<T: MetricTable, L: Listener>(
     requires fits { Fits plan.now (T.state table.old) }
     requires suits { L.suits plan.now listener.old }
     requires room { HasRoom (L.holds listener.old) }
-    ensures hears { Hears plan.now (T.state table.old) (said_of line.now) (number_of line.now)
-        (T.state table.new) (L.holds listener.old) (L.holds listener.new) result }
+    ensures hears { Hears L.may_want plan.now (T.state table.old) (said_of line.now)
+        (number_of line.now) (T.state table.new) (L.holds listener.old) (L.holds listener.new) result }
     ensures fits { Fits plan.now (T.state table.new) }
     ensures suits { L.suits plan.now listener.new }
 {
@@ -125,6 +125,7 @@ fn hear_last<L: Listener>(plan: &Plan, listener: &mut L, line: u32) -> Result<()
         (λ _. HoldsMore (L.holds listener.old) (L.holds listener.new)
         ((record { line = line; event = bad LogCode.TooManyLines None None }) ∷ []))
         (λ e. e ≡ CollectAllError.Memory) }
+    ensures wanted { OnErr result (L.may_want (bad LogCode.TooManyLines None None)) }
     ensures suits { L.suits plan.now listener.new }
 {
     let event = Event::Bad(Bad {
@@ -157,7 +158,8 @@ pub fn collect_all<R: Source, T: MetricTable, L: Listener>(
     // The listener has heard nothing.
     requires new { L.holds listener.old [] }
     ensures collects { CollectsAll R.given R.coming R.broken R.at_end plan.now (T.state table.old)
-        (T.state table.new) reader.old reader.new (L.holds listener.old) (L.holds listener.new) result }
+        (T.state table.new) reader.old reader.new L.may_want (L.holds listener.old)
+        (L.holds listener.new) result }
     ensures suits { L.suits plan.now listener.new }
 {
     plan.lawful();

@@ -1,8 +1,8 @@
 //! Who is told what becomes of the lines of a log.
 
-ghost use Rattle.std.specs.Prelude.{[], ◌∷◌, List, OnOk};
+ghost use Rattle.std.specs.Prelude.{[], ◌∷◌, List, OnErr, OnOk};
 ghost use Rattle.rip_plan.specs.Network.{Network};
-ghost use Rattle.rip_table.specs.Events.{EventAt};
+ghost use Rattle.rip_table.specs.Events.{Event as EventMade, EventAt};
 ghost use Rattle.rip_table.specs.CollectsAll.{HasRoom, HoldsMore, IsPlanned, event_told};
 
 use crate::events::Event;
@@ -17,6 +17,9 @@ pub trait Listener {
     // It is for a plan.
     ghost suits: { Network → Self → Type 0 };
 
+    // It may be refused memory at such an event.
+    ghost may_want: { EventMade → Type 0 };
+
     /// Hears of a line, by its number and what became of it. It may allocate.
     fn hear(&mut self, plan: &Plan, line: u32, event: &Event<'_>) -> Result<(), AllocError>
         requires suits { suits plan.now self.old }
@@ -25,5 +28,6 @@ pub trait Listener {
         requires planned { IsPlanned plan.now (event_told plan.now event.now) }
         ensures heard { OnOk result (HoldsMore (holds self.old) (holds self.new)
             ((record { line = line; event = event_told plan.now event.now }) ∷ [])) }
+        ensures wanted { OnErr result (may_want (event_told plan.now event.now)) }
         ensures suits { suits plan.now self.new };
 }

@@ -1,6 +1,6 @@
 //! Who spoke in a log, counted.
 
-ghost use Rattle.std.specs.Prelude.{◌≡◌, ◌<◌, ◌≤◌, ◌++◌, ◌∷◌, [], ℕ, List, Option, Some, None, IfOk, IfSome, IsSome, OnOk, length, slice_get};
+ghost use Rattle.std.specs.Prelude.{◌≡◌, ◌<◌, ◌≤◌, ◌++◌, ◌∷◌, [], ℕ, List, Option, Some, None, IfOk, IfSome, IsSome, OnErr, OnOk, length, slice_get};
 ghost use Rattle.rip_log.specs.Said.{Origin};
 ghost use Rattle.rip_log.specs.declared.limits.TheConstants.{MOST_LINES};
 ghost use Rattle.rip_table.specs.Events.{EventAt, bad, refused, request};
@@ -8,7 +8,7 @@ ghost use Rattle.rip_table.specs.CollectsAll.{IsPlanned, event_told};
 ghost use Rattle.rip_table.specs.declared.error.TableError.{TableError};
 ghost use Rattle.rip_table.specs.declared.events.Event.TheVariants as told;
 ghost use Rattle.rip_table.specs.declared.tallies.interface.InterfaceTally.{InterfaceTally};
-ghost use Rattle.rip_table.specs.Tallies.{HasHeard, HasRoom, counts_of, if_line, interface_tally, interfaces_of, is_of_others, is_other_request, is_plain_bad, lines_in, lines_where, origin_of, plain_code, sent_event, stranger_line, stranger_tally, strangers_told, told_after};
+ghost use Rattle.rip_table.specs.Tallies.{HasHeard, HasRoom, IsOfStranger, counts_of, if_line, interface_tally, interfaces_of, is_of_others, is_other_request, is_plain_bad, lines_in, lines_where, origin_of, plain_code, sent_event, stranger_line, stranger_tally, strangers_told, told_after};
 ghost use Rattle.rip_table.specs.declared.tallies.lines.Lines.{Lines};
 
 pub mod counts;
@@ -286,6 +286,7 @@ impl<S: BuildHasher + Drop> Tallies<S> {
               line = line;
               event = event_told plan.now (told.Bad bad.now);
             }) ∷ [])) }
+        ensures wanted { OnErr result (IsOfStranger (event_told plan.now (told.Bad bad.now))) }
         ensures interfaces { interfaces_of self.new ≡ interfaces_of self.old }
     {
         if let Some(interface) = bad.interface {
@@ -306,6 +307,8 @@ impl<S: BuildHasher + Drop> Listener for Tallies<S> {
     ghost holds = { HasHeard };
 
     ghost suits = { λ n t. interfaces_of t ≡ length n.interfaces };
+
+    ghost may_want = { IsOfStranger };
 
     fn hear(&mut self, plan: &Plan, line: u32, event: &Event<'_>) -> Result<(), AllocError> {
         match event {

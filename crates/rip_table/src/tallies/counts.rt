@@ -96,6 +96,8 @@ impl Listener for Counts {
 
     ghost suits = { λ _ _. ⊤ };
 
+    ghost may_want = { λ _. ⊥ };
+
     fn hear(&mut self, _plan: &Plan, _line: u32, event: &Event<'_>) -> Result<(), AllocError> {
         match event {
             Event::Joined(_) => self.add_sent(&Sent::Joined),

@@ -35,6 +35,8 @@ impl Listener for Notes {
 
     ghost suits = { λ _ _. ⊤ };
 
+    ghost may_want = { λ _. ⊤ };
+
     fn hear(&mut self, plan: &Plan, line: u32, event: &Event<'_>) -> Result<(), AllocError> {
         let note = match event {
             Event::Joined(interface) => (line, 0, Some(*interface), None),

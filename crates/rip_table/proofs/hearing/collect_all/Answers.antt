@@ -9,7 +9,7 @@ use Rattle.rip_table.specs.State.{State}
 use Rattle.rip_table.specs.CollectsAll.{ToldKnown, ToldOutcome}
 use Rattle.rip_table.specs.declared.error.CollectAllError.TheVariants.{Log as OfLog}
 use Rattle.rip_table.proofs.BlameLemmas.{runs}
-use Rattle.rip_table.proofs.HearingLemmas.{ToldKnown-more, ended_log, event_at, heard-more, many_stopped, memory_is, many_line, ends_read, only_read, out-err, said-err, said-told, stops-end, stops-last, stuck-at, stuck-last, told-end, told-last, unread-told}
+use Rattle.rip_table.proofs.HearingLemmas.{ToldKnown-more, ended_log, event_at, heard-more, many_stopped, memory_is, many_line, ends_read, only_read, out-err, said-err, said-told, stops-end, stops-last, stuck-at, stuck-last, told-end, told-last, unread-told, wanted_last}
 use Rattle.rip_table.proofs.hearing.collect_all.Goals as goal
 
 pub lines-preserved : goal.lines-preserved
@@ -76,7 +76,7 @@ returns-in-Err-hear_line-clause-collects g c =
       wanted = λ is whole begins.
           let coming = rest_of S.given whole in
           let t = inv.told was_run whole (begins_back S.given S.coming S.at_end whole (source_of mid) (source_of now) h.pulls.went begins) in
-          stuck-at said_of number_of plan (state c.args.table.now) (said_to_come coming old) (state c.lines.table) (state c.hear_line.new.table) t.0 (said_to_come coming mid) (said_to_come coming now) c.in-Ok-Some.line (holds c.args.listener.now) (holds c.lines.listener) (holds c.hear_line.new.listener) (lines_behind now) (has_stopped now) t.2 t.1 (h.answers.gives run whole begins) hears.1 h.answers.onward.1 h.marks.stopped;
+          stuck-at said_of number_of g.L.Listener.may_want plan (state c.args.table.now) (said_to_come coming old) (state c.lines.table) (state c.hear_line.new.table) t.0 (said_to_come coming mid) (said_to_come coming now) c.in-Ok-Some.line (holds c.args.listener.now) (holds c.lines.listener) (holds c.hear_line.new.listener) (lines_behind now) (has_stopped now) t.2 t.1 (h.answers.gives run whole begins) hears.1 h.answers.onward.1 h.marks.stopped;
       further = λ is. inl (let later = h.answers.onward.0 in let first = inv.lines in omega (arith, later, first));
       marks = λ fine. h.marks.marks refl ∙ inv.marks;
       stopped = λ was. cc (was, was_run);
@@ -183,7 +183,7 @@ returns-in-TooManyLines-clause-collects g c =
       wanted = λ is whole begins.
           let coming = rest_of S.given whole in
           let t = inv.told was_run whole (begins_back S.given S.coming S.at_end whole (source_of mid) (source_of now) h.pulls.went begins) in
-          stuck-last said_of number_of plan (state c.args.table.now) (said_to_come coming old) (state c.lines.table) t.0 (holds c.args.listener.now) (holds c.hear_last.new.listener) (said_to_come coming mid) (said_to_come coming now) (said_to_come coming now) c.in-Err.error (lines_behind now) (has_stopped now) t.2 (h.answers.gives run whole begins) many h.marks.stopped;
+          stuck-last said_of number_of g.L.Listener.may_want plan (state c.args.table.now) (said_to_come coming old) (state c.lines.table) t.0 (holds c.args.listener.now) (holds c.hear_last.new.listener) (said_to_come coming mid) (said_to_come coming now) (said_to_come coming now) c.in-Err.error (lines_behind now) (has_stopped now) t.2 (h.answers.gives run whole begins) many h.marks.stopped (wanted_last c.hear_last.result _ c.hear_last.ensures.wanted is);
       further = λ is. inr h.marks.stopped;
       marks = λ fine. h.marks.marks (ap is_read many) ∙ inv.marks;
       stopped = λ was. cc (was, was_run);

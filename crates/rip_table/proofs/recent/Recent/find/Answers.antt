@@ -1,4 +1,4 @@
-use Rattle.std.proofs.Common.{◌∙◌, sym}
+use Rattle.std.proofs.Common.{sym}
 use Rattle.rip_table.proofs.recent.Recent.find.Goals as goal
 
 pub returns-then-is_at-clause-value : goal.returns-then-is_at-clause-value
