@@ -1,7 +1,7 @@
 -- A run of bytes that are no blanks is a field.
 use Rattle.std.proofs.Common.{◌≡◌, ◌+◌, ◌-◌, ◌≤◌, ◌<◌, ℕ, zero, suc, Bool, true, false, List, [], ◌∷◌, length, take, drop, get_or, refl, sym, ap, ◌∙◌, arith, inl, inr, slice_range, ◌==◌, eq-eqb}
 use Rattle.std.proofs.lemmas.Bool.{cases_lt}
-use Rattle.std.proofs.lemmas.List.{get_or-drop, drop-drop, length-drop, drop_more}
+use Rattle.std.proofs.lemmas.List.{get_or-drop, drop-drop, length-drop}
 use Rattle.memchr.specs.Find.{Nowhere, NoneBefore, Passes, is_byte2}
 use Rattle.rip_log.specs.Fields.{fields_of, is_blank, ends_field, onto, is_comment}
 use Rattle.rip_log.proofs.HeldLemmas.{at-drop}
@@ -76,20 +76,25 @@ field-to_end line hay from is inside here nowhere =
     (run-on line hay from (length line) is here (λ k low high. nowhere k low (omega (arith, high, ap length is, length-drop (from + 1) line))))
     (λ h. absurd (omega (arith, h)))
 
--- a part of a line begins with its first byte
-pub is_comment-range : (line : List ℕ) (fields rest : List (List ℕ)) (start end : ℕ) → fields ≡ slice_range line start end ∷ rest → start < end → end ≤ length line → is_comment fields ≡ (get_or line start 0 == 35)
-is_comment-range line fields rest start end split some within =
-    let n = end - start - 1 in
-    let count : end - start ≡ suc n = omega arith in
-    let front : slice_range line start end ≡ get_or line start 0 ∷ take n (drop (start + 1) line) =
-    ap (λ k. take k (drop start line)) count ∙ ap (take (suc n)) (drop_more line start 0 (omega arith)) in
-    ap is_comment (split ∙ ap (λ l. l ∷ rest) front)
+is_comment-onto : (b : ℕ) (fields : List (List ℕ)) → is_comment (onto b fields) ≡ (b == 35)
+is_comment-onto b [] = refl
+is_comment-onto b (first ∷ rest) = refl
+
+is_comment-run : (b : ℕ) (bytes : List ℕ) (x : Bool) → ends_field bytes ≡ x → is_blank b ≡ false → is_comment (fields_of (b ∷ bytes)) ≡ (b == 35)
+is_comment-run b bytes true e h = ap is_comment (fields_of-last b bytes h e)
+is_comment-run b bytes false e h = ap is_comment (fields_of-more b bytes h e) ∙ is_comment-onto b (fields_of bytes)
+
+-- the first field begins with the first byte that is no blank
+is_comment-front : (line : List ℕ) (from : ℕ) → from < length line → is_blank (get_or line from 0) ≡ false → is_comment (fields_of (drop from line)) ≡ (get_or line from 0 == 35)
+is_comment-front [] from inside here = absurd (omega arith)
+is_comment-front (b ∷ line) zero inside here = is_comment-run b line (ends_field line) refl here
+is_comment-front (b ∷ line) (suc from) inside here = is_comment-front line from (omega arith) here
 
 no-eqb : (a b : ℕ) → (a ≡ b → ⊥) → (a == b) ≡ false
 no-eqb a b h = grind arith
 
-pub is_comment-no : (line : List ℕ) (rest : List (List ℕ)) (start end : ℕ) → fields_of line ≡ slice_range line start end ∷ rest → start < end → end ≤ length line → (get_or line start 0 ≡ 35 → ⊥) → is_comment (fields_of line) ≡ false
-is_comment-no line rest start end split some within here = is_comment-range line _ rest start end split some within ∙ no-eqb _ _ here
+pub is_comment-no : (line : List ℕ) (from : ℕ) → from < length line → is_blank (get_or line from 0) ≡ false → fields_of line ≡ fields_of (drop from line) → (get_or line from 0 ≡ 35 → ⊥) → is_comment (fields_of line) ≡ false
+is_comment-no line from inside here same none = ap is_comment same ∙ is_comment-front line from inside here ∙ no-eqb _ _ none
 
-pub is_comment-yes : (line : List ℕ) (rest : List (List ℕ)) (start end : ℕ) → fields_of line ≡ slice_range line start end ∷ rest → start < end → end ≤ length line → get_or line start 0 ≡ 35 → is_comment (fields_of line) ≡ true
-is_comment-yes line rest start end split some within here = is_comment-range line _ rest start end split some within ∙ eq-eqb _ _ here
+pub is_comment-yes : (line : List ℕ) (from : ℕ) → from < length line → is_blank (get_or line from 0) ≡ false → fields_of line ≡ fields_of (drop from line) → get_or line from 0 ≡ 35 → is_comment (fields_of line) ≡ true
+is_comment-yes line from inside here same is = ap is_comment same ∙ is_comment-front line from inside here ∙ eq-eqb _ _ is

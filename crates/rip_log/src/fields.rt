@@ -69,12 +69,17 @@ fn next_field(line: &[u8], from: usize) -> Option<Span>
 pub fn split(line: &[u8]) -> Fields
     ensures { IsSplit line.now result }
 {
-    let Some(first) = next_field(line, 0) else {
+    let from = skip_blanks(line, 0);
+    if from == line.len() {
         return Fields::Nothing;
-    };
-    if line[first.from] == b'#' {
+    }
+    if line[from] == b'#' {
         return Fields::Comment;
     }
+    let first = Span {
+        from,
+        to: skip_field(line, from),
+    };
     let Some(second) = next_field(line, first.to) else {
         return Fields::Other;
     };

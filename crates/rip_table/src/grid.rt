@@ -15,7 +15,7 @@ use self::numbers::find_numbers;
 use self::order::Order;
 use self::rows::{Rows, add_new, add_planned};
 use crate::error::TableError;
-use crate::judging::{KnownMetrics, check};
+use crate::judging::{KnownMetrics, Numbers, check};
 use crate::table::{MetricTable, none_heard};
 use indexmap::IndexMap;
 use rip_plan::Plan;
@@ -23,13 +23,16 @@ use rip_wire::{Datagram, Entry, Kind, MOST_ENTRIES, Metric, Prefix};
 use std::alloc::Global;
 use std::hash::BuildHasher;
 
-/// A table in a hashed map, from each prefix to a row with a byte for each interface.
+/// A table in a hashed map, from each prefix to a row with a byte for each interface. `entries` and
+/// `numbers` are room for those of one response, which is kept: to clear it costs more than an entry.
 #[derive(Drop)]
 pub struct GridTable<S: BuildHasher> {
     alloc: Global,
     rows: Rows<S>,
     heard: Vec<bool>,
     orders: Vec<Order>,
+    entries: [Entry; MOST_ENTRIES],
+    numbers: Numbers,
     ghost valid: { IsState (grid_state heard.items (rows_of rows.entries)) },
     ghost grid: { IsGrid (length heard.items) (rows_of rows.entries) },
     ghost some: { 0 < length orders.items },
@@ -83,22 +86,25 @@ impl<S: BuildHasher> MetricTable for GridTable<S> {
         if datagram.kind() == Kind::Request {
             return Ok(());
         }
-        let mut room = [Entry::FILLER; MOST_ENTRIES];
-        let entries = datagram.entries(&mut room);
+        let count = datagram.read_entries(&mut self.entries);
         let own = plan.interface(interface);
         // There is an order for each router of the plan; of another plan's, any guesses as well.
         let at = own.router % self.orders.len();
-        let mut numbers = [None; MOST_ENTRIES];
-        find_numbers(&self.rows, &mut self.orders[at], entries, &mut numbers);
-        let brings = check(plan, self, &numbers, interface, entries)?;
+        find_numbers(
+            &self.rows,
+            &mut self.orders[at],
+            &self.entries[..count],
+            &mut self.numbers,
+        );
+        let brings = check(plan, self, &self.numbers, interface, &self.entries[..count])?;
         let width = self.heard.len();
         add_new(
             self.alloc,
             &mut self.rows,
             width,
             interface,
-            &numbers,
-            entries,
+            &self.numbers,
+            &self.entries[..count],
             brings,
         )?;
         self.heard[interface] = true;
@@ -128,6 +134,8 @@ impl<S: BuildHasher + Drop> GridTable<S> {
             rows,
             heard,
             orders,
+            entries: [Entry::FILLER; MOST_ENTRIES],
+            numbers: [None; MOST_ENTRIES],
         })
     }
 }

@@ -1,6 +1,6 @@
 //! Datagrams.
 
-ghost use Rattle.std.specs.Prelude.{◌≡◌, ◌/◌, ◌<◌, ◌≤◌, is_ok, length, slice_get, true};
+ghost use Rattle.std.specs.Prelude.{◌≡◌, ◌/◌, ◌<◌, ◌≤◌, is_ok, length, slice_get, take, true};
 ghost use Rattle.rip_wire.specs.Message.{message_in};
 ghost use Rattle.rip_wire.specs.Whole.{IsWhole};
 
@@ -74,14 +74,24 @@ impl<'a> Datagram<'a> {
         good_entry(self.bytes, HEADER_LEN + ENTRY_LEN * i)
     }
 
+    /// Writes the entries of a response at the front of the room, in their order, and answers how many.
+    pub fn read_entries(&self, room: &mut [Entry; MOST_ENTRIES]) -> usize
+        requires { kind_of (message_of self.now) ≡ Kind.Response }
+        ensures entries { take result room.new ≡ entries_of (message_of self.now) }
+        ensures few { result ≤ MOST_ENTRIES }
+    {
+        let count = self.len();
+        read_entries(self.bytes, count, room);
+        count
+    }
+
     /// Writes the entries of a response at the front of the room, in their order, and answers them.
     pub fn entries<'r>(&self, room: &'r mut [Entry; MOST_ENTRIES]) -> &'r [Entry]
         requires { kind_of (message_of self.now) ≡ Kind.Response }
         ensures entries { result.now ≡ entries_of (message_of self.now) }
         ensures few { length result.now ≤ MOST_ENTRIES }
     {
-        let count = self.len();
-        read_entries(self.bytes, count, room);
+        let count = self.read_entries(room);
         &room[..count]
     }
 }

@@ -6,16 +6,16 @@ use Rattle.rip_table.proofs.RowLemmas.{grid-planned, heads-planned}
 use Rattle.rip_table.proofs.CellLemmas.{cell-planned}
 use Rattle.rip_table.proofs.grid.GridTable.with_hasher.Goals as goal
 
-pub invariant_of-result-clause-valid : goal.invariant_of-result-clause-valid
-invariant_of-result-clause-valid g c =
+pub invariant_of-result-3-clause-valid : goal.invariant_of-result-3-clause-valid
+invariant_of-result-3-clause-valid g c =
     let n = c.args.plan.now in
     let w = length n.interfaces in
     let rows = c.in_ok-add_planned.ensures.ok in
     empty-is n c.lawful.ensures (grid_state c.in_ok-heard.heard.items (rows_of c.add_planned.new.rows.entries)) (ap heads rows ∙ heads-planned w n.prefixes)
     (λ i p. ap (λ (r : Rows). cell r i p) rows ∙ cell-planned w n.prefixes i p)
 
-pub invariant_of-result-clause-grid : goal.invariant_of-result-clause-grid
-invariant_of-result-clause-grid g c =
+pub invariant_of-result-3-clause-grid : goal.invariant_of-result-3-clause-grid
+invariant_of-result-3-clause-grid g c =
     let n = c.args.plan.now in
     let w = length n.interfaces in
     let heard = c.in_ok-heard.heard.items in

@@ -1,4 +1,4 @@
-use Rattle.std.proofs.Common.{◌≡◌, ◌∙◌, sym, ap, subst, Err, Ok, true, set, ℕ, arith, rules}
+use Rattle.std.proofs.Common.{◌≡◌, ◌∙◌, sym, ap, subst, Err, Ok, true, set, take, ℕ, arith, rules}
 use Rattle.std.proofs.Math.ListN.{length-set}
 use Rattle.rip_wire.specs.Datagram.{kind_of, message_of}
 use Rattle.rip_wire.specs.Message.{response}
@@ -20,8 +20,8 @@ returns-in_err-brings g c =
     let m = message_of c.args.datagram.now in
     let takes : Takes c.args.plan.now c.args.interface s m s c.from_residual.result =
     let kind : kind_of m ≡ Response = search rules in
-    let es = c.entries-entries.result.now in
-    let message : m ≡ response es = response-is m kind ∙ ap response (sym c.entries-entries.ensures.entries) in
+    let es = take c.read_entries-count.result c.read_entries-count.new.room in
+    let message : m ≡ response es = response-is m kind ∙ ap response (sym c.read_entries-count.ensures.entries) in
     let is : c.from_residual.result ≡ Err (c.in_err-brings.field-0).0 = search rules in
     let checked : IsChecked c.args.plan.now c.args.interface s es (Err (c.in_err-brings.field-0).0) = c.in_err-brings.ensures in
     subst (Takes c.args.plan.now c.args.interface s m s) (sym is) (refused c.args.plan.now c.args.interface s m es (c.in_err-brings.field-0).0 message checked)
@@ -39,8 +39,8 @@ returns-in_err-add_new g c =
     let m = message_of c.args.datagram.now in
     let takes : Takes c.args.plan.now c.args.interface s m new c.from_residual-in_err-add_new.result =
     let kind : kind_of m ≡ Response = search rules in
-    let es = c.entries-entries.result.now in
-    let message : m ≡ response es = response-is m kind ∙ ap response (sym c.entries-entries.ensures.entries) in
+    let es = take c.read_entries-count.result c.read_entries-count.new.room in
+    let message : m ≡ response es = response-is m kind ∙ ap response (sym c.read_entries-count.ensures.entries) in
     let is : c.from_residual-in_err-add_new.result ≡ Err Memory = search rules in
     let checked : AreFaultless c.args.plan.now c.args.interface s es = (c.in_ok-brings.ensures).0 in
     subst (Takes c.args.plan.now c.args.interface s m new) (sym is)
@@ -53,7 +53,7 @@ returns-in_err-add_new g c =
 
 pub invariant_of-self-2-clause-valid : goal.invariant_of-self-2-clause-valid
 invariant_of-self-2-clause-valid g c =
-    let same = taken-is c.args.plan.now c.args.interface c.args.self.now.heard.items (rows_of c.args.self.now.rows.entries) (rows_of c.add_new.new.rows.entries) c.entries-entries.result.now
+    let same = taken-is c.args.plan.now c.args.interface c.args.self.now.heard.items (rows_of c.args.self.now.rows.entries) (rows_of c.add_new.new.rows.entries) (take c.read_entries-count.result c.read_entries-count.new.room)
     (omega (arith, c.requires.interface, c.requires.fits.interfaces)) c.args.self.now.valid (c.in_ok-brings.ensures).0 c.in_ok-add_new.ensures.written in
     subst IsState (sym same) ((c.in_ok-brings.ensures).0).2
 
@@ -71,8 +71,8 @@ returns g c =
     let m = message_of c.args.datagram.now in
     let takes : Takes c.args.plan.now c.args.interface s m new (Ok tt) =
     let kind : kind_of m ≡ Response = search rules in
-    let es = c.entries-entries.result.now in
-    let message : m ≡ response es = response-is m kind ∙ ap response (sym c.entries-entries.ensures.entries) in
+    let es = take c.read_entries-count.result c.read_entries-count.new.room in
+    let message : m ≡ response es = response-is m kind ∙ ap response (sym c.read_entries-count.ensures.entries) in
     let checked : AreFaultless c.args.plan.now c.args.interface s es = (c.in_ok-brings.ensures).0 in
     taken c.args.plan.now c.args.interface s m es new message checked
     (taken-is c.args.plan.now c.args.interface heard rows (rows_of c.add_new.new.rows.entries) es (omega (arith, c.requires.interface, c.requires.fits.interfaces)) c.args.self.now.valid checked c.in_ok-add_new.ensures.written)
