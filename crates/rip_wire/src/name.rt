@@ -8,11 +8,7 @@ ghost use Rattle.rip_wire.specs.Name as name;
 fn may_stand(byte: u8) -> bool
     ensures { result ≡ is_name_byte byte }
 {
-    byte.is_ascii_alphabetic()
-        || byte.is_ascii_digit()
-        || byte == b'-'
-        || byte == b'_'
-        || byte == b'.'
+    byte.is_ascii_alphanumeric() || byte == b'-' || byte == b'_' || byte == b'.'
 }
 
 /// Whether the text is a name of a link or of a router: 1 to 32 ASCII letters, digits, `-`, `_` and
