@@ -73,6 +73,7 @@ pub fn split(line: &[u8]) -> Fields
     if from == line.len() {
         return Fields::Nothing;
     }
+    // The end of a comment's first field is not sought.
     if line[from] == b'#' {
         return Fields::Comment;
     }

@@ -169,7 +169,7 @@ stranger_of (stranger o) = Some o
 stranger_of (bad code (Some o) None) = Some o
 stranger_of other = None
 
--- a stranger sent it
+-- a stranger's response, or a line of one that is bad by its datagram
 abbrev pub IsOfStranger : Event → Type 0
 IsOfStranger e = (o : Origin) × (stranger_of e ≡ Some o)
 

@@ -15,7 +15,9 @@ use rip_wire::{Address, Datagram};
 /// Who sent a datagram: the name of the link on which it was captured, and the address.
 #[derive(Debug, Drop)]
 pub struct Sender<'a> {
+    /// The name of the link.
     pub link: &'a str,
+    /// The address.
     pub address: Address,
 }
 

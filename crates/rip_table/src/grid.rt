@@ -23,16 +23,16 @@ use rip_wire::{Datagram, Entry, Kind, MOST_ENTRIES, Metric, Prefix};
 use std::alloc::Global;
 use std::hash::BuildHasher;
 
-/// A table in a hashed map, from each prefix to a row with a byte for each interface. `entries` and
-/// `numbers` are room for those of one response, which is kept: to clear it costs more than an entry.
+/// A table in a hashed map, from each prefix to a row with a byte for each interface. The rooms are for
+/// the entries of one response, and are kept: to clear them for each would cost more than an entry does.
 #[derive(Drop)]
 pub struct GridTable<S: BuildHasher> {
     alloc: Global,
     rows: Rows<S>,
     heard: Vec<bool>,
     orders: Vec<Order>,
-    entries: [Entry; MOST_ENTRIES],
-    numbers: Numbers,
+    entry_room: [Entry; MOST_ENTRIES],
+    number_room: Numbers,
     ghost valid: { IsState (grid_state heard.items (rows_of rows.entries)) },
     ghost grid: { IsGrid (length heard.items) (rows_of rows.entries) },
     ghost some: { 0 < length orders.items },
@@ -86,25 +86,31 @@ impl<S: BuildHasher> MetricTable for GridTable<S> {
         if datagram.kind() == Kind::Request {
             return Ok(());
         }
-        let count = datagram.read_entries(&mut self.entries);
+        let count = datagram.read_entries(&mut self.entry_room);
         let own = plan.interface(interface);
         // There is an order for each router of the plan; of another plan's, any guesses as well.
         let at = own.router % self.orders.len();
         find_numbers(
             &self.rows,
             &mut self.orders[at],
-            &self.entries[..count],
-            &mut self.numbers,
+            &self.entry_room[..count],
+            &mut self.number_room,
         );
-        let brings = check(plan, self, &self.numbers, interface, &self.entries[..count])?;
+        let brings = check(
+            plan,
+            self,
+            &self.number_room,
+            interface,
+            &self.entry_room[..count],
+        )?;
         let width = self.heard.len();
         add_new(
             self.alloc,
             &mut self.rows,
             width,
             interface,
-            &self.numbers,
-            &self.entries[..count],
+            &self.number_room,
+            &self.entry_room[..count],
             brings,
         )?;
         self.heard[interface] = true;
@@ -134,8 +140,8 @@ impl<S: BuildHasher + Drop> GridTable<S> {
             rows,
             heard,
             orders,
-            entries: [Entry::FILLER; MOST_ENTRIES],
-            numbers: [None; MOST_ENTRIES],
+            entry_room: [Entry::FILLER; MOST_ENTRIES],
+            number_room: [None; MOST_ENTRIES],
         })
     }
 }

@@ -145,8 +145,8 @@ fn hear_last<L: Listener>(plan: &Plan, listener: &mut L, line: u32) -> Result<()
 /// `u64::MAX` bytes; table and listener then have what the lines before it came to. It is Ended where the
 /// reader had stopped before, and then they are as they were. `Memory` comes at a line that was read,
 /// where it was refused to the table, for a response that brings a pair of interface and prefix, or to the
-/// listener when it was told of the line. The table then has what the lines before it came to, and where it was the
-/// listener, what this line comes to as well; what such a listener holds is not known.
+/// listener, for an event at which it may want some. The table then has what the lines before it came to,
+/// and where it was the listener, what this line comes to as well; what such a listener holds is not known.
 pub fn collect_all<R: Source, T: MetricTable, L: Listener>(
     plan: &Plan,
     reader: &mut LogReader<R>,

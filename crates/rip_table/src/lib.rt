@@ -28,4 +28,4 @@ pub use tallies::Tallies;
 pub use tallies::counts::Counts;
 pub use tallies::interface::{InterfaceTally, Refusal};
 pub use tallies::lines::Lines;
-pub use tallies::strangers::{MOST_STRANGERS, Stranger, StrangerTally};
+pub use tallies::strangers::{MOST_STRANGERS, StrangerTally};

@@ -20,7 +20,8 @@ pub trait Listener {
     // It may be refused memory at such an event.
     ghost may_want: { EventMade → Type 0 };
 
-    /// Hears of a line, by its number and what became of it. It may allocate.
+    /// Hears of a line, by its number and what became of it. It is refused memory only where it may want
+    /// some.
     fn hear(&mut self, plan: &Plan, line: u32, event: &Event<'_>) -> Result<(), AllocError>
         requires suits { suits plan.now self.old }
         // It has not heard of more events than a log has lines.

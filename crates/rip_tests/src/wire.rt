@@ -250,6 +250,9 @@ fn reads_what_was_written(rt: HostRuntime) {
         assert_eq!(rt; datagram.entry(i), entries[i], "entry {i}");
     }
     assert!(rt; datagram.entries(&mut [Entry::FILLER; 25]) == &entries[..]);
+    let mut entry_room = [Entry::FILLER; 25];
+    assert_eq!(rt; datagram.read_entries(&mut entry_room), 25);
+    assert!(rt; &entry_room[..] == &entries[..]);
 }
 
 /// Expects that the bytes are a request of so many entries.
