@@ -1,5 +1,5 @@
 -- The 33 masks.
-use Rattle.std.proofs.Common.{◌≡◌, ℕ, zero, suc, ◌-◌, ◌*◌, ◌/◌, ◌^◌, ◌<◌, ◌≤◌, Bool, true, false, ◌&&◌, eqb, Option, Some, None, List, [], ◌∷◌, refl, sym, ap, ◌∙◌, arith, ◌⊎◌, inl, inr, cond}
+use Rattle.std.proofs.Common.{◌≡◌, ℕ, zero, suc, ◌-◌, ◌*◌, ◌/◌, ◌^◌, ◌<◌, ◌≤◌, Bool, true, false, ◌&&◌, eqb, Option, Some, None, is_some, List, [], ◌∷◌, refl, sym, ap, ◌∙◌, arith, ◌⊎◌, inl, inr, cond}
 use Rattle.std.proofs.lemmas.Bool.{eqb-true}
 use lib.Count.{count_leading_zeros}
 use Rattle.std.specs.Int.{w32, leading_ones}
@@ -66,6 +66,17 @@ lens_are_small = search arith
 pub bits_of_mask-Some : (mask bits : ℕ) → bits_of_mask mask ≡ Some bits → (bits ≤ 32) × (mask ≡ mask_of bits)
 unfolding bits_of_mask
 bits_of_mask-Some mask bits h = found mask bits prefix_lens lens_are_small h
+
+ones-of : (mask : ℕ) (o : Option ℕ) → bits_of_mask mask ≡ o → is_some o ≡ true → (o ≡ Some (leading_ones w32 mask)) × (leading_ones w32 mask ≤ 32)
+ones-of mask None is some = absurd (cc some)
+ones-of mask (Some bits) is some =
+    let found = bits_of_mask-Some mask bits is in
+    let same : leading_ones w32 mask ≡ bits = ap (leading_ones w32) found.1 ∙ leading_ones-mask_of bits found.0 in
+    (ap Some (sym same), omega (arith, same, found.0))
+
+-- a mask has the length of the ones that it begins with
+pub bits_of_mask-ones : (mask : ℕ) → is_some (bits_of_mask mask) ≡ true → (bits_of_mask mask ≡ Some (leading_ones w32 mask)) × (leading_ones w32 mask ≤ 32)
+bits_of_mask-ones mask some = ones-of mask (bits_of_mask mask) refl some
 
 -- what does not begin with all its ones is no mask
 pub bits_of_mask-None : (mask : ℕ) → (mask ≡ mask_of (leading_ones w32 mask) → ⊥) → None ≡ bits_of_mask mask

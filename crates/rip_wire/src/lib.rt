@@ -1,5 +1,5 @@
 //! RIP-2 datagrams (RFC 2453, sections 3.6 and 4): addresses, prefixes, metrics, and the reading of
-//! requests and responses. Nothing here takes memory.
+//! requests and responses. Nothing here allocates.
 #![tactic(auto)]
 
 mod address;

@@ -74,6 +74,17 @@ impl Prefix {
         })
     }
 
+    /// The prefix of a network and a length of which it is known that they are one.
+    pub(crate) fn of_parts(network: Address, length: u8) -> Prefix
+        requires { IsBlock (block network length) }
+        ensures { result ≡ block network length }
+    {
+        Prefix {
+            network,
+            prefix_len: length,
+        }
+    }
+
     /// The prefix that has this text, as `10.3.0.0/16`: just as it is printed, so there are no zeros
     /// in front of a number, no blanks and no signs, and no bit past the length is set.
     pub fn parse(text: &str) -> Option<Prefix>

@@ -1,6 +1,6 @@
 //! Reading datagrams.
 
-ghost use Rattle.std.specs.Prelude.{◌≡◌, ◌+◌, ◌<◌, ◌≤◌, ◌↔◌, ◌++◌, ℕ, List, Ok, length, is_ok, false, true, IfErr, IfOk, IfSome, IsErrOf, IsOkAnd, MatchResult, OnOk};
+ghost use Rattle.std.specs.Prelude.{◌≡◌, ◌+◌, ◌<◌, ◌≤◌, ◌↔◌, ◌++◌, ℕ, List, Ok, Some, length, is_ok, is_some, false, true, IfErr, IfOk, IfSome, IsErrOf, IsOkAnd, MatchResult, OnOk};
 ghost use Rattle.rip_wire.specs.declared.entry.Entry.{Entry};
 ghost use Rattle.rip_wire.specs.declared.error.WireCode.{WireCode};
 ghost use Rattle.rip_wire.specs.Faults.{WireFault};
@@ -26,6 +26,15 @@ fn length_of_mask(mask: u32) -> Option<u8>
     } else {
         None
     }
+}
+
+/// The length whose mask this is, where it is known to be one.
+fn length_of_known_mask(mask: u32) -> u8
+    requires { is_some (bits_of_mask mask) ≡ true }
+    ensures value { bits_of_mask mask ≡ Some result }
+    ensures few { result ≤ 32 }
+{
+    mask.leading_ones() as u8
 }
 
 /// The number in the two bytes at an offset.
@@ -103,20 +112,12 @@ pub(crate) fn good_entry(bytes: &[u8], at: usize) -> Entry
     requires good { is_ok (entry_at at bytes.now) ≡ true }
     ensures { entry_at at bytes.now ≡ Ok result }
 {
-    let Some(length) = length_of_mask(u32_at(bytes, at + 8)) else {
-        unreachable!()
-    };
-    let Some(prefix) = Prefix::new(Address::new(u32_at(bytes, at + 4)), length) else {
-        unreachable!()
-    };
-    let Some(metric) = Metric::new(u32_at(bytes, at + 16)) else {
-        unreachable!()
-    };
+    let length = length_of_known_mask(u32_at(bytes, at + 8));
     Entry {
         tag: u16_at(bytes, at + 2),
-        prefix,
+        prefix: Prefix::of_parts(Address::new(u32_at(bytes, at + 4)), length),
         next_hop: Address::new(u32_at(bytes, at + 12)),
-        metric,
+        metric: Metric::of_number(u32_at(bytes, at + 16)),
     }
 }
 
