@@ -1,9 +1,10 @@
 -- A run of bytes that are no blanks is a field.
 use Rattle.std.proofs.Common.{◌≡◌, ◌+◌, ◌-◌, ◌≤◌, ◌<◌, ℕ, zero, suc, Bool, true, false, List, [], ◌∷◌, length, take, drop, get_or, refl, sym, ap, ◌∙◌, arith, inl, inr, slice_range, ◌==◌, eq-eqb}
 use Rattle.std.proofs.lemmas.Bool.{cases_lt}
-use Rattle.std.proofs.lemmas.List.{get_or-drop, drop-drop, length-drop}
+use Rattle.std.proofs.lemmas.List.{get_or-drop, get_or-take, drop-drop, length-drop, length-take, take_all}
+use Rattle.std.proofs.Math.Seq.{drop-length}
 use Rattle.memchr.specs.Find.{Nowhere, NoneBefore, Passes, is_byte2}
-use Rattle.rip_log.specs.Fields.{fields_of, is_blank, ends_field, onto, is_comment}
+use Rattle.rip_log.specs.Fields.{fields_of, is_blank, ends_field, onto, is_comment, IsTrimmed}
 use Rattle.rip_log.proofs.HeldLemmas.{at-drop}
 
 fields_of-blank : (b : ℕ) (bytes : List ℕ) → is_blank b ≡ true → fields_of (b ∷ bytes) ≡ fields_of bytes
@@ -98,3 +99,68 @@ is_comment-no line from inside here same none = ap is_comment same ∙ is_commen
 
 pub is_comment-yes : (line : List ℕ) (from : ℕ) → from < length line → is_blank (get_or line from 0) ≡ false → fields_of line ≡ fields_of (drop from line) → get_or line from 0 ≡ 35 → is_comment (fields_of line) ≡ true
 is_comment-yes line from inside here same is = ap is_comment same ∙ is_comment-front line from inside here ∙ eq-eqb _ _ is
+
+-- ---- the rest of a line, without the blanks at its end
+
+onto-some : (b : ℕ) (fields : List (List ℕ)) → 0 < length (onto b fields)
+onto-some b [] = omega arith
+onto-some b (first ∷ rest) = omega arith
+
+run-some : (b : ℕ) (bytes : List ℕ) (x : Bool) → ends_field bytes ≡ x → is_blank b ≡ false → 0 < length (fields_of (b ∷ bytes))
+run-some b bytes true e h = rw (fields_of-last b bytes h e) (omega arith)
+run-some b bytes false e h = rw (fields_of-more b bytes h e) (onto-some b (fields_of bytes))
+
+behind-some : (b : ℕ) (bytes : List ℕ) (x : Bool) → is_blank b ≡ x → 0 < length (fields_of bytes) → 0 < length (fields_of (b ∷ bytes))
+behind-some b bytes true h some = rw (fields_of-blank b bytes h) some
+behind-some b bytes false h some = run-some b bytes (ends_field bytes) refl h
+
+-- bytes of which one is no blank have a field
+pub fields_of-some : (xs : List ℕ) (k : ℕ) → k < length xs → is_blank (get_or xs k 0) ≡ false → 0 < length (fields_of xs)
+fields_of-some [] k inside h = absurd (omega arith)
+fields_of-some (b ∷ xs) zero inside h = run-some b xs (ends_field xs) refl h
+fields_of-some (b ∷ xs) (suc k) inside h = behind-some b xs (is_blank b) refl (fields_of-some xs k (omega arith) h)
+
+ends_field-trim : (xs : List ℕ) (n : ℕ) → ((k : ℕ) → n ≤ k → k < length xs → is_blank (get_or xs k 0) ≡ true) → ends_field (take n xs) ≡ ends_field xs
+ends_field-trim [] zero blanks = refl
+ends_field-trim [] (suc n) blanks = refl
+ends_field-trim (x ∷ xs) zero blanks = sym (blanks 0 (omega arith) (omega arith))
+ends_field-trim (x ∷ xs) (suc n) blanks = refl
+
+-- blanks at the end make no field
+pub fields_of-trim : (xs : List ℕ) (n : ℕ) → ((k : ℕ) → n ≤ k → k < length xs → is_blank (get_or xs k 0) ≡ true) → fields_of (take n xs) ≡ fields_of xs
+fields_of-trim [] zero blanks = refl
+fields_of-trim [] (suc n) blanks = refl
+fields_of-trim (b ∷ xs) zero blanks =
+    fields_of-trim xs zero (λ k low high. blanks (suc k) (omega arith) (omega (arith, high)))
+    ∙ sym (fields_of-blank b xs (blanks 0 (omega arith) (omega arith)))
+fields_of-trim (b ∷ xs) (suc n) blanks =
+    let on : (k : ℕ) → n ≤ k → k < length xs → is_blank (get_or xs k 0) ≡ true = λ k low high. blanks (suc k) (omega (arith, low)) (omega (arith, high)) in
+    rw (ends_field-trim xs n on, fields_of-trim xs n on) refl
+
+-- bytes of which none is a blank are a field
+pub fields_of-one : (xs : List ℕ) → 0 < length xs → ((k : ℕ) → k < length xs → is_blank (get_or xs k 0) ≡ false) → fields_of xs ≡ xs ∷ []
+fields_of-one [] some none = absurd (omega arith)
+fields_of-one (b ∷ xs) some none =
+    let n = length xs in
+    let end : drop n xs ≡ [] = drop-length xs in
+    fields_of-run (b ∷ xs) n (omega arith) (λ k low. none k (omega (arith, low))) (ap ends_field end)
+    ∙ ap (λ l. (b ∷ l) ∷ fields_of (drop n xs)) (take_all n xs (omega arith))
+    ∙ ap (λ l. (b ∷ xs) ∷ fields_of l) end
+
+-- blanks at the end of a line make no field
+pub rest-fields : (line : List ℕ) (from to : ℕ) → from ≤ to → ((k : ℕ) → to ≤ k → k < length line → is_blank (get_or line k 0) ≡ true) → fields_of (slice_range line from to) ≡ fields_of (drop from line)
+rest-fields line from to some blanks =
+    fields_of-trim (drop from line) (to - from) (λ k low high. rw (get_or-drop from line k 0) (blanks (from + k) (omega (arith, low)) (omega (arith, high, length-drop from line))))
+
+-- a part of a line that begins and ends with no blank
+pub rest-trimmed : (line : List ℕ) (from to : ℕ) → from < to → to ≤ length line → is_blank (get_or line from 0) ≡ false → is_blank (get_or line (to - 1) 0) ≡ false → IsTrimmed (slice_range line from to)
+rest-trimmed line from to some within first last =
+    let n = to - from in
+    let rest = drop from line in
+    let count : length (take n rest) ≡ n = omega (arith, length-take n rest, length-drop from line) in
+    let at : (k : ℕ) → k < n → get_or (take n rest) k 0 ≡ get_or line (from + k) 0 = λ k low. get_or-take n rest k 0 low ∙ get_or-drop from line k 0 in
+    record {
+      some = omega (arith, count);
+      first = ap is_blank (at 0 (omega arith) ∙ ap (λ k. get_or line k 0) {x = from + 0} {y = from} (omega arith)) ∙ first;
+      last = ap is_blank (ap (λ k. get_or (take n rest) (k - 1) 0) count ∙ at (n - 1) (omega arith) ∙ ap (λ k. get_or line k 0) {x = from + (n - 1)} {y = to - 1} (omega arith)) ∙ last;
+    }

@@ -1,10 +1,10 @@
 -- A line and the line without its carriage return.
-use Rattle.std.proofs.Common.{◌≡◌, ◌+◌, ◌-◌, ◌≤◌, ◌<◌, ℕ, List, length, take, drop, slice_range, Option, Some, None, Result, Ok, Err, IfSome, refl, sym, ap, ◌∙◌, arith, Bool, true, false, cond}
+use Rattle.std.proofs.Common.{◌≡◌, ◌+◌, ◌-◌, ◌≤◌, ◌<◌, ℕ, List, [], ◌∷◌, length, take, drop, slice_range, Option, Some, None, Result, Ok, Err, IfSome, is_err, refl, sym, ap, ◌∙◌, arith, Bool, true, false, cond}
 use Rattle.std.proofs.lemmas.List.{take-take, drop-take, length-take, take_all}
 use Rattle.std.specs.Io.BufRead.{strip_last, ends_with_byte}
 use Rattle.rip_wire.specs.Name.{is_name}
-use Rattle.rip_log.specs.Fields.{fields_of}
-use Rattle.rip_log.specs.Lines.{Capture, judge, judge_short, unless_skipped}
+use Rattle.rip_log.specs.Fields.{fields_of, is_comment}
+use Rattle.rip_log.specs.Lines.{Capture, judge, judge_short, three_fields, unless_skipped}
 use Rattle.rip_log.specs.Said.{Origin, origin_by, origin_of}
 use Rattle.rip_log.specs.Parts.{IsSaid, IsFront, AreParts, capture_of_parts, origin_at}
 use Rattle.rip_log.specs.declared.error.LogCode.{LogCode}
@@ -13,6 +13,7 @@ use Rattle.rip_log.specs.Spans.{slice_of}
 use Rattle.rip_log.specs.declared.line.Fault.{Fault}
 use Rattle.rip_log.specs.declared.line.Front.{Front as LineFront}
 use Rattle.rip_log.specs.declared.line.Parts.{Parts}
+use Rattle.rip_log.proofs.DigitLemmas.{good-field}
 
 pub judge-short : (line : List ℕ) → length line ≤ 2048 → judge line ≡ judge_short line
 judge-short line h = grind arith
@@ -75,3 +76,17 @@ IsSaid-line line room (Err fault) h said =
     let front = front-of (ends_with_byte 13 line) line in
     let moved = front-origin line (strip_last 13 line) front.0 fault.front front.1 front.2 said.front in
     record { code = judge-short line h ∙ said.code; origin = said.origin ∙ moved.0; front = moved.1 }
+
+-- what is said of three fields is said of a line that has them and is no comment
+pub three-said : (fields : List (List ℕ)) (a b c line room : List ℕ) (r : Result (Option Parts) Fault) → fields ≡ a ∷ b ∷ c ∷ [] → is_comment fields ≡ false
+    → IsSaid (three_fields a b c) (origin_by (a ∷ b ∷ c ∷ [])) line room r → IsSaid (unless_skipped fields) (origin_by fields) line room r
+three-said fields a b c line room r is plain said =
+    let none : is_comment (a ∷ b ∷ c ∷ []) ≡ false = sym (ap is_comment is) ∙ plain in
+    rw is (rw none said)
+
+-- what ends a line that is good is one field
+pub good-said : (link sender s line room : List ℕ) (from : LogCode → Option Origin) (r : Result (Option Parts) Fault) → is_err r ≡ false → 0 < length s
+    → IsSaid (three_fields link sender s) from line room r → fields_of s ≡ s ∷ []
+good-said link sender s line room from (Ok None) good some said = good-field link sender s None some said
+good-said link sender s line room from (Ok (Some parts)) good some said = good-field link sender s _ some said.0
+good-said link sender s line room from (Err fault) good some said = absurd (cc good)

@@ -42,6 +42,6 @@ passes_trans (Some t) (Some m) (Some r) n between after first second = (
   omega (arith, first.2, second.2, length-append first.0 second.0),
 )
 
--- a line that was passed over
+-- a line that was skipped
 pub passes_long : (t m new : Option (List ℕ)) (n after : ℕ) → Keeps t m → DropsFirst m new → after ≡ n + 1 → PassesLines t n new after
 passes_long t m new n after keeps drops count = passes_line t new n after drops.0 (first-kept t m new drops.0 keeps drops.1) count

@@ -81,7 +81,7 @@ module _ {X : Type 0} (view : X → Said) (number : X → ℕ) where
       ∙ ap (λ (k : ℕ). onto_said (record { line = k; said = view x }) (all_of after (lines_of r))) (sym num) in
       (all_of after (lines_of r), refl, said ∙ moved)
 
-  -- a line was too long, and was passed over
+  -- a line was too long, and was skipped
   pub GivesLine-long : (t m new : Option (List ℕ)) (n after : ℕ) (x : X) → n < 1000000 → LongFirst t → Keeps t m → DropsFirst m new → view x ≡ bad LongLine None
       → after ≡ n + 1 → number x ≡ after → GivesLine view number (said_at n t) (said_at after new) (Ok (Some x))
   GivesLine-long None m new n after x few long keeps drops is count num = tt

@@ -75,7 +75,7 @@ endless-of (b ∷ xs) ys n none long =
     let first = lines_of-front b xs ys none in
     ((b ∷ xs) ++ first.0, first.1, omega (arith, long, length-append (b ∷ xs) first.0), first.2)
 
--- a line that goes on past the bytes that are passed over
+-- a line that goes on past the bytes that are skipped
 pub skip-endless : (old left : Option (List ℕ)) (front held : List ℕ) → Keeps old (prepend_known front (prepend_known held left)) → NoFeedBelow front (length front) → NoFeedBelow held (length held)
     → 18446744073709551615 < length front + length held → IsEndless old
 skip-endless None left front held keeps none none_held long = tt

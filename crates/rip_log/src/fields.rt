@@ -1,18 +1,19 @@
 //! The fields of a line.
 
-ghost use Rattle.std.specs.Prelude.{◌≡◌, ◌≤◌, ◌<◌, [], ◌∷◌, false, length, drop, MatchOption, slice_range, slice_index};
-ghost use Rattle.rip_log.specs.Fields.{is_blank, fields_of, NextField, IsSplit};
+ghost use Rattle.std.specs.Prelude.{◌≡◌, ◌≤◌, ◌<◌, ◌-◌, ℕ, [], ◌∷◌, true, false, length, drop, MatchOption, slice_range, slice_index};
+ghost use Rattle.rip_log.specs.Fields.{is_blank, fields_of, IsTrimmed, NextField, IsSplit};
 
 use crate::span::Span;
 use memchr::memchr2;
 
-/// The fields of a line, where they lie.
+/// The fields of a line, where they lie. Of three or more the third span is the rest of the line from the
+/// third on, without the blanks at its end.
 #[derive(Clone, Copy)]
 pub enum Fields {
     Nothing,
     Comment,
-    Three(Span, Span, Span),
-    Other,
+    Few,
+    Many(Span, Span, Span),
 }
 
 /// Whether the byte is a blank: a space or a tab.
@@ -52,6 +53,32 @@ fn skip_field(line: &[u8], from: usize) -> usize
     }
 }
 
+/// The offset behind the last byte that is no blank, where there is one from `from` on.
+fn trim_end(line: &[u8], from: usize) -> usize
+    requires inside { from < length line.now }
+    requires field { is_blank (slice_index line.now from) ≡ false }
+    ensures after { from < result }
+    ensures within { result ≤ length line.now }
+    ensures last { is_blank (slice_index line.now (result - 1)) ≡ false }
+    ensures blanks { (k : ℕ) → result ≤ k → k < length line.now →
+        is_blank (slice_index line.now k) ≡ true }
+{
+    let mut to = line.len();
+    while is_blank(line[to - 1]) {
+        to -= 1;
+    }
+    to
+}
+
+/// Whether bytes that neither begin nor end with a blank are one field.
+pub fn is_field(bytes: &[u8]) -> bool
+    requires { IsTrimmed bytes.now }
+    ensures one { result ≡ true → fields_of bytes.now ≡ bytes.now ∷ [] }
+    ensures more { result ≡ false → 1 < length (fields_of bytes.now) }
+{
+    skip_field(bytes, 0) == bytes.len()
+}
+
 /// The next field from `from` on.
 fn next_field(line: &[u8], from: usize) -> Option<Span>
     requires { from ≤ length line.now }
@@ -65,7 +92,7 @@ fn next_field(line: &[u8], from: usize) -> Option<Span>
     Some(Span { from, to })
 }
 
-/// The fields of a line.
+/// The fields of a line. Whether a fourth one follows the third is not looked for.
 pub fn split(line: &[u8]) -> Fields
     ensures { IsSplit line.now result }
 {
@@ -82,13 +109,15 @@ pub fn split(line: &[u8]) -> Fields
         to: skip_field(line, from),
     };
     let Some(second) = next_field(line, first.to) else {
-        return Fields::Other;
+        return Fields::Few;
     };
-    let Some(third) = next_field(line, second.to) else {
-        return Fields::Other;
-    };
-    match next_field(line, third.to) {
-        None => Fields::Three(first, second, third),
-        Some(_) => Fields::Other,
+    let from = skip_blanks(line, second.to);
+    if from == line.len() {
+        return Fields::Few;
     }
+    let rest = Span {
+        from,
+        to: trim_end(line, from),
+    };
+    Fields::Many(first, second, rest)
 }

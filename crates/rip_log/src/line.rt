@@ -10,7 +10,7 @@ ghost use Rattle.rip_log.specs.Spans.{IsWithin, slice_of};
 
 use crate::digits::decode;
 use crate::error::LogCode;
-use crate::fields::{Fields, split};
+use crate::fields::{Fields, is_field, split};
 use crate::limits::MOST_LINE_BYTES;
 use crate::span::Span;
 use rip_wire::{Address, MOST_BYTES, is_name, read};
@@ -124,8 +124,15 @@ fn judge_bare(bare: &[u8], room: &mut [u8; MOST_BYTES]) -> Result<Option<Parts>,
 {
     match split(bare) {
         Fields::Nothing | Fields::Comment => Ok(None),
-        Fields::Other => Err(Fault::from(LogCode::Fields)),
-        Fields::Three(link, sender, digits) => judge_fields(bare, link, sender, digits, room),
+        Fields::Few => Err(Fault::from(LogCode::Fields)),
+        Fields::Many(link, sender, rest) => {
+            let judged = judge_fields(bare, link, sender, rest, room);
+            // Digits have no blank among them, so only a bad line is searched for a fourth field.
+            if judged.is_err() && !is_field(&bare[rest.from..rest.to]) {
+                return Err(Fault::from(LogCode::Fields));
+            }
+            judged
+        }
     }
 }
 

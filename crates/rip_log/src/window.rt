@@ -14,7 +14,7 @@ use memchr::memchr;
 use std::alloc::{AllocError, Global};
 
 /// The bytes of the buffer.
-const BUFFER_LEN: usize = 65_536;
+const BUFFER_LEN: usize = 32_768;
 
 /// Where the first line of what is held ends: at a line feed, with the text, or too late.
 #[derive(Clone, Copy)]
@@ -240,7 +240,7 @@ impl<R: Source> Window<R> {
         }
     }
 
-    /// Passes over the first line, where bytes of it are held. Pulls nothing where its end is held. It
+    /// Skips the first line, where bytes of it are held. Pulls nothing where its end is held. It
     /// fails where the source does, and may fail at a line of more than `MOST_PASSED_BYTES` bytes.
     pub fn pass_line(&mut self) -> Result<(), Failed>
         requires { 0 < length (held self.old) }

@@ -37,6 +37,7 @@ fn lines_that_are_skipped(rt: HostRuntime) {
         (b"#\xFF\n \t\r", 0),
         (b"# a b\n\t#\n\r\n\n", 0),
         (b"\nz 9.9.9.9 01020000\n#", 1),
+        (b" \tz  9.9.9.9\t 01020000 \t \r\n", 1),
     ] {
         expect_log(&rt, alloc, log, records, None);
     }
@@ -48,6 +49,7 @@ fn fields_that_are_refused(rt: HostRuntime) {
     for (log, code, line) in [
         (&b" \t# a b\n\r\na 10.1.0.1"[..], LogCode::Fields, 3),
         (b"a 10.1.0.1 02 02", LogCode::Fields, 1),
+        (b"a! 10.1.0.01 020 0", LogCode::Fields, 1),
         (b"\r\r", LogCode::Fields, 1),
         (b"a! 10.1.0.1", LogCode::Fields, 1),
         (b"a! 10.1.0.01 02", LogCode::LinkName, 1),
@@ -58,6 +60,7 @@ fn fields_that_are_refused(rt: HostRuntime) {
         (b"a 10.1.0.1\0 02", LogCode::Sender, 1),
         (b"a 10.1.0.\xFF 02", LogCode::Sender, 1),
         (b"a 10.1.0.1 020", LogCode::Hex, 1),
+        (b"a 10.1.0.1 020 \t", LogCode::Hex, 1),
         (b"a 10.1.0.1 0\x0C", LogCode::Hex, 1),
         (b"a 10.1.0.1 0\r\r\n", LogCode::Hex, 1),
     ] {

@@ -1,5 +1,7 @@
 use Rattle.std.proofs.Common.{◌<◌, arith, ap, ◌∙◌, suc, List, ℕ, length}
-use Rattle.rip_log.proofs.FieldLemmas.{is_comment-no, is_comment-yes}
+use Rattle.std.proofs.Math.ListN.{drop_of_length-le}
+use Rattle.rip_log.specs.Fields.{fields_of}
+use Rattle.rip_log.proofs.FieldLemmas.{is_comment-no, is_comment-yes, rest-fields, rest-trimmed}
 use Rattle.rip_log.proofs.fields.split.Goals as goal
 
 pub returns-then-line-from-eq35 : goal.returns-then-line-from-eq35
@@ -13,32 +15,34 @@ returns-in_default c =
     let skips = c.skip_blanks-from.ensures in
     let inside : c.skip_blanks-from.result < length c.args.line.now = search arith in
     let all = ap length (skips.same ∙ c.skip_field.ensures.split) ∙ ap suc (ap length c.in_default.ensures) in
-    (is_comment-no c.args.line.now c.skip_blanks-from.result inside (skips.stops inside) skips.same c.if-line-from-eq35.false, λ h. omega (arith, all), λ h. omega (arith, all))
+    (is_comment-no c.args.line.now c.skip_blanks-from.result inside (skips.stops inside) skips.same c.if-line-from-eq35.false, omega (arith, all), omega (arith, all))
 
-pub returns-in_default-next_field : goal.returns-in_default-next_field
-returns-in_default-next_field c =
+pub returns-then-from-line-2 : goal.returns-then-from-line-2
+returns-then-from-line-2 c =
+    let line = c.args.line.now in
     let skips = c.skip_blanks-from.ensures in
-    let inside : c.skip_blanks-from.result < length c.args.line.now = search arith in
-    let all = ap length (skips.same ∙ c.skip_field.ensures.split) ∙ ap suc (ap length c.in-Some.ensures.split) ∙ ap (λ (l : List (List ℕ)). suc (suc (length l))) c.in_default-next_field.ensures in
-    (is_comment-no c.args.line.now c.skip_blanks-from.result inside (skips.stops inside) skips.same c.if-line-from-eq35.false, λ h. omega (arith, all), λ h. omega (arith, all))
+    let inside : c.skip_blanks-from.result < length line = search arith in
+    let none = c.skip_blanks-from-2.ensures.same ∙ ap fields_of (drop_of_length-le line (omega (arith, c.if-from-line-2.true))) in
+    let all = ap length (skips.same ∙ c.skip_field.ensures.split) ∙ ap suc (ap length c.in-Some.ensures.split) ∙ ap (λ (l : List (List ℕ)). suc (suc (length l))) none in
+    (is_comment-no line c.skip_blanks-from.result inside (skips.stops inside) skips.same c.if-line-from-eq35.false, omega (arith, all), omega (arith, all))
 
-pub returns-in-None : goal.returns-in-None
-returns-in-None c =
+pub returns : goal.returns
+returns c =
+    let line = c.args.line.now in
     let skips = c.skip_blanks-from.ensures in
     let first = c.skip_field.ensures in
     let two = c.in-Some.ensures in
-    let three = c.in-Some-next_field.ensures in
-    let inside : c.skip_blanks-from.result < length c.args.line.now = search arith in (
-      is_comment-no c.args.line.now c.skip_blanks-from.result inside (skips.stops inside) skips.same c.if-line-from-eq35.false,
-      cc (skips.same, first.split, two.split, three.split, c.in-None.ensures),
+    let again = c.skip_blanks-from-2.ensures in
+    let from = c.skip_blanks-from-2.result in
+    let to = c.trim_end.result in
+    let rest = c.trim_end.ensures in
+    let inside : c.skip_blanks-from.result < length line = search arith in
+    let here : from < length line = omega (arith, rest.after, rest.within) in
+    let last = rest-fields line from to (omega (arith, rest.after)) rest.blanks in (
+      is_comment-no line c.skip_blanks-from.result inside (skips.stops inside) skips.same c.if-line-from-eq35.false,
+      cc (skips.same, first.split, two.split, again.same, last),
       record { ordered = omega (arith, first.after); within = first.within },
       record { ordered = omega (arith, two.some); within = two.within },
-      record { ordered = omega (arith, three.some); within = three.within },
+      record { ordered = omega (arith, rest.after); within = rest.within },
+      rest-trimmed line from to rest.after rest.within (again.stops here) rest.last,
     )
-
-pub returns-in-Some-next_field-2 : goal.returns-in-Some-next_field-2
-returns-in-Some-next_field-2 c =
-    let skips = c.skip_blanks-from.ensures in
-    let inside : c.skip_blanks-from.result < length c.args.line.now = search arith in
-    let all = ap length (skips.same ∙ c.skip_field.ensures.split) ∙ ap suc (ap length c.in-Some.ensures.split) ∙ ap (λ n. suc (suc n)) (ap length c.in-Some-next_field.ensures.split) ∙ ap (λ n. suc (suc (suc n))) (ap length c.in-Some-next_field-2.ensures.split) in
-    (is_comment-no c.args.line.now c.skip_blanks-from.result inside (skips.stops inside) skips.same c.if-line-from-eq35.false, λ h. omega (arith, all), λ h. omega (arith, all))
