@@ -13,7 +13,7 @@ use Rattle.rip_log.specs.declared.error.LogCode.TheVariants as codes
 use Rattle.rip_log.specs.declared.error.LogError.{LogError}
 use Rattle.rip_table.specs.State.{Fits, IsState, State}
 use Rattle.rip_table.specs.Events.{Event, EventAt, bad, ComeTo, all_events, came, events_of, last_event, state_after}
-use Rattle.rip_table.specs.CollectsAll.{HoldsMore, IsLogError, IsWanted, SaidOutcome, StuckAtKnown, Told, ToldKnown, ToldOutcome, UnreadAtKnown}
+use Rattle.rip_table.specs.CollectsAll.{HoldsMore, IsLogError, IsRefusedMemory, SaidOutcome, StuckAtKnown, Told, ToldKnown, ToldOutcome, UnreadAtKnown}
 use Rattle.rip_table.specs.declared.error.CollectAllError.{CollectAllError}
 use Rattle.rip_table.specs.declared.error.CollectAllError.TheVariants.{Log as OfLog, Memory}
 
@@ -67,21 +67,21 @@ module _ {X : Type 0} (view : X → Said) (number : X → ℕ) where
       subst (λ (l : Option AllSaid). ToldKnown n old (Some all) (came n mid (view x)).state (events ++ event_at n mid (number x) (view x) ∷ []) l) (sym gives.1)
       (Told-more n old all mid events (number x) (view x) here gives.0 told gives.2)
 
-  -- or memory was wanted at it
+  -- or memory was refused at it
   pub stuck-at : (may : Event → Type 0) (n : Network) (old : State) (all : Option AllSaid) (mid new : State) (events : List EventAt) (here left : Option AllSaid) (x : X) (was between then : List EventAt → Type 0) (line : ℕ) (stopped : Bool)
-      → ToldKnown n old all mid events here → HoldsMore was between events → GivesLine view number here left (Ok (Some x)) → IsWanted may n mid (view x) new (HoldsMore between then []) → number x ≡ line → stopped ≡ false
+      → ToldKnown n old all mid events here → HoldsMore was between events → GivesLine view number here left (Ok (Some x)) → IsRefusedMemory may n mid (view x) new (HoldsMore between then []) → number x ≡ line → stopped ≡ false
       → StuckAtKnown may n old all new was then line left stopped
-  stuck-at may n old all mid new events here left x was between then line true told is gives wanted at runs = cc runs
-  stuck-at may n old None mid new events here left x was between then line false told is gives wanted at runs = tt
-  stuck-at may n old (Some all) mid new events None left x was between then line false told is gives wanted at runs = absurd told
-  stuck-at may n old (Some all) mid new events (Some here) left x was between then line false told is gives wanted at runs =
+  stuck-at may n old all mid new events here left x was between then line true told is gives allocates at runs = cc runs
+  stuck-at may n old None mid new events here left x was between then line false told is gives allocates at runs = tt
+  stuck-at may n old (Some all) mid new events None left x was between then line false told is gives allocates at runs = absurd told
+  stuck-at may n old (Some all) mid new events (Some here) left x was between then line false told is gives allocates at runs =
       let before : Told n old all mid events (onto_said (record { line = line; said = view x }) gives.0) =
       subst (Told n old all mid events) (gives.2 ∙ ap (λ (k : ℕ). onto_said (record { line = k; said = view x }) gives.0) at) told in
       subst (λ (l : Option AllSaid). StuckAtKnown may n old (Some all) new was then line l false) (sym gives.1)
-      (record { said = view x; mid = mid; events = events; told = before; wanted = by wanted })
+      (record { said = view x; mid = mid; events = events; told = before; allocates = by allocates })
     where
-      by : IsWanted may n mid (view x) new (HoldsMore between then []) → IsWanted may n mid (view x) new (HoldsMore was then events)
-      by (inl (same, wants, untold)) = inl (same, wants, subst (HoldsMore was then) (append-nil events) (heard-more was between then events [] is untold))
+      by : IsRefusedMemory may n mid (view x) new (HoldsMore between then []) → IsRefusedMemory may n mid (view x) new (HoldsMore was then events)
+      by (inl (same, allocates, untold)) = inl (same, allocates, subst (HoldsMore was then) (append-nil events) (heard-more was between then events [] is untold))
       by (inr made) = inr made
 
   -- no line is left
@@ -125,13 +125,13 @@ module _ {X : Type 0} (view : X → Said) (number : X → ℕ) where
       (subst (HoldsMore was then) whole (heard-more was mid then events _ is ends), all_told.2)
   told-last n old (Some all) new events was mid then here left e (Err x) told gives many at is ends = tt
 
-  -- and memory was wanted at it
+  -- and memory was refused at it
   pub stuck-last : (may : Event → Type 0) (n : Network) (old : State) (all : Option AllSaid) (new : State) (events : List EventAt) (was then : List EventAt → Type 0) (here left after : Option AllSaid) (e : LogError) (line : ℕ) (stopped : Bool)
       → ToldKnown n old all new events here → GivesLine view number here left (Err e) → e.code ≡ codes.TooManyLines → stopped ≡ true → may (bad codes.TooManyLines None None) → StuckAtKnown may n old all new was then line after stopped
-  stuck-last may n old all new events was then here left after e line false told gives many stops wants = cc stops
-  stuck-last may n old None new events was then here left after e line true told gives many stops wants = tt
-  stuck-last may n old (Some all) new events was then None left after e line true told gives many stops wants = absurd told
-  stuck-last may n old (Some all) new events was then (Some here) left after e line true told gives many stops wants = let all_told = many-left n old all new events here left e told gives many in (all_told.1, all_told.2, wants)
+  stuck-last may n old all new events was then here left after e line false told gives many stops allocates = cc stops
+  stuck-last may n old None new events was then here left after e line true told gives many stops allocates = tt
+  stuck-last may n old (Some all) new events was then None left after e line true told gives many stops allocates = absurd told
+  stuck-last may n old (Some all) new events was then (Some here) left after e line true told gives many stops allocates = let all_told = many-left n old all new events here left e told gives many in (all_told.1, all_told.2, allocates)
 
   -- the reader stops where there are too many
   pub stops-last : (n : Network) (old : State) (all : Option AllSaid) (new : State) (events : List EventAt) (here left : Option AllSaid) (e : LogError) (stopped : Bool)
@@ -215,7 +215,7 @@ ended_log e n m is same =
     let one : e ≡ record { code = codes.Ended; line = n + 1 } = cc is in
     ap (λ (x : LogError). Err (OfLog x)) one ∙ ap (λ (k : ℕ). Err (OfLog (record { code = codes.Ended; line = k + 1 }))) same
 
--- want of memory is no error of the reader
+-- Memory is no error of the reader
 pub memory_is : (e : CollectAllError) (P : LogError → Type 0) → e ≡ Memory → IsLogError (Err e) P
 memory_is e P is = subst (λ (x : CollectAllError). IsLogError (Err x) P) (sym is) tt
 
@@ -224,6 +224,6 @@ ends_read (Ok u) P Q ends = tt
 ends_read (Err e) P Q ends = memory_is e P ends
 
 -- the listener was refused memory where it may be
-pub wanted_last : (r : Result (Unit {0}) CollectAllError) (P : Type 0) → OnErr r P → r ≡ Err Memory → P
-wanted_last (Ok u) P wants is = cc is
-wanted_last (Err e) P wants is = wants
+pub allocates_last : (r : Result (Unit {0}) CollectAllError) (P : Type 0) → OnErr r P → r ≡ Err Memory → P
+allocates_last (Ok u) P allocates is = cc is
+allocates_last (Err e) P allocates is = allocates

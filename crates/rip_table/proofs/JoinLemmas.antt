@@ -6,7 +6,7 @@ use Rattle.rip_log.specs.Codes.{is_read}
 use Rattle.rip_log.specs.Logs.{Numbered, Log, onto_log, Gives, IfElse}
 use Rattle.rip_log.specs.declared.error.LogError.{LogError}
 use Rattle.rip_table.specs.State.{State}
-use Rattle.rip_table.specs.Joined.{joined_capture, joined_records, and_then, outcome, outcome_of, with_record, Outcome, WantsFor}
+use Rattle.rip_table.specs.Joined.{joined_capture, joined_records, and_then, outcome, outcome_of, with_record, Outcome, MayAllocateFor}
 use Rattle.rip_table.specs.Collects.{Passed, PassedKnown, StandsBehind, StandsBehindKnown, StuckKnown, OutcomeKnown}
 use Rattle.rip_table.specs.declared.error.CollectCause.{CollectCause}
 use Rattle.rip_table.specs.declared.error.CollectCause.TheVariants.{Log as OfLog}
@@ -113,11 +113,11 @@ module _ {X : Type 0} (view : X → Capture) (number : X → ℕ) where
       subst (λ (l : Option Log). StandsBehindKnown (Some log) (number x) l) (sym gives.1)
       (behind n old log mid (record { line = number x; capture = view x }) gives.0 (subst (λ (l : Log). Passed n old log mid l) gives.2 p))
 
-  pub StuckKnown-wants : (n : Network) (old : State) (log : Option Log) (mid : State) (here left : Option Log) (x : X)
-      → PassedKnown n old log mid here → Gives view number here left (Ok (Some x)) → WantsFor n mid (view x)
+  pub StuckKnown-allocates : (n : Network) (old : State) (log : Option Log) (mid : State) (here left : Option Log) (x : X)
+      → PassedKnown n old log mid here → Gives view number here left (Ok (Some x)) → MayAllocateFor n mid (view x)
       → StuckKnown n old log mid left (number x)
-  StuckKnown-wants n old None mid here left x p gives k = tt
-  StuckKnown-wants n old (Some log) mid None left x p gives k = absurd p
-  StuckKnown-wants n old (Some log) mid (Some m) left x p gives k =
+  StuckKnown-allocates n old None mid here left x p gives k = tt
+  StuckKnown-allocates n old (Some log) mid None left x p gives k = absurd p
+  StuckKnown-allocates n old (Some log) mid (Some m) left x p gives k =
       subst (λ (l : Option Log). StuckKnown n old (Some log) mid l (number x)) (sym gives.1)
-      (record { capture = view x; before = subst (λ (l : Log). Passed n old log mid l) gives.2 p; wants = k })
+      (record { capture = view x; before = subst (λ (l : Log). Passed n old log mid l) gives.2 p; allocates = k })

@@ -5,6 +5,7 @@ pub mod BlameLemmas
 pub mod JoinLemmas
 pub mod TakeLemmas
 pub mod NumberLemmas
+pub mod NotedLemmas
 pub mod CheckLemmas
 pub mod TakingLemmas
 pub mod ListLemmas

@@ -3,7 +3,7 @@ use Rattle.std.proofs.Common.{◌≡◌, ℕ, Option, Some, Ok, Err, refl, ap, �
 use Rattle.rip_wire.specs.Message.{Message, request, response}
 use Rattle.rip_log.specs.Logs.{IfElse}
 use Rattle.rip_table.specs.State.{State}
-use Rattle.rip_table.specs.Joined.{as_cause, is_memory, joined_from, joined_message, Takes, WantsAt}
+use Rattle.rip_table.specs.Joined.{as_cause, is_memory, joined_from, joined_message, Takes, MayAllocateAt}
 use Rattle.rip_table.specs.declared.error.TableError.{TableError}
 use Rattle.rip_table.specs.declared.error.TableError.TheVariants.{Changed, NextHop, TooManyPrefixes, Memory}
 use Rattle.rip_table.specs.declared.error.CollectCause.TheVariants.{Table}
@@ -20,7 +20,7 @@ pub taken_well : (net : Network) (i : ℕ) (old new : State) (m : Message) (o : 
 taken_well net i old new m o is h = from_option net i old m o is ∙ ap as_cause h
 
 pub taken_ill : (net : Network) (i : ℕ) (old new : State) (m : Message) (o : Option ℕ) (e : TableError) → o ≡ Some i → Takes net i old m new (Err e)
-    → (new ≡ old) × IfElse (is_memory (Table e)) (WantsAt net old m o) (joined_from net old m o ≡ Err (Table e))
+    → (new ≡ old) × IfElse (is_memory (Table e)) (MayAllocateAt net old m o) (joined_from net old m o ≡ Err (Table e))
 taken_ill net i old new m o Memory is h = (h.0, rw is h.1)
 taken_ill net i old new m o (Changed p x y) is h = (h.0, from_option net i old m o is ∙ ap as_cause h.1)
 taken_ill net i old new m o (NextHop p) is h = (h.0, from_option net i old m o is ∙ ap as_cause h.1)

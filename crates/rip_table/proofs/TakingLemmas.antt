@@ -36,7 +36,7 @@ then-memory : (r : Result State TableError) (f : State → Result State TableErr
 then-memory (Ok t) f h k = k t
 then-memory (Err e) f h k = h
 
--- want of memory is no fault of an entry
+-- Memory is no fault of an entry
 pub entries-memory : (net : Network) (i : ℕ) (s : State) (es : List Entry) → is_memory_fault (joined_entries net i s es) ≡ false
 entries-memory net i s [] = refl
 entries-memory net i s (e ∷ es) = then-memory (joined_at net i s e (s.shows i e.prefix)) (λ t. joined_entries net i t es) (at-memory net i s e (s.shows i e.prefix)) (λ t. entries-memory net i t es)
@@ -48,9 +48,9 @@ refused n i s m es (Changed p x y) is h = (refl, ap (joined_message n i s) is �
 refused n i s m es (NextHop p) is h = (refl, ap (joined_message n i s) is ∙ h)
 refused n i s m es TooManyPrefixes is h = (refl, ap (joined_message n i s) is ∙ h)
 
--- a response without a bad entry that brings a pair may want memory
-pub wanting : (n : Network) (i : ℕ) (s : State) (m : Message) (es : List Entry) (new : State) → m ≡ response es → AreFaultless n i s es → brings_pair i s (response es) ≡ true → new ≡ s → Takes n i s m new (Err Memory)
-wanting n i s m es new is checked brings same = (
+-- a response without a bad entry that brings a pair may allocate
+pub allocating : (n : Network) (i : ℕ) (s : State) (m : Message) (es : List Entry) (new : State) → m ≡ response es → AreFaultless n i s es → brings_pair i s (response es) ≡ true → new ≡ s → Takes n i s m new (Err Memory)
+allocating n i s m es new is checked brings same = (
   same,
   record {
     good = ap (λ (x : Message). is_ok (joined_message n i s x)) is ∙ ap is_ok checked.1;

@@ -207,7 +207,7 @@ set-tallies rows events j line origin sent t h made = record { at = λ i below. 
     at-one i below false other =
         rw (tally_more i events (record { line = line; event = sent_event j origin sent }), other-step i j origin sent (interface_tally i events) line other, get-other rows i j t (eqb-false i j other)) (h.at i below)
 
--- ---- where memory may be wanted
+-- ---- where a listener may allocate
 
 pub on_err : {T E : Type 0} (r : Result T E) (P : Type 0) → P → OnErr r P
 on_err (Ok x) P is = tt

@@ -9,7 +9,7 @@ use Rattle.rip_log.specs.Wholes.{OfWhole, Went}
 use Rattle.rip_log.specs.declared.error.LogCode.TheVariants as codes
 use Rattle.rip_log.specs.declared.reader.LogReader.{LogReader}
 use Rattle.rip_table.specs.State.{Fits, State}
-use Rattle.rip_table.specs.Joined.{WantsFor, is_memory, joined_records, outcome}
+use Rattle.rip_table.specs.Joined.{MayAllocateFor, is_memory, joined_records, outcome}
 use Rattle.rip_table.specs.LogJoin.{IsOutcome}
 use Rattle.rip_table.specs.declared.error.CollectCause.{CollectCause}
 use Rattle.rip_table.specs.declared.error.CollectCause.TheVariants.{Log as OfLog}
@@ -28,7 +28,7 @@ PassedKnown n old None new left = Unit {0}
 PassedKnown n old (Some log) new None = ⊥
 PassedKnown n old (Some log) new (Some left) = Passed n old log new left
 
--- want of memory came at a record of this line, which brings a pair that the table lacks
+-- memory was refused at a record of this line, which brings a pair that the table lacks
 pub record Stuck (n : Network) (old : State) (log : Log) (new : State) (left : Log)
     (line : ℕ) : Type 0 where
   pub capture : Capture
@@ -36,7 +36,7 @@ pub record Stuck (n : Network) (old : State) (log : Log) (new : State) (left : L
     records = (record { line = line; capture = capture }) ∷ left.records;
     fault = left.fault;
   })
-  pub wants : WantsFor n new capture
+  pub allocates : MayAllocateFor n new capture
 
 abbrev pub StuckKnown : Network → State → Option Log → State → Option Log → ℕ → Type 0
 StuckKnown n old None new left line = Unit {0}
@@ -121,8 +121,8 @@ pub record JoinsLog {R : Type 0} (given : R → List ℕ) (at_end : R → Bool) 
       → (new ≡ old) × (result ≡ Err (already_ended before))
   -- Memory only behind a further line, and only of a table to which some record would bring a pair;
   -- which record it is, `told` says
-  pub wanted : IfErr result (λ e. is_memory e.cause ≡ true →
-      (lines_behind before < lines_behind after) × ((c : Capture) × WantsFor n new c))
+  pub allocates : IfErr result (λ e. is_memory e.cause ≡ true →
+      (lines_behind before < lines_behind after) × ((c : Capture) × MayAllocateFor n new c))
   pub fits : Fits n new
 
 -- where the reader stands then

@@ -13,7 +13,7 @@ use Rattle.rip_log.specs.declared.error.LogError.{LogError}
 use Rattle.rip_log.specs.declared.limits.TheConstants.{MOST_LINES}
 use Rattle.rip_log.specs.declared.reader.LogReader.{LogReader}
 use Rattle.rip_table.specs.Events.{Event, EventAt, joined, refused, stranger, request, bad, ComeTo, all_events, came, events_of, hop_of, last_event, state_after}
-use Rattle.rip_table.specs.Joined.{WantsFor}
+use Rattle.rip_table.specs.Joined.{MayAllocateFor}
 use Rattle.rip_table.specs.State.{Fits, State}
 use Rattle.rip_table.specs.declared.error.CollectAllError.{CollectAllError}
 use Rattle.rip_table.specs.declared.error.CollectAllError.TheVariants.{Log as OfLog, Memory}
@@ -52,16 +52,16 @@ abbrev pub HasRoom : (List EventAt → Type 0) → Type 0
 HasRoom holds = (events : List EventAt) × holds events × (length events ≤ MOST_LINES)
 
 -- a table may allocate for a line that says this: for a record that brings a pair
-abbrev pub MayWant : Network → State → Said → Type 0
-MayWant n s (captured c) = WantsFor n s c
-MayWant n s (bad_line code o) = ⊥
+abbrev pub SaidMayAllocate : Network → State → Said → Type 0
+SaidMayAllocate n s (captured c) = MayAllocateFor n s c
+SaidMayAllocate n s (bad_line code o) = ⊥
 
 -- memory was refused at a line that says this: to the table, which is as it was, and nothing is told of
 -- the line; or to the listener, which may allocate at such an event, and the table is what the line makes
 -- of it
-abbrev pub IsWanted : (Event → Type 0) → Network → State → Said → State → Type 0 → Type 0
-IsWanted may n old said new untold =
-    ((new ≡ old) × MayWant n old said × untold)
+abbrev pub IsRefusedMemory : (Event → Type 0) → Network → State → Said → State → Type 0 → Type 0
+IsRefusedMemory may n old said new untold =
+    ((new ≡ old) × SaidMayAllocate n old said × untold)
     ⊎ ((new ≡ (came n old said).state) × may (came n old said).event)
 
 -- what a line that says this makes of the table and the listener, or that memory was refused
@@ -71,7 +71,7 @@ Hears may n old said line new was then (Ok u) =
     (new ≡ (came n old said).state)
     × HoldsMore was then ((record { line = line; event = (came n old said).event }) ∷ [])
 Hears may n old said line new was then (Err e) =
-    (e ≡ Memory) × IsWanted may n old said new (HoldsMore was then [])
+    (e ≡ Memory) × IsRefusedMemory may n old said new (HoldsMore was then [])
 
 -- of what is said some lines were told, and the others are left
 pub record Told (n : Network) (old : State) (all : AllSaid) (new : State) (events : List EventAt)
@@ -131,7 +131,7 @@ pub record StuckAt (may : Event → Type 0) (n : Network) (old : State) (all : A
   pub mid : State
   pub events : List EventAt
   pub told : Told n old all mid events (onto_said (record { line = line; said = said }) left)
-  pub wanted : IsWanted may n mid said new (HoldsMore was then events)
+  pub allocates : IsRefusedMemory may n mid said new (HoldsMore was then events)
 
 -- the same where bytes are modelled; or memory was refused at the line too many, at which the reader stops
 abbrev pub StuckAtKnown : (Event → Type 0) → Network → State → Option AllSaid → State
@@ -180,7 +180,7 @@ pub record CollectsAll {R : Type 0} (given : R → List ℕ) (coming : R → Opt
   pub here : IsLogError result (λ e.
       (e.line ≡ lines_behind after + 1) × (has_stopped after ≡ true))
   -- Memory only at a line that was read, or at the line too many, where table or listener may allocate
-  pub wanted : result ≡ Err Memory → OfWhole given at_end (source_of after) (λ coming.
+  pub allocates : result ≡ Err Memory → OfWhole given at_end (source_of after) (λ coming.
       StuckAtKnown may n old (said_to_come coming before) new was then (lines_behind after)
       (said_to_come coming after) (has_stopped after))
   pub further : result ≡ Err Memory →

@@ -103,7 +103,7 @@ brings_pair i s request = false
 brings_pair i s (response es) = list_any (λ e. is_none (s.shows i e.prefix)) es
 
 -- a response without a bad entry that brings a pair of interface and prefix: it may allocate
-pub record Wants (n : Network) (i : ℕ) (s : State) (m : Message) : Type 0 where
+pub record MayAllocate (n : Network) (i : ℕ) (s : State) (m : Message) : Type 0 where
   pub good : is_ok (joined_message n i s m) ≡ true
   pub brings : brings_pair i s m ≡ true
 
@@ -111,7 +111,7 @@ pub record Wants (n : Network) (i : ℕ) (s : State) (m : Message) : Type 0 wher
 abbrev pub Takes
     : Network → ℕ → State → Message → State → Result (Unit {0}) TableError → Type 0
 Takes n i old m new (Ok u) = joined_message n i old m ≡ Ok new
-Takes n i old m new (Err Memory) = (new ≡ old) × Wants n i old m
+Takes n i old m new (Err Memory) = (new ≡ old) × MayAllocate n i old m
 Takes n i old m new (Err (Changed p x y)) =
     (new ≡ old) × (joined_message n i old m ≡ Err (Changed p x y))
 Takes n i old m new (Err (NextHop p)) =
@@ -145,12 +145,12 @@ abbrev pub joined_capture : Network → State → Capture → Result State Colle
 joined_capture n s c = joined_from n s (message_of_capture c) (interface_of n c)
 
 -- a record may allocate
-abbrev pub WantsAt : Network → State → Message → Option ℕ → Type 0
-WantsAt n s m None = ⊥
-WantsAt n s m (Some i) = Wants n i s m
+abbrev pub MayAllocateAt : Network → State → Message → Option ℕ → Type 0
+MayAllocateAt n s m None = ⊥
+MayAllocateAt n s m (Some i) = MayAllocate n i s m
 
-abbrev pub WantsFor : Network → State → Capture → Type 0
-WantsFor n s c = WantsAt n s (message_of_capture c) (interface_of n c)
+abbrev pub MayAllocateFor : Network → State → Capture → Type 0
+MayAllocateFor n s c = MayAllocateAt n s (message_of_capture c) (interface_of n c)
 
 abbrev pub is_memory : CollectCause → Bool
 is_memory (Table Memory) = true
@@ -160,7 +160,7 @@ is_memory other = false
 abbrev pub Joins : Network → State → Capture → State → Result (Unit {0}) CollectCause → Type 0
 Joins n old c new (Ok u) = joined_capture n old c ≡ Ok new
 Joins n old c new (Err cause) =
-    (new ≡ old) × IfElse (is_memory cause) (WantsFor n old c) (joined_capture n old c ≡ Err cause)
+    (new ≡ old) × IfElse (is_memory cause) (MayAllocateFor n old c) (joined_capture n old c ≡ Err cause)
 
 -- ---- a log
 

@@ -1,6 +1,7 @@
 pub mod State
 pub mod Joined
 pub mod Collects
+pub mod Guesses
 pub mod Numbers
 pub mod ListState
 pub mod Rows

@@ -1,5 +1,5 @@
 -- What is known of a response's entries before a table changes.
-use Rattle.std.specs.Prelude.{◌≡◌, ℕ, ◌==◌, ◌+◌, ◌&&◌, nat_lt, Bool, not, is_none, if◌then◌else◌, List, [], ◌∷◌, Option, Some, None, Result, Ok, Err, slice_get}
+use Rattle.std.specs.Prelude.{◌≡◌, ℕ, ◌==◌, ◌+◌, ◌%◌, ◌&&◌, nat_lt, Bool, false, not, is_none, if◌then◌else◌, List, [], ◌∷◌, Option, Some, None, Result, Ok, Err, slice_get, slice_index_or}
 use Rattle.std.specs.Option.{option_or}
 use Rattle.rip_wire.specs.Prefix.{Block}
 use Rattle.rip_wire.specs.Message.{response}
@@ -9,6 +9,7 @@ use Rattle.rip_plan.specs.Passes.{same_prefix}
 use Rattle.rip_table.specs.State.{IsState, State}
 use Rattle.rip_table.specs.Joined.{brings_pair, joined_entries, with_heard}
 use Rattle.rip_table.specs.declared.limits.TheConstants.{MOST_PREFIXES}
+use Rattle.rip_table.specs.declared.noted.TheConstants.{FLAGS}
 use Rattle.rip_table.specs.declared.error.TableError.{TableError}
 use Rattle.rip_table.specs.declared.error.TableError.TheVariants.{Changed, NextHop, TooManyPrefixes}
 
@@ -17,6 +18,10 @@ abbrev pub AreNumbers : List Block → List Entry → List (Option ℕ) → Type
 AreNumbers prefixes entries numbers =
     (j : ℕ) (e : Entry) → slice_get entries j ≡ Some e
     → slice_get numbers j ≡ Some (number_of_prefix e.prefix prefixes)
+
+-- the flag that a number raises, by its remainder
+abbrev pub flag_of : List Bool → ℕ → Bool
+flag_of flags k = slice_index_or flags (k % FLAGS) false
 
 -- the metric of the first entry of a prefix
 abbrev pub metric_among : Block → List Entry → Option ℕ

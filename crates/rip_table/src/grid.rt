@@ -1,20 +1,20 @@
 //! The table that the program uses: a grid of cells, by prefix and interface.
 
-ghost use Rattle.std.specs.Prelude.{◌≡◌, ◌<◌, IfOk, IfErr, length};
+ghost use Rattle.std.specs.Prelude.{◌≡◌, ◌<◌, IfOk, IfErr, length, vec_len};
 ghost use Rattle.indexmap.specs.IndexMap.{index_map_len};
 ghost use Rattle.rip_wire.specs.Prefix.{Block};
 ghost use Rattle.rip_table.specs.State.{Fits, IsState, new_state};
 ghost use Rattle.rip_table.specs.Rows.{IsGrid, grid_state, planned_rows, rows_of};
+ghost use Rattle.rip_table.specs.declared.guesses.TheConstants.{SLOTS};
 
 mod cell;
 mod numbers;
-mod order;
 mod rows;
 
 use self::numbers::find_numbers;
-use self::order::Order;
 use self::rows::{Rows, add_new, add_planned};
 use crate::error::TableError;
+use crate::guesses::SLOTS;
 use crate::judging::{KnownMetrics, Numbers, check};
 use crate::table::{MetricTable, none_heard};
 use indexmap::IndexMap;
@@ -30,12 +30,12 @@ pub struct GridTable<S: BuildHasher> {
     alloc: Global,
     rows: Rows<S>,
     heard: Vec<bool>,
-    orders: Vec<Order>,
+    guesses: Vec<u16>,
     entry_room: [Entry; MOST_ENTRIES],
     number_room: Numbers,
     ghost valid: { IsState (grid_state heard.items (rows_of rows.entries)) },
     ghost grid: { IsGrid (length heard.items) (rows_of rows.entries) },
-    ghost some: { 0 < length orders.items },
+    ghost slots: { vec_len guesses ≡ SLOTS },
 }
 
 impl<S: BuildHasher> KnownMetrics for GridTable<S> {
@@ -87,12 +87,9 @@ impl<S: BuildHasher> MetricTable for GridTable<S> {
             return Ok(());
         }
         let count = datagram.read_entries(&mut self.entry_room);
-        let own = plan.interface(interface);
-        // There is an order for each router of the plan; of another plan's, any guesses as well.
-        let at = own.router % self.orders.len();
         find_numbers(
             &self.rows,
-            &mut self.orders[at],
+            self.guesses.as_mut_slice(),
             &self.entry_room[..count],
             &mut self.number_room,
         );
@@ -133,13 +130,13 @@ impl<S: BuildHasher + Drop> GridTable<S> {
         let heard = none_heard(alloc, plan.interfaces())?;
         let mut rows = IndexMap::with_hasher(alloc, hasher);
         add_planned(alloc, &mut rows, plan)?;
-        let orders = vec![in alloc; Order::new(); plan.routers()]?;
+        let guesses = vec![in alloc; 0u16; SLOTS]?;
         plan.lawful();
         Ok(GridTable {
             alloc,
             rows,
             heard,
-            orders,
+            guesses,
             entry_room: [Entry::FILLER; MOST_ENTRIES],
             number_room: [None; MOST_ENTRIES],
         })

@@ -31,7 +31,7 @@ fn hear_record<T: MetricTable, L: Listener>(
     requires fits { Fits plan.now (T.state table.old) }
     requires suits { L.suits plan.now listener.old }
     requires room { HasRoom (L.holds listener.old) }
-    ensures hears { Hears L.may_want plan.now (T.state table.old) (captured (capture_of found.now))
+    ensures hears { Hears L.may_allocate plan.now (T.state table.old) (captured (capture_of found.now))
         found.now.line (T.state table.new) (L.holds listener.old) (L.holds listener.new) result }
     ensures fits { Fits plan.now (T.state table.new) }
     ensures suits { L.suits plan.now listener.new }
@@ -69,7 +69,7 @@ fn hear_bad<L: Listener>(
     requires suits { L.suits plan.now listener.old }
     requires room { HasRoom (L.holds listener.old) }
     ensures hears { (s : State) →
-        Hears L.may_want plan.now s (bad_line line.now.code (option_map origin_lent line.now.origin))
+        Hears L.may_allocate plan.now s (bad_line line.now.code (option_map origin_lent line.now.origin))
         line.now.line s (L.holds listener.old) (L.holds listener.new) result }
     ensures suits { L.suits plan.now listener.new }
 {
@@ -106,7 +106,7 @@ fn hear_line<T: MetricTable, L: Listener>(
     requires fits { Fits plan.now (T.state table.old) }
     requires suits { L.suits plan.now listener.old }
     requires room { HasRoom (L.holds listener.old) }
-    ensures hears { Hears L.may_want plan.now (T.state table.old) (said_of line.now)
+    ensures hears { Hears L.may_allocate plan.now (T.state table.old) (said_of line.now)
         (number_of line.now) (T.state table.new) (L.holds listener.old) (L.holds listener.new) result }
     ensures fits { Fits plan.now (T.state table.new) }
     ensures suits { L.suits plan.now listener.new }
@@ -125,7 +125,7 @@ fn hear_last<L: Listener>(plan: &Plan, listener: &mut L, line: u32) -> Result<()
         (λ _. HoldsMore (L.holds listener.old) (L.holds listener.new)
         ((record { line = line; event = bad LogCode.TooManyLines None None }) ∷ []))
         (λ e. e ≡ CollectAllError.Memory) }
-    ensures wanted { OnErr result (L.may_want (bad LogCode.TooManyLines None None)) }
+    ensures allocates { OnErr result (L.may_allocate (bad LogCode.TooManyLines None None)) }
     ensures suits { L.suits plan.now listener.new }
 {
     let event = Event::Bad(Bad {
@@ -145,7 +145,7 @@ fn hear_last<L: Listener>(plan: &Plan, listener: &mut L, line: u32) -> Result<()
 /// `u64::MAX` bytes; table and listener then have what the lines before it came to. It is Ended where the
 /// reader had stopped before, and then they are as they were. `Memory` comes at a line that was read,
 /// where it was refused to the table, for a response that brings a pair of interface and prefix, or to the
-/// listener, for an event at which it may want some. The table then has what the lines before it came to,
+/// listener, at an event at which it may allocate. The table then has what the lines before it came to,
 /// and where it was the listener, what this line comes to as well; what such a listener holds is not known.
 pub fn collect_all<R: Source, T: MetricTable, L: Listener>(
     plan: &Plan,
@@ -158,7 +158,7 @@ pub fn collect_all<R: Source, T: MetricTable, L: Listener>(
     // The listener has heard nothing.
     requires new { L.holds listener.old [] }
     ensures collects { CollectsAll R.given R.coming R.broken R.at_end plan.now (T.state table.old)
-        (T.state table.new) reader.old reader.new L.may_want (L.holds listener.old)
+        (T.state table.new) reader.old reader.new L.may_allocate (L.holds listener.old)
         (L.holds listener.new) result }
     ensures suits { L.suits plan.now listener.new }
 {

@@ -1,6 +1,6 @@
 //! What both tables do with a response before they change: they judge its entries.
 
-ghost use Rattle.std.specs.Prelude.{◌≡◌, ◌||◌, ℕ, ◌<◌, ◌≤◌, Decides, false, length, not, slice_get, take, Some};
+ghost use Rattle.std.specs.Prelude.{◌≡◌, ◌||◌, ℕ, ◌<◌, ◌≤◌, Decides, false, length, not, slice_get, take, Some, None};
 ghost use Rattle.std.specs.Option.{option_or};
 ghost use Rattle.rip_wire.specs.Prefix.{Block};
 ghost use Rattle.rip_wire.specs.declared.entry.Entry.{Entry};
@@ -12,6 +12,7 @@ ghost use Rattle.rip_table.specs.Numbers.{AreNumbers, IsChecked, counted, judged
 
 use crate::error::TableError;
 use crate::limits::MOST_PREFIXES;
+use crate::noted::Noted;
 use rip_plan::Plan;
 use rip_wire::{Address, Entry, MOST_ENTRIES, Metric, Prefix};
 
@@ -65,18 +66,21 @@ fn earlier(entries: &[Entry], prefix: Prefix) -> Option<Metric>
 }
 
 /// What is known of the prefix of an entry: the metric that its interface showed, if any, or that
-/// an entry before gives it.
-fn known(shown: Option<Metric>, entries: &[Entry], j: usize) -> Option<Metric>
-    requires { j < length entries.now }
+/// an entry before gives it, where one may have the prefix.
+fn known(shown: Option<Metric>, is_noted: bool, entries: &[Entry], j: usize) -> Option<Metric>
+    requires within { j < length entries.now }
+    requires new { is_noted ≡ false → (e : Entry) → slice_get entries.now j ≡ Some e →
+        metric_among e.prefix (take j entries.now) ≡ None }
     ensures { (e : Entry) → slice_get entries.now j ≡ Some e →
         result ≡ option_or shown (metric_among e.prefix (take j entries.now)) }
 {
     match shown {
         Some(metric) => Some(metric),
-        None => {
+        None if is_noted => {
             let entry = entries[j];
             earlier(&entries[..j], entry.prefix)
         }
+        None => None,
     }
 }
 
@@ -179,12 +183,13 @@ pub(crate) fn check<T: KnownMetrics>(
 {
     let mut count = table.count();
     let mut brings = false;
+    let mut noted = Noted::new();
     for j in 0..entries.len() {
         let entry = entries[j];
         let number = numbers[j];
         let shown = shown(table, interface, number);
         brings |= shown.is_none();
-        let known = known(shown, entries, j);
+        let known = known(shown, noted.note(number), entries, j);
         count = count_with(count, number, known.is_some());
         judge(plan, interface, &entry, known, count)?;
     }

@@ -4,6 +4,7 @@
 mod error;
 mod events;
 mod grid;
+mod guesses;
 mod hearing;
 mod joining;
 mod judging;
@@ -11,6 +12,7 @@ pub mod laws;
 mod limits;
 mod list;
 mod listener;
+mod noted;
 mod recent;
 mod table;
 mod tallies;

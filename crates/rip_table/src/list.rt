@@ -145,7 +145,7 @@ fn add_new(
         prefixes.new.items shown.new.items) }
     ensures prefixes { OnErr result (prefixes.new.items ≡ prefixes.old.items) }
     ensures shown { OnErr result (shown.new.items ≡ shown.old.items) }
-    ensures wants { OnErr result (brings ≡ true) }
+    ensures allocates { OnErr result (brings ≡ true) }
 {
     if !brings {
         return Ok(());

@@ -18,10 +18,10 @@ pub trait Listener {
     ghost suits: { Network → Self → Type 0 };
 
     // It may be refused memory at such an event.
-    ghost may_want: { EventMade → Type 0 };
+    ghost may_allocate: { EventMade → Type 0 };
 
-    /// Hears of a line, by its number and what became of it. It is refused memory only where it may want
-    /// some.
+    /// Hears of a line, by its number and what became of it. It is refused memory only where it may
+    /// allocate.
     fn hear(&mut self, plan: &Plan, line: u32, event: &Event<'_>) -> Result<(), AllocError>
         requires suits { suits plan.now self.old }
         // It has not heard of more events than a log has lines.
@@ -29,6 +29,6 @@ pub trait Listener {
         requires planned { IsPlanned plan.now (event_told plan.now event.now) }
         ensures heard { OnOk result (HoldsMore (holds self.old) (holds self.new)
             ((record { line = line; event = event_told plan.now event.now }) ∷ [])) }
-        ensures wanted { OnErr result (may_want (event_told plan.now event.now)) }
+        ensures allocates { OnErr result (may_allocate (event_told plan.now event.now)) }
         ensures suits { suits plan.now self.new };
 }

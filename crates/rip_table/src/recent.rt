@@ -4,25 +4,16 @@ ghost use Rattle.std.specs.Prelude.{◌≡◌, ◌<◌, IfSome, true, length};
 ghost use Rattle.rip_plan.specs.Network.{found_at};
 ghost use Rattle.rip_plan.specs.Relations.{IsAt};
 
+use crate::guesses::{SLOTS, guess, keep};
 use rip_plan::Plan;
 use rip_plan::laws::senders;
 use rip_wire::Address;
 
-/// How many slots there are: a power of two, more than a plan has interfaces.
-const SLOTS: usize = 4_096;
-
-/// The interface that was found last for the addresses of each slot. A sender is looked at there first,
-/// and looked up only where it is another: the senders of a log are few, and come again and again.
+/// The interfaces that were found last. A sender is looked at there first, and looked up only where it is
+/// another: the senders of a log are few, and come again and again.
 #[derive(Drop)]
 pub(crate) struct Recent {
     slots: [u16; SLOTS],
-}
-
-/// The slot of an address.
-fn slot_of(address: Address) -> usize
-    ensures { result < SLOTS }
-{
-    (address.get().wrapping_mul(2_654_435_769) >> 20) as usize % SLOTS
 }
 
 /// Whether an interface is on the link of this name and sends from this address, its own.
@@ -48,15 +39,12 @@ impl Recent {
     {
         plan.lawful();
         senders();
-        let slot = slot_of(address);
-        let likely = usize::from(self.slots[slot]);
+        let likely = guess(&self.slots, address.get());
         if likely < plan.interfaces() && is_at(plan, likely, link_name, address) {
             return Some(likely);
         }
-        let found = plan.find(link_name, address);
-        if let Some(i) = found {
-            self.slots[slot] = i as u16;
-        }
-        found
+        let i = plan.find(link_name, address)?;
+        keep(&mut self.slots, address.get(), i);
+        Some(i)
     }
 }

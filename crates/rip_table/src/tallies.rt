@@ -286,7 +286,7 @@ impl<S: BuildHasher + Drop> Tallies<S> {
               line = line;
               event = event_told plan.now (told.Bad bad.now);
             }) ∷ [])) }
-        ensures wanted { OnErr result (IsOfStranger (event_told plan.now (told.Bad bad.now))) }
+        ensures allocates { OnErr result (IsOfStranger (event_told plan.now (told.Bad bad.now))) }
         ensures interfaces { interfaces_of self.new ≡ interfaces_of self.old }
     {
         if let Some(interface) = bad.interface {
@@ -308,7 +308,7 @@ impl<S: BuildHasher + Drop> Listener for Tallies<S> {
 
     ghost suits = { λ n t. interfaces_of t ≡ length n.interfaces };
 
-    ghost may_want = { IsOfStranger };
+    ghost may_allocate = { IsOfStranger };
 
     fn hear(&mut self, plan: &Plan, line: u32, event: &Event<'_>) -> Result<(), AllocError> {
         match event {

@@ -201,7 +201,7 @@ pub(crate) fn add_new<S: BuildHasher>(
     ensures written { IsWritten interface entries.now (rows_of rows.old.entries)
         (rows_of rows.new.entries) result }
     ensures grid { IsGrid width (rows_of rows.new.entries) }
-    ensures wants { OnErr result (brings ≡ true) }
+    ensures allocates { OnErr result (brings ≡ true) }
 {
     if brings {
         add(alloc, rows, width, interface, numbers, entries)

@@ -96,7 +96,7 @@ impl Listener for Counts {
 
     ghost suits = { λ _ _. ⊤ };
 
-    ghost may_want = { λ _. ⊥ };
+    ghost may_allocate = { λ _. ⊥ };
 
     fn hear(&mut self, _plan: &Plan, _line: u32, event: &Event<'_>) -> Result<(), AllocError> {
         match event {

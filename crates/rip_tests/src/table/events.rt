@@ -35,7 +35,7 @@ impl Listener for Notes {
 
     ghost suits = { λ _ _. ⊤ };
 
-    ghost may_want = { λ _. ⊤ };
+    ghost may_allocate = { λ _. ⊤ };
 
     fn hear(&mut self, plan: &Plan, line: u32, event: &Event<'_>) -> Result<(), AllocError> {
         let note = match event {

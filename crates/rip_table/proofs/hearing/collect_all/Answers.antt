@@ -9,7 +9,7 @@ use Rattle.rip_table.specs.State.{State}
 use Rattle.rip_table.specs.CollectsAll.{ToldKnown, ToldOutcome}
 use Rattle.rip_table.specs.declared.error.CollectAllError.TheVariants.{Log as OfLog}
 use Rattle.rip_table.proofs.BlameLemmas.{runs}
-use Rattle.rip_table.proofs.HearingLemmas.{ToldKnown-more, ended_log, event_at, heard-more, many_stopped, memory_is, many_line, ends_read, only_read, out-err, said-err, said-told, stops-end, stops-last, stuck-at, stuck-last, told-end, told-last, unread-told, wanted_last}
+use Rattle.rip_table.proofs.HearingLemmas.{ToldKnown-more, ended_log, event_at, heard-more, many_stopped, memory_is, many_line, ends_read, only_read, out-err, said-err, said-told, stops-end, stops-last, stuck-at, stuck-last, told-end, told-last, unread-told, allocates_last}
 use Rattle.rip_table.proofs.hearing.collect_all.Goals as goal
 
 pub lines-preserved : goal.lines-preserved
@@ -73,10 +73,10 @@ returns-in-Err-hear_line-clause-collects g c =
       said = λ was whole begins. said-err plan (state c.args.table.now) (said_to_come (rest_of S.given whole) old) (state c.hear_line.new.table) (holds c.args.listener.now) (holds c.hear_line.new.listener) c.in-Err-hear_line.error;
       read = λ was. memory_is c.in-Err-hear_line.error _ hears.0;
       here = memory_is c.in-Err-hear_line.error _ hears.0;
-      wanted = λ is whole begins.
+      allocates = λ is whole begins.
           let coming = rest_of S.given whole in
           let t = inv.told was_run whole (begins_back S.given S.coming S.at_end whole (source_of mid) (source_of now) h.pulls.went begins) in
-          stuck-at said_of number_of g.L.Listener.may_want plan (state c.args.table.now) (said_to_come coming old) (state c.lines.table) (state c.hear_line.new.table) t.0 (said_to_come coming mid) (said_to_come coming now) c.in-Ok-Some.line (holds c.args.listener.now) (holds c.lines.listener) (holds c.hear_line.new.listener) (lines_behind now) (has_stopped now) t.2 t.1 (h.answers.gives run whole begins) hears.1 h.answers.onward.1 h.marks.stopped;
+          stuck-at said_of number_of g.L.Listener.may_allocate plan (state c.args.table.now) (said_to_come coming old) (state c.lines.table) (state c.hear_line.new.table) t.0 (said_to_come coming mid) (said_to_come coming now) c.in-Ok-Some.line (holds c.args.listener.now) (holds c.lines.listener) (holds c.hear_line.new.listener) (lines_behind now) (has_stopped now) t.2 t.1 (h.answers.gives run whole begins) hears.1 h.answers.onward.1 h.marks.stopped;
       further = λ is. inl (let later = h.answers.onward.0 in let first = inv.lines in omega (arith, later, first));
       marks = λ fine. h.marks.marks refl ∙ inv.marks;
       stopped = λ was. cc (was, was_run);
@@ -108,7 +108,7 @@ returns-in-Ok-None-clause-collects g c =
       said = λ was whole begins. said-told c.lines_come_to.ensures plan (state c.args.table.now) (said_to_come (rest_of S.given whole) old) (state c.lines.table) (holds c.args.listener.now) (holds c.lines.listener) (Ok tt) c.lawful.ensures (g.T.MetricTable.is_state c.args.table.now) c.requires.fits (told was whole begins);
       read = λ was. tt;
       here = tt;
-      wanted = λ is. cc is;
+      allocates = λ is. cc is;
       further = λ is. cc is;
       marks = λ fine. h.marks.marks refl ∙ inv.marks;
       stopped = λ was. cc (was, was_run);
@@ -147,7 +147,7 @@ returns-in_default-clause-collects g c =
                 (h.answers.unread run (ap is_read code) whole begins) t.2 t.1,
           );
       here = (h.answers.here, h.marks.stopped);
-      wanted = λ is. cc is;
+      allocates = λ is. cc is;
       further = λ is. cc is;
       marks = λ fine. cc fine;
       stopped = λ was. ((inv.still was).0, (inv.still was).1, ended_log c.in-Err.error (lines_behind mid) (lines_behind old) (h.answers.ended (inv.running ∙ was)).0 (inv.here was));
@@ -180,10 +180,10 @@ returns-in-TooManyLines-clause-collects g c =
       said = λ was whole begins. said-told c.lines_come_to.ensures plan (state c.args.table.now) (said_to_come (rest_of S.given whole) old) (state c.lines.table) (holds c.args.listener.now) (holds c.hear_last.new.listener) (c.hear_last.result) c.lawful.ensures (g.T.MetricTable.is_state c.args.table.now) c.requires.fits (told was whole begins);
       read = λ was. ends_read c.hear_last.result _ _ c.hear_last.ensures.last;
       here = ends_read c.hear_last.result _ _ c.hear_last.ensures.last;
-      wanted = λ is whole begins.
+      allocates = λ is whole begins.
           let coming = rest_of S.given whole in
           let t = inv.told was_run whole (begins_back S.given S.coming S.at_end whole (source_of mid) (source_of now) h.pulls.went begins) in
-          stuck-last said_of number_of g.L.Listener.may_want plan (state c.args.table.now) (said_to_come coming old) (state c.lines.table) t.0 (holds c.args.listener.now) (holds c.hear_last.new.listener) (said_to_come coming mid) (said_to_come coming now) (said_to_come coming now) c.in-Err.error (lines_behind now) (has_stopped now) t.2 (h.answers.gives run whole begins) many h.marks.stopped (wanted_last c.hear_last.result _ c.hear_last.ensures.wanted is);
+          stuck-last said_of number_of g.L.Listener.may_allocate plan (state c.args.table.now) (said_to_come coming old) (state c.lines.table) t.0 (holds c.args.listener.now) (holds c.hear_last.new.listener) (said_to_come coming mid) (said_to_come coming now) (said_to_come coming now) c.in-Err.error (lines_behind now) (has_stopped now) t.2 (h.answers.gives run whole begins) many h.marks.stopped (allocates_last c.hear_last.result _ c.hear_last.ensures.allocates is);
       further = λ is. inr h.marks.stopped;
       marks = λ fine. h.marks.marks (ap is_read many) ∙ inv.marks;
       stopped = λ was. cc (was, was_run);

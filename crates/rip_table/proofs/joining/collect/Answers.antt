@@ -3,11 +3,11 @@ use Rattle.rip_log.specs.Leaves.{capture_of, line_of, lines_behind, log_to_come,
 use Rattle.rip_log.specs.Wholes.{OfWhole, rest_of}
 use Rattle.rip_log.proofs.WholeLemmas.{begins_back, went_on}
 use Rattle.rip_table.specs.State.{State, Fits}
-use Rattle.rip_table.specs.Joined.{WantsFor, is_memory}
+use Rattle.rip_table.specs.Joined.{MayAllocateFor, is_memory}
 use Rattle.rip_table.specs.Collects.{is_read_cause, StuckKnown, OutcomeKnown, PassedKnown, ToldOutcome}
 use Rattle.rip_table.specs.declared.error.CollectCause.TheVariants.{Log as OfLog}
 use Rattle.rip_table.specs.declared.error.CollectError.{CollectError}
-use Rattle.rip_table.proofs.JoinLemmas.{PassedKnown-more, told_bad, OutcomeKnown-none, OutcomeKnown-refused, StuckKnown-wants, stands_behind, when_memory}
+use Rattle.rip_table.proofs.JoinLemmas.{PassedKnown-more, told_bad, OutcomeKnown-none, OutcomeKnown-refused, StuckKnown-allocates, stands_behind, when_memory}
 use Rattle.rip_table.proofs.FitLemmas.{Fits-joined}
 use Rattle.rip_table.proofs.BlameLemmas.{Joins-blame, not_log-not_read, at_last, tell, runs, again}
 use Rattle.rip_table.proofs.OutcomeLemmas.{said_outcome}
@@ -61,7 +61,7 @@ returns-in-Err-join g c =
     let gives = h.answers.gives run whole begins in
     tell (PassedKnown plan old log new (log_to_come coming after)) (is_memory cause) (is_read_cause cause) joins.1
     (λ w. subst (λ (s : State). StuckKnown plan old log s (log_to_come coming after) c.in-Ok-Some.record.line) (sym joins.0)
-    (StuckKnown-wants capture_of line_of plan old log (state c.records.table) (log_to_come coming before) (log_to_come coming after) c.in-Ok-Some.record passed gives w))
+    (StuckKnown-allocates capture_of line_of plan old log (state c.records.table) (log_to_come coming before) (log_to_come coming after) c.in-Ok-Some.record passed gives w))
     (λ j. subst (λ (s : State). OutcomeKnown plan old log s (Some error)) (sym joins.0)
     (OutcomeKnown-refused capture_of line_of plan old log (state c.records.table) (log_to_come coming before) (log_to_come coming after) c.in-Ok-Some.record cause passed gives j))
     not_read in
@@ -70,7 +70,7 @@ returns-in-Err-join g c =
         told = told;
         said = λ was whole begins. said_outcome c.refused_logs.ensures.outcome plan old new (log_to_come (rest_of S.given whole) c.args.reader.now) (log_to_come (rest_of S.given whole) after) (Err error) c.lawful.ensures (g.T.MetricTable.is_state c.args.table.now) c.requires (told was whole begins);
         stopped = λ was. cc (was, was_run);
-        wanted = λ w. (let later = h.answers.onward.1 in let first = inv.lines in omega arith, (entry, subst (λ (s : State). WantsFor plan s entry) (sym joins.0) (when_memory _ (is_memory cause) w joins.1)));
+        allocates = λ w. (let later = h.answers.onward.1 in let first = inv.lines in omega arith, (entry, subst (λ (s : State). MayAllocateFor plan s entry) (sym joins.0) (when_memory _ (is_memory cause) w joins.1)));
         fits = subst (λ (s : State). Fits plan s) (sym joins.0) inv.fits;
       };
       reader = record {
@@ -106,7 +106,7 @@ returns-in-Ok-None g c =
         told = told;
         said = λ was whole begins. said_outcome c.refused_logs.ensures.outcome c.args.plan.now old new (log_to_come (rest_of S.given whole) c.args.reader.now) (log_to_come (rest_of S.given whole) after) (Ok tt) c.lawful.ensures (g.T.MetricTable.is_state c.args.table.now) c.requires (told was whole begins);
         stopped = λ was. cc (was, was_run);
-        wanted = tt;
+        allocates = tt;
         fits = c.records.invariant.fits;
       };
       reader = record {
@@ -140,7 +140,7 @@ returns-in-Err g c =
         told = told;
         said = λ was whole begins. said_outcome c.refused_logs.ensures.outcome c.args.plan.now old new (log_to_come (rest_of S.given whole) c.args.reader.now) (log_to_come (rest_of S.given whole) after) (Err error) c.lawful.ensures (g.T.MetricTable.is_state c.args.table.now) c.requires (told was whole begins);
         stopped = λ was. (inv.still was, again c.in-Err.error _ _ (h.answers.ended (inv.running ∙ was)).0 (inv.here was));
-        wanted = λ w. cc w;
+        allocates = λ w. cc w;
         fits = inv.fits;
       };
       reader = record {

@@ -7,6 +7,7 @@ use Rattle.rip_table.specs.Joined.{is_foreign, joined_entries, with_heard}
 use Rattle.rip_table.specs.Numbers.{counted, judged, metric_among, IsChecked}
 use Rattle.rip_table.proofs.Lists.{take-end}
 use Rattle.rip_table.proofs.NumberLemmas.{any-next, none-is, number-below, number-here}
+use Rattle.rip_table.proofs.NotedLemmas.{new-noted, noted-more}
 use Rattle.rip_table.proofs.CheckLemmas.{Checked, Checked-start, Checked-fault, Checked-next}
 use Rattle.rip_table.proofs.judging.check.Goals as goal
 
@@ -21,6 +22,7 @@ loop-j-init g c =
       checked = subst (Checked c.args.plan.now c.args.interface s c.args.entries.now 0) (sym c.count-count.ensures)
           (Checked-start c.args.plan.now c.args.interface s c.args.entries.now (g.T.KnownMetrics.is_state c.args.table.now));
       brings = refl;
+      noted = λ p k number some. absurd (cc some);
     }
 
 pub returns-in_err-judge : goal.returns-in_err-judge
@@ -58,7 +60,15 @@ loop-j-preserved g c =
       brings = ap (λ (b : Bool). b || c.is_none-brings.result) c.loop-j.invariant.brings
           ∙ ap (λ (b : Bool). list_any test (take c.loop-j.j es) || b) (none-is c.shown-shown.result c.is_none-brings.result c.is_none-brings.ensures ∙ ap is_none shows)
           ∙ any-next test es c.loop-j.j e here;
+      noted = noted-more s.prefixes es c.loop-j.j e c.loop-j.noted.flags c.note.new.self.flags here c.loop-j.invariant.noted c.note.ensures.kept (λ k is. c.note.ensures.noted k (number ∙ is));
     }
+
+pub known-known-requires-clause-new : goal.known-known-requires-clause-new
+known-known-requires-clause-new g c = λ down e here.
+    let s = g.T.KnownMetrics.state c.args.table.now in
+    let es = c.args.entries.now in
+    let number = number-here s.prefixes es c.args.numbers.now c.loop-j.j e c.requires.numbers here in
+    new-noted s.prefixes (take c.loop-j.j es) e.prefix (slice_index_or c.args.numbers.now c.loop-j.j None) c.loop-j.noted.flags c.note.result c.loop-j.invariant.noted number c.note.ensures.fresh c.note.ensures.unnumbered down
 
 pub returns : goal.returns
 returns g c =

@@ -10,7 +10,7 @@ use Rattle.rip_table.specs.Numbers.{AreFaultless, IsChecked}
 use Rattle.rip_table.specs.Rows.{IsGrid, grid_state, rows_of}
 use Rattle.rip_table.proofs.FitLemmas.{Fits-taken}
 use Rattle.rip_table.proofs.NumberLemmas.{response-is}
-use Rattle.rip_table.proofs.TakingLemmas.{refused, taken, wanting}
+use Rattle.rip_table.proofs.TakingLemmas.{refused, taken, allocating}
 use Rattle.rip_table.proofs.AfterLemmas.{taken-is}
 use Rattle.rip_table.proofs.grid.GridTableMetricTable.take.Goals as goal
 
@@ -44,7 +44,7 @@ returns-in_err-add_new g c =
     let is : c.from_residual-in_err-add_new.result ≡ Err Memory = search rules in
     let checked : AreFaultless c.args.plan.now c.args.interface s es = (c.in_ok-brings.ensures).0 in
     subst (Takes c.args.plan.now c.args.interface s m new) (sym is)
-    (wanting c.args.plan.now c.args.interface s m es new message checked (sym (c.in_ok-brings.ensures).1 ∙ c.in_err-add_new.ensures.wants) (ap (grid_state heard) c.in_err-add_new.ensures.written.1))
+    (allocating c.args.plan.now c.args.interface s m es new message checked (sym (c.in_ok-brings.ensures).1 ∙ c.in_err-add_new.ensures.allocates) (ap (grid_state heard) c.in_err-add_new.ensures.written.1))
     in
     record {
       takes = takes;

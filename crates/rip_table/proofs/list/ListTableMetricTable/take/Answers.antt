@@ -12,7 +12,7 @@ use Rattle.rip_table.specs.Numbers.{AreFaultless, IsChecked}
 use Rattle.rip_table.specs.ListState.{AreAdded, list_state}
 use Rattle.rip_table.proofs.FitLemmas.{Fits-taken}
 use Rattle.rip_table.proofs.NumberLemmas.{response-is}
-use Rattle.rip_table.proofs.TakingLemmas.{refused, taken, wanting}
+use Rattle.rip_table.proofs.TakingLemmas.{refused, taken, allocating}
 use Rattle.rip_table.proofs.ListLemmas.{list_state-heard}
 use Rattle.rip_plan.specs.Network.{Network}
 use Rattle.rip_table.proofs.list.ListTableMetricTable.take.Goals as goal
@@ -48,7 +48,7 @@ returns-in_err-add_new c =
     let new = list_state heard c.add_new.new.prefixes.items c.add_new.new.shown.items in
     let same : new ≡ s = ap (λ (p : List Block). list_state heard p c.add_new.new.shown.items) c.in_err-add_new.ensures.prefixes ∙ ap (list_state heard c.args.self.now.prefixes.items) c.in_err-add_new.ensures.shown in
     subst (Takes c.args.plan.now c.args.interface s m new) (sym is)
-    (wanting c.args.plan.now c.args.interface s m es new message checked (sym (c.in_ok-brings.ensures).1 ∙ c.in_err-add_new.ensures.wants) same)
+    (allocating c.args.plan.now c.args.interface s m es new message checked (sym (c.in_ok-brings.ensures).1 ∙ c.in_err-add_new.ensures.allocates) same)
     in
     record {
       takes = takes;

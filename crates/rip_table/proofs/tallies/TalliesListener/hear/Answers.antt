@@ -9,6 +9,6 @@ returns-in-Joined-clause-heard g c events h = rw c.in-Joined.is (c.add_sent.ensu
 pub returns-in-Request-clause-heard : goal.returns-in-Request-clause-heard
 returns-in-Request-clause-heard g c events h = rw c.in-Request.is (c.hear_request.ensures.heard events h)
 
-pub returns-in_err-add_stranger-in-Stranger-clause-wanted :
-    goal.returns-in_err-add_stranger-in-Stranger-clause-wanted
-returns-in_err-add_stranger-in-Stranger-clause-wanted g c = rw c.in-Stranger.is (on_err c.from_residual.result _ (origin_of_sender c.in-Stranger.sender, refl))
+pub returns-in_err-add_stranger-in-Stranger-clause-allocates :
+    goal.returns-in_err-add_stranger-in-Stranger-clause-allocates
+returns-in_err-add_stranger-in-Stranger-clause-allocates g c = rw c.in-Stranger.is (on_err c.from_residual.result _ (origin_of_sender c.in-Stranger.sender, refl))
