@@ -31,7 +31,7 @@ LongFirst (Some t) =
 abbrev pub DropsFirst : Option (List ℕ) → Option (List ℕ) → Type 0
 DropsFirst t left = (line : List ℕ) × FirstLine t left line
 
--- known text begins with a line of more bytes than are passed over
+-- known text begins with a line of more bytes than are skipped
 abbrev pub IsEndless : Option (List ℕ) → Type 0
 IsEndless None = Unit {0}
 IsEndless (Some t) =

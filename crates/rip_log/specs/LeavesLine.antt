@@ -51,7 +51,7 @@ GivesLine view number (Some all) new (Ok (Some x)) =
 GivesLine view number (Some all) new (Err e) =
     IfElse (is_read e.code) (Unit {0}) ((all ≡ many_lines) × (e.code ≡ TooManyLines))
 
--- the first of these lines has more bytes than are passed over
+-- the first of these lines has more bytes than are skipped
 abbrev pub BeginsEndless : List (List ℕ) → Type 0
 BeginsEndless [] = ⊥
 BeginsEndless (line ∷ rest) = MOST_PASSED_BYTES < length line

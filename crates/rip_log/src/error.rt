@@ -26,7 +26,7 @@ pub enum LogCode {
     Read,
     /// An error was answered before.
     Ended,
-    /// There is no memory for the reader.
+    /// Memory for the reader was refused.
     Memory,
 }
 

@@ -6,7 +6,7 @@ ghost use Rattle.std.specs.Borrow.{ftrue};
 use std::marker::Model;
 
 /// What the calls of a device came to, one after the other: each moved some bytes, or failed. It
-/// takes no memory, and its methods do nothing when the program runs.
+/// allocates nothing, and its methods do nothing when the program runs.
 #[derive(Drop)]
 pub struct History {
     pub ghost outcomes: { List (Option (List ℕ)) },
@@ -37,5 +37,5 @@ impl History {
     {}
 }
 
-// A history takes no memory.
+// A history has no size.
 const _: () = prove!(size_of::<History>() == 0);

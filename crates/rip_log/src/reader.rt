@@ -209,8 +209,8 @@ impl<R: Source> LogReader<R> {
         }
     }
 
-    /// A reader at the front of the source's text. It takes the memory that it needs, and pulls
-    /// nothing yet. Where there is none, the error is Memory at line 0, and the source comes back.
+    /// A reader at the front of the source's text. It allocates its buffer, and pulls nothing yet.
+    /// Where memory is refused, the error is Memory at line 0, and the source comes back.
     pub fn new(alloc: Global, source: R) -> Result<LogReader<R>, (LogError, R)>
         ensures source { IfOk result (λ r. source_of r ≡ source) }
         ensures text { IfOk result (λ r. (coming : R → Option (List ℕ)) →
@@ -240,9 +240,9 @@ impl<R: Source> LogReader<R> {
         }
     }
 
-    /// The next record, which borrows the reader's buffers, or None at the end of the text. It takes
-    /// no memory. An error is the fault of the first bad line, or Read where the source failed while a
-    /// line was read; after an error each call answers Ended at the same line. It pulls nothing where it
+    /// The next record, which borrows the reader's buffers, or None at the end of the text. It
+    /// allocates nothing. An error is the fault of the first bad line, or Read where the source failed while
+    /// a line was read; after an error each call answers Ended at the same line. It pulls nothing where it
     /// holds each line that it comes to: whole, or more bytes of it than a line may have.
     pub fn next(&mut self) -> Result<Option<Record<'_>>, LogError>
         // Once the record that it lends is let go, the reader is as `Leaves` says.

@@ -1,4 +1,4 @@
--- The faults of a text are never want of memory.
+-- The faults of a text are never Memory.
 use Rattle.std.proofs.Common.{◌≡◌, ◌≢◌, ℕ, ◌+◌, ◌-◌, List, [], ◌∷◌, ◌++◌, length, Bool, true, false, cond, not, ◌||◌, Option, Some, None, Result, Ok, Err, ap, ◌∙◌}
 use Rattle.std.specs.Prelude.{nat_le, nat_lt, codes as codes_of}
 use Rattle.std.specs.Result.{result_err}
@@ -23,7 +23,7 @@ use Rattle.rip_plan.specs.PlanText.{sketch_of_document, document_of, sketch_of}
 use Rattle.rip_plan.specs.Network.{Network, network_in, network_of_sketch}
 use Rattle.rip_plan.specs.Answers.{first_fault}
 
--- not want of memory
+-- not Memory
 abbrev Apart : {A : Type 0} → Result A PlanError → Type 0
 Apart (Ok x) = Unit {0}
 Apart (Err e) = e.code ≡ codes.Memory → ⊥

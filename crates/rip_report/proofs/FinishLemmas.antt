@@ -72,7 +72,7 @@ refused_prints IsText e taken broken a b (Err f) told wanted p = record {
   sink = p.sink;
 }
 
--- a fault that is not want of memory is the first one of the bytes
+-- a fault that is not Memory is the first one of the bytes
 pub first_told : (bytes : List ℕ) (e : PlanError) → (e ≡ out_of_memory) ⊎ PlanFault bytes e → (e.code ≡ OutOfMemory → ⊥) → PlanFault bytes e
 first_told bytes e (inl h) other = absurd (other (ap (λ (e : PlanError). e.code) h))
 first_told bytes e (inr h) other = h

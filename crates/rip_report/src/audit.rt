@@ -181,7 +181,7 @@ fn audit_table<T: MetricTable, K: Sink>(
     ensures prints { Prints K.taken K.broken out.old out.new result
         (VerdictText plan.now (T.state table.now) all) }
     ensures read { result ≢ Err RunError.Read }
-    ensures wanted { result ≡ Err RunError.Memory →
+    ensures memory { result ≡ Err RunError.Memory →
         (all ≡ true) × IsJudged plan.now (T.state table.now) Status.Unsettled }
     ensures judged { IfOk result (IsJudged plan.now (T.state table.now)) }
 {
@@ -258,7 +258,7 @@ pub fn run_audit<R: Source, K: Sink, S: BuildHasher + Drop>(
     ensures went { Went R.given R.coming R.at_end log result.0 }
     ensures to_come { (text : List ℕ) → R.coming log ≡ Some text →
         IsGiven R.given R.at_end log result.0 text }
-    // The source of a refused plan is as it was, and its failure is not told.
+    // If the plan is refused, the log is not touched.
     ensures untouched { (e : PlanError) → PlanFault plan.now e →
         (result.0 ≡ log) × (result.1 ≢ Err RunError.Read) }
     // Bytes that are no text of a plan do not answer Memory.

@@ -313,7 +313,7 @@ pub fn run_routes<R: Source, K: Sink, S: BuildHasher + Drop>(
     ensures told { (text : List ℕ) → IsGiven R.given R.at_end log result.0 text →
         (n : Network) (s : State) → IsAccepted plan.now text n s →
         IfOk result.1 (WentOut (RoutesText n s) (K.taken out.old) (K.taken out.new)) }
-    // The source of a refused plan is as it was, and its failure is not told.
+    // If the plan is refused, the log is not touched.
     ensures untouched { (e : PlanError) → PlanFault plan.now e →
         (result.0 ≡ log) × (result.1 ≢ Err RunError.Read) }
     // Bytes that are no text of a plan do not answer Memory.

@@ -52,7 +52,7 @@ fn expect_line(
     assert_eq!(rt; Some(record.datagram.body()), datagram.get(4..));
 }
 
-/// Expects the records of the settled log. It takes no memory.
+/// Expects the records of the settled log. It allocates nothing.
 fn expect_settled(rt: &impl Abort, reader: &mut LogReader<FromRead<Pieces<'_>>>) {
     let mut line = 0u32;
     for text in SETTLED.lines() {

@@ -158,7 +158,7 @@ fn end_words(rt: &(impl Print + Eprint), error: &Error) -> u8 {
     }
 }
 
-/// Want of memory, or a failure of reading.
+/// Memory was refused, or reading failed.
 fn read_failure(error: &io::Error) -> RunError {
     match error.kind() {
         io::ErrorKind::OutOfMemory => RunError::Memory,

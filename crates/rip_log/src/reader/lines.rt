@@ -70,7 +70,7 @@ impl<R: Source> LogReader<R> {
     ghost use Rattle.rip_log.specs.Steps.{IsGoodFault, origin_found};
     ghost use Rattle.rip_log.specs.Wholes.{OfWhole, Went};
 
-    /// Passes over a line that is too long.
+    /// Skips the rest of a line that is too long.
     fn pass_long(&mut self) -> Result<(), LogError>
         requires running { has_stopped self.old ≡ false }
         requires few { lines_behind self.old < MOST_LINES }
@@ -163,8 +163,8 @@ impl<R: Source> LogReader<R> {
     }
 
     /// The next line that is neither blank nor a comment, good or bad, which borrows the reader's
-    /// buffers, or None at the end of the text. It takes no memory. A bad line ends nothing: the next
-    /// call goes on behind it, and of one that is too long the rest is passed over. An error is
+    /// buffers, or None at the end of the text. It allocates nothing. A bad line ends nothing: the next
+    /// call goes on behind it, and of one that is too long the rest is skipped. An error is
     /// TooManyLines at line 1,000,001, or Read where the source failed while a line was read (or a line
     /// has more than `u64::MAX` bytes); after an error each call answers Ended at the same line. It pulls
     /// nothing where it holds each line that it comes to, with its line feed.

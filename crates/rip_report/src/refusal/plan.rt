@@ -90,7 +90,7 @@ fn fault_text(error: PlanError) -> Line
 pub(crate) fn refuse_plan<K: Sink>(error: PlanError, out: &mut K) -> Result<Status, RunError>
     ensures prints { Prints K.taken K.broken out.old out.new result
         (λ w. w ≡ refused_plan error) }
-    ensures wanted { (result ≡ Err RunError.Memory) ↔ (error.code ≡ PlanCode.Memory) }
+    ensures memory { (result ≡ Err RunError.Memory) ↔ (error.code ≡ PlanCode.Memory) }
     ensures read { result ≢ Err RunError.Read }
 {
     if error.code == PlanCode::Memory {

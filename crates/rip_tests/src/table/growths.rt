@@ -60,7 +60,7 @@ fn fills<T: MetricTable, U: MetricTable>(
     true
 }
 
-/// Takes again what it took, which wants no memory.
+/// Takes again what it took, which allocates nothing.
 fn takes_again<T: MetricTable>(rt: &impl Abort, plan: &Plan, table: &mut T)
     requires { Fits plan.now (T.state table.old) }
 {
@@ -174,7 +174,7 @@ fn expect_memory<R: Source, T: MetricTable>(
     assert_eq!(rt; record.line, error.line.wrapping_add(1));
 }
 
-/// Joins a log into a new table, and then again, which wants no memory.
+/// Joins a log into a new table, and then again, which allocates nothing.
 fn joins<T: MetricTable>(
     rt: &impl Abort,
     alloc: Global,

@@ -25,8 +25,8 @@ returns-in-Ok-clause-prints g c =
     let wrote = c.write_verdict-wrote.ensures in
     finished_prints (VerdictText n s c.args.all) (record { text = wrote.0; status = verdict_status c.judge-verdict.result }) g.K.Sink.taken g.K.Sink.broken c.args.out.now c.write_verdict-wrote.new.out c.write_verdict-wrote.result c.finish.result wrote.1 (c.finish.ensures ∙ ap (finished c.write_verdict-wrote.result) c.status_of.ensures) wrote.2
 
-pub returns-in-Err-clause-wanted : goal.returns-in-Err-clause-wanted
-returns-in-Err-clause-wanted g c _ =
+pub returns-in-Err-clause-memory : goal.returns-in-Err-clause-memory
+returns-in-Err-clause-memory g c _ =
     let e = c.judge-verdict.ensures in
     let n = c.args.plan.now in
     let s = g.T.MetricTable.state c.args.table.now in

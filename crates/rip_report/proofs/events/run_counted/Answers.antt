@@ -39,9 +39,9 @@ returns-in-Err-clause-to_come g c =
 
 pub returns-in-Err-clause-prints : goal.returns-in-Err-clause-prints
 returns-in-Err-clause-prints g c = λ log given.
-    refused_prints (EventsText (g.C.EventReport.is_text c.args.command.now) c.args.plan.now log) c.in-Err.error g.K.Sink.taken g.K.Sink.broken c.args.out.now c.refuse_plan.new.out c.refuse_plan.result (λ other. a_fault c.in-Err.error (first_told c.args.plan.now c.in-Err.error c.in-Err.ensures.told other)) c.refuse_plan.ensures.wanted c.refuse_plan.ensures.prints
+    refused_prints (EventsText (g.C.EventReport.is_text c.args.command.now) c.args.plan.now log) c.in-Err.error g.K.Sink.taken g.K.Sink.broken c.args.out.now c.refuse_plan.new.out c.refuse_plan.result (λ other. a_fault c.in-Err.error (first_told c.args.plan.now c.in-Err.error c.in-Err.ensures.told other)) c.refuse_plan.ensures.memory c.refuse_plan.ensures.prints
 
 pub returns-in-Err-clause-accepted : goal.returns-in-Err-clause-accepted
 returns-in-Err-clause-accepted g c =
     let e = c.in-Err.error in
-    λ text given n s accepted. of_refused (WentOut (OfAccepted (g.C.EventReport.is_text c.args.command.now) n s) (g.K.Sink.taken c.args.out.now) (g.K.Sink.taken c.refuse_plan.new.out)) c.args.plan.now text n s e c.refuse_plan.result (first_told c.args.plan.now e c.in-Err.ensures.told) c.refuse_plan.ensures.wanted (c.well_formed_texts.ensures c.args.plan.now) accepted
+    λ text given n s accepted. of_refused (WentOut (OfAccepted (g.C.EventReport.is_text c.args.command.now) n s) (g.K.Sink.taken c.args.out.now) (g.K.Sink.taken c.refuse_plan.new.out)) c.args.plan.now text n s e c.refuse_plan.result (first_told c.args.plan.now e c.in-Err.ensures.told) c.refuse_plan.ensures.memory (c.well_formed_texts.ensures c.args.plan.now) accepted

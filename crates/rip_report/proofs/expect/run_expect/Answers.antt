@@ -16,4 +16,4 @@ returns-in-Ok-find-clause-prints g c =
 
 pub returns-in-Err-clause-prints : goal.returns-in-Err-clause-prints
 returns-in-Err-clause-prints g c =
-    refused_prints (ExpectText c.args.plan.now) c.in-Err.error g.K.Sink.taken g.K.Sink.broken c.args.out.now c.refuse_plan.new.out c.refuse_plan.result (λ other. a_fault c.in-Err.error (first_told c.args.plan.now c.in-Err.error c.in-Err.ensures.told other)) c.refuse_plan.ensures.wanted c.refuse_plan.ensures.prints
+    refused_prints (ExpectText c.args.plan.now) c.in-Err.error g.K.Sink.taken g.K.Sink.broken c.args.out.now c.refuse_plan.new.out c.refuse_plan.result (λ other. a_fault c.in-Err.error (first_told c.args.plan.now c.in-Err.error c.in-Err.ensures.told other)) c.refuse_plan.ensures.memory c.refuse_plan.ensures.prints

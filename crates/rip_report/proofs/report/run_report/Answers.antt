@@ -36,17 +36,17 @@ returns-in-Err-clause-to_come g c =
 
 pub returns-in-Err-clause-prints : goal.returns-in-Err-clause-prints
 returns-in-Err-clause-prints g c = λ log given.
-    refused_prints (ReportText (g.C.Report.is_text c.args.command.now) c.args.plan.now log) c.in-Err.error g.K.Sink.taken g.K.Sink.broken c.args.out.now c.refuse_plan.new.out c.refuse_plan.result (λ other. a_fault c.in-Err.error (first_told c.args.plan.now c.in-Err.error c.in-Err.ensures.told other)) c.refuse_plan.ensures.wanted c.refuse_plan.ensures.prints
+    refused_prints (ReportText (g.C.Report.is_text c.args.command.now) c.args.plan.now log) c.in-Err.error g.K.Sink.taken g.K.Sink.broken c.args.out.now c.refuse_plan.new.out c.refuse_plan.result (λ other. a_fault c.in-Err.error (first_told c.args.plan.now c.in-Err.error c.in-Err.ensures.told other)) c.refuse_plan.ensures.memory c.refuse_plan.ensures.prints
 
 pub returns-in-Err-clause-told : goal.returns-in-Err-clause-told
 returns-in-Err-clause-told g c =
     let e = c.in-Err.error in
-    λ text given n s accepted. of_refused (WentOut (g.C.Report.is_text c.args.command.now n s) (g.K.Sink.taken c.args.out.now) (g.K.Sink.taken c.refuse_plan.new.out)) c.args.plan.now text n s e c.refuse_plan.result (first_told c.args.plan.now e c.in-Err.ensures.told) c.refuse_plan.ensures.wanted (c.well_formed_texts.ensures c.args.plan.now) accepted
+    λ text given n s accepted. of_refused (WentOut (g.C.Report.is_text c.args.command.now n s) (g.K.Sink.taken c.args.out.now) (g.K.Sink.taken c.refuse_plan.new.out)) c.args.plan.now text n s e c.refuse_plan.result (first_told c.args.plan.now e c.in-Err.ensures.told) c.refuse_plan.ensures.memory (c.well_formed_texts.ensures c.args.plan.now) accepted
 
 pub returns-in-Err-clause-meaning : goal.returns-in-Err-clause-meaning
 returns-in-Err-clause-meaning g c =
     let e = c.in-Err.error in
-    λ text given n s accepted. of_refused (g.C.Report.means c.args.command.now n s) c.args.plan.now text n s e c.refuse_plan.result (first_told c.args.plan.now e c.in-Err.ensures.told) c.refuse_plan.ensures.wanted (c.well_formed_texts.ensures c.args.plan.now) accepted
+    λ text given n s accepted. of_refused (g.C.Report.means c.args.command.now n s) c.args.plan.now text n s e c.refuse_plan.result (first_told c.args.plan.now e c.in-Err.ensures.told) c.refuse_plan.ensures.memory (c.well_formed_texts.ensures c.args.plan.now) accepted
 
 pub returns-in-Ok-with_hasher-clause-untouched : goal.returns-in-Ok-with_hasher-clause-untouched
 returns-in-Ok-with_hasher-clause-untouched g c = λ e fault. absurd (c.in-Ok.ensures.no_fault e (fault.pass, fault.found))
