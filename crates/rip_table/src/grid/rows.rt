@@ -61,7 +61,7 @@ fn row_at<S: BuildHasher>(
     Ok(k)
 }
 
-/// Adds rows for the prefixes that are new, and answers the numbers of all. Where memory fails, some
+/// Adds rows for the prefixes that are new, and writes the numbers of all. Where memory fails, some
 /// are added.
 fn grow<S: BuildHasher>(
     alloc: Global,
@@ -69,25 +69,25 @@ fn grow<S: BuildHasher>(
     width: usize,
     numbers: &Numbers,
     entries: &[Entry],
-) -> Result<RowNumbers, TableError>
+    row_numbers: &mut RowNumbers,
+) -> Result<(), TableError>
     requires few { length entries.now ≤ MOST_ENTRIES }
     requires numbers { AreNumbers (heads (rows_of rows.old.entries)) entries.now numbers.now }
     ensures ok { OnOk result (rows_of rows.new.entries
         ≡ with_rows width (rows_of rows.old.entries) entries.now) }
-    ensures row_numbers { IfOk result (λ row_numbers.
-        AreRowNumbers (rows_of rows.new.entries) entries.now row_numbers) }
+    ensures row_numbers { OnOk result
+        (AreRowNumbers (rows_of rows.new.entries) entries.now row_numbers.new) }
     ensures front { take (index_map_len rows.old) (rows_of rows.new.entries)
         ≡ rows_of rows.old.entries }
 {
-    let mut row_numbers = [0; MOST_ENTRIES];
     for j in 0..entries.len() {
         let entry = entries[j];
         row_numbers[j] = row_at(alloc, rows, width, numbers[j], entry.prefix)?;
     }
-    Ok(row_numbers)
+    Ok(())
 }
 
-/// Adds rows for the prefixes that are new, and answers the numbers of all, or leaves the rows as
+/// Adds rows for the prefixes that are new, and writes the numbers of all, or leaves the rows as
 /// they were.
 fn grow_or_keep<S: BuildHasher>(
     alloc: Global,
@@ -95,19 +95,20 @@ fn grow_or_keep<S: BuildHasher>(
     width: usize,
     numbers: &Numbers,
     entries: &[Entry],
-) -> Result<RowNumbers, TableError>
+    row_numbers: &mut RowNumbers,
+) -> Result<(), TableError>
     requires few { length entries.now ≤ MOST_ENTRIES }
     requires numbers { AreNumbers (heads (rows_of rows.old.entries)) entries.now numbers.now }
     ensures ok { OnOk result (rows_of rows.new.entries
         ≡ with_rows width (rows_of rows.old.entries) entries.now) }
-    ensures row_numbers { IfOk result (λ row_numbers.
-        AreRowNumbers (rows_of rows.new.entries) entries.now row_numbers) }
+    ensures row_numbers { OnOk result
+        (AreRowNumbers (rows_of rows.new.entries) entries.now row_numbers.new) }
     ensures memory { IfErr result (λ error. error ≡ Memory) }
     ensures err { OnErr result (rows_of rows.new.entries ≡ rows_of rows.old.entries) }
 {
     let was = rows.len();
-    match grow(alloc, rows, width, numbers, entries) {
-        Ok(row_numbers) => Ok(row_numbers),
+    match grow(alloc, rows, width, numbers, entries, row_numbers) {
+        Ok(()) => Ok(()),
         Err(_) => {
             rows.truncate(was);
             Err(TableError::Memory)
@@ -177,7 +178,8 @@ fn add<S: BuildHasher>(
         (rows_of rows.new.entries) result }
     ensures grid { IsGrid width (rows_of rows.new.entries) }
 {
-    let row_numbers = grow_or_keep(alloc, rows, width, numbers, entries)?;
+    let mut row_numbers = [0; MOST_ENTRIES];
+    grow_or_keep(alloc, rows, width, numbers, entries, &mut row_numbers)?;
     write(rows, width, interface, &row_numbers, entries);
     Ok(())
 }
