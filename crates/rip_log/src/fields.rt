@@ -1,10 +1,11 @@
 //! The fields of a line.
 
 ghost use Rattle.std.specs.Prelude.{◌≡◌, ◌≤◌, ◌<◌, ◌-◌, ℕ, [], ◌∷◌, true, false, length, drop, MatchOption, slice_range, slice_index};
+ghost use Rattle.memchr.specs.Find.{IsFirstByte, is_byte2};
 ghost use Rattle.rip_log.specs.Fields.{is_blank, fields_of, IsTrimmed, NextField, IsSplit};
 
 use crate::span::Span;
-use memchr::memchr2;
+use memchr::memchr2_iter;
 
 /// The fields of a line, where they lie. Of three or more the third span is the rest of the line from the
 /// third on, without the blanks at its end.
@@ -38,6 +39,14 @@ fn skip_blanks(line: &[u8], from: usize) -> usize
     at
 }
 
+/// The first blank of these bytes. The iterator looks at the next 32 bytes alone before it goes on by more,
+/// and few fields but the third are longer.
+fn first_blank(bytes: &[u8]) -> Option<usize>
+    ensures { IsFirstByte (is_byte2 32 9) bytes.now result }
+{
+    memchr2_iter(b' ', b'\t', bytes).next()
+}
+
 /// The first offset after `from` that has a blank, or the end of the line.
 fn skip_field(line: &[u8], from: usize) -> usize
     requires inside { from < length line.now }
@@ -47,7 +56,7 @@ fn skip_field(line: &[u8], from: usize) -> usize
     ensures split { fields_of (drop from line.now)
         ≡ slice_range line.now from result ∷ fields_of (drop result line.now) }
 {
-    match memchr2(b' ', b'\t', &line[from + 1..]) {
+    match first_blank(&line[from + 1..]) {
         Some(count) => from + 1 + count,
         None => line.len(),
     }
