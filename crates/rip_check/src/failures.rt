@@ -58,8 +58,7 @@ fn is_on(plan: &Plan, router: usize, link: usize) -> bool
     false
 }
 
-/// Whether that by which a router has a prefix itself, if it does, is neither a failed link nor attached
-/// to one.
+/// Whether a router's direct route to a prefix, if it has one, does not depend on the failed link.
 fn has_beside(plan: &Plan, failed: usize, router: usize, prefix: usize) -> bool
     requires { router < length plan.now.routers }
     ensures attached { result ≡ true → IsAttached plan.now router prefix failed → ⊥ }
@@ -102,7 +101,7 @@ pub(crate) fn takes(plan: &Plan, failure: Option<Failure>, router: usize, prefix
     is_router_up(failure, router) && !keeps(plan, failure, router, prefix)
 }
 
-/// Whether that by which a router has a prefix itself, if it does, is left after a failure.
+/// Whether a router's direct route to a prefix, if it has one, survives a failure.
 fn has_left(plan: &Plan, failure: Option<Failure>, router: usize, prefix: usize) -> bool
     requires { router < length plan.now.routers }
     ensures left { result ≡ true → (c : ℕ) → IsDirect plan.now router prefix c →

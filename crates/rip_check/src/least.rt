@@ -154,8 +154,8 @@ pub(crate) fn find_least(plan: &Plan, failure: Option<Failure>, prefix: usize, m
 }
 
 /// The least metric of a router for a prefix, both by their numbers: the cost of the cheapest path, or
-/// 16 where none costs less (RFC 2453, section 3.6) or the plan does not have the prefix. It takes no
-/// memory; [`Expected`](crate::Expected) has the least metrics of all.
+/// 16 where none costs less (RFC 2453, section 3.6) or the plan does not have the prefix. It allocates
+/// nothing; [`Expected`](crate::Expected) has the least metrics of all.
 pub fn least_metric(plan: &Plan, router: usize, prefix: usize) -> Metric
     requires { router < length plan.now.routers }
     ensures { IsLeast plan.now prefix router result }

@@ -1,7 +1,7 @@
 -- The fields of a line.
 use Rattle.std.specs.Prelude.{◌≡◌, ◌<◌, ◌≤◌, ℕ, ◌-◌, ◌==◌, ◌||◌, Bool, true, false, if◌then◌else◌, List, [], ◌∷◌, length, drop, slice_index}
 use Rattle.rip_log.specs.declared.fields.Fields.{Fields}
-use Rattle.rip_log.specs.declared.fields.Fields.TheVariants.{Nothing, Comment, Few, Many}
+use Rattle.rip_log.specs.declared.fields.Fields.TheVariants.{Nothing, Comment, TooFew, ThreeOrMore}
 use Rattle.rip_log.specs.Spans.{IsWithin, slice_of}
 use Rattle.rip_log.specs.declared.span.Span.{Span}
 
@@ -45,14 +45,14 @@ pub record IsTrimmed (bytes : List ℕ) : Type 0 where
   pub first : is_blank (slice_index bytes 0) ≡ false
   pub last : is_blank (slice_index bytes (length bytes - 1)) ≡ false
 
--- the line has fields of this kind; the third span of many is the rest from the third field on
+-- the line has fields of this kind; the third span has the fields from the third on
 abbrev pub IsSplit : List ℕ → Fields → Type 0
 IsSplit line Nothing = fields_of line ≡ []
 IsSplit line Comment = is_comment (fields_of line) ≡ true
-IsSplit line Few = (is_comment (fields_of line) ≡ false)
+IsSplit line TooFew = (is_comment (fields_of line) ≡ false)
     × (0 < length (fields_of line))
     × (length (fields_of line) < 3)
-IsSplit line (Many a b rest) = (is_comment (fields_of line) ≡ false)
+IsSplit line (ThreeOrMore a b rest) = (is_comment (fields_of line) ≡ false)
     × (fields_of line ≡ slice_of line a ∷ slice_of line b ∷ fields_of (slice_of line rest))
     × IsWithin (length line) a
     × IsWithin (length line) b

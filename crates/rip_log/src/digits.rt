@@ -26,8 +26,7 @@ fn are_digits(text: &[u8]) -> bool
     text.iter().all(|byte| is_digit(*byte))
 }
 
-/// What is wrong with more digits than a datagram has: an odd number of them, or a byte that is none,
-/// comes first.
+/// The code for too many digits: Hex if their number is odd or a byte is no digit, else LongDatagram.
 fn code_of_long(digits: &[u8]) -> LogCode
     requires { MOST_DIGITS < length digits.now }
     ensures { bytes_of digits.now ≡ Err result }

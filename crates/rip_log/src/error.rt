@@ -8,9 +8,9 @@ use thiserror::Error;
 pub enum LogCode {
     /// The line has more than 2,048 bytes.
     LongLine,
-    /// The line has not three fields.
+    /// The line does not have three fields.
     Fields,
-    /// The first field has not the form of a name.
+    /// The first field does not have the form of a name.
     LinkName,
     /// The second field is no address.
     Sender,

@@ -13,8 +13,8 @@ use memchr::memchr2_iter;
 pub enum Fields {
     Nothing,
     Comment,
-    Few,
-    Many(Span, Span, Span),
+    TooFew,
+    ThreeOrMore(Span, Span, Span),
 }
 
 /// Whether the byte is a blank: a space or a tab.
@@ -63,7 +63,7 @@ fn skip_field(line: &[u8], from: usize) -> usize
 }
 
 /// The offset behind the last byte that is no blank, where there is one from `from` on.
-fn trim_end(line: &[u8], from: usize) -> usize
+fn end_of_rest(line: &[u8], from: usize) -> usize
     requires inside { from < length line.now }
     requires field { is_blank (slice_index line.now from) ≡ false }
     ensures after { from < result }
@@ -118,15 +118,15 @@ pub fn split(line: &[u8]) -> Fields
         to: skip_field(line, from),
     };
     let Some(second) = next_field(line, first.to) else {
-        return Fields::Few;
+        return Fields::TooFew;
     };
     let from = skip_blanks(line, second.to);
     if from == line.len() {
-        return Fields::Few;
+        return Fields::TooFew;
     }
     let rest = Span {
         from,
-        to: trim_end(line, from),
+        to: end_of_rest(line, from),
     };
-    Fields::Many(first, second, rest)
+    Fields::ThreeOrMore(first, second, rest)
 }

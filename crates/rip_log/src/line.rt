@@ -48,7 +48,7 @@ impl From<LogCode> for Fault {
 }
 
 impl Fault {
-    /// A fault behind a good front, which it has where it is the datagram's.
+    /// A fault after a good front, which is kept only if the datagram is at fault.
     fn behind(front: Front, code: LogCode) -> Fault
         ensures { result ≡ record {
           code = code;
@@ -124,8 +124,8 @@ fn judge_bare(bare: &[u8], room: &mut [u8; MOST_BYTES]) -> Result<Option<Parts>,
 {
     match split(bare) {
         Fields::Nothing | Fields::Comment => Ok(None),
-        Fields::Few => Err(Fault::from(LogCode::Fields)),
-        Fields::Many(link, sender, rest) => {
+        Fields::TooFew => Err(Fault::from(LogCode::Fields)),
+        Fields::ThreeOrMore(link, sender, rest) => {
             let judged = judge_fields(bare, link, sender, rest, room);
             // Digits have no blank among them, so only a bad line is searched for a fourth field.
             if judged.is_err() && !is_field(&bare[rest.from..rest.to]) {

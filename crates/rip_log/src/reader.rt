@@ -57,8 +57,8 @@ struct FoundFault {
     fault: Fault,
 }
 
-/// What a line says: nothing, or a record, or it is bad, or too long and not passed yet; or there is
-/// no line.
+/// What a line says: nothing, a record, that it is bad, or that it is too long and not yet skipped; or
+/// that there is none.
 #[derive(Clone, Copy)]
 enum Step {
     Skipped,
@@ -82,7 +82,7 @@ fn name_text(name: &[u8]) -> &str
     ensures { result.now ≡ name.now }
 {
     laws::names();
-    // A name is ASCII, which the proof of this call's `requires` rests on.
+    // SAFETY: a name is ASCII (`laws::names`), so it is UTF-8, as this call's proved `requires` asks.
     unsafe { str::from_utf8_unchecked(name) }
 }
 

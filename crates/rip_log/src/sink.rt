@@ -12,7 +12,7 @@ use std::io::Write;
 /// A device that takes bytes. Once it has failed it takes no more, and what lies beneath it is left
 /// alone.
 pub trait Sink {
-    // The bytes that it has taken, and all that what lies beneath it holds, where that is modelled.
+    // The bytes that it has taken, and the contents of what lies beneath it, where these are modelled.
     ghost taken: { Self → Taken };
 
     // Whether it has failed.

@@ -38,7 +38,7 @@ pub trait Source {
         ensures failed { is_err result ≡ broken self.new }
         ensures fails_on { broken self.old ≡ true → broken self.new ≡ true }
 
-        // Nothing comes into room for some exactly where the end is reached.
+        // A buffer that is not empty gets no bytes exactly where the end is reached.
         ensures ended { 0 < length buffer.new → (at_end self.new ≡ true) ↔ (result ≡ Ok 0) }
         ensures ends_on { at_end self.old ≡ true → (at_end self.new ≡ true) × (result ≡ Ok 0) }
 

@@ -17,7 +17,7 @@ pub enum PlanCode {
     /// A key is missing, unknown or of the wrong kind, or `link` or `router` is empty; told at the
     /// table, or at the item of a list.
     Key,
-    /// The name of a link or a router has another form than a name.
+    /// The name of a link or a router does not have the form of one.
     Name,
     /// An earlier link, or an earlier router, has the name.
     DuplicateName,

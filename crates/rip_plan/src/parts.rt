@@ -8,9 +8,9 @@ use rip_wire::Address;
 /// A router's port on a link. Routers and links are numbered from 0 in the order of the plan.
 #[derive(Clone, Copy, Debug, PartialEq, Eq)]
 pub struct Interface {
-    /// The router.
+    /// The number of its router.
     pub router: usize,
-    /// The link.
+    /// The number of its link.
     pub link: usize,
     /// The interface's address on the link.
     pub address: Address,
@@ -27,7 +27,7 @@ pub enum Seat {
     Link(usize),
     /// With a router, as its own.
     Own {
-        /// The router.
+        /// The number of the router.
         router: usize,
         /// The cost at which the router has the prefix, 1 to 15.
         cost: u8,
@@ -77,7 +77,7 @@ impl Seat {
 /// A place of a prefix. Prefixes are numbered from 0 in the order of their first place.
 #[derive(Clone, Copy, Debug, PartialEq, Eq)]
 pub struct Place {
-    /// The prefix.
+    /// The number of the prefix.
     pub prefix: usize,
     /// Where it stands.
     pub seat: Seat,

@@ -122,7 +122,7 @@ fn add_seat(
     Ok(())
 }
 
-/// Where the first place of a prefix stands in the text that meets an earlier one.
+/// Where in the text the first place stands that meets an earlier one of its prefix.
 fn first_duplicate(
     alloc: Global,
     interfaces: &[DraftInterface],
@@ -259,7 +259,7 @@ fn expect_none(code: PlanCode, found: Option<At>) -> Result<(), ReadError>
     }
 }
 
-/// Whether nothing in the draft clashes with something earlier.
+/// The first fault that the second passes find, if any.
 #[tactic(auto, unfolding(crate::specs::Passes::second_passes))]
 pub(crate) fn check_passes(alloc: Global, draft: &Draft) -> Result<(), ReadError>
     ensures { Gives (λ done. done) result (second_passes (sketch draft.now)) }

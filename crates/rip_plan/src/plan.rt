@@ -196,7 +196,7 @@ impl Plan {
         self.places.len()
     }
 
-    /// The name of a router.
+    /// The name of the router with this number.
     pub fn router_name(&self, router: usize) -> &str
         requires { router < length self.now.routers }
         ensures { IsRouterName self.now router result.now }
@@ -204,7 +204,7 @@ impl Plan {
         self.routers[router].as_str()
     }
 
-    /// The name of a link.
+    /// The name of the link with this number.
     pub fn link_name(&self, link: usize) -> &str
         requires { link < length self.now.links }
         ensures { IsLinkName self.now link result.now }
@@ -212,7 +212,7 @@ impl Plan {
         self.links[link].as_str()
     }
 
-    /// A prefix.
+    /// The prefix with this number.
     pub fn prefix(&self, k: usize) -> Prefix
         requires { k < length self.now.prefixes }
         ensures { IsPrefix self.now k result }
@@ -220,7 +220,7 @@ impl Plan {
         self.prefixes[k]
     }
 
-    /// An interface.
+    /// The interface with this number.
     pub fn interface(&self, i: usize) -> Interface
         requires { i < length self.now.interfaces }
         ensures exact { slice_get self.now.interfaces i ≡ Some result }
@@ -240,7 +240,7 @@ impl Plan {
         self.also[i].as_slice()
     }
 
-    /// A place of a prefix.
+    /// The place with this number.
     pub fn place(&self, k: usize) -> Place
         requires { k < length self.now.places }
         ensures { IsPlace self.now k result.prefix result.seat }

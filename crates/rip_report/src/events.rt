@@ -1,4 +1,4 @@
-//! Reports on a log that is read to its end: what the commands share that leave out what is bad or refused.
+//! Reports on a log that is read to its end: what `heard` and the commands with `--anyway` share.
 
 ghost use Rattle.std.specs.Prelude.{◌≡◌, ◌≢◌, [], ℕ, Err, IfOk, List, Some};
 ghost use Rattle.rip_plan.specs.Network.{Network};
@@ -76,8 +76,8 @@ fn report_to<C: EventReport<L>, L: Listener, R: Source, K: Sink, T: MetricTable>
     }
 }
 
-/// Writes the report on a log by its plan, for a listener that has heard nothing. The source comes back.
-/// The hasher is for the prefixes, which strangers choose.
+/// Writes the report on a log by its plan, for a listener that has heard nothing. The source comes
+/// back. The log chooses the prefixes, so the hasher should be seeded at random.
 pub(crate) fn report_events<
     C: EventReport<L>,
     L: Listener,

@@ -199,7 +199,7 @@ pub fn run_expect<K: Sink>(alloc: Global, plan: &[u8], out: &mut K) -> Result<St
     // The whole text went out, or a beginning where the sink failed, or nothing.
     ensures prints { Prints K.taken K.broken out.old out.new result (ExpectText plan.now) }
     ensures read { result ≢ Err RunError.Read }
-    // Bytes that are no text of a plan do not answer Memory.
+    // Too many bytes, or bytes that are not UTF-8, never give Memory.
     ensures no_text { IsNoText plan.now → result ≢ Err RunError.Memory }
 {
     let plan = match Plan::read(alloc, plan) {

@@ -218,12 +218,13 @@ impl Report for Explain {
     }
 }
 
-/// Prints the verdict on a log and what it comes from, for the plan that the bytes of a TOML document
-/// are, or what refuses the plan or the log. Under a settled network's line are the planned prefixes that
-/// its routers cannot reach; under that of a place that does not hold, what the router shows, its route,
-/// its direct cost, each neighbour's offer, and the least metric of the plan; under that of a trouble,
-/// what was heard or shown there. With `all` each place that does not hold is told of, or each trouble of
-/// the kind of the first. The source comes back. The hasher is for the prefixes, which strangers choose.
+/// Prints the verdict on a log and what it comes from, by the plan in a TOML document, or why the plan
+/// or the log is refused. Under a settled network's line are the planned prefixes that its routers
+/// cannot reach; under that of a place that does not hold, what the router shows, its route, its direct
+/// cost, each neighbour's offer, and the least metric of the plan; under that of a trouble, what was
+/// heard or shown there. With `all` each place that does not hold is told of, or each trouble of the
+/// kind of the first. The source comes back. The log chooses the prefixes, so the hasher should be
+/// seeded at random.
 pub fn run_explain<R: Source, K: Sink, S: BuildHasher + Drop>(
     alloc: Global,
     plan: &[u8],
@@ -254,14 +255,14 @@ pub fn run_explain<R: Source, K: Sink, S: BuildHasher + Drop>(
         (ReportText (λ n s. ExplainText n s all) plan.now text) }
     // What is printed of a table comes only at the source's end, and Read only where it has failed.
     ensures reads { Reads R.broken R.at_end log result.0 result.1 }
-    // Some bytes were given, and where those to come are modelled, they are the first of these.
+    // The bytes given, perhaps none, are the first of those to come, where these are modelled.
     ensures went { Went R.given R.coming R.at_end log result.0 }
     ensures to_come { (text : List ℕ) → R.coming log ≡ Some text →
         IsGiven R.given R.at_end log result.0 text }
-    // If the plan is refused, the log is not touched.
+    // If the plan is refused, the log is not touched, and the error is not Read.
     ensures untouched { (e : PlanError) → PlanFault plan.now e →
         (result.0 ≡ log) × (result.1 ≢ Err RunError.Read) }
-    // Bytes that are no text of a plan do not answer Memory.
+    // Too many bytes, or bytes that are not UTF-8, never give Memory.
     ensures no_text { IsNoText plan.now → result.1 ≢ Err RunError.Memory }
 {
     run_report(alloc, &Explain { all }, plan, log, out, hasher)

@@ -153,10 +153,10 @@ pub fn run_heard<R: Source, K: Sink, S: BuildHasher + Drop>(
     ensures went { Went R.given R.coming R.at_end log result.0 }
     ensures to_come { (text : List ℕ) → R.coming log ≡ Some text →
         IsGiven R.given R.at_end log result.0 text }
-    // If the plan is refused, the log is not touched.
+    // If the plan is refused, the log is not touched, and the error is not Read.
     ensures untouched { (e : PlanError) → PlanFault plan.now e →
         (result.0 ≡ log) × (result.1 ≢ Err RunError.Read) }
-    // Bytes that are no text of a plan do not answer Memory.
+    // Too many bytes, or bytes that are not UTF-8, never give Memory.
     ensures no_text { IsNoText plan.now → result.1 ≢ Err RunError.Memory }
 {
     let plan = match Plan::read(alloc, plan) {

@@ -244,7 +244,7 @@ pub fn run_plan<K: Sink>(alloc: Global, plan: &[u8], out: &mut K) -> Result<Stat
     // The whole text went out, or a beginning where the sink failed, or nothing.
     ensures prints { Prints K.taken K.broken out.old out.new result (PlanText plan.now) }
     ensures read { result ≢ Err RunError.Read }
-    // Bytes that are no text of a plan do not answer Memory.
+    // Too many bytes, or bytes that are not UTF-8, never give Memory.
     ensures no_text { IsNoText plan.now → result ≢ Err RunError.Memory }
 {
     match Plan::read(alloc, plan) {

@@ -88,8 +88,8 @@ fn report_log<C: Report, R: Source, K: Sink, T: MetricTable>(
     }
 }
 
-/// Writes the report on a log for the plan that the bytes of a TOML document are, or what refuses
-/// the plan or the log. The source comes back. The hasher is for the prefixes, which strangers choose.
+/// Writes the report on a log by the plan in a TOML document, or why the plan or the log is refused.
+/// The source comes back. The log chooses the prefixes, so the hasher should be seeded at random.
 pub(crate) fn run_report<C: Report, R: Source, K: Sink, S: BuildHasher + Drop>(
     alloc: Global,
     command: &C,
@@ -104,7 +104,7 @@ pub(crate) fn run_report<C: Report, R: Source, K: Sink, S: BuildHasher + Drop>(
         (ReportText (C.is_text command.now) plan.now text) }
     // What is printed of a table comes only at the source's end, and Read only where it has failed.
     ensures reads { Reads R.broken R.at_end log result.0 result.1 }
-    // Some bytes were given, and where those to come are modelled, they are the first of these.
+    // The bytes given, perhaps none, are the first of those to come, where these are modelled.
     ensures went { Went R.given R.coming R.at_end log result.0 }
     ensures to_come { (text : List ℕ) → R.coming log ≡ Some text →
         IsGiven R.given R.at_end log result.0 text }
@@ -115,10 +115,10 @@ pub(crate) fn run_report<C: Report, R: Source, K: Sink, S: BuildHasher + Drop>(
     ensures meaning { (text : List ℕ) → IsGiven R.given R.at_end log result.0 text →
         (n : Network) (s : State) → IsAccepted plan.now text n s →
         IfOk result.1 (C.means command.now n s) }
-    // If the plan is refused, the log is not touched.
+    // If the plan is refused, the log is not touched, and the error is not Read.
     ensures untouched { (e : PlanError) → PlanFault plan.now e →
         (result.0 ≡ log) × (result.1 ≢ Err RunError.Read) }
-    // Bytes that are no text of a plan do not answer Memory.
+    // Too many bytes, or bytes that are not UTF-8, never give Memory.
     ensures no_text { IsNoText plan.now → result.1 ≢ Err RunError.Memory }
 {
     one_plan();

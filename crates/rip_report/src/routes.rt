@@ -289,9 +289,9 @@ impl EventReport<Counts> for Routes {
     }
 }
 
-/// Prints the routes that a log shows, for the plan that the bytes of a TOML document are, or what
-/// refuses the plan or the log. The source comes back. The hasher is for the prefixes, which strangers
-/// choose. It allocates a byte for each router and planned prefix, beside what `table` allocates.
+/// Prints the routes that a log shows, by the plan in a TOML document, or why the plan or the log is
+/// refused. The source comes back. The log chooses the prefixes, so the hasher should be seeded at
+/// random. It allocates a byte for each router and planned prefix, beside what `table` allocates.
 pub fn run_routes<R: Source, K: Sink, S: BuildHasher + Drop>(
     alloc: Global,
     plan: &[u8],
@@ -305,7 +305,7 @@ pub fn run_routes<R: Source, K: Sink, S: BuildHasher + Drop>(
         (ReportText RoutesText plan.now text) }
     // What is printed of a table comes only at the source's end, and Read only where it has failed.
     ensures reads { Reads R.broken R.at_end log result.0 result.1 }
-    // Some bytes were given, and where those to come are modelled, they are the first of these.
+    // The bytes given, perhaps none, are the first of those to come, where these are modelled.
     ensures went { Went R.given R.coming R.at_end log result.0 }
     ensures to_come { (text : List ℕ) → R.coming log ≡ Some text →
         IsGiven R.given R.at_end log result.0 text }
@@ -313,19 +313,19 @@ pub fn run_routes<R: Source, K: Sink, S: BuildHasher + Drop>(
     ensures told { (text : List ℕ) → IsGiven R.given R.at_end log result.0 text →
         (n : Network) (s : State) → IsAccepted plan.now text n s →
         IfOk result.1 (WentOut (RoutesText n s) (K.taken out.old) (K.taken out.new)) }
-    // If the plan is refused, the log is not touched.
+    // If the plan is refused, the log is not touched, and the error is not Read.
     ensures untouched { (e : PlanError) → PlanFault plan.now e →
         (result.0 ≡ log) × (result.1 ≢ Err RunError.Read) }
-    // Bytes that are no text of a plan do not answer Memory.
+    // Too many bytes, or bytes that are not UTF-8, never give Memory.
     ensures no_text { IsNoText plan.now → result.1 ≢ Err RunError.Memory }
 {
     run_report(alloc, &Routes, plan, log, out, hasher)
 }
 
-/// Prints the routes of what is not refused in a log, good or bad, with how much is left out, for the plan
-/// that the bytes of a TOML document are; or what refuses the plan. The log is read to its end, whatever
-/// its lines say, up to line 1,000,001. The source comes back. The hasher is for the prefixes, which
-/// strangers choose. `Done` where nothing is left out, and else `Refused`.
+/// Prints the routes of what is not refused in a log, good or bad, with how much is left out, for the
+/// plan that the bytes of a TOML document are; or what refuses the plan. The log is read to its end,
+/// whatever its lines say, up to line 1,000,001. The source comes back. The log chooses the prefixes,
+/// so the hasher should be seeded at random. `Done` where nothing is left out, and else `Refused`.
 pub fn run_routes_anyway<R: Source, K: Sink, S: BuildHasher + Drop>(
     alloc: Global,
     plan: &[u8],
@@ -348,10 +348,10 @@ pub fn run_routes_anyway<R: Source, K: Sink, S: BuildHasher + Drop>(
         (n : Network) (s : State) → IsAccepted plan.now text n s →
         IfOk result.1
         (WentOut (RoutesText n s) (K.taken out.old) (K.taken out.new)) }
-    // If the plan is refused, the log is not touched.
+    // If the plan is refused, the log is not touched, and the error is not Read.
     ensures untouched { (e : PlanError) → PlanFault plan.now e →
         (result.0 ≡ log) × (result.1 ≢ Err RunError.Read) }
-    // Bytes that are no text of a plan do not answer Memory.
+    // Too many bytes, or bytes that are not UTF-8, never give Memory.
     ensures no_text { IsNoText plan.now → result.1 ≢ Err RunError.Memory }
 {
     run_counted(alloc, &Routes, plan, log, out, hasher)

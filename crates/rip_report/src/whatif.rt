@@ -384,10 +384,10 @@ fn write_failures<K: Sink>(
     listing.finish(out)
 }
 
-/// Prints what the failure of each link and of each router of the plan would cost that the bytes of a
-/// TOML document are, or their first fault: how many pairs of a router and a prefix are lost, and how
-/// many go a longer way; with `all` each pair that is lost, and each prefix that is gone. It takes two
-/// bytes of memory for each router and prefix, and one for each prefix, beside the plan.
+/// Prints what the failure of each link and router would cost in the plan that a TOML document
+/// describes, or the document's first fault: how many pairs of a router and a prefix are lost, and how
+/// many go a longer way; with `all` each pair that is lost, and each prefix that is gone. Beside the
+/// plan it allocates two bytes for each router and prefix, and one for each prefix.
 pub fn run_whatif<K: Sink>(
     alloc: Global,
     plan: &[u8],
@@ -397,7 +397,7 @@ pub fn run_whatif<K: Sink>(
     // The whole text went out, or a beginning where the sink failed, or nothing.
     ensures prints { Prints K.taken K.broken out.old out.new result (WhatifText all plan.now) }
     ensures read { result ≢ Err RunError.Read }
-    // Bytes that are no text of a plan do not answer Memory.
+    // Too many bytes, or bytes that are not UTF-8, never give Memory.
     ensures no_text { IsNoText plan.now → result ≢ Err RunError.Memory }
 {
     let plan = match Plan::read(alloc, plan) {

@@ -160,7 +160,8 @@ is_memory other = false
 abbrev pub Joins : Network → State → Capture → State → Result (Unit {0}) CollectCause → Type 0
 Joins n old c new (Ok u) = joined_capture n old c ≡ Ok new
 Joins n old c new (Err cause) =
-    (new ≡ old) × IfElse (is_memory cause) (MayAllocateFor n old c) (joined_capture n old c ≡ Err cause)
+    (new ≡ old)
+    × IfElse (is_memory cause) (MayAllocateFor n old c) (joined_capture n old c ≡ Err cause)
 
 -- ---- a log
 

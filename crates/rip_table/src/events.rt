@@ -39,7 +39,7 @@ pub struct Refused<'a> {
 pub struct Bad<'a> {
     /// Why it is bad; at line 1,000,001 `TooManyLines`, which ends the reading.
     pub code: LogCode,
-    /// Of `LongDatagram` and `Wire` who sent it.
+    /// For `LongDatagram` and `Wire`, who sent it.
     pub origin: Option<Sender<'a>>,
     /// The number of the interface that has the origin, if one is known.
     pub interface: Option<usize>,
@@ -61,8 +61,8 @@ pub enum Event<'a> {
 }
 
 impl Refused<'_> {
-    /// After `NextHop` the next hop of the first entry of its prefix that is below 16 and by another next
-    /// hop than the interface may tell; it is sought in the response again.
+    /// For `NextHop`, the next hop of the first entry of its prefix whose metric is below 16 and whose
+    /// next hop the interface may not tell; the response is searched for it again.
     pub fn next_hop(&self, plan: &Plan) -> Option<Address>
         requires { self.now.interface < length plan.now.interfaces }
         ensures { result ≡ hop_of plan.now self.now.interface self.now.error

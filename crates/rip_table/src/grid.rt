@@ -118,8 +118,8 @@ impl<S: BuildHasher> MetricTable for GridTable<S> {
 impl<S: BuildHasher + Drop> GridTable<S> {
     ghost use Rattle.rip_table.specs.declared.error.TableError.TheVariants.{Memory};
 
-    /// The table of a plan in which nothing was heard. It finds prefixes by hashing with `hasher`;
-    /// strangers choose them, so a program hands in one that is seeded at random.
+    /// The table of a plan in which nothing was heard. It finds prefixes by hashing with `hasher`; the
+    /// log chooses them, so a program hands in one that is seeded at random.
     pub fn with_hasher(alloc: Global, plan: &Plan, hasher: S) -> Result<GridTable<S>, TableError>
         ensures state { IfOk result (λ table.
             ⟦<GridTable<S> as MetricTable>⟧.state table ≡ new_state plan.now) }

@@ -31,8 +31,9 @@ fn hear_record<T: MetricTable, L: Listener>(
     requires fits { Fits plan.now (T.state table.old) }
     requires suits { L.suits plan.now listener.old }
     requires room { HasRoom (L.holds listener.old) }
-    ensures hears { Hears L.may_allocate plan.now (T.state table.old) (captured (capture_of found.now))
-        found.now.line (T.state table.new) (L.holds listener.old) (L.holds listener.new) result }
+    ensures hears { Hears L.may_allocate plan.now (T.state table.old)
+        (captured (capture_of found.now)) found.now.line (T.state table.new)
+        (L.holds listener.old) (L.holds listener.new) result }
     ensures fits { Fits plan.now (T.state table.new) }
     ensures suits { L.suits plan.now listener.new }
 {
@@ -69,8 +70,8 @@ fn hear_bad<L: Listener>(
     requires suits { L.suits plan.now listener.old }
     requires room { HasRoom (L.holds listener.old) }
     ensures hears { (s : State) →
-        Hears L.may_allocate plan.now s (bad_line line.now.code (option_map origin_lent line.now.origin))
-        line.now.line s (L.holds listener.old) (L.holds listener.new) result }
+        Hears L.may_allocate plan.now s
+        (bad_line line.now.code (option_map origin_lent line.now.origin)) line.now.line s (L.holds listener.old) (L.holds listener.new) result }
     ensures suits { L.suits plan.now listener.new }
 {
     let event = match &line.origin {

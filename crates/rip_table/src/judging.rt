@@ -65,18 +65,18 @@ fn earlier(entries: &[Entry], prefix: Prefix) -> Option<Metric>
     None
 }
 
-/// What is known of the prefix of an entry: the metric that its interface showed, if any, or that
-/// an entry before gives it, where one may have the prefix.
-fn known(shown: Option<Metric>, is_noted: bool, entries: &[Entry], j: usize) -> Option<Metric>
+/// The metric that is known of an entry's prefix: what its interface showed, if anything, or else what
+/// an earlier entry gives, searched for only where one may have the prefix.
+fn known(shown: Option<Metric>, may_repeat: bool, entries: &[Entry], j: usize) -> Option<Metric>
     requires within { j < length entries.now }
-    requires new { is_noted ≡ false → (e : Entry) → slice_get entries.now j ≡ Some e →
+    requires new { may_repeat ≡ false → (e : Entry) → slice_get entries.now j ≡ Some e →
         metric_among e.prefix (take j entries.now) ≡ None }
     ensures { (e : Entry) → slice_get entries.now j ≡ Some e →
         result ≡ option_or shown (metric_among e.prefix (take j entries.now)) }
 {
     match shown {
         Some(metric) => Some(metric),
-        None if is_noted => {
+        None if may_repeat => {
             let entry = entries[j];
             earlier(&entries[..j], entry.prefix)
         }
@@ -189,7 +189,8 @@ pub(crate) fn check<T: KnownMetrics>(
         let number = numbers[j];
         let shown = shown(table, interface, number);
         brings |= shown.is_none();
-        let known = known(shown, noted.note(number), entries, j);
+        let may_repeat = noted.note(number);
+        let known = known(shown, may_repeat, entries, j);
         count = count_with(count, number, known.is_some());
         judge(plan, interface, &entry, known, count)?;
     }

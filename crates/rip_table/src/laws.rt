@@ -57,8 +57,8 @@ pub fn joined_responses()
         (joined_entries n i old front ≡ Ok new) ↔ AreJoined n i old front new }
 {}
 
-/// What a log makes of a table is one table: two that are a join of the same are the same, the order
-/// of their prefixes included.
+/// A log joined into a table gives one table: two joins of the same log into the same table are equal,
+/// the order of prefixes included.
 pub fn one_join()
     ensures { (n : Network) (old s t : State) (log : List Numbered) →
         IsState s → IsState t → IsJoin n old log s → IsJoin n old log t → s ≡ t }

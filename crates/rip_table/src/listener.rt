@@ -11,10 +11,10 @@ use std::alloc::AllocError;
 
 /// Who is told what becomes of the lines of a log.
 pub trait Listener {
-    // It holds what is to be held of these events, which it has heard.
+    // It has heard these events, and holds what they come to.
     ghost holds: { Self → List EventAt → Type 0 };
 
-    // It is for a plan.
+    // It fits a plan.
     ghost suits: { Network → Self → Type 0 };
 
     // It may be refused memory at such an event.

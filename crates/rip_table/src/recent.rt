@@ -3,14 +3,15 @@
 ghost use Rattle.std.specs.Prelude.{◌≡◌, ◌<◌, IfSome, true, length};
 ghost use Rattle.rip_plan.specs.Network.{found_at};
 ghost use Rattle.rip_plan.specs.Relations.{IsAt};
+ghost use Rattle.rip_table.specs.Guesses.{kept_number};
 
-use crate::guesses::{SLOTS, guess, keep};
+use crate::guesses::{SLOTS, guess, remember};
 use rip_plan::Plan;
 use rip_plan::laws::senders;
 use rip_wire::Address;
 
-/// The interfaces that were found last. A sender is looked at there first, and looked up only where it is
-/// another: the senders of a log are few, and come again and again.
+/// The interfaces that were found last. A sender is first compared with the interface in the slot of its
+/// address, and looked up in the plan only where that is not its own.
 #[derive(Drop)]
 pub(crate) struct Recent {
     slots: [u16; SLOTS],
@@ -36,6 +37,7 @@ impl Recent {
     pub fn find(&mut self, plan: &Plan, link_name: &str, address: Address) -> Option<usize>
         ensures below { IfSome result (λ i. i < length plan.now.interfaces) }
         ensures value { result ≡ found_at plan.now link_name.now address }
+        ensures kept { IfSome result (λ i. kept_number self.new.slots address ≡ i) }
     {
         plan.lawful();
         senders();
@@ -44,7 +46,7 @@ impl Recent {
             return Some(likely);
         }
         let i = plan.find(link_name, address)?;
-        keep(&mut self.slots, address.get(), i);
+        remember(&mut self.slots, address.get(), i);
         Some(i)
     }
 }

@@ -28,7 +28,7 @@ use rip_wire::Address;
 use std::alloc::{AllocError, Global};
 use std::hash::BuildHasher;
 
-/// The codes of lines that say nothing of where they came from: 1 to 5, and 8.
+/// How many codes say nothing of where a line came from: 1 to 5, and 8.
 const PLAIN_CODES: usize = 6;
 
 /// Who spoke in a log: how many responses came to what, what each interface and each stranger sent,
@@ -102,7 +102,7 @@ impl<S: BuildHasher + Drop> Tallies<S> {
         self.interfaces[interface].add(line, sent);
     }
 
-    /// A response of an interface that was refused, on a line after others, one of them such too.
+    /// Counts one more refused response of an interface that had one refused on an earlier line.
     fn add_refused_again(&mut self, interface: usize, line: u32)
         requires interface { interface < interfaces_of self.old }
         requires room { HasRoom self.old }

@@ -15,7 +15,7 @@ use std::random::RandomSource;
 use std::rt::Files;
 use std::{env, fs, io};
 
-/// A word that stands in its place.
+/// A positional argument.
 fn word<'a>(alloc: Global, name: &'a str, help: &'a str, is_required: bool) -> Arg<'a> {
     Arg::new(alloc, name).help(help).required(is_required)
 }
@@ -136,7 +136,7 @@ fn commands<'a>(alloc: Global) -> Result<Command<'a>, AllocError> {
 /// The outcome of a run, as an exit status. A failure is told on standard error.
 fn end_run(rt: &impl Eprint, outcome: Result<Status, RunError>) -> u8 {
     if let Err(error) = &outcome {
-        // A standard error that fails changes no status.
+        // A failed write to standard error does not change the status.
         let _ = rt.eprintln(fault_line(error));
     }
     exit_code(&outcome)
@@ -221,7 +221,7 @@ where
 {
     let input = rt.reader();
     if input.is_terminal() {
-        // A standard error that fails changes no status.
+        // A failed write to standard error does not change the status.
         let _ = rt.eprintln("reading the log from standard input");
     }
     input

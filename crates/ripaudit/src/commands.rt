@@ -91,8 +91,8 @@ pub(crate) fn plan_command(word: &str, all: bool) -> Option<PlanCommand>
     }
 }
 
-/// The command of that name that reads a log, by the flags that are given: whether all places are asked
-/// for, and whether what is not refused is.
+/// The command of that name that reads a log, by its flags: `all` for all places, `anyway` for what is
+/// not refused.
 pub(crate) fn read_command(word: &str, all: bool, anyway: bool) -> Option<ReadCommand>
     ensures audit { (result ≡ Some (ReadCommand.Judged (LogCommand.Audit all)))
         ↔ (word.now ≡ codes "audit") }
@@ -183,7 +183,7 @@ pub(crate) fn run_on_log<R: Source, K: Sink, S: BuildHasher + Drop>(
         Prints K.taken K.broken out.old out.new result.1 (LogCommandText command plan.now text) }
     ensures reads { Reads R.broken R.at_end log result.0 result.1 }
     ensures went { Went R.given R.coming R.at_end log result.0 }
-    // If the plan is refused, the log is not touched.
+    // If the plan is refused, the log is not touched, and the error is not Read.
     ensures untouched { (e : PlanError) → PlanFault plan.now e →
         (result.0 ≡ log) × (result.1 ≢ Err RunError.Read) }
     // `audit` answers Settled exactly where the log shows right tables, and then packets arrive.
@@ -239,10 +239,10 @@ pub(crate) fn run_anyway<R: Source, K: Sink, S: BuildHasher + Drop>(
     ensures went { Went R.given R.coming R.at_end log result.0 }
     ensures to_come { (text : List ℕ) → R.coming log ≡ Some text →
         IsGiven R.given R.at_end log result.0 text }
-    // If the plan is refused, the log is not touched.
+    // If the plan is refused, the log is not touched, and the error is not Read.
     ensures untouched { (e : PlanError) → PlanFault plan.now e →
         (result.0 ≡ log) × (result.1 ≢ Err RunError.Read) }
-    // Bytes that are no text of a plan do not answer Memory.
+    // Too many bytes, or bytes that are not UTF-8, never give Memory.
     ensures no_text { IsNoText plan.now → result.1 ≢ Err RunError.Memory }
 {
     match command {

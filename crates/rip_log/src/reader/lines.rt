@@ -39,7 +39,7 @@ pub struct BadLine<'a> {
     pub line: u32,
     /// Why it is bad: one of `LongLine`, `Fields`, `LinkName`, `Sender`, `Hex`, `LongDatagram` and `Wire`.
     pub code: LogCode,
-    /// Of `LongDatagram` and `Wire` where its datagram came from.
+    /// For `LongDatagram` and `Wire`, where its datagram came from.
     pub origin: Option<Origin<'a>>,
 }
 

@@ -13,7 +13,7 @@ use rip_plan::{Interface, Plan};
 use rip_table::MetricTable;
 use rip_wire::Metric;
 
-/// Adds a metric that is shown, or that nothing is.
+/// Adds the metric that is shown, or `nothing`.
 fn push_shown(text: &mut Line, shown: Option<Metric>)
     requires { length text.old + NUMBER ≤ LINE_BYTES }
     ensures text { text.new ≡ text.old ++ shown_word shown }
@@ -74,7 +74,7 @@ pub(crate) fn direct_text(cost: u8, is_kept: bool) -> Line
     text
 }
 
-/// Adds the sum that a router offers, or that it shows nothing.
+/// Adds the sum that a router offers, or `nothing`.
 fn push_sum(text: &mut Line, cost: u8, shown: Option<Metric>, value: Metric)
     requires { length text.old + SUM ≤ LINE_BYTES }
     ensures text { text.new ≡ text.old ++ sum_part cost shown value }

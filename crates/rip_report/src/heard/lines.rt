@@ -83,7 +83,7 @@ pub(super) fn joined_text(plan: &Plan, interface: Interface, joined: Lines) -> L
     text
 }
 
-/// The line of responses that are refused, up to why the first is.
+/// The line of an interface's refused responses, up to the reason for the first.
 #[tactic(auto, unfolding(crate::specs::HeardText::refused_front))]
 pub(super) fn refused_text(tally: &InterfaceTally) -> Line
     ensures { result ≡ refused_front tally.now }

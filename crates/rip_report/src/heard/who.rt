@@ -53,7 +53,7 @@ fn is_planned(plan: &Plan, name: &str) -> bool
     false
 }
 
-/// Adds who has the address of a stranger, after that its link is not in the plan.
+/// Adds who has a stranger's address, after a note where its link is not in the plan.
 pub(super) fn push_stranger_who(text: &mut Line, plan: &Plan, link: &str, address: Address)
     requires { length text.old + STRANGER_WHO ≤ LINE_BYTES }
     ensures text { (who : List ℕ) × StrangerWho plan.now (origin_of link.now address) who

@@ -1,20 +1,23 @@
 //! The numbers of the prefixes of a response.
 
-ghost use Rattle.std.specs.Prelude.{◌≡◌, ◌≤◌, length};
+ghost use Rattle.std.specs.Prelude.{◌≡◌, ◌≤◌, IfSome, length};
 ghost use Rattle.indexmap.specs.IndexMap.{index_map_len};
 ghost use Rattle.rip_plan.specs.Network.{number_of_prefix};
+ghost use Rattle.rip_table.specs.Guesses.{kept_number, key};
 ghost use Rattle.rip_table.specs.Numbers.{AreNumbers};
 ghost use Rattle.rip_table.specs.Rows.{AreDifferent, heads, rows_of};
 
 use super::rows::Rows;
-use crate::guesses::{SLOTS, guess, keep};
+use crate::guesses::{SLOTS, guess, remember};
 use crate::judging::Numbers;
 use crate::limits::MOST_PREFIXES;
 use rip_wire::{Entry, MOST_ENTRIES, Prefix};
 use std::hash::BuildHasher;
 
-/// What a prefix is guessed by: prefixes of one network differ by their length.
-fn key_of(prefix: Prefix) -> u32 {
+/// The key of a prefix among the guesses.
+fn key_of(prefix: Prefix) -> u32
+    ensures { result ≡ key prefix }
+{
     prefix
         .network()
         .get()
@@ -28,6 +31,7 @@ fn number_of<S: BuildHasher>(rows: &Rows<S>, guesses: &mut [u16], prefix: Prefix
     requires few { index_map_len rows.now ≤ MOST_PREFIXES }
     requires slots { length guesses.old ≡ SLOTS }
     ensures number { result ≡ number_of_prefix prefix (heads (rows_of rows.now.entries)) }
+    ensures kept { IfSome result (λ k. kept_number guesses.new (key prefix) ≡ k) }
     ensures slots { length guesses.new ≡ length guesses.old }
 {
     let key = key_of(prefix);
@@ -39,7 +43,7 @@ fn number_of<S: BuildHasher>(rows: &Rows<S>, guesses: &mut [u16], prefix: Prefix
     }
     let number = rows.get_index_of(&prefix);
     if let Some(k) = number {
-        keep(guesses, key, k);
+        remember(guesses, key, k);
     }
     number
 }

@@ -53,7 +53,7 @@ pub struct InterfaceTally {
 }
 
 impl InterfaceTally {
-    /// Of an interface that was not heard.
+    /// Of an interface that sent nothing.
     pub(crate) const NONE: InterfaceTally = InterfaceTally {
         joined: Lines::NONE,
         refused: Lines::NONE,

@@ -15,7 +15,7 @@ use rip_wire::Address;
 use std::alloc::{AllocError, Global};
 use std::hash::BuildHasher;
 
-/// The strangers that are told.
+/// How many strangers are told at most.
 pub const MOST_STRANGERS: usize = 256;
 
 /// The name of a link, and an address that spoke there and that no interface has.

@@ -12,7 +12,7 @@ use std::test::Fail;
 
 /// Fills both tables, where there is memory, and judges them when none is left.
 #[test]
-fn judge_takes_no_memory(rt: HostRuntime) -> Result<(), Fail> {
+fn judge_allocates_nothing(rt: HostRuntime) -> Result<(), Fail> {
     let alloc = rt.alloc();
     let Ok(plan) = Plan::read(alloc, TRIANGLE.as_bytes()) else {
         return Ok(());
@@ -43,7 +43,7 @@ fn judge_takes_no_memory(rt: HostRuntime) -> Result<(), Fail> {
 
 /// Finds the right routes where there is memory for a byte for each router and prefix, and else says so.
 #[test]
-fn want_of_memory_finds_no_routes(rt: HostRuntime) -> Result<(), Fail> {
+fn refused_memory_finds_no_routes(rt: HostRuntime) -> Result<(), Fail> {
     let Ok(plan) = Plan::read(rt.alloc(), TRIANGLE.as_bytes()) else {
         return Ok(());
     };

@@ -23,7 +23,7 @@ fn new_hands_back(rt: HostRuntime) -> Result<(), Fail> {
 }
 
 #[test]
-fn next_takes_no_memory(rt: HostRuntime) -> Result<(), Fail> {
+fn next_allocates_nothing(rt: HostRuntime) -> Result<(), Fail> {
     let source = FromRead::new(Pieces::new(SETTLED.as_bytes(), 7));
     if let Ok(mut reader) = LogReader::new(rt.alloc(), source) {
         expect_settled(&rt, &mut reader);

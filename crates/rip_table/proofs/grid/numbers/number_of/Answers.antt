@@ -17,8 +17,8 @@ returns-then-eq-clause-number g c =
     let at : slice_get (heads (rows_of es)) c.guess-likely.result ≡ Some there = head-at es c.guess-likely.result (there, c.in-Some.field-0-1.now) (sym c.in-Some.ensures.entry) in
     sym (number-listed (heads (rows_of es)) c.guess-likely.result c.args.prefix c.requires.differ (at ∙ ap (λ (p : Block). Some p) same))
 
-pub keep-requires-clause-few : goal.keep-requires-clause-few
-keep-requires-clause-few g c =
+pub remember-requires-clause-few : goal.remember-requires-clause-few
+remember-requires-clause-few g c =
     let ps = heads (rows_of c.args.rows.now.entries) in
     let p = c.args.prefix in
     let found : number_of_prefix p ps ≡ Some c.in-Some-number.k = sym (index-number p c.args.rows.now.entries) ∙ sym c.get_index_of-number.ensures.index ∙ c.in-Some-number.is in

@@ -1,6 +1,6 @@
 use Rattle.std.proofs.Common.{◌≡◌, ◌≤◌, ◌<◌, ℕ, true, length, slice_index}
 use Rattle.rip_log.specs.Fields.{is_blank}
-use Rattle.rip_log.proofs.fields.trim_end.Given as goal
+use Rattle.rip_log.proofs.fields.end_of_rest.Given as goal
 
 abbrev pub invariant-loop-to : goal.invariant-loop-to
 invariant-loop-to l = record {
