@@ -239,7 +239,7 @@ fn write_plan<K: Sink>(plan: &Plan, out: &mut K) -> Result<(), Failed>
     page.flush(out)
 }
 
-/// Prints the plan that the bytes of a TOML document are, or their first fault.
+/// Prints the plan in a TOML document, or the document's first fault.
 pub fn run_plan<K: Sink>(alloc: Global, plan: &[u8], out: &mut K) -> Result<Status, RunError>
     // The whole text went out, or a beginning where the sink failed, or nothing.
     ensures prints { Prints K.taken K.broken out.old out.new result (PlanText plan.now) }

@@ -71,7 +71,8 @@ fn hear_bad<L: Listener>(
     requires room { HasRoom (L.holds listener.old) }
     ensures hears { (s : State) →
         Hears L.may_allocate plan.now s
-        (bad_line line.now.code (option_map origin_lent line.now.origin)) line.now.line s (L.holds listener.old) (L.holds listener.new) result }
+        (bad_line line.now.code (option_map origin_lent line.now.origin))
+        line.now.line s (L.holds listener.old) (L.holds listener.new) result }
     ensures suits { L.suits plan.now listener.new }
 {
     let event = match &line.origin {
@@ -108,7 +109,8 @@ fn hear_line<T: MetricTable, L: Listener>(
     requires suits { L.suits plan.now listener.old }
     requires room { HasRoom (L.holds listener.old) }
     ensures hears { Hears L.may_allocate plan.now (T.state table.old) (said_of line.now)
-        (number_of line.now) (T.state table.new) (L.holds listener.old) (L.holds listener.new) result }
+        (number_of line.now) (T.state table.new)
+        (L.holds listener.old) (L.holds listener.new) result }
     ensures fits { Fits plan.now (T.state table.new) }
     ensures suits { L.suits plan.now listener.new }
 {
