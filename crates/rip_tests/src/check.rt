@@ -3,7 +3,7 @@
 ghost use Rattle.rip_table.specs.State.{Fits};
 ghost use Rattle.rip_check.specs.Expected.{AreExpected};
 
-use crate::examples::{PHANTOM, SETTLED, SLOPE, TRIANGLE};
+use crate::examples::{PHANTOM, SETTLED, SLOPE, TRIANGLE, joined};
 use crate::table::new_grid;
 use rip_check::{
     Expected, Place2, Route, Unclear, Unsettled, Verdict, Way, equation, judge, least_metric,
@@ -88,11 +88,6 @@ d 10.4.0.1 02020000000200000a020000ffff00000000000000000010
 a 10.1.0.2 02020000000200000a020000ffff00000000000000000001
 d 10.4.0.2 02020000000200000a020000ffff00000000000000000001
 ";
-
-/// The text of two parts.
-fn joined(alloc: Global, front: &str, back: &str) -> Result<String, AllocError> {
-    format!(in alloc; "{front}{back}")
-}
 
 pub(crate) fn plan_of(rt: &impl Abort, alloc: Global, text: &str) -> Plan {
     match Plan::read(alloc, text.as_bytes()) {

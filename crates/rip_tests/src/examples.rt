@@ -1,5 +1,14 @@
 //! Plans and logs written out.
 
+use std::alloc::{AllocError, Global};
+
+/// The text of two parts.
+pub(crate) fn joined(alloc: Global, front: &str, back: &str) -> Result<String, AllocError> {
+    let mut text = String::from_str(alloc, front)?;
+    text.push_str(back)?;
+    Ok(text)
+}
+
 /// Three routers in a ring, with a prefix on the link between any two: r1 is on links a and c, r2 on a and
 /// b, r3 on b and c.
 pub(crate) const TRIANGLE: &str = r#"version = 1

@@ -3,8 +3,9 @@
 ghost use Rattle.std.specs.Prelude.{◌≡◌, ◌≤◌, ◌<◌, IfOk, length};
 ghost use Rattle.rip_table.specs.State.{Fits};
 
+use rip_log::{FromRead, LogReader};
 use rip_plan::Plan;
-use rip_table::{GridTable, ListTable, MetricTable, TableError};
+use rip_table::{CollectCause, GridTable, ListTable, MetricTable, TableError, collect};
 use rip_wire::{Address, Entry, MOST_ENTRIES, Metric, Prefix, read, write_response};
 use std::alloc::Global;
 use std::hash::{BuildHasherDefault, FoldHasher};
@@ -149,6 +150,27 @@ pub(crate) fn new_grid(
     GridTable::with_hasher(alloc, plan, BuildHasherDefault::<FoldHasher>::new())
 }
 
+/// Joins a log into a table. Only memory may be refused.
+pub(crate) fn fill<T: MetricTable>(
+    rt: &impl Abort,
+    alloc: Global,
+    plan: &Plan,
+    log: &[u8],
+    table: &mut T,
+) -> Result<(), TableError>
+    requires { Fits plan.now (T.state table.old) }
+    ensures { Fits plan.now (T.state table.new) }
+{
+    let Ok(mut reader) = LogReader::new(alloc, FromRead::new(log)) else {
+        return Err(TableError::Memory);
+    };
+    if let Err(error) = collect(plan, &mut reader, table) {
+        assert_eq!(rt; error.cause, CollectCause::Table(TableError::Memory));
+        return Err(TableError::Memory);
+    }
+    Ok(())
+}
+
 /// The mark of an interface.
 fn is_heard<T: MetricTable>(table: &T, interface: usize) -> bool {
     interface < table.interface_count() && table.heard(interface)
@@ -184,30 +206,39 @@ fn takes<T: MetricTable>(rt: &impl Abort, plan: &Plan, table: &mut T)
     }
 }
 
-/// Refuses responses that are bad, and is left as it was.
+/// The refusal of a prefix of 10.X.0.0/16 whose metric changed.
+fn changed(rt: &impl Abort, x: u8, old: u32, new: u32) -> TableError {
+    TableError::Changed {
+        prefix: prefix(rt, x),
+        old: metric(rt, old),
+        new: metric(rt, new),
+    }
+}
+
+/// Refuses responses that are bad.
 fn refuses<T: MetricTable>(rt: &impl Abort, plan: &Plan, table: &mut T)
     requires { Fits plan.now (T.state table.old) }
     ensures { Fits plan.now (T.state table.new) }
 {
-    let changed = TableError::Changed {
-        prefix: prefix(rt, 2),
-        old: metric(rt, 3),
-        new: metric(rt, 4),
-    };
     let entries = [entry(rt, 4, 1, "0.0.0.0"), entry(rt, 2, 4, "10.1.0.2")];
-    assert_eq!(rt; take(rt, plan, table, 0, &entries), Err(changed));
-    let within = TableError::Changed {
-        prefix: prefix(rt, 50),
-        old: metric(rt, 16),
-        new: metric(rt, 4),
-    };
+    assert_eq!(rt;
+        take(rt, plan, table, 0, &entries),
+        Err(changed(rt, 2, 3, 4))
+    );
     let entries = [entry(rt, 50, 16, "0.0.0.0"), entry(rt, 50, 4, "0.0.0.0")];
-    assert_eq!(rt; take(rt, plan, table, 1, &entries), Err(within));
+    assert_eq!(rt;
+        take(rt, plan, table, 1, &entries),
+        Err(changed(rt, 50, 16, 4))
+    );
     let foreign = TableError::NextHop {
         prefix: prefix(rt, 2),
     };
     let entries = [entry(rt, 5, 1, "10.1.0.2"), entry(rt, 2, 3, "10.1.0.1")];
     assert_eq!(rt; take(rt, plan, table, 2, &entries), Err(foreign));
+}
+
+/// Expects what a table shows after the first responses, where no other has left a trace.
+fn expect_first<T: MetricTable>(rt: &impl Abort, table: &T) {
     assert_eq!(rt; table.prefix_count(), 3);
     assert_eq!(rt;
         (shown(table, 0, 1), shown(table, 1, 1), shown(table, 2, 1)),
@@ -238,6 +269,7 @@ fn takes_and_refuses<T: MetricTable>(rt: &impl Abort, plan: &Plan, table: &mut T
     assert_eq!(rt; (table.interface_count(), table.prefix_count()), (3, 1));
     takes(rt, plan, table);
     refuses(rt, plan, table);
+    expect_first(rt, table);
     passes_request(rt, plan, table);
 }
 

@@ -1,14 +1,33 @@
 //! Judging, and finding the right routes, where memory is refused: `tests/growths` runs
 //! this with each growth refused in turn, and wants the lines that it prints.
 
-use super::joined;
-use crate::examples::{SETTLED, TRIANGLE};
-use crate::table::new_grid;
+ghost use Rattle.rip_table.specs.State.{Fits};
+
+use crate::examples::{SETTLED, TRIANGLE, joined};
+use crate::table::{fill, new_grid};
 use rip_check::{Expected, Verdict, judge};
-use rip_log::{FromRead, LogReader};
 use rip_plan::Plan;
-use rip_table::{ListTable, collect};
+use rip_table::{ListTable, MetricTable};
+use std::alloc::Global;
+use std::process::Abort;
 use std::test::Fail;
+
+/// Judges two tables of the settled log. It says whether there was no memory then.
+fn judge_both<T: MetricTable, U: MetricTable>(
+    rt: &impl Abort,
+    alloc: Global,
+    plan: &Plan,
+    one: &T,
+    other: &U,
+) -> bool
+    requires one { Fits plan.now (T.state one.now) }
+    requires other { Fits plan.now (U.state other.now) }
+{
+    let more = joined(alloc, TRIANGLE, SETTLED);
+    assert_eq!(rt; judge(plan, one), Verdict::Settled);
+    assert_eq!(rt; judge(plan, other), Verdict::Settled);
+    more.is_err()
+}
 
 /// Fills both tables, where there is memory, and judges them when none is left.
 #[test]
@@ -20,22 +39,14 @@ fn judge_allocates_nothing(rt: HostRuntime) -> Result<(), Fail> {
     let (Ok(mut list), Ok(mut grid)) = (ListTable::new(alloc, &plan), new_grid(alloc, &plan)) else {
         return Ok(());
     };
-    let Ok(mut reader) = LogReader::new(alloc, FromRead::new(SETTLED.as_bytes())) else {
-        return Ok(());
-    };
-    let Ok(mut again) = LogReader::new(alloc, FromRead::new(SETTLED.as_bytes())) else {
-        return Ok(());
-    };
-    if collect(&plan, &mut reader, &mut list).is_err() {
+    let log = SETTLED.as_bytes();
+    if fill(&rt, alloc, &plan, log, &mut list).is_err() {
         return Ok(());
     }
-    if collect(&plan, &mut again, &mut grid).is_err() {
+    if fill(&rt, alloc, &plan, log, &mut grid).is_err() {
         return Ok(());
     }
-    let more = joined(alloc, TRIANGLE, SETTLED);
-    assert_eq!(rt; judge(&plan, &list), Verdict::Settled);
-    assert_eq!(rt; judge(&plan, &grid), Verdict::Settled);
-    if more.is_err() {
+    if judge_both(&rt, alloc, &plan, &list, &grid) {
         println!(rt; "settled without memory")?;
     }
     Ok(())

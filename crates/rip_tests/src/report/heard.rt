@@ -1,7 +1,7 @@
 //! Who is in a log: of a bad one in pieces, and with a source and a sink that fail.
 
 use crate::devices::{Pieces, Slow};
-use crate::examples::{SETTLED, TRIANGLE};
+use crate::examples::{SETTLED, TRIANGLE, joined};
 use rip_log::{FromRead, IntoWrite, Sink, Source};
 use rip_report::{RunError, Status, run_heard};
 use std::alloc::Global;
@@ -65,7 +65,7 @@ fn expect(rt: &impl Abort, alloc: Global, log: Pieces<'_>, status: Status, text:
 #[test]
 fn who_is_in_a_bad_log(rt: HostRuntime) -> Result<(), Fail> {
     let alloc = rt.alloc();
-    let log = format!(in alloc; "{SETTLED}{LINES}")?;
+    let log = joined(alloc, SETTLED, LINES)?;
     for piece in [1, 7, 99, 2049] {
         expect(
             &rt,
@@ -96,7 +96,7 @@ r3 c 1 responses, lines 6 to 6
 #[test]
 fn a_source_that_fails(rt: HostRuntime) -> Result<(), Fail> {
     let alloc = rt.alloc();
-    let log = format!(in alloc; "{SETTLED}{LINES}")?;
+    let log = joined(alloc, SETTLED, LINES)?;
     for fails_at in 1..log.len().wrapping_add(2) {
         let mut out = IntoWrite::new(Vec::new(alloc));
         let (source, outcome) = run(alloc, Pieces::failing(log.as_bytes(), fails_at), &mut out);
@@ -111,7 +111,7 @@ fn a_source_that_fails(rt: HostRuntime) -> Result<(), Fail> {
 #[test]
 fn a_sink_that_fails(rt: HostRuntime) -> Result<(), Fail> {
     let alloc = rt.alloc();
-    let log = format!(in alloc; "{SETTLED}{LINES}")?;
+    let log = joined(alloc, SETTLED, LINES)?;
     for most in 0..TEXT.len() {
         let mut out = IntoWrite::new(Slow::new(alloc, most));
         let (_, outcome) = run(alloc, log.as_bytes(), &mut out);

@@ -1,13 +1,17 @@
 //! What the lines of a log come to.
 
-ghost use Rattle.std.specs.Prelude.{⊤};
+ghost use Rattle.std.specs.Prelude.{⊤, []};
 
-use crate::examples::{SETTLED, TRIANGLE};
+use crate::check::plan_of;
+use crate::examples::{SETTLED, TRIANGLE, joined};
 use rip_log::{FromRead, LogCode, LogReader};
 use rip_plan::Plan;
-use rip_table::{Counts, Event, Lines, ListTable, Listener, MetricTable, Tallies, collect_all};
-use std::alloc::AllocError;
+use rip_table::{
+    Counts, Event, InterfaceTally, Lines, ListTable, Listener, MetricTable, Tallies, collect_all,
+};
+use std::alloc::{AllocError, Global};
 use std::hash::{BuildHasherDefault, FoldHasher};
+use std::process::Abort;
 use std::test::Fail;
 
 /// After the settled log: a changed metric, another router's next hop in the second entry, a stranger, a
@@ -59,24 +63,37 @@ impl Listener for Notes {
     }
 }
 
-#[test]
-fn lines_of_each_kind(rt: HostRuntime) -> Result<(), Fail> {
-    let alloc = rt.alloc();
-    let Ok(plan) = Plan::read(alloc, TRIANGLE.as_bytes()) else {
-        panic!(rt; "no plan");
-    };
-    let log = format!(in alloc; "{SETTLED}{LINES}")?;
-    let mut table = ListTable::new(alloc, &plan)?;
-    let mut notes = Notes {
-        notes: Vec::new(alloc),
-    };
+/// Reads the whole log, in which the plan has three prefixes, into a table and a listener.
+fn hear_all<L: Listener>(
+    rt: &impl Abort,
+    alloc: Global,
+    plan: &Plan,
+    listener: &mut L,
+) -> Result<(), Fail>
+    requires suits { L.suits plan.now listener.old }
+    requires new { L.holds listener.old [] }
+    ensures { L.suits plan.now listener.new }
+{
+    let log = joined(alloc, SETTLED, LINES)?;
+    let mut table = ListTable::new(alloc, plan)?;
     let Ok(mut reader) = LogReader::new(alloc, FromRead::new(log.as_bytes())) else {
         panic!(rt; "no memory");
     };
     assert_eq!(rt;
-        collect_all(&plan, &mut reader, &mut table, &mut notes),
+        collect_all(plan, &mut reader, &mut table, listener),
         Ok(())
     );
+    assert_eq!(rt; table.prefix_count(), 3);
+    Ok(())
+}
+
+#[test]
+fn lines_of_each_kind(rt: HostRuntime) -> Result<(), Fail> {
+    let plan = plan_of(&rt, rt.alloc(), TRIANGLE);
+    let mut notes = Notes {
+        notes: Vec::new(rt.alloc()),
+    };
+    hear_all(&rt, rt.alloc(), &plan, &mut notes)?;
     let heard = [
         (1, 0, Some(0), None),
         (2, 0, Some(1), None),
@@ -92,7 +109,6 @@ fn lines_of_each_kind(rt: HostRuntime) -> Result<(), Fail> {
         (12, 4, Some(0), Some(0x0A01_0001)),
     ];
     assert_eq!(rt; notes.notes.as_slice(), &heard[..]);
-    assert_eq!(rt; table.prefix_count(), 3);
     Ok(())
 }
 
@@ -101,22 +117,28 @@ fn lines(count: u32, first: u32, last: u32) -> Lines {
     Lines { count, first, last }
 }
 
-#[test]
-fn who_is_in_a_log(rt: HostRuntime) -> Result<(), Fail> {
-    let alloc = rt.alloc();
-    let Ok(plan) = Plan::read(alloc, TRIANGLE.as_bytes()) else {
-        panic!(rt; "no plan");
-    };
-    let log = format!(in alloc; "{SETTLED}{LINES}")?;
-    let mut table = ListTable::new(alloc, &plan)?;
-    let mut tallies = Tallies::with_hasher(alloc, &plan, BuildHasherDefault::<FoldHasher>::new())?;
-    let Ok(mut reader) = LogReader::new(alloc, FromRead::new(log.as_bytes())) else {
-        panic!(rt; "no memory");
-    };
+/// Expects what the first interface sent.
+fn expect_own(rt: &impl Abort, own: &InterfaceTally) {
+    assert_eq!(rt; own.joined, lines(1, 1, 1));
+    assert_eq!(rt; (own.refused, own.runs), (lines(1, 8, 8), 1));
     assert_eq!(rt;
-        collect_all(&plan, &mut reader, &mut table, &mut tallies),
-        Ok(())
+        (own.bad, own.requests),
+        (lines(1, 12, 12), lines(1, 10, 10))
     );
+}
+
+/// Expects the one stranger.
+fn expect_stranger(rt: &impl Abort, tallies: &Tallies<BuildHasherDefault<FoldHasher>>) {
+    assert_eq!(rt; tallies.strangers(), 1);
+    assert_eq!(rt;
+        (tallies.stranger_link(0), tallies.stranger_address(0).get()),
+        ("a", 0x0A01_0009)
+    );
+    assert_eq!(rt; tallies.stranger(0).responses, lines(1, 9, 9));
+}
+
+/// Expects what is counted of all lines, and of those that say nothing of where they came from.
+fn expect_counts(rt: &impl Abort, tallies: &Tallies<BuildHasherDefault<FoldHasher>>) {
     let counts = Counts {
         joined: 6,
         refused: 2,
@@ -124,22 +146,20 @@ fn who_is_in_a_log(rt: HostRuntime) -> Result<(), Fail> {
         bad: 2,
     };
     assert_eq!(rt; tallies.counts(), counts);
-    assert!(rt; plan.interfaces() > 0);
-    let own = tallies.interface(0);
-    assert_eq!(rt; own.joined, lines(1, 1, 1));
-    assert_eq!(rt; (own.refused, own.runs), (lines(1, 8, 8), 1));
-    assert_eq!(rt;
-        (own.bad, own.requests),
-        (lines(1, 12, 12), lines(1, 10, 10))
-    );
-    assert_eq!(rt; tallies.strangers(), 1);
-    assert_eq!(rt;
-        (tallies.stranger_link(0), tallies.stranger_address(0).get()),
-        ("a", 0x0A01_0009)
-    );
-    assert_eq!(rt; tallies.stranger(0).responses, lines(1, 9, 9));
     assert_eq!(rt; tallies.bad(LogCode::Sender), lines(1, 11, 11));
     assert_eq!(rt; tallies.other_strangers().count, 0);
     assert_eq!(rt; tallies.other_requests().count, 0);
+}
+
+#[test]
+fn who_is_in_a_log(rt: HostRuntime) -> Result<(), Fail> {
+    let plan = plan_of(&rt, rt.alloc(), TRIANGLE);
+    let hasher = BuildHasherDefault::<FoldHasher>::new();
+    let mut tallies = Tallies::with_hasher(rt.alloc(), &plan, hasher)?;
+    hear_all(&rt, rt.alloc(), &plan, &mut tallies)?;
+    assert!(rt; plan.interfaces() > 0);
+    expect_own(&rt, &tallies.interface(0));
+    expect_stranger(&rt, &tallies);
+    expect_counts(&rt, &tallies);
     Ok(())
 }

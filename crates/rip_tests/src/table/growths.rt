@@ -4,7 +4,7 @@
 ghost use Rattle.std.specs.Prelude.{◌≡◌};
 ghost use Rattle.rip_table.specs.State.{Fits};
 
-use super::{PLAN, agree, entry, new_grid, take};
+use super::{PLAN, agree, entry, fill, new_grid, take};
 use crate::examples::{SETTLED, TRIANGLE};
 use rip_log::{FromRead, LogReader, Source};
 use rip_plan::Plan;
@@ -125,16 +125,8 @@ fn table_of(
     log: &[u8],
 ) -> Result<ListTable, TableError> {
     let mut table = ListTable::new(alloc, plan)?;
-    let Ok(mut reader) = LogReader::new(alloc, FromRead::new(log)) else {
-        return Err(TableError::Memory);
-    };
-    match collect(plan, &mut reader, &mut table) {
-        Ok(()) => Ok(table),
-        Err(error) => {
-            assert_eq!(rt; error.cause, CollectCause::Table(TableError::Memory));
-            Err(TableError::Memory)
-        }
-    }
+    fill(rt, alloc, plan, log, &mut table)?;
+    Ok(table)
 }
 
 /// Adds lines to a log, and for each a table that took those before it.

@@ -3,39 +3,34 @@
 ghost use Rattle.std.specs.Prelude.{◌≡◌};
 ghost use Rattle.rip_table.specs.State.{Fits};
 
-use super::{agree, is_heard, metric, new_grid, prefix, shown};
-use crate::examples::{PHANTOM, SETTLED, TRIANGLE};
+use super::{agree, changed, is_heard, new_grid, shown};
+use crate::examples::{PHANTOM, SETTLED, TRIANGLE, joined};
 use rip_log::{FromRead, LogReader};
 use rip_plan::Plan;
 use rip_table::{CollectCause, CollectError, ListTable, MetricTable, TableError, collect};
-use std::alloc::{AllocError, Global};
+use std::alloc::Global;
 use std::process::Abort;
 use std::test::Fail;
 
 /// What each interface shows in the settled log of 10.1.0.0/16, 10.2.0.0/16 and 10.3.0.0/16.
-const SHOWN: [(Option<u32>, Option<u32>, Option<u32>); 6] = [
-    (None, Some(16), Some(1)),
-    (Some(1), Some(2), None),
-    (None, Some(1), Some(2)),
-    (Some(1), None, Some(16)),
-    (Some(2), None, Some(1)),
-    (Some(16), Some(1), None),
+const SHOWN: [[Option<u32>; 3]; 6] = [
+    [None, Some(16), Some(1)],
+    [Some(1), Some(2), None],
+    [None, Some(1), Some(2)],
+    [Some(1), None, Some(16)],
+    [Some(2), None, Some(1)],
+    [Some(16), Some(1), None],
 ];
 
 /// Of 10.2.0.0/16 at r1's interface on c, where line 2 shows 2.
-const METRIC_3: &str = "c 10.3.0.1 02020000000200000a020000ffff00000000000000000003";
+const METRIC_3: &str = "c 10.3.0.1 02020000000200000a020000ffff00000000000000000003\n";
 
 /// From an address that the plan does not have.
-const UNKNOWN: &str = "a 10.1.0.9 02020000000200000a030000ffff00000000000000000001";
+const UNKNOWN: &str = "a 10.1.0.9 02020000000200000a030000ffff00000000000000000001\n";
 
 /// Of 10.50.0.0/16, first 16 and then 4.
 const METRICS_16_AND_4: &str =
-    "a 10.1.0.1 02020000000200000a320000ffff00000000000000000010000200000a320000ffff00000000000000000004";
-
-/// The settled log, and a line after it.
-fn settled_and(alloc: Global, line: &str) -> Result<String, AllocError> {
-    format!(in alloc; "{SETTLED}{line}\n")
-}
+    "a 10.1.0.1 02020000000200000a320000ffff00000000000000000010000200000a320000ffff00000000000000000004\n";
 
 /// Joins a log into a table.
 fn join<T: MetricTable>(
@@ -53,21 +48,24 @@ fn join<T: MetricTable>(
     }
 }
 
+/// Expects what an interface shows of the three prefixes.
+fn expect_shown<T: MetricTable>(
+    rt: &impl Abort,
+    table: &T,
+    interface: usize,
+    row: &[Option<u32>; 3],
+) {
+    for (k, metric) in row.iter().enumerate() {
+        assert_eq!(rt; shown(table, interface, k), *metric);
+    }
+    assert!(rt; is_heard(table, interface));
+}
+
 /// Expects what the settled log shows.
 fn expect_settled<T: MetricTable>(rt: &impl Abort, table: &T) {
     assert_eq!(rt; (table.interface_count(), table.prefix_count()), (6, 3));
-    let mut interface = 0usize;
-    for row in SHOWN {
-        assert_eq!(rt;
-            (
-                shown(table, interface, 0),
-                shown(table, interface, 1),
-                shown(table, interface, 2)
-            ),
-            row
-        );
-        assert!(rt; is_heard(table, interface));
-        interface = interface.wrapping_add(1);
+    for (interface, row) in SHOWN.iter().enumerate() {
+        expect_shown(rt, table, interface, row);
     }
 }
 
@@ -100,7 +98,7 @@ fn expect_refusals(
     let Ok(plan) = Plan::read(alloc, TRIANGLE.as_bytes()) else {
         panic!(rt; "no plan");
     };
-    let log = settled_and(alloc, line)?;
+    let log = joined(alloc, SETTLED, line)?;
     let mut list = ListTable::new(alloc, &plan)?;
     expect_refusal(rt, alloc, &plan, log.as_bytes(), &mut list, error);
     let mut grid = new_grid(alloc, &plan)?;
@@ -110,17 +108,8 @@ fn expect_refusals(
 
 #[test]
 fn changed_metrics_leave_the_lines_before(rt: HostRuntime) -> Result<(), Fail> {
-    let changed = TableError::Changed {
-        prefix: prefix(&rt, 2),
-        old: metric(&rt, 2),
-        new: metric(&rt, 3),
-    };
-    expect_refusals(&rt, rt.alloc(), METRIC_3, &changed)?;
-    let within = TableError::Changed {
-        prefix: prefix(&rt, 50),
-        old: metric(&rt, 16),
-        new: metric(&rt, 4),
-    };
+    expect_refusals(&rt, rt.alloc(), METRIC_3, &changed(&rt, 2, 2, 3))?;
+    let within = changed(&rt, 50, 16, 4);
     expect_refusals(&rt, rt.alloc(), METRICS_16_AND_4, &within)
 }
 
@@ -130,7 +119,7 @@ fn both_tables(rt: HostRuntime) -> Result<(), Fail> {
     let Ok(plan) = Plan::read(rt.alloc(), TRIANGLE.as_bytes()) else {
         panic!(rt; "no plan");
     };
-    let unknown = settled_and(rt.alloc(), UNKNOWN)?;
+    let unknown = joined(rt.alloc(), SETTLED, UNKNOWN)?;
     for (log, end) in [
         (PHANTOM, 20),
         (PHANTOM, 350),

@@ -2,9 +2,9 @@
 
 ghost use Rattle.rip_table.specs.State.{Fits};
 
-use super::{agree, entry, metric, new_grid, plan_in, prefix, shown, take};
+use super::{agree, changed, entry, new_grid, plan_in, shown, take};
 use rip_plan::Plan;
-use rip_table::{ListTable, MetricTable, TableError};
+use rip_table::{ListTable, MetricTable};
 use std::process::Abort;
 use std::test::Fail;
 
@@ -39,12 +39,14 @@ fn refuses_change<T: MetricTable>(rt: &impl Abort, plan: &Plan, table: &mut T)
         entry(rt, 3, 3, "0.0.0.0"),
         entry(rt, 4, 5, "0.0.0.0"),
     ];
-    let changed = TableError::Changed {
-        prefix: prefix(rt, 4),
-        old: metric(rt, 4),
-        new: metric(rt, 5),
-    };
-    assert_eq!(rt; take(rt, plan, table, 1, &entries), Err(changed));
+    assert_eq!(rt;
+        take(rt, plan, table, 1, &entries),
+        Err(changed(rt, 4, 4, 5))
+    );
+}
+
+/// Expects that two interfaces show the metrics of the orders, and the third none.
+fn expect_orders<T: MetricTable>(rt: &impl Abort, table: &T) {
     for (k, x) in [2, 3, 4, 5, 6, 7, 8, 9].into_iter().enumerate() {
         assert_eq!(rt; shown(table, 0, k.wrapping_add(1)), Some(x), "{x}");
         assert_eq!(rt; shown(table, 1, k.wrapping_add(1)), Some(x), "{x}");
@@ -70,6 +72,7 @@ fn orders_of_updates(rt: HostRuntime) -> Result<(), Fail> {
     assert!(rt; agree(&list, &grid));
     refuses_change(&rt, &plan, &mut list);
     refuses_change(&rt, &plan, &mut grid);
+    expect_orders(&rt, &list);
     assert!(rt; agree(&list, &grid));
     Ok(())
 }
