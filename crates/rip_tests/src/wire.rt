@@ -49,7 +49,7 @@ fn reads_prefixes(rt: HostRuntime) {
 }
 
 #[test]
-fn refuses_other_texts(rt: HostRuntime) {
+fn refuses_what_is_no_address(rt: HostRuntime) {
     for text in [
         "",
         ".",
@@ -81,6 +81,10 @@ fn refuses_other_texts(rt: HostRuntime) {
     ] {
         assert_eq!(rt; Address::parse(text), None, "{text}");
     }
+}
+
+#[test]
+fn refuses_what_is_no_prefix(rt: HostRuntime) {
     for text in [
         "",
         "/",

@@ -1,11 +1,34 @@
 use super::{changed, refusal, replaced};
 use rip_plan::{At, Plan, PlanCode};
+use std::alloc::Global;
+use std::process::Abort;
 use std::test::Fail;
 
-/// A plan with two faults is refused with the one that the order puts first.
+/// Two faults: twice a part of the triangle and what stands there instead, then the code and the place
+/// of the fault that the order puts first.
+type TwoFaults = (
+    &'static str,
+    &'static str,
+    &'static str,
+    &'static str,
+    PlanCode,
+    At,
+);
+
+/// Expects that a plan with two faults is refused with the one that the order puts first.
+fn expect_first(rt: &impl Abort, alloc: Global, rows: &[TwoFaults]) -> Result<(), Fail> {
+    for row in rows {
+        let (old, new, other, instead, code, place) = *row;
+        let once = changed(alloc, old, new)?;
+        let text = replaced(alloc, once.as_str(), other, instead)?;
+        let fault = Plan::read(alloc, text.as_bytes()).err();
+        assert_eq!(rt; fault, refusal(code, place), "{new} and {instead}");
+    }
+    Ok(())
+}
+
 #[test]
-fn two_faults(rt: HostRuntime) -> Result<(), Fail> {
-    let alloc = rt.alloc();
+fn faults_of_the_text_and_of_links(rt: HostRuntime) -> Result<(), Fail> {
     let rows = [
         // Syntax before Version
         (
@@ -59,6 +82,13 @@ fn two_faults(rt: HostRuntime) -> Result<(), Fail> {
             PlanCode::DuplicateName,
             At::Link(2),
         ),
+    ];
+    expect_first(&rt, rt.alloc(), &rows)
+}
+
+#[test]
+fn faults_of_routers(rt: HostRuntime) -> Result<(), Fail> {
+    let rows = [
         // DuplicateName before Address, of one router
         (
             "name = \"r2\"",
@@ -113,6 +143,13 @@ fn two_faults(rt: HostRuntime) -> Result<(), Fail> {
             PlanCode::Cost,
             At::RouterInterface(1, 1),
         ),
+    ];
+    expect_first(&rt, rt.alloc(), &rows)
+}
+
+#[test]
+fn faults_of_interfaces(rt: HostRuntime) -> Result<(), Fail> {
+    let rows = [
         // UnknownLink before DuplicatePrefix, which a later pass finds
         (
             "name = \"r1\"",
@@ -130,6 +167,15 @@ fn two_faults(rt: HostRuntime) -> Result<(), Fail> {
             "\"10.9.0.1\"",
             PlanCode::UnknownLink,
             At::RouterInterface(1, 1),
+        ),
+        // UnknownLink before TwiceOnLink
+        (
+            "link = \"c\"\naddress = \"10.3.0.1\"",
+            "link = \"a\"\naddress = \"10.1.0.9\"",
+            "link = \"b\"",
+            "link = \"d\"",
+            PlanCode::UnknownLink,
+            At::RouterInterface(2, 2),
         ),
         // OutsidePrefix before DuplicatePrefix, TwiceOnLink, DuplicateAddress and NoInterface
         (
@@ -164,6 +210,13 @@ fn two_faults(rt: HostRuntime) -> Result<(), Fail> {
             PlanCode::OutsidePrefix,
             At::RouterInterface(4, 2),
         ),
+    ];
+    expect_first(&rt, rt.alloc(), &rows)
+}
+
+#[test]
+fn faults_that_later_passes_find(rt: HostRuntime) -> Result<(), Fail> {
+    let rows = [
         // DuplicatePrefix before TwiceOnLink
         (
             "link = \"c\"\naddress = \"10.3.0.1\"",
@@ -182,15 +235,6 @@ fn two_faults(rt: HostRuntime) -> Result<(), Fail> {
             PlanCode::TwiceOnLink,
             At::RouterInterface(3, 2),
         ),
-        // UnknownLink before TwiceOnLink
-        (
-            "link = \"c\"\naddress = \"10.3.0.1\"",
-            "link = \"a\"\naddress = \"10.1.0.9\"",
-            "link = \"b\"",
-            "link = \"d\"",
-            PlanCode::UnknownLink,
-            At::RouterInterface(2, 2),
-        ),
         // DuplicateAddress before NoInterface
         (
             "[[router]]\nname = \"r1\"",
@@ -201,11 +245,5 @@ fn two_faults(rt: HostRuntime) -> Result<(), Fail> {
             At::RouterInterface(4, 2),
         ),
     ];
-    for (old, new, other, instead, code, place) in rows {
-        let once = changed(alloc, old, new)?;
-        let text = replaced(alloc, once.as_str(), other, instead)?;
-        let fault = Plan::read(alloc, text.as_bytes()).err();
-        assert_eq!(rt; fault, refusal(code, place), "{new} and {instead}");
-    }
-    Ok(())
+    expect_first(&rt, rt.alloc(), &rows)
 }

@@ -1,10 +1,26 @@
 use super::{changed, refusal};
 use rip_plan::{At, Plan, PlanCode};
+use std::alloc::Global;
+use std::process::Abort;
 use std::test::Fail;
 
+/// A fault: a part of the triangle, what stands there instead, and the code and the place of the
+/// refusal.
+type FaultRow = (&'static str, &'static str, PlanCode, At);
+
+/// Expects that the triangle with each of these faults is refused for it.
+fn expect_refusals(rt: &impl Abort, alloc: Global, rows: &[FaultRow]) -> Result<(), Fail> {
+    for row in rows {
+        let (old, new, code, place) = *row;
+        let text = changed(alloc, old, new)?;
+        let fault = Plan::read(alloc, text.as_bytes()).err();
+        assert_eq!(rt; fault, refusal(code, place), "{new}");
+    }
+    Ok(())
+}
+
 #[test]
-fn each_refusal(rt: HostRuntime) -> Result<(), Fail> {
-    let alloc = rt.alloc();
+fn refusals_of_the_text_and_of_links(rt: HostRuntime) -> Result<(), Fail> {
     let rows = [
         ("version = 1", "version = ", PlanCode::Syntax, At::Text),
         (
@@ -58,17 +74,36 @@ fn each_refusal(rt: HostRuntime) -> Result<(), Fail> {
             At::Link(3),
         ),
         (
-            "name = \"r3\"",
-            "name = \"r1\"",
-            PlanCode::DuplicateName,
-            At::Router(3),
-        ),
-        (
             "10.2.0.0/16",
             "10.2.0.1/16",
             PlanCode::Prefix,
             At::LinkPrefix(2, 1),
         ),
+        (
+            "prefixes = [\"10.2.0.0/16\"]",
+            "prefixes = [\"10.2.0.0/16\", \"10.1.0.0/16\"]",
+            PlanCode::DuplicatePrefix,
+            At::LinkPrefix(2, 2),
+        ),
+        (
+            "prefixes = [\"10.2.0.0/16\"]",
+            "prefixes = [\"10.2.0.0/16\", \"10.2.0.0/16\"]",
+            PlanCode::DuplicatePrefix,
+            At::LinkPrefix(2, 2),
+        ),
+        (
+            "\"10.1.0.0/16\"",
+            "\"10.1.0.1/16\"",
+            PlanCode::Prefix,
+            At::LinkPrefix(1, 1),
+        ),
+    ];
+    expect_refusals(&rt, rt.alloc(), &rows)
+}
+
+#[test]
+fn refusals_of_interfaces(rt: HostRuntime) -> Result<(), Fail> {
+    let rows = [
         (
             "address = \"10.3.0.1\"",
             "address = \"10.3.0.01\"",
@@ -130,36 +165,6 @@ fn each_refusal(rt: HostRuntime) -> Result<(), Fail> {
             At::RouterInterface(2, 1),
         ),
         (
-            "name = \"r1\"",
-            "name = \"r1\"\nown = [{ prefix = \"10.1.0.0/16\" }]",
-            PlanCode::DuplicatePrefix,
-            At::RouterOwn(1, 1),
-        ),
-        (
-            "prefixes = [\"10.2.0.0/16\"]",
-            "prefixes = [\"10.2.0.0/16\", \"10.1.0.0/16\"]",
-            PlanCode::DuplicatePrefix,
-            At::LinkPrefix(2, 2),
-        ),
-        (
-            "prefixes = [\"10.2.0.0/16\"]",
-            "prefixes = [\"10.2.0.0/16\", \"10.2.0.0/16\"]",
-            PlanCode::DuplicatePrefix,
-            At::LinkPrefix(2, 2),
-        ),
-        (
-            "name = \"r2\"",
-            "name = \"r2\"\nown = [{ prefix = \"10.9.0.0/16\", cost = 16 }]",
-            PlanCode::Cost,
-            At::RouterOwn(2, 1),
-        ),
-        (
-            "[[router]]\nname = \"r2\"\n",
-            "[[router]]\nname = \"r0\"\ninterface = []\n\n[[router]]\nname = \"r2\"\n",
-            PlanCode::NoInterface,
-            At::Router(2),
-        ),
-        (
             "address = \"10.1.0.1\"",
             "address = \"10.1.0.1\"\ncost = 0",
             PlanCode::Cost,
@@ -177,19 +182,39 @@ fn each_refusal(rt: HostRuntime) -> Result<(), Fail> {
             PlanCode::OutsidePrefix,
             At::RouterInterface(1, 1),
         ),
+    ];
+    expect_refusals(&rt, rt.alloc(), &rows)
+}
+
+#[test]
+fn refusals_of_routers(rt: HostRuntime) -> Result<(), Fail> {
+    let rows = [
         (
-            "\"10.1.0.0/16\"",
-            "\"10.1.0.1/16\"",
-            PlanCode::Prefix,
-            At::LinkPrefix(1, 1),
+            "name = \"r3\"",
+            "name = \"r1\"",
+            PlanCode::DuplicateName,
+            At::Router(3),
+        ),
+        (
+            "name = \"r1\"",
+            "name = \"r1\"\nown = [{ prefix = \"10.1.0.0/16\" }]",
+            PlanCode::DuplicatePrefix,
+            At::RouterOwn(1, 1),
+        ),
+        (
+            "name = \"r2\"",
+            "name = \"r2\"\nown = [{ prefix = \"10.9.0.0/16\", cost = 16 }]",
+            PlanCode::Cost,
+            At::RouterOwn(2, 1),
+        ),
+        (
+            "[[router]]\nname = \"r2\"\n",
+            "[[router]]\nname = \"r0\"\ninterface = []\n\n[[router]]\nname = \"r2\"\n",
+            PlanCode::NoInterface,
+            At::Router(2),
         ),
     ];
-    for (old, new, code, place) in rows {
-        let text = changed(alloc, old, new)?;
-        let fault = Plan::read(alloc, text.as_bytes()).err();
-        assert_eq!(rt; fault, refusal(code, place), "{new}");
-    }
-    Ok(())
+    expect_refusals(&rt, rt.alloc(), &rows)
 }
 
 #[test]

@@ -1,9 +1,8 @@
 //! The table and the routes of what is not refused in a log: in pieces, and with a source and a sink that
 //! fail.
 
-use super::heard::LINES;
 use crate::devices::{Pieces, Slow};
-use crate::examples::{SETTLED, TRIANGLE, joined};
+use crate::examples::{MORE_LINES, SETTLED, TRIANGLE, joined};
 use rip_log::{FromRead, IntoWrite, Source};
 use rip_report::{RunError, Status, run_routes, run_routes_anyway, run_table, run_table_anyway};
 use std::alloc::Global;
@@ -78,7 +77,7 @@ fn of_a_good_log_the_same_is_printed(rt: HostRuntime) {
 #[test]
 fn what_is_left_out_of_a_bad_log_is_told(rt: HostRuntime) -> Result<(), Fail> {
     let alloc = rt.alloc();
-    let log = joined(alloc, SETTLED, LINES)?;
+    let log = joined(alloc, SETTLED, MORE_LINES)?;
     for command in [Command::Routes, Command::Table] {
         let plain = plain_text(&rt, alloc, command);
         let text = with_line(alloc, plain.as_slice())?;
@@ -102,7 +101,7 @@ fn what_is_left_out_of_a_bad_log_is_told(rt: HostRuntime) -> Result<(), Fail> {
 #[test]
 fn devices_that_fail(rt: HostRuntime) -> Result<(), Fail> {
     let alloc = rt.alloc();
-    let log = joined(alloc, SETTLED, LINES)?;
+    let log = joined(alloc, SETTLED, MORE_LINES)?;
     for command in [Command::Routes, Command::Table] {
         for fails_at in [1, 600, log.len()] {
             let mut out = IntoWrite::new(Vec::new(alloc));

@@ -1,7 +1,7 @@
 //! Who is in a log: of a bad one in pieces, and with a source and a sink that fail.
 
 use crate::devices::{Pieces, Slow};
-use crate::examples::{SETTLED, TRIANGLE, joined};
+use crate::examples::{MORE_LINES, SETTLED, TRIANGLE, joined};
 use rip_log::{FromRead, IntoWrite, Sink, Source};
 use rip_report::{RunError, Status, run_heard};
 use std::alloc::Global;
@@ -9,16 +9,6 @@ use std::hash::{BuildHasherDefault, FoldHasher};
 use std::io::{Read, Write};
 use std::process::Abort;
 use std::test::Fail;
-
-/// After the settled log: a changed metric, another router's next hop in the second entry, a stranger, a
-/// request of r1, a bad sender, and a response of r1 that is cut.
-pub(super) const LINES: &str = "c 10.3.0.1 02020000000200000a020000ffff00000000000000000003
-a 10.1.0.1 02020000000200000a320000ffff00000000000000000010000200000a330000ffff00000a01000200000001
-a 10.1.0.9 02020000000200000a030000ffff00000000000000000001
-a 10.1.0.1 01020000
-a 10.1.0.01 02
-a 10.1.0.1 02
-";
 
 const TEXT: &str = "heard: 6 of 6 interfaces, 6 responses, 2 refused, 1 of strangers, 2 bad
 r1 a 1 responses, lines 1 to 1
@@ -65,7 +55,7 @@ fn expect(rt: &impl Abort, alloc: Global, log: Pieces<'_>, status: Status, text:
 #[test]
 fn who_is_in_a_bad_log(rt: HostRuntime) -> Result<(), Fail> {
     let alloc = rt.alloc();
-    let log = joined(alloc, SETTLED, LINES)?;
+    let log = joined(alloc, SETTLED, MORE_LINES)?;
     for piece in [1, 7, 99, 2049] {
         expect(
             &rt,
@@ -96,7 +86,7 @@ r3 c 1 responses, lines 6 to 6
 #[test]
 fn a_source_that_fails(rt: HostRuntime) -> Result<(), Fail> {
     let alloc = rt.alloc();
-    let log = joined(alloc, SETTLED, LINES)?;
+    let log = joined(alloc, SETTLED, MORE_LINES)?;
     for fails_at in 1..log.len().wrapping_add(2) {
         let mut out = IntoWrite::new(Vec::new(alloc));
         let (source, outcome) = run(alloc, Pieces::failing(log.as_bytes(), fails_at), &mut out);
@@ -111,7 +101,7 @@ fn a_source_that_fails(rt: HostRuntime) -> Result<(), Fail> {
 #[test]
 fn a_sink_that_fails(rt: HostRuntime) -> Result<(), Fail> {
     let alloc = rt.alloc();
-    let log = joined(alloc, SETTLED, LINES)?;
+    let log = joined(alloc, SETTLED, MORE_LINES)?;
     for most in 0..TEXT.len() {
         let mut out = IntoWrite::new(Slow::new(alloc, most));
         let (_, outcome) = run(alloc, log.as_bytes(), &mut out);

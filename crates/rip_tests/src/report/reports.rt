@@ -162,15 +162,26 @@ fn run<L: Read + Drop, W: Write>(
     }
 }
 
+/// Expects that a source has not failed, and that it was read to its end if nothing was refused.
+fn expect_source(rt: &impl Abort, source: &FromRead<Pieces<'_>>, status: Status) {
+    assert!(rt; !source.failed());
+    assert!(rt; status == Status::Refused || source.ended());
+}
+
+/// Expects that all of a text went out.
+fn expect_text(rt: &impl Abort, out: IntoWrite<Vec<u8>>, text: &str) {
+    assert!(rt; !out.failed());
+    assert_eq!(rt; out.into_writer().as_slice(), text.as_bytes());
+}
+
 /// Expects the answer and the text of a row, with its log from this reader.
 fn expect_row(rt: &impl Abort, alloc: Global, row: Row, log: Pieces<'_>) {
     let (command, _, status, text) = row;
     let mut out = IntoWrite::new(Vec::new(alloc));
     let (source, outcome) = run(alloc, command, (TRIANGLE, log), &mut out);
     assert_eq!(rt; outcome, Ok(status), "{text}");
-    assert!(rt; !source.failed() && !out.failed());
-    assert!(rt; outcome == Ok(Status::Refused) || source.ended());
-    assert_eq!(rt; out.into_writer().as_slice(), text.as_bytes());
+    expect_source(rt, &source, status);
+    expect_text(rt, out, text);
 }
 
 #[test]
@@ -254,7 +265,7 @@ fn sources_that_never_end(rt: HostRuntime) {
         let (source, outcome) = run(rt.alloc(), Command::Table, log, &mut out);
         assert_eq!(rt; outcome, Ok(Status::Refused));
         assert_eq!(rt; source.into_reader().calls(), given);
-        assert_eq!(rt; out.into_writer().as_slice(), text.as_bytes());
+        expect_text(&rt, out, text);
     }
 }
 
@@ -266,7 +277,6 @@ fn a_refused_plan_leaves_the_source(rt: HostRuntime) {
         let (source, outcome) = run(rt.alloc(), command, log, &mut out);
         assert_eq!(rt; outcome, Ok(Status::Refused));
         assert_eq!(rt; source.into_reader().calls(), 0);
-        let text = "refused: plan 2 Version at version\n";
-        assert_eq!(rt; out.into_writer().as_slice(), text.as_bytes());
+        expect_text(&rt, out, "refused: plan 2 Version at version\n");
     }
 }

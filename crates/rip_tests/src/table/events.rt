@@ -3,7 +3,7 @@
 ghost use Rattle.std.specs.Prelude.{⊤, []};
 
 use crate::check::plan_of;
-use crate::examples::{SETTLED, TRIANGLE, joined};
+use crate::examples::{MORE_LINES, SETTLED, TRIANGLE, joined};
 use rip_log::{FromRead, LogCode, LogReader};
 use rip_plan::Plan;
 use rip_table::{
@@ -13,16 +13,6 @@ use std::alloc::{AllocError, Global};
 use std::hash::{BuildHasherDefault, FoldHasher};
 use std::process::Abort;
 use std::test::Fail;
-
-/// After the settled log: a changed metric, another router's next hop in the second entry, a stranger, a
-/// request of r1, a bad sender, and a response of r1 that is cut.
-const LINES: &str = "c 10.3.0.1 02020000000200000a020000ffff00000000000000000003
-a 10.1.0.1 02020000000200000a320000ffff00000000000000000010000200000a330000ffff00000a01000200000001
-a 10.1.0.9 02020000000200000a030000ffff00000000000000000001
-a 10.1.0.1 01020000
-a 10.1.0.01 02
-a 10.1.0.1 02
-";
 
 /// An event in short: 0 joined, 1 refused, 2 a stranger's, 3 a request, 4 bad; the interface; the number of a
 /// next hop or a sender.
@@ -74,7 +64,7 @@ fn hear_all<L: Listener>(
     requires new { L.holds listener.old [] }
     ensures { L.suits plan.now listener.new }
 {
-    let log = joined(alloc, SETTLED, LINES)?;
+    let log = joined(alloc, SETTLED, MORE_LINES)?;
     let mut table = ListTable::new(alloc, plan)?;
     let Ok(mut reader) = LogReader::new(alloc, FromRead::new(log.as_bytes())) else {
         panic!(rt; "no memory");
