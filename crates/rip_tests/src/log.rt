@@ -31,15 +31,9 @@ fn reader_of<'a>(
     }
 }
 
-/// How many bytes the longest datagram of these logs has.
-const MOST_BYTES: usize = 44;
-
-/// Expects a record from a link, of a response with this datagram in hexadecimal digits.
-fn expect_record(rt: &impl Abort, record: &Record<'_>, link: &str, digits: &str) {
+/// Expects a record from a link, of a response with this datagram.
+fn expect_record(rt: &impl Abort, record: &Record<'_>, link: &str, datagram: &[u8]) {
     assert_eq!(rt; record.link, link);
-    let mut room = [0; MOST_BYTES];
-    let datagram = &mut room[..(digits.len() / 2).min(MOST_BYTES)];
-    assert!(rt; hex::decode_to_slice(digits.as_bytes(), datagram).is_ok());
     assert_eq!(rt; record.datagram.kind(), Kind::Response);
     assert_eq!(rt; Some(record.datagram.body()), datagram.get(4..));
 }
@@ -53,12 +47,14 @@ fn expect_line(
 ) {
     let (link, rest) = text.split_once(" ").expect(rt, "a link");
     let (sender, digits) = rest.split_once(" ").expect(rt, "a sender");
+    let mut datagram = [0; 44];
+    assert!(rt; hex::decode_to_slice(digits.as_bytes(), &mut datagram).is_ok());
     let Ok(Some(record)) = reader.next() else {
         panic!(rt; "no record in line {line}");
     };
     assert_eq!(rt; record.line, line);
     assert_eq!(rt; Some(record.sender()), Address::parse(sender));
-    expect_record(rt, &record, link, digits);
+    expect_record(rt, &record, link, &datagram);
 }
 
 /// Expects the records of the settled log. It allocates nothing.
@@ -130,13 +126,15 @@ const UPPER: &str = "02020000000200000AAB0000FFFF00000000000000000001";
 
 #[test]
 fn one_record_in_many_forms(rt: HostRuntime) -> Result<(), Fail> {
+    let mut datagram = [0; 24];
+    assert!(rt; hex::decode_to_slice(LOWER.as_bytes(), &mut datagram).is_ok());
     for (digits, end) in [(LOWER, ""), (LOWER, " \n"), (UPPER, "\t \r\n")] {
         let text = format!(in rt.alloc(); " \ta\t 10.1.0.1 \t{digits}{end}")?;
         let mut reader = reader_of(&rt, rt.alloc(), Pieces::new(text.as_bytes(), 7));
         let Ok(Some(record)) = reader.next() else {
             panic!(rt; "no record");
         };
-        expect_record(&rt, &record, "a", LOWER);
+        expect_record(&rt, &record, "a", &datagram);
     }
     Ok(())
 }

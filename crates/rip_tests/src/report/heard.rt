@@ -1,8 +1,9 @@
 //! Who is in a log: of a bad one in pieces, and with a source and a sink that fail.
 
+use super::expect_text;
 use crate::devices::{Pieces, Slow};
 use crate::examples::{MORE_LINES, SETTLED, TRIANGLE, joined};
-use rip_log::{FromRead, IntoWrite, Sink, Source};
+use rip_log::{FromRead, IntoWrite, Source};
 use rip_report::{RunError, Status, run_heard};
 use std::alloc::Global;
 use std::hash::{BuildHasherDefault, FoldHasher};
@@ -49,7 +50,7 @@ fn expect(rt: &impl Abort, alloc: Global, log: Pieces<'_>, status: Status, text:
     let (source, outcome) = run(alloc, log, &mut out);
     assert_eq!(rt; outcome, Ok(status));
     assert!(rt; source.ended() && !source.failed());
-    assert_eq!(rt; out.into_writer().as_slice(), text.as_bytes());
+    expect_text(rt, out, text.as_bytes());
 }
 
 #[test]

@@ -1,5 +1,6 @@
 //! The commands that read a log: logs in pieces, and sources and sinks that fail.
 
+use super::expect_text;
 use crate::devices::{Endless, Pieces, Slow};
 use crate::examples::{PHANTOM, SETTLED, TRIANGLE};
 use rip_log::{FromRead, IntoWrite, Sink, Source};
@@ -168,12 +169,6 @@ fn expect_source(rt: &impl Abort, source: &FromRead<Pieces<'_>>, status: Status)
     assert!(rt; status == Status::Refused || source.ended());
 }
 
-/// Expects that all of a text went out.
-fn expect_text(rt: &impl Abort, out: IntoWrite<Vec<u8>>, text: &str) {
-    assert!(rt; !out.failed());
-    assert_eq!(rt; out.into_writer().as_slice(), text.as_bytes());
-}
-
 /// Expects the answer and the text of a row, with its log from this reader.
 fn expect_row(rt: &impl Abort, alloc: Global, row: Row, log: Pieces<'_>) {
     let (command, _, status, text) = row;
@@ -181,7 +176,7 @@ fn expect_row(rt: &impl Abort, alloc: Global, row: Row, log: Pieces<'_>) {
     let (source, outcome) = run(alloc, command, (TRIANGLE, log), &mut out);
     assert_eq!(rt; outcome, Ok(status), "{text}");
     expect_source(rt, &source, status);
-    expect_text(rt, out, text);
+    expect_text(rt, out, text.as_bytes());
 }
 
 #[test]
@@ -265,7 +260,7 @@ fn sources_that_never_end(rt: HostRuntime) {
         let (source, outcome) = run(rt.alloc(), Command::Table, log, &mut out);
         assert_eq!(rt; outcome, Ok(Status::Refused));
         assert_eq!(rt; source.into_reader().calls(), given);
-        expect_text(&rt, out, text);
+        expect_text(&rt, out, text.as_bytes());
     }
 }
 
@@ -277,6 +272,6 @@ fn a_refused_plan_leaves_the_source(rt: HostRuntime) {
         let (source, outcome) = run(rt.alloc(), command, log, &mut out);
         assert_eq!(rt; outcome, Ok(Status::Refused));
         assert_eq!(rt; source.into_reader().calls(), 0);
-        expect_text(&rt, out, "refused: plan 2 Version at version\n");
+        expect_text(&rt, out, b"refused: plan 2 Version at version\n");
     }
 }
