@@ -5,10 +5,10 @@ use Rattle.rip_table.specs.State.{State}
 use Rattle.rip_check.specs.Tables.{Tables}
 use Rattle.rip_check.specs.Settled.{HoldsAll}
 use Rattle.rip_check.specs.Examples.{IsSettledNetwork, IsUnsettledNetwork}
-use Rattle.rip_check.proofs.Checking.{Passes, NamesTested, lawful}
-use Rattle.rip_check.proofs.CheckedPlaces.{all_fit, all_hold, is_no_choice, no_choice, shows, holds_all}
-use Rattle.rip_check.proofs.Descent.{right}
-use Rattle.rip_check.proofs.Converse.{holds}
+use Rattle.rip_check.proofs.CheckingLemmas.{Passes, NamesTested, lawful}
+use Rattle.rip_check.proofs.CheckedPlaceLemmas.{all_fit, all_hold, is_no_choice, no_choice, shows, holds_all}
+use Rattle.rip_check.proofs.DescentLemmas.{right}
+use Rattle.rip_check.proofs.ConverseLemmas.{holds}
 
 pub settled : (n : Network) (shown : State) (T : Tables) → Passes n → NamesTested → ((i : ℕ) → IsTrue (shown.heard i)) →
     all_fit n shown T ≡ true → all_hold n shown T ≡ true → IsSettledNetwork n shown T

@@ -8,7 +8,7 @@ use Rattle.rip_check.specs.Verdicts.{IsSound}
 use Rattle.rip_check.specs.declared.unsettled.Unsettled.{Unsettled}
 
 -- a route fits at the place and does not hold, and the equation there gives v
-pub record IsUnmet (n : Network) (shown : State) (r p v : ℕ) : Type 0 where
+pub record FailsWith (n : Network) (shown : State) (r p v : ℕ) : Type 0 where
   pub route : Route
   pub fits : FitsShown n shown r p route
   pub fails : Holds n shown r p route → ⊥
@@ -17,7 +17,7 @@ pub record IsUnmet (n : Network) (shown : State) (r p v : ℕ) : Type 0 where
 -- nothing where the place holds or can't be read, else what the equation gives
 pub record IsMark (n : Network) (shown : State) (r p : ℕ) (mark : Option ℕ) : Type 0 where
   pub sound : IfNone mark (IsSound n shown r p)
-  pub fails : IfSome mark (λ v. (1 ≤ v) × (v ≤ 16) × IsUnmet n shown r p v)
+  pub fails : IfSome mark (λ v. (1 ≤ v) × (v ≤ 16) × FailsWith n shown r p v)
 
 -- these are the places of this plan and this table that do not hold
 pub record AreUnsettled (n : Network) (s : State) (unsettled : Unsettled) : Type 0 where

@@ -7,7 +7,7 @@ use Rattle.rip_check.specs.Tables.{Tables, Shows, Route, FitsShown, IsSilent, Ma
 use Rattle.rip_check.specs.Settled.{Holds, IsLeastChoice}
 use Rattle.rip_check.specs.Laws.{ShowsRightTables}
 use Rattle.rip_check.specs.Firsts.{AreFine, IsFirst, IsFirstAt, IsFirstTrouble, IsReadable}
-use Rattle.rip_check.specs.declared.routes.Reading.{Reading}
+use Rattle.rip_check.specs.declared.routes.ReadRoute.{ReadRoute}
 use Rattle.rip_check.specs.declared.verdict.Place2.{Place2}
 use Rattle.rip_check.specs.declared.verdict.Verdict.{Verdict}
 use Rattle.rip_check.specs.declared.verdict.Verdict.TheVariants.{Settled, Unsettled, Unclear as IsUnclear}
@@ -80,5 +80,5 @@ IsKnownPlace shown None = Unit {0}
 IsKnownPlace shown (Some a) = a.1 < length shown.prefixes
 
 -- the route that was read
-abbrev pub route_of : Reading → Route
+abbrev pub route_of : ReadRoute → Route
 route_of t = record { metric = t.metric; way = t.way }

@@ -105,8 +105,8 @@ fn first_unreadable<T: MetricTable>(
     None
 }
 
-/// The first router below a bound whose place of a prefix does not hold. The error is the first of all
-/// routers whose place can't be read: where there is one, none needs to hold.
+/// The first router below a bound whose place of a prefix does not hold. If any router's place can't be
+/// read, the error is the first such router of all, and it does not matter which places hold.
 fn first_failing<T: MetricTable>(
     plan: &Plan,
     table: &T,

@@ -12,7 +12,7 @@ ghost use Rattle.rip_check.specs.Firsts.{IsReadable, IsReason};
 use crate::links::TwoLeast;
 use crate::lookup::{in_range, metric_of};
 use crate::offers::{best_over, least_choice};
-use crate::routes::{Reading, read, reason};
+use crate::routes::{ReadRoute, read, reason};
 use crate::verdict::{Place2, Route, Unclear};
 use crate::way::Way;
 use rip_plan::Plan;
@@ -70,7 +70,7 @@ fn is_given<T: MetricTable>(
     router: usize,
     prefix: usize,
     keeps: bool,
-    route: Reading,
+    route: ReadRoute,
 ) -> bool
     requires fits { Fits plan.now (T.state table.now) }
     requires router { router < length plan.now.routers }
@@ -100,7 +100,7 @@ pub(crate) fn failing_equation<T: MetricTable>(
     links: Option<&[TwoLeast]>,
     router: usize,
     prefix: usize,
-    route: Reading,
+    route: ReadRoute,
 ) -> Option<u32>
     requires fits { Fits plan.now (T.state table.now) }
     requires router { router < length plan.now.routers }
@@ -125,7 +125,7 @@ pub(crate) fn failing_equation<T: MetricTable>(
 }
 
 /// A place with its values.
-pub(crate) fn place_of(router: usize, prefix: usize, route: Reading, equation: u32) -> Place2
+pub(crate) fn place_of(router: usize, prefix: usize, route: ReadRoute, equation: u32) -> Place2
     requires metric { (1 ≤ route.metric) × (route.metric ≤ 16) }
     requires equation { (1 ≤ equation) × (equation ≤ 16) }
     ensures { result ≡ record {

@@ -19,14 +19,14 @@ use rip_table::MetricTable;
 
 /// A router's route for a prefix, as it is read from what is shown.
 #[derive(Clone, Copy)]
-pub(crate) struct Reading {
+pub(crate) struct ReadRoute {
     pub metric: u32,
     pub way: Way,
     pub hidden: bool,
 }
 
 /// Of a router that cannot reach the prefix, and shows so.
-const UNREACHABLE: Reading = Reading {
+const UNREACHABLE: ReadRoute = ReadRoute {
     metric: 16,
     way: Way::Unreachable,
     hidden: false,
@@ -38,7 +38,7 @@ fn read_route<T: MetricTable>(
     table: &T,
     router: usize,
     prefix: usize,
-) -> Option<Reading>
+) -> Option<ReadRoute>
     requires fits { Fits plan.now (T.state table.now) }
     requires router { router < length plan.now.routers }
     requires prefix { prefix < length (T.state table.now).prefixes }
@@ -73,7 +73,7 @@ fn read_route<T: MetricTable>(
             Way::Over(link)
         }
     };
-    Some(Reading {
+    Some(ReadRoute {
         metric: found.metric,
         way,
         hidden: false,
@@ -144,7 +144,7 @@ fn leaf_route<T: MetricTable>(
     links: Option<&[TwoLeast]>,
     router: usize,
     prefix: usize,
-) -> Option<Reading>
+) -> Option<ReadRoute>
     requires fits { Fits plan.now (T.state table.now) }
     requires router { router < length plan.now.routers }
     requires prefix { prefix < length (T.state table.now).prefixes }
@@ -174,13 +174,13 @@ fn leaf_route<T: MetricTable>(
             if attached == Some(own.link) {
                 return None;
             }
-            Some(Reading {
+            Some(ReadRoute {
                 metric,
                 way: Way::Here,
                 hidden: false,
             })
         }
-        _ if may_hold_back(plan, attached, own.link, prefix) => Some(Reading {
+        _ if may_hold_back(plan, attached, own.link, prefix) => Some(ReadRoute {
             metric: direct_or_16(plan, router, prefix),
             way: Way::Here,
             hidden: true,
@@ -188,7 +188,7 @@ fn leaf_route<T: MetricTable>(
         None => Some(UNREACHABLE),
         Some(_) => {
             let least = best_over(plan, table, links, own, prefix, 16);
-            Some(Reading {
+            Some(ReadRoute {
                 metric: least,
                 way: if least < 16 {
                     Way::Over(own.link)
@@ -208,7 +208,7 @@ pub(crate) fn read<T: MetricTable>(
     links: Option<&[TwoLeast]>,
     router: usize,
     prefix: usize,
-) -> Option<Reading>
+) -> Option<ReadRoute>
     requires fits { Fits plan.now (T.state table.now) }
     requires router { router < length plan.now.routers }
     requires prefix { prefix < length (T.state table.now).prefixes }

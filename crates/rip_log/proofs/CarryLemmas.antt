@@ -4,7 +4,7 @@ use Rattle.std.specs.Io.KnownBytes.{Keeps}
 use Rattle.std.proofs.KnownBytes.{Keeps-trans}
 use Rattle.rip_log.specs.Codes.{is_read}
 use Rattle.rip_log.specs.Cuts.{FirstLine, LongFirst}
-use Rattle.rip_log.specs.Leaves.{text, lines_behind}
+use Rattle.rip_log.specs.NextCall.{text, lines_behind}
 use Rattle.rip_log.specs.Lines.{lines_of}
 use Rattle.rip_log.specs.Logs.{IfElse}
 use Rattle.rip_log.specs.Steps.{IsPastLast, LineSays}

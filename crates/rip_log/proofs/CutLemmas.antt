@@ -8,7 +8,7 @@ use Rattle.rip_log.specs.Lines.{lines_of}
 use Rattle.rip_log.specs.Ends.{NoFeedBelow, FirstFeed}
 use Rattle.rip_log.specs.Fields.{onto}
 use Rattle.rip_log.specs.Cuts.{FirstLine, LongFirst, HasLine}
-use Rattle.rip_log.proofs.LinesLemmas.{lines_of-feed, lines_of-front, lines_of-last}
+use Rattle.rip_log.proofs.LineLemmas.{lines_of-feed, lines_of-front, lines_of-last}
 
 pub length-range : (items : List ℕ) (start end : ℕ) → start ≤ end → end ≤ length items → length (slice_range items start end) ≡ end - start
 length-range items start end ordered within = length-take (end - start) (drop start items) ∙ omega (arith, length-drop start items)

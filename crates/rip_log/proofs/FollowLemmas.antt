@@ -4,7 +4,7 @@ use Rattle.std.proofs.lemmas.List.{append_cancel_right, length-append}
 use Rattle.rip_log.specs.Codes.{is_read}
 use Rattle.rip_log.specs.Cuts.{PassesLines}
 use Rattle.rip_log.specs.Fields.{onto}
-use Rattle.rip_log.specs.Leaves.{capture_of, line_of}
+use Rattle.rip_log.specs.NextCall.{capture_of, line_of}
 use Rattle.rip_log.specs.Lines.{lines_of}
 use Rattle.rip_log.specs.Logs.{Numbered, Log, log_of, log_at, log_in, Gives, IfElse}
 use Rattle.rip_log.specs.LogText.{AreLines, AreRecords, IsBad, IsFault, too_many, bad, LogFault, LogFailed}

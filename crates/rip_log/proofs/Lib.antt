@@ -1,6 +1,6 @@
 pub mod PlaceLemmas
 pub mod FieldLemmas
-pub mod LinesLemmas
+pub mod LineLemmas
 pub mod HeldLemmas
 pub mod ReadyLemmas
 pub mod SkipLemmas

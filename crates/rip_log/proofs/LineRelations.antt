@@ -4,7 +4,7 @@ use Rattle.std.specs.List.{AllByRecursion}
 use Rattle.rip_log.specs.Fields.{onto}
 use Rattle.rip_log.specs.Lines.{lines_of}
 use Rattle.rip_log.specs.LogText.{HasNoFeed, AreLines, ended_text, last_line}
-use Rattle.rip_log.proofs.LinesLemmas.{lines_of-other}
+use Rattle.rip_log.proofs.LineLemmas.{lines_of-other}
 
 not-eq : (a b : ℕ) → (a == b) ≡ false → a ≢ b
 not-eq a b e = grind arith

@@ -2,7 +2,7 @@
 use Rattle.std.proofs.Common.{◌≡◌, ◌↔◌, ◌+◌, ◌≤◌, ◌<◌, ℕ, Bool, true, false, cond, List, [], ◌∷◌, ◌++◌, length, Option, Some, None, Result, Ok, Err, refl, sym, ap, ◌∙◌, arith, subst, inl, inr, append-nil, append_assoc, add-zero}
 use Rattle.std.proofs.Math.Dec.{leb}
 use Rattle.rip_log.specs.Codes.{is_read}
-use Rattle.rip_log.specs.Leaves.{capture_of, line_of}
+use Rattle.rip_log.specs.NextCall.{capture_of, line_of}
 use Rattle.rip_log.specs.Lines.{Capture, lines_of, judge}
 use Rattle.rip_log.specs.Logs.{Numbered, Log, log_of, log_in, with_line, faulty_log, onto_log, Gives, IfElse}
 use Rattle.rip_log.specs.LogText.{AreLines, AreRecords, IsSkipped, IsFault, too_many, bad, IsLineJudged, LogText, LogFault}

@@ -2,7 +2,7 @@
 use Rattle.std.proofs.Common.{◌≡◌, ◌≢◌, ◌+◌, ◌≤◌, ◌<◌, ◌==◌, ℕ, zero, suc, Bool, true, false, cond, List, [], ◌∷◌, length, drop, refl, sym, ap, ◌∙◌, arith}
 use Rattle.rip_log.specs.Ends.{NoFeedBelow, FirstFeed}
 use Rattle.rip_log.specs.Held.{ended_lines, ready_behind, ready_lines}
-use Rattle.rip_log.proofs.LinesLemmas.{below-rest}
+use Rattle.rip_log.proofs.LineLemmas.{below-rest}
 
 ready-other : (n b : ℕ) (bytes : List ℕ) → b ≢ 10 → ready_behind n (b ∷ bytes) ≡ ready_behind (n + 1) bytes
 ready-other n b bytes h = grind arith

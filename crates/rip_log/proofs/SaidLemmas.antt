@@ -6,7 +6,7 @@ use Rattle.std.specs.Io.KnownBytes.{Keeps}
 use Rattle.rip_log.specs.Codes.{is_read}
 use Rattle.rip_log.specs.Cuts.{DropsFirst, FirstLine, HasLine, IsEndless, LongFirst, PassesLines}
 use Rattle.rip_log.specs.Said.{AllSaid, Said, bad, all_of, many_lines, onto_said, said_at, said_in, with_said}
-use Rattle.rip_log.specs.LeavesLine.{BeginsEndless, GivesLine, IsUnread}
+use Rattle.rip_log.specs.NextLineCall.{BeginsEndless, GivesLine, IsUnread}
 use Rattle.rip_log.specs.Lines.{Capture, lines_of, judge}
 use Rattle.rip_log.specs.Logs.{IfElse}
 use Rattle.rip_log.specs.Steps.{IsPastLast, TakesLine}

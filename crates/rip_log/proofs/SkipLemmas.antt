@@ -8,7 +8,7 @@ use Rattle.rip_log.specs.Lines.{lines_of}
 use Rattle.rip_log.specs.Ends.{NoFeedBelow, FirstFeed}
 use Rattle.rip_log.specs.Cuts.{DropsFirst, IsEndless}
 use Rattle.rip_log.proofs.CutLemmas.{last-cut, length-range, range-back}
-use Rattle.rip_log.proofs.LinesLemmas.{lines_of-feed, lines_of-front}
+use Rattle.rip_log.proofs.LineLemmas.{lines_of-feed, lines_of-front}
 
 -- bytes without a line feed, and then others
 pub none-append : (xs ys : List ℕ) → NoFeedBelow xs (length xs) → NoFeedBelow ys (length ys) → NoFeedBelow (xs ++ ys) (length (xs ++ ys))

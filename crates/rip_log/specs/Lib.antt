@@ -5,8 +5,8 @@ pub mod Fields
 pub mod FoundLines
 pub mod Gave
 pub mod Held
-pub mod Leaves
-pub mod LeavesLine
+pub mod NextCall
+pub mod NextLineCall
 pub mod Lines
 pub mod LogText
 pub mod Logs

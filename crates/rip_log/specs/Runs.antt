@@ -1,6 +1,6 @@
 -- What a run of calls of `next` has taken off a log.
 use Rattle.std.specs.Prelude.{◌≡◌, List, ◌++◌}
-use Rattle.rip_log.specs.Leaves.{capture_of, line_of}
+use Rattle.rip_log.specs.NextCall.{capture_of, line_of}
 use Rattle.rip_log.specs.Logs.{Numbered, Log}
 use Rattle.rip_log.specs.declared.reader.Record.{Record}
 

@@ -5,8 +5,8 @@ use Rattle.rip_log.specs.Codes.{is_read}
 use Rattle.rip_log.specs.Said.{Origin, origin_of}
 use Rattle.rip_log.specs.Held.{ended_lines, held, ready_lines}
 use Rattle.rip_log.specs.Cuts.{FirstLine, HasLine, LongFirst}
-use Rattle.rip_log.specs.Leaves.{source_of, lines_behind, last_ready, text, has_stopped, is_unreadable}
-use Rattle.rip_log.specs.LeavesLine.{last_ended}
+use Rattle.rip_log.specs.NextCall.{source_of, lines_behind, last_ready, text, has_stopped, is_unreadable}
+use Rattle.rip_log.specs.NextLineCall.{last_ended}
 use Rattle.rip_log.specs.Wholes.{Went}
 use Rattle.rip_log.specs.Lines.{Capture, judge}
 use Rattle.rip_log.specs.Logs.{IfElse}

@@ -5,7 +5,7 @@ ghost use Rattle.std.specs.Prelude.{◌≡◌, ◌⊎◌, ◌↔◌, ◌+◌, �
 ghost use Rattle.rip_log.specs.Codes.{is_read};
 ghost use Rattle.rip_log.specs.Cuts.{PassesLines};
 ghost use Rattle.rip_log.specs.Said.{AllSaid, AreAllSaid, HasNoFault, all_said, captured_all, said_at};
-ghost use Rattle.rip_log.specs.Leaves.{capture_of, line_of};
+ghost use Rattle.rip_log.specs.NextCall.{capture_of, line_of};
 ghost use Rattle.rip_log.specs.Lines.{Capture, judge};
 ghost use Rattle.rip_log.specs.Logs.{Gives, Log, Numbered, log_at, log_in};
 ghost use Rattle.rip_log.specs.LogText.{AreLines, IsLineJudged, LogFailed, LogFault, LogText};

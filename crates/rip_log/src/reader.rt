@@ -33,7 +33,7 @@ pub struct Record<'a> {
 }
 
 impl Record<'_> {
-    ghost use Rattle.rip_log.specs.Leaves.{capture_of};
+    ghost use Rattle.rip_log.specs.NextCall.{capture_of};
 
     /// The address that sent it.
     pub fn sender(&self) -> Address
@@ -97,7 +97,7 @@ pub struct LogReader<R> {
 
 impl<R: Source> LogReader<R> {
     ghost use Rattle.rip_log.specs.contracts.reader.LogReader.{the_row};
-    ghost use Rattle.rip_log.specs.Leaves.{IsOver, Leaves, capture_of, has_stopped, line_of, lines_behind, log_to_come, source_of, text};
+    ghost use Rattle.rip_log.specs.NextCall.{IsOver, NextCall, capture_of, has_stopped, line_of, lines_behind, log_to_come, source_of, text};
     ghost use Rattle.rip_log.specs.Logs.{log_in};
     ghost use Rattle.rip_log.specs.Steps.{FoundIsGood, IsGood, LineSays, Moves, StepsOn, capture_at};
     ghost use Rattle.rip_log.specs.Held.{held};
@@ -173,7 +173,7 @@ impl<R: Source> LogReader<R> {
     /// Reads up to the next record, and says where it lies.
     #[tactic(auto, using(crate::proofs::PassLemmas::passes_trans))]
     fn advance(&mut self) -> Result<Option<FoundRecord>, LogError>
-        ensures leaves { Leaves R.given R.coming R.broken R.at_end
+        ensures leaves { NextCall R.given R.coming R.broken R.at_end
             (capture_at self.new) (λ _. lines_behind self.new) self.old self.new result }
         ensures good { IfOk result (λ found. IfSome found (IsGood self.new)) }
     {
@@ -243,9 +243,9 @@ impl<R: Source> LogReader<R> {
     /// a line was read; after an error each call answers Ended at the same line. It pulls nothing where it
     /// holds each line that it comes to: whole, or more bytes of it than a line may have.
     pub fn next(&mut self) -> Result<Option<Record<'_>>, LogError>
-        // Once the record that it lends is let go, the reader is as `Leaves` says.
+        // Once the record that it lends is let go, the reader is as `NextCall` says.
         ensures* leaves { sem 𝓛 (Rests (the_row R.row) self.entry (λ new.
-            Leaves R.given R.coming R.broken R.at_end capture_of line_of self.old new result)) }
+            NextCall R.given R.coming R.broken R.at_end capture_of line_of self.old new result)) }
     {
         match self.advance() {
             Err(error) => Err(error),

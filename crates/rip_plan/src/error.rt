@@ -61,17 +61,17 @@ impl PlanCode {
 pub enum At {
     /// The text as a whole, and the root of the document.
     Text,
-    /// The version.
+    /// The key `version`, also where it is missing.
     Version,
-    /// A link.
+    /// A link, by its number.
     Link(usize),
-    /// A prefix of a link.
+    /// A prefix of a link: the number of the link, and the prefix's there.
     LinkPrefix(usize, usize),
-    /// A router.
+    /// A router, by its number.
     Router(usize),
-    /// An interface of a router.
+    /// An interface of a router: the number of the router, and the interface's there.
     RouterInterface(usize, usize),
-    /// A router's own prefix.
+    /// A router's own prefix: the number of the router, and the prefix's there.
     RouterOwn(usize, usize),
 }
 

@@ -3,7 +3,7 @@ use Rattle.std.proofs.Common.{◌≡◌, ◌↔◌, ◌⊎◌, ℕ, Bool, true, 
 use Rattle.std.specs.Prelude.{OnOk}
 use Rattle.rip_plan.specs.Network.{Network}
 use Rattle.rip_log.specs.Said.{AllSaid, AreAllSaid, all_said}
-use Rattle.rip_log.specs.LeavesLine.{BeginsEndless}
+use Rattle.rip_log.specs.NextLineCall.{BeginsEndless}
 use Rattle.rip_table.specs.Events.{EventAt, last_event}
 use Rattle.rip_table.specs.CollectsAll.{IsLogError, SaidOutcome, UnreadAt}
 use Rattle.rip_table.specs.State.{State, new_state}

@@ -2,7 +2,7 @@
 use Rattle.std.specs.Prelude.{◌≡◌, ◌⊎◌, ℕ, Bool, true, List, ◌++◌, Result, Ok, Err}
 use Rattle.rip_plan.specs.Network.{Network}
 use Rattle.rip_log.specs.Said.{AllSaid, AreAllSaid}
-use Rattle.rip_log.specs.LeavesLine.{BeginsEndless}
+use Rattle.rip_log.specs.NextLineCall.{BeginsEndless}
 use Rattle.rip_log.specs.Lines.{lines_of}
 use Rattle.rip_table.specs.Events.{ComeTo, EventAt, last_event}
 use Rattle.rip_table.specs.State.{State, new_state}

@@ -12,7 +12,7 @@ use crate::names::{push_link, push_router, push_way};
 use rip_check::Route;
 use rip_plan::{Interface, Plan};
 
-/// Adds an interface by its router and its link.
+/// Adds an interface as `R L`, by the names of its router and its link.
 pub(crate) fn push_interface(text: &mut Line, plan: &Plan, interface: Interface)
     requires router { interface.router < length plan.now.routers }
     requires link { interface.link < length plan.now.links }

@@ -11,8 +11,8 @@ use Rattle.rip_table.specs.Joined.{is_foreign, is_past, joined_at, joined_entrie
 use Rattle.rip_table.specs.Numbers.{AreFaultless}
 use Rattle.rip_table.specs.Rows.{AreWritten, Rows, cell, grid_state, heads, shown_after, with_row, with_rows}
 use Rattle.rip_table.specs.declared.error.TableError.TheVariants.{Changed, NextHop, TooManyPrefixes}
-use Rattle.rip_table.proofs.Truth.{both-true, or-true, then-split}
-use Rattle.rip_table.proofs.Lists.{is_among-append, same-is, same-self}
+use Rattle.rip_table.proofs.TruthLemmas.{both-true, or-true, then-split}
+use Rattle.rip_table.proofs.PrefixListLemmas.{is_among-append, same-is, same-self}
 use Rattle.rip_table.proofs.RowLemmas.{heads-append}
 use Rattle.rip_table.proofs.CheckLemmas.{heard_valid}
 use Rattle.rip_table.proofs.CellLemmas.{cells-with_rows}

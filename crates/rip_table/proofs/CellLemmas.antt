@@ -9,9 +9,9 @@ use Rattle.rip_plan.specs.Network.{number_of_prefix}
 use Rattle.rip_plan.specs.Passes.{same_prefix}
 use Rattle.rip_table.specs.State.{is_among}
 use Rattle.rip_table.specs.Rows.{IsGrid, Rows, cell, heads, planned_rows, shown_after, with_cell, with_row, with_rows}
-use Rattle.rip_table.proofs.Truth.{and-false, and-true}
+use Rattle.rip_table.proofs.TruthLemmas.{and-false, and-true}
 use Rattle.rip_table.proofs.RowLemmas.{grid-tail}
-use Rattle.rip_table.proofs.Lists.{same-is}
+use Rattle.rip_table.proofs.PrefixListLemmas.{same-is}
 use Rattle.rip_table.proofs.NumberLemmas.{true-false}
 
 -- row k is the first of the prefix

@@ -14,8 +14,8 @@ use Rattle.rip_table.specs.declared.error.TableError.TheVariants.{Changed, NextH
 use Rattle.std.proofs.lemmas.Bool.{eq-eqb, le-ltb, leb-false}
 use Rattle.std.proofs.lemmas.Bool.Decides.{nat_tests}
 use Rattle.std.proofs.lemmas.List.{take-append-drop}
-use Rattle.rip_table.proofs.Truth.{and-false, and-true, or-false, or-none, or-true}
-use Rattle.rip_table.proofs.Lists.{drop-more, same-is, same-self, is_among-append, is_among-item, take-more}
+use Rattle.rip_table.proofs.TruthLemmas.{and-false, and-true, or-false, or-none, or-true}
+use Rattle.rip_table.proofs.PrefixListLemmas.{drop-more, same-is, same-self, is_among-append, is_among-item, take-more}
 use Rattle.rip_table.proofs.NumberLemmas.{metric_among-snoc, number-none, number-some, true-false}
 use Rattle.rip_plan.specs.Network.{Network}
 

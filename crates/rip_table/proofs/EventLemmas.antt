@@ -20,7 +20,7 @@ use Rattle.rip_table.specs.declared.error.TableError.TheVariants.{Changed, NextH
 use Rattle.rip_table.proofs.CheckLemmas.{heard_valid}
 use Rattle.rip_table.proofs.FitLemmas.{Fits-joined}
 use Rattle.std.specs.List.{slice_get}
-use Rattle.rip_table.proofs.Lists.{drop-end, drop-more, same-self}
+use Rattle.rip_table.proofs.PrefixListLemmas.{drop-end, drop-more, same-self}
 use Rattle.rip_table.proofs.MetricLemmas.{LowerLaws, front_metrics, response_metrics, same_entries}
 use Rattle.rip_table.proofs.RefusedLemmas.{IsElsewhere-foreign, is_joined, joined_is, joined_of_entries, response_refused}
 use Rattle.rip_table.proofs.SaidLemmas.{interface_below}

@@ -10,7 +10,7 @@ use Rattle.rip_table.specs.State.{Fits, State, is_among, new_state}
 use Rattle.rip_table.specs.Joined.{and_then, as_cause, interface_of, is_foreign, is_past, joined_at, joined_capture, joined_entries, joined_from, joined_message, message_of_capture, Takes, with_heard, with_metric}
 use Rattle.rip_table.specs.declared.error.TableError.{TableError}
 use Rattle.rip_table.specs.declared.error.TableError.TheVariants.{Changed, Memory, NextHop, TooManyPrefixes}
-use Rattle.rip_table.proofs.Lists.{same-is, is_among-item, is_among-append}
+use Rattle.rip_table.proofs.PrefixListLemmas.{same-is, is_among-item, is_among-append}
 
 -- a table goes on as another: as many interfaces, and only new prefixes at the end of the list
 pub record GoesOn (s t : State) : Type 0 where

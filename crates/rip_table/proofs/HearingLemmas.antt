@@ -6,7 +6,7 @@ use Rattle.rip_plan.specs.Relations.{IsLawful}
 use Rattle.rip_log.specs.Codes.{is_read}
 use Rattle.rip_log.specs.Cuts.{PassesLines}
 use Rattle.rip_log.specs.Said.{AllSaid, Said, SaidAt, all_of, onto_said, said_at}
-use Rattle.rip_log.specs.LeavesLine.{GivesLine, IsUnread}
+use Rattle.rip_log.specs.NextLineCall.{GivesLine, IsUnread}
 use Rattle.rip_log.specs.Lines.{lines_of}
 use Rattle.rip_log.specs.Logs.{IfElse}
 use Rattle.rip_log.specs.declared.error.LogCode.TheVariants as codes

@@ -12,7 +12,7 @@ use Rattle.rip_plan.specs.Relations.{HasAddress, IsGateway, IsInterface, IsPrefi
 use Rattle.rip_plan.specs.declared.parts.Interface.{Interface}
 use Rattle.rip_plan.specs.declared.parts.Seat.{Seat}
 use Rattle.rip_plan.specs.declared.parts.Seat.TheVariants.{Link, Own}
-use Rattle.rip_table.proofs.Lists.{same-is, same-self}
+use Rattle.rip_table.proofs.PrefixListLemmas.{same-is, same-self}
 use Rattle.rip_table.specs.Joined.{has_gateway, holds_address, is_gateway, knows_gateway}
 use Rattle.rip_table.specs.LogJoin.{KnowsGateway}
 

@@ -1,5 +1,5 @@
-pub mod Truth
-pub mod Lists
+pub mod TruthLemmas
+pub mod PrefixListLemmas
 pub mod FitLemmas
 pub mod BlameLemmas
 pub mod JoinLemmas
@@ -18,7 +18,7 @@ pub mod MakesLemmas
 pub mod MetricLemmas
 pub mod SaidLemmas
 pub mod RefusedLemmas
-pub mod OneJoin
+pub mod OneJoinLemmas
 pub mod UpdateLemmas
 pub mod OutcomeLemmas
 pub mod PairLemmas

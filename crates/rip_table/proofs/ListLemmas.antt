@@ -12,8 +12,8 @@ use Rattle.rip_table.specs.Joined.{is_foreign, is_past, joined_at, joined_entrie
 use Rattle.rip_table.specs.ListState.{IsAdded, list_state, metric_in}
 use Rattle.rip_table.specs.declared.error.TableError.TheVariants.{Changed, NextHop, TooManyPrefixes}
 use Rattle.rip_table.specs.declared.list.shown.Shown.{Shown}
-use Rattle.rip_table.proofs.Truth.{both-true, neither-true, or-none, then-split}
-use Rattle.rip_table.proofs.Lists.{same-is}
+use Rattle.rip_table.proofs.TruthLemmas.{both-true, neither-true, or-none, then-split}
+use Rattle.rip_table.proofs.PrefixListLemmas.{same-is}
 use Rattle.rip_table.proofs.TakingLemmas.{heard-with}
 use Rattle.std.proofs.lemmas.Bool.{eqb-true}
 use Rattle.rip_plan.specs.Network.{Network}

@@ -4,7 +4,7 @@ use Rattle.std.specs.List.{slice_get}
 use Rattle.std.proofs.lemmas.Option.{slice_get_within}
 use Rattle.rip_wire.specs.Prefix.{Block}
 use Rattle.rip_table.specs.State.{State, is_among}
-use Rattle.rip_table.proofs.Lists.{is_among-append}
+use Rattle.rip_table.proofs.PrefixListLemmas.{is_among-append}
 use Rattle.rip_table.proofs.NumberLemmas.{true-false}
 
 -- x says metric m of prefix p at interface i; and these interfaces are heard

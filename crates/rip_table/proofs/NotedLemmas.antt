@@ -7,7 +7,7 @@ use Rattle.rip_wire.specs.declared.entry.Entry.{Entry}
 use Rattle.rip_plan.specs.Network.{number_of_prefix}
 use Rattle.rip_plan.specs.Passes.{same_prefix}
 use Rattle.rip_table.specs.Numbers.{flag_of, metric_among}
-use Rattle.rip_table.proofs.Lists.{same-is, take-more}
+use Rattle.rip_table.proofs.PrefixListLemmas.{same-is, take-more}
 use Rattle.rip_table.proofs.NumberLemmas.{metric_among-snoc, true-false}
 
 -- the flags of the numbers of these entries are up

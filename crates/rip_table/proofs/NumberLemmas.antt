@@ -13,8 +13,8 @@ use Rattle.rip_plan.specs.Network.{number_of_prefix}
 use Rattle.rip_plan.specs.Passes.{same_prefix}
 use Rattle.rip_table.specs.State.{IsState, State, is_among}
 use Rattle.rip_table.specs.Numbers.{AreNumbers, metric_among}
-use Rattle.rip_table.proofs.Truth.{or-false, or-true}
-use Rattle.rip_table.proofs.Lists.{same-is, is_among-item, take-more}
+use Rattle.rip_table.proofs.TruthLemmas.{or-false, or-true}
+use Rattle.rip_table.proofs.PrefixListLemmas.{same-is, is_among-item, take-more}
 
 pub true-false : {A : Type 0} (b : Bool) → b ≡ true → b ≡ false → A
 true-false true h k = absurd (cc k)

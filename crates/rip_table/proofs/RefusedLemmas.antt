@@ -21,14 +21,14 @@ use Rattle.rip_table.specs.declared.error.TableError.TheVariants.{Changed, NextH
 use Rattle.rip_table.specs.declared.error.CollectCause.{CollectCause}
 use Rattle.rip_table.specs.declared.error.CollectCause.TheVariants.{Log as OfLog, Table, UnknownSender}
 use Rattle.rip_table.specs.declared.error.CollectError.{CollectError}
-use Rattle.rip_table.proofs.Lists.{is_among-item}
+use Rattle.rip_table.proofs.PrefixListLemmas.{is_among-item}
 use Rattle.rip_table.proofs.NumberLemmas.{true-false}
-use Rattle.rip_table.proofs.Truth.{then-split}
+use Rattle.rip_table.proofs.TruthLemmas.{then-split}
 use Rattle.rip_table.proofs.CheckLemmas.{heard_valid, joined-append}
 use Rattle.rip_table.proofs.HopLemmas.{address_held, gateway_known, held_address, known_gateway}
 use Rattle.rip_table.proofs.JoinLemmas.{outcome_of-front}
 use Rattle.rip_table.proofs.MetricLemmas.{AreMetrics, LowerLaws, front_metrics, response_metrics}
-use Rattle.rip_table.proofs.OneJoin.{one_join, one_taken}
+use Rattle.rip_table.proofs.OneJoinLemmas.{one_join, one_taken}
 use Rattle.rip_table.proofs.SaidLemmas.{fits_log, interface_below, item-is_among, join_made, log_then, makes_entries, makes_log, taken_made}
 
 -- ---- a route by another router

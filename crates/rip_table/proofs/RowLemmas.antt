@@ -15,7 +15,7 @@ use Rattle.rip_plan.specs.Network.{number_of_prefix}
 use Rattle.rip_plan.specs.Passes.{same_prefix}
 use Rattle.rip_table.specs.State.{is_among}
 use Rattle.rip_table.specs.Rows.{Rows, IsGrid, heads, planned_rows, rows_of, with_cell, with_row, with_rows}
-use Rattle.rip_table.proofs.Lists.{is_among-item, same-self, take-more}
+use Rattle.rip_table.proofs.PrefixListLemmas.{is_among-item, same-self, take-more}
 use Rattle.rip_table.proofs.NumberLemmas.{number-at, number-is, number-none, true-false}
 
 abbrev pub Entries : Type 0

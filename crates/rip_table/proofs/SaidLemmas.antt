@@ -21,11 +21,11 @@ use Rattle.rip_table.specs.LogJoin.{AreTaken, ComesBefore, HasEntry, HasResponse
 use Rattle.rip_table.specs.declared.error.TableError.{TableError}
 use Rattle.rip_table.specs.declared.error.TableError.TheVariants.{Changed, NextHop, TooManyPrefixes}
 use Rattle.rip_table.specs.declared.error.CollectCause.{CollectCause}
-use Rattle.rip_table.proofs.Lists.{same-is, same-self}
+use Rattle.rip_table.proofs.PrefixListLemmas.{same-is, same-self}
 use Rattle.rip_table.proofs.NumberLemmas.{number-at, number-none, true-false}
 use Rattle.rip_table.proofs.FitLemmas.{Fits-joined}
 use Rattle.rip_table.proofs.AfterLemmas.{joined_is, new_among}
-use Rattle.rip_table.proofs.Truth.{then-split}
+use Rattle.rip_table.proofs.TruthLemmas.{then-split}
 use Rattle.rip_table.proofs.CheckLemmas.{heard_valid, valid_with}
 use Rattle.rip_table.proofs.MetricLemmas.{AreMetrics, LowerLaws, response_metrics, same_entries}
 use Rattle.rip_table.proofs.MakesLemmas.{Joining, Makes, either_list, front_at, makes_as, makes_both, makes_nothing}

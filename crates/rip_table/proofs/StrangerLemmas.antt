@@ -19,7 +19,7 @@ use Rattle.rip_table.specs.declared.tallies.strangers.Stranger.{Stranger}
 use Rattle.rip_table.specs.declared.tallies.strangers.StrangerTally.{StrangerTally}
 use Rattle.rip_table.specs.declared.tallies.strangers.TheConstants.{MOST_STRANGERS}
 use Rattle.rip_table.proofs.TallyLemmas.{kind-more, first-more}
-use Rattle.rip_table.proofs.Truth.{both-true, neither-true, or-true}
+use Rattle.rip_table.proofs.TruthLemmas.{both-true, neither-true, or-true}
 
 -- ---- origins that are the same
 

@@ -14,7 +14,7 @@ use Rattle.rip_table.specs.declared.error.TableError.TheVariants.{Changed}
 use Rattle.rip_table.proofs.CheckLemmas.{heard_valid}
 use Rattle.rip_table.proofs.MakesLemmas.{either_list}
 use Rattle.rip_table.proofs.MetricLemmas.{LowerLaws, ResponseFields, same_entries}
-use Rattle.rip_table.proofs.OneJoin.{differ_others, log_lists, new_named}
+use Rattle.rip_table.proofs.OneJoinLemmas.{differ_others, log_lists, new_named}
 use Rattle.rip_table.proofs.RefusedLemmas.{entries_joined, is_joined, outcome_is}
 use Rattle.rip_table.proofs.SaidLemmas.{fits_log, interface_below, join_made, makes_log}
 

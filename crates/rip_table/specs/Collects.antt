@@ -2,7 +2,7 @@
 use Rattle.std.specs.Prelude.{◌≡◌, ◌<◌, ℕ, ◌+◌, Bool, true, false, List, ◌∷◌, ◌++◌, Option, Some, None, is_ok, Result, Ok, Err, IfErr}
 use Rattle.rip_plan.specs.Network.{Network}
 use Rattle.rip_log.specs.Codes.{is_read}
-use Rattle.rip_log.specs.Leaves.{IsOver, has_stopped, lines_behind, log_to_come, source_of}
+use Rattle.rip_log.specs.NextCall.{IsOver, has_stopped, lines_behind, log_to_come, source_of}
 use Rattle.rip_log.specs.Lines.{Capture}
 use Rattle.rip_log.specs.Logs.{Log, Numbered, IfElse}
 use Rattle.rip_log.specs.Wholes.{OfWhole, Went}

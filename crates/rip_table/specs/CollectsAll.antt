@@ -4,8 +4,8 @@ use Rattle.std.specs.Option.{option_map}
 use Rattle.rip_wire.specs.Datagram.{entries_of, message_of}
 use Rattle.rip_plan.specs.Network.{Network}
 use Rattle.rip_log.specs.Said.{AllSaid, Origin, Said, SaidAt, captured, bad as bad_line, all_of, onto_said}
-use Rattle.rip_log.specs.Leaves.{IsOver, has_stopped, lines_behind, source_of, text}
-use Rattle.rip_log.specs.LeavesLine.{BeginsEndless, said_to_come}
+use Rattle.rip_log.specs.NextCall.{IsOver, has_stopped, lines_behind, source_of, text}
+use Rattle.rip_log.specs.NextLineCall.{BeginsEndless, said_to_come}
 use Rattle.rip_log.specs.Lines.{lines_of}
 use Rattle.rip_log.specs.Wholes.{OfWhole, Went}
 use Rattle.rip_log.specs.declared.error.LogCode.TheVariants as codes

@@ -15,20 +15,20 @@ use rip_wire::{Address, Datagram};
 /// Who sent a datagram: the name of the link on which it was captured, and the address.
 #[derive(Debug, Drop)]
 pub struct Sender<'a> {
-    /// The name of the link.
+    /// The link's name, as it stands in the log.
     pub link: &'a str,
-    /// The address.
+    /// The sender's address, as it stands in the log.
     pub address: Address,
 }
 
 /// A response of an interface that the table refuses.
 #[derive(Debug, Drop)]
 pub struct Refused<'a> {
-    /// The number of the interface.
+    /// The number of the interface in the plan.
     pub interface: usize,
     /// Why it is refused; never `Memory`.
     pub error: TableError,
-    /// The response.
+    /// The response, of which nothing is in the table.
     pub datagram: &'a Datagram<'a>,
     ghost response: { kind_of (message_of datagram.now) ≡ Kind.Response },
     ghost refused: { error ≢ TableError.Memory },

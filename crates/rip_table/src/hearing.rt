@@ -3,8 +3,8 @@
 ghost use Rattle.std.specs.Prelude.{◌≡◌, [], ◌∷◌, None, MatchResult, OnErr};
 ghost use Rattle.std.specs.Option.{option_map};
 ghost use Rattle.rip_log.specs.Said.{captured, bad as bad_line};
-ghost use Rattle.rip_log.specs.Leaves.{capture_of};
-ghost use Rattle.rip_log.specs.LeavesLine.{number_of, origin_lent, said_of};
+ghost use Rattle.rip_log.specs.NextCall.{capture_of};
+ghost use Rattle.rip_log.specs.NextLineCall.{number_of, origin_lent, said_of};
 ghost use Rattle.rip_table.specs.Events.{bad};
 ghost use Rattle.rip_table.specs.CollectsAll.{CollectsAll, HasRoom, HoldsMore, Hears};
 ghost use Rattle.rip_table.specs.State.{Fits, State};

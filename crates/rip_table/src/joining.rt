@@ -1,6 +1,6 @@
 //! The loop over the records of a log.
 
-ghost use Rattle.rip_log.specs.Leaves.{capture_of};
+ghost use Rattle.rip_log.specs.NextCall.{capture_of};
 ghost use Rattle.rip_table.specs.Collects.{Collects};
 ghost use Rattle.rip_table.specs.Joined.{Joins};
 ghost use Rattle.rip_table.specs.State.{Fits};

@@ -1,18 +1,17 @@
-//! Verdicts on small networks, and what they come from, over both tables; and the right routes of their plans.
+//! Verdicts on small networks, and what they come from, over both tables; and the right routes of their
+//! plans.
 
 ghost use Rattle.rip_table.specs.State.{Fits};
 ghost use Rattle.rip_check.specs.Expected.{AreExpected};
 
-use crate::examples::{PHANTOM, SETTLED, SLOPE, TRIANGLE, joined};
-use crate::table::new_grid;
+use crate::examples::{PHANTOM, SETTLED, SLOPE, TRIANGLE, joined, metric, plan_of};
+use crate::table::{fill, new_grid};
 use rip_check::{
     Expected, Place2, Route, Unclear, Unsettled, Verdict, Way, equation, judge, least_metric,
     next_unsettled, offer, route,
 };
-use rip_log::{FromRead, LogReader};
 use rip_plan::Plan;
-use rip_table::{GridTable, ListTable, MetricTable, collect};
-use rip_wire::Metric;
+use rip_table::{GridTable, ListTable, MetricTable};
 use std::alloc::{AllocError, Global};
 use std::hash::{BuildHasherDefault, FoldHasher};
 use std::process::Abort;
@@ -89,26 +88,12 @@ a 10.1.0.2 02020000000200000a020000ffff00000000000000000001
 d 10.4.0.2 02020000000200000a020000ffff00000000000000000001
 ";
 
-pub(crate) fn plan_of(rt: &impl Abort, alloc: Global, text: &str) -> Plan {
-    match Plan::read(alloc, text.as_bytes()) {
-        Ok(plan) => plan,
-        Err(_) => panic!(rt; "no plan"),
-    }
-}
-
-fn metric(rt: &impl Abort, number: u32) -> Metric {
-    Metric::new(number).expect(rt, "a metric")
-}
-
 /// Joins a log into a table.
 fn join<T: MetricTable>(rt: &impl Abort, alloc: Global, plan: &Plan, table: &mut T, log: &str)
     requires { Fits plan.now (T.state table.old) }
     ensures { Fits plan.now (T.state table.new) }
 {
-    let Ok(mut reader) = LogReader::new(alloc, FromRead::new(log.as_bytes())) else {
-        panic!(rt; "no memory");
-    };
-    assert_eq!(rt; collect(plan, &mut reader, table), Ok(()));
+    assert_eq!(rt; fill(rt, alloc, plan, log.as_bytes(), table), Ok(()));
 }
 
 /// The plain table of a log.
@@ -209,7 +194,7 @@ fn expect(rt: &impl Abort, alloc: Global, (plan, log): (&Plan, &str), verdict: &
 }
 
 /// A place that fails: its router and prefix, its metric and the least choice, and its way.
-fn failing(
+fn unsettled_place(
     rt: &impl Abort,
     (router, prefix): (usize, usize),
     (number, least): (u32, u32),
@@ -356,9 +341,9 @@ fn the_settled_triangle(rt: HostRuntime) {
 fn expect_phantoms<T: MetricTable>(rt: &impl Abort, plan: &Plan, table: &T)
     requires { Fits plan.now (T.state table.now) }
 {
-    let second = failing(rt, (1, 3), (2, 3), Way::Over(1));
+    let second = unsettled_place(rt, (1, 3), (2, 3), Way::Over(1));
     expect_next(rt, plan, table, (0, 3), Some(second));
-    let third = failing(rt, (2, 3), (2, 3), Way::Over(2));
+    let third = unsettled_place(rt, (2, 3), (2, 3), Way::Over(2));
     expect_next(rt, plan, table, (1, 3), Some(third));
     expect_next(rt, plan, table, (2, 3), None);
 }
@@ -367,7 +352,7 @@ fn expect_phantoms<T: MetricTable>(rt: &impl Abort, plan: &Plan, table: &T)
 fn a_prefix_that_nobody_has(rt: HostRuntime) {
     let alloc = rt.alloc();
     let plan = plan_of(&rt, alloc, TRIANGLE);
-    let first = failing(&rt, (0, 3), (2, 3), Way::Over(0));
+    let first = unsettled_place(&rt, (0, 3), (2, 3), Way::Over(0));
     expect(&rt, alloc, (&plan, PHANTOM), &Verdict::Unsettled(first));
     expect_phantoms(&rt, &plan, &list_of(&rt, alloc, &plan, PHANTOM));
     expect_phantoms(&rt, &plan, &grid_of(&rt, alloc, &plan, PHANTOM));
@@ -431,7 +416,7 @@ fn a_leaf(rt: HostRuntime) -> Result<(), AllocError> {
     ];
     expect_routes(&rt, alloc, (&plan, settled.as_str()), &rows);
     let poisoned = joined(alloc, SETTLED, LEAF_POISONED)?;
-    let mut place = failing(&rt, (3, 3), (16, 1), Way::Unreachable);
+    let mut place = unsettled_place(&rt, (3, 3), (16, 1), Way::Unreachable);
     place.hidden = true;
     expect(
         &rt,

@@ -1,6 +1,22 @@
-//! Plans and logs written out.
+//! Plans and logs written out, and what tests make of texts and numbers.
 
+use rip_plan::Plan;
+use rip_wire::Metric;
 use std::alloc::{AllocError, Global};
+use std::process::Abort;
+
+/// The plan of a text.
+pub(crate) fn plan_of(rt: &impl Abort, alloc: Global, text: &str) -> Plan {
+    match Plan::read(alloc, text.as_bytes()) {
+        Ok(plan) => plan,
+        Err(_) => panic!(rt; "no plan"),
+    }
+}
+
+/// The metric of a number.
+pub(crate) fn metric(rt: &impl Abort, number: u32) -> Metric {
+    Metric::new(number).expect(rt, "a metric")
+}
 
 /// The text of two parts.
 pub(crate) fn joined(alloc: Global, front: &str, back: &str) -> Result<String, AllocError> {

@@ -1,5 +1,5 @@
-//! The tests of the libraries, over what these make public. They stand apart, since the check of a crate proves it once more
-//! with its tests.
+//! The tests of the libraries, over what these make public. They stand apart, since the check of a crate
+//! proves it once more with its tests.
 #![tactic(auto)]
 
 #[cfg(test)]

@@ -1,4 +1,5 @@
-//! Each command as it is called. What the commands print of many more plans, logs and datagrams is tried with the built program.
+//! Each command as it is called. What the commands print of many more plans, logs and datagrams is tried
+//! with the built program.
 
 use rip_log::{IntoWrite, Sink};
 use std::process::Abort;

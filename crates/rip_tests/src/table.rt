@@ -3,10 +3,11 @@
 ghost use Rattle.std.specs.Prelude.{◌≡◌, ◌≤◌, ◌<◌, IfOk, length};
 ghost use Rattle.rip_table.specs.State.{Fits};
 
+use crate::examples::{metric, plan_of};
 use rip_log::{FromRead, LogReader};
 use rip_plan::Plan;
 use rip_table::{CollectCause, GridTable, ListTable, MetricTable, TableError, collect};
-use rip_wire::{Address, Entry, MOST_ENTRIES, Metric, Prefix, read, write_response};
+use rip_wire::{Address, Entry, MOST_ENTRIES, Prefix, read, write_response};
 use std::alloc::Global;
 use std::hash::{BuildHasherDefault, FoldHasher};
 use std::process::Abort;
@@ -50,10 +51,6 @@ address = "10.1.0.2"
 
 fn prefix(rt: &impl Abort, x: u8) -> Prefix {
     Prefix::new(Address::new(u32::from_be_bytes([10, x, 0, 0])), 16).expect(rt, "a prefix")
-}
-
-fn metric(rt: &impl Abort, number: u32) -> Metric {
-    Metric::new(number).expect(rt, "a metric")
 }
 
 /// The entry of 10.X.0.0/16 with this metric and next hop.
@@ -133,10 +130,7 @@ fn agree<T: MetricTable, U: MetricTable>(one: &T, other: &U) -> bool {
 
 /// A plan of three interfaces.
 fn plan_in(rt: &impl Abort, alloc: Global) -> Plan {
-    match Plan::read(alloc, PLAN.as_bytes()) {
-        Ok(plan) => plan,
-        Err(_) => panic!(rt; "no plan"),
-    }
+    plan_of(rt, alloc, PLAN)
 }
 
 /// A grid in which nothing was heard.

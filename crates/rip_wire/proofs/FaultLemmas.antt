@@ -11,8 +11,8 @@ use Rattle.rip_wire.specs.Prefix.{size_of, mask_of}
 use Rattle.rip_wire.specs.Fields.{number_at, entry_offset}
 use Rattle.rip_wire.specs.Faults.{IsFieldAt, IsFault, rank, WireFault}
 use Rattle.rip_wire.specs.Message.{Message, request, response, ◌>>=◌, prefix_of, metric_of, entry_at, entries_at, bits_of_mask, kind_in, groups_in, message_of_kind, message_in}
-use Rattle.rip_wire.proofs.Masks.{bits_of_mask-mask_of, bits_of_mask-Some, no_mask}
-use Rattle.rip_wire.proofs.Messages.{headed}
+use Rattle.rip_wire.proofs.MaskLemmas.{bits_of_mask-mask_of, bits_of_mask-Some, no_mask}
+use Rattle.rip_wire.proofs.MessageLemmas.{headed}
 
 -- ---- What is told is a fault
 

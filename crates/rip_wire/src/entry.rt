@@ -11,7 +11,7 @@ pub struct Entry {
     pub prefix: Prefix,
     /// The next hop; 0.0.0.0 stands for the sender.
     pub next_hop: Address,
-    /// The metric.
+    /// How far the destination is: 1 to 15, or 16 if it is unreachable.
     pub metric: Metric,
 }
 

@@ -49,9 +49,9 @@ pub(crate) enum LogCommand {
     Audit { all: bool },
     /// The verdict and what it comes from, for the first place that does not hold or for all.
     Explain { all: bool },
-    /// The routes.
+    /// The route that each router has, by what it shows.
     Routes,
-    /// The table.
+    /// What each interface shows.
     Table,
 }
 

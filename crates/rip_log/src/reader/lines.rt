@@ -22,7 +22,7 @@ pub struct Origin<'a> {
 }
 
 impl Origin<'_> {
-    ghost use Rattle.rip_log.specs.LeavesLine.{origin_lent};
+    ghost use Rattle.rip_log.specs.NextLineCall.{origin_lent};
 
     /// The address that sent it.
     pub fn sender(&self) -> Address
@@ -64,8 +64,8 @@ impl<R: Source> LogReader<R> {
     ghost use Rattle.rip_log.specs.contracts.reader.LogReader.{the_row};
     ghost use Rattle.rip_log.specs.Cuts.{DropsFirst, IsEndless};
     ghost use Rattle.rip_log.specs.Held.{ended_lines, held};
-    ghost use Rattle.rip_log.specs.Leaves.{has_stopped, lines_behind, source_of, text};
-    ghost use Rattle.rip_log.specs.LeavesLine.{LeavesLine, last_ended, number_of, origin_lent, said_of};
+    ghost use Rattle.rip_log.specs.NextCall.{has_stopped, lines_behind, source_of, text};
+    ghost use Rattle.rip_log.specs.NextLineCall.{NextLineCall, last_ended, number_of, origin_lent, said_of};
     ghost use Rattle.rip_log.specs.FoundLines.{IsGoodLine, said_found};
     ghost use Rattle.rip_log.specs.Steps.{IsGoodFault, origin_found};
     ghost use Rattle.rip_log.specs.Wholes.{OfWhole, Went};
@@ -103,7 +103,7 @@ impl<R: Source> LogReader<R> {
 
     /// Reads up to the next line that says something, good or bad, and says where it lies.
     fn advance_line(&mut self) -> Result<Option<FoundLine>, LogError>
-        ensures leaves { LeavesLine R.given R.coming R.broken R.at_end
+        ensures leaves { NextLineCall R.given R.coming R.broken R.at_end
             (said_found self.new) (λ _. lines_behind self.new) self.old self.new result }
         ensures good { IfOk result (λ found. IfSome found (IsGoodLine self.new)) }
     {
@@ -169,9 +169,9 @@ impl<R: Source> LogReader<R> {
     /// has more than `u64::MAX` bytes); after an error each call answers Ended at the same line. It pulls
     /// nothing where it holds each line that it comes to, with its line feed.
     pub fn next_line(&mut self) -> Result<Option<Line<'_>>, LogError>
-        // Once the line that it lends is let go, the reader is as `LeavesLine` says.
+        // Once the line that it lends is let go, the reader is as `NextLineCall` says.
         ensures* leaves { sem 𝓛 (Rests (the_row R.row) self.entry (λ new.
-            LeavesLine R.given R.coming R.broken R.at_end said_of number_of self.old new result)) }
+            NextLineCall R.given R.coming R.broken R.at_end said_of number_of self.old new result)) }
     {
         match self.advance_line() {
             Err(error) => Err(error),

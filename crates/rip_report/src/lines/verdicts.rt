@@ -53,7 +53,7 @@ pub(crate) fn settled_text<T: MetricTable>(plan: &Plan, table: &T) -> Line
     text
 }
 
-/// Adds a router and a prefix of the table, by their numbers.
+/// Adds a place as `router R prefix P: `, by the numbers of its router and its prefix.
 fn push_place<T: MetricTable>(text: &mut Line, plan: &Plan, table: &T, router: usize, prefix: usize)
     requires router { router < length plan.now.routers }
     requires prefix { prefix < length (T.state table.now).prefixes }
@@ -149,7 +149,7 @@ pub(crate) fn unsettled_text<T: MetricTable>(plan: &Plan, table: &T, place: &Pla
     text
 }
 
-/// Adds an interface by its router and its link.
+/// Adds an interface as `router R link L: `.
 fn push_interface(text: &mut Line, plan: &Plan, router: usize, link: usize)
     requires router { router < length plan.now.routers }
     requires link { link < length plan.now.links }

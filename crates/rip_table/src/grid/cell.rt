@@ -31,7 +31,7 @@ impl Cell {
         Cell { number: 0 }
     }
 
-    /// A metric.
+    /// The cell of an interface that showed this metric.
     pub(crate) fn of(metric: Metric) -> Cell
         ensures { result ≡ Some metric }
     {

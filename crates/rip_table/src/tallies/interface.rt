@@ -115,7 +115,7 @@ impl InterfaceTally {
         self.bad.add(line);
     }
 
-    /// A request.
+    /// Counts a request.
     fn ask(&mut self, line: u32)
         requires { self.old.requests.count ≤ MOST_LINES }
         ensures { (i : ℕ) → self.new ≡ with_event i self.old

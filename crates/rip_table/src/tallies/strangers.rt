@@ -21,9 +21,9 @@ pub const MOST_STRANGERS: usize = 256;
 /// The name of a link, and an address that spoke there and that no interface has.
 #[derive(Debug, Drop, PartialEq, Eq, Hash)]
 pub struct Stranger {
-    /// The name of the link.
+    /// The link's name, as it stands in the log.
     pub link: String,
-    /// The address.
+    /// The address, which no interface of the plan has on that link.
     pub address: Address,
 }
 

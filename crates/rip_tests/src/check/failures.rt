@@ -4,8 +4,8 @@ ghost use Rattle.std.specs.Prelude.{◌<◌, length};
 ghost use Rattle.rip_check.specs.Expected.{AreExpected};
 ghost use Rattle.rip_check.specs.Impacts.{HasRoom};
 
-use super::{LEAF, plan_of};
-use crate::examples::{TRIANGLE, joined};
+use super::LEAF;
+use crate::examples::{TRIANGLE, joined, plan_of};
 use rip_check::{Aftermath, Expected, Failure};
 use rip_plan::Plan;
 use std::alloc::AllocError;

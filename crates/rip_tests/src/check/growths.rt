@@ -12,7 +12,7 @@ use std::alloc::Global;
 use std::process::Abort;
 use std::test::Fail;
 
-/// Judges two tables of the settled log. It says whether there was no memory then.
+/// Judges two tables of the settled log, and tells whether memory was refused then.
 fn judge_both<T: MetricTable, U: MetricTable>(
     rt: &impl Abort,
     alloc: Global,

@@ -15,7 +15,7 @@ use std::test::Fail;
 /// What is left out of the log with the lines that are refused.
 const LEFT_OUT: &str = "left out: 2 refused, 1 of strangers, 2 bad\n";
 
-/// The commands.
+/// The commands that print anyway.
 #[derive(Clone, Copy)]
 enum Command {
     Routes,

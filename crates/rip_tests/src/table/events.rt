@@ -2,8 +2,7 @@
 
 ghost use Rattle.std.specs.Prelude.{⊤, []};
 
-use crate::check::plan_of;
-use crate::examples::{MORE_LINES, SETTLED, TRIANGLE, joined};
+use crate::examples::{MORE_LINES, SETTLED, TRIANGLE, joined, plan_of};
 use rip_log::{FromRead, LogCode, LogReader};
 use rip_plan::Plan;
 use rip_table::{
@@ -53,7 +52,8 @@ impl Listener for Notes {
     }
 }
 
-/// Reads the whole log, in which the plan has three prefixes, into a table and a listener.
+/// Reads the settled log and further lines into a listener and a table, which then has the plan's three
+/// prefixes alone.
 fn hear_all<L: Listener>(
     rt: &impl Abort,
     alloc: Global,

@@ -4,7 +4,7 @@ ghost use Rattle.std.specs.Prelude.{◌≡◌};
 ghost use Rattle.rip_table.specs.State.{Fits};
 
 use super::{agree, changed, is_heard, new_grid, shown};
-use crate::examples::{PHANTOM, SETTLED, TRIANGLE, joined};
+use crate::examples::{PHANTOM, SETTLED, TRIANGLE, joined, plan_of};
 use rip_log::{FromRead, LogReader};
 use rip_plan::Plan;
 use rip_table::{CollectCause, CollectError, ListTable, MetricTable, TableError, collect};
@@ -95,9 +95,7 @@ fn expect_refusals(
     line: &str,
     error: &TableError,
 ) -> Result<(), Fail> {
-    let Ok(plan) = Plan::read(alloc, TRIANGLE.as_bytes()) else {
-        panic!(rt; "no plan");
-    };
+    let plan = plan_of(rt, alloc, TRIANGLE);
     let log = joined(alloc, SETTLED, line)?;
     let mut list = ListTable::new(alloc, &plan)?;
     expect_refusal(rt, alloc, &plan, log.as_bytes(), &mut list, error);
@@ -116,9 +114,7 @@ fn changed_metrics_leave_the_lines_before(rt: HostRuntime) -> Result<(), Fail> {
 /// Each front of a log, and a sender that nobody is planned to be: both tables come to the same.
 #[test]
 fn both_tables(rt: HostRuntime) -> Result<(), Fail> {
-    let Ok(plan) = Plan::read(rt.alloc(), TRIANGLE.as_bytes()) else {
-        panic!(rt; "no plan");
-    };
+    let plan = plan_of(&rt, rt.alloc(), TRIANGLE);
     let unknown = joined(rt.alloc(), SETTLED, UNKNOWN)?;
     for (log, end) in [
         (PHANTOM, 20),

@@ -1,5 +1,5 @@
 use Rattle.std.proofs.Common.{get_or}
-use Rattle.rip_check.proofs.Staying.{stays}
+use Rattle.rip_check.proofs.StayingLemmas.{stays}
 use Rattle.rip_check.proofs.aftermath.find_after.Goals as goal
 
 pub returns-else-touches : goal.returns-else-touches

@@ -1,7 +1,7 @@
 use Rattle.std.proofs.Common.{◌≡◌, inl, inr, refl, arith}
 use Rattle.std.proofs.lemmas.Bool.{cases_lt}
-use Rattle.rip_check.proofs.Left.{direct_known, was_direct}
-use Rattle.rip_check.proofs.Plans.{direct_most}
+use Rattle.rip_check.proofs.LeftLemmas.{direct_known, was_direct}
+use Rattle.rip_check.proofs.PlanLemmas.{direct_most}
 use Rattle.rip_check.proofs.aftermath.is_anywhere.Goals as goal
 
 pub returns-then-direct_left-lt16 : goal.returns-then-direct_left-lt16

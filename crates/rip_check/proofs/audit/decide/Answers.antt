@@ -1,6 +1,6 @@
 use Rattle.rip_check.specs.Firsts.{IsFirstUnclear}
-use Rattle.rip_check.proofs.Readable.{tables_shown}
-use Rattle.rip_check.proofs.OneVerdict.{trouble_from, sound_is_right}
+use Rattle.rip_check.proofs.ReadableLemmas.{tables_shown}
+use Rattle.rip_check.proofs.OneVerdictLemmas.{trouble_from, sound_is_right}
 use Rattle.rip_check.proofs.audit.decide.Goals as goal
 
 pub returns-in-Err : goal.returns-in-Err

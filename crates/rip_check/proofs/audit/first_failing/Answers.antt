@@ -1,7 +1,7 @@
 use Rattle.std.proofs.Common.{◌≡◌, ℕ, ◌<◌, Bool, true, false, not, Option, Some, None, IfSome, IfNone, is_some, below_more, length, refl, sym, ap, subst, ◌∙◌, arith}
 use Rattle.rip_check.specs.Verdicts.{IsSound, route_of}
-use Rattle.rip_check.proofs.Readable.{fits_readable, one_sound, one_fails}
-use Rattle.rip_check.proofs.FirstPlaces.{so_far_on, so_far_first, all_so_far, IsFirstSoFar}
+use Rattle.rip_check.proofs.ReadableLemmas.{fits_readable, one_sound, one_fails}
+use Rattle.rip_check.proofs.FirstPlaceLemmas.{so_far_on, so_far_first, all_so_far, IsFirstSoFar}
 use Rattle.rip_check.proofs.audit.first_failing.Goals as goal
 use Rattle.rip_check.proofs.audit.first_failing.Goals.{then-is_none+then-router-below+then-is_some, else-is_none, else-is_none-via-then-is_none+then-router-below+else-is_some, else-is_none-via-then-is_none+else-router-below, else-is_none-via-else-is_none}
 

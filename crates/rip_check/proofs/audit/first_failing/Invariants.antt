@@ -1,7 +1,7 @@
 use Rattle.std.proofs.Common.{None}
 use Rattle.rip_check.specs.Firsts.{IsFirstOf, IsReadable}
 use Rattle.rip_check.specs.Verdicts.{IsSound}
-use Rattle.rip_check.proofs.FirstPlaces.{IsFirstSoFar}
+use Rattle.rip_check.proofs.FirstPlaceLemmas.{IsFirstSoFar}
 use Rattle.rip_check.proofs.audit.first_failing.Given as goal
 
 abbrev pub invariant-loop-router : goal.invariant-loop-router

@@ -1,6 +1,6 @@
 use Rattle.std.proofs.Common.{◌≡◌, inl, inr, true, false, IsTrue, refl, sym, ◌∙◌, arith}
 use Rattle.std.proofs.lemmas.Bool.{cases_lt}
-use Rattle.rip_check.proofs.Owned.{within}
+use Rattle.rip_check.proofs.OwnedLemmas.{within}
 use Rattle.rip_check.proofs.audit.first_unheard.Goals as goal
 
 pub returns-then-not-heard-clause-some : goal.returns-then-not-heard-clause-some

@@ -1,10 +1,10 @@
 use Rattle.std.proofs.Common.{◌≡◌, ◌<◌, Option, Some, None, IfSome, is_some, true, below_more, length, arith}
 use Rattle.rip_check.specs.Verdicts.{route_of}
-use Rattle.rip_check.specs.declared.routes.Reading.{Reading}
-use Rattle.rip_check.proofs.Readable.{fits_readable}
+use Rattle.rip_check.specs.declared.routes.ReadRoute.{ReadRoute}
+use Rattle.rip_check.proofs.ReadableLemmas.{fits_readable}
 use Rattle.rip_check.proofs.audit.first_unreadable.Goals as goal
 
-of_some : {P : Reading → Type 0} {Q : Type 0} (o : Option Reading) → IfSome o P → is_some o ≡ true → ((t : Reading) → P t → Q) → Q
+of_some : {P : ReadRoute → Type 0} {Q : Type 0} (o : Option ReadRoute) → IfSome o P → is_some o ≡ true → ((t : ReadRoute) → P t → Q) → Q
 of_some None h e then = absurd cc
 of_some (Some t) h e then = then t h
 

@@ -1,5 +1,5 @@
 use Rattle.rip_check.specs.declared.verdict.Verdict.TheVariants.{Settled, Unsettled, Unclear as IsUnclear}
-use Rattle.rip_check.proofs.Meanings.{exactly, settled_places_too, no_tables, arrive}
+use Rattle.rip_check.proofs.MeaningLemmas.{exactly, settled_places_too, no_tables, arrive}
 use Rattle.rip_check.proofs.audit.judge.Goals as goal
 
 pub returns : goal.returns

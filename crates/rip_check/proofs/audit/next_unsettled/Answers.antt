@@ -1,6 +1,6 @@
 use Rattle.std.proofs.Common.{◌+◌, ◌<◌, arith, length}
 use Rattle.rip_check.specs.Verdicts.{IsSound}
-use Rattle.rip_check.proofs.Order.{row_first, rows_on, StartsAt, starts_none, starts_some, none_sooner, in_front, at_back, all_later}
+use Rattle.rip_check.proofs.OrderLemmas.{row_first, rows_on, StartsAt, starts_none, starts_some, none_sooner, in_front, at_back, all_later}
 use Rattle.rip_check.proofs.audit.next_unsettled.Goals as goal
 use Rattle.rip_check.proofs.audit.next_unsettled.Goals.{in-None, in-Some}
 

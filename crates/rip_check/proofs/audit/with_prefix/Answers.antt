@@ -1,7 +1,7 @@
 use Rattle.std.proofs.Common.{length, Some, None, ◌∙◌, refl}
 use Rattle.rip_check.specs.Firsts.{IsReadable}
 use Rattle.rip_check.specs.Verdicts.{IsSound}
-use Rattle.rip_check.proofs.FirstPlaces.{IsRouterOf, next_none, next_some}
+use Rattle.rip_check.proofs.FirstPlaceLemmas.{IsRouterOf, next_none, next_some}
 use Rattle.rip_check.proofs.audit.with_prefix.Goals as goal
 use Rattle.rip_check.proofs.audit.with_prefix.Goals.{in-Some-failing, in-None-failing}
 

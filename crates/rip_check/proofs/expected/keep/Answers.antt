@@ -1,7 +1,7 @@
 use Rattle.std.proofs.Common.{◌≡◌, ◌+◌, ◌*◌, ◌<◌, ◌∙◌, refl, get_or, length, arith}
 use Rattle.std.proofs.lemmas.Nat.{mul-add-lt}
 use Rattle.std.proofs.lemmas.Grind.{common_steps}
-use Rattle.rip_check.proofs.Marking.{one_more_mark, other_mark}
+use Rattle.rip_check.proofs.MarkLemmas.{one_more_mark, other_mark}
 use Rattle.rip_check.proofs.expected.keep.Goals as goal
 
 pub loop-router-preserved : goal.loop-router-preserved

@@ -1,5 +1,5 @@
 use Rattle.std.proofs.Common.{refl}
-use Rattle.rip_check.proofs.Left.{was_direct}
+use Rattle.rip_check.proofs.LeftLemmas.{was_direct}
 use Rattle.rip_check.proofs.failures.direct_left.Goals as goal
 
 pub returns-then-has_left-clause-least : goal.returns-then-has_left-clause-least

@@ -1,5 +1,5 @@
 use Rattle.std.proofs.Common.{inl}
-use Rattle.rip_check.proofs.Plans.{attached_test}
+use Rattle.rip_check.proofs.PlanLemmas.{attached_test}
 use Rattle.rip_check.proofs.failures.has_beside.Goals as goal
 use Rattle.rip_check.proofs.failures.has_beside.Goals.{then-is_place, else-is_place}
 

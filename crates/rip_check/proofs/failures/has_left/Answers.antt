@@ -3,7 +3,7 @@ use Rattle.rip_plan.specs.Relations.{IsDirect}
 use Rattle.rip_check.specs.declared.failures.Failure.{Failure}
 use Rattle.rip_check.specs.declared.failures.Failure.TheVariants.{Link, Router}
 use Rattle.rip_check.specs.Failures.{network_left}
-use Rattle.rip_check.proofs.Left.{beside_left, beside_lost, not_that, others_left, own_lost, that_one}
+use Rattle.rip_check.proofs.LeftLemmas.{beside_left, beside_lost, not_that, others_left, own_lost, that_one}
 use Rattle.rip_check.proofs.failures.has_left.Goals as goal
 
 pub returns-in-Some-Link-clause-left : goal.returns-in-Some-Link-clause-left

@@ -1,5 +1,5 @@
 use Rattle.std.proofs.Common.{◌≡◌, get_or, refl}
-use Rattle.rip_check.proofs.Owned.{its_number, its_own, each_more, every}
+use Rattle.rip_check.proofs.OwnedLemmas.{its_number, its_own, each_more, every}
 use Rattle.rip_check.proofs.failures.is_on.Goals as goal
 
 pub interface-requires : goal.interface-requires

@@ -1,5 +1,5 @@
 use Rattle.std.proofs.Common.{◌∙◌, sym}
-use Rattle.rip_check.proofs.Left.{any_attached_up, attached_up, kept_up, still_kept, was_kept}
+use Rattle.rip_check.proofs.LeftLemmas.{any_attached_up, attached_up, kept_up, still_kept, was_kept}
 use Rattle.rip_check.proofs.failures.keeps.Goals as goal
 
 pub returns-then-keeps : goal.returns-then-keeps

@@ -1,4 +1,4 @@
-use Rattle.rip_check.proofs.Descent.{reached, no_path_is_cheaper}
+use Rattle.rip_check.proofs.DescentLemmas.{reached, no_path_is_cheaper}
 use Rattle.rip_check.proofs.laws.equations_give_least_paths.Goals as goal
 
 pub returns-clause-reached : goal.returns-clause-reached

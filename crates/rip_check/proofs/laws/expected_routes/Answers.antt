@@ -1,4 +1,4 @@
-use Rattle.rip_check.proofs.Expecting.{right_expected, expected_right}
+use Rattle.rip_check.proofs.ExpectingLemmas.{right_expected, expected_right}
 use Rattle.rip_check.proofs.laws.expected_routes.Goals as goal
 
 pub returns : goal.returns

@@ -1,5 +1,5 @@
 use Rattle.std.proofs.Common.{Some}
-use Rattle.rip_check.proofs.Left.{not_nearer}
+use Rattle.rip_check.proofs.LeftLemmas.{not_nearer}
 use Rattle.rip_check.proofs.laws.failures_bring_nothing_nearer.Goals as goal
 
 pub returns : goal.returns

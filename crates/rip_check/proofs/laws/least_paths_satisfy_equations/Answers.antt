@@ -1,4 +1,4 @@
-use Rattle.rip_check.proofs.Converse.{holds}
+use Rattle.rip_check.proofs.ConverseLemmas.{holds}
 use Rattle.rip_check.proofs.laws.least_paths_satisfy_equations.Goals as goal
 
 pub returns : goal.returns

@@ -1,4 +1,4 @@
-use Rattle.rip_check.proofs.Overs.{no_way_back}
+use Rattle.rip_check.proofs.OverLemmas.{no_way_back}
 use Rattle.rip_check.proofs.laws.no_way_back.Goals as goal
 
 pub returns : goal.returns

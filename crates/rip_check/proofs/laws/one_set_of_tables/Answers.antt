@@ -1,4 +1,4 @@
-use Rattle.rip_check.proofs.Reading.{one_route}
+use Rattle.rip_check.proofs.RouteLemmas.{one_route}
 use Rattle.rip_check.proofs.laws.one_set_of_tables.Goals as goal
 
 pub returns-clause-route : goal.returns-clause-route

@@ -1,4 +1,4 @@
-use Rattle.rip_check.proofs.PlainPaths.{path_plain, plain_path, right_plain, plain_right}
+use Rattle.rip_check.proofs.PlainPathLemmas.{path_plain, plain_path, right_plain, plain_right}
 use Rattle.rip_check.proofs.laws.plain_paths.Goals as goal
 
 pub returns-clause-paths : goal.returns-clause-paths

@@ -1,4 +1,4 @@
-use Rattle.rip_check.proofs.Poison.{poison}
+use Rattle.rip_check.proofs.PoisonLemmas.{poison}
 use Rattle.rip_check.proofs.laws.poison_hides_nothing.Goals as goal
 
 pub returns : goal.returns

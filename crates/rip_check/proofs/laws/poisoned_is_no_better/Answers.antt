@@ -1,4 +1,4 @@
-use Rattle.rip_check.proofs.Poison.{givers, silence}
+use Rattle.rip_check.proofs.PoisonLemmas.{givers, silence}
 use Rattle.rip_check.proofs.laws.poisoned_is_no_better.Goals as goal
 
 pub returns-clause-over : goal.returns-clause-over

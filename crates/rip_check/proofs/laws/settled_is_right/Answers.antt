@@ -1,5 +1,5 @@
-use Rattle.rip_check.proofs.Descent.{right}
-use Rattle.rip_check.proofs.Converse.{holds}
+use Rattle.rip_check.proofs.DescentLemmas.{right}
+use Rattle.rip_check.proofs.ConverseLemmas.{holds}
 use Rattle.rip_check.proofs.laws.settled_is_right.Goals as goal
 
 pub returns : goal.returns

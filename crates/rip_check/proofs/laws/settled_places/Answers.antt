@@ -1,4 +1,4 @@
-use Rattle.rip_check.proofs.Judging.{tables_are_right, places_are_settled}
+use Rattle.rip_check.proofs.JudgingLemmas.{tables_are_right, places_are_settled}
 use Rattle.rip_check.proofs.laws.settled_places.Goals as goal
 
 pub returns : goal.returns

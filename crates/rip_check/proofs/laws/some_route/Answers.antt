@@ -1,4 +1,4 @@
-use Rattle.rip_check.proofs.Overs.{some_way}
+use Rattle.rip_check.proofs.OverLemmas.{some_way}
 use Rattle.rip_check.proofs.laws.some_route.Goals as goal
 
 pub returns : goal.returns

@@ -1,4 +1,4 @@
-use Rattle.rip_check.proofs.TwoWays.{two_ways_shown}
+use Rattle.rip_check.proofs.TwoWaysLemmas.{two_ways_shown}
 use Rattle.rip_check.proofs.laws.two_ways.Goals as goal
 
 pub returns : goal.returns

@@ -1,4 +1,4 @@
-use Rattle.rip_check.proofs.Walking.{walks_fall, walks_end, walks_end_there, walks_go_on}
+use Rattle.rip_check.proofs.WalkLemmas.{walks_fall, walks_end, walks_end_there, walks_go_on}
 use Rattle.rip_check.proofs.laws.walks_arrive.Goals as goal
 
 pub returns-clause-fall : goal.returns-clause-fall

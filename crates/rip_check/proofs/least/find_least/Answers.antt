@@ -5,9 +5,9 @@ use Rattle.std.proofs.lemmas.List.{get_or-replicate, length-replicate}
 use Rattle.std.proofs.lemmas.Option.{get_or_from_slice_get, slice_get_within}
 use Rattle.rip_plan.specs.Relations.{IsDirect}
 use Rattle.rip_check.specs.Failures.{network_left}
-use Rattle.rip_check.proofs.Left.{left_routers, left_sound, was_direct}
-use Rattle.rip_check.proofs.Plans.{direct_least}
-use Rattle.rip_check.proofs.Tellings.{IsReached, settled_all, settled_least, settled_more, telling_reached, told_more}
+use Rattle.rip_check.proofs.LeftLemmas.{left_routers, left_sound, was_direct}
+use Rattle.rip_check.proofs.PlanLemmas.{direct_least}
+use Rattle.rip_check.proofs.TellingLemmas.{IsReached, settled_all, settled_least, settled_more, telling_reached, told_more}
 use Rattle.rip_check.proofs.least.find_least.Goals as goal
 
 no_mark : (count l : ℕ) → slice_get (replicate count false) l ≡ Some true → ⊥

@@ -2,7 +2,7 @@ use Rattle.std.proofs.Common.{ℕ, ◌≤◌, get_or}
 use Rattle.rip_plan.specs.Relations.{IsDirect}
 use Rattle.rip_check.specs.Failures.{network_left}
 use Rattle.rip_check.specs.Tellings.{AreTold}
-use Rattle.rip_check.proofs.Tellings.{AreReached, AreSettled}
+use Rattle.rip_check.proofs.TellingLemmas.{AreReached, AreSettled}
 use Rattle.rip_check.proofs.least.find_least.Given as goal
 
 abbrev pub invariant-loop-metric : goal.invariant-loop-metric

@@ -1,5 +1,5 @@
 use Rattle.rip_check.specs.Paths.{IsLeast}
-use Rattle.rip_check.proofs.Overs.{least_low}
+use Rattle.rip_check.proofs.OverLemmas.{least_low}
 use Rattle.rip_check.proofs.least.least_metric.Goals as goal
 
 pub metric_of-requires-clause-low : goal.metric_of-requires-clause-low

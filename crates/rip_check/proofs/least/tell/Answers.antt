@@ -5,10 +5,10 @@ use Rattle.rip_plan.specs.Relations.{HasCost, IsInterface}
 use Rattle.rip_check.specs.Failures.{network_left}
 use Rattle.rip_check.specs.Paths.{MayHop}
 use Rattle.rip_check.specs.Tellings.{IsTelling}
-use Rattle.rip_check.proofs.Across.{across_number, across_own}
-use Rattle.rip_check.proofs.Left.{left_sound, still_cost}
-use Rattle.rip_check.proofs.Tellings.{telling_one, telling_same, telling_then}
-use Rattle.rip_check.proofs.Told.{all_told, one_told}
+use Rattle.rip_check.proofs.AcrossLemmas.{across_number, across_own}
+use Rattle.rip_check.proofs.LeftLemmas.{left_sound, still_cost}
+use Rattle.rip_check.proofs.TellingLemmas.{telling_one, telling_same, telling_then}
+use Rattle.rip_check.proofs.ToldLemmas.{all_told, one_told}
 use Rattle.rip_check.proofs.least.tell.Goals as goal
 use Rattle.rip_check.proofs.least.tell.Goals.{then-given-from+then-takes, else-given-from, else-given-from-via-then-given-from+else-takes, else-given-from-via-else-given-from}
 

@@ -2,8 +2,8 @@ use Rattle.std.proofs.Common.{◌≡◌, get_or, inl, inr, sym, ◌∙◌, arith
 use Rattle.std.proofs.lemmas.Bool.{cases_lt}
 use Rattle.rip_check.specs.Failures.{network_left}
 use Rattle.rip_check.specs.Tellings.{AreTold, IsTelling}
-use Rattle.rip_check.proofs.Left.{left_sound}
-use Rattle.rip_check.proofs.Tellings.{telling_then, telling_was}
+use Rattle.rip_check.proofs.LeftLemmas.{left_sound}
+use Rattle.rip_check.proofs.TellingLemmas.{telling_then, telling_was}
 use Rattle.rip_check.proofs.least.tell_metric.Goals as goal
 use Rattle.rip_check.proofs.least.tell_metric.Goals.{then-from-metric, else-from-metric}
 

@@ -3,12 +3,12 @@ use Rattle.std.proofs.lemmas.Option.{slice_get-get_or}
 use Rattle.std.proofs.lemmas.Bool.Decides.{not_from_Decides}
 use Rattle.rip_plan.specs.Relations.{IsInterface}
 use Rattle.rip_check.specs.Failures.{network_left}
-use Rattle.rip_check.proofs.Left.{left_sound, still_cost, was_attached}
-use Rattle.rip_check.proofs.Owned.{its_number, its_own}
-use Rattle.rip_check.proofs.Plans.{attached_ne}
-use Rattle.rip_check.proofs.Steps.{after_write}
-use Rattle.rip_check.proofs.Tellings.{telling_same, telling_then, telling_told}
-use Rattle.rip_check.proofs.Told.{all_marked, keep_mark, one_marked, set_mark}
+use Rattle.rip_check.proofs.LeftLemmas.{left_sound, still_cost, was_attached}
+use Rattle.rip_check.proofs.OwnedLemmas.{its_number, its_own}
+use Rattle.rip_check.proofs.PlanLemmas.{attached_ne}
+use Rattle.rip_check.proofs.StepLemmas.{after_write}
+use Rattle.rip_check.proofs.TellingLemmas.{telling_same, telling_then, telling_told}
+use Rattle.rip_check.proofs.ToldLemmas.{all_marked, keep_mark, one_marked, set_mark}
 use Rattle.rip_check.proofs.least.tell_on_all.Goals as goal
 use Rattle.rip_check.proofs.least.tell_on_all.Goals.{then-not-marks-link+then-is_alive+then-ne, else-not-marks-link, else-not-marks-link-via-then-not-marks-link+then-is_alive+else-ne, else-not-marks-link-via-then-not-marks-link+else-is_alive, else-not-marks-link-via-else-not-marks-link}
 

@@ -2,7 +2,7 @@ use Rattle.std.proofs.Common.{◌<◌, get_or, length, arith}
 use Rattle.std.proofs.lemmas.Option.{slice_get-get_or}
 use Rattle.rip_check.specs.declared.links.TwoLeast.{TwoLeast}
 use Rattle.rip_check.specs.TwoLeasts.{IsSeen}
-use Rattle.rip_check.proofs.Steps.{take_none, take_one}
+use Rattle.rip_check.proofs.StepLemmas.{take_none, take_one}
 use Rattle.rip_check.proofs.links.add_interface.Goals as goal
 
 pub returns-then-metric-lt16 : goal.returns-then-metric-lt16

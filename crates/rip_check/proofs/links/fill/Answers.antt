@@ -1,6 +1,6 @@
 use Rattle.std.proofs.Common.{◌≤◌, length, arith}
 use Rattle.rip_check.specs.TwoLeasts.{shown_of}
-use Rattle.rip_check.proofs.Steps.{reached}
+use Rattle.rip_check.proofs.StepLemmas.{reached}
 use Rattle.rip_check.proofs.links.fill.Goals as goal
 
 pub loop-i-init : goal.loop-i-init

@@ -1,5 +1,5 @@
 use Rattle.std.proofs.Common.{arith}
-use Rattle.rip_check.proofs.Steps.{lower, keep, new_least, new_next}
+use Rattle.rip_check.proofs.StepLemmas.{lower, keep, new_least, new_next}
 use Rattle.rip_check.proofs.links.with_metric.Goals as goal
 
 pub returns-then-metric-two : goal.returns-then-metric-two

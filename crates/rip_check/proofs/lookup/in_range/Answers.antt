@@ -1,4 +1,4 @@
-use Rattle.rip_check.proofs.Numbers.{in_range}
+use Rattle.rip_check.proofs.NumberLemmas.{in_range}
 use Rattle.rip_check.proofs.lookup.in_range.Goals as goal
 
 pub returns : goal.returns

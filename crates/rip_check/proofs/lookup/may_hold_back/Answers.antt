@@ -1,5 +1,5 @@
 use Rattle.std.proofs.Common.{◌≡◌, inl, inr, true, false, sym, ◌∙◌}
-use Rattle.rip_check.proofs.Plans.{attached_test}
+use Rattle.rip_check.proofs.PlanLemmas.{attached_test}
 use Rattle.rip_check.proofs.lookup.may_hold_back.Goals as goal
 
 pub returns-then-eq : goal.returns-then-eq

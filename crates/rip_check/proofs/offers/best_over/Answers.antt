@@ -5,7 +5,7 @@ use Rattle.rip_plan.specs.Relations.{HasCost, IsLawful}
 use Rattle.rip_table.specs.State.{State}
 use Rattle.rip_check.specs.declared.links.TwoLeast.{TwoLeast}
 use Rattle.rip_check.specs.TwoLeasts.{AreLeastShown, IsTwoLeast, shown_of}
-use Rattle.rip_check.proofs.Across.{offer_seen, seen_offer}
+use Rattle.rip_check.proofs.AcrossLemmas.{offer_seen, seen_offer}
 use Rattle.rip_check.proofs.offers.best_over.Goals as goal
 
 abbrev blank : TwoLeast

@@ -1,6 +1,6 @@
 use Rattle.std.proofs.Common.{◌≡◌, inr, Some, refl, arith}
 use Rattle.rip_plan.specs.Relations.{IsDirect}
-use Rattle.rip_check.proofs.Plans.{direct_most}
+use Rattle.rip_check.proofs.PlanLemmas.{direct_most}
 use Rattle.rip_check.proofs.offers.direct_or_16.Goals as goal
 
 pub returns-in-Some-clause-most : goal.returns-in-Some-clause-most

@@ -1,5 +1,5 @@
 use Rattle.std.proofs.Common.{◌≡◌, inr, get_or, arith}
-use Rattle.rip_check.proofs.Across.{heard_from, across_number, one_more, is_offer, below_offers}
+use Rattle.rip_check.proofs.AcrossLemmas.{heard_from, across_number, one_more, is_offer, below_offers}
 use Rattle.rip_check.proofs.offers.least_asked.Goals as goal
 use Rattle.rip_check.proofs.offers.least_asked.Goals.{then-across-own+then-offer-least, then-across-own+else-offer-least, else-across-own}
 

@@ -1,8 +1,8 @@
 use Rattle.std.proofs.Common.{◌≡◌, ℕ, ◌≤◌, ◌⊎◌, arith}
 use Rattle.std.proofs.lemmas.Bool.Decides.{not_from_Decides}
 use Rattle.rip_check.specs.Tables.{Offers}
-use Rattle.rip_check.proofs.Owned.{its_number, its_router, each_more, every}
-use Rattle.rip_check.proofs.Across.{still_chosen, least_kept, least_of}
+use Rattle.rip_check.proofs.OwnedLemmas.{its_number, its_router, each_more, every}
+use Rattle.rip_check.proofs.AcrossLemmas.{still_chosen, least_kept, least_of}
 use Rattle.rip_check.proofs.offers.least_choice.Goals as goal
 
 pub interface-own-requires : goal.interface-own-requires

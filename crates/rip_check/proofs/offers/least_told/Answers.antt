@@ -1,6 +1,6 @@
 use Rattle.std.proofs.Common.{inl, inr, sym, ◌∙◌, arith, ◌+◌}
 use Rattle.std.proofs.lemmas.Bool.{cases_lt}
-use Rattle.rip_check.proofs.Across.{IsFor, told_below, told_seen}
+use Rattle.rip_check.proofs.AcrossLemmas.{IsFor, told_below, told_seen}
 use Rattle.rip_check.proofs.offers.least_told.Goals as goal
 use Rattle.rip_check.proofs.offers.least_told.Goals.{then-own-from, else-own-from}
 

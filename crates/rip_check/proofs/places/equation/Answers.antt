@@ -1,4 +1,4 @@
-use Rattle.rip_check.proofs.OnePlace.{choice_low}
+use Rattle.rip_check.proofs.OnePlaceLemmas.{choice_low}
 use Rattle.rip_check.proofs.places.equation.Goals as goal
 
 pub metric_of-requires-clause-low : goal.metric_of-requires-clause-low

@@ -1,7 +1,7 @@
 use Rattle.std.proofs.Common.{arith}
 use Rattle.std.proofs.lemmas.Bool.Decides.{not_from_Decides}
 use Rattle.rip_check.specs.Verdicts.{route_of}
-use Rattle.rip_check.proofs.OnePlace.{all_hold, is_equation, choice_low}
+use Rattle.rip_check.proofs.OnePlaceLemmas.{all_hold, is_equation, choice_low}
 use Rattle.rip_check.proofs.places.failing_equation.Goals as goal
 use Rattle.rip_check.proofs.places.failing_equation.Goals.{else-route-equation-via-then-route-equation+else-is_given, else-route-equation-via-else-route-equation}
 use Rattle.rip_check.specs.Settled.{IsLeastChoice}

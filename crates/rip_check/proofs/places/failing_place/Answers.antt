@@ -1,6 +1,6 @@
 use Rattle.std.proofs.Common.{refl}
 use Rattle.rip_check.specs.Verdicts.{route_of}
-use Rattle.rip_check.proofs.Readable.{fits_readable, one_sound}
+use Rattle.rip_check.proofs.ReadableLemmas.{fits_readable, one_sound}
 use Rattle.rip_check.proofs.places.failing_place.Goals as goal
 
 pub returns-in_default-clause-none : goal.returns-in_default-clause-none

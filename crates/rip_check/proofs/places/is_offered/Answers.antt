@@ -1,7 +1,7 @@
 use Rattle.std.proofs.Common.{◌≡◌, ℕ, ◌≤◌, ◌⊎◌, refl}
 use Rattle.rip_check.specs.Tables.{Offers}
-use Rattle.rip_check.proofs.Owned.{its_number, its_router, each_more, every}
-use Rattle.rip_check.proofs.OnePlace.{offered_is}
+use Rattle.rip_check.proofs.OwnedLemmas.{its_number, its_router, each_more, every}
+use Rattle.rip_check.proofs.OnePlaceLemmas.{offered_is}
 use Rattle.rip_check.proofs.places.is_offered.Goals as goal
 
 pub interface-own-requires : goal.interface-own-requires

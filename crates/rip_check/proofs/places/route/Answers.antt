@@ -1,6 +1,6 @@
 use Rattle.std.proofs.Common.{refl}
 use Rattle.rip_check.specs.Verdicts.{route_of}
-use Rattle.rip_check.proofs.Readable.{fits_readable}
+use Rattle.rip_check.proofs.ReadableLemmas.{fits_readable}
 use Rattle.rip_check.proofs.places.route.Goals as goal
 
 pub returns-in-Some-clause-exact : goal.returns-in-Some-clause-exact

@@ -1,5 +1,5 @@
 use Rattle.std.proofs.Common.{◌≡◌, None, get_or, sym}
-use Rattle.rip_check.proofs.Owned.{its_number, its_own, each_more, every, all_before}
+use Rattle.rip_check.proofs.OwnedLemmas.{its_number, its_own, each_more, every, all_before}
 use Rattle.rip_check.proofs.routes.first_gap.Goals as goal
 use Rattle.rip_check.specs.Metrics.{metric_at}
 

@@ -2,10 +2,10 @@ use Rattle.std.proofs.Common.{◌≡◌, get_or, inl, inr, Some, None, refl, sym
 use Rattle.std.proofs.lemmas.Bool.Decides.{not_from_Decides}
 use Rattle.rip_check.specs.Metrics.{metric_at}
 use Rattle.rip_check.specs.Tables.{IsLeastOffer, IsSilent}
-use Rattle.rip_check.proofs.Owned.{first_is_leaf, its_number, some_number, within}
-use Rattle.rip_check.proofs.OnePlace.{high_is_silent, poison_is}
-use Rattle.rip_check.proofs.LeafRouters.{low_fits, here_fits, nowhere_fits, not_told, over_fits, least_offer, low_one, nowhere_one, low_shows, nowhere_shows}
-use Rattle.rip_check.proofs.Plans.{attached_test, direct_most, held_back_direct}
+use Rattle.rip_check.proofs.OwnedLemmas.{first_is_leaf, its_number, some_number, within}
+use Rattle.rip_check.proofs.OnePlaceLemmas.{high_is_silent, poison_is}
+use Rattle.rip_check.proofs.LeafRouterLemmas.{low_fits, here_fits, nowhere_fits, not_told, over_fits, least_offer, low_one, nowhere_one, low_shows, nowhere_shows}
+use Rattle.rip_check.proofs.PlanLemmas.{attached_test, direct_most, held_back_direct}
 use Rattle.rip_plan.specs.Relations.{IsDirect}
 use Rattle.rip_check.proofs.routes.leaf_route.Goals as goal
 use Rattle.rip_check.proofs.routes.leaf_route.Goals.{in_default-via-in-Some+else-metric-lt16, in_default-via-in-None}

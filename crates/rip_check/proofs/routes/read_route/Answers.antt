@@ -1,4 +1,4 @@
-use Rattle.rip_check.proofs.Surveyed.{two_metrics, not_its_own, nowhere, here, over, no_way}
+use Rattle.rip_check.proofs.SurveyedLemmas.{two_metrics, not_its_own, nowhere, here, over, no_way}
 use Rattle.rip_check.proofs.routes.read_route.Goals as goal
 
 pub returns-then-found-clause-none : goal.returns-then-found-clause-none

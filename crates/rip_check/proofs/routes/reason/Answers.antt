@@ -1,6 +1,6 @@
 use Rattle.std.proofs.Common.{◌≡◌, ℕ, true, false, Option, None, Some, ap, is_some, not, refl, ◌∙◌}
-use Rattle.rip_check.proofs.OnePlace.{two_shown, not_two}
-use Rattle.rip_check.proofs.Surveyed.{mute, one_metric, silent_nowhere, tells_there, told_everywhere}
+use Rattle.rip_check.proofs.OnePlaceLemmas.{two_shown, not_two}
+use Rattle.rip_check.proofs.SurveyedLemmas.{mute, one_metric, silent_nowhere, tells_there, told_everywhere}
 use Rattle.rip_check.proofs.routes.reason.Goals as goal
 
 none_there : (o : Option ℕ) → is_some o ≡ false → o ≡ None

@@ -1,5 +1,5 @@
 use Rattle.std.proofs.Common.{◌≡◌, ◌∙◌, sym}
-use Rattle.rip_check.proofs.Plans.{attached_test}
+use Rattle.rip_check.proofs.PlanLemmas.{attached_test}
 use Rattle.rip_check.proofs.surveys.add_shown.Goals as goal
 use Rattle.rip_check.proofs.surveys.add_shown.Goals.{in_default-via-in-Some+else-metric-lt16, in_default-via-in_default}
 

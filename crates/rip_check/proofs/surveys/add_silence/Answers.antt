@@ -3,7 +3,7 @@ use Rattle.std.proofs.lemmas.Bool.Decides.{not_from_Decides}
 use Rattle.rip_table.specs.State.{State}
 use Rattle.rip_check.specs.Metrics.{metric_at}
 use Rattle.rip_check.specs.Tables.{IsSilent, MayHoldBack}
-use Rattle.rip_check.proofs.Surveying.{no_speech, no_telling, first_silent_link, more_silence}
+use Rattle.rip_check.proofs.SurveyLemmas.{no_speech, no_telling, first_silent_link, more_silence}
 use Rattle.rip_check.proofs.surveys.add_silence.Goals as goal
 use Rattle.rip_check.proofs.surveys.add_silence.Goals.{then-is_some, else-is_some, then-found, else-found}
 

@@ -1,5 +1,5 @@
 use Rattle.std.proofs.Common.{inl, inr, ◌∙◌}
-use Rattle.rip_check.proofs.Surveying.{first_metric, same_metric, other_metric, no_silence, more_telling}
+use Rattle.rip_check.proofs.SurveyLemmas.{first_metric, same_metric, other_metric, no_silence, more_telling}
 use Rattle.rip_check.proofs.surveys.add_speech.Goals as goal
 use Rattle.rip_check.proofs.surveys.add_speech.Goals.{then-found, else-found}
 

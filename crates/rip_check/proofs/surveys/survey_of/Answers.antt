@@ -1,7 +1,7 @@
 use Rattle.std.proofs.Common.{◌≡◌, ◌+◌, get_or, sym, arith}
 use Rattle.rip_check.specs.Surveys.{IsSurvey}
-use Rattle.rip_check.proofs.Owned.{ascends, ascends_below, its_number, its_own, place_before}
-use Rattle.rip_check.proofs.Surveying.{nothing_yet, stretch}
+use Rattle.rip_check.proofs.OwnedLemmas.{ascends, ascends_below, its_number, its_own, place_before}
+use Rattle.rip_check.proofs.SurveyLemmas.{nothing_yet, stretch}
 use Rattle.rip_check.proofs.surveys.survey_of.Goals as goal
 use Rattle.rip_check.specs.Metrics.{metric_at}
 

@@ -1,5 +1,5 @@
 use Rattle.rip_check.specs.Verdicts.{route_of}
-use Rattle.rip_check.proofs.Readable.{fits_readable, one_sound}
+use Rattle.rip_check.proofs.ReadableLemmas.{fits_readable, one_sound}
 use Rattle.rip_check.proofs.unsettled.mark_of.Goals as goal
 
 pub returns-in_default : goal.returns-in_default

@@ -2,7 +2,7 @@ use Rattle.std.proofs.Common.{◌+◌, ◌*◌, ◌<◌, ◌∙◌, refl, None, 
 use Rattle.std.proofs.lemmas.Nat.{mul-add-lt}
 use Rattle.std.proofs.lemmas.Grind.{common_steps}
 use Rattle.rip_check.specs.Marks.{IsMark}
-use Rattle.rip_check.proofs.Marking.{one_more_mark, other_mark}
+use Rattle.rip_check.proofs.MarkLemmas.{one_more_mark, other_mark}
 use Rattle.rip_check.proofs.unsettled.mark_prefix.Goals as goal
 
 pub loop-router-init : goal.loop-router-init

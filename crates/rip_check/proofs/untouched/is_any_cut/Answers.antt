@@ -2,8 +2,8 @@ use Rattle.std.proofs.Common.{ℕ, arith}
 use Rattle.rip_plan.specs.Relations.{IsOn}
 use Rattle.rip_check.specs.Untouched.{IsStep, KeepsWay}
 use Rattle.rip_check.specs.declared.failures.Failure.TheVariants.{Link}
-use Rattle.rip_check.proofs.Across.{across_number}
-use Rattle.rip_check.proofs.Staying.{all_across, one_across}
+use Rattle.rip_check.proofs.AcrossLemmas.{across_number}
+use Rattle.rip_check.proofs.StayingLemmas.{all_across, one_across}
 use Rattle.rip_check.proofs.untouched.is_any_cut.Goals as goal
 
 pub interface-own-requires : goal.interface-own-requires

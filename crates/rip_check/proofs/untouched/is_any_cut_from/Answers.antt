@@ -2,7 +2,7 @@ use Rattle.std.proofs.Common.{ℕ, arith}
 use Rattle.rip_plan.specs.Relations.{HasCost}
 use Rattle.rip_check.specs.Untouched.{IsStep, KeepsWay}
 use Rattle.rip_check.specs.declared.failures.Failure.TheVariants.{Router}
-use Rattle.rip_check.proofs.Owned.{each_more, every, its_number}
+use Rattle.rip_check.proofs.OwnedLemmas.{each_more, every, its_number}
 use Rattle.rip_check.proofs.untouched.is_any_cut_from.Goals as goal
 
 pub interface-own-requires : goal.interface-own-requires

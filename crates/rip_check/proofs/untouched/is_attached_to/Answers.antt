@@ -1,8 +1,8 @@
 use Rattle.std.proofs.Common.{ℕ, arith}
 use Rattle.rip_plan.specs.Relations.{IsAttached}
-use Rattle.rip_check.proofs.Plans.{attached_test}
-use Rattle.rip_check.proofs.Across.{across_number}
-use Rattle.rip_check.proofs.Staying.{all_across, one_across}
+use Rattle.rip_check.proofs.PlanLemmas.{attached_test}
+use Rattle.rip_check.proofs.AcrossLemmas.{across_number}
+use Rattle.rip_check.proofs.StayingLemmas.{all_across, one_across}
 use Rattle.rip_check.proofs.untouched.is_attached_to.Goals as goal
 
 pub interface-own-requires : goal.interface-own-requires

@@ -1,4 +1,4 @@
-use Rattle.rip_check.proofs.Staying.{is_true}
+use Rattle.rip_check.proofs.StayingLemmas.{is_true}
 use Rattle.rip_check.proofs.untouched.is_cut_from.Goals as goal
 
 pub returns-then-is_step : goal.returns-then-is_step

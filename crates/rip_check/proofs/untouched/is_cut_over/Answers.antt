@@ -1,4 +1,4 @@
-use Rattle.rip_check.proofs.Staying.{is_true}
+use Rattle.rip_check.proofs.StayingLemmas.{is_true}
 use Rattle.rip_check.proofs.untouched.is_cut_over.Goals as goal
 
 pub returns-then-leads_over : goal.returns-then-leads_over

@@ -1,6 +1,6 @@
 use Rattle.std.proofs.Common.{◌∙◌, get_or, inr, Some, sym}
-use Rattle.rip_check.proofs.Left.{still_cost, was_attached}
-use Rattle.rip_check.proofs.Owned.{its_number, its_own}
+use Rattle.rip_check.proofs.LeftLemmas.{still_cost, was_attached}
+use Rattle.rip_check.proofs.OwnedLemmas.{its_number, its_own}
 use Rattle.rip_check.proofs.untouched.is_given.Goals as goal
 
 pub interface-own-requires : goal.interface-own-requires

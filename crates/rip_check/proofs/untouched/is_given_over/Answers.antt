@@ -1,6 +1,6 @@
 use Rattle.std.proofs.Common.{◌∙◌, get_or, sym, arith}
-use Rattle.rip_check.proofs.Across.{across_number, across_own}
-use Rattle.rip_check.proofs.Plans.{attached_ne}
+use Rattle.rip_check.proofs.AcrossLemmas.{across_number, across_own}
+use Rattle.rip_check.proofs.PlanLemmas.{attached_ne}
 use Rattle.rip_check.proofs.untouched.is_given_over.Goals as goal
 
 pub interface-across-requires : goal.interface-across-requires

@@ -1,5 +1,5 @@
 use Rattle.std.proofs.Common.{◌≡◌}
-use Rattle.rip_check.proofs.Overs.{one_least}
+use Rattle.rip_check.proofs.OverLemmas.{one_least}
 use Rattle.rip_check.proofs.untouched.keeps_way.Goals as goal
 
 pub returns-then-takes : goal.returns-then-takes

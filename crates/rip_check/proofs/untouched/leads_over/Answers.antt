@@ -1,7 +1,7 @@
 use Rattle.std.proofs.Common.{ℕ, arith}
 use Rattle.rip_check.specs.Untouched.{IsStep}
-use Rattle.rip_check.proofs.Across.{across_number}
-use Rattle.rip_check.proofs.Staying.{all_across, one_across}
+use Rattle.rip_check.proofs.AcrossLemmas.{across_number}
+use Rattle.rip_check.proofs.StayingLemmas.{all_across, one_across}
 use Rattle.rip_check.proofs.untouched.leads_over.Goals as goal
 
 pub interface-across-requires : goal.interface-across-requires

@@ -2,7 +2,7 @@ use Rattle.std.proofs.Common.{◌≡◌, ◌∙◌, false, sym, subst}
 use Rattle.std.proofs.lemmas.Bool.Decides.{not_from_Decides}
 use Rattle.rip_check.specs.declared.failures.Failure.{Failure}
 use Rattle.rip_check.specs.Untouched.{IsUntouched}
-use Rattle.rip_check.proofs.Staying.{link_untouched, router_untouched}
+use Rattle.rip_check.proofs.StayingLemmas.{link_untouched, router_untouched}
 use Rattle.rip_check.proofs.untouched.touches.Goals as goal
 use Rattle.rip_check.proofs.untouched.touches.Goals.{then-is_place, else-is_place}
 

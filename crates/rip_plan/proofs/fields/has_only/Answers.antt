@@ -3,7 +3,7 @@ use Rattle.std.specs.BTreeMap.{keys}
 use Rattle.std.proofs.lemmas.Iterator.Consumers.{YieldsList-from_rest}
 use Rattle.std.proofs.lemmas.Iterator.Search.{all_from_yields_List}
 use Rattle.rip_plan.specs.Names.{is_one_of}
-use Rattle.rip_plan.proofs.Keys.{all_keys}
+use Rattle.rip_plan.proofs.KeyLemmas.{all_keys}
 use Rattle.rip_plan.proofs.fields.has_only.Goals as goal
 
 pub returns : goal.returns

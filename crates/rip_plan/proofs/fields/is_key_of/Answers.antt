@@ -2,7 +2,7 @@ use Rattle.std.proofs.Common.{rules, tests}
 use Rattle.std.specs.Str.{bytes_eq}
 use Rattle.std.proofs.lemmas.Iterator.{YieldsList-from_slice}
 use Rattle.std.proofs.lemmas.Iterator.Search.{any_from_yields_List}
-use Rattle.rip_plan.proofs.Names.{is_one_of-map}
+use Rattle.rip_plan.proofs.NameLemmas.{is_one_of-map}
 use Rattle.rip_plan.proofs.fields.is_key_of.Goals as goal
 
 pub returns : goal.returns

@@ -1,7 +1,7 @@
 use Rattle.std.proofs.Common.{◌<◌, ℕ, take, arith, Vec, Global}
 use Rattle.rip_plan.specs.declared.parts.Interface.{Interface}
 use Rattle.rip_plan.specs.Network.{numbers_where, is_on}
-use Rattle.rip_plan.proofs.Below.{grouped_more, kept_within}
+use Rattle.rip_plan.proofs.BelowLemmas.{grouped_more, kept_within}
 use Rattle.rip_plan.proofs.index.all_on.Goals as goal
 
 pub index_mut-requires : goal.index_mut-requires

@@ -9,9 +9,9 @@ use Rattle.rip_plan.specs.declared.parts.Seat.TheVariants.{Link}
 use Rattle.rip_plan.specs.Seats as seated
 use Rattle.rip_plan.specs.Network.{is_carrying}
 use Rattle.rip_plan.specs.Rows.{IsLinkBelow, flag}
-use Rattle.rip_plan.proofs.Cells.{cell_set}
-use Rattle.rip_plan.proofs.Clashes.{seen_more}
-use Rattle.rip_plan.proofs.Items.{any_found}
+use Rattle.rip_plan.proofs.CellLemmas.{cell_set}
+use Rattle.rip_plan.proofs.ClashLemmas.{seen_more}
+use Rattle.rip_plan.proofs.ItemLemmas.{any_found}
 use Rattle.rip_plan.proofs.index.carriers_of.Goals as goal
 use Rattle.rip_plan.proofs.index.carriers_of.Goals.{in-Link, in_default}
 

@@ -5,8 +5,8 @@ use Rattle.rip_plan.specs.declared.parts.Seat.{Seat}
 use Rattle.rip_plan.specs.declared.parts.Seat.TheVariants.{Link, Own}
 use Rattle.rip_plan.specs.Network.{cost_at, direct_at}
 use Rattle.rip_plan.specs.Rows.{IsOwnerBelow, IsOwnerWithin}
-use Rattle.rip_plan.proofs.Back.{back_is}
-use Rattle.rip_plan.proofs.Cells.{place_written, written_back}
+use Rattle.rip_plan.proofs.BackLemmas.{back_is}
+use Rattle.rip_plan.proofs.CellLemmas.{place_written, written_back}
 use Rattle.rip_plan.proofs.index.costs_of.Goals as goal
 
 owner_within : (routers w p cells : ℕ) (seat : Seat) → IsOwnerBelow routers seat → p < w → cells ≡ routers * w → IsOwnerWithin w p cells seat

@@ -4,8 +4,8 @@ use Rattle.std.proofs.lemmas.List.{length-map}
 use Rattle.rip_plan.specs.declared.parts.Seat.TheVariants.{Link, Own}
 use Rattle.rip_plan.specs.Network.{numbers_where, is_on}
 use Rattle.rip_plan.specs.Rows.{cell, IsLinkBelow, IsOwnerWithin}
-use Rattle.rip_plan.proofs.Below.{kept_at}
-use Rattle.rip_plan.proofs.Cells.{cell_set, own_written, among_is_on, numbers_below}
+use Rattle.rip_plan.proofs.BelowLemmas.{kept_at}
+use Rattle.rip_plan.proofs.CellLemmas.{cell_set, own_written, among_is_on, numbers_below}
 use Rattle.rip_plan.proofs.index.write_costs_at.Goals as goal
 
 pub write_costs_on-requires-clause-numbers : goal.write_costs_on-requires-clause-numbers

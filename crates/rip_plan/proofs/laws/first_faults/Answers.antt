@@ -1,6 +1,6 @@
-use Rattle.rip_plan.proofs.NoMemory.{never_memory}
-use Rattle.rip_plan.proofs.Texts.{TextLaws}
-use Rattle.rip_plan.proofs.TextFaults.{fault_told, none_told, plan_stands}
+use Rattle.rip_plan.proofs.NoMemoryLemmas.{never_memory}
+use Rattle.rip_plan.proofs.TextLemmas.{TextLaws}
+use Rattle.rip_plan.proofs.TextFaultLemmas.{fault_told, none_told, plan_stands}
 use Rattle.rip_plan.proofs.laws.first_faults.Goals as goal
 
 pub returns-clause-told : goal.returns-clause-told

@@ -1,4 +1,4 @@
-use Rattle.rip_plan.proofs.Lookups.{found_finds, found_gives}
+use Rattle.rip_plan.proofs.LookupLemmas.{found_finds, found_gives}
 use Rattle.rip_plan.proofs.laws.senders.Goals as goal
 
 pub returns : goal.returns

@@ -1,5 +1,5 @@
-use Rattle.rip_plan.proofs.Texts.{TextLaws}
-use Rattle.rip_plan.proofs.WellFormedTexts.{faultless_is, is_faultless}
+use Rattle.rip_plan.proofs.TextLemmas.{TextLaws}
+use Rattle.rip_plan.proofs.WellFormedTextLemmas.{faultless_is, is_faultless}
 use Rattle.rip_plan.proofs.laws.well_formed_texts.Goals as goal
 
 pub returns : goal.returns

@@ -4,7 +4,7 @@ use Rattle.rip_wire.specs.Prefix.{Block}
 use Rattle.rip_plan.specs.declared.draft.DraftPlace.{DraftPlace}
 use Rattle.rip_plan.specs.declared.parts.Place.{Place}
 use Rattle.rip_plan.specs.Network.{number_of_prefix, number_or_next, numbered, with_prefix}
-use Rattle.rip_plan.proofs.Numbering.{new_number}
+use Rattle.rip_plan.proofs.NumberingLemmas.{new_number}
 use Rattle.rip_plan.proofs.numbers.with_numbers.Goals as goal
 use Rattle.rip_plan.proofs.numbers.with_numbers.Goals.{in-Some, in-None+in_ok-push-in-None+in_ok-insert-in-None}
 

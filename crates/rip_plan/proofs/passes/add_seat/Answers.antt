@@ -5,7 +5,7 @@ use Rattle.rip_wire.specs.Prefix.{Block}
 use Rattle.rip_plan.specs.declared.parts.Seat.{Seat}
 use Rattle.rip_plan.specs.Passes.{same_prefix}
 use Rattle.rip_plan.specs.Touches.{listed}
-use Rattle.rip_plan.proofs.Numbering.{same_is}
+use Rattle.rip_plan.proofs.NumberingLemmas.{same_is}
 use Rattle.rip_plan.proofs.passes.add_seat.Goals as goal
 use Rattle.rip_plan.proofs.passes.add_seat.Goals.{in-Some, in-None}
 

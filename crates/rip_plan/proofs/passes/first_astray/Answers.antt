@@ -3,7 +3,7 @@ use Rattle.std.specs.Prelude.{find, option_map}
 use Rattle.std.proofs.lemmas.List.{at_drop_all}
 use Rattle.rip_plan.specs.declared.draft.DraftPlace.{DraftPlace}
 use Rattle.rip_plan.specs.Passes.{is_astray}
-use Rattle.rip_plan.proofs.Clashes.{found_here, found_later}
+use Rattle.rip_plan.proofs.ClashLemmas.{found_here, found_later}
 use Rattle.rip_plan.proofs.passes.first_astray.Goals as goal
 
 pub returns-then-is_astray : goal.returns-then-is_astray

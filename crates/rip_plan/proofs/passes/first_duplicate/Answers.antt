@@ -9,7 +9,7 @@ use Rattle.rip_plan.specs.declared.parts.Seat.{Seat}
 use Rattle.rip_plan.specs.declared.parts.Seat.TheVariants.{Link, Own}
 use Rattle.rip_plan.specs.Passes.{do_meet, first_clash, same_prefix, touched, touching}
 use Rattle.rip_plan.specs.Touches.{listed, seats_meet, touched_by}
-use Rattle.rip_plan.proofs.Clashes.{any_listed, clash_here, clash_later, listed_push, meeting_seen}
+use Rattle.rip_plan.proofs.ClashLemmas.{any_listed, clash_here, clash_later, listed_push, meeting_seen}
 use Rattle.rip_plan.proofs.passes.first_duplicate.Goals as goal
 
 -- what the seats at a prefix say of the places before

@@ -2,7 +2,7 @@ use Rattle.std.proofs.Common.{◌≡◌, true, false, sym, ◌∙◌}
 use Rattle.std.specs.HashSet.{contains}
 use Rattle.rip_plan.specs.Addresses.{have_one_address}
 use Rattle.rip_plan.specs.Network.{pair_eq}
-use Rattle.rip_plan.proofs.Clashes.{clash_here, clash_later, not_added, added, seen_more}
+use Rattle.rip_plan.proofs.ClashLemmas.{clash_here, clash_later, not_added, added, seen_more}
 use Rattle.rip_plan.proofs.passes.first_taken.Goals as goal
 
 pub returns-then-not-branch : goal.returns-then-not-branch

@@ -4,7 +4,7 @@ use Rattle.std.specs.HashSet.{contains}
 use Rattle.rip_plan.specs.Network.{pair_eq}
 use Rattle.rip_plan.specs.Passes.{are_twice}
 use Rattle.rip_plan.specs.declared.draft.DraftInterface.{DraftInterface}
-use Rattle.rip_plan.proofs.Clashes.{clash_here, clash_later, not_added, added, seen_more}
+use Rattle.rip_plan.proofs.ClashLemmas.{clash_here, clash_later, not_added, added, seen_more}
 use Rattle.rip_plan.proofs.passes.first_twice.Goals as goal
 
 pub returns-then-not-branch : goal.returns-then-not-branch

@@ -11,9 +11,9 @@ use Rattle.rip_plan.specs.Draft.{sketch}
 use Rattle.rip_plan.specs.Network.{Network, each_below, is_of, is_on, network_of_sketch, numbered, numbers_where}
 use Rattle.rip_plan.specs.Rows.{AreCosts, AreFlags, AreOwners}
 use Rattle.rip_plan.specs.Seats.{is_kept}
-use Rattle.rip_plan.proofs.Below.{length-each_below}
-use Rattle.rip_plan.proofs.Numbering.{numbers}
-use Rattle.rip_plan.proofs.WithinPlan.{interfaces_links, interfaces_routers, places_prefixes, places_links, places_owners}
+use Rattle.rip_plan.proofs.BelowLemmas.{length-each_below}
+use Rattle.rip_plan.proofs.NumberingLemmas.{numbers}
+use Rattle.rip_plan.proofs.WithinPlanLemmas.{interfaces_links, interfaces_routers, places_prefixes, places_links, places_owners}
 use Rattle.rip_plan.proofs.plan.plan_of.Goals as goal
 
 prefixes_are : (ps : List Block) (qs : List Place) (ds es : List DraftPlace) → (ps, qs) ≡ numbered [] [] ds → ds ≡ es → ps ≡ (numbered [] [] es).0

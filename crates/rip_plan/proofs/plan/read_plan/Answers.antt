@@ -1,6 +1,6 @@
 use Rattle.rip_plan.specs.Draft.{sketch}
-use Rattle.rip_plan.proofs.LawfulPlan.{lawful}
-use Rattle.rip_plan.proofs.Texts.{TextLaws}
+use Rattle.rip_plan.proofs.LawfulPlanLemmas.{lawful}
+use Rattle.rip_plan.proofs.TextLemmas.{TextLaws}
 use Rattle.rip_plan.proofs.plan.read_plan.Goals as goal
 
 pub plan_of-requires : goal.plan_of-requires

@@ -1,7 +1,7 @@
 use Rattle.std.proofs.Common.{◌≡◌, ◌++◌, ◌∙◌, ℕ, List, Some, Option, refl, subst}
 use Rattle.rip_log.specs.Said.{AllSaid, all_said}
-use Rattle.rip_log.specs.Leaves.{lines_behind, source_of, text as text_of}
-use Rattle.rip_log.specs.LeavesLine.{said_to_come}
+use Rattle.rip_log.specs.NextCall.{lines_behind, source_of, text as text_of}
+use Rattle.rip_log.specs.NextLineCall.{said_to_come}
 use Rattle.rip_log.specs.Wholes.{rest_of}
 use Rattle.rip_table.specs.CollectsAll.{SaidOutcome, UnreadAtKnown}
 use Rattle.rip_table.specs.State.{State, new_state}

@@ -1,7 +1,7 @@
 use Rattle.std.proofs.Common.{◌≡◌, ◌∙◌, ◌++◌, [], ◌∷◌, arith, ap, inl, inr, length-append, sym, refl, false, subst, Ok}
 use Rattle.rip_log.specs.Codes.{is_read}
-use Rattle.rip_log.specs.Leaves.{lines_behind, has_stopped, source_of, text}
-use Rattle.rip_log.specs.LeavesLine.{number_of, said_of, said_to_come}
+use Rattle.rip_log.specs.NextCall.{lines_behind, has_stopped, source_of, text}
+use Rattle.rip_log.specs.NextLineCall.{number_of, said_of, said_to_come}
 use Rattle.rip_log.specs.Wholes.{OfWhole, rest_of}
 use Rattle.rip_log.proofs.PassLemmas.{passes_trans}
 use Rattle.rip_log.proofs.WholeLemmas.{begins_back, went_on}

@@ -1,8 +1,8 @@
 use Rattle.std.proofs.Common.{◌≡◌, ◌-◌, ◌≤◌, [], List, length, true, false}
 use Rattle.rip_log.specs.declared.limits.TheConstants.{MOST_LINES}
 use Rattle.rip_log.specs.Cuts.{PassesLines}
-use Rattle.rip_log.specs.Leaves.{lines_behind, has_stopped, source_of, text}
-use Rattle.rip_log.specs.LeavesLine.{said_to_come}
+use Rattle.rip_log.specs.NextCall.{lines_behind, has_stopped, source_of, text}
+use Rattle.rip_log.specs.NextLineCall.{said_to_come}
 use Rattle.rip_log.specs.Wholes.{OfWhole, Went}
 use Rattle.rip_table.specs.State.{Fits}
 use Rattle.rip_table.specs.Events.{EventAt}

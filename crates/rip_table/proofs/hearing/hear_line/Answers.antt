@@ -1,4 +1,4 @@
-use Rattle.rip_log.specs.LeavesLine.{number_of, said_of}
+use Rattle.rip_log.specs.NextLineCall.{number_of, said_of}
 use Rattle.rip_log.specs.declared.reader.lines.Line.{Line}
 use Rattle.rip_table.specs.CollectsAll.{Hears}
 use Rattle.rip_table.proofs.hearing.hear_line.Goals as goal

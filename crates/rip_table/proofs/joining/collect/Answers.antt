@@ -1,5 +1,5 @@
 use Rattle.std.proofs.Common.{◌≡◌, ◌∙◌, arith, sym, refl, false, subst, Some, Ok, Err}
-use Rattle.rip_log.specs.Leaves.{capture_of, line_of, lines_behind, log_to_come, has_stopped, source_of}
+use Rattle.rip_log.specs.NextCall.{capture_of, line_of, lines_behind, log_to_come, has_stopped, source_of}
 use Rattle.rip_log.specs.Wholes.{OfWhole, rest_of}
 use Rattle.rip_log.proofs.WholeLemmas.{begins_back, went_on}
 use Rattle.rip_table.specs.State.{State, Fits}

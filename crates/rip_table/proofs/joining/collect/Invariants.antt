@@ -1,5 +1,5 @@
 use Rattle.std.proofs.Common.{◌≡◌, ◌-◌, ◌≤◌, true, false}
-use Rattle.rip_log.specs.Leaves.{log_to_come, lines_behind, has_stopped, source_of}
+use Rattle.rip_log.specs.NextCall.{log_to_come, lines_behind, has_stopped, source_of}
 use Rattle.rip_log.specs.Wholes.{OfWhole, Went}
 use Rattle.rip_table.specs.State.{Fits}
 use Rattle.rip_table.specs.Collects.{PassedKnown}

@@ -5,7 +5,7 @@ use Rattle.std.proofs.lemmas.Option.{slice_get_read}
 use Rattle.rip_wire.specs.declared.entry.Entry.{Entry}
 use Rattle.rip_table.specs.Joined.{is_foreign, joined_entries, with_heard}
 use Rattle.rip_table.specs.Numbers.{counted, judged, metric_among, IsChecked}
-use Rattle.rip_table.proofs.Lists.{take-end}
+use Rattle.rip_table.proofs.PrefixListLemmas.{take-end}
 use Rattle.rip_table.proofs.NumberLemmas.{any-next, none-is, number-below, number-here}
 use Rattle.rip_table.proofs.NotedLemmas.{new-noted, noted-more}
 use Rattle.rip_table.proofs.CheckLemmas.{Checked, Checked-start, Checked-fault, Checked-next}

@@ -2,7 +2,7 @@ use Rattle.std.proofs.Common.{sym, ap, ◌∙◌, arith, length, refl}
 use Rattle.std.proofs.lemmas.Option.{slice_get_read}
 use Rattle.rip_table.proofs.NumberLemmas.{metric_among-found, metric_among-passed}
 use Rattle.rip_table.specs.Numbers.{metric_among}
-use Rattle.rip_table.proofs.Lists.{take-end}
+use Rattle.rip_table.proofs.PrefixListLemmas.{take-end}
 use Rattle.rip_table.proofs.judging.earlier.Goals as goal
 
 pub returns-then-eq : goal.returns-then-eq

@@ -1,4 +1,4 @@
-use Rattle.rip_table.proofs.OneJoin.{one_join}
+use Rattle.rip_table.proofs.OneJoinLemmas.{one_join}
 use Rattle.rip_table.proofs.laws.one_join.Goals as goal
 
 pub returns : goal.returns

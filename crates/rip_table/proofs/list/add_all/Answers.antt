@@ -2,7 +2,7 @@ use Rattle.std.proofs.Common.{◌∙◌, sym, ap, arith, ◌+◌, drop, length, 
 use Rattle.std.proofs.lemmas.Option.{slice_get_read}
 use Rattle.rip_table.specs.Joined.{joined_entries}
 use Rattle.rip_table.specs.ListState.{list_state}
-use Rattle.rip_table.proofs.Lists.{drop-end, drop-more}
+use Rattle.rip_table.proofs.PrefixListLemmas.{drop-end, drop-more}
 use Rattle.rip_table.proofs.ListLemmas.{added-joins}
 use Rattle.rip_table.proofs.list.add_all.Goals as goal
 

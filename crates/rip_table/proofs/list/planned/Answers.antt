@@ -1,6 +1,6 @@
 use Rattle.std.proofs.Common.{◌∙◌, sym, ap, arith, List, [], ◌∷◌, ◌++◌}
 use Rattle.rip_wire.specs.Prefix.{Block}
-use Rattle.rip_table.proofs.Lists.{take-more}
+use Rattle.rip_table.proofs.PrefixListLemmas.{take-more}
 use Rattle.rip_table.proofs.list.planned.Goals as goal
 
 pub loop-k-preserved : goal.loop-k-preserved

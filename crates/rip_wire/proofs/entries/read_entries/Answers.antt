@@ -2,7 +2,7 @@ use Rattle.std.proofs.Common.{◌≡◌, ◌<◌, ◌++◌, ◌∷◌, [], ℕ, 
 use Rattle.std.proofs.lemmas.List.{take_more_set, take_all}
 use Rattle.rip_wire.specs.declared.entry.Entry.{Entry}
 use Rattle.rip_wire.specs.Message.{entries_at}
-use Rattle.rip_wire.proofs.Walks.{all_entries, good_at, length-entries_at, take-entry}
+use Rattle.rip_wire.proofs.WalkLemmas.{all_entries, good_at, length-entries_at, take-entry}
 use Rattle.rip_wire.proofs.entries.read_entries.Goals as goal
 
 pub good_entry-requires-clause-good : goal.good_entry-requires-clause-good

@@ -1,6 +1,6 @@
 use Rattle.std.proofs.Common.{subst, sym}
 use Rattle.std.specs.Str.{IsAscii}
-use Rattle.rip_wire.proofs.Parsing.{address_in-gives, address_in-finds}
+use Rattle.rip_wire.proofs.ParsingLemmas.{address_in-gives, address_in-finds}
 use Rattle.rip_wire.proofs.TextLemmas.{IsAscii-address_text}
 use Rattle.rip_wire.proofs.laws.address_texts.Goals as goal
 

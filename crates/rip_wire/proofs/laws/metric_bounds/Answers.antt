@@ -1,4 +1,4 @@
-use Rattle.rip_wire.proofs.Views.{metric_bounds}
+use Rattle.rip_wire.proofs.ViewLemmas.{metric_bounds}
 use Rattle.rip_wire.proofs.laws.metric_bounds.Goals as goal
 
 pub returns : goal.returns

@@ -1,4 +1,4 @@
-use Rattle.rip_wire.proofs.Names.{is_name-gives, is_name-holds}
+use Rattle.rip_wire.proofs.NameLemmas.{is_name-gives, is_name-holds}
 use Rattle.rip_wire.proofs.laws.names.Goals as goal
 
 pub returns-clause-exact : goal.returns-clause-exact

@@ -1,7 +1,7 @@
 use Rattle.std.proofs.Common.{◌≡◌, ◌∙◌, sym}
 use Rattle.rip_wire.specs.Message.{response}
-use Rattle.rip_wire.proofs.Binds.{same_Ok}
-use Rattle.rip_wire.proofs.Messages.{response_again}
+use Rattle.rip_wire.proofs.BindLemmas.{same_Ok}
+use Rattle.rip_wire.proofs.MessageLemmas.{response_again}
 use Rattle.rip_wire.proofs.laws.one_reading.Goals as goal
 
 pub returns : goal.returns

@@ -1,6 +1,6 @@
 use Rattle.std.proofs.Common.{subst, sym, arith}
 use Rattle.std.specs.Str.{IsAscii}
-use Rattle.rip_wire.proofs.Parsing.{prefix_in-gives, prefix_in-finds}
+use Rattle.rip_wire.proofs.ParsingLemmas.{prefix_in-gives, prefix_in-finds}
 use Rattle.rip_wire.proofs.TextLemmas.{IsAscii-prefix_text}
 use Rattle.rip_wire.proofs.laws.prefix_texts.Goals as goal
 

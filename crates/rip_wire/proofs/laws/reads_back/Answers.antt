@@ -1,4 +1,4 @@
-use Rattle.rip_wire.proofs.Messages.{response_again}
+use Rattle.rip_wire.proofs.MessageLemmas.{response_again}
 use Rattle.rip_wire.proofs.laws.reads_back.Goals as goal
 
 pub returns : goal.returns

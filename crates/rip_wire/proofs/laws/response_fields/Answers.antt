@@ -1,5 +1,5 @@
-use Rattle.rip_wire.proofs.Messages.{response_again}
-use Rattle.rip_wire.proofs.Responses.{fields_response, response_fields}
+use Rattle.rip_wire.proofs.MessageLemmas.{response_again}
+use Rattle.rip_wire.proofs.ResponseLemmas.{fields_response, response_fields}
 use Rattle.rip_wire.proofs.laws.response_fields.Goals as goal
 
 pub returns-clause-exact : goal.returns-clause-exact

@@ -1,5 +1,5 @@
 use Rattle.std.proofs.Common.{arith}
-use Rattle.rip_wire.proofs.Names.{flag-at}
+use Rattle.rip_wire.proofs.NameLemmas.{flag-at}
 use Rattle.rip_wire.proofs.name.may_stand.Goals as goal
 
 pub returns : goal.returns

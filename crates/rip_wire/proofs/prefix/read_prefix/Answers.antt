@@ -1,6 +1,6 @@
 use Rattle.std.proofs.Common.{◌≡◌, ◌∙◌, sym, Some, None, refl, arith, decimal}
 use Rattle.rip_wire.specs.Address.{address_text}
-use Rattle.rip_wire.proofs.Parsing.{address_text-lacks_slash, split_none, split_some, parsed, some_block}
+use Rattle.rip_wire.proofs.ParsingLemmas.{address_text-lacks_slash, split_none, split_some, parsed, some_block}
 use Rattle.rip_wire.proofs.prefix.read_prefix.Goals as goal
 
 pub returns-in_err-network-clause-prefix : goal.returns-in_err-network-clause-prefix

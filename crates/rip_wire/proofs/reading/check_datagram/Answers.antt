@@ -1,6 +1,6 @@
 use Rattle.std.proofs.Common.{ap, sym, ◌∙◌, Ok}
 use Rattle.std.proofs.lemmas.Result.{err_from_is_err_and, MatchResult-weaker}
-use Rattle.rip_wire.proofs.Messages.{headed, kind_fault, whole_request, whole_response, response_fault}
+use Rattle.rip_wire.proofs.MessageLemmas.{headed, kind_fault, whole_request, whole_response, response_fault}
 use Rattle.rip_wire.proofs.reading.check_datagram.Goals as goal
 
 pub returns-in_err-read_kind-clause-fault : goal.returns-in_err-read_kind-clause-fault

@@ -1,5 +1,5 @@
 use Rattle.std.proofs.Common.{sym, ◌∙◌}
-use Rattle.rip_wire.proofs.Walks.{EndsAs-first, EndsAs-good, EndsAs-fault, EndsAs-last}
+use Rattle.rip_wire.proofs.WalkLemmas.{EndsAs-first, EndsAs-good, EndsAs-fault, EndsAs-last}
 use Rattle.rip_wire.proofs.reading.check_entries.Goals as goal
 
 pub loop-i-init : goal.loop-i-init

@@ -1,5 +1,5 @@
 use Rattle.rip_wire.specs.Message.{entries_at}
-use Rattle.rip_wire.proofs.Walks.{EndsAs, rest_of}
+use Rattle.rip_wire.proofs.WalkLemmas.{EndsAs, rest_of}
 use Rattle.rip_wire.proofs.reading.check_entries.Given as goal
 
 abbrev pub invariant-loop-i : goal.invariant-loop-i

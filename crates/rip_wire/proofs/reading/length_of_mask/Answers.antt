@@ -1,7 +1,7 @@
 use Rattle.std.proofs.Common.{◌≤◌, sym, ap, ◌∙◌, rules}
 use Rattle.rip_wire.specs.Prefix.{mask_of}
 use Rattle.rip_wire.specs.Message.{bits_of_mask}
-use Rattle.rip_wire.proofs.Masks.{bits_of_mask-mask_of, bits_of_mask-None}
+use Rattle.rip_wire.proofs.MaskLemmas.{bits_of_mask-mask_of, bits_of_mask-None}
 use Rattle.rip_wire.proofs.reading.length_of_mask.Goals as goal
 
 pub returns-then-mask-mask_of_length-clause-value : goal.returns-then-mask-mask_of_length-clause-value

@@ -1,5 +1,5 @@
 use Rattle.std.proofs.Common.{arith}
-use Rattle.rip_wire.proofs.Answering.{read_exact, read_response, read_request, read_no_fault, refused_response, refused_request, refused_fault, longer_fault}
+use Rattle.rip_wire.proofs.AnswerLemmas.{read_exact, read_response, read_request, read_no_fault, refused_response, refused_request, refused_fault, longer_fault}
 use Rattle.rip_wire.proofs.reading.read.Goals as goal
 
 pub returns-in-Ok-clause-response : goal.returns-in-Ok-clause-response

@@ -1,5 +1,5 @@
 use Rattle.std.proofs.Common.{◌≡◌, ◌∙◌, ◌/◌, ◌%◌, ◌^◌, ◌<◌, sym, ap, Some, None, arith, refl}
-use Rattle.rip_wire.proofs.Parsing.{number_of_bytes}
+use Rattle.rip_wire.proofs.ParsingLemmas.{number_of_bytes}
 use Rattle.rip_wire.proofs.text.read_address.Goals as goal
 
 pub returns-in_err-d-clause-found : goal.returns-in_err-d-clause-found

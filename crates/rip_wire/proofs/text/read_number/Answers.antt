@@ -1,5 +1,5 @@
 use Rattle.std.proofs.Common.{◌≡◌, ◌∙◌, ap, ◌++◌, [], ℕ, List, Some, length, decimal, append-nil, true, false, eqb}
-use Rattle.rip_wire.proofs.Decimals.{empty-is, no-reading, number_of-said, number_of-whole, same-reading}
+use Rattle.rip_wire.proofs.DecimalLemmas.{empty-is, no-reading, number_of-said, number_of-whole, same-reading}
 use Rattle.rip_wire.proofs.text.read_number.Goals as goal
 
 pub returns-in_err-number-clause-found : goal.returns-in_err-number-clause-found

@@ -1,5 +1,5 @@
 use Rattle.std.proofs.Common.{◌≡◌, ◌∙◌, sym, ap, ◌∷◌, ◌++◌, ℕ, List, length, decimal, arith}
-use Rattle.rip_wire.proofs.Decimals.{no-reading, number_of-dotted, number_of-said, same-reading}
+use Rattle.rip_wire.proofs.DecimalLemmas.{no-reading, number_of-dotted, number_of-said, same-reading}
 use Rattle.rip_wire.proofs.text.split_dotted.Goals as goal
 
 pub returns-in_err-number-clause-found : goal.returns-in_err-number-clause-found

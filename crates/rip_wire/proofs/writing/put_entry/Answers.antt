@@ -1,5 +1,5 @@
 use Rattle.std.proofs.Common.{◌+◌, ◌∙◌, arith}
-use Rattle.rip_wire.proofs.Writes.{drop_on}
+use Rattle.rip_wire.proofs.WriteLemmas.{drop_on}
 use Rattle.rip_wire.proofs.writing.put_entry.Goals as goal
 
 pub returns-clause-others : goal.returns-clause-others

@@ -1,6 +1,6 @@
 use Rattle.std.proofs.Common.{◌≡◌, ◌+◌, ◌*◌, take, length, refl, sym, ap, ◌∙◌, arith, ◌++◌, ◌∷◌, []}
 use Rattle.std.proofs.lemmas.List.{take_more, length-take}
-use Rattle.rip_wire.proofs.Writes.{IsWritten-none, IsWritten-push}
+use Rattle.rip_wire.proofs.WriteLemmas.{IsWritten-none, IsWritten-push}
 use Rattle.rip_wire.proofs.writing.write_response.Goals as goal
 
 pub loop-i-init : goal.loop-i-init

@@ -1,5 +1,5 @@
 use Rattle.std.proofs.Common.{take}
-use Rattle.rip_wire.proofs.Writes.{IsWritten}
+use Rattle.rip_wire.proofs.WriteLemmas.{IsWritten}
 use Rattle.rip_wire.proofs.writing.write_response.Given as goal
 
 abbrev pub invariant-loop-i : goal.invariant-loop-i

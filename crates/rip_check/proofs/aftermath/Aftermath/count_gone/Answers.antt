@@ -1,7 +1,7 @@
 use Rattle.std.proofs.Common.{ℕ, arith}
 use Rattle.std.proofs.lemmas.Bool.Decides.{not_from_Decides}
 use Rattle.rip_check.specs.Losses.{IsGone}
-use Rattle.rip_check.proofs.Counts.{counts, passes_by}
+use Rattle.rip_check.proofs.CountLemmas.{counts, passes_by}
 use Rattle.rip_check.proofs.aftermath.Aftermath.count_gone.Goals as goal
 use Rattle.rip_check.proofs.aftermath.Aftermath.count_gone.Goals.{then-is_gone, else-is_gone}
 

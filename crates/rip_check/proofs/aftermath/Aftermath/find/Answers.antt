@@ -3,7 +3,7 @@ use Rattle.std.proofs.Math.Seq.{take-append_seam}
 use Rattle.std.proofs.lemmas.Bool.{cases_lt}
 use Rattle.std.proofs.lemmas.List.{length-set}
 use Rattle.std.proofs.lemmas.Option.{slice_get_within}
-use Rattle.rip_check.proofs.Steps.{after_write}
+use Rattle.rip_check.proofs.StepLemmas.{after_write}
 use Rattle.rip_check.proofs.aftermath.Aftermath.find.Goals as goal
 
 pub loop-prefix-preserved : goal.loop-prefix-preserved

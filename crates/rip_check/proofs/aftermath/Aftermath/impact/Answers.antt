@@ -1,9 +1,9 @@
 use Rattle.std.proofs.Common.{◌≡◌, ℕ, ◌≤◌, length, arith}
 use Rattle.rip_check.specs.Impacts.{AreLongerOf, AreLostBy}
 use Rattle.rip_check.specs.Losses.{IsLonger, IsLost}
-use Rattle.rip_check.proofs.Counts.{adds}
-use Rattle.rip_check.proofs.Impacts.{count_most, farther_router, harder, hardest, losing, no_harder}
-use Rattle.rip_check.proofs.Numbers.{few_prefixes}
+use Rattle.rip_check.proofs.CountLemmas.{adds}
+use Rattle.rip_check.proofs.ImpactLemmas.{count_most, farther_router, harder, hardest, losing, no_harder}
+use Rattle.rip_check.proofs.NumberLemmas.{few_prefixes}
 use Rattle.rip_check.proofs.aftermath.Aftermath.impact.Goals as goal
 use Rattle.rip_check.proofs.aftermath.Aftermath.impact.Goals.{then-part-impact, else-part-impact}
 

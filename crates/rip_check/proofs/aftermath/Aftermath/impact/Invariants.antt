@@ -2,7 +2,7 @@ use Rattle.std.proofs.Common.{◌≤◌, ◌*◌, length}
 use Rattle.rip_check.specs.Expected.{IsCount, IsTotal}
 use Rattle.rip_check.specs.Impacts.{AreLongerOf, AreLostBy}
 use Rattle.rip_check.specs.Losses.{IsGone}
-use Rattle.rip_check.proofs.Impacts.{IsFarthestBelow, IsHardestBelow}
+use Rattle.rip_check.proofs.ImpactLemmas.{IsFarthestBelow, IsHardestBelow}
 use Rattle.rip_check.proofs.aftermath.Aftermath.impact.Given as goal
 
 abbrev pub invariant-loop-router : goal.invariant-loop-router

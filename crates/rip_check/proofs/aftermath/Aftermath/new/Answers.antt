@@ -1,6 +1,6 @@
 use Rattle.std.proofs.Common.{◌≤◌, arith}
 use Rattle.std.proofs.Math.Nat.{mul-le-mul_right}
-use Rattle.rip_check.proofs.Numbers.{few_prefixes}
+use Rattle.rip_check.proofs.NumberLemmas.{few_prefixes}
 use Rattle.rip_check.proofs.aftermath.Aftermath.new.Goals as goal
 
 pub overflow_mul-routers : goal.overflow_mul-routers

@@ -2,8 +2,8 @@ use Rattle.std.proofs.Common.{◌≡◌, ℕ, length, arith}
 use Rattle.rip_check.specs.declared.aftermath.Change.TheVariants.{Other}
 use Rattle.rip_check.specs.Impacts.{IsChange}
 use Rattle.rip_check.specs.Losses.{IsLonger, IsLost}
-use Rattle.rip_check.proofs.Counts.{counts, passes_by}
-use Rattle.rip_check.proofs.Impacts.{farther, lost_not_longer, none_farther}
+use Rattle.rip_check.proofs.CountLemmas.{counts, passes_by}
+use Rattle.rip_check.proofs.ImpactLemmas.{farther, lost_not_longer, none_farther}
 use Rattle.rip_check.proofs.aftermath.Aftermath.part_of.Goals as goal
 use Rattle.rip_check.proofs.aftermath.Aftermath.part_of.Goals.{in-Other, in-Lost, in-Longer}
 

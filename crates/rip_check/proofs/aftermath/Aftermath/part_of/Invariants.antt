@@ -1,7 +1,7 @@
 use Rattle.std.proofs.Common.{ℕ, ◌≤◌}
 use Rattle.rip_check.specs.Expected.{IsCount}
 use Rattle.rip_check.specs.Losses.{IsLonger, IsLost}
-use Rattle.rip_check.proofs.Impacts.{IsFarthestBefore}
+use Rattle.rip_check.proofs.ImpactLemmas.{IsFarthestBefore}
 use Rattle.rip_check.proofs.aftermath.Aftermath.part_of.Given as goal
 
 abbrev pub invariant-loop-prefix : goal.invariant-loop-prefix

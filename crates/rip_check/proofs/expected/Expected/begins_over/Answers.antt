@@ -1,7 +1,7 @@
 use Rattle.std.proofs.Common.{◌≡◌, refl}
 use Rattle.std.proofs.lemmas.Bool.Decides.{not_from_Decides}
 use Rattle.rip_plan.specs.Relations.{IsKept}
-use Rattle.rip_check.proofs.Owned.{its_number, its_router, each_more, every}
+use Rattle.rip_check.proofs.OwnedLemmas.{its_number, its_router, each_more, every}
 use Rattle.rip_check.proofs.expected.Expected.begins_over.Goals as goal
 
 pub interface-own-requires : goal.interface-own-requires

@@ -2,7 +2,7 @@ use Rattle.std.proofs.Common.{◌≤◌, ◌≡◌, ℕ, ◌+◌, ◌*◌, inl, 
 use Rattle.std.proofs.Math.Seq.{take-append_seam}
 use Rattle.std.proofs.Math.Nat.{mul-le-mul_right}
 use Rattle.std.proofs.lemmas.Bool.{cases_lt}
-use Rattle.rip_check.proofs.Numbers.{few_prefixes}
+use Rattle.rip_check.proofs.NumberLemmas.{few_prefixes}
 use Rattle.rip_check.proofs.expected.Expected.find.Goals as goal
 
 pub overflow_mul-routers : goal.overflow_mul-routers

@@ -1,7 +1,7 @@
 use Rattle.std.proofs.Common.{◌≡◌, get_or, refl, arith}
-use Rattle.rip_check.proofs.Plans.{attached_ne}
-use Rattle.rip_check.proofs.Across.{across_number, across_own}
-use Rattle.rip_check.proofs.Overs.{one_least, one_more_not, none_over, path_over}
+use Rattle.rip_check.proofs.PlanLemmas.{attached_ne}
+use Rattle.rip_check.proofs.AcrossLemmas.{across_number, across_own}
+use Rattle.rip_check.proofs.OverLemmas.{one_least, one_more_not, none_over, path_over}
 use Rattle.rip_check.proofs.expected.Expected.is_over.Goals as goal
 use Rattle.rip_check.proofs.expected.Expected.is_over.Goals.{else-across-own-via-then-across-own+else-from-number, else-across-own-via-then-across-own+then-from-number+else-ne, else-across-own-via-else-across-own}
 

@@ -1,6 +1,6 @@
 use Rattle.std.proofs.Common.{◌≢◌, ℕ, ◌<◌, get_or}
 use Rattle.rip_plan.specs.Relations.{IsInterface}
-use Rattle.rip_check.proofs.Overs.{GivesNot}
+use Rattle.rip_check.proofs.OverLemmas.{GivesNot}
 use Rattle.rip_check.proofs.expected.Expected.is_over.Given as goal
 
 -- no neighbour at a place before gives the metric

@@ -1,4 +1,4 @@
-use Rattle.rip_check.proofs.Overs.{here_right, over_right}
+use Rattle.rip_check.proofs.OverLemmas.{here_right, over_right}
 use Rattle.rip_check.proofs.expected.Expected.is_right.Goals as goal
 
 pub returns-then-metric-lt16 : goal.returns-then-metric-lt16

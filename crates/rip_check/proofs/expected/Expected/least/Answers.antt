@@ -1,5 +1,5 @@
 use Rattle.std.proofs.Common.{arith, inl}
-use Rattle.rip_check.proofs.Expecting.{planned}
+use Rattle.rip_check.proofs.ExpectingLemmas.{planned}
 use Rattle.rip_check.proofs.expected.Expected.least.Goals as goal
 
 pub returns : goal.returns

@@ -1,4 +1,4 @@
-use Rattle.rip_check.proofs.Overs.{least_low, least_most}
+use Rattle.rip_check.proofs.OverLemmas.{least_low, least_most}
 use Rattle.rip_check.proofs.expected.Expected.metric.Goals as goal
 
 pub metric_of-requires-clause-low : goal.metric_of-requires-clause-low

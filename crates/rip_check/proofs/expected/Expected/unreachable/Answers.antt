@@ -1,8 +1,8 @@
 use Rattle.std.proofs.Common.{◌≤◌, length, arith}
 use Rattle.rip_check.specs.Expected.{IsCount}
 use Rattle.rip_check.specs.Paths.{IsLeast}
-use Rattle.rip_check.proofs.Counts.{adds}
-use Rattle.rip_check.proofs.Numbers.{few_prefixes}
+use Rattle.rip_check.proofs.CountLemmas.{adds}
+use Rattle.rip_check.proofs.NumberLemmas.{few_prefixes}
 use Rattle.rip_check.proofs.expected.Expected.unreachable.Goals as goal
 
 pub overflow_add-total : goal.overflow_add-total

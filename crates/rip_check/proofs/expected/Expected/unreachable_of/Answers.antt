@@ -1,7 +1,7 @@
 use Rattle.std.proofs.Common.{ℕ, arith}
 use Rattle.rip_check.specs.Paths.{IsLeast}
-use Rattle.rip_check.proofs.Counts.{counts, passes_by}
-use Rattle.rip_check.proofs.Overs.{one_least}
+use Rattle.rip_check.proofs.CountLemmas.{counts, passes_by}
+use Rattle.rip_check.proofs.OverLemmas.{one_least}
 use Rattle.rip_check.proofs.expected.Expected.unreachable_of.Goals as goal
 use Rattle.rip_check.proofs.expected.Expected.unreachable_of.Goals.{then-number-eq16, else-number-eq16}
 

@@ -1,6 +1,6 @@
 use Rattle.std.proofs.Common.{refl, arith}
 use Rattle.rip_check.specs.Examples.{IsSettledNetwork, chain, chain_shown, chain_tables}
-use Rattle.rip_check.proofs.Checking.{Passes, NamesTested}
+use Rattle.rip_check.proofs.CheckingLemmas.{Passes, NamesTested}
 use Rattle.rip_check.proofs.ExampleLemmas.{settled}
 use Rattle.rip_check.proofs.laws.examples.chains.Goals as goal
 

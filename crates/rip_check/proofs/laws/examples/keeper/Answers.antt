@@ -1,7 +1,7 @@
 use Rattle.std.proofs.Common.{refl, arith}
 use Rattle.rip_check.specs.Examples.{keeper, keeper_shown, keeper_tables, route}
 use Rattle.rip_check.specs.declared.way.Way.TheVariants.{Here, Over}
-use Rattle.rip_check.proofs.Checking.{Passes}
+use Rattle.rip_check.proofs.CheckingLemmas.{Passes}
 use Rattle.rip_check.proofs.ExampleLemmas.{settled, unsettled}
 use Rattle.rip_check.proofs.laws.examples.keeper.Goals as goal
 

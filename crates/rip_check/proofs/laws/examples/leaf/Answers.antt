@@ -2,9 +2,9 @@ use Rattle.std.proofs.Common.{refl, ap, arith}
 use Rattle.rip_check.specs.Tables.{Route}
 use Rattle.rip_check.specs.Examples.{with_leaf, leaf_shown, leaf_tables, route}
 use Rattle.rip_check.specs.declared.way.Way.TheVariants.{Over, Unreachable}
-use Rattle.rip_check.proofs.Checking.{Passes, lawful}
-use Rattle.rip_check.proofs.CheckedPlaces.{fits_gives}
-use Rattle.rip_check.proofs.Reading.{one_route}
+use Rattle.rip_check.proofs.CheckingLemmas.{Passes, lawful}
+use Rattle.rip_check.proofs.CheckedPlaceLemmas.{fits_gives}
+use Rattle.rip_check.proofs.RouteLemmas.{one_route}
 use Rattle.rip_check.proofs.ExampleLemmas.{settled}
 use Rattle.rip_check.proofs.laws.examples.leaf.Goals as goal
 

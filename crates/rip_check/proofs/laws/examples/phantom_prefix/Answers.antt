@@ -2,8 +2,8 @@ use Rattle.std.proofs.Common.{ℕ, ◌≤◌, List, [], ◌∷◌, inl, refl, ar
 use Rattle.rip_check.specs.Paths.{Hop, IsPath}
 use Rattle.rip_check.specs.Examples.{triangle, phantom_shown, phantom_tables, nowhere_shown, triangle_tables, route}
 use Rattle.rip_check.specs.declared.way.Way.TheVariants.{Over}
-use Rattle.rip_check.proofs.Checking.{Passes}
-use Rattle.rip_check.proofs.CheckedPlaces.{no_direct, holds_gives}
+use Rattle.rip_check.proofs.CheckingLemmas.{Passes}
+use Rattle.rip_check.proofs.CheckedPlaceLemmas.{no_direct, holds_gives}
 use Rattle.rip_check.proofs.ExampleLemmas.{settled, unsettled}
 use Rattle.rip_check.proofs.laws.examples.phantom_prefix.Goals as goal
 

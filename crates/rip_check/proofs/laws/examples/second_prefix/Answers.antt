@@ -1,6 +1,6 @@
 use Rattle.std.proofs.Common.{None, Some, refl}
 use Rattle.rip_check.specs.Examples.{second_prefix, second_shown, second_tables}
-use Rattle.rip_check.proofs.Checking.{Passes}
+use Rattle.rip_check.proofs.CheckingLemmas.{Passes}
 use Rattle.rip_check.proofs.ExampleLemmas.{settled}
 use Rattle.rip_check.proofs.laws.examples.second_prefix.Goals as goal
 

@@ -1,6 +1,6 @@
 use Rattle.std.proofs.Common.{refl}
 use Rattle.rip_check.specs.Examples.{two_exits, two_exits_shown, two_exits_tables}
-use Rattle.rip_check.proofs.Checking.{Passes}
+use Rattle.rip_check.proofs.CheckingLemmas.{Passes}
 use Rattle.rip_check.proofs.ExampleLemmas.{settled}
 use Rattle.rip_check.proofs.laws.examples.two_exits.Goals as goal
 

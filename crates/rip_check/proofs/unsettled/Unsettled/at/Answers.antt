@@ -3,12 +3,12 @@ use Rattle.std.proofs.lemmas.List.{get_or_read}
 use Rattle.std.proofs.lemmas.Nat.{mul-add-lt}
 use Rattle.rip_plan.specs.Network.{Network}
 use Rattle.rip_table.specs.State.{State}
-use Rattle.rip_check.specs.declared.routes.Reading.{Reading}
+use Rattle.rip_check.specs.declared.routes.ReadRoute.{ReadRoute}
 use Rattle.rip_check.specs.declared.unsettled.Unsettled.{Unsettled}
-use Rattle.rip_check.specs.Marks.{AreUnsettled, IsMark, IsUnmet}
+use Rattle.rip_check.specs.Marks.{AreUnsettled, IsMark, FailsWith}
 use Rattle.rip_check.specs.Verdicts.{route_of}
-use Rattle.rip_check.proofs.Reading.{one_route}
-use Rattle.rip_check.proofs.Readable.{fits_readable}
+use Rattle.rip_check.proofs.RouteLemmas.{one_route}
+use Rattle.rip_check.proofs.ReadableLemmas.{fits_readable}
 use Rattle.rip_check.proofs.unsettled.Unsettled.at.Goals as goal
 
 -- what is kept of a place
@@ -22,10 +22,10 @@ mark_at n s unsettled are r p w mark e router prefix read =
     rw (← is) at (are.marks r p router prefix)
 
 -- the equation of a marked place
-failing_at : (n : Network) (s : State) (r p v : ℕ) (mark : Option ℕ) → mark ≡ Some v → IsMark n s r p mark → (1 ≤ v) × (v ≤ 16) × IsUnmet n s r p v
+failing_at : (n : Network) (s : State) (r p v : ℕ) (mark : Option ℕ) → mark ≡ Some v → IsMark n s r p mark → (1 ≤ v) × (v ≤ 16) × FailsWith n s r p v
 failing_at n s r p v mark e is = rw e at is.fails
 
-there : (P : Type 0) (o : Option Reading) → IfNone o (P → ⊥) → P → IsSome o
+there : (P : Type 0) (o : Option ReadRoute) → IfNone o (P → ⊥) → P → IsSome o
 there P None none p = absurd (none p)
 there P (Some t) none p = refl
 

@@ -1,6 +1,6 @@
 use Rattle.std.proofs.Common.{rules, arith, refl, ap, ◌≡◌, ◌+◌, ◌∙◌, false, Ok, Err, Some, None}
 use Rattle.rip_log.specs.Codes.{is_read}
-use Rattle.rip_log.specs.Leaves.{lines_behind, log_to_come, source_of, text}
+use Rattle.rip_log.specs.NextCall.{lines_behind, log_to_come, source_of, text}
 use Rattle.rip_log.specs.Steps.{capture_at}
 use Rattle.rip_log.specs.Wholes.{rest_of}
 use Rattle.rip_log.proofs.PassLemmas.{calm-refused, passes_failed, passes_kept, passes_line, passes_trans}

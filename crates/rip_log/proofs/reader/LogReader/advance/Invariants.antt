@@ -1,5 +1,5 @@
 use Rattle.std.proofs.Common.{◌≡◌, ◌-◌, ◌≤◌, false, true}
-use Rattle.rip_log.specs.Leaves.{IsOver, text, log_to_come, lines_behind, last_ready, has_stopped, source_of}
+use Rattle.rip_log.specs.NextCall.{IsOver, text, log_to_come, lines_behind, last_ready, has_stopped, source_of}
 use Rattle.rip_log.specs.Cuts.{PassesLines}
 use Rattle.rip_log.specs.Logs.{SameLog}
 use Rattle.rip_log.specs.Wholes.{OfWhole, Went}

@@ -2,8 +2,8 @@ use Rattle.std.proofs.Common.{rules, arith, refl, ap, ◌≡◌, ◌+◌, ◌∙
 use Rattle.rip_log.specs.Codes.{is_read}
 use Rattle.rip_log.specs.Said.{bad, said_at}
 use Rattle.rip_log.specs.FoundLines.{said_found}
-use Rattle.rip_log.specs.Leaves.{lines_behind, source_of, text}
-use Rattle.rip_log.specs.LeavesLine.{said_to_come}
+use Rattle.rip_log.specs.NextCall.{lines_behind, source_of, text}
+use Rattle.rip_log.specs.NextLineCall.{said_to_come}
 use Rattle.rip_log.specs.Wholes.{rest_of}
 use Rattle.rip_log.proofs.PassLemmas.{passes_kept, passes_line, passes_long, passes_trans}
 use Rattle.rip_log.proofs.SaidLemmas.{SameSaid-skip, SameSaid-trans, GivesLine-on, GivesLine-found, GivesLine-end, GivesLine-long, GivesLine-failed, GivesLine-unread, kept_unread, unread}

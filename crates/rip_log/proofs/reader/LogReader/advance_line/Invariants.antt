@@ -1,6 +1,6 @@
 use Rattle.std.proofs.Common.{◌≡◌, ◌-◌, ◌≤◌, false, true}
-use Rattle.rip_log.specs.Leaves.{IsOver, text, lines_behind, has_stopped, source_of}
-use Rattle.rip_log.specs.LeavesLine.{last_ended, said_to_come}
+use Rattle.rip_log.specs.NextCall.{IsOver, text, lines_behind, has_stopped, source_of}
+use Rattle.rip_log.specs.NextLineCall.{last_ended, said_to_come}
 use Rattle.rip_log.specs.Cuts.{PassesLines}
 use Rattle.rip_log.specs.Wholes.{OfWhole, Went}
 use Rattle.rip_log.proofs.SaidLemmas.{SameSaid}

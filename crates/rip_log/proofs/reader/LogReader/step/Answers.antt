@@ -1,5 +1,5 @@
 use Rattle.std.proofs.Common.{refl}
-use Rattle.rip_log.specs.Leaves.{source_of}
+use Rattle.rip_log.specs.NextCall.{source_of}
 use Rattle.rip_log.specs.Wholes.{rest_of}
 use Rattle.rip_log.proofs.CarryLemmas.{says_on}
 use Rattle.rip_log.proofs.WholeLemmas.{begins_back}

@@ -2,7 +2,7 @@ use Rattle.std.proofs.Common.{◌≡◌, ◌++◌, ◌∷◌, [], List, length, 
 use Rattle.std.specs.Result.{IsOk, is_ok}
 use Rattle.std.proofs.lemmas.List.{length-map, map_push}
 use Rattle.std.proofs.lemmas.Map.Text.{hash_map_updates_text}
-use Rattle.rip_plan.proofs.Names.{new_name}
+use Rattle.rip_plan.proofs.NameLemmas.{new_name}
 use Rattle.rip_plan.proofs.draft.steps.add_link_name.Goals as goal
 
 when_ok : {X A B : Type 0} (r : Result A B) (xs ys zs : List X) → IsOk r → zs ≡ cond (is_ok r) xs ys → zs ≡ xs

@@ -8,7 +8,7 @@ use Rattle.rip_wire.specs.Prefix.{Block}
 use Rattle.rip_plan.specs.declared.draft.DraftPlace.{DraftPlace}
 use Rattle.rip_plan.specs.Draft.{has_address, is_outside}
 use Rattle.rip_plan.specs.Seats.{is_on}
-use Rattle.rip_plan.proofs.Clashes.{any_kept, any_listed}
+use Rattle.rip_plan.proofs.ClashLemmas.{any_kept, any_listed}
 use Rattle.rip_plan.proofs.draft.steps.is_out_of_link.Goals as goal
 
 -- an address outside of a link, by the prefixes on it

@@ -2,7 +2,7 @@ use Rattle.std.proofs.Common.{◌≡◌, subst, ap, sym, ◌∙◌, None}
 use Rattle.std.specs.Prelude.{option_and_then}
 use Rattle.rip_plan.specs.Network.{Network, own_seat}
 use Rattle.rip_plan.specs.Seats.{link_of}
-use Rattle.rip_plan.proofs.PlanAnswers.{attached_exact, none_attached}
+use Rattle.rip_plan.proofs.PlanAnswerLemmas.{attached_exact, none_attached}
 use Rattle.rip_plan.proofs.plan.Plan.attached_link.Goals as goal
 
 pub returns-in-Some : goal.returns-in-Some

@@ -1,5 +1,5 @@
 use Rattle.rip_plan.specs.Relations.{IsLawful}
-use Rattle.rip_plan.proofs.PlanAnswers.{carries_planned, carries_unplanned}
+use Rattle.rip_plan.proofs.PlanAnswerLemmas.{carries_planned, carries_unplanned}
 use Rattle.rip_plan.proofs.plan.Plan.carries.Goals as goal
 
 pub returns : goal.returns

@@ -5,7 +5,7 @@ use Rattle.std.proofs.lemmas.List.{length-map, get_or_read}
 use Rattle.rip_plan.specs.Network.{direct_at}
 use Rattle.rip_plan.specs.Relations.{IsLawful}
 use Rattle.rip_plan.specs.Rows.{cell}
-use Rattle.rip_plan.proofs.PlanAnswers.{direct_past, direct_zero}
+use Rattle.rip_plan.proofs.PlanAnswerLemmas.{direct_past, direct_zero}
 use Rattle.rip_plan.proofs.plan.Plan.cost_at.Goals as goal
 use Rattle.rip_plan.proofs.plan.Plan.cost_at.Goals.{then-len-router-via-then-len-router, then-len-router-via-else-len-router+then-len-prefix}
 

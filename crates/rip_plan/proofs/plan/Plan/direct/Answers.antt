@@ -1,5 +1,5 @@
 use Rattle.rip_plan.specs.Relations.{IsLawful}
-use Rattle.rip_plan.proofs.PlanAnswers.{direct_planned, direct_unplanned}
+use Rattle.rip_plan.proofs.PlanAnswerLemmas.{direct_planned, direct_unplanned}
 use Rattle.rip_plan.proofs.plan.Plan.direct.Goals as goal
 
 pub returns : goal.returns

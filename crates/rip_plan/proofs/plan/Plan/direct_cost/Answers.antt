@@ -1,4 +1,4 @@
-use Rattle.rip_plan.proofs.PlanAnswers.{direct_exact}
+use Rattle.rip_plan.proofs.PlanAnswerLemmas.{direct_exact}
 use Rattle.rip_plan.proofs.plan.Plan.direct_cost.Goals as goal
 
 pub returns : goal.returns

@@ -1,5 +1,5 @@
 use Rattle.rip_plan.specs.Relations.{IsLawful}
-use Rattle.rip_plan.proofs.PlanAnswers.{found_exact, found_below}
+use Rattle.rip_plan.proofs.PlanAnswerLemmas.{found_exact, found_below}
 use Rattle.rip_plan.proofs.plan.Plan.find.Goals as goal
 
 pub returns : goal.returns

@@ -1,4 +1,4 @@
-use Rattle.rip_plan.proofs.PlanAnswers.{gateway_planned, gateway_unplanned}
+use Rattle.rip_plan.proofs.PlanAnswerLemmas.{gateway_planned, gateway_unplanned}
 use Rattle.rip_plan.proofs.plan.Plan.gateway.Goals as goal
 
 pub returns : goal.returns

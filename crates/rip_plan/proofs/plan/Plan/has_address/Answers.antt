@@ -7,8 +7,8 @@ use Rattle.rip_plan.specs.Addresses.{holder_at}
 use Rattle.rip_plan.specs.Network.{Network, addresses_of}
 use Rattle.rip_plan.specs.Relations.{HasAddress, IsInterface, IsLawful}
 use Rattle.rip_plan.specs.declared.parts.Interface.{Interface}
-use Rattle.rip_plan.proofs.HeldAddresses.{holder_gives}
-use Rattle.rip_plan.proofs.Lookups.{holder_finds}
+use Rattle.rip_plan.proofs.HeldAddressLemmas.{holder_gives}
+use Rattle.rip_plan.proofs.LookupLemmas.{holder_finds}
 use Rattle.rip_plan.proofs.plan.Plan.has_address.Goals as goal
 
 -- the look-up finds the interface exactly where it has the address

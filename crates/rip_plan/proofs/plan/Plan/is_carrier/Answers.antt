@@ -1,7 +1,7 @@
 use Rattle.std.proofs.Common.{◌≡◌, length, arith, inl, inr, sym, string_bytes, refl}
 use Rattle.std.proofs.lemmas.List.{length-map}
 use Rattle.rip_plan.specs.Relations.{IsLawful}
-use Rattle.rip_plan.proofs.PlanAnswers.{carrier_past}
+use Rattle.rip_plan.proofs.PlanAnswerLemmas.{carrier_past}
 use Rattle.rip_plan.proofs.plan.Plan.is_carrier.Goals as goal
 use Rattle.rip_plan.proofs.plan.Plan.is_carrier.Goals.{then-len-link-via-then-len-link, then-len-link-via-else-len-link+then-len-prefix}
 

@@ -1,4 +1,4 @@
-use Rattle.rip_plan.proofs.PlanAnswers.{carries_exact}
+use Rattle.rip_plan.proofs.PlanAnswerLemmas.{carries_exact}
 use Rattle.rip_plan.proofs.plan.Plan.is_place.Goals as goal
 
 pub returns : goal.returns

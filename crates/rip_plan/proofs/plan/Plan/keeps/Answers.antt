@@ -2,7 +2,7 @@ use Rattle.std.proofs.Common.{◌≡◌, false, subst, ap, refl, sym, ◌∙◌}
 use Rattle.std.specs.Option.{option_map_or}
 use Rattle.rip_plan.specs.Network.{Network, own_seat}
 use Rattle.rip_plan.specs.Seats.{is_kept}
-use Rattle.rip_plan.proofs.PlanAnswers.{kept_exact, none_kept}
+use Rattle.rip_plan.proofs.PlanAnswerLemmas.{kept_exact, none_kept}
 use Rattle.rip_plan.proofs.plan.Plan.keeps.Goals as goal
 
 pub returns-in-Some : goal.returns-in-Some

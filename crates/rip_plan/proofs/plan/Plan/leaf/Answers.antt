@@ -2,7 +2,7 @@ use Rattle.std.proofs.Common.{◌≡◌, ℕ, Bool, true, false, not, length, ar
 use Rattle.std.specs.Prelude.{◌==◌}
 use Rattle.std.proofs.lemmas.Bool.Decides.{nat_tests}
 use Rattle.rip_plan.specs.Network.{numbers_where, is_of}
-use Rattle.rip_plan.proofs.LeafRouters.{leaf_of_one, one_of_leaf, two_of_other, other_of_two}
+use Rattle.rip_plan.proofs.LeafRouterLemmas.{leaf_of_one, one_of_leaf, two_of_other, other_of_two}
 use Rattle.rip_plan.proofs.plan.Plan.leaf.Goals as goal
 
 pub returns : goal.returns

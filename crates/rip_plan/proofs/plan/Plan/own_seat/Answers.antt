@@ -7,8 +7,8 @@ use Rattle.rip_plan.specs.declared.parts.Place.{Place}
 use Rattle.rip_plan.specs.Network.{first_owned, is_owned}
 use Rattle.rip_plan.specs.Relations.{IsLawful}
 use Rattle.rip_plan.specs.Rows.{AreOwners}
-use Rattle.rip_plan.proofs.Lookups.{at_first, find_at, find_past}
-use Rattle.rip_plan.proofs.PlanAnswers.{own_past}
+use Rattle.rip_plan.proofs.LookupLemmas.{at_first, find_at, find_past}
+use Rattle.rip_plan.proofs.PlanAnswerLemmas.{own_past}
 use Rattle.rip_plan.proofs.plan.Plan.own_seat.Goals as goal
 use Rattle.rip_plan.proofs.plan.Plan.own_seat.Goals.{then-len-router-via-then-len-router, then-len-router-via-else-len-router+then-len-prefix}
 

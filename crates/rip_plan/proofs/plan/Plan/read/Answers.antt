@@ -1,7 +1,7 @@
 use Rattle.std.proofs.Common.{ap}
 use Rattle.std.specs.Result.{result_err}
-use Rattle.rip_plan.proofs.PlanMatches.{network_matches}
-use Rattle.rip_plan.proofs.Texts.{TextLaws}
+use Rattle.rip_plan.proofs.PlanMatchLemmas.{network_matches}
+use Rattle.rip_plan.proofs.TextLemmas.{TextLaws}
 use Rattle.rip_plan.proofs.plan.Plan.read.Goals as goal
 
 pub returns-in-Ok-clause-plan : goal.returns-in-Ok-clause-plan

@@ -4,7 +4,7 @@ use Rattle.std.proofs.lemmas.Option.{slice_get_within}
 use Rattle.rip_wire.specs.Prefix.{Block}
 use Rattle.rip_plan.specs.Network.{number_of_prefix}
 use Rattle.rip_table.specs.Rows.{heads, rows_of}
-use Rattle.rip_table.proofs.Lists.{same-is}
+use Rattle.rip_table.proofs.PrefixListLemmas.{same-is}
 use Rattle.rip_table.proofs.NumberLemmas.{number-at}
 use Rattle.rip_table.proofs.RowLemmas.{head-at, index-number, length-heads, length-rows, number-listed}
 use Rattle.rip_table.proofs.grid.numbers.number_of.Goals as goal

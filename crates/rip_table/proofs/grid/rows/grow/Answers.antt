@@ -7,7 +7,7 @@ use Rattle.rip_wire.specs.Prefix.{Block}
 use Rattle.rip_wire.specs.declared.entry.Entry.{Entry}
 use Rattle.rip_plan.specs.Network.{number_of_prefix}
 use Rattle.rip_table.specs.Rows.{Rows, heads, rows_of, with_rows}
-use Rattle.rip_table.proofs.Lists.{drop-more}
+use Rattle.rip_table.proofs.PrefixListLemmas.{drop-more}
 use Rattle.rip_table.proofs.NumberLemmas.{number-here}
 use Rattle.rip_table.proofs.RowLemmas.{length-rows, with_row-front, with_row-keeps, with_row-longer}
 use Rattle.rip_table.proofs.grid.rows.grow.Goals as goal

@@ -4,7 +4,7 @@ use Rattle.std.proofs.lemmas.Option.{slice_get_read, slice_get_within}
 use Rattle.rip_wire.specs.Prefix.{Block}
 use Rattle.rip_plan.specs.Network.{number_of_prefix}
 use Rattle.rip_table.specs.Rows.{IsGrid, Rows, cell, heads, rows_of, shown_after, with_cell}
-use Rattle.rip_table.proofs.Lists.{drop-more}
+use Rattle.rip_table.proofs.PrefixListLemmas.{drop-more}
 use Rattle.rip_table.proofs.NumberLemmas.{number-at}
 use Rattle.rip_table.proofs.RowLemmas.{grid-with_cell, heads-with_cell, length-heads, length-rows}
 use Rattle.rip_table.proofs.CellLemmas.{cells-with_cell, shown_after-step}

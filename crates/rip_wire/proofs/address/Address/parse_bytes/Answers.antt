@@ -1,6 +1,6 @@
 use Rattle.std.proofs.Common.{◌≡◌, ◌∙◌, sym, ap, subst, Some, None}
 use Rattle.std.specs.Str.{IsAscii}
-use Rattle.rip_wire.proofs.Parsing.{address_in-finds, address_in-none}
+use Rattle.rip_wire.proofs.ParsingLemmas.{address_in-finds, address_in-none}
 use Rattle.rip_wire.proofs.TextLemmas.{IsAscii-address_text}
 use Rattle.rip_wire.proofs.address.Address.parse_bytes.Goals as goal
 

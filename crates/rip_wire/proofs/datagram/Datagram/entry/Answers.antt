@@ -1,5 +1,5 @@
 use Rattle.std.proofs.Common.{◌≡◌, Ok, sym, ap, ◌∙◌, arith, Some, refl}
-use Rattle.rip_wire.proofs.Views.{numbered}
+use Rattle.rip_wire.proofs.ViewLemmas.{numbered}
 use Rattle.rip_wire.proofs.datagram.Datagram.entry.Goals as goal
 
 pub overflow_mul-i : goal.overflow_mul-i

@@ -1,4 +1,4 @@
-use Rattle.rip_wire.proofs.Views.{kind_by_command}
+use Rattle.rip_wire.proofs.ViewLemmas.{kind_by_command}
 use Rattle.rip_wire.proofs.datagram.Datagram.kind.Goals as goal
 
 pub returns-then-self-eq1 : goal.returns-then-self-eq1

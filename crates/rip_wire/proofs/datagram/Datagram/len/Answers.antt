@@ -1,4 +1,4 @@
-use Rattle.rip_wire.proofs.Views.{groups_are_entries}
+use Rattle.rip_wire.proofs.ViewLemmas.{groups_are_entries}
 use Rattle.rip_wire.proofs.datagram.Datagram.len.Goals as goal
 
 pub returns-clause-entries : goal.returns-clause-entries

@@ -1,4 +1,4 @@
-use Rattle.rip_wire.proofs.Views.{whole}
+use Rattle.rip_wire.proofs.ViewLemmas.{whole}
 use Rattle.rip_wire.proofs.datagram.Datagram.of_bytes.Goals as goal
 
 pub invariant_of-result : goal.invariant_of-result

@@ -1,8 +1,8 @@
 use Rattle.std.proofs.Common.{◌≡◌, ◌∙◌, ℕ, take, sym, ap, is_ok}
 use Rattle.rip_wire.specs.Datagram.{entries_of, message_of}
 use Rattle.rip_wire.specs.Message.{entries_at, groups_in}
-use Rattle.rip_wire.proofs.Binds.{same_Ok}
-use Rattle.rip_wire.proofs.Views.{entries_whole, groups_are_entries}
+use Rattle.rip_wire.proofs.BindLemmas.{same_Ok}
+use Rattle.rip_wire.proofs.ViewLemmas.{entries_whole, groups_are_entries}
 use Rattle.rip_wire.proofs.datagram.Datagram.read_entries.Goals as goal
 
 pub read_entries-requires-clause-good : goal.read_entries-requires-clause-good

@@ -1,7 +1,7 @@
 use Rattle.std.proofs.Common.{◌≡◌, ◌∙◌, sym, ap, subst, refl, bit_and}
 use Rattle.std.proofs.lemmas.Bool.{eqb-true, eq-eqb}
 use Rattle.rip_wire.specs.Prefix.{Block, IsBlock, mask_of}
-use Rattle.rip_wire.proofs.Masks.{contains_by_mask}
+use Rattle.rip_wire.proofs.MaskLemmas.{contains_by_mask}
 use Rattle.rip_wire.proofs.prefix.Prefix.contains.Goals as goal
 
 pub returns : goal.returns

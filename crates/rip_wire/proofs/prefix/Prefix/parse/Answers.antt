@@ -1,7 +1,7 @@
 use Rattle.std.proofs.Common.{◌≡◌, ◌∙◌, sym, ap, subst, true, false, Some, None, arith}
 use Rattle.std.specs.Str.{IsAscii}
 use Rattle.rip_wire.specs.Prefix.{prefix_text}
-use Rattle.rip_wire.proofs.Parsing.{same_bytes, bytes_same, prefix_in-finds, prefix_in-none}
+use Rattle.rip_wire.proofs.ParsingLemmas.{same_bytes, bytes_same, prefix_in-finds, prefix_in-none}
 use Rattle.rip_wire.proofs.TextLemmas.{IsAscii-prefix_text}
 use Rattle.rip_wire.proofs.prefix.Prefix.parse.Goals as goal
 

@@ -1,0 +1,355 @@
+-- The tables whose fields are read are those that have the keys, each of its kind.
+use Rattle.std.proofs.Common.{◌≡◌, ◌≢◌, ℕ, zero, suc, List, [], ◌∷◌, Bool, true, false, cond, ◌&&◌, Option, Some, None, Ordering, Less, Equal, Greater, nat_cmp, is_eq, refl, sym, ◌∙◌, ap, subst}
+use Rattle.std.specs.Prelude.{ℤ, is_some, option_and_then, option_map, slice_get, codes as codes_of}
+use Rattle.std.specs.List.{list_all}
+use Rattle.std.specs.Str.{bytes_eq}
+use Rattle.std.specs.Ordering.{match_ordering}
+use Rattle.std.specs.Cmp.Lexicographic.{slice_cmp}
+use Rattle.std.proofs.lemmas.Map.Text.{is_eq-slice_cmp}
+use Rattle.std.proofs.lemmas.Option.{none-some, same_Some, cond_some}
+use Rattle.std.proofs.lemmas.Slice.Eq.{bytes_eq-Decides}
+use Rattle.toml.specs.Data.{Data, Members, no_members, member, string, array, table, get_member, as_array, as_integer, as_str, as_table}
+use Rattle.rip_plan.specs.DocumentTables.{HasOnly, IsFlag, IsInteger, IsInterfaceTable, IsLinkTable, IsList, IsOwnTable, IsRoot, IsRouterTable, IsSomeList, IsString, IsTextList}
+use Rattle.rip_plan.specs.Fields.{InterfaceFields, OwnFields, ◌&>◌, flag_if, has_only, integer_if, interface_fields, interface_keys, items_at, items_if, link_fields, link_keys, list_of, own_fields, own_keys, root_fields, root_keys, router_fields, router_keys, some_items, text_at, text_if, texts_of}
+use Rattle.rip_plan.specs.Names.{is_one_of}
+use Rattle.rip_plan.proofs.ItemLemmas.{any_at, any_finds}
+use Rattle.rip_plan.proofs.TableLemmas.{array_is, boolean_is, chosen, integer_is, items_there, table_is, text_is, text_there, then_some}
+
+-- ---- keys
+
+both : (a b : Bool) → (a && b) ≡ true → (a ≡ true) × (b ≡ true)
+both true b h = (refl, h)
+both false b h = absurd cc
+
+is_equal : (o : Ordering) → is_eq o ≡ true → o ≡ Equal
+is_equal Less h = absurd cc
+is_equal Equal h = refl
+is_equal Greater h = absurd cc
+
+same_order : (k : List ℕ) → slice_cmp nat_cmp k k ≡ Equal
+same_order k = is_equal (slice_cmp nat_cmp k k) (is_eq-slice_cmp k k ∙ (bytes_eq-Decides k k).1 refl)
+
+keys_only : (keys : List (List ℕ)) (ms : Members) → has_only keys ms ≡ true → HasOnly keys (table ms)
+keys_only keys no_members h key value at = absurd (none-some value at)
+keys_only keys (member l d ms) h key value at =
+    let parts = both (is_one_of l keys) (has_only keys ms) h in
+    by_order (slice_cmp nat_cmp key l) refl at (λ there. keys_only keys ms parts.1 key value there)
+  where
+    by_order : (o : Ordering) → slice_cmp nat_cmp key l ≡ o → match_ordering o (get_member key ms) (Some d) (get_member key ms) ≡ Some value
+        → (get_member key ms ≡ Some value → (k : ℕ) × (slice_get keys k ≡ Some key)) → (k : ℕ) × (slice_get keys k ≡ Some key)
+    by_order Less e g later = later g
+    by_order Greater e g later = later g
+    by_order Equal e g later =
+        let same : key ≡ l = (bytes_eq-Decides key l).0 (sym (is_eq-slice_cmp key l) ∙ ap is_eq e) in
+        let (k, other, there, test) = any_finds (λ (x : List ℕ). bytes_eq x l) keys (both (is_one_of l keys) (has_only keys ms) h).0 in
+        (k, there ∙ ap (λ (x : List ℕ). Some x) ((bytes_eq-Decides other l).0 test ∙ sym same))
+
+only_keys : (keys : List (List ℕ)) (ms : Members) → HasOnly keys (table ms) → has_only keys ms ≡ true
+only_keys keys no_members h = refl
+only_keys keys (member l d ms) h =
+    let (k, at) = h l d (ap (λ (o : Ordering). match_ordering o (get_member l ms) (Some d) (get_member l ms)) (same_order l)) in
+    let one : is_one_of l keys ≡ true = any_at (λ (x : List ℕ). bytes_eq x l) keys k l at ((bytes_eq-Decides l l).1 refl) in
+    let others : has_only keys ms ≡ true = only_keys keys ms (λ key value there. by_order key value there (slice_cmp nat_cmp key l) refl) in
+    rw (one, others) refl
+  where
+    by_order : (key : List ℕ) (value : Data) → get_member key ms ≡ Some value → (o : Ordering) → slice_cmp nat_cmp key l ≡ o → (k : ℕ) × (slice_get keys k ≡ Some key)
+    by_order key value there Less e = h key value (ap (λ (o : Ordering). match_ordering o (get_member key ms) (Some d) (get_member key ms)) e ∙ there)
+    by_order key value there Greater e = h key value (ap (λ (o : Ordering). match_ordering o (get_member key ms) (Some d) (get_member key ms)) e ∙ there)
+    by_order key value there Equal e = h key d (ap (λ (o : Ordering). match_ordering o (get_member key ms) (Some d) (get_member key ms)) e)
+
+-- ---- what was read is of its kind
+
+abbrev HasAt : Option Data → (Data → Type 0) → Type 0
+HasAt o Kind = (value : Data) × (o ≡ Some value) × Kind value
+
+abbrev MayHaveAt : Option Data → (Data → Type 0) → Type 0
+MayHaveAt o Kind = (value : Data) → o ≡ Some value → Kind value
+
+text_has : (o : Option Data) (t : List ℕ) → option_and_then as_str o ≡ Some t → HasAt o IsString
+text_has o t h = (string t, text_there o t h, (t, refl))
+
+list_has : (o : Option Data) (xs : List Data) → option_map list_of (option_and_then as_array o) ≡ Some xs → HasAt o IsList
+list_has o xs h = let (items, is, same) = items_there o xs h in (array items, is, (items, refl))
+
+some_has : (o : Option Data) (xs : List Data) → (option_map list_of (option_and_then as_array o) &> some_items) ≡ Some xs → HasAt o IsSomeList
+some_has o xs h =
+    let (ys, read, some) = then_some (option_map list_of (option_and_then as_array o)) some_items xs h in
+    let (items, is, same) = items_there o ys read in
+    (array items, is, (items, refl, λ none. not_empty ys xs some (sym same ∙ none)))
+  where
+    not_empty : (ys xs : List Data) → some_items ys ≡ Some xs → ys ≡ [] → ⊥
+    not_empty [] xs g e = none-some xs g
+    not_empty (y ∷ ys) xs g e = let clash : y ∷ ys ≡ [] = e in cc
+
+integer_may : (o : Option Data) (given : Option ℤ) → integer_if o ≡ Some given → MayHaveAt o IsInteger
+integer_may o given h d is = by_given (as_integer d) refl (ap integer_if (sym is) ∙ h)
+  where
+    by_given : (i : Option ℤ) → as_integer d ≡ i → option_map Some i ≡ Some given → IsInteger d
+    by_given None k g = absurd (none-some given g)
+    by_given (Some z) k g = (z, integer_is d z k)
+
+flag_may : (o : Option Data) (b : Bool) → flag_if o ≡ Some b → MayHaveAt o IsFlag
+flag_may o b h d is = (b, boolean_is d b (ap flag_if (sym is) ∙ h))
+
+text_may : (o : Option Data) (given : Option (List ℕ)) → text_if o ≡ Some given → MayHaveAt o IsString
+text_may o given h d is = by_given (as_str d) refl (ap text_if (sym is) ∙ h)
+  where
+    by_given : (i : Option (List ℕ)) → as_str d ≡ i → option_map Some i ≡ Some given → IsString d
+    by_given None k g = absurd (none-some given g)
+    by_given (Some t) k g = (t, text_is d t k)
+
+list_may : (o : Option Data) (xs : List Data) → items_if o ≡ Some xs → MayHaveAt o IsList
+list_may o xs h d is = let (items, array_of, same) = array_is d xs (ap items_if (sym is) ∙ h) in (items, array_of)
+
+each_text : (ds : List Data) → list_all (λ x. is_some (as_str x)) ds ≡ true → (k : ℕ) (x : Data) → slice_get ds k ≡ Some x → IsString x
+each_text [] h k x at = absurd (none-some x at)
+each_text (d ∷ ds) h zero x at = by_text (as_str d) refl (both (is_some (as_str d)) (list_all (λ x. is_some (as_str x)) ds) h).0
+  where
+    by_text : (o : Option (List ℕ)) → as_str d ≡ o → is_some o ≡ true → IsString x
+    by_text None e t = absurd cc
+    by_text (Some s) e t = (s, sym (same_Some d x at) ∙ text_is d s e)
+each_text (d ∷ ds) h (suc k) x at = each_text ds (both (is_some (as_str d)) (list_all (λ x. is_some (as_str x)) ds) h).1 k x at
+
+texts_may : (o : Option Data) (also : List Data) → (items_if o &> texts_of) ≡ Some also → MayHaveAt o IsTextList
+texts_may o also h d is =
+    let (xs, given, texts) = then_some (items_if o) texts_of also h in
+    let all = cond_some (list_all (λ (x : Data). is_some (as_str x)) xs) xs also texts in
+    let (items, array_of, same) = array_is d xs (ap items_if (sym is) ∙ given) in
+    (items, array_of, λ k x at. each_text xs all.0 k x (ap (λ (l : List Data). slice_get l k) (sym same) ∙ at))
+
+-- ---- what is of its kind is read
+
+text_given : (o : Option Data) → HasAt o IsString → (t : List ℕ) × (option_and_then as_str o ≡ Some t)
+text_given o (d, is, (t, string_of)) = (t, rw (is, string_of) refl)
+
+list_given : (o : Option Data) → HasAt o IsList → (xs : List Data) × (option_map list_of (option_and_then as_array o) ≡ Some xs)
+list_given o (d, is, (items, array_of)) = (list_of items, rw (is, array_of) refl)
+
+some_given : (o : Option Data) → HasAt o IsSomeList → (xs : List Data) × ((option_map list_of (option_and_then as_array o) &> some_items) ≡ Some xs)
+some_given o (d, is, (items, array_of, some)) = (list_of items, rw (is, array_of) (itself (list_of items) some))
+  where
+    itself : (ys : List Data) → ys ≢ [] → some_items ys ≡ Some ys
+    itself [] e = absurd (e refl)
+    itself (y ∷ ys) e = refl
+
+integer_given : (o : Option Data) → MayHaveAt o IsInteger → (given : Option ℤ) × (integer_if o ≡ Some given)
+integer_given None may = (None, refl)
+integer_given (Some d) may = let (z, is) = may d refl in (Some z, ap (λ (x : Data). integer_if (Some x)) is)
+
+flag_given : (o : Option Data) → MayHaveAt o IsFlag → (b : Bool) × (flag_if o ≡ Some b)
+flag_given None may = (false, refl)
+flag_given (Some d) may = let (b, is) = may d refl in (b, ap (λ (x : Data). flag_if (Some x)) is)
+
+text_if_given : (o : Option Data) → MayHaveAt o IsString → (given : Option (List ℕ)) × (text_if o ≡ Some given)
+text_if_given None may = (None, refl)
+text_if_given (Some d) may = let (t, is) = may d refl in (Some t, ap (λ (x : Data). text_if (Some x)) is)
+
+list_if_given : (o : Option Data) → MayHaveAt o IsList → (xs : List Data) × (items_if o ≡ Some xs)
+list_if_given None may = ([], refl)
+list_if_given (Some d) may = let (items, is) = may d refl in (list_of items, ap (λ (x : Data). items_if (Some x)) is)
+
+all_texts : (ds : List Data) → ((k : ℕ) (x : Data) → slice_get ds k ≡ Some x → IsString x) → list_all (λ x. is_some (as_str x)) ds ≡ true
+all_texts [] each = refl
+all_texts (d ∷ ds) each =
+    let (t, is) = each 0 d refl in
+    let here : is_some (as_str d) ≡ true = rw is refl in
+    let others = all_texts ds (λ k x at. each (suc k) x at) in
+    rw (here, others) refl
+
+texts_given : (o : Option Data) → MayHaveAt o IsTextList → (also : List Data) × ((items_if o &> texts_of) ≡ Some also)
+texts_given None may = ([], refl)
+texts_given (Some d) may =
+    let (items, is, each) = may d refl in
+    let all = all_texts (list_of items) each in
+    (list_of items, ap (λ (x : Data). items_if (Some x) &> texts_of) is ∙ ap (λ (b : Bool). cond b (Some (list_of items)) None) all)
+
+-- ---- tables
+
+guarded : {A : Type 0} (b : Bool) (o : Option A) (x : A) → cond b o None ≡ Some x → b ≡ true
+guarded true o x h = refl
+guarded false o x h = absurd (none-some x h)
+
+pub root_told : (document : Members) (f : List Data × List Data) → root_fields document ≡ Some f → IsRoot document
+unfolding root_fields
+root_told ms f h =
+    let h2 = chosen (has_only root_keys ms) _ f h in
+    let (a, first, h3) = then_some (items_at (codes_of "link") ms &> some_items) _ f h2 in
+    let (b, second, h4) = then_some (items_at (codes_of "router") ms &> some_items) _ f h3 in
+    record {
+      keys = keys_only root_keys ms (guarded (has_only root_keys ms) _ f h);
+      link = some_has (get_member (codes_of "link") ms) a first;
+      router = some_has (get_member (codes_of "router") ms) b second;
+    }
+
+pub root_given : (document : Members) → IsRoot document → (f : List Data × List Data) × (root_fields document ≡ Some f)
+unfolding root_fields
+root_given ms is =
+    let (a, first) = some_given (get_member (codes_of "link") ms) is.link in
+    let (b, second) = some_given (get_member (codes_of "router") ms) is.router in
+    ((a, b), rw (only_keys root_keys ms is.keys, first, second) refl)
+
+pub link_told : (d : Data) (f : List ℕ × List Data) → (as_table d &> link_fields) ≡ Some f → IsLinkTable d
+unfolding link_fields
+link_told d f h =
+    let (ms, is, h1) = then_some (as_table d) link_fields f h in
+    let h2 = chosen (has_only link_keys ms) _ f h1 in
+    let (a, first, h3) = then_some (text_at (codes_of "name") ms) _ f h2 in
+    let (b, second, h4) = then_some (items_at (codes_of "prefixes") ms) _ f h3 in
+    let there : d ≡ table ms = table_is d ms is in
+    subst IsLinkTable (sym there) (record {
+      members = ms;
+      is_table = refl;
+      keys = keys_only link_keys ms (guarded (has_only link_keys ms) _ f h1);
+      name = text_has (get_member (codes_of "name") ms) a first;
+      prefixes = list_has (get_member (codes_of "prefixes") ms) b second;
+    })
+
+link_read : (ms : Members) → IsLinkTable (table ms) → (f : List ℕ × List Data) × (link_fields ms ≡ Some f)
+unfolding link_fields
+link_read ms its =
+    let (a, first) = text_given (get_member (codes_of "name") ms) its.name in
+    let (b, second) = list_given (get_member (codes_of "prefixes") ms) its.prefixes in
+    ((a, b), rw (only_keys link_keys ms its.keys, first, second) refl)
+
+pub link_given : (d : Data) → IsLinkTable d → (f : List ℕ × List Data) × ((as_table d &> link_fields) ≡ Some f)
+link_given d is =
+    let (f, read) = link_read is.members (subst IsLinkTable is.is_table is) in
+    (f, ap (λ (x : Data). as_table x &> link_fields) is.is_table ∙ read)
+
+pub link_not : (d : Data) → (as_table d &> link_fields) ≡ None → IsLinkTable d → ⊥
+link_not d none is = let (f, read) = link_given d is in none-some f (sym none ∙ read)
+
+pub router_told : (d : Data) (f : List ℕ × List Data × List Data) → (as_table d &> router_fields) ≡ Some f → IsRouterTable d
+unfolding router_fields
+router_told d f h =
+    let (ms, is, h1) = then_some (as_table d) router_fields f h in
+    let h2 = chosen (has_only router_keys ms) _ f h1 in
+    let (a, first, h3) = then_some (text_at (codes_of "name") ms) _ f h2 in
+    let (b, second, h4) = then_some (items_at (codes_of "interface") ms) _ f h3 in
+    let (c, third, h5) = then_some (items_if (get_member (codes_of "own") ms)) _ f h4 in
+    let there : d ≡ table ms = table_is d ms is in
+    subst IsRouterTable (sym there) (record {
+      members = ms;
+      is_table = refl;
+      keys = keys_only router_keys ms (guarded (has_only router_keys ms) _ f h1);
+      name = text_has (get_member (codes_of "name") ms) a first;
+      interface = list_has (get_member (codes_of "interface") ms) b second;
+      own = list_may (get_member (codes_of "own") ms) c third;
+    })
+
+router_read : (ms : Members) → IsRouterTable (table ms) → (f : List ℕ × List Data × List Data) × (router_fields ms ≡ Some f)
+unfolding router_fields
+router_read ms its =
+    let (a, first) = text_given (get_member (codes_of "name") ms) its.name in
+    let (b, second) = list_given (get_member (codes_of "interface") ms) its.interface in
+    let (c, third) = list_if_given (get_member (codes_of "own") ms) its.own in
+    ((a, b, c), rw (only_keys router_keys ms its.keys, first, second, third) refl)
+
+pub router_given : (d : Data) → IsRouterTable d → (f : List ℕ × List Data × List Data) × ((as_table d &> router_fields) ≡ Some f)
+router_given d is =
+    let (f, read) = router_read is.members (subst IsRouterTable is.is_table is) in
+    (f, ap (λ (x : Data). as_table x &> router_fields) is.is_table ∙ read)
+
+pub router_not : (d : Data) → (as_table d &> router_fields) ≡ None → IsRouterTable d → ⊥
+router_not d none is = let (f, read) = router_given d is in none-some f (sym none ∙ read)
+
+pub interface_told : (d : Data) (f : InterfaceFields) → (as_table d &> interface_fields) ≡ Some f → IsInterfaceTable d
+unfolding interface_fields
+interface_told d f h =
+    let (ms, is, h1) = then_some (as_table d) interface_fields f h in
+    let h2 = chosen (has_only interface_keys ms) _ f h1 in
+    let (a, first, h3) = then_some (text_at (codes_of "link") ms) _ f h2 in
+    let (b, second, h4) = then_some (text_at (codes_of "address") ms) _ f h3 in
+    let (c, third, h5) = then_some (integer_if (get_member (codes_of "cost") ms)) _ f h4 in
+    let (e, fourth, h6) = then_some (integer_if (get_member (codes_of "direct") ms)) _ f h5 in
+    let (g, fifth, h7) = then_some (items_if (get_member (codes_of "also") ms) &> texts_of) _ f h6 in
+    let there : d ≡ table ms = table_is d ms is in
+    subst IsInterfaceTable (sym there) (record {
+      members = ms;
+      is_table = refl;
+      keys = keys_only interface_keys ms (guarded (has_only interface_keys ms) _ f h1);
+      link = text_has (get_member (codes_of "link") ms) a first;
+      address = text_has (get_member (codes_of "address") ms) b second;
+      cost = integer_may (get_member (codes_of "cost") ms) c third;
+      direct = integer_may (get_member (codes_of "direct") ms) e fourth;
+      also = texts_may (get_member (codes_of "also") ms) g fifth;
+    })
+
+interface_read : (ms : Members) → IsInterfaceTable (table ms) → (f : InterfaceFields) × (interface_fields ms ≡ Some f)
+unfolding interface_fields
+interface_read ms its =
+    let (a, first) = text_given (get_member (codes_of "link") ms) its.link in
+    let (b, second) = text_given (get_member (codes_of "address") ms) its.address in
+    let (c, third) = integer_given (get_member (codes_of "cost") ms) its.cost in
+    let (e, fourth) = integer_given (get_member (codes_of "direct") ms) its.direct in
+    let (g, fifth) = texts_given (get_member (codes_of "also") ms) its.also in
+    (record { link = a; address = b; cost = c; direct = e; also = g }, rw (only_keys interface_keys ms its.keys, first, second, third, fourth, fifth) refl)
+
+pub interface_given : (d : Data) → IsInterfaceTable d → (f : InterfaceFields) × ((as_table d &> interface_fields) ≡ Some f)
+interface_given d is =
+    let (f, read) = interface_read is.members (subst IsInterfaceTable is.is_table is) in
+    (f, ap (λ (x : Data). as_table x &> interface_fields) is.is_table ∙ read)
+
+pub interface_not : (d : Data) → (as_table d &> interface_fields) ≡ None → IsInterfaceTable d → ⊥
+interface_not d none is = let (f, read) = interface_given d is in none-some f (sym none ∙ read)
+
+pub own_told : (d : Data) (f : OwnFields) → (as_table d &> own_fields) ≡ Some f → IsOwnTable d
+unfolding own_fields
+own_told d f h =
+    let (ms, is, h1) = then_some (as_table d) own_fields f h in
+    let h2 = chosen (has_only own_keys ms) _ f h1 in
+    let (a, first, h3) = then_some (text_at (codes_of "prefix") ms) _ f h2 in
+    let (b, second, h4) = then_some (integer_if (get_member (codes_of "cost") ms)) _ f h3 in
+    let (c, third, h5) = then_some (flag_if (get_member (codes_of "kept") ms)) _ f h4 in
+    let (e, fourth, h6) = then_some (text_if (get_member (codes_of "link") ms)) _ f h5 in
+    let (g, fifth, h7) = then_some (text_if (get_member (codes_of "via") ms)) _ f h6 in
+    let there : d ≡ table ms = table_is d ms is in
+    subst IsOwnTable (sym there) (record {
+      members = ms;
+      is_table = refl;
+      keys = keys_only own_keys ms (guarded (has_only own_keys ms) _ f h1);
+      prefix = text_has (get_member (codes_of "prefix") ms) a first;
+      cost = integer_may (get_member (codes_of "cost") ms) b second;
+      kept = flag_may (get_member (codes_of "kept") ms) c third;
+      link = text_may (get_member (codes_of "link") ms) e fourth;
+      via = text_may (get_member (codes_of "via") ms) g fifth;
+    })
+
+own_read : (ms : Members) → IsOwnTable (table ms) → (f : OwnFields) × (own_fields ms ≡ Some f)
+unfolding own_fields
+own_read ms its =
+    let (a, first) = text_given (get_member (codes_of "prefix") ms) its.prefix in
+    let (b, second) = integer_given (get_member (codes_of "cost") ms) its.cost in
+    let (c, third) = flag_given (get_member (codes_of "kept") ms) its.kept in
+    let (e, fourth) = text_if_given (get_member (codes_of "link") ms) its.link in
+    let (g, fifth) = text_if_given (get_member (codes_of "via") ms) its.via in
+    (record { prefix = a; cost = b; kept = c; link = e; via = g }, rw (only_keys own_keys ms its.keys, first, second, third, fourth, fifth) refl)
+
+pub own_given : (d : Data) → IsOwnTable d → (f : OwnFields) × ((as_table d &> own_fields) ≡ Some f)
+own_given d is =
+    let (f, read) = own_read is.members (subst IsOwnTable is.is_table is) in
+    (f, ap (λ (x : Data). as_table x &> own_fields) is.is_table ∙ read)
+
+pub own_not : (d : Data) → (as_table d &> own_fields) ≡ None → IsOwnTable d → ⊥
+own_not d none is = let (f, read) = own_given d is in none-some f (sym none ∙ read)
+
+pub string_not : (d : Data) → as_str d ≡ None → IsString d → ⊥
+string_not d none (text, is) = none-some text (sym none ∙ ap as_str is)
+
+pub root_not : (document : Members) → root_fields document ≡ None → IsRoot document → ⊥
+root_not document none is = let (f, read) = root_given document is in none-some f (sym none ∙ read)
+
+-- a table is what was read, or was not read
+pub by_table : {A : Type 0} (Is : Data → Type 0) (fields : Members → Option A) → ((d : Data) (f : A) → (as_table d &> fields) ≡ Some f → Is d) → (d : Data) → ((Is d → ⊥) → ⊥) → ((as_table d &> fields) ≡ None → Is d → ⊥) → Is d
+by_table {A} Is fields told d not_lacks not = by_option (as_table d &> fields) refl
+  where
+    by_option : (o : Option A) → (as_table d &> fields) ≡ o → Is d
+    by_option (Some f) e = told d f e
+    by_option None e = absurd (not_lacks (λ is. not e is))
+
+pub by_root : (document : Members) → ((IsRoot document → ⊥) → ⊥) → IsRoot document
+by_root document not_lacks = by_option (root_fields document) refl
+  where
+    by_option : (o : Option (List Data × List Data)) → root_fields document ≡ o → IsRoot document
+    by_option (Some f) e = root_told document f e
+    by_option None e = absurd (not_lacks (root_not document e))

@@ -1,0 +1,141 @@
+-- The addresses of interfaces in one list, and what is found there.
+use Rattle.std.proofs.Common.{◌≡◌, ℕ, zero, suc, ◌+◌, inl, inr, List, [], ◌∷◌, length, Bool, true, false, cond, Some, None, refl, sym, ◌∙◌, ap, arith}
+use Rattle.std.specs.Prelude.{slice_get, ◌==◌}
+use Rattle.std.proofs.lemmas.Option.{none-some, same_Some}
+use Rattle.std.proofs.lemmas.Bool.Decides.{nat_tests}
+use Rattle.rip_plan.specs.declared.addresses.Held.{Held}
+use Rattle.rip_plan.specs.declared.parts.Interface.{Interface}
+use Rattle.rip_plan.specs.Addresses.{held_by, held_from, holder_at, is_at}
+use Rattle.rip_plan.specs.Network.{Network, addresses_of}
+use Rattle.rip_plan.specs.Relations.{HasAddress, HasAddresses}
+use Rattle.rip_plan.proofs.ItemLemmas.{both, get_left, get_right, get_seen, get_split, see_got}
+use Rattle.rip_plan.proofs.NumbersWhereLemmas.{contains_at, at_contains}
+
+-- the address at j of an interface
+pub record IsHeld (n : ℕ) (is : List Interface) (also : List (List ℕ)) (h : Held) : Type 0 where
+  pub i : ℕ
+  pub number : h.interface ≡ n + i
+  pub interface : Interface
+  pub listed : slice_get is i ≡ Some interface
+  pub link : h.link ≡ interface.link
+  pub further : List ℕ
+  pub its : slice_get also i ≡ Some further
+  pub j : ℕ
+  pub address : slice_get (interface.address ∷ further) j ≡ Some h.address
+
+pub held_is : (n : ℕ) (is : List Interface) (also : List (List ℕ)) (k : ℕ) (h : Held) → slice_get (held_from n is also) k ≡ Some h → IsHeld n is also h
+held_is n [] also k h e = absurd (none-some h e)
+held_is n (x ∷ is) [] k h e = absurd (none-some h e)
+held_is n (x ∷ is) (further ∷ rest) k h e =
+    elim (get_split (held_by n x further) (held_from (n + 1) is rest) k h e) [
+      | inl here ↦
+          let (a, at, same) = get_seen (λ a. record { interface = n; link = x.link; address = a }) (x.address ∷ further) k h here.0 in
+          record {
+            i = zero;
+            number = ap (λ (g : Held). g.interface) (sym same) ∙ omega arith;
+            interface = x;
+            listed = refl;
+            link = ap (λ (g : Held). g.link) (sym same);
+            further = further;
+            its = refl;
+            j = k;
+            address = at ∙ ap (λ (g : Held). Some g.address) same;
+          }
+      | inr there ↦
+          let later = held_is (n + 1) is rest there.0 h there.2 in
+          record {
+            i = suc later.i;
+            number = later.number ∙ omega arith;
+            interface = later.interface;
+            listed = later.listed;
+            link = later.link;
+            further = later.further;
+            its = later.its;
+            j = later.j;
+            address = later.address;
+          }
+    ]
+
+pub is_held : (n : ℕ) (is : List Interface) (also : List (List ℕ)) (i : ℕ) (x : Interface) (further : List ℕ) (j a : ℕ)
+    → slice_get is i ≡ Some x → slice_get also i ≡ Some further → slice_get (x.address ∷ further) j ≡ Some a
+    → (k : ℕ) × (slice_get (held_from n is also) k ≡ Some (record { interface = n + i; link = x.link; address = a }))
+is_held n [] also i x further j a h its at = absurd (none-some x h)
+is_held n (y ∷ is) [] i x further j a h its at = absurd (none-some further its)
+is_held n (y ∷ is) (front ∷ rest) zero x further j a h its at =
+    let one : y ≡ x = same_Some y x h in
+    let two : front ≡ further = same_Some front further its in
+    let there = ap (λ (z : Interface). slice_get (z.address ∷ front) j) one ∙ ap (λ (f : List ℕ). slice_get (x.address ∷ f) j) two ∙ at in
+    let here = see_got (λ b. record { interface = n; link = y.link; address = b }) (y.address ∷ front) j a there in
+    let same : n ≡ n + 0 = omega arith in (
+      j,
+      get_left (held_by n y front) (held_from (n + 1) is rest) j (record { interface = n; link = y.link; address = a }) here
+          ∙ ap (λ (z : Interface). Some (record { interface = n; link = z.link; address = a })) one
+          ∙ ap (λ (m : ℕ). Some (record { interface = m; link = x.link; address = a })) same,
+    )
+is_held n (y ∷ is) (front ∷ rest) (suc i) x further j a h its at =
+    let (k, there) = is_held (n + 1) is rest i x further j a h its at in
+    let same : n + 1 + i ≡ n + suc i = omega arith in
+    (length (held_by n y front) + k, get_right (held_by n y front) (held_from (n + 1) is rest) k (length (held_by n y front) + k) _ refl there ∙ ap (λ (m : ℕ). Some (record { interface = m; link = x.link; address = a })) same)
+
+-- ---- the first interface with an address
+
+same_held : (h : Held) (l a : ℕ) → is_at l a h ≡ true → h ≡ record { interface = h.interface; link = l; address = a }
+same_held h l a e =
+    let tests = both (h.link == l) (h.address == a) e in
+    let link : h.link ≡ l = grind (arith, nat_tests) in
+    let address : h.address ≡ a = grind (arith, nat_tests) in
+    rw (← link, ← address) refl
+
+holder_found : (l a i : ℕ) (hs : List Held) → holder_at l a hs ≡ Some i → (k : ℕ) × (slice_get hs k ≡ Some (record { interface = i; link = l; address = a }))
+holder_found l a i [] e = absurd (none-some i e)
+holder_found l a i (h ∷ hs) e = by_test (is_at l a h) refl e (λ f. holder_found l a i hs f)
+  where
+    by_test : (b : Bool) → is_at l a h ≡ b → cond b (Some h.interface) (holder_at l a hs) ≡ Some i
+        → (holder_at l a hs ≡ Some i → (k : ℕ) × (slice_get hs k ≡ Some (record { interface = i; link = l; address = a })))
+        → (k : ℕ) × (slice_get (h ∷ hs) k ≡ Some (record { interface = i; link = l; address = a }))
+    by_test true t f later =
+        let number : h.interface ≡ i = same_Some h.interface i f in
+        (zero, ap (λ (g : Held). Some g) (same_held h l a t) ∙ ap (λ (m : ℕ). Some (record { interface = m; link = l; address = a })) number)
+    by_test false t f later = let (k, at) = later f in (suc k, at)
+
+holder_there : (l a i k : ℕ) (hs : List Held) → slice_get hs k ≡ Some (record { interface = i; link = l; address = a }) → holder_at l a hs ≡ None → ⊥
+holder_there l a i k [] at e = absurd (none-some _ at)
+holder_there l a i zero (h ∷ hs) at e =
+    let same = same_Some h _ at in
+    let test : is_at l a h ≡ true = rw same (let one : (l == l) ≡ true = grind (arith, nat_tests) in let two : (a == a) ≡ true = grind (arith, nat_tests) in rw (one, two) refl) in
+    let here : holder_at l a (h ∷ hs) ≡ Some h.interface = rw test refl in
+    none-some h.interface (sym e ∙ here)
+holder_there l a i (suc k) (h ∷ hs) at e = by_test (is_at l a h) e (λ f. holder_there l a i k hs at f)
+  where
+    by_test : (b : Bool) → cond b (Some h.interface) (holder_at l a hs) ≡ None → (holder_at l a hs ≡ None → ⊥) → ⊥
+    by_test true f later = absurd cc
+    by_test false f later = later f
+
+-- ---- of a network
+
+pub address_held : (n : Network) (i l a : ℕ) → HasAddress n i l a → (k : ℕ) × (slice_get (addresses_of n) k ≡ Some (record { interface = i; link = l; address = a }))
+address_held n i l a (all, has, holds) =
+    let (j, at) = at_contains all a holds in
+    let (k, there) = is_held 0 n.interfaces n.also i has.interface has.also j a has.listed has.further (ap (λ (xs : List ℕ). slice_get xs j) (sym has.all) ∙ at) in
+    let same : 0 + i ≡ i = omega arith in
+    (k, there ∙ ap (λ (m : ℕ). Some (record { interface = m; link = has.interface.link; address = a })) same ∙ ap (λ (m : ℕ). Some (record { interface = i; link = m; address = a })) has.on)
+
+pub held_address : (n : Network) (i l a k : ℕ) → slice_get (addresses_of n) k ≡ Some (record { interface = i; link = l; address = a }) → HasAddress n i l a
+held_address n i l a k h =
+    let at = held_is 0 n.interfaces n.also k (record { interface = i; link = l; address = a }) h in
+    let same : at.i ≡ i = omega (arith, at.number) in
+    let has : HasAddresses n i l (at.interface.address ∷ at.further) = record {
+      interface = at.interface;
+      listed = ap (slice_get n.interfaces) (sym same) ∙ at.listed;
+      on = sym at.link;
+      also = at.further;
+      further = ap (slice_get n.also) (sym same) ∙ at.its;
+      all = refl;
+    } in
+    (at.interface.address ∷ at.further, has, contains_at (at.interface.address ∷ at.further) at.j a at.address)
+
+pub holder_gives : (n : Network) (i l a : ℕ) → holder_at l a (addresses_of n) ≡ Some i → HasAddress n i l a
+holder_gives n i l a h = let (k, at) = holder_found l a i (addresses_of n) h in held_address n i l a k at
+
+pub holder_none : (n : Network) (i l a : ℕ) → HasAddress n i l a → holder_at l a (addresses_of n) ≡ None → ⊥
+holder_none n i l a has e = let (k, at) = address_held n i l a has in holder_there l a i k (addresses_of n) at e

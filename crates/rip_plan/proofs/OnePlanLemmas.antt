@@ -1,0 +1,148 @@
+-- A document has one plan.
+use Rattle.std.proofs.Common.{◌≡◌, ℕ, inl, inr, List, ◌++◌, map, Bool, Option, Some, None, refl, sym, ◌∙◌, ap, subst}
+use Rattle.std.specs.Prelude.{pos, slice_get, codes as codes_of}
+use Rattle.std.proofs.lemmas.Option.{none-some, same_Some}
+use Rattle.toml.specs.Data.{Data, Members, string, boolean, integer, array, table, get}
+use Rattle.rip_wire.specs.Prefix.{Block}
+use Rattle.rip_plan.specs.declared.parts.Interface.{Interface}
+use Rattle.rip_plan.specs.declared.parts.Place.{Place}
+use Rattle.rip_plan.specs.declared.parts.Seat.{Seat}
+use Rattle.rip_plan.specs.declared.parts.Seat.TheVariants as seats
+use Rattle.rip_plan.specs.Fields.{list_of}
+use Rattle.rip_plan.specs.Passes.{same_prefix}
+use Rattle.rip_plan.specs.Network.{Network}
+use Rattle.rip_plan.specs.PlanOf.{Matched, HasText, HasItems, IsAddressOf, AreAlsoOf, IsCostOf, IsDirectOf, IsGatewayOf, IsKeptOf, IsLinkOf, IsNameOf, items_in, items_under, IsInterfaceOf, Placement, IsOnLink, IsOwned, IsPlaceOf, each_once, PlanOf, IsFirstNamed}
+use Rattle.rip_plan.proofs.ItemLemmas.{distinct_at}
+use Rattle.rip_plan.proofs.NumberingLemmas.{same_self}
+use Rattle.rip_plan.proofs.MatchingLemmas.{matched_same}
+use Rattle.rip_plan.proofs.EachOnceLemmas.{once_distinct}
+use Rattle.rip_plan.proofs.TextLemmas.{TextLaws, one_address, one_prefix, one_named}
+
+pub text_same : (key : List ℕ) (d : Data) (s t : List ℕ) → HasText key d s → HasText key d t → s ≡ t
+text_same key d s t h k = let same : string s ≡ string t = same_Some (string s) (string t) (sym h ∙ k) in cc
+
+pub items_same : (key : List ℕ) (d : Data) (xs ys : List Data) → HasItems key d xs → HasItems key d ys → xs ≡ ys
+items_same key d xs ys (i, h, e) (j, k, f) =
+    let same : array i ≡ array j = same_Some (array i) (array j) (sym h ∙ k) in
+    let one : i ≡ j = cc in
+    sym e ∙ ap list_of one ∙ f
+
+pub cost_same : (d : Data) (b c : ℕ) → IsCostOf d b → IsCostOf d c → b ≡ c
+cost_same d b c (inl h) (inl k) = let same : integer (pos b) ≡ integer (pos c) = same_Some _ _ (sym h ∙ k) in let whole : pos b ≡ pos c = cc in cc
+cost_same d b c (inl h) (inr k) = absurd (none-some _ (sym k.0 ∙ h))
+cost_same d b c (inr h) (inl k) = absurd (none-some _ (sym h.0 ∙ k))
+cost_same d b c (inr h) (inr k) = h.1 ∙ sym k.1
+
+direct_same : (d : Data) (b c : ℕ) → b ≡ c → (x y : ℕ) → IsDirectOf d b x → IsDirectOf d c y → x ≡ y
+direct_same d b c e x y (inl h) (inl k) = let same : integer (pos x) ≡ integer (pos y) = same_Some _ _ (sym h ∙ k) in let whole : pos x ≡ pos y = cc in cc
+direct_same d b c e x y (inl h) (inr k) = absurd (none-some _ (sym k.0 ∙ h))
+direct_same d b c e x y (inr h) (inl k) = absurd (none-some _ (sym h.0 ∙ k))
+direct_same d b c e x y (inr h) (inr k) = h.1 ∙ e ∙ sym k.1
+
+kept_same : (d : Data) (b c : Bool) → IsKeptOf d b → IsKeptOf d c → b ≡ c
+kept_same d b c (inl h) (inl k) = let same : boolean b ≡ boolean c = same_Some _ _ (sym h ∙ k) in cc
+kept_same d b c (inl h) (inr k) = absurd (none-some _ (sym k.0 ∙ h))
+kept_same d b c (inr h) (inl k) = absurd (none-some _ (sym h.0 ∙ k))
+kept_same d b c (inr h) (inr k) = h.1 ∙ sym k.1
+
+link_same : (names others : List (List ℕ)) → names ≡ others → (d : Data) (l m : Option ℕ) → IsLinkOf names d l → IsLinkOf others d m → l ≡ m
+link_same names others same d None None h k = refl
+link_same names others same d None (Some m) h k = absurd (none-some _ (sym h ∙ k.1))
+link_same names others same d (Some l) None h k = absurd (none-some _ (sym k ∙ h.1))
+link_same names others same d (Some l) (Some m) h k =
+    let one : h.0 ≡ k.0 = text_same (codes_of "link") d h.0 k.0 h.1 k.1 in
+    ap (λ (n : ℕ). Some n) (one_named names h.0 k.0 l m one h.2 (subst (λ (ns : List (List ℕ)). IsFirstNamed ns k.0 m) (sym same) k.2))
+
+gateway_same : (laws : TextLaws) (d : Data) (a b : Option ℕ) → IsGatewayOf d a → IsGatewayOf d b → a ≡ b
+gateway_same laws d None None h k = refl
+gateway_same laws d None (Some b) h k = absurd (none-some _ (sym h ∙ k.1))
+gateway_same laws d (Some a) None h k = absurd (none-some _ (sym k ∙ h.1))
+gateway_same laws d (Some a) (Some b) h k = let one : h.0 ≡ k.0 = text_same (codes_of "via") d h.0 k.0 h.1 k.1 in ap (λ (n : ℕ). Some n) (one_address laws h.0 k.0 a b one h.2 k.2)
+
+interface_same : (laws : TextLaws) (names others : List (List ℕ)) → names ≡ others → (x y : Interface) (at : ℕ × Data) → IsInterfaceOf names x at → IsInterfaceOf others y at → x ≡ y
+interface_same laws names others same x y at h k =
+    let router : x.router ≡ y.router = h.router ∙ sym k.router in
+    let name : h.link_name ≡ k.link_name = text_same (codes_of "link") at.1 h.link_name k.link_name h.has_link k.has_link in
+    let link : x.link ≡ y.link = one_named names h.link_name k.link_name x.link y.link name h.link (subst (λ (ns : List (List ℕ)). IsFirstNamed ns k.link_name y.link) (sym same) k.link) in
+    let text : h.text ≡ k.text = text_same (codes_of "address") at.1 h.text k.text h.has_address k.has_address in
+    let address : x.address ≡ y.address = one_address laws h.text k.text x.address y.address text h.address k.address in
+    let cost : x.cost ≡ y.cost = cost_same at.1 x.cost y.cost h.cost k.cost in
+    let direct : x.direct ≡ y.direct = direct_same at.1 x.cost y.cost cost x.direct y.direct h.direct k.direct in
+    ap (λ (v : ℕ). record x { router = v }) router
+    ∙ ap (λ (v : ℕ). record { router = y.router; link = v; address = x.address; cost = x.cost; direct = x.direct }) link
+    ∙ ap (λ (v : ℕ). record { router = y.router; link = y.link; address = v; cost = x.cost; direct = x.direct }) address
+    ∙ ap (λ (v : ℕ). record { router = y.router; link = y.link; address = y.address; cost = v; direct = x.direct }) cost
+    ∙ ap (λ (v : ℕ). record { router = y.router; link = y.link; address = y.address; cost = y.cost; direct = v }) direct
+
+address_same : (laws : TextLaws) (a b : ℕ) (d : Data) → IsAddressOf a d → IsAddressOf b d → a ≡ b
+address_same laws a b d (t, h, is) (u, k, its) =
+    let same : string t ≡ string u = sym h ∙ k in
+    let one : t ≡ u = cc in
+    one_address laws t u a b one is its
+
+also_same : (laws : TextLaws) (xs ys : List ℕ) (at : ℕ × Data) → AreAlsoOf xs at → AreAlsoOf ys at → xs ≡ ys
+also_same laws xs ys at h k = matched_same IsAddressOf IsAddressOf (address_same laws) xs ys (items_in (get (codes_of "also") at.1)) h k
+
+placement_same : (x y : Placement) → x.prefix ≡ y.prefix → x.seat ≡ y.seat → x ≡ y
+placement_same x y e f = ap (λ (v : Block). record x { prefix = v }) e ∙ ap (λ (v : Seat). record { prefix = y.prefix; seat = v }) f
+
+on_link_same : (laws : TextLaws) (x y : Placement) (at : ℕ × Data) → IsOnLink x at → IsOnLink y at → x ≡ y
+on_link_same laws x y at h k =
+    let same : string h.text ≡ string k.text = sym h.is_text ∙ k.is_text in
+    let text : h.text ≡ k.text = cc in
+    placement_same x y (one_prefix laws h.text k.text x.prefix y.prefix text h.prefix k.prefix) (h.seat ∙ sym k.seat)
+
+owned_same : (laws : TextLaws) (names others : List (List ℕ)) → names ≡ others → (x y : Placement) (at : ℕ × Data) → IsOwned names x at → IsOwned others y at → x ≡ y
+owned_same laws names others same x y at h k =
+    let text : h.text ≡ k.text = text_same (codes_of "prefix") at.1 h.text k.text h.has_prefix k.has_prefix in
+    let cost : h.cost ≡ k.cost = cost_same at.1 h.cost k.cost h.is_cost k.is_cost in
+    let kept : h.kept ≡ k.kept = kept_same at.1 h.kept k.kept h.is_kept k.is_kept in
+    let link : h.link ≡ k.link = link_same names others same at.1 h.link k.link h.is_link k.is_link in
+    let via : h.via ≡ k.via = gateway_same laws at.1 h.via k.via h.is_via k.is_via in
+    let seat : seats.Own at.0 h.cost h.kept h.link h.via ≡ seats.Own at.0 k.cost k.kept k.link k.via = rw (cost, kept, link, via) refl in
+    placement_same x y (one_prefix laws h.text k.text x.prefix y.prefix text h.prefix k.prefix) (h.seat ∙ seat ∙ sym k.seat)
+
+place_same : (n m : Network) (bs : List Block) → n.prefixes ≡ each_once bs → n.prefixes ≡ m.prefixes → (x y : Place) (p : Placement) → IsPlaceOf n x p → IsPlaceOf m y p → x ≡ y
+place_same n m bs once same x y p h k =
+    let here : slice_get (each_once bs) x.prefix ≡ Some p.prefix = ap (λ (ps : List Block). slice_get ps x.prefix) (sym once) ∙ h.prefix in
+    let there : slice_get (each_once bs) y.prefix ≡ Some p.prefix = ap (λ (ps : List Block). slice_get ps y.prefix) (sym once ∙ same) ∙ k.prefix in
+    let number : x.prefix ≡ y.prefix = distinct_at same_prefix (each_once bs) x.prefix y.prefix p.prefix p.prefix (once_distinct bs) here there (same_self p.prefix) (same_self p.prefix) in
+    ap (λ (v : ℕ). record x { prefix = v }) number ∙ ap (λ (v : Seat). record { prefix = y.prefix; seat = v }) (h.seat ∙ sym k.seat)
+
+network_same : (n m : Network) → n.links ≡ m.links → n.routers ≡ m.routers → n.interfaces ≡ m.interfaces → n.also ≡ m.also → n.prefixes ≡ m.prefixes → n.places ≡ m.places → n ≡ m
+network_same n m names others interfaces also prefixes places =
+    ap (λ (v : List (List ℕ)). record n { links = v }) names
+    ∙ ap (λ (v : List (List ℕ)). record n { links = m.links; routers = v }) others
+    ∙ ap (λ (v : List Interface). record n { links = m.links; routers = m.routers; interfaces = v }) interfaces
+    ∙ ap (λ (v : List (List ℕ)). record n { links = m.links; routers = m.routers; interfaces = m.interfaces; also = v }) also
+    ∙ ap (λ (v : List Block). record m { prefixes = v; places = n.places }) prefixes
+    ∙ ap (λ (v : List Place). record m { places = v }) places
+
+pub one_plan : (laws : TextLaws) (document : Members) (n m : Network) → PlanOf document n → PlanOf document m → n ≡ m
+one_plan laws document n m p q =
+    let link_tables : q.links ≡ p.links = items_same (codes_of "link") (table document) q.links p.links q.has_links p.has_links in
+    let router_tables : q.routers ≡ p.routers = items_same (codes_of "router") (table document) q.routers p.routers q.has_routers p.has_routers in
+    let names : n.links ≡ m.links =
+    matched_same IsNameOf IsNameOf (λ x y d h k. text_same (codes_of "name") d x y h k) n.links m.links p.links p.link_names
+    (subst (Matched IsNameOf m.links) link_tables q.link_names) in
+    let others : n.routers ≡ m.routers =
+    matched_same IsNameOf IsNameOf (λ x y d h k. text_same (codes_of "name") d x y h k) n.routers m.routers p.routers p.router_names
+    (subst (Matched IsNameOf m.routers) router_tables q.router_names) in
+    let interfaces : n.interfaces ≡ m.interfaces =
+    matched_same (IsInterfaceOf n.links) (IsInterfaceOf m.links) (interface_same laws n.links m.links names) n.interfaces m.interfaces (items_under (codes_of "interface") 0 p.routers) p.interfaces
+    (subst (λ (ds : List Data). Matched (IsInterfaceOf m.links) m.interfaces (items_under (codes_of "interface") 0 ds)) router_tables q.interfaces) in
+    let also : n.also ≡ m.also =
+    matched_same AreAlsoOf AreAlsoOf (also_same laws) n.also m.also (items_under (codes_of "interface") 0 p.routers) p.also
+    (subst (λ (ds : List Data). Matched AreAlsoOf m.also (items_under (codes_of "interface") 0 ds)) router_tables q.also) in
+    let on_links : p.on_links ≡ q.on_links =
+    matched_same IsOnLink IsOnLink (on_link_same laws) p.on_links q.on_links (items_under (codes_of "prefixes") 0 p.links) p.link_prefixes
+    (subst (λ (ds : List Data). Matched IsOnLink q.on_links (items_under (codes_of "prefixes") 0 ds)) link_tables q.link_prefixes) in
+    let owned : p.owned ≡ q.owned =
+    matched_same (IsOwned n.links) (IsOwned m.links) (owned_same laws n.links m.links names) p.owned q.owned (items_under (codes_of "own") 0 p.routers) p.own_prefixes
+    (subst (λ (ds : List Data). Matched (IsOwned m.links) q.owned (items_under (codes_of "own") 0 ds)) router_tables q.own_prefixes) in
+    let placements : q.on_links ++ q.owned ≡ p.on_links ++ p.owned = ap (λ (ps : List Placement). ps ++ q.owned) (sym on_links) ∙ ap (λ (ps : List Placement). p.on_links ++ ps) (sym owned) in
+    let prefixes : n.prefixes ≡ m.prefixes = p.prefixes ∙ ap (λ (ps : List Placement). each_once (map (λ (x : Placement). x.prefix) ps)) (sym placements) ∙ sym q.prefixes in
+    let places : n.places ≡ m.places =
+    matched_same (IsPlaceOf n) (IsPlaceOf m) (place_same n m (map (λ (x : Placement). x.prefix) (p.on_links ++ p.owned)) p.prefixes prefixes) n.places m.places (p.on_links ++ p.owned) p.places
+    (subst (Matched (IsPlaceOf m) m.places) placements q.places) in
+    network_same n m names others interfaces also prefixes places

@@ -1,0 +1,754 @@
+-- What the later passes find of the faults of a plan.
+use Rattle.std.proofs.Common.{◌≡◌, ℕ, zero, suc, ◌+◌, ◌<◌, ◌≤◌, ◌⊎◌, inl, inr, List, [], ◌∷◌, ◌++◌, length, Bool, true, false, cond, not, ◌||◌, ◌&&◌, Option, Some, None, Result, refl, sym, ap, subst, ◌∙◌, arith, length-append, append_assoc}
+use Rattle.std.specs.Prelude.{slice_get, find, option_map, unwrap_or, map, filter, ◌==◌, codes as codes_of}
+use Rattle.std.specs.List.{list_any}
+use Rattle.std.proofs.lemmas.Option.{none-some, same_Some, slice_get_within}
+use Rattle.std.proofs.lemmas.List.{append-nil}
+use Rattle.std.proofs.lemmas.Bool.{cases_lt}
+use Rattle.std.proofs.lemmas.Bool.Decides.{nat_tests}
+use Rattle.toml.specs.Data.{Data, Members}
+use Rattle.rip_plan.specs.declared.error.PlanCode.{PlanCode}
+use Rattle.rip_plan.specs.declared.error.PlanCode.TheVariants as codes
+use Rattle.rip_plan.specs.declared.error.PlanError.{PlanError}
+use Rattle.rip_plan.specs.declared.error.At.{At}
+use Rattle.rip_plan.specs.declared.error.At.TheVariants.{LinkPrefix, Router, RouterInterface, RouterOwn, Text}
+use Rattle.rip_plan.specs.declared.addresses.Held.{Held}
+use Rattle.rip_plan.specs.declared.draft.DraftPlace.{DraftPlace}
+use Rattle.rip_plan.specs.declared.draft.DraftInterface.{DraftInterface}
+use Rattle.rip_plan.specs.declared.parts.Interface.{Interface}
+use Rattle.rip_plan.specs.declared.parts.Seat.{Seat}
+use Rattle.rip_plan.specs.declared.parts.Seat.TheVariants as seats
+use Rattle.rip_plan.specs.Codes.{number_of_code}
+use Rattle.rip_plan.specs.Fault.{fault}
+use Rattle.rip_plan.specs.Draft.{Sketch}
+use Rattle.rip_plan.specs.Passes.{Touching, first_clash, touched, touching, same_prefix, do_meet, is_same_link, have_common, are_twice, is_astray, is_bare, is_there, first_bare, none_found, second_passes, spot_of, duplicate_in, twice_in, taken_address_in, bare_in, astray_in}
+use Rattle.rip_plan.specs.Addresses.{have_one_address}
+use Rattle.rip_plan.specs.Network.{Network, network_of_sketch}
+use Rattle.rip_plan.specs.Relations.{HasAddresses, IsOn, IsPrefix, IsInterface, IsPlace, Touches}
+use Rattle.rip_plan.specs.PlanOf.{IsOnLink, IsPlaceOf, PlanOf, items_under}
+use Rattle.rip_plan.specs.PlanFaults.{TableFault, IsAstray, IsClash, IsBare, IsSo, DoMeet, AreTwice, HasOneTwice, HaveOneAddress, Before, pass_of, rank, position, place_spots, interface_spots, spots_under}
+use Rattle.rip_plan.proofs.OrderLemmas.{before_trans, before_not}
+use Rattle.rip_plan.proofs.FindingLemmas.{Found, ranked, Finds, finds_in, bind_rows}
+use Rattle.rip_plan.proofs.FaultRowLemmas.{IsAstrayAt, IsLast, IsOfTables, IsTold, told_finds, code_rows, code_high, last_two, last_three, last_four, pass_rows}
+use Rattle.rip_plan.proofs.HeldAddressLemmas.{address_held, held_address}
+use Rattle.rip_plan.proofs.HeldOrderLemmas.{held_order, stands_from}
+use Rattle.rip_plan.proofs.MatchingLemmas.{matched_left, matched_length}
+use Rattle.rip_plan.proofs.OnePlanLemmas.{one_plan}
+use Rattle.rip_plan.proofs.SpotLemmas.{place_ahead, interface_ahead, place_spot, interface_spot, spot_under, spots_count}
+use Rattle.rip_plan.proofs.TakenSpotLemmas.{place_ats, interface_ats}
+use Rattle.rip_plan.proofs.ItemLemmas.{both, any_at, any_finds, none_at, distinct_at, get_seen, get_split, see_got, get_some}
+use Rattle.rip_plan.proofs.NumberingLemmas.{numbers, same_is, same_from}
+use Rattle.rip_plan.proofs.SecondPassLemmas.{address_spot, held, held_spot, taken_address, on_touched, own_touched, common}
+use Rattle.rip_plan.proofs.TextLemmas.{TextLaws}
+
+-- ---- the first clash
+
+-- the earlier items up to number n do not clash with one another
+abbrev Apart : {A : Type 0} → (A → A → Bool) → List A → ℕ → Type 0
+Apart {A} clash xs n = (m : ℕ) (z : A) (i : ℕ) (w : A) → m < n → i < m → slice_get xs m ≡ Some z → slice_get xs i ≡ Some w → clash w z ≡ false
+
+record FirstClash {A : Type 0} (clash : A → A → Bool) (xs : List A) (x : A) : Type 0 where
+  k : ℕ
+  at : slice_get xs k ≡ Some x
+  j : ℕ
+  y : A
+  less : j < k
+  there : slice_get xs j ≡ Some y
+  meets : clash y x ≡ true
+  before : Apart clash xs k
+
+abbrev Searched : {A : Type 0} → (A → A → Bool) → List A → Option A → Type 0
+Searched clash xs None = Apart clash xs (length xs)
+Searched clash xs (Some x) = FirstClash clash xs x
+
+get_old : {A : Type 0} (xs ys : List A) (i : ℕ) (w : A) → i < length xs → slice_get (xs ++ ys) i ≡ Some w → slice_get xs i ≡ Some w
+get_old [] ys i w h g = absurd (omega arith)
+get_old (x ∷ xs) ys zero w h g = g
+get_old (x ∷ xs) ys (suc i) w h g = get_old xs ys i w (omega arith) g
+
+get_next : {A : Type 0} (xs : List A) (x : A) (ys : List A) → slice_get (xs ++ x ∷ ys) (length xs) ≡ Some x
+get_next [] x ys = refl
+get_next (z ∷ zs) x ys = get_next zs x ys
+
+get_kept : {A : Type 0} (xs ys : List A) (i : ℕ) (w : A) → slice_get xs i ≡ Some w → slice_get (xs ++ ys) i ≡ Some w
+get_kept [] ys i w h = absurd (none-some w h)
+get_kept (x ∷ xs) ys zero w h = h
+get_kept (x ∷ xs) ys (suc i) w h = get_kept xs ys i w h
+
+search_clash : {A : Type 0} (clash : A → A → Bool) (earlier xs whole : List A) → whole ≡ earlier ++ xs → Apart clash whole (length earlier) → Searched clash whole (first_clash clash earlier xs)
+search_clash clash earlier [] whole split apart =
+    let same : whole ≡ earlier = split ∙ append-nil earlier in
+    let count : length whole ≡ length earlier = ap length same in
+    λ m z i w less. apart m z i w (omega arith)
+search_clash {A} clash earlier (x ∷ xs) whole split apart = by_test (list_any (λ y. clash y x) earlier) refl (λ more. search_clash clash (earlier ++ x ∷ []) xs whole (split ∙ sym (append_assoc earlier (x ∷ []) xs)) more)
+  where
+    here : slice_get whole (length earlier) ≡ Some x
+    here = rw split (get_next earlier x xs)
+
+    by_test : (b : Bool) → list_any (λ y. clash y x) earlier ≡ b → (Apart clash whole (length (earlier ++ x ∷ [])) → Searched clash whole (first_clash clash (earlier ++ x ∷ []) xs)) → Searched clash whole (cond b (Some x) (first_clash clash (earlier ++ x ∷ []) xs))
+    by_test true e later =
+        let (j, y, there, test) = any_finds (λ y. clash y x) earlier e in
+        record { k = length earlier; at = here; j = j; y = y; less = slice_get_within earlier j y there; there = rw split (get_kept earlier (x ∷ xs) j y there); meets = test; before = apart }
+    by_test false e later =
+        later
+        (λ m z i w less under at its.
+        let count = length-append earlier (x ∷ []) in
+        elim (cases_lt m (length earlier)) [
+          | inl old ↦ apart m z i w old under at its
+          | inr ge ↦
+              let last : m ≡ length earlier = omega arith in
+              let same : x ≡ z = same_Some x z (sym here ∙ ap (slice_get whole) (sym last) ∙ at) in
+              let was : slice_get (earlier ++ x ∷ xs) i ≡ Some w = ap (λ (l : List A). slice_get l i) (sym split) ∙ its in
+              let kept : slice_get earlier i ≡ Some w = get_old earlier (x ∷ xs) i w (omega arith) was in
+              ap (clash w) (sym same) ∙ none_at (λ y. clash y x) earlier i w e kept
+        ])
+
+searched : {A : Type 0} (clash : A → A → Bool) (xs : List A) → Searched clash xs (first_clash clash [] xs)
+searched clash xs = search_clash clash [] xs xs refl (λ m z i w less. absurd (omega arith))
+
+-- ---- one pass
+
+before_more : (xs ys us vs : List ℕ) → Before xs ys → Before (xs ++ us) (ys ++ vs)
+before_more [] ys us vs h = absurd h
+before_more (x ∷ xs) [] us vs h = absurd h
+before_more (x ∷ xs) (y ∷ ys) us vs (inl h) = inl h
+before_more (x ∷ xs) (y ∷ ys) us vs (inr h) = inr (h.0, before_more xs ys us vs h.1)
+
+-- an item that is so, and where it stands
+record Stood {A : Type 0} (Is : ℕ → A → Type 0) (see : A → At) (xs : List A) (place : At) : Type 0 where
+  k : ℕ
+  x : A
+  at : slice_get xs k ≡ Some x
+  so : Is k x
+  stands : see x ≡ place
+
+-- no item that is so, or the first
+abbrev FirstSo : {A : Type 0} → (ℕ → A → Type 0) → List A → Option A → Type 0
+FirstSo {A} Is xs None = (k : ℕ) (x : A) → slice_get xs k ≡ Some x → Is k x → ⊥
+FirstSo {A} Is xs (Some x) = (k : ℕ) × (slice_get xs k ≡ Some x) × Is k x × ((m : ℕ) (z : A) → m < k → slice_get xs m ≡ Some z → Is m z → ⊥)
+
+-- later items stand later, or at the same place
+abbrev InOrder : {A : Type 0} → (A → At) → List A → Type 0
+InOrder {A} see xs = (k m : ℕ) (x y : A) → k < m → slice_get xs k ≡ Some x → slice_get xs m ≡ Some y → (see x ≡ see y) ⊎ Before (position (see x)) (position (see y))
+
+-- what one pass finds, with its number
+abbrev in_pass : ℕ → PlanCode → At → Found
+in_pass n c place = record { pass = n; error = fault c place }
+
+pass_finds : {A : Type 0} (F : Found → Type 0) (n : ℕ) (c : PlanCode) (Is : ℕ → A → Type 0) (see : A → At) (xs : List A) (r : Option A) → FirstSo Is xs r → InOrder see xs
+    → ((place : At) → Stood Is see xs place → F (in_pass n c place)) → ((place : At) → F (in_pass n c place) → Stood Is see xs place)
+    → Finds F (code_rows n c).has (none_found c (option_map see r))
+pass_finds {A} F n c Is see xs r first ahead told clear = by_search r first
+  where
+    as_found : (o : Found) → (o.pass ≡ n) × (o.error.code ≡ c) → F o → F (in_pass n c o.error.place)
+    as_found o same f = subst F (ap (λ (m : ℕ). record { pass = m; error = o.error }) same.0 ∙ ap (λ (d : PlanCode). in_pass n d o.error.place) same.1) f
+
+    by_search : (q : Option A) → FirstSo Is xs q → Finds F (code_rows n c).has (none_found c (option_map see q))
+    by_search None none = λ o same f. let h = clear o.error.place (as_found o same f) in none h.k h.x h.at h.so
+    by_search (Some x) s = (
+      n,
+      told (see x) (record { k = s.0; x = x; at = s.1; so = s.2; stands = refl }),
+      (refl, refl),
+      λ o same f before.
+          let h = clear o.error.place (as_found o same f) in
+          let mine : Before (rank n (fault c o.error.place)) (rank n (fault c (see x))) =
+          subst (λ (d : PlanCode). Before (rank n (fault d o.error.place)) (rank n (fault c (see x)))) same.1 (subst (λ (m : ℕ). Before (rank m o.error) (rank n (fault c (see x)))) same.0 before) in
+          let at_one : o.error.place ≡ see x → ⊥ = λ place. before_not (rank n (fault c (see x))) (subst (λ (p : At). Before (rank n (fault c p)) (rank n (fault c (see x)))) place mine) in
+          elim (cases_lt h.k s.0) [
+            | inl sooner ↦ s.3 h.k h.x sooner h.at h.so
+            | inr ge ↦
+                elim (cases_lt s.0 h.k) [
+                  | inl later ↦
+                      elim (ahead s.0 h.k x h.x later s.1 h.at) [
+                        | inl one ↦ at_one (sym h.stands ∙ sym one)
+                        | inr past ↦
+                            let after : Before (position (see x)) (position o.error.place) = subst (λ (p : At). Before (position (see x)) (position p)) h.stands past in
+                            let ranked_after : Before (rank n (fault c (see x))) (rank n (fault c o.error.place)) = inr (refl, before_more (position (see x)) (position o.error.place) (number_of_code c ∷ []) (number_of_code c ∷ []) after) in
+                            before_not (rank n (fault c o.error.place)) (before_trans (rank n (fault c o.error.place)) (rank n (fault c (see x))) (rank n (fault c o.error.place)) mine ranked_after)
+                      ]
+                  | inr le ↦
+                      let one : h.k ≡ s.0 = omega arith in
+                      let item : h.x ≡ x = same_Some h.x x (sym h.at ∙ ap (slice_get xs) one ∙ s.1) in
+                      at_one (sym h.stands ∙ ap see item)
+                ]
+          ],
+    )
+
+-- item k clashes with an earlier one
+abbrev Clashes : {A : Type 0} → (A → A → Bool) → List A → ℕ → A → Type 0
+Clashes {A} clash xs k x = (j : ℕ) × (y : A) × (j < k) × (slice_get xs j ≡ Some y) × (clash y x ≡ true)
+
+first_clashing : {A : Type 0} (clash : A → A → Bool) (xs : List A) → FirstSo (Clashes clash xs) xs (first_clash clash [] xs)
+first_clashing {A} clash xs = by_search (first_clash clash [] xs) (searched clash xs)
+  where
+    by_search : (r : Option A) → Searched clash xs r → FirstSo (Clashes clash xs) xs r
+    by_search None apart = λ k x at (j, y, less, there, meets). let off = apart k x j y (slice_get_within xs k x at) less at there in absurd cc
+    by_search (Some x) s = (s.k, s.at, (s.j, s.y, s.less, s.there, s.meets), λ m z sooner at (j, y, less, there, meets). let off = s.before m z j y sooner less at there in absurd cc)
+
+-- item k passes
+abbrev Passes : {A : Type 0} → (A → Bool) → ℕ → A → Type 0
+Passes test k x = test x ≡ true
+
+first_passing : {A : Type 0} (test : A → Bool) (xs : List A) → FirstSo (Passes test) xs (find test xs)
+first_passing test [] = λ k x at e. none-some x at
+first_passing {A} test (y ∷ ys) = by_test (test y) refl (find test ys) (first_passing test ys)
+  where
+    by_test : (b : Bool) → test y ≡ b → (r : Option A) → FirstSo (Passes test) ys r → FirstSo (Passes test) (y ∷ ys) (cond b (Some y) r)
+    by_test true e r later = (zero, refl, e, λ m z less at passes. absurd (omega arith))
+    by_test false e None later = none
+      where
+        none : (k : ℕ) (x : A) → slice_get (y ∷ ys) k ≡ Some x → test x ≡ true → ⊥
+        none zero x at passes = let same : y ≡ x = same_Some y x at in let off : test x ≡ false = ap test (sym same) ∙ e in absurd cc
+        none (suc k) x at passes = later k x at passes
+    by_test false e (Some z) later = (suc later.0, later.1, later.2, before)
+      where
+        before : (m : ℕ) (x : A) → m < suc later.0 → slice_get (y ∷ ys) m ≡ Some x → test x ≡ true → ⊥
+        before zero x less at passes = let same : y ≡ x = same_Some y x at in let off : test x ≡ false = ap test (sym same) ∙ e in absurd cc
+        before (suc m) x less at passes = later.3 m x (omega arith) at passes
+
+-- ---- two places that meet
+
+module _ (s : Sketch) where
+  interface_in : (i : ℕ) (v : Interface) → slice_get (network_of_sketch s).interfaces i ≡ Some v → (x : DraftInterface) × (slice_get s.interfaces i ≡ Some x) × (x.interface ≡ v)
+  interface_in i v h = get_seen (λ (x : DraftInterface). x.interface) s.interfaces i v h
+
+  interface_from : (i : ℕ) (x : DraftInterface) → slice_get s.interfaces i ≡ Some x → slice_get (network_of_sketch s).interfaces i ≡ Some x.interface
+  interface_from i x h = see_got (λ (y : DraftInterface). y.interface) s.interfaces i x h
+
+  place_in : (k p : ℕ) (seat : Seat) → IsPlace (network_of_sketch s) k p seat → (d : DraftPlace) × (slice_get s.places k ≡ Some d) × (slice_get (network_of_sketch s).prefixes p ≡ Some d.prefix) × (seat ≡ d.seat)
+  place_in k p seat h = (numbers s.places).each k (record { prefix = p; seat = seat }) h.listed
+
+  place_from : (k : ℕ) (d : DraftPlace) → slice_get s.places k ≡ Some d → (p : ℕ) × IsPlace (network_of_sketch s) k p d.seat × IsPrefix (network_of_sketch s) p d.prefix
+  place_from k d h =
+      let below : k < length (network_of_sketch s).places = omega (arith, (numbers s.places).count, slice_get_within s.places k d h) in
+      let (q, is) = get_some (network_of_sketch s).places k below in
+      let (e, there, prefix, seat) = (numbers s.places).each k q is in
+      let same : e ≡ d = same_Some e d (sym there ∙ h) in
+      (q.prefix, record { listed = is ∙ ap (λ x. Some (record { prefix = q.prefix; seat = x })) (seat ∙ ap (λ (x : DraftPlace). x.seat) same) }, prefix ∙ ap (λ (x : DraftPlace). Some x.prefix) same)
+
+  touch : (k p r c : ℕ) → Touches (network_of_sketch s) k p r c → (seat : Seat) × IsPlace (network_of_sketch s) k p seat × (list_any (λ m. m == r) (touched s.interfaces seat) ≡ true)
+  touch k p r c (inl (l, place, (i, is))) =
+      let (x, at, same) = interface_in i _ is.listed in
+      (seats.Link l, place, on_touched s.interfaces l r i x at (ap (λ (v : Interface). v.link) same) (ap (λ (v : Interface). v.router) same))
+  touch k p r c (inr own) = (seats.Own r c own.kept own.link own.via, own.place, own_touched s.interfaces r c own.kept own.link own.via)
+
+  -- a router that a seat touches
+  touched_on : (is : List DraftInterface) (l r : ℕ) → list_any (λ m. m == r) (touched is (seats.Link l)) ≡ true → (i : ℕ) × (x : DraftInterface) × (slice_get is i ≡ Some x) × (x.interface.link ≡ l) × (x.interface.router ≡ r)
+  touched_on [] l r h = absurd cc
+  touched_on (y ∷ ys) l r h = by_link (y.interface.link == l) refl h (λ e. let (i, x, at, link, router) = touched_on ys l r e in (suc i, x, at, link, router))
+    where
+      by_router : (b : Bool) → (y.interface.router == r) ≡ b → y.interface.link ≡ l → (b || list_any (λ m. m == r) (touched ys (seats.Link l))) ≡ true → (list_any (λ m. m == r) (touched ys (seats.Link l)) ≡ true → (i : ℕ) × (x : DraftInterface) × (slice_get (y ∷ ys) i ≡ Some x) × (x.interface.link ≡ l) × (x.interface.router ≡ r)) → (i : ℕ) × (x : DraftInterface) × (slice_get (y ∷ ys) i ≡ Some x) × (x.interface.link ≡ l) × (x.interface.router ≡ r)
+      by_router true e on f more = let of : y.interface.router ≡ r = grind (arith, nat_tests) in (zero, y, refl, on, of)
+      by_router false e on f more = more f
+
+      by_link : (b : Bool) → (y.interface.link == l) ≡ b → list_any (λ m. m == r) (map (λ i. i.interface.router) (cond b (y ∷ filter (λ i. i.interface.link == l) ys) (filter (λ i. i.interface.link == l) ys))) ≡ true → (list_any (λ m. m == r) (touched ys (seats.Link l)) ≡ true → (i : ℕ) × (x : DraftInterface) × (slice_get (y ∷ ys) i ≡ Some x) × (x.interface.link ≡ l) × (x.interface.router ≡ r))
+          → (i : ℕ) × (x : DraftInterface) × (slice_get (y ∷ ys) i ≡ Some x) × (x.interface.link ≡ l) × (x.interface.router ≡ r)
+      by_link true e f more = let on : y.interface.link ≡ l = grind (arith, nat_tests) in by_router (y.interface.router == r) refl on f more
+      by_link false e f more = more f
+
+  -- an interface with this router and this link
+  listed_as : (i : ℕ) (x : DraftInterface) (r l : ℕ) → slice_get s.interfaces i ≡ Some x → x.interface.router ≡ r → x.interface.link ≡ l → slice_get (network_of_sketch s).interfaces i ≡ Some (record x.interface { router = r; link = l })
+  listed_as i x r l at router link =
+      interface_from i x at ∙ ap (λ (m : ℕ). Some (record x.interface { router = m })) router ∙ ap (λ (m : ℕ). Some (record x.interface { router = r; link = m })) link
+
+  touches : (k p r : ℕ) (seat : Seat) → IsPlace (network_of_sketch s) k p seat → list_any (λ m. m == r) (touched s.interfaces seat) ≡ true → (c : ℕ) × Touches (network_of_sketch s) k p r c
+  touches k p r (seats.Link l) place h =
+      let (i, x, at, link, router) = touched_on s.interfaces l r h in
+      (x.interface.direct, inl (l, place, (i, record { address = x.interface.address; cost = x.interface.cost; listed = listed_as i x r l at router link })))
+  touches k p r (seats.Own owner c kept link via) place h =
+      let one : (owner == r) ≡ true = only (owner == r) h in
+      let same : owner ≡ r = grind (arith, nat_tests) in
+      (c, inr (record { kept = kept; link = link; via = via; place = subst (λ (m : ℕ). IsPlace (network_of_sketch s) k p (seats.Own m c kept link via)) same place }))
+    where
+      only : (b : Bool) → (b || false) ≡ true → b ≡ true
+      only true e = refl
+      only false e = absurd cc
+
+  either : (a b : Bool) → (a || b) ≡ true → (a ≡ true) ⊎ (b ≡ true)
+  either true b h = inl refl
+  either false b h = inr h
+
+  on_one : (seat other : Seat) → is_same_link seat other ≡ true → (l : ℕ) × (seat ≡ seats.Link l) × (other ≡ seats.Link l)
+  on_one (seats.Link l) (seats.Link m) h = let same : l ≡ m = grind (arith, nat_tests) in (l, refl, ap seats.Link (sym same))
+  on_one (seats.Link l) (seats.Own r c kept link via) h = absurd cc
+  on_one (seats.Own r c kept link via) other h = absurd cc
+
+  meet_gives : (j k : ℕ) (y x : DraftPlace) → slice_get s.places j ≡ Some y → slice_get s.places k ≡ Some x → do_meet (touching s.interfaces y) (touching s.interfaces x) ≡ true → DoMeet (network_of_sketch s) j k
+  meet_gives j k y x at there h =
+      let (same, meet) = both (same_prefix y.prefix x.prefix) (is_same_link y.seat x.seat || have_common (touched s.interfaces y.seat) (touched s.interfaces x.seat)) h in
+      let (p, place, prefix) = place_from j y at in
+      let (q, its, block) = place_from k x there in
+      let one : y.prefix ≡ x.prefix = same_is y.prefix x.prefix same in
+      let number : q ≡ p = distinct_at same_prefix (network_of_sketch s).prefixes q p x.prefix y.prefix (numbers s.places).distinct block prefix (same_from x.prefix y.prefix (sym one)) (same_from y.prefix x.prefix one) in
+      let here : IsPlace (network_of_sketch s) k p x.seat = subst (λ (m : ℕ). IsPlace (network_of_sketch s) k m x.seat) number its in
+      elim (either (is_same_link y.seat x.seat) (have_common (touched s.interfaces y.seat) (touched s.interfaces x.seat)) meet) [
+        | inl link ↦
+            let (l, one_seat, other_seat) = on_one y.seat x.seat link in
+            (p, inl (l, subst (IsPlace (network_of_sketch s) j p) one_seat place, subst (IsPlace (network_of_sketch s) k p) other_seat here))
+        | inr shared ↦
+            let (n, r, listed, test) = any_finds (λ m. list_any (λ t. t == m) (touched s.interfaces y.seat)) (touched s.interfaces x.seat) shared in
+            let self : (r == r) ≡ true = grind (arith, nat_tests) in
+            let (c, one_touch) = touches j p r y.seat place test in
+            let (d, other_touch) = touches k p r x.seat here (any_at (λ m. m == r) (touched s.interfaces x.seat) n r listed self) in
+            (p, inr (r, c, d, one_touch, other_touch))
+      ]
+
+  met : (j k p : ℕ) (seat other : Seat) (y x : DraftPlace) → slice_get s.places j ≡ Some y → slice_get s.places k ≡ Some x → IsPlace (network_of_sketch s) j p seat → IsPlace (network_of_sketch s) k p other
+      → (is_same_link seat other || have_common (touched s.interfaces seat) (touched s.interfaces other)) ≡ true → do_meet (touching s.interfaces y) (touching s.interfaces x) ≡ true
+  met j k p seat other y x at there h h' meet =
+      let (d, its, prefix, same) = place_in j p seat h in
+      let (e, theirs, block, is) = place_in k p other h' in
+      let one : d ≡ y = same_Some d y (sym its ∙ at) in
+      let two : e ≡ x = same_Some e x (sym theirs ∙ there) in
+      let blocks : y.prefix ≡ x.prefix = ap (λ (w : DraftPlace). w.prefix) (sym one) ∙ same_Some d.prefix e.prefix (sym prefix ∙ block) ∙ ap (λ (w : DraftPlace). w.prefix) two in
+      let mine : seat ≡ y.seat = same ∙ ap (λ (w : DraftPlace). w.seat) one in
+      let yours : other ≡ x.seat = is ∙ ap (λ (w : DraftPlace). w.seat) two in
+      rw (same_from y.prefix x.prefix blocks, ← mine, ← yours) meet
+
+  meet_takes : (j k : ℕ) (y x : DraftPlace) → slice_get s.places j ≡ Some y → slice_get s.places k ≡ Some x → DoMeet (network_of_sketch s) j k → do_meet (touching s.interfaces y) (touching s.interfaces x) ≡ true
+  meet_takes j k y x at there (p, inl (l, h, h')) =
+      let same : (l == l) ≡ true = grind (arith, nat_tests) in
+      met j k p (seats.Link l) (seats.Link l) y x at there h h' (rw same refl)
+  meet_takes j k y x at there (p, inr (r, c, d, h, h')) =
+      let (seat, place, here) = touch j p r c h in
+      let (other, its, also) = touch k p r d h' in
+      met j k p seat other y x at there place its (or_right (is_same_link seat other) _ (common (touched s.interfaces seat) (touched s.interfaces other) r here also))
+    where
+      or_right : (b c : Bool) → c ≡ true → (b || c) ≡ true
+      or_right true c e = refl
+      or_right false c e = e
+
+  twice_gives : (j k : ℕ) (y x : DraftInterface) → slice_get s.interfaces j ≡ Some y → slice_get s.interfaces k ≡ Some x → are_twice y x ≡ true → AreTwice (network_of_sketch s) j k
+  twice_gives j k y x at there h =
+      let (routers, links) = both (y.interface.router == x.interface.router) (y.interface.link == x.interface.link) h in
+      let router : x.interface.router ≡ y.interface.router = grind (arith, nat_tests) in
+      let link : x.interface.link ≡ y.interface.link = grind (arith, nat_tests) in (
+        y.interface.router,
+        y.interface.link,
+        y.interface.cost,
+        x.interface.cost,
+        record { address = y.interface.address; direct = y.interface.direct; listed = interface_from j y at },
+        record { address = x.interface.address; direct = x.interface.direct; listed = listed_as k x y.interface.router y.interface.link there router link },
+      )
+
+  twice_takes : (j k : ℕ) (y x : DraftInterface) → slice_get s.interfaces j ≡ Some y → slice_get s.interfaces k ≡ Some x → AreTwice (network_of_sketch s) j k → are_twice y x ≡ true
+  twice_takes j k y x at there (r, l, c, d, h, h') =
+      let (y', its, same) = interface_in j _ h.listed in
+      let (x', theirs, also) = interface_in k _ h'.listed in
+      let one : y'.interface ≡ y.interface = ap (λ (w : DraftInterface). w.interface) (same_Some y' y (sym its ∙ at)) in
+      let two : x'.interface ≡ x.interface = ap (λ (w : DraftInterface). w.interface) (same_Some x' x (sym theirs ∙ there)) in
+      let routers : y.interface.router ≡ x.interface.router = ap (λ (v : Interface). v.router) (sym one ∙ same) ∙ ap (λ (v : Interface). v.router) (sym also ∙ two) in
+      let links : y.interface.link ≡ x.interface.link = ap (λ (v : Interface). v.link) (sym one ∙ same) ∙ ap (λ (v : Interface). v.link) (sym also ∙ two) in
+      grind (arith, nat_tests)
+
+  -- two addresses that are one, on one link
+  address_gives : (j k : ℕ) (y x : Held) → j < k → slice_get (held s.interfaces s.also) j ≡ Some y → slice_get (held s.interfaces s.also) k ≡ Some x → have_one_address y x ≡ true
+      → ((i : ℕ) × (i < x.interface) × HaveOneAddress (network_of_sketch s) i x.interface) ⊎ HasOneTwice (network_of_sketch s) x.interface
+  address_gives j k y x less at there h =
+      let (links, addresses) = both (y.link == x.link) (y.address == x.address) h in
+      let link : y.link ≡ x.link = grind (arith, nat_tests) in
+      let address : y.address ≡ x.address = grind (arith, nat_tests) in
+      let n = network_of_sketch s in
+      elim (held_order 0 n.interfaces n.also j k y x less at there) [
+        | inl ahead ↦
+            let same : y ≡ record { interface = y.interface; link = x.link; address = x.address } = rw (← link, ← address) refl in
+            inl (y.interface, ahead, (x.link, x.address, held_address n y.interface x.link x.address j (at ∙ ap (λ (h : Held). Some h) same), held_address n x.interface x.link x.address k there))
+        | inr one ↦
+            let number : one.i ≡ x.interface = omega (arith, one.other) in
+            let has : HasAddresses n x.interface x.link (one.interface.address ∷ one.further) = record {
+              interface = one.interface;
+              listed = ap (slice_get n.interfaces) (sym number) ∙ one.listed;
+              on = sym one.link;
+              also = one.further;
+              further = ap (slice_get n.also) (sym number) ∙ one.its;
+              all = refl;
+            } in
+            inr (x.link, one.interface.address ∷ one.further, has, (one.j, one.k, x.address, one.less, one.before ∙ ap (λ (a : ℕ). Some a) address, one.after))
+      ]
+
+  -- an address that an earlier one is, on the link of the interface
+  abbrev IsTaken : ℕ → Type 0
+  IsTaken i = (k : ℕ) × (x : Held) × (slice_get (held s.interfaces s.also) k ≡ Some x) × Clashes have_one_address (held s.interfaces s.also) k x × (x.interface ≡ i)
+
+  taken_of : (i l a j k m : ℕ) → j < k → slice_get (held s.interfaces s.also) j ≡ Some (record { interface = m; link = l; address = a }) → slice_get (held s.interfaces s.also) k ≡ Some (record { interface = i; link = l; address = a }) → IsTaken i
+  taken_of i l a j k m less there at =
+      (k, record { interface = i; link = l; address = a }, at, (j, record { interface = m; link = l; address = a }, less, there, grind (arith, nat_tests)), refl)
+
+  address_takes : (m i : ℕ) → m < i → HaveOneAddress (network_of_sketch s) m i → IsTaken i
+  address_takes m i ahead (l, a, h, g) =
+      let n = network_of_sketch s in
+      let (j, there) = address_held n m l a h in
+      let (k, at) = address_held n i l a g in
+      elim (cases_lt j k) [
+        | inl less ↦ taken_of i l a j k m less there at
+        | inr ge ↦
+            elim (cases_lt k j) [
+              | inl more ↦
+                  elim (held_order 0 n.interfaces n.also k j (record { interface = i; link = l; address = a }) (record { interface = m; link = l; address = a }) more at there) [
+                    | inl before ↦ let less : i < m = before in absurd (omega arith)
+                    | inr one ↦ absurd (omega (arith, one.number, one.other))
+                  ]
+              | inr le ↦
+                  let same : j ≡ k = omega arith in
+                  let one : Held = record { interface = m; link = l; address = a } in
+                  let two : Held = record { interface = i; link = l; address = a } in
+                  let items : one ≡ two = same_Some one two (sym there ∙ ap (slice_get (held s.interfaces s.also)) same ∙ at) in
+                  let number : m ≡ i = ap (λ (h : Held). h.interface) items in
+                  absurd (omega arith)
+            ]
+      ]
+
+  twice_taken : (i : ℕ) → HasOneTwice (network_of_sketch s) i → IsTaken i
+  twice_taken i (l, addresses, has, (j, k, a, less, one, two)) =
+      let n = network_of_sketch s in
+      let stands = stands_from 0 n.interfaces n.also i has.interface has.also has.listed has.further in
+      let number : 0 + i ≡ i = omega arith in
+      let as_held : (m : ℕ) → slice_get addresses m ≡ Some a → slice_get (held s.interfaces s.also) (stands.first + m) ≡ Some (record { interface = i; link = l; address = a }) =
+      λ m at.
+      stands.each m a (ap (λ (xs : List ℕ). slice_get xs m) (sym has.all) ∙ at)
+      ∙ ap (λ (q : ℕ). Some (record { interface = q; link = has.interface.link; address = a })) number
+      ∙ ap (λ (q : ℕ). Some (record { interface = i; link = q; address = a })) has.on in
+      taken_of i l a (stands.first + j) (stands.first + k) i (omega arith) (as_held j one) (as_held k two)
+
+  -- an own prefix whose router is not on its link
+  astray_gives : (k : ℕ) (d : DraftPlace) → slice_get s.places k ≡ Some d → is_astray s.interfaces d.seat ≡ true → IsAstray (network_of_sketch s) k
+  astray_gives k d at h = let (p, place, prefix) = place_from k d at in by_seat d.seat p place h
+    where
+      not_true : (b : Bool) → not b ≡ true → b ≡ false
+      not_true true e = absurd cc
+      not_true false e = refl
+
+      by_seat : (seat : Seat) (p : ℕ) → IsPlace (network_of_sketch s) k p seat → is_astray s.interfaces seat ≡ true → IsAstray (network_of_sketch s) k
+      by_seat (seats.Link l) p place e = absurd cc
+      by_seat (seats.Own r c kept None via) p place e = absurd cc
+      by_seat (seats.Own r c kept (Some l) via) p place e = (p, r, l, record { cost = c; kept = kept; via = via; place = place }, off)
+        where
+          off : IsOn (network_of_sketch s) r l → ⊥
+          off (b, (i, is)) =
+              let (x, listed, same) = interface_in i _ is.listed in
+              let router : x.interface.router ≡ r = ap (λ (v : Interface). v.router) same in
+              let link : x.interface.link ≡ l = ap (λ (v : Interface). v.link) same in
+              let there : is_there s.interfaces r l ≡ true = any_at (λ (y : DraftInterface). y.interface.router == r && y.interface.link == l) s.interfaces i x listed (grind (arith, nat_tests)) in
+              let none : is_there s.interfaces r l ≡ false = not_true (is_there s.interfaces r l) e in
+              absurd cc
+
+  astray_takes : (k : ℕ) → IsAstray (network_of_sketch s) k → (d : DraftPlace) × (slice_get s.places k ≡ Some d) × (is_astray s.interfaces d.seat ≡ true)
+  astray_takes k (p, r, l, h, none) =
+      let (d, at, prefix, same) = place_in k p (seats.Own r h.cost h.kept (Some l) h.via) h.place in
+      let off : is_there s.interfaces r l ≡ false = by_test (is_there s.interfaces r l) refl in
+      (d, at, ap (is_astray s.interfaces) (sym same) ∙ ap not off)
+    where
+      on : is_there s.interfaces r l ≡ true → ⊥
+      on e =
+          let (i, x, listed, test) = any_finds (λ (y : DraftInterface). y.interface.router == r && y.interface.link == l) s.interfaces e in
+          let (routers, links) = both (x.interface.router == r) (x.interface.link == l) test in
+          let router : x.interface.router ≡ r = grind (arith, nat_tests) in
+          let link : x.interface.link ≡ l = grind (arith, nat_tests) in
+          none (x.interface.cost, (i, record { address = x.interface.address; direct = x.interface.direct; listed = listed_as i x r l listed router link }))
+
+      by_test : (b : Bool) → is_there s.interfaces r l ≡ b → is_there s.interfaces r l ≡ false
+      by_test true e = absurd (on e)
+      by_test false e = e
+
+  bare_gives : (k : ℕ) → is_bare s.interfaces k ≡ true → (i l c : ℕ) → IsInterface (network_of_sketch s) i k l c → ⊥
+  bare_gives k h i l c is =
+      let (x, at, same) = interface_in i _ is.listed in
+      let of : x.interface.router ≡ k = ap (λ (v : Interface). v.router) same in
+      let some : list_any (λ (y : DraftInterface). y.interface.router == k) s.interfaces ≡ true = any_at (λ (y : DraftInterface). y.interface.router == k) s.interfaces i x at (grind (arith, nat_tests)) in
+      not_true (list_any (λ (y : DraftInterface). y.interface.router == k) s.interfaces) some h
+    where
+      not_true : (b : Bool) → b ≡ true → not b ≡ true → ⊥
+      not_true true e f = cc
+      not_true false e f = cc
+
+  bare_takes : (k : ℕ) → is_bare s.interfaces k ≡ false → ((i l c : ℕ) → IsInterface (network_of_sketch s) i k l c → ⊥) → ⊥
+  bare_takes k h none =
+      let (i, x, at, test) = any_finds (λ (y : DraftInterface). y.interface.router == k) s.interfaces (not_false (list_any (λ (y : DraftInterface). y.interface.router == k) s.interfaces) h) in
+      let of : x.interface.router ≡ k = grind (arith, nat_tests) in
+      none i x.interface.link x.interface.cost (record { address = x.interface.address; direct = x.interface.direct; listed = interface_from i x at ∙ ap (λ (m : ℕ). Some (record x.interface { router = m })) of })
+    where
+      not_false : (b : Bool) → not b ≡ false → b ≡ true
+      not_false true e = refl
+      not_false false e = absurd cc
+
+-- ---- the first router with no interface
+
+abbrev FoundBare : List DraftInterface → ℕ → ℕ → Option ℕ → Type 0
+FoundBare is k n None = (m : ℕ) → k ≤ m → m < k + n → is_bare is m ≡ false
+FoundBare is k n (Some r) = (k ≤ r) × (r < k + n) × (is_bare is r ≡ true) × ((m : ℕ) → k ≤ m → m < r → is_bare is m ≡ false)
+
+search_bare : (is : List DraftInterface) (k n : ℕ) → FoundBare is k n (first_bare is k n)
+search_bare is k zero = λ m le less. absurd (omega arith)
+search_bare is k (suc n) = by_test (is_bare is k) refl (first_bare is (k + 1) n) (search_bare is (k + 1) n)
+  where
+    same_bare : (m : ℕ) → k ≡ m → is_bare is k ≡ false → is_bare is m ≡ false
+    same_bare m e h = ap (is_bare is) (sym e) ∙ h
+
+    by_test : (b : Bool) → is_bare is k ≡ b → (o : Option ℕ) → FoundBare is (k + 1) n o → FoundBare is k (suc n) (cond b (Some k) o)
+    by_test true e o found = (omega arith, omega arith, e, λ m le less. absurd (omega arith))
+    by_test false e None found = λ m le less.
+        elim (cases_lt k m) [
+          | inl more ↦ found m (omega arith) (omega arith)
+          | inr here ↦ ap (is_bare is) (omega arith) ∙ e
+        ]
+    by_test false e (Some r) found =
+        let low : k + 1 ≤ r = found.0 in
+        let high : r < k + 1 + n = found.1 in (
+          omega arith,
+          omega arith,
+          found.2,
+          λ m le less.
+              elim (cases_lt k m) [
+                | inl more ↦ found.3 m (omega arith) less
+                | inr here ↦ same_bare m (omega arith) e
+              ],
+        )
+
+-- ---- all later passes
+
+module _ (laws : TextLaws) (document : Members) (links routers : List Data) (s : Sketch) (plan : PlanOf document (network_of_sketch s)) (placed : place_ats s ≡ place_spots links routers) (listed : interface_ats s ≡ interface_spots routers) (tables : plan.links ≡ links) where
+  place_at : (k : ℕ) (d : DraftPlace) → slice_get s.places k ≡ Some d → slice_get (place_spots links routers) k ≡ Some d.at
+  place_at k d h = ap (λ (l : List At). slice_get l k) (sym placed) ∙ see_got (λ (p : DraftPlace). p.at) s.places k d h
+
+  interface_at : (k : ℕ) (d : DraftInterface) → slice_get s.interfaces k ≡ Some d → slice_get (interface_spots routers) k ≡ Some d.at
+  interface_at k d h = ap (λ (l : List At). slice_get l k) (sym listed) ∙ see_got (λ (i : DraftInterface). i.at) s.interfaces k d h
+
+  at_place : (k : ℕ) (a : At) → slice_get (place_spots links routers) k ≡ Some a → (d : DraftPlace) × (slice_get s.places k ≡ Some d) × (d.at ≡ a)
+  at_place k a h = get_seen (λ (p : DraftPlace). p.at) s.places k a (ap (λ (l : List At). slice_get l k) placed ∙ h)
+
+  at_interface : (k : ℕ) (a : At) → slice_get (interface_spots routers) k ≡ Some a → (d : DraftInterface) × (slice_get s.interfaces k ≡ Some d) × (d.at ≡ a)
+  at_interface k a h = get_seen (λ (i : DraftInterface). i.at) s.interfaces k a (ap (λ (l : List At). slice_get l k) listed ∙ h)
+
+  get_item : (k : ℕ) (x : DraftInterface) (y : DraftInterface) → slice_get s.interfaces k ≡ Some x → slice_get s.interfaces k ≡ Some y → x ≡ y
+  get_item k x y h g = same_Some x y (sym h ∙ g)
+
+  -- prefixes
+  duplicate_told : (place : At) → IsClash (DoMeet (network_of_sketch s)) (place_spots links routers) place → TableFault document links routers codes.DuplicatePrefix place
+  duplicate_told place c =
+      let (j, k, at, less, meet) = c in
+      elim (place_spot links routers k place at) [
+        | inl (i, n, e) ↦ subst (λ (p : At). TableFault document links routers codes.DuplicatePrefix p) (sym e) (network_of_sketch s, plan, subst (IsClash (DoMeet (network_of_sketch s)) (place_spots links routers)) e c)
+        | inr (i, n, e) ↦ subst (λ (p : At). TableFault document links routers codes.DuplicatePrefix p) (sym e) (network_of_sketch s, plan, subst (IsClash (DoMeet (network_of_sketch s)) (place_spots links routers)) e c)
+      ]
+
+  -- of a network that is the plan too
+  of_plan : (P : Network → Type 0) → (n : Network) → PlanOf document n → P n → P (network_of_sketch s)
+  of_plan P n its c = subst P (one_plan laws document n (network_of_sketch s) its plan) c
+
+  duplicate_clear : (place : At) → TableFault document links routers codes.DuplicatePrefix place → IsClash (DoMeet (network_of_sketch s)) (place_spots links routers) place
+  duplicate_clear (LinkPrefix i j) f = of_plan (λ n. IsClash (DoMeet n) (place_spots links routers) (LinkPrefix i j)) f.0 f.1 f.2
+  duplicate_clear (RouterOwn r j) f = of_plan (λ n. IsClash (DoMeet n) (place_spots links routers) (RouterOwn r j)) f.0 f.1 f.2
+  duplicate_clear place f = absurd f
+
+  duplicates_find : Finds (IsTold document links routers) (code_rows 1 codes.DuplicatePrefix).has (none_found codes.DuplicatePrefix (duplicate_in s.interfaces s.places))
+  duplicates_find =
+      let items : List Touching = map (touching s.interfaces) s.places in
+      pass_finds (IsTold document links routers) 1 codes.DuplicatePrefix (Clashes do_meet items) (λ (t : Touching). t.place.at) items (first_clash do_meet [] items) (first_clashing do_meet items)
+      (λ k m x y less h g.
+      let (a, at, same) = get_seen (touching s.interfaces) s.places k x h in
+      let (b, there, also) = get_seen (touching s.interfaces) s.places m y g in
+      inr (subst (λ (t : Touching). Before (position t.place.at) (position y.place.at)) same (subst (λ (t : Touching). Before (position a.at) (position t.place.at)) also (place_ahead links routers k m a.at b.at less (place_at k a at) (place_at m b there)))))
+      (λ place c.
+      let (j, y, less, there, meets) = c.so in
+      let (a, at, same) = get_seen (touching s.interfaces) s.places c.k c.x c.at in
+      let (b, its, also) = get_seen (touching s.interfaces) s.places j y there in
+      let meet : do_meet (touching s.interfaces b) (touching s.interfaces a) ≡ true = ap (λ (t : Touching). do_meet t (touching s.interfaces a)) also ∙ ap (do_meet y) same ∙ meets in
+      let stands : a.at ≡ place = ap (λ (t : Touching). t.place.at) same ∙ c.stands in
+      (duplicate_told place (j, c.k, place_at c.k a at ∙ ap (λ (p : At). Some p) stands, less, meet_gives s j c.k b a its at meet), refl))
+      (λ place f.
+      let (j, k, spot, less, meet) = duplicate_clear place f.0 in
+      let (a, at, stands) = at_place k place spot in
+      let (b, there) = get_some s.places j (omega (arith, less, slice_get_within s.places k a at)) in
+      record { k = k; x = touching s.interfaces a; at = see_got (touching s.interfaces) s.places k a at; so = (j, touching s.interfaces b, less, see_got (touching s.interfaces) s.places j b there, meet_takes s j k b a there at meet); stands = stands })
+
+  -- interfaces
+  twice_told : (place : At) → IsClash (AreTwice (network_of_sketch s)) (interface_spots routers) place → TableFault document links routers codes.TwiceOnLink place
+  twice_told place c =
+      let (j, k, at, less, meet) = c in
+      let (i, n, e) = interface_spot routers k place at in
+      subst (λ (p : At). TableFault document links routers codes.TwiceOnLink p) (sym e) (network_of_sketch s, plan, subst (IsClash (AreTwice (network_of_sketch s)) (interface_spots routers)) e c)
+
+  twice_clear : (place : At) → TableFault document links routers codes.TwiceOnLink place → IsClash (AreTwice (network_of_sketch s)) (interface_spots routers) place
+  twice_clear (RouterInterface r j) f = of_plan (λ n. IsClash (AreTwice n) (interface_spots routers) (RouterInterface r j)) f.0 f.1 f.2
+  twice_clear place f = absurd f
+
+  interfaces_ahead : (k m : ℕ) (x y : DraftInterface) → k < m → slice_get s.interfaces k ≡ Some x → slice_get s.interfaces m ≡ Some y → Before (position x.at) (position y.at)
+  interfaces_ahead k m x y less h g = interface_ahead routers k m x.at y.at less (interface_at k x h) (interface_at m y g)
+
+  twice_find : Finds (IsTold document links routers) (code_rows 2 codes.TwiceOnLink).has (none_found codes.TwiceOnLink (twice_in s.interfaces))
+  twice_find =
+      pass_finds (IsTold document links routers) 2 codes.TwiceOnLink (Clashes are_twice s.interfaces) (λ (i : DraftInterface). i.at) s.interfaces (first_clash are_twice [] s.interfaces) (first_clashing are_twice s.interfaces)
+      (λ k m x y less h g. inr (interfaces_ahead k m x y less h g))
+      (λ place c. let (j, y, less, there, meets) = c.so in (twice_told place (j, c.k, interface_at c.k c.x c.at ∙ ap (λ (p : At). Some p) c.stands, less, twice_gives s j c.k y c.x there c.at meets), refl))
+      (λ place f.
+      let (j, k, spot, less, meet) = twice_clear place f.0 in
+      let (a, at, stands) = at_interface k place spot in
+      let (b, there) = get_some s.interfaces j (omega (arith, less, slice_get_within s.interfaces k a at)) in
+      record { k = k; x = a; at = at; so = (j, b, less, there, twice_takes s j k b a there at meet); stands = stands })
+
+  -- addresses
+  abbrev IsAddressClash : Network → At → Type 0
+  IsAddressClash n place = IsClash (HaveOneAddress n) (interface_spots routers) place ⊎ IsSo (HasOneTwice n) (interface_spots routers) place
+
+  address_told : (place : At) → (k : ℕ) → slice_get (interface_spots routers) k ≡ Some place → IsAddressClash (network_of_sketch s) place → TableFault document links routers codes.DuplicateAddress place
+  address_told place k at c =
+      let (i, n, e) = interface_spot routers k place at in
+      subst (λ (p : At). TableFault document links routers codes.DuplicateAddress p) (sym e) (network_of_sketch s, plan, subst (IsAddressClash (network_of_sketch s)) e c)
+
+  address_clear : (place : At) → TableFault document links routers codes.DuplicateAddress place → IsAddressClash (network_of_sketch s) place
+  address_clear (RouterInterface r j) f = of_plan (λ n. IsAddressClash n (RouterInterface r j)) f.0 f.1 f.2
+  address_clear place f = absurd f
+
+  -- where an address stands
+  address_at : (k : ℕ) (h : Held) → slice_get (held s.interfaces s.also) k ≡ Some h → (d : DraftInterface) × (slice_get s.interfaces h.interface ≡ Some d) × (address_spot s.interfaces h ≡ d.at)
+  address_at k h at = let (d, there) = held_spot s.interfaces s.also k h at in (d, there, rw there refl)
+
+  addresses_ahead : InOrder (address_spot s.interfaces) (held s.interfaces s.also)
+  addresses_ahead k m x y less h g =
+      let (a, at, one) = address_at k x h in
+      let (b, there, two) = address_at m y g in
+      elim (held_order 0 (network_of_sketch s).interfaces s.also k m x y less h g) [
+        | inl ahead ↦ inr (rw (one, two) (interfaces_ahead x.interface y.interface a b ahead at there))
+        | inr same ↦ inl (ap (λ (i : ℕ). unwrap_or (spot_of s.interfaces i) Text) (same.number ∙ sym same.other))
+      ]
+
+  addresses_find : Finds (IsTold document links routers) (code_rows 3 codes.DuplicateAddress).has (none_found codes.DuplicateAddress (taken_address_in s.interfaces s.also))
+  addresses_find =
+      let items : List Held = held s.interfaces s.also in
+      rw (taken_address s.interfaces s.also)
+      (pass_finds (IsTold document links routers) 3 codes.DuplicateAddress (Clashes have_one_address items) (address_spot s.interfaces) items (first_clash have_one_address [] items) (first_clashing have_one_address items)
+      addresses_ahead
+      (λ place c.
+      let (j, y, less, there, meets) = c.so in
+      let (d, at, seen) = address_at c.k c.x c.at in
+      let spot : slice_get (interface_spots routers) c.x.interface ≡ Some place = interface_at c.x.interface d at ∙ ap (λ (p : At). Some p) (sym seen ∙ c.stands) in (
+        address_told place c.x.interface spot (elim (address_gives s j c.k y c.x less there c.at meets) [
+          | inl (i, ahead, one) ↦ inl (i, c.x.interface, spot, ahead, one)
+          | inr twice ↦ inr (c.x.interface, spot, twice)
+        ]),
+        refl,
+      ))
+      (λ place f.
+      elim (address_clear place f.0) [
+        | inl (m, i, spot, less, one) ↦ taken_at place i spot (address_takes s m i less one)
+        | inr (i, spot, twice) ↦ taken_at place i spot (twice_taken s i twice)
+      ]))
+    where
+      taken_at : (place : At) (i : ℕ) → slice_get (interface_spots routers) i ≡ Some place → IsTaken s i → Stood (Clashes have_one_address (held s.interfaces s.also)) (address_spot s.interfaces) (held s.interfaces s.also) place
+      taken_at place i spot (k, x, at, clashes, number) =
+          let (d, listed, seen) = address_at k x at in
+          let (e, its, stands) = at_interface i place spot in
+          let same : d ≡ e = get_item i d e (ap (slice_get s.interfaces) (sym number) ∙ listed) its in
+          record { k = k; x = x; at = at; so = clashes; stands = seen ∙ ap (λ (y : DraftInterface). y.at) same ∙ stands }
+
+  -- own prefixes
+  own_spot : (k i j p r c : ℕ) (kept : Bool) (link via : Option ℕ) → IsPlace (network_of_sketch s) k p (seats.Own r c kept link via) → slice_get (place_spots links routers) k ≡ Some (LinkPrefix i j) → ⊥
+  own_spot k i j p r c kept link via place spot =
+      let n = network_of_sketch s in
+      let on_links = spots_under (codes_of "prefixes") LinkPrefix 1 links in
+      let count : length on_links ≡ length plan.on_links =
+      spots_count (codes_of "prefixes") LinkPrefix 1 0 links
+      ∙ ap (λ (ds : List Data). length (items_under (codes_of "prefixes") 0 ds)) (sym tables)
+      ∙ sym (matched_length IsOnLink plan.on_links (items_under (codes_of "prefixes") 0 plan.links) plan.link_prefixes) in
+      let (q, at, of) = matched_left (IsPlaceOf n) n.places (plan.on_links ++ plan.owned) k _ plan.places place.listed in
+      elim (get_split plan.on_links plan.owned k q at) [
+        | inl here ↦
+            let (x, is, on) = matched_left IsOnLink plan.on_links (items_under (codes_of "prefixes") 0 plan.links) k q plan.link_prefixes here.0 in
+            let seat : seats.Own r c kept link via ≡ seats.Link x.0 = of.seat ∙ on.seat in
+            absurd cc
+        | inr there ↦
+            let past : k ≡ length plan.on_links + there.0 = there.1 in
+            elim (get_split on_links (spots_under (codes_of "own") RouterOwn 1 routers) k (LinkPrefix i j) spot) [
+              | inl early ↦ let less : k < length on_links = early.1 in absurd (omega arith)
+              | inr late ↦
+                  let its = spot_under (codes_of "own") RouterOwn 1 routers late.0 (LinkPrefix i j) late.2 in
+                  let wrong : LinkPrefix i j ≡ RouterOwn (1 + its.n) (suc its.j) = its.is in
+                  absurd cc
+            ]
+      ]
+
+  astray_told : (place : At) → IsSo (IsAstray (network_of_sketch s)) (place_spots links routers) place → IsAstrayAt document links routers place
+  astray_told place c =
+      let (k, at, (p, r, l, h, none)) = c in
+      elim (place_spot links routers k place at) [
+        | inl (i, j, is) ↦ absurd (own_spot k i j p r h.cost h.kept (Some l) h.via h.place (at ∙ ap (λ (x : At). Some x) is))
+        | inr (i, j, is) ↦ subst (IsAstrayAt document links routers) (sym is) (network_of_sketch s, plan, subst (IsSo (IsAstray (network_of_sketch s)) (place_spots links routers)) is c)
+      ]
+
+  astray_clear : (place : At) → IsAstrayAt document links routers place → IsSo (IsAstray (network_of_sketch s)) (place_spots links routers) place
+  astray_clear (RouterOwn r j) f = of_plan (λ n. IsSo (IsAstray n) (place_spots links routers) (RouterOwn r j)) f.0 f.1 f.2
+  astray_clear place f = absurd f
+
+  astrays_find : Finds (IsLast document links routers) (code_rows 5 codes.UnknownLink).has (none_found codes.UnknownLink (astray_in s.interfaces s.places))
+  astrays_find =
+      let test = λ (p : DraftPlace). is_astray s.interfaces p.seat in
+      pass_finds (IsLast document links routers) 5 codes.UnknownLink (Passes test) (λ (p : DraftPlace). p.at) s.places (find test s.places) (first_passing test s.places)
+      (λ k m x y less h g. inr (place_ahead links routers k m x.at y.at less (place_at k x h) (place_at m y g)))
+      (λ place c. (astray_told place (c.k, place_at c.k c.x c.at ∙ ap (λ (p : At). Some p) c.stands, astray_gives s c.k c.x c.at c.so), refl, refl))
+      (λ place f.
+      let (k, spot, its) = astray_clear place f.0 in
+      let (d, at, stands) = at_place k place spot in
+      let (e, there, passes) = astray_takes s k its in
+      let same : e ≡ d = same_Some e d (sym there ∙ at) in
+      record { k = k; x = d; at = at; so = ap test (sym same) ∙ passes; stands = stands })
+
+  -- routers
+  bare_clear : (place : At) → TableFault document links routers codes.NoInterface place → (r : ℕ) × (place ≡ Router r) × IsBare (network_of_sketch s) r
+  bare_clear (Router r) f = (r, refl, subst (λ (m : Network). IsBare m r) (one_plan laws document f.0 (network_of_sketch s) f.1 plan) f.2)
+  bare_clear place f = absurd f
+
+  bare_finds : Finds (IsTold document links routers) (code_rows 4 codes.NoInterface).has (none_found codes.NoInterface (bare_in s.interfaces (length s.routers)))
+  bare_finds = by_search (first_bare s.interfaces 0 (length s.routers)) (search_bare s.interfaces 0 (length s.routers))
+    where
+      as_fault : (o : Found) → (o.pass ≡ 4) × (o.error.code ≡ codes.NoInterface) → IsTold document links routers o → TableFault document links routers codes.NoInterface o.error.place
+      as_fault o same f = subst (λ (d : PlanCode). TableFault document links routers d o.error.place) same.1 f.0
+
+      by_search : (o : Option ℕ) → FoundBare s.interfaces 0 (length s.routers) o → Finds (IsTold document links routers) (code_rows 4 codes.NoInterface).has (none_found codes.NoInterface (option_map (λ r. Router (r + 1)) o))
+      by_search None found = λ o same f.
+          let (r, at, (k, number, less, none)) = bare_clear o.error.place (as_fault o same f) in
+          bare_takes s k (found k (omega arith) (omega arith)) none
+      by_search (Some k) found = (
+        4,
+        ((network_of_sketch s, plan, (k, refl, omega (arith, found.1), bare_gives s k found.2)), refl),
+        (refl, refl),
+        λ o same f before.
+            let (r, at, (m, number, less, none)) = bare_clear o.error.place (as_fault o same f) in
+            let is : o ≡ in_pass 4 codes.NoInterface (Router r) = rw (← at, ← same.1, ← same.0) refl in
+            let mine : Before (ranked (in_pass 4 codes.NoInterface (Router r))) (ranked (in_pass 4 codes.NoInterface (Router (k + 1)))) = subst (λ (e : Found). Before (ranked e) (ranked (in_pass 4 codes.NoInterface (Router (k + 1))))) is before in
+            elim (cases_lt m k) [
+              | inl sooner ↦ bare_takes s m (found.3 m (omega arith) sooner) none
+              | inr ge ↦ not_sooner r (k + 1) (omega arith) mine
+            ],
+      )
+        where
+          not_sooner : (i j : ℕ) → j ≤ i → Before (ranked (in_pass 4 codes.NoInterface (Router i))) (ranked (in_pass 4 codes.NoInterface (Router j))) → ⊥
+          not_sooner i j le (inl b) = omega arith
+          not_sooner i j le (inr (e, inl b)) = omega arith
+          not_sooner i j le (inr (e, inr (e1, inl b))) = omega arith
+          not_sooner i j le (inr (e, inr (e1, inr (e2, inl b)))) = omega arith
+          not_sooner i j le (inr (e, inr (e1, inr (e2, inr (e3, inl b))))) = omega arith
+          not_sooner i j le (inr (e, inr (e1, inr (e2, inr (e3, inr (e4, inl b)))))) = omega arith
+          not_sooner i j le (inr (e, inr (e1, inr (e2, inr (e3, inr (e4, inr (e5, b))))))) = b
+
+  -- one pass, in the words of all passes
+  of_pass : {A : Type 0} (n : ℕ) (c : PlanCode) (r : Result A PlanError) → n < 5 → Finds (IsTold document links routers) (code_rows n c).has r → Finds (IsOfTables document links routers) (code_rows n c).has r
+  of_pass n c r less h = told_finds document links routers (code_rows n c).has r (λ o row. let same : o.pass ≡ n = row.0 in omega arith) h
+
+  last_finds : Finds (IsOfTables document links routers) (code_rows 5 codes.UnknownLink).has (none_found codes.UnknownLink (astray_in s.interfaces s.places))
+  last_finds =
+      finds_in (IsLast document links routers) (IsOfTables document links routers) (code_rows 5 codes.UnknownLink).has (code_rows 5 codes.UnknownLink).has (none_found codes.UnknownLink (astray_in s.interfaces s.places))
+      (λ e f. inr f) (λ e row. row) take astrays_find
+    where
+      take : (o : Found) → (o.pass ≡ 5) × (o.error.code ≡ codes.UnknownLink) → IsOfTables document links routers o → IsLast document links routers o × ((o.pass ≡ 5) × (o.error.code ≡ codes.UnknownLink))
+      take o row (inl f) = let late : o.pass ≡ 5 = row.0 in let early : o.pass ≡ 0 = f.1 ∙ ap pass_of row.1 in absurd (omega arith)
+      take o row (inr f) = (f, row)
+
+  pub passes_find : Finds (IsOfTables document links routers) pass_rows.has (second_passes s)
+  unfolding second_passes
+  passes_find =
+      let F = IsOfTables document links routers in
+      bind_rows F (code_rows 1 codes.DuplicatePrefix).has last_four (none_found codes.DuplicatePrefix (duplicate_in s.interfaces s.places)) _ (λ e h. code_high 1 codes.DuplicatePrefix e 2 h (omega arith)) (of_pass 1 codes.DuplicatePrefix _ (omega arith) duplicates_find) (λ a is_a.
+      bind_rows F (code_rows 2 codes.TwiceOnLink).has last_three (none_found codes.TwiceOnLink (twice_in s.interfaces)) _ (λ e h. code_high 2 codes.TwiceOnLink e 3 h (omega arith)) (of_pass 2 codes.TwiceOnLink _ (omega arith) twice_find) (λ b is_b.
+      bind_rows F (code_rows 3 codes.DuplicateAddress).has last_two (none_found codes.DuplicateAddress (taken_address_in s.interfaces s.also)) _ (λ e h. code_high 3 codes.DuplicateAddress e 4 h (omega arith)) (of_pass 3 codes.DuplicateAddress _ (omega arith) addresses_find) (λ c is_c.
+      bind_rows F (code_rows 4 codes.NoInterface).has (code_rows 5 codes.UnknownLink) (none_found codes.NoInterface (bare_in s.interfaces (length s.routers))) _ (λ e h. code_high 4 codes.NoInterface e 5 h (omega arith)) (of_pass 4 codes.NoInterface _ (omega arith) bare_finds) (λ d is_d.
+      last_finds))))

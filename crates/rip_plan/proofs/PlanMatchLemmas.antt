@@ -1,0 +1,322 @@
+-- A plan that was read is matched item by item with the document.
+use Rattle.std.proofs.Common.{◌≡◌, ℕ, ◌+◌, ◌-◌, List, [], ◌∷◌, ◌++◌, map, append_assoc, Some, Ok, refl, sym, ◌∙◌, ap, subst, arith}
+use Rattle.std.specs.Prelude.{codes as codes_of}
+use Rattle.std.proofs.lemmas.Option.{none-some, same_Some}
+use Rattle.std.proofs.lemmas.List.{append-nil, length-map}
+use Rattle.toml.specs.Data.{Data, Members, get_member, table}
+use Rattle.rip_wire.specs.Prefix.{Block}
+use Rattle.rip_plan.specs.declared.draft.DraftInterface.{DraftInterface}
+use Rattle.rip_plan.specs.declared.draft.DraftPlace.{DraftPlace}
+use Rattle.rip_plan.specs.declared.parts.Interface.{Interface}
+use Rattle.rip_plan.specs.declared.parts.Seat.TheVariants as seats
+use Rattle.rip_plan.specs.declared.error.At.TheVariants.{LinkPrefix, RouterInterface, RouterOwn}
+use Rattle.rip_plan.specs.Fault.{steps}
+use Rattle.rip_plan.specs.Fields.{◌&>◌, items_at, root_keys, has_only, some_items, root_fields}
+use Rattle.rip_plan.specs.Draft.{Sketch, prefix_step, link_step, interface_step, own_step, router_step}
+use Rattle.rip_plan.specs.PlanText.{empty, sketch_of}
+use Rattle.rip_plan.specs.Network.{Network, network_in, network_of_sketch}
+use Rattle.rip_plan.specs.PlanOf.{Matched, HasItems, IsAddressOf, AreAlsoOf, IsNameOf, items_under, IsInterfaceOf, Placement, IsOnLink, IsOwned, IsPlaceOf, each_once, PlanOf, IsPlanOfText}
+use Rattle.rip_plan.proofs.BindLemmas.{bind_ok, ok_same}
+use Rattle.rip_plan.proofs.TakenStepLemmas.{with_link, with_router, prefix_taken, link_taken, interface_taken, own_taken, router_taken, text_taken}
+use Rattle.rip_plan.proofs.NumberingLemmas.{numbers}
+use Rattle.rip_plan.proofs.MatchingLemmas.{matched_append, matched_at, map_append}
+use Rattle.rip_plan.proofs.EachOnceLemmas.{numbered_once}
+use Rattle.rip_plan.proofs.ItemLemmas.{get_seen}
+use Rattle.rip_plan.proofs.TableLemmas.{addresses_are, link_table, interface_table, own_table, router_table, then_some, chosen, items_there, text_is}
+use Rattle.rip_plan.proofs.TextLemmas.{TextLaws, address_is, prefix_is, first_named}
+
+abbrev pub placement : DraftPlace → Placement
+placement d = record { prefix = d.prefix; seat = d.seat }
+
+abbrev pub its_interface : DraftInterface → Interface
+its_interface d = d.interface
+
+abbrev pub with_number : ℕ → Data → ℕ × Data
+with_number n d = (n, d)
+
+pub back : (n : ℕ) → n + 1 - 1 ≡ n
+back n = omega arith
+
+-- ---- the prefixes of a link
+
+pub record PrefixesAdded (l : ℕ) (xs : List Data) (s t : Sketch) : Type 0 where
+  pub added : List DraftPlace
+  pub made : t ≡ record s { places = s.places ++ added }
+  pub match : Matched IsOnLink (map placement added) (map (with_number l) xs)
+
+pub prefixes_added : (laws : TextLaws) (l j : ℕ) (xs : List Data) (s t : Sketch) → steps (prefix_step (l + 1)) j xs s ≡ Ok t → PrefixesAdded l xs s t
+prefixes_added laws l j [] s t h = record { added = []; made = sym (ok_same s t h) ∙ ap (λ (ps : List DraftPlace). record s { places = ps }) (sym (append-nil s.places)); match = tt }
+prefixes_added laws l j (x ∷ xs) s t h =
+    let (u, first, others) = bind_ok (prefix_step (l + 1) j x s) (steps (prefix_step (l + 1)) (j + 1) xs) t h in
+    let taken = prefix_taken (l + 1) j x s u first in
+    let rest = prefixes_added laws l (j + 1) xs u t others in
+    let new : DraftPlace = record { prefix = taken.prefix; seat = seats.Link (l + 1 - 1); at = LinkPrefix (l + 1) j } in
+    record {
+      added = new ∷ rest.added;
+      made = rest.made ∙ ap (λ (v : Sketch). record v { places = v.places ++ rest.added }) taken.added.made ∙ ap (λ (ps : List DraftPlace). record s { places = ps }) (append_assoc s.places (new ∷ []) rest.added);
+      match = (record { text = taken.text; is_text = text_is x taken.text taken.is_text; prefix = prefix_is laws taken.text taken.prefix taken.parsed; seat = ap seats.Link (back l) }, rest.match);
+    }
+
+-- ---- links
+
+pub record LinksAdded (k : ℕ) (xs : List Data) (s t : Sketch) : Type 0 where
+  pub names : List (List ℕ)
+  pub added : List DraftPlace
+  pub made : t ≡ record s { links = s.links ++ names; places = s.places ++ added }
+  pub named : Matched IsNameOf names xs
+  pub placed : Matched IsOnLink (map placement added) (items_under (codes_of "prefixes") k xs)
+
+pub links_added : (laws : TextLaws) (k : ℕ) (xs : List Data) (s t : Sketch) → steps link_step (k + 1) xs s ≡ Ok t → LinksAdded k xs s t
+links_added laws k [] s t h = record {
+  names = [];
+  added = [];
+  made = sym (ok_same s t h) ∙ ap (λ (ls : List (List ℕ)). record s { links = ls }) (sym (append-nil s.links)) ∙ ap (λ (ps : List DraftPlace). record s { links = s.links ++ []; places = ps }) (sym (append-nil s.places));
+  named = tt;
+  placed = tt;
+}
+links_added laws k (x ∷ xs) s t h =
+    let (u, first, others) = bind_ok (link_step (k + 1) x s) (steps link_step (k + 1 + 1) xs) t h in
+    let taken = link_taken (k + 1) x s u first in
+    let fields = link_table x taken.name taken.prefixes taken.fields in
+    let inner = prefixes_added laws k 1 taken.prefixes (with_link taken.name s) u taken.others in
+    let rest = links_added laws (k + 1) xs u t others in
+    record {
+      names = taken.name ∷ rest.names;
+      added = inner.added ++ rest.added;
+      made = rest.made
+          ∙ ap (λ (v : Sketch). record v { links = v.links ++ rest.names; places = v.places ++ rest.added }) inner.made
+          ∙ ap (λ (ls : List (List ℕ)). record s { links = ls; places = (s.places ++ inner.added) ++ rest.added }) (append_assoc s.links (taken.name ∷ []) rest.names)
+          ∙ ap (λ (ps : List DraftPlace). record s { links = s.links ++ taken.name ∷ rest.names; places = ps }) (append_assoc s.places inner.added rest.added);
+      named = (fields.named, rest.named);
+      placed = rw (map_append placement inner.added rest.added, fields.prefixes_are)
+          (matched_append IsOnLink (map placement inner.added) (map placement rest.added) (map (with_number k) taken.prefixes) (items_under (codes_of "prefixes") (k + 1) xs) inner.match rest.placed);
+    }
+
+-- ---- the interfaces and the own prefixes of a router
+
+pub record InterfacesAdded (r : ℕ) (xs : List Data) (s t : Sketch) : Type 0 where
+  pub added : List DraftInterface
+  pub further : List (List ℕ)
+  pub made : t ≡ record s { interfaces = s.interfaces ++ added; also = s.also ++ further }
+  pub match : Matched (IsInterfaceOf s.links) (map its_interface added) (map (with_number r) xs)
+  pub also_match : Matched AreAlsoOf further (map (with_number r) xs)
+
+pub interfaces_added : (laws : TextLaws) (r j : ℕ) (xs : List Data) (s t : Sketch) → steps (interface_step (r + 1)) j xs s ≡ Ok t → InterfacesAdded r xs s t
+interfaces_added laws r j [] s t h = record {
+  added = [];
+  further = [];
+  made = sym (ok_same s t h)
+      ∙ ap (λ (is : List DraftInterface). record s { interfaces = is }) (sym (append-nil s.interfaces))
+      ∙ ap (λ (l : List (List ℕ)). record s { interfaces = s.interfaces ++ []; also = l }) (sym (append-nil s.also));
+  match = tt;
+  also_match = tt;
+}
+interfaces_added laws r j (x ∷ xs) s t h =
+    let (u, first, others) = bind_ok (interface_step (r + 1) j x s) (steps (interface_step (r + 1)) (j + 1) xs) t h in
+    let taken = interface_taken (r + 1) j x s u first in
+    let fields = interface_table x taken.given taken.cost taken.direct taken.fields taken.costs taken.directs in
+    let rest = interfaces_added laws r (j + 1) xs u t others in
+    let new : DraftInterface = record { interface = record { router = r + 1 - 1; link = taken.link; address = taken.address; cost = taken.cost; direct = taken.direct }; at = RouterInterface (r + 1) j } in
+    record {
+      added = new ∷ rest.added;
+      further = taken.also ∷ rest.further;
+      made = rest.made
+          ∙ ap (λ (v : Sketch). record v { interfaces = v.interfaces ++ rest.added; also = v.also ++ rest.further }) taken.made
+          ∙ ap (λ (is : List DraftInterface). record s { interfaces = is; also = (s.also ++ taken.also ∷ []) ++ rest.further }) (append_assoc s.interfaces (new ∷ []) rest.added)
+          ∙ ap (λ (l : List (List ℕ)). record s { interfaces = s.interfaces ++ new ∷ rest.added; also = l }) (append_assoc s.also (taken.also ∷ []) rest.further);
+      match = (
+        record { router = back r; link_name = taken.given.link; has_link = fields.has.has_link; link = first_named taken.given.link s.links taken.link taken.known; text = taken.given.address; has_address = fields.has.has_address; address = address_is laws taken.given.address taken.address taken.parsed; cost = fields.cost; direct = fields.direct },
+        subst (λ (names : List (List ℕ)). Matched (IsInterfaceOf names) (map its_interface rest.added) (map (with_number r) xs)) (ap (λ (v : Sketch). v.links) taken.made) rest.match,
+      );
+      also_match = (subst (Matched IsAddressOf taken.also) (sym fields.has.also_are) (addresses_are laws taken.given.also taken.also taken.others), rest.also_match);
+    }
+
+pub record OwnsAdded (r : ℕ) (xs : List Data) (s t : Sketch) : Type 0 where
+  pub added : List DraftPlace
+  pub made : t ≡ record s { places = s.places ++ added }
+  pub match : Matched (IsOwned s.links) (map placement added) (map (with_number r) xs)
+
+pub owns_added : (laws : TextLaws) (r j : ℕ) (xs : List Data) (s t : Sketch) → steps (own_step (r + 1)) j xs s ≡ Ok t → OwnsAdded r xs s t
+owns_added laws r j [] s t h = record { added = []; made = sym (ok_same s t h) ∙ ap (λ (ps : List DraftPlace). record s { places = ps }) (sym (append-nil s.places)); match = tt }
+owns_added laws r j (x ∷ xs) s t h =
+    let (u, first, others) = bind_ok (own_step (r + 1) j x s) (steps (own_step (r + 1)) (j + 1) xs) t h in
+    let taken = own_taken (r + 1) j x s u first in
+    let fields = own_table laws x s.links taken.given taken.cost taken.link taken.via taken.fields taken.costs taken.known taken.gateway in
+    let rest = owns_added laws r (j + 1) xs u t others in
+    let new : DraftPlace = record { prefix = taken.prefix; seat = seats.Own (r + 1 - 1) taken.cost taken.given.kept taken.link taken.via; at = RouterOwn (r + 1) j } in
+    record {
+      added = new ∷ rest.added;
+      made = rest.made ∙ ap (λ (v : Sketch). record v { places = v.places ++ rest.added }) taken.added.made ∙ ap (λ (ps : List DraftPlace). record s { places = ps }) (append_assoc s.places (new ∷ []) rest.added);
+      match = (
+        record {
+          text = taken.given.prefix;
+          has_prefix = fields.has.has_prefix;
+          prefix = prefix_is laws taken.given.prefix taken.prefix taken.parsed;
+          cost = taken.cost;
+          is_cost = fields.cost;
+          kept = taken.given.kept;
+          is_kept = fields.has.kept;
+          link = taken.link;
+          is_link = fields.link;
+          via = taken.via;
+          is_via = fields.via;
+          seat = ap (λ (n : ℕ). seats.Own n taken.cost taken.given.kept taken.link taken.via) (back r);
+        },
+        subst (λ (names : List (List ℕ)). Matched (IsOwned names) (map placement rest.added) (map (with_number r) xs)) (ap (λ (v : Sketch). v.links) taken.added.made) rest.match,
+      );
+    }
+
+-- ---- routers
+
+pub record RoutersAdded (k : ℕ) (xs : List Data) (s t : Sketch) : Type 0 where
+  pub names : List (List ℕ)
+  pub interfaces : List DraftInterface
+  pub also : List (List ℕ)
+  pub owned : List DraftPlace
+  pub made : t ≡ record s { routers = s.routers ++ names; interfaces = s.interfaces ++ interfaces; also = s.also ++ also; places = s.places ++ owned }
+  pub named : Matched IsNameOf names xs
+  pub on_links : Matched (IsInterfaceOf s.links) (map its_interface interfaces) (items_under (codes_of "interface") k xs)
+  pub further : Matched AreAlsoOf also (items_under (codes_of "interface") k xs)
+  pub own : Matched (IsOwned s.links) (map placement owned) (items_under (codes_of "own") k xs)
+
+pub routers_added : (laws : TextLaws) (k : ℕ) (xs : List Data) (s t : Sketch) → steps router_step (k + 1) xs s ≡ Ok t → RoutersAdded k xs s t
+routers_added laws k [] s t h = record {
+  names = [];
+  interfaces = [];
+  also = [];
+  owned = [];
+  made = sym (ok_same s t h)
+      ∙ ap (λ (rs : List (List ℕ)). record s { routers = rs }) (sym (append-nil s.routers))
+      ∙ ap (λ (is : List DraftInterface). record s { routers = s.routers ++ []; interfaces = is }) (sym (append-nil s.interfaces))
+      ∙ ap (λ (l : List (List ℕ)). record s { routers = s.routers ++ []; interfaces = s.interfaces ++ []; also = l }) (sym (append-nil s.also))
+      ∙ ap (λ (ps : List DraftPlace). record s { routers = s.routers ++ []; interfaces = s.interfaces ++ []; also = s.also ++ []; places = ps }) (sym (append-nil s.places));
+  named = tt;
+  on_links = tt;
+  further = tt;
+  own = tt;
+}
+routers_added laws k (x ∷ xs) s t h =
+    let (u, first, others) = bind_ok (router_step (k + 1) x s) (steps router_step (k + 1 + 1) xs) t h in
+    let taken = router_taken (k + 1) x s u first in
+    let fields = router_table x taken.name taken.interfaces taken.owns taken.fields in
+    let inner = interfaces_added laws k 1 taken.interfaces (with_router taken.name s) taken.between taken.first in
+    let own = owns_added laws k 1 taken.owns taken.between u taken.second in
+    let rest = routers_added laws (k + 1) xs u t others in
+    let here : u ≡ record s { routers = s.routers ++ taken.name ∷ []; interfaces = s.interfaces ++ inner.added; also = s.also ++ inner.further; places = s.places ++ own.added } =
+    own.made ∙ ap (λ (v : Sketch). record v { places = v.places ++ own.added }) inner.made in
+    let between : taken.between.links ≡ s.links = ap (λ (v : Sketch). v.links) inner.made in
+    record {
+      names = taken.name ∷ rest.names;
+      interfaces = inner.added ++ rest.interfaces;
+      also = inner.further ++ rest.also;
+      owned = own.added ++ rest.owned;
+      made = rest.made
+          ∙ ap (λ (v : Sketch). record v { routers = v.routers ++ rest.names; interfaces = v.interfaces ++ rest.interfaces; also = v.also ++ rest.also; places = v.places ++ rest.owned }) here
+          ∙ ap (λ (rs : List (List ℕ)). record s { routers = rs; interfaces = (s.interfaces ++ inner.added) ++ rest.interfaces; also = (s.also ++ inner.further) ++ rest.also; places = (s.places ++ own.added) ++ rest.owned }) (append_assoc s.routers (taken.name ∷ []) rest.names)
+          ∙ ap (λ (is : List DraftInterface). record s { routers = s.routers ++ taken.name ∷ rest.names; interfaces = is; also = (s.also ++ inner.further) ++ rest.also; places = (s.places ++ own.added) ++ rest.owned }) (append_assoc s.interfaces inner.added rest.interfaces)
+          ∙ ap (λ (l : List (List ℕ)). record s { routers = s.routers ++ taken.name ∷ rest.names; interfaces = s.interfaces ++ (inner.added ++ rest.interfaces); also = l; places = (s.places ++ own.added) ++ rest.owned }) (append_assoc s.also inner.further rest.also)
+          ∙ ap (λ (ps : List DraftPlace). record s { routers = s.routers ++ taken.name ∷ rest.names; interfaces = s.interfaces ++ (inner.added ++ rest.interfaces); also = s.also ++ (inner.further ++ rest.also); places = ps }) (append_assoc s.places own.added rest.owned);
+      named = (fields.named, rest.named);
+      on_links = rw (map_append its_interface inner.added rest.interfaces, fields.interfaces_are)
+          (matched_append (IsInterfaceOf s.links) (map its_interface inner.added) (map its_interface rest.interfaces) (map (with_number k) taken.interfaces) (items_under (codes_of "interface") (k + 1) xs) inner.match
+          (subst (λ (names : List (List ℕ)). Matched (IsInterfaceOf names) (map its_interface rest.interfaces) (items_under (codes_of "interface") (k + 1) xs)) (ap (λ (v : Sketch). v.links) here) rest.on_links));
+      further = rw fields.interfaces_are (matched_append AreAlsoOf inner.further rest.also (map (with_number k) taken.interfaces) (items_under (codes_of "interface") (k + 1) xs) inner.also_match rest.further);
+      own = rw (map_append placement own.added rest.owned, fields.owns_are)
+          (matched_append (IsOwned s.links) (map placement own.added) (map placement rest.owned) (map (with_number k) taken.owns) (items_under (codes_of "own") (k + 1) xs)
+          (subst (λ (names : List (List ℕ)). Matched (IsOwned names) (map placement own.added) (map (with_number k) taken.owns)) between own.match)
+          (subst (λ (names : List (List ℕ)). Matched (IsOwned names) (map placement rest.owned) (items_under (codes_of "own") (k + 1) xs)) (ap (λ (v : Sketch). v.links) here) rest.own));
+    }
+
+-- ---- the document
+
+pub some_items_same : (xs ys : List Data) → some_items xs ≡ Some ys → xs ≡ ys
+some_items_same [] ys h = absurd (none-some ys h)
+some_items_same (x ∷ xs) ys h = same_Some (x ∷ xs) ys h
+
+pub record IsRoot (doc : Members) (links routers : List Data) : Type 0 where
+  pub has_links : HasItems (codes_of "link") (table doc) links
+  pub has_routers : HasItems (codes_of "router") (table doc) routers
+
+pub root_table : (doc : Members) (links routers : List Data) → root_fields doc ≡ Some (links, routers) → IsRoot doc links routers
+unfolding root_fields
+root_table doc links routers h =
+    let h1 = chosen (has_only root_keys doc) _ (links, routers) h in
+    let (a, first, h2) = then_some (items_at (codes_of "link") doc &> some_items) _ (links, routers) h1 in
+    let (b, second, h3) = then_some (items_at (codes_of "router") doc &> some_items) _ (links, routers) h2 in
+    let same = same_Some (a, b) (links, routers) h3 in
+    let (c, given, some) = then_some (items_at (codes_of "link") doc) some_items a first in
+    let (d, given', some') = then_some (items_at (codes_of "router") doc) some_items b second in
+    record {
+      has_links = items_there (get_member (codes_of "link") doc) links (given ∙ ap (λ (xs : List Data). Some xs) (some_items_same c a some ∙ ap (λ (f : List Data × List Data). f.0) same));
+      has_routers = items_there (get_member (codes_of "router") doc) routers (given' ∙ ap (λ (xs : List Data). Some xs) (some_items_same d b some' ∙ ap (λ (f : List Data × List Data). f.1) same));
+    }
+
+places_match : (s : Sketch) → Matched (IsPlaceOf (network_of_sketch s)) (network_of_sketch s).places (map placement s.places)
+places_match s =
+    matched_at (IsPlaceOf (network_of_sketch s)) (network_of_sketch s).places (map placement s.places) ((numbers s.places).count ∙ sym (length-map s.places placement))
+    (λ k q p at there.
+    let (d, is, prefix, seat) = (numbers s.places).each k q at in
+    let (e, its, same) = get_seen placement s.places k p there in
+    let one : d ≡ e = same_Some d e (sym is ∙ its) in
+    let placed : placement d ≡ p = ap placement one ∙ same in
+    record { prefix = prefix ∙ ap (λ (x : Placement). Some x.prefix) placed; seat = seat ∙ ap (λ (x : Placement). x.seat) placed })
+
+-- the tables of a document were taken, and no later pass was asked yet
+pub record TablesTaken (doc : Members) (t : Sketch) : Type 0 where
+  pub links : List Data
+  pub routers : List Data
+  pub root : root_fields doc ≡ Some (links, routers)
+  pub between : Sketch
+  pub first : steps link_step 1 links empty ≡ Ok between
+  pub second : steps router_step 1 routers between ≡ Ok t
+
+pub document_matches : (laws : TextLaws) (doc : Members) (s : Sketch) → TablesTaken doc s → PlanOf doc (network_of_sketch s)
+document_matches laws doc s taken =
+    let root = root_table doc taken.links taken.routers taken.root in
+    let links = links_added laws 0 taken.links empty taken.between taken.first in
+    let routers = routers_added laws 0 taken.routers taken.between s taken.second in
+    let made : s ≡ record { links = links.names; routers = routers.names; interfaces = routers.interfaces; also = routers.also; places = links.added ++ routers.owned } =
+    routers.made ∙ ap (λ (v : Sketch). record v { routers = v.routers ++ routers.names; interfaces = v.interfaces ++ routers.interfaces; also = v.also ++ routers.also; places = v.places ++ routers.owned }) links.made in
+    let names : s.links ≡ taken.between.links = ap (λ (v : Sketch). v.links) routers.made in
+    let split : map placement s.places ≡ map placement links.added ++ map placement routers.owned = ap (λ (v : Sketch). map placement v.places) made ∙ map_append placement links.added routers.owned in
+    record {
+      links = taken.links;
+      has_links = root.has_links;
+      link_names = subst (λ (names : List (List ℕ)). Matched IsNameOf names taken.links) (ap (λ (v : Sketch). v.links) (sym made)) links.named;
+      routers = taken.routers;
+      has_routers = root.has_routers;
+      router_names = subst (λ (names : List (List ℕ)). Matched IsNameOf names taken.routers) (ap (λ (v : Sketch). v.routers) (sym made)) routers.named;
+      interfaces = interfaces_match doc s taken;
+      also = subst (λ (l : List (List ℕ)). Matched AreAlsoOf l (items_under (codes_of "interface") 0 taken.routers)) (ap (λ (v : Sketch). v.also) (sym made)) routers.further;
+      on_links = map placement links.added;
+      link_prefixes = links.placed;
+      owned = map placement routers.owned;
+      own_prefixes = subst (λ (ls : List (List ℕ)). Matched (IsOwned ls) (map placement routers.owned) (items_under (codes_of "own") 0 taken.routers)) (sym names) routers.own;
+      places = subst (λ (ps : List Placement). Matched (IsPlaceOf (network_of_sketch s)) (network_of_sketch s).places ps) split (places_match s);
+      prefixes = numbered_once s.places ∙ ap each_once (blocks_seen s.places ∙ ap (map (λ (p : Placement). p.prefix)) split);
+    }
+  where
+    blocks_seen : (ds : List DraftPlace) → map (λ (d : DraftPlace). d.prefix) ds ≡ map (λ (p : Placement). p.prefix) (map placement ds)
+    blocks_seen [] = refl
+    blocks_seen (d ∷ ds) = ap (λ (l : List Block). d.prefix ∷ l) (blocks_seen ds)
+
+    interfaces_match : (m : Members) (v : Sketch) (was : TablesTaken m v) → Matched (IsInterfaceOf v.links) (map its_interface v.interfaces) (items_under (codes_of "interface") 0 was.routers)
+    interfaces_match m v was =
+        let links = links_added laws 0 was.links empty was.between was.first in
+        let routers = routers_added laws 0 was.routers was.between v was.second in
+        let none : was.between.interfaces ≡ [] = ap (λ (w : Sketch). w.interfaces) links.made in
+        let are : v.interfaces ≡ routers.interfaces = ap (λ (w : Sketch). w.interfaces) routers.made ∙ ap (λ (is : List DraftInterface). is ++ routers.interfaces) none in
+        let names : v.links ≡ was.between.links = ap (λ (w : Sketch). w.links) routers.made in
+        subst (λ (is : List DraftInterface). Matched (IsInterfaceOf v.links) (map its_interface is) (items_under (codes_of "interface") 0 was.routers)) (sym are)
+        (subst (λ (ls : List (List ℕ)). Matched (IsInterfaceOf ls) (map its_interface routers.interfaces) (items_under (codes_of "interface") 0 was.routers)) (sym names) routers.on_links)
+
+matches : (laws : TextLaws) (bytes : List ℕ) (s : Sketch) → sketch_of bytes ≡ Ok s → IsPlanOfText bytes (network_of_sketch s)
+matches laws bytes s h =
+    let taken = text_taken bytes s h in
+    record { document = taken.document; reads = taken.read; plan = document_matches laws taken.document s (record { links = taken.taken.links; routers = taken.taken.routers; root = taken.taken.root; between = taken.taken.between; first = taken.taken.first; second = taken.taken.second }) }
+
+-- of a network that the bytes are
+pub network_matches : (laws : TextLaws) (bytes : List ℕ) (n : Network) → network_in bytes ≡ Ok n → IsPlanOfText bytes n
+network_matches laws bytes n h =
+    let (s, read, made) = bind_ok (sketch_of bytes) (λ t. Ok (network_of_sketch t)) n h in
+    subst (IsPlanOfText bytes) (ok_same (network_of_sketch s) n made) (matches laws bytes s read)

@@ -1,0 +1,276 @@
+-- Where the items of lists stand, and in which order.
+use Rattle.std.proofs.Common.{◌≡◌, ℕ, zero, suc, ◌+◌, ◌<◌, ◌≤◌, ◌⊎◌, inl, inr, List, [], ◌∷◌, ◌++◌, length, length-append, append_assoc, map, Some, refl, sym, ap, ◌∙◌, arith}
+use Rattle.std.specs.Prelude.{slice_get, codes as codes_of}
+use Rattle.std.proofs.lemmas.Option.{none-some, same_Some}
+use Rattle.std.proofs.lemmas.Bool.{cases_lt}
+use Rattle.std.proofs.lemmas.List.{length-map}
+use Rattle.toml.specs.Data.{Data, get}
+use Rattle.rip_plan.specs.declared.error.At.{At}
+use Rattle.rip_plan.specs.declared.error.At.TheVariants.{LinkPrefix, RouterInterface, RouterOwn}
+use Rattle.rip_plan.specs.PlanOf.{items_in, items_under}
+use Rattle.rip_plan.specs.PlanFaults.{nth, IsItem, spots_of, spots_under, place_spots, interface_spots, position, Before}
+use Rattle.rip_plan.proofs.ItemLemmas.{get_split}
+use Rattle.rip_plan.proofs.OrderLemmas.{before_not}
+
+pub nth_from : {A : Type 0} (xs : List A) (i : ℕ) (x : A) → nth xs i ≡ Some x → (1 ≤ i) × (i ≤ length xs)
+nth_from xs zero x h = absurd (none-some x h)
+nth_from xs (suc n) x h = (omega arith, within xs n x h)
+  where
+    within : {A : Type 0} (ys : List A) (m : ℕ) (y : A) → slice_get ys m ≡ Some y → suc m ≤ length ys
+    within [] m y k = absurd (none-some y k)
+    within (z ∷ zs) zero y k = omega arith
+    within (z ∷ zs) (suc m) y k = let le : suc m ≤ length zs = within zs m y k in omega arith
+
+pub item_from : (key : List ℕ) (ds : List Data) (i j : ℕ) (x : Data) → IsItem key ds i j x → (1 ≤ i) × (i ≤ length ds) × (1 ≤ j)
+item_from key ds i j x (d, is, item) = let a = nth_from ds i d is in let b = nth_from (items_in (get key d)) j x item in (a.0, a.1, b.0)
+
+pub get_front : {A : Type 0} (xs : List A) (a : A) (ys : List A) → slice_get (xs ++ a ∷ ys) (length xs) ≡ Some a
+get_front [] a ys = refl
+get_front (x ∷ xs) a ys = get_front xs a ys
+
+spot_at : (at : ℕ → At) (j : ℕ) (ds : List Data) (k : ℕ) (a : At) → slice_get (spots_of at j ds) k ≡ Some a → (a ≡ at (j + k)) × ((x : Data) × (slice_get ds k ≡ Some x))
+spot_at at j [] k a h = absurd (none-some a h)
+spot_at at j (d ∷ ds) zero a h = (sym (same_Some (at j) a h) ∙ ap at (omega arith), (d, refl))
+spot_at at j (d ∷ ds) (suc k) a h = let more = spot_at at (j + 1) ds k a h in (more.0 ∙ ap at (omega arith), more.1)
+
+-- a spot is that of an item
+pub record IsSpot (key : List ℕ) (at : ℕ → ℕ → At) (i : ℕ) (ds : List Data) (a : At) : Type 0 where
+  pub n : ℕ
+  pub j : ℕ
+  pub is : a ≡ at (i + n) (suc j)
+  pub d : Data
+  pub table : slice_get ds n ≡ Some d
+  pub x : Data
+  pub item : slice_get (items_in (get key d)) j ≡ Some x
+
+pub spot_under : (key : List ℕ) (at : ℕ → ℕ → At) (i : ℕ) (ds : List Data) (k : ℕ) (a : At) → slice_get (spots_under key at i ds) k ≡ Some a → IsSpot key at i ds a
+spot_under key at i [] k a h = absurd (none-some a h)
+spot_under key at i (d ∷ ds) k a h =
+    elim (get_split (spots_of (at i) 1 (items_in (get key d))) (spots_under key at (i + 1) ds) k a h) [
+      | inl e ↦
+          let s = spot_at (at i) 1 (items_in (get key d)) k a e.0 in
+          record { n = zero; j = k; is = s.0 ∙ ap (at i) (omega arith) ∙ ap (λ (m : ℕ). at m (suc k)) (omega arith); d = d; table = refl; x = s.1.0; item = s.1.1 }
+      | inr e ↦
+          let s = spot_under key at (i + 1) ds e.0 a e.2 in
+          record { n = suc s.n; j = s.j; is = s.is ∙ ap (λ (m : ℕ). at m (suc s.j)) (omega arith); d = s.d; table = s.table; x = s.x; item = s.item }
+    ]
+
+-- in one table before the other, or in one and the same before it
+abbrev Sooner : ℕ → ℕ → ℕ → ℕ → Type 0
+Sooner i j n m = (i < n) ⊎ ((i ≡ n) × (j < m))
+
+abbrev Ordered : (ℕ → ℕ → At) → Type 0
+Ordered at = (i j n m : ℕ) → Sooner i j n m → Before (position (at i j)) (position (at n m))
+
+abbrev Ahead : At → At → Type 0
+Ahead a b = Before (position a) (position b)
+
+under_ahead : (key : List ℕ) (at : ℕ → ℕ → At) → Ordered at → (i : ℕ) (ds : List Data) (k m : ℕ) (a b : At) → k < m → slice_get (spots_under key at i ds) k ≡ Some a → slice_get (spots_under key at i ds) m ≡ Some b → Ahead a b
+under_ahead key at order i [] k m a b less h g = absurd (none-some a h)
+under_ahead key at order i (d ∷ ds) k m a b less h g =
+    let here = spots_of (at i) 1 (items_in (get key d)) in
+    let later = spots_under key at (i + 1) ds in
+    elim (get_split here later k a h) [
+      | inl e ↦
+          let s = spot_at (at i) 1 (items_in (get key d)) k a e.0 in
+          elim (get_split here later m b g) [
+            | inl f ↦
+                let t = spot_at (at i) 1 (items_in (get key d)) m b f.0 in
+                rw (s.0, t.0) (order i (1 + k) i (1 + m) (inr (refl, omega arith)))
+            | inr f ↦
+                let t = spot_under key at (i + 1) ds f.0 b f.2 in
+                rw (s.0, t.is) (order i (1 + k) (i + 1 + t.n) (suc t.j) (inl (omega arith)))
+          ]
+      | inr e ↦
+          elim (get_split here later m b g) [
+            | inl f ↦ let past : k ≡ length here + e.0 = e.1 in let within : m < length here = f.1 in absurd (omega arith)
+            | inr f ↦
+                let one : k ≡ length here + e.0 = e.1 in
+                let two : m ≡ length here + f.0 = f.1 in
+                under_ahead key at order (i + 1) ds e.0 f.0 a b (omega arith) e.2 f.2
+          ]
+    ]
+
+prefix_order : Ordered LinkPrefix
+prefix_order i j n m (inl h) = inr (refl, inl h)
+prefix_order i j n m (inr h) = inr (refl, inr (h.0, inr (refl, inl h.1)))
+
+interface_order : Ordered RouterInterface
+interface_order i j n m (inl h) = inr (refl, inl h)
+interface_order i j n m (inr h) = inr (refl, inr (h.0, inr (refl, inl h.1)))
+
+own_order : Ordered RouterOwn
+own_order i j n m (inl h) = inr (refl, inl h)
+own_order i j n m (inr h) = inr (refl, inr (h.0, inr (refl, inl h.1)))
+
+pub interface_ahead : (routers : List Data) (k m : ℕ) (a b : At) → k < m → slice_get (interface_spots routers) k ≡ Some a → slice_get (interface_spots routers) m ≡ Some b → Ahead a b
+interface_ahead routers k m a b less h g = under_ahead (codes_of "interface") RouterInterface interface_order 1 routers k m a b less h g
+
+pub place_ahead : (links routers : List Data) (k m : ℕ) (a b : At) → k < m → slice_get (place_spots links routers) k ≡ Some a → slice_get (place_spots links routers) m ≡ Some b → Ahead a b
+place_ahead links routers k m a b less h g =
+    let here = spots_under (codes_of "prefixes") LinkPrefix 1 links in
+    let later = spots_under (codes_of "own") RouterOwn 1 routers in
+    elim (get_split here later k a h) [
+      | inl e ↦
+          elim (get_split here later m b g) [
+            | inl f ↦ under_ahead (codes_of "prefixes") LinkPrefix prefix_order 1 links k m a b less e.0 f.0
+            | inr f ↦
+                let s = spot_under (codes_of "prefixes") LinkPrefix 1 links k a e.0 in
+                let t = spot_under (codes_of "own") RouterOwn 1 routers f.0 b f.2 in
+                let one : 1 < 2 = omega arith in
+                rw (s.is, t.is) (inl one)
+          ]
+      | inr e ↦
+          elim (get_split here later m b g) [
+            | inl f ↦ let past : k ≡ length here + e.0 = e.1 in let within : m < length here = f.1 in absurd (omega arith)
+            | inr f ↦
+                let one : k ≡ length here + e.0 = e.1 in
+                let two : m ≡ length here + f.0 = f.1 in
+                under_ahead (codes_of "own") RouterOwn own_order 1 routers e.0 f.0 a b (omega arith) e.2 f.2
+          ]
+    ]
+
+-- each spot has one number
+spot_once : (spots : List At) → ((k m : ℕ) (a b : At) → k < m → slice_get spots k ≡ Some a → slice_get spots m ≡ Some b → Ahead a b) → (k m : ℕ) (a : At) → slice_get spots k ≡ Some a → slice_get spots m ≡ Some a → k ≡ m
+spot_once spots ahead k m a h g =
+    elim (cases_lt k m) [
+      | inl less ↦ absurd (before_not (position a) (ahead k m a a less h g))
+      | inr le ↦
+          elim (cases_lt m k) [
+            | inl more ↦ absurd (before_not (position a) (ahead m k a a more g h))
+            | inr le' ↦ omega arith
+          ]
+    ]
+
+pub place_once : (links routers : List Data) (k m : ℕ) (a : At) → slice_get (place_spots links routers) k ≡ Some a → slice_get (place_spots links routers) m ≡ Some a → k ≡ m
+place_once links routers k m a h g = spot_once (place_spots links routers) (place_ahead links routers) k m a h g
+
+pub interface_once : (routers : List Data) (k m : ℕ) (a : At) → slice_get (interface_spots routers) k ≡ Some a → slice_get (interface_spots routers) m ≡ Some a → k ≡ m
+interface_once routers k m a h g = spot_once (interface_spots routers) (interface_ahead routers) k m a h g
+
+-- ---- the item of a spot
+
+pub item_of : (key : List ℕ) (ds : List Data) (n j : ℕ) (d x : Data) → slice_get ds n ≡ Some d → slice_get (items_in (get key d)) j ≡ Some x → (i m : ℕ) → i ≡ 1 + n → m ≡ suc j → IsItem key ds i m x
+item_of key ds n j d x h g i m e f =
+    let one : i ≡ suc n = omega arith in
+    rw (one, f) (d, h, g)
+
+pub prefix_item : (links routers : List Data) (k i j : ℕ) → slice_get (place_spots links routers) k ≡ Some (LinkPrefix i j) → (x : Data) × IsItem (codes_of "prefixes") links i j x
+prefix_item links routers k i j h =
+    elim (get_split (spots_under (codes_of "prefixes") LinkPrefix 1 links) (spots_under (codes_of "own") RouterOwn 1 routers) k (LinkPrefix i j) h) [
+      | inl e ↦
+          let s = spot_under (codes_of "prefixes") LinkPrefix 1 links k (LinkPrefix i j) e.0 in
+          let same : LinkPrefix i j ≡ LinkPrefix (1 + s.n) (suc s.j) = s.is in
+          (s.x, item_of (codes_of "prefixes") links s.n s.j s.d s.x s.table s.item i j (cc) (cc))
+      | inr e ↦
+          let s = spot_under (codes_of "own") RouterOwn 1 routers e.0 (LinkPrefix i j) e.2 in
+          let same : LinkPrefix i j ≡ RouterOwn (1 + s.n) (suc s.j) = s.is in
+          absurd cc
+    ]
+
+pub own_item : (links routers : List Data) (k i j : ℕ) → slice_get (place_spots links routers) k ≡ Some (RouterOwn i j) → (x : Data) × IsItem (codes_of "own") routers i j x
+own_item links routers k i j h =
+    elim (get_split (spots_under (codes_of "prefixes") LinkPrefix 1 links) (spots_under (codes_of "own") RouterOwn 1 routers) k (RouterOwn i j) h) [
+      | inl e ↦
+          let s = spot_under (codes_of "prefixes") LinkPrefix 1 links k (RouterOwn i j) e.0 in
+          let same : RouterOwn i j ≡ LinkPrefix (1 + s.n) (suc s.j) = s.is in
+          absurd cc
+      | inr e ↦
+          let s = spot_under (codes_of "own") RouterOwn 1 routers e.0 (RouterOwn i j) e.2 in
+          let same : RouterOwn i j ≡ RouterOwn (1 + s.n) (suc s.j) = s.is in
+          (s.x, item_of (codes_of "own") routers s.n s.j s.d s.x s.table s.item i j (cc) (cc))
+    ]
+
+pub interface_item : (routers : List Data) (k i j : ℕ) → slice_get (interface_spots routers) k ≡ Some (RouterInterface i j) → (x : Data) × IsItem (codes_of "interface") routers i j x
+interface_item routers k i j h =
+    let s = spot_under (codes_of "interface") RouterInterface 1 routers k (RouterInterface i j) h in
+    let same : RouterInterface i j ≡ RouterInterface (1 + s.n) (suc s.j) = s.is in
+    (s.x, item_of (codes_of "interface") routers s.n s.j s.d s.x s.table s.item i j (cc) (cc))
+
+-- ---- spots of lists that are appended
+
+pub spots_of_append : (at : ℕ → At) (j : ℕ) (xs ys : List Data) (n : ℕ) → n ≡ j + length xs → spots_of at j (xs ++ ys) ≡ spots_of at j xs ++ spots_of at n ys
+spots_of_append at j [] ys n e = ap (λ (m : ℕ). spots_of at m ys) (omega arith)
+spots_of_append at j (x ∷ xs) ys n e = ap (λ (spots : List At). at j ∷ spots) (spots_of_append at (j + 1) xs ys n (omega arith))
+
+pub spots_under_append : (key : List ℕ) (at : ℕ → ℕ → At) (i : ℕ) (xs ys : List Data) (n : ℕ) → n ≡ i + length xs → spots_under key at i (xs ++ ys) ≡ spots_under key at i xs ++ spots_under key at n ys
+spots_under_append key at i [] ys n e = ap (λ (m : ℕ). spots_under key at m ys) (omega arith)
+spots_under_append key at i (x ∷ xs) ys n e =
+    ap (λ (spots : List At). spots_of (at i) 1 (items_in (get key x)) ++ spots) (spots_under_append key at (i + 1) xs ys n (omega arith))
+    ∙ sym (append_assoc (spots_of (at i) 1 (items_in (get key x))) (spots_under key at (i + 1) xs) (spots_under key at n ys))
+
+pub get_past : {A : Type 0} (xs ys : List A) (k m : ℕ) → m ≡ length xs + k → slice_get (xs ++ ys) m ≡ slice_get ys k
+get_past {A} [] ys k m e = ap (λ (n : ℕ). slice_get ys n) (omega arith)
+get_past (x ∷ xs) ys k zero e = absurd (omega arith)
+get_past (x ∷ xs) ys k (suc m) e = get_past xs ys k m (omega arith)
+
+pub get_before : {A : Type 0} (xs ys : List A) (k : ℕ) (a : A) → slice_get xs k ≡ Some a → slice_get (xs ++ ys) k ≡ Some a
+get_before [] ys k a h = absurd (none-some a h)
+get_before (x ∷ xs) ys zero a h = h
+get_before (x ∷ xs) ys (suc k) a h = get_before xs ys k a h
+
+of_here : (at : ℕ → At) (j : ℕ) (done : List Data) (x : Data) (rest : List Data) → slice_get (spots_of at j (done ++ x ∷ rest)) (length done) ≡ Some (at (j + length done))
+of_here at j [] x rest = ap (λ (n : ℕ). Some (at n)) (omega arith)
+of_here at j (d ∷ done) x rest = of_here at (j + 1) done x rest ∙ ap (λ (n : ℕ). Some (at n)) (omega arith)
+
+-- the spot of an item has the number of the items before it
+pub under_here : (key : List ℕ) (at : ℕ → ℕ → At) (i : ℕ) (done : List Data) (d : Data) (rest : List Data) (front : List Data) (x : Data) (back : List Data) → items_in (get key d) ≡ front ++ x ∷ back
+    → (n : ℕ) → n ≡ length (spots_under key at i done) + length front → slice_get (spots_under key at i (done ++ d ∷ rest)) n ≡ Some (at (i + length done) (1 + length front))
+under_here key at i [] d rest front x back e n h =
+    let same : n ≡ length front = omega arith in
+    let here : slice_get (spots_of (at i) 1 (items_in (get key d))) (length front) ≡ Some (at i (1 + length front)) = rw e (of_here (at i) 1 front x back) in
+    rw same (get_before (spots_of (at i) 1 (items_in (get key d))) (spots_under key at (i + 1) rest) (length front) (at i (1 + length front)) here ∙ ap (λ (m : ℕ). Some (at m (1 + length front))) (omega arith))
+under_here key at i (y ∷ done) d rest front x back e n h =
+    let count = length-append (spots_of (at i) 1 (items_in (get key y))) (spots_under key at (i + 1) done) in
+    get_past (spots_of (at i) 1 (items_in (get key y))) (spots_under key at (i + 1) (done ++ d ∷ rest)) (length (spots_under key at (i + 1) done) + length front) n (omega (arith, count))
+    ∙ under_here key at (i + 1) done d rest front x back e (length (spots_under key at (i + 1) done) + length front) refl
+    ∙ ap (λ (m : ℕ). Some (at m (1 + length front))) (omega arith)
+
+pub prefix_here : (routers done : List Data) (d : Data) (rest front : List Data) (x : Data) (back : List Data) → items_in (get (codes_of "prefixes") d) ≡ front ++ x ∷ back
+    → (n : ℕ) → n ≡ length (spots_under (codes_of "prefixes") LinkPrefix 1 done) + length front → slice_get (place_spots (done ++ d ∷ rest) routers) n ≡ Some (LinkPrefix (1 + length done) (1 + length front))
+prefix_here routers done d rest front x back e n h =
+    get_before (spots_under (codes_of "prefixes") LinkPrefix 1 (done ++ d ∷ rest)) (spots_under (codes_of "own") RouterOwn 1 routers) n _ (under_here (codes_of "prefixes") LinkPrefix 1 done d rest front x back e n h)
+
+pub own_here : (links done : List Data) (d : Data) (rest front : List Data) (x : Data) (back : List Data) → items_in (get (codes_of "own") d) ≡ front ++ x ∷ back
+    → (n : ℕ) → n ≡ length (spots_under (codes_of "prefixes") LinkPrefix 1 links) + (length (spots_under (codes_of "own") RouterOwn 1 done) + length front) → slice_get (place_spots links (done ++ d ∷ rest)) n ≡ Some (RouterOwn (1 + length done) (1 + length front))
+own_here links done d rest front x back e n h =
+    get_past (spots_under (codes_of "prefixes") LinkPrefix 1 links) (spots_under (codes_of "own") RouterOwn 1 (done ++ d ∷ rest)) (length (spots_under (codes_of "own") RouterOwn 1 done) + length front) n h
+    ∙ under_here (codes_of "own") RouterOwn 1 done d rest front x back e (length (spots_under (codes_of "own") RouterOwn 1 done) + length front) refl
+
+pub nth_here : {A : Type 0} (done : List A) (x : A) (rest : List A) (n : ℕ) → n ≡ 1 + length done → nth (done ++ x ∷ rest) n ≡ Some x
+nth_here done x rest n e = let same : n ≡ suc (length done) = omega arith in rw same (get_front done x rest)
+
+-- ---- one item has a number
+
+pub item_once : (key : List ℕ) (ds : List Data) (i j : ℕ) (x y : Data) → IsItem key ds i j x → IsItem key ds i j y → x ≡ y
+item_once key ds i j x y (d, is, it) (e, js, jt) =
+    let same : d ≡ e = same_Some d e (sym is ∙ js) in
+    same_Some x y (sym it ∙ ap (λ (z : Data). nth (items_in (get key z)) j) same ∙ jt)
+
+pub count_of : (at : ℕ → At) (j : ℕ) (ds : List Data) → length (spots_of at j ds) ≡ length ds
+count_of at j [] = refl
+count_of at j (d ∷ ds) = let more : length (spots_of at (j + 1) ds) ≡ length ds = count_of at (j + 1) ds in omega arith
+
+pub spots_count : (key : List ℕ) (at : ℕ → ℕ → At) (i n : ℕ) (ds : List Data) → length (spots_under key at i ds) ≡ length (items_under key n ds)
+spots_count key at i n [] = refl
+spots_count key at i n (d ∷ ds) =
+    omega (
+      arith,
+      spots_count key at (i + 1) (n + 1) ds,
+      count_of (at i) 1 (items_in (get key d)),
+      length-map {B = ℕ × Data} (items_in (get key d)) (λ (x : Data). (n, x)),
+      length-append (spots_of (at i) 1 (items_in (get key d))) (spots_under key at (i + 1) ds),
+      length-append (map (λ (x : Data). (n, x)) (items_in (get key d))) (items_under key (n + 1) ds),
+    )
+
+-- ---- what stands among places and interfaces
+
+pub place_spot : (links routers : List Data) (k : ℕ) (a : At) → slice_get (place_spots links routers) k ≡ Some a → ((i j : ℕ) × (a ≡ LinkPrefix i j)) ⊎ ((i j : ℕ) × (a ≡ RouterOwn i j))
+place_spot links routers k a h =
+    elim (get_split (spots_under (codes_of "prefixes") LinkPrefix 1 links) (spots_under (codes_of "own") RouterOwn 1 routers) k a h) [
+      | inl e ↦ let s = spot_under (codes_of "prefixes") LinkPrefix 1 links k a e.0 in inl (1 + s.n, suc s.j, s.is)
+      | inr e ↦ let s = spot_under (codes_of "own") RouterOwn 1 routers e.0 a e.2 in inr (1 + s.n, suc s.j, s.is)
+    ]
+
+pub interface_spot : (routers : List Data) (k : ℕ) (a : At) → slice_get (interface_spots routers) k ≡ Some a → (i j : ℕ) × (a ≡ RouterInterface i j)
+interface_spot routers k a h = let s = spot_under (codes_of "interface") RouterInterface 1 routers k a h in (1 + s.n, suc s.j, s.is)

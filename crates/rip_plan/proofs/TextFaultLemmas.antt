@@ -1,0 +1,393 @@
+-- The first fault of a text is the one that is told, and a text that is read has none.
+use Rattle.std.proofs.Common.{◌≡◌, ◌≢◌, ℕ, ◌<◌, ◌≤◌, ◌⊎◌, ◌↔◌, inl, inr, List, [], ◌∷◌, ◌++◌, length, Bool, true, false, cond, not, ◌||◌, Option, Some, None, Result, Ok, Err, refl, sym, ap, subst, ◌∙◌, arith}
+use Rattle.std.specs.Prelude.{pos, negsuc, nat_lt, ◌==◌, codes as codes_of}
+use Rattle.std.specs.Result.{result_err}
+use Rattle.std.proofs.lemmas.Option.{none-some, same_Some}
+use Rattle.std.proofs.lemmas.Bool.Decides.{nat_tests}
+use Rattle.toml.specs.Data.{Data, Members, get_member, table, string, integer, float, boolean, datetime, array}
+use Rattle.rip_plan.specs.declared.error.PlanCode.{PlanCode}
+use Rattle.rip_plan.specs.declared.error.PlanCode.TheVariants as codes
+use Rattle.rip_plan.specs.declared.error.PlanError.{PlanError}
+use Rattle.rip_plan.specs.declared.error.At.{At}
+use Rattle.rip_plan.specs.declared.error.At.TheVariants.{Text, Version, Link, LinkPrefix, Router, RouterInterface, RouterOwn}
+use Rattle.rip_plan.specs.Answers.{first_fault}
+use Rattle.rip_plan.specs.Codes.{number_of_code}
+use Rattle.rip_plan.specs.Draft.{Sketch, link_step, router_step}
+use Rattle.rip_plan.specs.Fault.{fault, ◌>>=◌, steps, wanted}
+use Rattle.rip_plan.specs.Fields.{is_version, root_fields}
+use Rattle.rip_plan.specs.Network.{Network, network_of_sketch}
+use Rattle.rip_plan.specs.Passes.{second_passes}
+use Rattle.rip_plan.specs.PlanOf.{HasItems, PlanOf, IsPlanOfText}
+use Rattle.rip_plan.specs.PlanText.{empty, document_of, sketch_of_document, sketch_of}
+use Rattle.rip_plan.specs.PlanFaults.{IsText, HasTables, TableFault, FaultAt, AstrayAt, IsFound, IsFault, PlanFault, Before, pass_of, rank, place_spots, interface_spots, spots_under}
+use Rattle.rip_plan.specs.Relations.{IsLawful}
+use Rattle.rip_plan.proofs.BindLemmas.{bind_ok}
+use Rattle.rip_plan.proofs.FaultRowLemmas.{IsAstrayAt, IsOfTables, IsTold, covers, told_finds, first_rows, first_high, first_sooner, links_rows, links_high, routers_rows, pass_rows, table_rows}
+use Rattle.rip_plan.proofs.FindingLemmas.{Found, ranked, row_at, Rows, row_then, Finds, finds_in, guard_finds, want_finds, bind_rows}
+use Rattle.rip_plan.proofs.ItemLemmas.{or_false}
+use Rattle.rip_plan.proofs.LawfulPlanLemmas.{lawful, not_false}
+use Rattle.rip_plan.proofs.LinkFaultLemmas.{links_find}
+use Rattle.rip_plan.proofs.OnePlanLemmas.{items_same}
+use Rattle.rip_plan.proofs.OrderLemmas.{before_not, before_trans, before_or}
+use Rattle.rip_plan.proofs.PassFaultLemmas.{passes_find}
+use Rattle.rip_plan.proofs.PlanMatchLemmas.{root_table, document_matches, network_matches}
+use Rattle.rip_plan.proofs.RouterFaultLemmas.{routers_find}
+use Rattle.rip_plan.proofs.TakenSpotLemmas.{place_ats, interface_ats, links_stand, routers_stand}
+use Rattle.rip_plan.proofs.TextLemmas.{TextLaws}
+use Rattle.rip_plan.specs.DocumentTables.{IsRoot}
+use Rattle.rip_plan.proofs.DocumentTableLemmas.{root_told, root_not}
+
+-- ---- the tables
+
+module _ (laws : TextLaws) (document : Members) (links routers : List Data) (root : root_fields document ≡ Some (links, routers)) where
+  tables_find : Finds (IsOfTables document links routers) table_rows.has (steps link_step 1 links empty >>= steps router_step 1 routers >>= (λ s. second_passes s >>= (λ _. Ok s)))
+  tables_find =
+      let F = IsOfTables document links routers in
+      let T = IsTold document links routers in
+      bind_rows F first_rows.has pass_rows (steps link_step 1 links empty >>= steps router_step 1 routers) (λ s. second_passes s >>= (λ _. Ok s)) (λ e h. first_high e h)
+      (told_finds document links routers first_rows.has (steps link_step 1 links empty >>= steps router_step 1 routers) first_sooner
+      (bind_rows T links_rows.has routers_rows (steps link_step 1 links empty) (steps router_step 1 routers) (λ e h. links_high e h) (links_find laws document links routers) (λ w is. routers_find laws document links routers w is)))
+      (λ s taken.
+      let (w, first, second) = bind_ok (steps link_step 1 links empty) (steps router_step 1 routers) s taken in
+      let plan : PlanOf document (network_of_sketch s) = document_matches laws document s (record { links = links; routers = routers; root = root; between = w; first = first; second = second }) in
+      let one = links_stand 1 links empty w first in
+      let two = routers_stand 1 routers w s second in
+      let placed : place_ats s ≡ place_spots links routers = two.places ∙ ap (λ (l : List At). l ++ spots_under (codes_of "own") RouterOwn 1 routers) one.places in
+      let listed : interface_ats s ≡ interface_spots routers = two.interfaces ∙ ap (λ (l : List At). l ++ spots_under (codes_of "interface") RouterInterface 1 routers) one.interfaces in
+      let tables : plan.links ≡ links = items_same (codes_of "link") (table document) plan.links links plan.has_links (root_table document links routers root).has_links in
+      then_ok F s (second_passes s) (passes_find laws document links routers s plan placed listed tables))
+    where
+      then_ok : (F : Found → Type 0) (s : Sketch) (r : Result (Unit {0}) PlanError) → Finds F pass_rows.has r → Finds F pass_rows.has (r >>= (λ _. Ok s))
+      then_ok F s (Ok x) h = h
+      then_ok F s (Err e) h = h
+
+-- ---- the document
+
+abbrev IsTextFault : List ℕ → Found → Type 0
+IsTextFault bytes o = IsFound bytes o.pass o.error
+
+-- a fault of a text whose document is at hand
+data Kind (bytes : List ℕ) (o : Found) : Type 0 where
+  long : o ≡ row_at codes.Limit Text → Kind bytes o
+  not_document : o ≡ row_at codes.Syntax Text → length bytes ≤ 1048576 → document_of bytes ≡ None → Kind bytes o
+  of_document : (document : Members) → IsText bytes document → Kind bytes o
+
+-- an error of the pass of its code
+pass_same : (pass : ℕ) (c : PlanCode) (place : At) → pass ≡ pass_of c → record { pass = pass; error = fault c place } ≡ row_at c place
+pass_same pass c place same = ap (λ (n : ℕ). record { pass = n; error = fault c place }) same
+
+kind : (bytes : List ℕ) (pass : ℕ) (c : PlanCode) (place : At) → IsFound bytes pass (fault c place) → Kind bytes (record { pass = pass; error = fault c place })
+kind bytes pass codes.Syntax Text (inl h) = not_document (pass_same pass codes.Syntax Text h.1) h.0.0 h.0.1
+kind bytes pass codes.Version Version (inl h) = of_document h.0.0 h.0.1
+kind bytes pass codes.Key Text (inl h) = of_document h.0.0 h.0.1
+kind bytes pass codes.Limit Text (inl h) = long (pass_same pass codes.Limit Text h.1)
+kind bytes pass c place (inl h) = of_document h.0.0 h.0.3.text
+kind bytes pass c (RouterOwn r j) (inr h) = of_document h.0.0 h.0.3.text
+kind bytes pass c place (inr h) = absurd h.0
+
+-- a fault of a place where nothing is astray
+in_table : (bytes : List ℕ) (pass : ℕ) (c : PlanCode) (place : At) → (AstrayAt bytes place → ⊥) → IsFound bytes pass (fault c place) → FaultAt bytes c place
+in_table bytes pass c place none (inl h) = h.0
+in_table bytes pass c place none (inr h) = absurd (none h.0)
+
+-- ---- the version
+
+pub version_is : (o : Option Data) → is_version o ≡ true → o ≡ Some (integer (pos 1))
+version_is None h = absurd cc
+version_is (Some (integer (pos n))) h = let one : n ≡ 1 = grind (arith, nat_tests) in ap (λ (m : ℕ). Some (integer (pos m))) one
+version_is (Some (integer (negsuc n))) h = absurd cc
+version_is (Some (string t)) h = absurd cc
+version_is (Some (table ms)) h = absurd cc
+version_is (Some (float x)) h = absurd cc
+version_is (Some (boolean b)) h = absurd cc
+version_is (Some (datetime t)) h = absurd cc
+version_is (Some (array ds)) h = absurd cc
+
+pub version_told : (o : Option Data) → not (is_version o) ≡ true → o ≢ Some (integer (pos 1))
+version_told o h same = by_test (is_version o) (ap is_version same) h
+  where
+    by_test : (b : Bool) → b ≡ true → not b ≡ true → ⊥
+    by_test true e f = cc
+    by_test false e f = cc
+
+-- ---- all faults of a document
+
+pub same_document : (bytes : List ℕ) (document other : Members) → document_of bytes ≡ Some document → IsText bytes other → other ≡ document
+same_document bytes document other h text = same_Some other document (sym text.reads ∙ h)
+
+-- bytes have one document, with one list of links and one of routers
+module _ (bytes : List ℕ) (document : Members) (links routers : List Data) (has : HasTables bytes document links routers) where
+  pub one_tables : (other : Members) (ls rs : List Data) → HasTables bytes other ls rs → (other ≡ document) × (ls ≡ links) × (rs ≡ routers)
+  one_tables other ls rs h =
+      let same = same_document bytes document other has.text.reads h.text in
+      let its_links : HasItems (codes_of "link") (table document) ls = subst (λ (m : Members). HasItems (codes_of "link") (table m) ls) same h.has_links in
+      let its_routers : HasItems (codes_of "router") (table document) rs = subst (λ (m : Members). HasItems (codes_of "router") (table m) rs) same h.has_routers in
+      (same, items_same (codes_of "link") (table document) ls links its_links has.has_links, items_same (codes_of "router") (table document) rs routers its_routers has.has_routers)
+
+  pub one_fault : (c : PlanCode) (place : At) (other : Members) (ls rs : List Data) → HasTables bytes other ls rs → TableFault other ls rs c place → TableFault document links routers c place
+  one_fault c place other ls rs h f =
+      let (one, two, three) = one_tables other ls rs h in
+      subst (λ (l : List Data). TableFault document links l c place) three
+      (subst (λ (l : List Data). TableFault document l rs c place) two
+      (subst (λ (m : Members). TableFault m ls rs c place) one f))
+
+  pub one_astray : (place : At) (other : Members) (ls rs : List Data) → HasTables bytes other ls rs → IsAstrayAt other ls rs place → IsAstrayAt document links routers place
+  one_astray place other ls rs h f =
+      let (one, two, three) = one_tables other ls rs h in
+      subst (λ (l : List Data). IsAstrayAt document links l place) three
+      (subst (λ (l : List Data). IsAstrayAt document l rs place) two
+      (subst (λ (m : Members). IsAstrayAt m ls rs place) one f))
+
+module _ (laws : TextLaws) (bytes : List ℕ) (document : Members) (short : length bytes ≤ 1048576) (reads : document_of bytes ≡ Some document) where
+  text : IsText bytes document
+  text = record { short = short; reads = reads }
+
+  -- the rows of the tables, in the words of all faults
+  module _ (links routers : List Data) (root : root_fields document ≡ Some (links, routers)) where
+    tables : HasTables bytes document links routers
+    tables = let r = root_table document links routers root in record { text = text; has_links = r.has_links; has_routers = r.has_routers }
+
+    -- a fault is one of the text as a whole, or of the tables
+    split_fault : (pass : ℕ) (c : PlanCode) (place : At) → IsFound bytes pass (fault c place) → Before (rank pass (fault c place)) (0 ∷ 1 ∷ 1 ∷ []) ⊎ IsOfTables document links routers (record { pass = pass; error = fault c place })
+    split_fault pass codes.Syntax Text (inl h) = inl (inr (h.1, inl (omega arith)))
+    split_fault pass codes.Version Version (inl h) = inl (inr (h.1, inl (omega arith)))
+    split_fault pass codes.Key Text (inl h) = inl (inr (h.1, inl (omega arith)))
+    split_fault pass codes.Limit Text (inl h) = inl (inr (h.1, inl (omega arith)))
+    split_fault pass c place (inl h) = inr (inl (one_fault bytes document links routers tables c place h.0.0 h.0.1 h.0.2 h.0.3 h.0.4, h.1))
+    split_fault pass c (RouterOwn r j) (inr h) = inr (inr (one_astray bytes document links routers tables (RouterOwn r j) h.0.0 h.0.1 h.0.2 h.0.3 h.0.4, h.1, h.2))
+    split_fault pass c place (inr h) = absurd h.0
+
+    -- a fault of the tables is a fault of the bytes
+    whole_fault : (c : PlanCode) (place : At) → TableFault document links routers c place → FaultAt bytes c place
+    whole_fault codes.Syntax Text h = absurd h
+    whole_fault codes.Version Version h = absurd h
+    whole_fault codes.Key Text h = absurd h
+    whole_fault codes.Limit Text h = absurd h
+    whole_fault c place h = (document, links, routers, tables, h)
+
+    whole_astray : (place : At) → IsAstrayAt document links routers place → AstrayAt bytes place
+    whole_astray (RouterOwn r j) h = (document, links, routers, tables, h)
+    whole_astray place h = absurd h
+
+    whole : (o : Found) → IsOfTables document links routers o → IsTextFault bytes o
+    whole o (inl h) = inl (whole_fault o.error.code o.error.place h.0, h.1)
+    whole o (inr h) = inr (whole_astray o.error.place h.0, h.1, h.2)
+
+  abbrev from_limit : Rows
+  from_limit = row_then (row_at codes.Limit Text) table_rows (inr (refl, inl (omega arith)))
+
+  abbrev from_key : Rows
+  from_key = row_then (row_at codes.Key Text) from_limit (inr (refl, inr (refl, inr (refl, inr (refl, inr (refl, inl (omega arith)))))))
+
+  abbrev from_version : Rows
+  from_version = row_then (row_at codes.Version Version) from_key (inr (refl, inr (refl, inr (refl, inr (refl, inr (refl, inl (omega arith)))))))
+
+  over_told : (links routers : List Data) → (nat_lt 512 (length links) || nat_lt 128 (length routers)) ≡ true → (512 < length links) ⊎ (128 < length routers)
+  over_told links routers h = by_test (nat_lt 512 (length links)) refl h
+    where
+      by_test : (b : Bool) → nat_lt 512 (length links) ≡ b → (b || nat_lt 128 (length routers)) ≡ true → (512 < length links) ⊎ (128 < length routers)
+      by_test true e f = inl (grind (arith, nat_tests))
+      by_test false e f = inr (grind (arith, nat_tests))
+
+  over_clear : (links routers : List Data) → (nat_lt 512 (length links) || nat_lt 128 (length routers)) ≡ false → (512 < length links) ⊎ (128 < length routers) → ⊥
+  over_clear links routers h (inl more) = let parts = or_false (nat_lt 512 (length links)) (nat_lt 128 (length routers)) h in let few : nat_lt 512 (length links) ≡ false = parts.0 in grind (arith, nat_tests)
+  over_clear links routers h (inr more) = let parts = or_false (nat_lt 512 (length links)) (nat_lt 128 (length routers)) h in let few : nat_lt 128 (length routers) ≡ false = parts.1 in grind (arith, nat_tests)
+
+  document_finds : Finds (IsTextFault bytes) from_version.has (sketch_of_document document)
+  unfolding sketch_of_document
+  document_finds =
+      guard_finds (IsTextFault bytes) (not (is_version (get_member (codes_of "version") document))) (row_at codes.Version Version) from_key (inr (refl, inr (refl, inr (refl, inr (refl, inr (refl, inl (omega arith))))))) _
+      (λ bad. inl ((document, text, version_told (get_member (codes_of "version") document) bad), refl))
+      (λ good f.
+      let h = in_table bytes 0 codes.Version Version (λ a. a) f in
+      let same = same_document bytes document h.0 reads h.1 in
+      let its : get_member (codes_of "version") document ≡ Some (integer (pos 1)) = version_is (get_member (codes_of "version") document) (not_false (is_version (get_member (codes_of "version") document)) good) in
+      h.2 (ap (get_member (codes_of "version")) same ∙ its))
+      (λ good.
+      want_finds (IsTextFault bytes) (row_at codes.Key Text) (root_fields document) from_limit (inr (refl, inr (refl, inr (refl, inr (refl, inr (refl, inl (omega arith))))))) _
+      (λ none. inl ((document, text, root_not document none), refl))
+      (λ r is f.
+      let h = in_table bytes 0 codes.Key Text (λ a. a) f in
+      h.2 (subst IsRoot (sym (same_document bytes document h.0 reads h.1)) (root_told document r is)))
+      (λ r is.
+      guard_finds (IsTextFault bytes) (nat_lt 512 (length r.0) || nat_lt 128 (length r.1)) (row_at codes.Limit Text) table_rows (inr (refl, inl (omega arith))) _
+      (λ over. inl (inr (document, r.0, r.1, tables r.0 r.1 is, over_told r.0 r.1 over), refl))
+      (λ room f. limit_clear r.0 r.1 is room (in_table bytes 0 codes.Limit Text (λ a. a) f))
+      (λ room.
+      finds_in (IsOfTables document r.0 r.1) (IsTextFault bytes) table_rows.has table_rows.has (steps link_step 1 r.0 empty >>= steps router_step 1 r.1 >>= (λ s. second_passes s >>= (λ _. Ok s))) (λ o t. whole r.0 r.1 is o t) (λ o here. here)
+      (λ o here f. by_fault r.0 r.1 o here (split_fault r.0 r.1 is o.pass o.error.code o.error.place f))
+      (tables_find laws document r.0 r.1 is))))
+    where
+      limit_clear : (links routers : List Data) → root_fields document ≡ Some (links, routers) → (nat_lt 512 (length links) || nat_lt 128 (length routers)) ≡ false → FaultAt bytes codes.Limit Text → ⊥
+      limit_clear links routers is room (inl more) = let past : 1048576 < length bytes = more in omega arith
+      limit_clear links routers is room (inr (other, ls, rs, has, over)) =
+          let (one, two, three) = one_tables bytes document links routers (tables links routers is) other ls rs has in
+          over_clear links routers room (subst (λ (l : List Data). (512 < length links) ⊎ (128 < length l)) three (subst (λ (l : List Data). (512 < length l) ⊎ (128 < length rs)) two over))
+
+      by_fault : (links routers : List Data) (o : Found) → table_rows.has o → Before (ranked o) (0 ∷ 1 ∷ 1 ∷ []) ⊎ IsOfTables document links routers o → IsOfTables document links routers o × table_rows.has o
+      by_fault links routers o here (inl before) = absurd (table_rows.low o here before)
+      by_fault links routers o here (inr t) = (t, here)
+
+  row_covered : (c : PlanCode) (place : At) → FaultAt bytes c place → from_version.has (row_at c place)
+  row_covered codes.Syntax Text h = absurd (none-some document (sym h.1 ∙ reads))
+  row_covered codes.Version Version h = inl refl
+  row_covered codes.Key Text h = inr (inl refl)
+  row_covered codes.Limit Text h = inr (inr (inl refl))
+  row_covered c place h = inr (inr (inr (covers h.0 h.1 h.2 c place h.4)))
+
+  all_covered : (o : Found) → IsTextFault bytes o → from_version.has o
+  all_covered o (inl h) = subst from_version.has (sym (pass_same o.pass o.error.code o.error.place h.1)) (row_covered o.error.code o.error.place h.0)
+  all_covered o (inr h) = inr (inr (inr (inr (inr (inr (inr (inr (h.2, h.1))))))))
+
+  all_find : Finds (IsTextFault bytes) (λ o. Unit {0}) (sketch_of_document document)
+  all_find = finds_in (IsTextFault bytes) (IsTextFault bytes) from_version.has (λ o. Unit {0}) (sketch_of_document document) (λ e f. f) (λ e r. tt) (λ o u f. (f, all_covered o f)) document_finds
+
+-- ---- the text
+
+text_finds : (laws : TextLaws) (bytes : List ℕ) → Finds (IsTextFault bytes) (λ o. Unit {0}) (sketch_of bytes)
+unfolding sketch_of
+text_finds laws bytes = by_length (nat_lt 1048576 (length bytes)) refl
+  where
+    past_long : 1048576 < length bytes → (o : Found) → Kind bytes o → Before (ranked o) (ranked (row_at codes.Limit Text)) → ⊥
+    past_long more o (long same) before = before_not (ranked (row_at codes.Limit Text)) (subst (λ (e : Found). Before (ranked e) (ranked (row_at codes.Limit Text))) same before)
+    past_long more o (not_document same short none) before = omega arith
+    past_long more o (of_document d t) before = let short : length bytes ≤ 1048576 = t.short in omega arith
+
+    not_first : Before (ranked (row_at codes.Limit Text)) (ranked (row_at codes.Syntax Text)) → ⊥
+    not_first (inl b) = omega arith
+    not_first (inr (e, inl b)) = omega arith
+    not_first (inr (e, inr (e1, inl b))) = omega arith
+    not_first (inr (e, inr (e1, inr (e2, inl b)))) = omega arith
+    not_first (inr (e, inr (e1, inr (e2, inr (e3, inl b))))) = omega arith
+    not_first (inr (e, inr (e1, inr (e2, inr (e3, inr (e4, inl b)))))) = omega arith
+    not_first (inr (e, inr (e1, inr (e2, inr (e3, inr (e4, inr (e5, b))))))) = b
+
+    past_syntax : document_of bytes ≡ None → (o : Found) → Kind bytes o → Before (ranked o) (ranked (row_at codes.Syntax Text)) → ⊥
+    past_syntax none o (long same) before = not_first (subst (λ (e : Found). Before (ranked e) (ranked (row_at codes.Syntax Text))) same before)
+    past_syntax none o (not_document same short none') before = before_not (ranked (row_at codes.Syntax Text)) (subst (λ (e : Found). Before (ranked e) (ranked (row_at codes.Syntax Text))) same before)
+    past_syntax none o (of_document d t) before = none-some d (sym none ∙ t.reads)
+
+    by_document : length bytes ≤ 1048576 → (o : Option Members) → document_of bytes ≡ o → Finds (IsTextFault bytes) (λ o. Unit {0}) (wanted (fault codes.Syntax Text) o >>= sketch_of_document)
+    by_document short None e = (0, inl ((short, e), refl), tt, λ o u f before. past_syntax e o (kind bytes o.pass o.error.code o.error.place f) before)
+    by_document short (Some document) e = all_find laws bytes document short e
+
+    by_length : (b : Bool) → nat_lt 1048576 (length bytes) ≡ b → Finds (IsTextFault bytes) (λ o. Unit {0}) (cond b (Err (fault codes.Limit Text)) (wanted (fault codes.Syntax Text) (document_of bytes) >>= sketch_of_document))
+    by_length true e = let more : 1048576 < length bytes = grind (arith, nat_tests) in (0, inl (inl more, refl), tt, λ o u f before. past_long more o (kind bytes o.pass o.error.code o.error.place f) before)
+    by_length false e = by_document (grind (arith, nat_tests)) (document_of bytes) refl
+
+-- ---- a fault is known by its rank
+
+code_from : ℕ → PlanCode
+code_from n =
+    cond (n == 1) codes.Syntax (cond (n == 2) codes.Version (cond (n == 3) codes.Key (cond (n == 4) codes.Name (cond (n == 5) codes.DuplicateName (
+    cond (n == 6) codes.Address (cond (n == 7) codes.Prefix (cond (n == 8) codes.Cost (cond (n == 9) codes.DuplicatePrefix (cond (n == 10) codes.UnknownLink (
+    cond (n == 11) codes.TwiceOnLink (cond (n == 12) codes.DuplicateAddress (cond (n == 13) codes.OutsidePrefix (cond (n == 14) codes.NoInterface (cond (n == 15) codes.Limit codes.Memory))))))))))))))
+
+code_back : (c : PlanCode) → code_from (number_of_code c) ≡ c
+unfolding code_from
+code_back codes.Syntax = refl
+code_back c = refl
+
+error_from : List ℕ → PlanError
+error_from (pass ∷ part ∷ i ∷ group ∷ j ∷ code ∷ []) =
+    fault (code_from code)
+    (cond (part == 0) (cond (code == 2) Version Text) (
+    cond (part == 1) (cond (group == 0) (Link i) (LinkPrefix i j)) (
+    cond (group == 0) (Router i) (cond (group == 1) (RouterInterface i j) (RouterOwn i j)))))
+error_from ns = fault codes.Memory Text
+
+table_rank : (bytes : List ℕ) (pass : ℕ) (c : PlanCode) (place : At) → FaultAt bytes c place → error_from (rank pass (fault c place)) ≡ fault c place
+unfolding error_from
+table_rank bytes pass c (Link i) h = ap (λ (d : PlanCode). fault d (Link i)) (code_back c)
+table_rank bytes pass c (LinkPrefix i j) h = ap (λ (d : PlanCode). fault d (LinkPrefix i j)) (code_back c)
+table_rank bytes pass c (Router r) h = ap (λ (d : PlanCode). fault d (Router r)) (code_back c)
+table_rank bytes pass c (RouterInterface r j) h = ap (λ (d : PlanCode). fault d (RouterInterface r j)) (code_back c)
+table_rank bytes pass c (RouterOwn r j) h = ap (λ (d : PlanCode). fault d (RouterOwn r j)) (code_back c)
+table_rank bytes pass codes.Version Text h = absurd h.4
+table_rank bytes pass codes.Version Version h = ap (λ (d : PlanCode). fault d Version) (code_back codes.Version)
+table_rank bytes pass codes.Syntax Text h = ap (λ (d : PlanCode). fault d Text) (code_back codes.Syntax)
+table_rank bytes pass codes.Key Text h = ap (λ (d : PlanCode). fault d Text) (code_back codes.Key)
+table_rank bytes pass codes.Limit Text h = ap (λ (d : PlanCode). fault d Text) (code_back codes.Limit)
+table_rank bytes pass c place h = absurd h.4
+
+astray_rank : (bytes : List ℕ) (pass : ℕ) (c : PlanCode) (place : At) → AstrayAt bytes place → error_from (rank pass (fault c place)) ≡ fault c place
+unfolding error_from
+astray_rank bytes pass c (RouterOwn r j) h = ap (λ (d : PlanCode). fault d (RouterOwn r j)) (code_back c)
+astray_rank bytes pass c place h = absurd h
+
+from_rank : (bytes : List ℕ) (pass : ℕ) (o : PlanError) → IsFound bytes pass o → error_from (rank pass o) ≡ o
+from_rank bytes pass o (inl h) = table_rank bytes pass o.code o.place h.0
+from_rank bytes pass o (inr h) = astray_rank bytes pass o.code o.place h.0
+
+rank_length : (pass : ℕ) (c : PlanCode) (place : At) → length (rank pass (fault c place)) ≡ 6
+rank_length pass c (Link i) = omega arith
+rank_length pass c place = omega arith
+
+pub fault_first : (laws : TextLaws) (bytes : List ℕ) (e : PlanError) → sketch_of bytes ≡ Err e → PlanFault bytes e
+fault_first laws bytes e h =
+    let found : Finds (IsTextFault bytes) {A = Sketch} (λ o. Unit {0}) (Err e) = subst (λ (r : Result Sketch PlanError). Finds (IsTextFault bytes) (λ o. Unit {0}) r) h (text_finds laws bytes) in
+    record {
+      pass = found.0;
+      found = found.1;
+      first = λ other o f.
+          let lengths : length (rank found.0 e) ≡ length (rank other o) = rank_length found.0 e.code e.place ∙ sym (rank_length other o.code o.place) in
+          elim (before_or (rank found.0 e) (rank other o) lengths) [
+            | inl either ↦
+                elim either [
+                  | inl same ↦ inl (sym (from_rank bytes other o f) ∙ ap error_from (sym same) ∙ from_rank bytes found.0 e found.1)
+                  | inr later ↦ inr later
+                ]
+            | inr sooner ↦ absurd (found.3 (record { pass = other; error = o }) tt f sooner)
+          ];
+    }
+
+pub faultless : (laws : TextLaws) (bytes : List ℕ) (s : Sketch) → sketch_of bytes ≡ Ok s → (e : PlanError) → IsFault bytes e → ⊥
+faultless laws bytes s h e f =
+    let found : Finds (IsTextFault bytes) {A = Sketch} (λ o. Unit {0}) (Ok s) = subst (λ (r : Result Sketch PlanError). Finds (IsTextFault bytes) (λ o. Unit {0}) r) h (text_finds laws bytes) in
+    found (record { pass = f.0; error = e }) tt f.1
+
+-- ---- the laws
+
+pub fault_told : (laws : TextLaws) (bytes : List ℕ) (e : PlanError) → (first_fault bytes ≡ Some e) ↔ PlanFault bytes e
+fault_told laws bytes e = by_sketch (sketch_of bytes) refl
+  where
+    one : (d : PlanError) → PlanFault bytes d → PlanFault bytes e → d ≡ e
+    one d p q =
+        elim (q.first p.pass d p.found) [
+          | inl same ↦ same
+          | inr after ↦
+              elim (p.first q.pass e q.found) [
+                | inl same ↦ sym same
+                | inr later ↦ absurd (before_not (rank p.pass d) (before_trans (rank p.pass d) (rank q.pass e) (rank p.pass d) later after))
+              ]
+        ]
+
+    by_sketch : (r : Result Sketch PlanError) → sketch_of bytes ≡ r → (result_err (sketch_of bytes >>= (λ s. Ok (network_of_sketch s))) ≡ Some e) ↔ PlanFault bytes e
+    by_sketch (Ok s) h = (
+      λ f. absurd (none-some e (ap (λ (r : Result Sketch PlanError). result_err (r >>= (λ s. Ok (network_of_sketch s)))) (sym h) ∙ f)),
+      λ p. absurd (faultless laws bytes s h e (p.pass, p.found)),
+    )
+    by_sketch (Err d) h = (
+      λ f. let same : d ≡ e = same_Some d e (ap (λ (r : Result Sketch PlanError). result_err (r >>= (λ s. Ok (network_of_sketch s)))) (sym h) ∙ f) in subst (PlanFault bytes) same (fault_first laws bytes d h),
+      λ p. ap (λ (r : Result Sketch PlanError). result_err (r >>= (λ s. Ok (network_of_sketch s)))) h ∙ ap (λ (x : PlanError). Some x) (one d (fault_first laws bytes d h) p),
+    )
+
+pub none_told : (laws : TextLaws) (bytes : List ℕ) → (first_fault bytes ≡ None) ↔ ((e : PlanError) → IsFault bytes e → ⊥)
+none_told laws bytes = by_sketch (sketch_of bytes) refl
+  where
+    by_sketch : (r : Result Sketch PlanError) → sketch_of bytes ≡ r → (result_err (sketch_of bytes >>= (λ s. Ok (network_of_sketch s))) ≡ None) ↔ ((e : PlanError) → IsFault bytes e → ⊥)
+    by_sketch (Ok s) h = (
+      λ f. faultless laws bytes s h,
+      λ p. ap (λ (r : Result Sketch PlanError). result_err (r >>= (λ s. Ok (network_of_sketch s)))) h,
+    )
+    by_sketch (Err d) h = (
+      λ f. absurd (none-some d (sym f ∙ ap (λ (r : Result Sketch PlanError). result_err (r >>= (λ s. Ok (network_of_sketch s)))) h)),
+      λ p. let told = fault_first laws bytes d h in absurd (p d (told.pass, told.found)),
+    )
+
+pub plan_stands : (laws : TextLaws) (bytes : List ℕ) → ((e : PlanError) → IsFault bytes e → ⊥) → (n : Network) × IsPlanOfText bytes n × IsLawful n
+plan_stands laws bytes none = by_sketch (sketch_of bytes) refl
+  where
+    by_sketch : (r : Result Sketch PlanError) → sketch_of bytes ≡ r → (n : Network) × IsPlanOfText bytes n × IsLawful n
+    by_sketch (Ok s) h = (network_of_sketch s, network_matches laws bytes (network_of_sketch s) (ap (λ (r : Result Sketch PlanError). r >>= (λ t. Ok (network_of_sketch t))) h), lawful laws bytes s h)
+    by_sketch (Err d) h = let told = fault_first laws bytes d h in absurd (none d (told.pass, told.found))
