@@ -28,7 +28,7 @@ pub struct Refused<'a> {
     pub interface: usize,
     /// Why it is refused; never `Memory`.
     pub error: TableError,
-    /// The response, of which nothing is in the table.
+    /// The response, of which nothing was joined.
     pub datagram: &'a Datagram<'a>,
     ghost response: { kind_of (message_of datagram.now) ≡ Kind.Response },
     ghost refused: { error ≢ TableError.Memory },
