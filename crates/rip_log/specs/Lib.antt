@@ -5,12 +5,12 @@ pub mod Fields
 pub mod FoundLines
 pub mod Gave
 pub mod Held
-pub mod NextCall
-pub mod NextLineCall
 pub mod Lines
 pub mod LogText
 pub mod Logs
 pub mod Marks
+pub mod NextCall
+pub mod NextLineCall
 pub mod Outcomes
 pub mod Pairs
 pub mod Parts

@@ -30,7 +30,7 @@ fn text_at<'a>(table: &'a Table, key: &str) -> Option<&'a str>
 }
 
 /// The items of the list at a key.
-#[tactic(auto, using(crate::proofs::Keys::list_of_items))]
+#[tactic(auto, using(crate::proofs::KeyLemmas::list_of_items))]
 fn list_at<'a>(table: &'a Table, key: &str) -> Option<&'a [Value]>
     ensures { option_map (λ v. map view v.now) result ≡ items_at key.now (table_view table.now) }
 {
@@ -44,7 +44,7 @@ fn list_at<'a>(table: &'a Table, key: &str) -> Option<&'a [Value]>
 }
 
 /// The items of the list at a key, and none where nothing is there; `None` where it is no list.
-#[tactic(auto, using(crate::proofs::Keys::list_of_items))]
+#[tactic(auto, using(crate::proofs::KeyLemmas::list_of_items))]
 fn list_if<'a>(table: &'a Table, key: &str) -> Option<&'a [Value]>
     ensures { option_map (λ v. map view v.now) result
         ≡ items_if (get_member key.now (table_view table.now)) }

@@ -85,8 +85,7 @@ fn write_first<T: MetricTable, K: Sink>(
 }
 
 /// Writes the lines of an unsettled network: those of all places that do not hold, where they were
-/// found, or that of the first. The contract names `all`; the code
-/// sees it by `places`.
+/// found, or that of the first. The contract names `all`, and the code sees it by `places`.
 fn write_unsettled<T: MetricTable, K: Sink>(
     plan: &Plan,
     table: &T,

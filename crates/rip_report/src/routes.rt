@@ -52,7 +52,7 @@ fn counts_text<T: MetricTable>(plan: &Plan, table: &T) -> Line
     text
 }
 
-/// Adds a place as `R P `, by the numbers of its router and its prefix.
+/// Adds a place, of which the numbers are given, as `R P `.
 fn push_pair<T: MetricTable>(text: &mut Line, plan: &Plan, table: &T, router: usize, prefix: usize)
     requires router { router < length plan.now.routers }
     requires prefix { prefix < length (T.state table.now).prefixes }

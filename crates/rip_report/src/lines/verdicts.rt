@@ -53,7 +53,7 @@ pub(crate) fn settled_text<T: MetricTable>(plan: &Plan, table: &T) -> Line
     text
 }
 
-/// Adds a place as `router R prefix P: `, by the numbers of its router and its prefix.
+/// Adds a place, of which the numbers are given, as `router R prefix P: `.
 fn push_place<T: MetricTable>(text: &mut Line, plan: &Plan, table: &T, router: usize, prefix: usize)
     requires router { router < length plan.now.routers }
     requires prefix { prefix < length (T.state table.now).prefixes }
