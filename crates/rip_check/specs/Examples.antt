@@ -291,3 +291,8 @@ chain_route r =
 
 abbrev pub chain_tables : Tables
 chain_tables r p = chain_route r
+
+-- the routers of a row from the one of this number to the first
+abbrev pub down_from : ℕ → List ℕ
+down_from zero = zero ∷ []
+down_from (suc n) = suc n ∷ down_from n

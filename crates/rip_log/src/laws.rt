@@ -1,7 +1,7 @@
 //! Laws of the definitions alone: functions that do nothing, whose contracts hold of every text and
 //! every log.
 
-ghost use Rattle.std.specs.Prelude.{◌≡◌, ◌⊎◌, ◌↔◌, ◌+◌, ◌≤◌, ℕ, List, [], ◌∷◌, ◌++◌, length, Option, Some, None, Result, Ok, Err, false, true};
+ghost use Rattle.std.specs.Prelude.{◌≡◌, ◌⊎◌, ◌↔◌, ◌+◌, ◌^◌, ◌≤◌, ℕ, List, [], ◌∷◌, ◌++◌, length, Option, Some, None, Result, Ok, Err, false, true};
 ghost use Rattle.rip_log.specs.Codes.{is_read};
 ghost use Rattle.rip_log.specs.Cuts.{PassesLines};
 ghost use Rattle.rip_log.specs.Said.{AllSaid, AreAllSaid, HasNoFault, all_said, captured_all, said_at};
@@ -14,13 +14,14 @@ ghost use Rattle.rip_log.specs.declared.error.LogCode.{LogCode};
 ghost use Rattle.rip_log.specs.declared.error.LogError.{LogError};
 ghost use Rattle.rip_log.specs.declared.reader.Record.{Record};
 
-use crate::limits::{MOST_LINE_BYTES, MOST_LINES};
+use crate::limits::{MOST_LINE_BYTES, MOST_LINES, MOST_PASSED_BYTES};
 use rip_wire::laws;
 
 /// The limits of a log.
 pub fn limits()
     ensures bytes { MOST_LINE_BYTES ≡ 2048 }
     ensures lines { MOST_LINES ≡ 1000000 }
+    ensures passed { MOST_PASSED_BYTES + 1 ≡ 2 ^ 64 }
 {}
 
 /// What is computed of a line is what the words of the format say: it is skipped, or is a record, or

@@ -140,7 +140,8 @@ impl<R: Read> Source for FromRead<R> {
         ensures failed { is_err result ≡ has_failed self.new }
         ensures fails_on { has_failed self.old ≡ true → has_failed self.new ≡ true }
         ensures ended { 0 < length buffer.new → (has_ended self.new ≡ true) ↔ (result ≡ Ok 0) }
-        ensures ends_on { has_ended self.old ≡ true → (has_ended self.new ≡ true) × (result ≡ Ok 0) }
+        ensures ends_on { has_ended self.old ≡ true →
+            (has_ended self.new ≡ true) × (result ≡ Ok 0) }
         ensures rests_ended { has_ended self.old ≡ true → self.new ≡ self.old }
         ensures rests_failed { has_failed self.old ≡ true → self.new ≡ self.old }
     {

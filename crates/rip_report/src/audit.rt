@@ -232,11 +232,13 @@ pub fn run_audit<R: Source, K: Sink, S: BuildHasher + Drop>(
     // otherwise the first place that does not hold is named, or the first trouble.
     ensures headline { (text : List ℕ) → IsGiven R.given R.at_end log result.0 text →
         (n : Network) (s : State) → IsAccepted plan.now text n s →
-        IfOk result.1 (AnswersRightly n s (VerdictText n s all) (K.taken out.old) (K.taken out.new)) }
+        IfOk result.1 (AnswersRightly n s (VerdictText n s all)
+        (K.taken out.old) (K.taken out.new)) }
     // The same of all the text that was to come, where its bytes are modelled.
     ensures known { (text : List ℕ) → R.coming log ≡ Some text →
         (n : Network) (s : State) → IsAccepted plan.now text n s →
-        IfOk result.1 (AnswersRightly n s (VerdictText n s all) (K.taken out.old) (K.taken out.new)) }
+        IfOk result.1 (AnswersRightly n s (VerdictText n s all)
+        (K.taken out.old) (K.taken out.new)) }
     // Of a plan that says nothing beside RFC 2453 the paths go over any neighbours.
     ensures plain { (text : List ℕ) → IsGiven R.given R.at_end log result.0 text →
         (n : Network) (s : State) → IsAccepted plan.now text n s → IsPlain n →

@@ -7,15 +7,16 @@ mod troubles;
 ghost use Rattle.std.specs.Prelude.{◌≡◌, ◌≢◌, ◌↔◌, ◌++◌, ℕ, Bool, List, [], Err, IfOk, IsTrue, None, false, true, length, Some};
 ghost use Rattle.rip_plan.specs.Network.{Network};
 ghost use Rattle.rip_plan.specs.PlanFaults.{PlanFault};
+ghost use Rattle.rip_plan.specs.Relations.{IsPlain};
 ghost use Rattle.rip_plan.specs.declared.error.PlanError.{PlanError};
 ghost use Rattle.rip_report.specs.Given.{IsGiven};
 ghost use Rattle.rip_log.specs.Wholes.{Went};
 ghost use Rattle.rip_table.specs.State.{Fits, State};
 ghost use Rattle.rip_check.specs.Expected.{AreExpected};
 ghost use Rattle.rip_check.specs.Firsts.{IsFirstTrouble};
-ghost use Rattle.rip_check.specs.Laws.{ShowsRightTables};
+ghost use Rattle.rip_check.specs.Laws.{OneIsShown, ShowsRightTables};
 ghost use Rattle.rip_check.specs.Verdicts.{IsNextUnsettled, ShowsTables};
-ghost use Rattle.rip_report.specs.AuditText.{AnswersRightly, IsJudged};
+ghost use Rattle.rip_report.specs.AuditText.{AnswersRightly, IsJudged, ShowsPlainRightTables};
 ghost use Rattle.rip_report.specs.ExplainText.{BeginsWithVerdict, ExplainText, ExplainsAll, UnreachableLine};
 ghost use Rattle.rip_report.specs.PlanText.{IsNoText};
 ghost use Rattle.rip_report.specs.ReportText.{IsAccepted, ReportText};
@@ -29,6 +30,7 @@ use crate::report::{Report, run_report};
 use crate::status::{RunError, Status};
 use lines::unreachable_text;
 use places::{FailingPlaces, add_place};
+use rip_check::laws::{one_set_of_tables, plain_paths};
 use rip_check::{Expected, Place2, Unclear, Unsettled, Verdict, judge, least_metric};
 use rip_log::{Sink, Source};
 use rip_plan::Plan;
@@ -236,7 +238,21 @@ pub fn run_explain<R: Source, K: Sink, S: BuildHasher + Drop>(
     // Settled is answered exactly where the log shows right tables, and then packets arrive.
     ensures headline { (text : List ℕ) → IsGiven R.given R.at_end log result.0 text →
         (n : Network) (s : State) → IsAccepted plan.now text n s →
-        IfOk result.1 (AnswersRightly n s (ExplainText n s all) (K.taken out.old) (K.taken out.new)) }
+        IfOk result.1 (AnswersRightly n s (ExplainText n s all)
+        (K.taken out.old) (K.taken out.new)) }
+    // The same of all the text that was to come, where its bytes are modelled.
+    ensures known { (text : List ℕ) → R.coming log ≡ Some text →
+        (n : Network) (s : State) → IsAccepted plan.now text n s →
+        IfOk result.1 (AnswersRightly n s (ExplainText n s all)
+        (K.taken out.old) (K.taken out.new)) }
+    // Of a plan that says nothing beside RFC 2453 the paths go over any neighbours.
+    ensures plain { (text : List ℕ) → IsGiven R.given R.at_end log result.0 text →
+        (n : Network) (s : State) → IsAccepted plan.now text n s → IsPlain n →
+        IfOk result.1 (λ status. (status ≡ Status.Settled) ↔ ShowsPlainRightTables n s) }
+    // No two sets of tables are shown.
+    ensures one_set { (text : List ℕ) → IsGiven R.given R.at_end log result.0 text →
+        (n : Network) (s : State) → IsAccepted plan.now text n s →
+        OneIsShown n s }
     // What each verdict is answered for.
     ensures judged { (text : List ℕ) → IsGiven R.given R.at_end log result.0 text →
         (n : Network) (s : State) → IsAccepted plan.now text n s →
@@ -265,5 +281,7 @@ pub fn run_explain<R: Source, K: Sink, S: BuildHasher + Drop>(
     // Too many bytes, or bytes that are not UTF-8, never give Memory.
     ensures no_text { IsNoText plan.now → result.1 ≢ Err RunError.Memory }
 {
+    one_set_of_tables();
+    plain_paths();
     run_report(alloc, &Explain { all }, plan, log, out, hasher)
 }

@@ -141,7 +141,8 @@ fn judge(
     count: usize,
 ) -> Result<(), TableError>
     requires { interface < length plan.now.interfaces }
-    ensures fault { result ≡ judged (is_foreign plan.now interface entry.now) entry.now known count }
+    ensures fault { result
+        ≡ judged (is_foreign plan.now interface entry.now) entry.now known count }
     ensures low { 1 ≤ entry.now.metric }
     ensures high { entry.now.metric ≤ 16 }
 {

@@ -21,13 +21,15 @@ ghost use Rattle.rip_table.specs.declared.error.TableError.TheVariants.{Changed}
 ghost use Rattle.rip_table.specs.declared.error.CollectError.{CollectError};
 
 use crate::limits::MOST_PREFIXES;
+use crate::tallies::strangers::MOST_STRANGERS;
 use rip_wire::laws;
 
 pub mod examples;
 
-/// The limit of a table.
+/// The limits of a table, and of the strangers that are told of.
 pub fn limits()
-    ensures { MOST_PREFIXES ≡ 2048 }
+    ensures prefixes { MOST_PREFIXES ≡ 2048 }
+    ensures strangers { MOST_STRANGERS ≡ 256 }
 {}
 
 /// The table of a plan in which nothing was heard is a table, and fits the plan.

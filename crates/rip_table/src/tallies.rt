@@ -93,8 +93,8 @@ impl<S: BuildHasher + Drop> Tallies<S> {
     pub(crate) fn add_sent(&mut self, interface: usize, line: u32, sent: Sent)
         requires interface { interface < interfaces_of self.old }
         requires room { HasRoom self.old }
-        ensures heard { (events : List EventAt) (origin : Option Origin) → HasHeard self.old events →
-            HasHeard self.new (events
+        ensures heard { (events : List EventAt) (origin : Option Origin) →
+            HasHeard self.old events → HasHeard self.new (events
             ++ (record { line = line; event = sent_event interface origin sent }) ∷ []) }
         ensures interfaces { interfaces_of self.new ≡ interfaces_of self.old }
     {
@@ -128,7 +128,8 @@ impl<S: BuildHasher + Drop> Tallies<S> {
     ) -> Result<(), AllocError>
         requires room { HasRoom self.old }
         ensures heard { OnOk result ((events : List EventAt) → HasHeard self.old events →
-            HasHeard self.new (events ++ stranger_line (origin_of link.now address) line bad ∷ [])) }
+            HasHeard self.new (events
+            ++ stranger_line (origin_of link.now address) line bad ∷ [])) }
         ensures interfaces { interfaces_of self.new ≡ interfaces_of self.old }
     {
         self.strangers.add(link, address, line, bad)?;
@@ -150,7 +151,8 @@ impl<S: BuildHasher + Drop> Tallies<S> {
     pub(crate) fn add_bad(&mut self, line: u32, code: LogCode)
         requires room { HasRoom self.old }
         ensures heard { (events : List EventAt) → HasHeard self.old events →
-            HasHeard self.new (events ++ (record { line = line; event = bad code None None }) ∷ []) }
+            HasHeard self.new (events
+            ++ (record { line = line; event = bad code None None }) ∷ []) }
         ensures interfaces { interfaces_of self.new ≡ interfaces_of self.old }
     {
         self.counts.add_bad();

@@ -133,20 +133,22 @@ pub(crate) fn read_plan<R: Source>(alloc: Global, file: &mut R) -> Result<Vec<u8
     ensures read { result ≡ Err RunError.Read → R.broken file.new ≡ true }
     ensures mark { result ≢ Err RunError.Read → R.broken file.new ≡ R.broken file.old }
     ensures write { result ≢ Err RunError.Write }
+    // Memory comes only while the file has given no more than a plan may have.
+    ensures memory { result ≡ Err RunError.Memory → (bytes : List ℕ)
+        × (R.given file.new ≡ R.given file.old ++ bytes) × (length bytes ≤ MOST_PLAN_BYTES) }
 {
     let mut bytes = Vec::new(alloc);
-    let Ok(mut piece) = vec![in alloc; 0u8; PIECE_LEN] else {
-        return Err(RunError::Memory);
-    };
     'pieces: while bytes.len() <= MOST_PLAN_BYTES {
-        let Ok(count) = file.pull(piece.as_mut_slice()) else {
+        let len = bytes.len();
+        let Ok(()) = bytes.resize(len + PIECE_LEN, 0u8) else {
+            return Err(RunError::Memory);
+        };
+        let Ok(count) = file.pull(&mut bytes.as_mut_slice()[len..]) else {
             return Err(RunError::Read);
         };
+        bytes.truncate(len + count);
         if count == 0 {
             return Ok(bytes);
-        }
-        if bytes.extend_from_slice(&piece.as_slice()[..count]).is_err() {
-            return Err(RunError::Memory);
         }
     }
     Ok(bytes)
@@ -190,12 +192,14 @@ pub(crate) fn run_on_log<R: Source, K: Sink, S: BuildHasher + Drop>(
     ensures headline { (all : Bool) → command ≡ LogCommand.Audit all →
         (text : List ℕ) → IsGiven R.given R.at_end log result.0 text →
         (n : Network) (s : State) → IsAccepted plan.now text n s →
-        IfOk result.1 (AnswersRightly n s (VerdictText n s all) (K.taken out.old) (K.taken out.new)) }
+        IfOk result.1 (AnswersRightly n s (VerdictText n s all)
+        (K.taken out.old) (K.taken out.new)) }
     // The same of all the text that was to come, where its bytes are modelled.
     ensures known { (all : Bool) → command ≡ LogCommand.Audit all →
         (text : List ℕ) → R.coming log ≡ Some text →
         (n : Network) (s : State) → IsAccepted plan.now text n s →
-        IfOk result.1 (AnswersRightly n s (VerdictText n s all) (K.taken out.old) (K.taken out.new)) }
+        IfOk result.1 (AnswersRightly n s (VerdictText n s all)
+        (K.taken out.old) (K.taken out.new)) }
     // Of a plan that says nothing beside RFC 2453 the paths of `audit` go over any neighbours.
     ensures plain { (all : Bool) → command ≡ LogCommand.Audit all →
         (text : List ℕ) → IsGiven R.given R.at_end log result.0 text →

@@ -3,10 +3,11 @@
 
 ghost use Rattle.std.specs.Prelude.{[], ◌∷◌, None, Some};
 ghost use Rattle.rip_check.specs.Examples as net;
-ghost use Rattle.rip_check.specs.Examples.{IsSettledNetwork, IsUnsettledNetwork, chain, chain_shown, chain_tables, keeper_shown, keeper_tables, leaf_shown, leaf_tables, nowhere_shown, phantom_shown, phantom_tables, route, second_shown, second_tables, slope_shown, slope_tables, triangle_shown, triangle_tables, two_exits_shown, two_exits_tables, with_leaf};
+ghost use Rattle.rip_check.specs.Examples.{IsSettledNetwork, IsUnsettledNetwork, chain, chain_shown, chain_tables, down_from, keeper_shown, keeper_tables, leaf_shown, leaf_tables, nowhere_shown, phantom_shown, phantom_tables, route, second_shown, second_tables, slope_shown, slope_tables, triangle_shown, triangle_tables, two_exits_shown, two_exits_tables, with_leaf};
 ghost use Rattle.rip_check.specs.Paths.{IsLeast, IsPath};
 ghost use Rattle.rip_check.specs.Settled.{Holds};
 ghost use Rattle.rip_check.specs.Tables.{FitsShown};
+ghost use Rattle.rip_check.specs.Walks.{IsWalk};
 ghost use Rattle.rip_check.specs.declared.way.Way.TheVariants.{Here, Over, Unreachable};
 
 /// Three routers with a link between any two: each metric is right.
@@ -37,7 +38,8 @@ pub fn two_exits()
 /// A router that keeps a default route for which it is offered less: it is settled with its own, and
 /// not with the better one.
 pub fn keeper()
-    ensures settled { IsSettledNetwork net.keeper (keeper_shown 5 5) (keeper_tables (route 5 Here)) }
+    ensures settled { IsSettledNetwork net.keeper (keeper_shown 5 5)
+        (keeper_tables (route 5 Here)) }
     ensures unsettled { IsUnsettledNetwork net.keeper (keeper_shown 2 16)
         (keeper_tables (route 2 (Over 2))) }
 {
@@ -78,6 +80,8 @@ pub fn chains()
     ensures metric_15 { IsLeast (chain 15) 0 14 15 }
     ensures sixteen { IsSettledNetwork (chain 16) (chain_shown 16) chain_tables }
     ensures metric_16 { IsLeast (chain 16) 0 15 16 }
+    // A packet of the fifteenth for that prefix goes over all fifteen.
+    ensures walk { IsWalk (chain 15) (chain_shown 15) chain_tables 0 (down_from 14) }
 {
     rip_wire::laws::names();
 }

@@ -84,7 +84,8 @@ impl<R: Source> LogReader<R> {
             (R.broken (source_of self.new) ≡ R.broken (source_of self.old)) }
         ensures behind { OnOk result (lines_behind self.new ≡ lines_behind self.old + 1) }
         ensures err { IfErr result (λ e. (e.code ≡ LogCode.Read)
-            × (e.line ≡ lines_behind self.old + 1) × (lines_behind self.new ≡ lines_behind self.old)) }
+            × (e.line ≡ lines_behind self.old + 1)
+            × (lines_behind self.new ≡ lines_behind self.old)) }
         ensures stopped { has_stopped self.new ≡ is_err result }
         ensures unpulled { R.at_end (source_of self.old) ≡ true →
             source_of self.new ≡ source_of self.old }
@@ -171,7 +172,8 @@ impl<R: Source> LogReader<R> {
     pub fn next_line(&mut self) -> Result<Option<Line<'_>>, LogError>
         // Once the line that it lends is let go, the reader is as `NextLineCall` says.
         ensures* leaves { sem 𝓛 (Rests (the_row R.row) self.entry (λ new.
-            NextLineCall R.given R.coming R.broken R.at_end said_of number_of self.old new result)) }
+            NextLineCall R.given R.coming R.broken R.at_end said_of number_of self.old new
+            result)) }
     {
         match self.advance_line() {
             Err(error) => Err(error),

@@ -116,7 +116,8 @@ impl<S: BuildHasher + Drop> Strangers<S> {
             slice_get (strangers_of (rows_of_strangers self.now.told.entries)) k
             ≡ Some (origin_of link.now address)) }
         ensures none { IfNone result (is_origin_of
-            (strangers_of (rows_of_strangers self.now.told.entries)) (origin_of link.now address) ≡ false) }
+            (strangers_of (rows_of_strangers self.now.told.entries)) (origin_of link.now address)
+            ≡ false) }
     {
         let stranger = StrangerRef { link, address };
         self.told.get_index_of(&stranger)
@@ -146,7 +147,8 @@ impl<S: BuildHasher + Drop> Strangers<S> {
         requires { is_origin_of (strangers_of (rows_of_strangers self.old.told.entries))
             (origin_of link.now address) ≡ false }
         ensures ok { OnOk result (rows_of_strangers self.new.told.entries
-            ≡ rows_of_strangers self.old.told.entries ++ new_row (origin_of link.now address) line bad ∷ []) }
+            ≡ rows_of_strangers self.old.told.entries
+            ++ new_row (origin_of link.now address) line bad ∷ []) }
         ensures err { OnErr result (rows_of_strangers self.new.told.entries
             ≡ rows_of_strangers self.old.told.entries) }
         ensures others { self.new.others ≡ self.old.others }

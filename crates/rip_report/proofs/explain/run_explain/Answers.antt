@@ -1,6 +1,8 @@
+use Rattle.std.proofs.Common.{subst}
+use Rattle.rip_plan.specs.Relations.{IsLawful}
 use Rattle.rip_report.specs.ExplainText.{ExplainText}
 use Rattle.rip_report.proofs.ExplainLemmas.{begins_out, explains_out}
-use Rattle.rip_report.proofs.VerdictLemmas.{headline}
+use Rattle.rip_report.proofs.VerdictLemmas.{headline, plain_headline}
 use Rattle.rip_report.proofs.explain.run_explain.Goals as goal
 
 pub returns-clause-headline : goal.returns-clause-headline
@@ -14,3 +16,19 @@ returns-clause-verdict g c = λ off text given n s accepted.
 pub returns-clause-places : goal.returns-clause-places
 returns-clause-places g c = λ on text given n s accepted.
     explains_out n s c.args.all (g.K.Sink.taken c.args.out.now) (g.K.Sink.taken c.run_report.new.out) c.run_report.result.1 on (c.run_report.ensures.told text given n s accepted)
+
+pub returns-clause-known : goal.returns-clause-known
+returns-clause-known g c =
+    let e = c.run_report.ensures in
+    λ text is n s accepted.
+    let given = e.to_come text is in
+    headline n s (ExplainText n s c.args.all) (g.K.Sink.taken c.args.out.now) (g.K.Sink.taken c.run_report.new.out) c.run_report.result.1 (e.meaning text given n s accepted) (e.told text given n s accepted)
+
+pub returns-clause-one_set : goal.returns-clause-one_set
+returns-clause-one_set g c = λ text given n s accepted.
+    c.one_set_of_tables.ensures.tables n s (subst IsLawful accepted.network accepted.well_formed.lawful)
+
+pub returns-clause-plain : goal.returns-clause-plain
+returns-clause-plain g c =
+    let e = c.run_report.ensures in
+    λ text given n s accepted plain. plain_headline n s c.run_report.result.1 (λ r p route. c.plain_paths.ensures.routes n r p route plain) (e.meaning text given n s accepted)

@@ -1,5 +1,9 @@
-use Rattle.std.proofs.Common.{refl, arith}
-use Rattle.rip_check.specs.Examples.{IsSettledNetwork, chain, chain_shown, chain_tables}
+use Rattle.std.proofs.Common.{◌≡◌, ℕ, ◌+◌, ◌*◌, Some, suc, refl, arith, slice_get, min, unwrap_or, ne_of_lt, lt-suc_self}
+use Rattle.rip_plan.specs.Relations.{IsInterface, IsNeighbour}
+use Rattle.rip_check.specs.Examples.{IsSettledNetwork, chain, chain_shown, chain_tables, interface}
+use Rattle.rip_check.specs.Metrics.{metric_at}
+use Rattle.rip_check.specs.Walks.{GoesTo}
+use Rattle.rip_check.specs.declared.way.Way.TheVariants.{Over}
 use Rattle.rip_check.proofs.CheckingLemmas.{Passes, NamesTested}
 use Rattle.rip_check.proofs.ExampleLemmas.{settled}
 use Rattle.rip_check.proofs.laws.examples.chains.Goals as goal
@@ -27,3 +31,18 @@ returns-clause-sixteen c = settled_16 (λ text. (c.names.ensures.exact text).0)
 
 pub returns-clause-metric_16 : goal.returns-clause-metric_16
 returns-clause-metric_16 c = ((settled_16 (λ text. (c.names.ensures.exact text).0)).right 15 0 (omega arith) (omega arith)).least
+
+-- a router of the row goes to the one before it, whose interface on the link between them is the one before its own
+hop : (r a b : ℕ) → slice_get (chain 15).interfaces (2 * r + 2) ≡ Some (interface (suc r) (suc r) a 1)
+    → slice_get (chain 15).interfaces (2 * r + 1) ≡ Some (interface r (suc r) b 1)
+    → (chain_tables (suc r) 0).way ≡ Over (suc r)
+    → (chain_tables (suc r) 0).metric ≡ min 16 (1 + unwrap_or (metric_at (chain_shown 15) (2 * r + 1) 0) 16)
+    → GoesTo (chain 15) (chain_shown 15) chain_tables 0 (suc r) r
+hop r a b here there way value =
+    let own : IsInterface (chain 15) (2 * r + 2) (suc r) (suc r) 1 = record { address = a; direct = 1; listed = here } in
+    let its : IsInterface (chain 15) (2 * r + 1) r (suc r) 1 = record { address = b; direct = 1; listed = there } in
+    let neighbour : IsNeighbour (chain 15) (suc r) (suc r) r = record { other = ne_of_lt (lt-suc_self r); here = (1, (2 * r + 2, own)); there = (1, (2 * r + 1, its)) } in
+    record { link = suc r; way = way; offer = record { neighbour = neighbour; cost = 1; here = (2 * r + 2, own); interface = 2 * r + 1; its_cost = 1; there = its; value = value } }
+
+pub returns-clause-walk : goal.returns-clause-walk
+returns-clause-walk c = (omega arith, omega arith, (hop 13 _ _ refl refl refl refl, (hop 12 _ _ refl refl refl refl, (hop 11 _ _ refl refl refl refl, (hop 10 _ _ refl refl refl refl, (hop 9 _ _ refl refl refl refl, (hop 8 _ _ refl refl refl refl, (hop 7 _ _ refl refl refl refl, (hop 6 _ _ refl refl refl refl, (hop 5 _ _ refl refl refl refl, (hop 4 _ _ refl refl refl refl, (hop 3 _ _ refl refl refl refl, (hop 2 _ _ refl refl refl refl, (hop 1 _ _ refl refl refl refl, (hop 0 _ _ refl refl refl refl, tt)))))))))))))))
