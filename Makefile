@@ -1,11 +1,12 @@
 # `make` proves and builds the program, `make demo` audits a first network (before a build too), `make test` proves and tests
-# everything, `make install PREFIX=..` installs, `make deb` makes a Debian package.
+# everything, `make wrong-bodies` tries the wrong bodies alone, `make install PREFIX=..` installs, `make deb` makes a Debian
+# package.
 PREFIX ?= /usr/local
 PROGRAM = crates/ripaudit/out/ripaudit
 SHARE = $(DESTDIR)$(PREFIX)/share
 DOC = $(SHARE)/doc/ripaudit
 
-.PHONY: all demo test install uninstall deb clean
+.PHONY: all demo test gate wrong-bodies wrong-bodies-apart install uninstall deb clean
 
 all: $(PROGRAM)
 
@@ -13,11 +14,15 @@ demo:
 	@sh examples/demo
 
 # The first build proves the program and the libraries below it.
-$(PROGRAM): crates.txt HANDLES $(shell find crates/*/src crates/*/specs crates/*/proofs -type f ! -path 'crates/rip_tests/*')
+$(PROGRAM): crates.txt HANDLES $(shell find crates/*/src crates/*/specs crates/*/proofs -type f ! -path 'crates/*_tests/*')
 	@sh packaging/build
 	@touch $(PROGRAM)
 
+# The gate goes from crate to crate, and leaves processors to the wrong bodies, which are tried beside it.
 test:
+	$(MAKE) -j 2 --output-sync=line gate wrong-bodies-apart
+
+gate:
 	rt ci
 	sh tests/run $(PROGRAM)
 	sh tests/limits $(PROGRAM)
@@ -25,6 +30,13 @@ test:
 	sh tests/tools $(PROGRAM)
 	sh tests/growths
 	sh tests/completions
+
+# The wrong bodies that `rt ci` does not try.
+wrong-bodies:
+	tests/wrong-bodies
+
+wrong-bodies-apart:
+	tests/wrong-bodies --apart
 
 # The demo stays out of what is installed: it runs the program of the checkout.
 install: $(PROGRAM)

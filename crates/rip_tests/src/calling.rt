@@ -3,6 +3,5 @@
 mod check;
 mod log;
 mod plan;
-mod report;
 mod table;
 mod wire;

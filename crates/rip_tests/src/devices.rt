@@ -6,7 +6,7 @@ use std::io::{Read, Write};
 
 /// A reader of a text in pieces, which may fail in one of its calls.
 #[derive(Drop)]
-pub(crate) struct Pieces<'a> {
+pub struct Pieces<'a> {
     left: &'a [u8],
     piece: usize,
     calls: usize,
@@ -15,7 +15,7 @@ pub(crate) struct Pieces<'a> {
 
 impl<'a> Pieces<'a> {
     /// A reader that gives pieces of this size.
-    pub(crate) fn new(left: &'a [u8], piece: usize) -> Pieces<'a> {
+    pub fn new(left: &'a [u8], piece: usize) -> Pieces<'a> {
         Pieces {
             left,
             piece,
@@ -25,7 +25,7 @@ impl<'a> Pieces<'a> {
     }
 
     /// A reader of one byte a call, which fails in the call of this number. Calls count from 1.
-    pub(crate) fn failing(left: &'a [u8], fails_at: usize) -> Pieces<'a> {
+    pub fn failing(left: &'a [u8], fails_at: usize) -> Pieces<'a> {
         Pieces {
             left,
             piece: 1,
@@ -35,7 +35,7 @@ impl<'a> Pieces<'a> {
     }
 
     /// How often it was called.
-    pub(crate) fn calls(&self) -> usize {
+    pub fn calls(&self) -> usize {
         self.calls
     }
 }
@@ -56,14 +56,15 @@ impl Read for Pieces<'_> {
 
 /// A reader that gives one byte over and over, so many of them a call, and never ends.
 #[derive(Drop)]
-pub(crate) struct Endless {
+pub struct Endless {
     byte: u8,
     piece: usize,
     calls: usize,
 }
 
 impl Endless {
-    pub(crate) fn new(byte: u8, piece: usize) -> Endless {
+    /// A reader that gives so many of this byte a call.
+    pub fn new(byte: u8, piece: usize) -> Endless {
         Endless {
             byte,
             piece,
@@ -72,7 +73,7 @@ impl Endless {
     }
 
     /// How often it was called.
-    pub(crate) fn calls(&self) -> usize {
+    pub fn calls(&self) -> usize {
         self.calls
     }
 }
@@ -88,14 +89,14 @@ impl Read for Endless {
 
 /// A writer that takes one byte a call, and fails once it has taken some.
 #[derive(Drop)]
-pub(crate) struct Slow {
+pub struct Slow {
     taken: Vec<u8>,
     most: usize,
 }
 
 impl Slow {
     /// A writer that fails once it has taken so many bytes.
-    pub(crate) fn new(alloc: Global, most: usize) -> Slow {
+    pub fn new(alloc: Global, most: usize) -> Slow {
         Slow {
             taken: Vec::new(alloc),
             most,
@@ -103,7 +104,7 @@ impl Slow {
     }
 
     /// What it has taken.
-    pub(crate) fn taken(&self) -> &[u8] {
+    pub fn taken(&self) -> &[u8] {
         self.taken.as_slice()
     }
 }

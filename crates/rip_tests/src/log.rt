@@ -4,14 +4,12 @@ use crate::devices::Pieces;
 use crate::examples::SETTLED;
 use rip_log::{FromRead, LogCode, LogError, LogReader, Record};
 use rip_wire::{Address, Kind};
-use std::alloc::{AllocError, Global};
+use std::alloc::Global;
 use std::process::Abort;
-use std::test::Fail;
 
 mod digits;
 mod faults;
 mod growths;
-mod limits;
 mod lines;
 mod pulls;
 mod sinks;
@@ -33,38 +31,38 @@ fn reader_of<'a>(
 
 /// Expects a record from a link, of a response with this datagram.
 fn expect_record(rt: &impl Abort, record: &Record<'_>, link: &str, datagram: &[u8]) {
-    assert_eq!(rt; record.link, link);
-    assert_eq!(rt; record.datagram.kind(), Kind::Response);
-    assert_eq!(rt; Some(record.datagram.body()), datagram.get(4..));
+    assert!(rt; record.link == link && record.datagram.kind() == Kind::Response);
+    assert!(rt; Some(record.datagram.body()) == datagram.get(4..));
 }
 
-/// Expects that the next record is this line.
-fn expect_line(
-    rt: &impl Abort,
-    reader: &mut LogReader<FromRead<Pieces<'_>>>,
-    line: u32,
-    text: &str,
-) {
-    let (link, rest) = text.split_once(" ").expect(rt, "a link");
-    let (sender, digits) = rest.split_once(" ").expect(rt, "a sender");
+/// The link, the sender and the digits of a line.
+fn fields_of(line: &str) -> Option<(&str, &str, &str)> {
+    let (link, rest) = line.split_once(" ")?;
+    let (sender, digits) = rest.split_once(" ")?;
+    Some((link, sender, digits))
+}
+
+/// Expects that a record is this line, which has a datagram of 44 bytes.
+fn expect_line(rt: &impl Abort, record: &Record<'_>, line: &str) {
+    let (link, sender, digits) = fields_of(line).expect(rt, "three fields");
+    assert!(rt; Some(record.sender()) == Address::parse(sender));
     let mut datagram = [0; 44];
     assert!(rt; hex::decode_to_slice(digits.as_bytes(), &mut datagram).is_ok());
-    let Ok(Some(record)) = reader.next() else {
-        panic!(rt; "no record in line {line}");
-    };
-    assert_eq!(rt; record.line, line);
-    assert_eq!(rt; Some(record.sender()), Address::parse(sender));
-    expect_record(rt, &record, link, &datagram);
+    expect_record(rt, record, link, &datagram);
 }
 
 /// Expects the records of the settled log. It allocates nothing.
 fn expect_settled(rt: &impl Abort, reader: &mut LogReader<FromRead<Pieces<'_>>>) {
-    let mut line = 0u32;
-    for text in SETTLED.lines() {
-        line = line.wrapping_add(1);
-        expect_line(rt, reader, line, text);
+    let mut number = 0u32;
+    for line in SETTLED.lines() {
+        number = number.wrapping_add(1);
+        let Ok(Some(record)) = reader.next() else {
+            panic!(rt; "no record in line {number}");
+        };
+        assert!(rt; record.line == number);
+        expect_line(rt, &record, line);
     }
-    assert_eq!(rt; line, 6);
+    assert!(rt; number == 6);
 }
 
 /// Reads to the end or the first fault, and expects so many records before it, and that it stays.
@@ -87,54 +85,44 @@ fn expect_outcome(
     for fault in [fault, ended, ended] {
         match (reader.next(), fault) {
             (Ok(None), None) => {}
-            (Err(error), Some(fault)) => assert_eq!(rt; error, fault),
+            (Err(error), Some(fault)) => assert!(rt; error == fault),
             _ => panic!(rt; "another outcome"),
         }
     }
 }
 
-/// The settled log with carriage returns.
-fn with_returns(alloc: Global) -> Result<String, AllocError> {
-    let mut text = String::new(alloc);
-    for line in SETTLED.lines() {
-        text.push_str(line)?;
-        text.push_str("\r\n")?;
-    }
-    Ok(text)
-}
-
+/// With the last line's feed, and without it.
 #[test]
-fn records_in_any_pieces(rt: HostRuntime) -> Result<(), Fail> {
-    let returns = with_returns(rt.alloc())?;
-    for whole in [SETTLED, returns.as_str()] {
-        for dropped in 0..2 {
-            let text = &whole.as_bytes()[..whole.len().saturating_sub(dropped)];
-            for piece in PIECES {
-                let mut reader = reader_of(&rt, rt.alloc(), Pieces::new(text, piece));
-                expect_settled(&rt, &mut reader);
-                expect_outcome(&rt, &mut reader, 0, None);
-            }
+fn records_in_any_pieces(rt: HostRuntime) {
+    for text in [SETTLED.as_bytes(), &SETTLED.as_bytes()[..599]] {
+        for piece in PIECES {
+            let mut reader = reader_of(&rt, rt.alloc(), Pieces::new(text, piece));
+            expect_settled(&rt, &mut reader);
+            expect_outcome(&rt, &mut reader, 0, None);
         }
     }
-    Ok(())
 }
 
 /// One response: 10.171.0.0/16 with metric 1.
-const LOWER: &str = "02020000000200000aab0000ffff00000000000000000001";
+const BYTES: [u8; 24] = [
+    2, 2, 0, 0, 0, 2, 0, 0, 10, 171, 0, 0, 255, 255, 0, 0, 0, 0, 0, 0, 0, 0, 0, 1,
+];
 
-const UPPER: &str = "02020000000200000AAB0000FFFF00000000000000000001";
+/// Expects this response of a log.
+fn expect_response(rt: &impl Abort, alloc: Global, log: &str) {
+    let mut reader = reader_of(rt, alloc, Pieces::new(log.as_bytes(), 7));
+    match reader.next() {
+        Ok(Some(record)) => expect_record(rt, &record, "a", &BYTES),
+        _ => panic!(rt; "no record"),
+    }
+}
 
 #[test]
-fn one_record_in_many_forms(rt: HostRuntime) -> Result<(), Fail> {
-    let mut datagram = [0; 24];
-    assert!(rt; hex::decode_to_slice(LOWER.as_bytes(), &mut datagram).is_ok());
-    for (digits, end) in [(LOWER, ""), (LOWER, " \n"), (UPPER, "\t \r\n")] {
-        let text = format!(in rt.alloc(); " \ta\t 10.1.0.1 \t{digits}{end}")?;
-        let mut reader = reader_of(&rt, rt.alloc(), Pieces::new(text.as_bytes(), 7));
-        let Ok(Some(record)) = reader.next() else {
-            panic!(rt; "no record");
-        };
-        expect_record(&rt, &record, "a", &datagram);
+fn one_record_in_two_forms(rt: HostRuntime) {
+    for log in [
+        "a 10.1.0.1 02020000000200000aab0000ffff00000000000000000001",
+        " \ta\t 10.1.0.1 \t02020000000200000AAB0000FFFF00000000000000000001\t \r\n",
+    ] {
+        expect_response(&rt, rt.alloc(), log);
     }
-    Ok(())
 }

@@ -1,23 +1,17 @@
-//! Both tables, on responses that are taken and refused.
+//! Both tables: that they mean the same, what they come to, and what is left where memory is refused.
 
-ghost use Rattle.std.specs.Prelude.{◌≡◌, ◌≤◌, ◌<◌, IfOk, length};
+ghost use Rattle.std.specs.Prelude.{◌≤◌, length};
 ghost use Rattle.rip_table.specs.State.{Fits};
 
-use crate::examples::{metric, plan_of};
-use rip_log::{FromRead, LogReader};
+use crate::fixtures::metric;
 use rip_plan::Plan;
-use rip_table::{CollectCause, GridTable, ListTable, MetricTable, TableError, collect};
+use rip_table::{MetricTable, TableError};
 use rip_wire::{Address, Entry, MOST_ENTRIES, Prefix, read, write_response};
-use std::alloc::Global;
-use std::hash::{BuildHasherDefault, FoldHasher};
 use std::process::Abort;
-use std::test::Fail;
 
 mod events;
 mod growths;
-mod limits;
 mod logs;
-mod orders;
 
 /// Three interfaces on two links, and a prefix.
 const PLAN: &str = r#"version = 1
@@ -88,7 +82,7 @@ fn take<T: MetricTable>(
 }
 
 /// The metric, if any, that an interface showed for the prefix of a number.
-fn shown<T: MetricTable>(table: &T, interface: usize, k: usize) -> Option<u32> {
+pub(crate) fn shown<T: MetricTable>(table: &T, interface: usize, k: usize) -> Option<u32> {
     if interface < table.interface_count() && k < table.prefix_count() {
         table.metric(interface, k).map(|metric| metric.get())
     } else {
@@ -128,157 +122,7 @@ fn agree<T: MetricTable, U: MetricTable>(one: &T, other: &U) -> bool {
     one.interface_count() == other.interface_count() && list_alike(one, other)
 }
 
-/// A plan of three interfaces.
-fn plan_in(rt: &impl Abort, alloc: Global) -> Plan {
-    plan_of(rt, alloc, PLAN)
-}
-
-/// A grid in which nothing was heard.
-pub(crate) fn new_grid(
-    alloc: Global,
-    plan: &Plan,
-) -> Result<GridTable<BuildHasherDefault<FoldHasher>>, TableError>
-    ensures { IfOk result (λ table.
-        Fits plan.now (⟦<GridTable<BuildHasherDefault<FoldHasher>> as MetricTable>⟧.state table)) }
-{
-    GridTable::with_hasher(alloc, plan, BuildHasherDefault::<FoldHasher>::new())
-}
-
-/// Joins a log into a table. Only memory may be refused.
-pub(crate) fn fill<T: MetricTable>(
-    rt: &impl Abort,
-    alloc: Global,
-    plan: &Plan,
-    log: &[u8],
-    table: &mut T,
-) -> Result<(), TableError>
-    requires { Fits plan.now (T.state table.old) }
-    ensures { Fits plan.now (T.state table.new) }
-{
-    let Ok(mut reader) = LogReader::new(alloc, FromRead::new(log)) else {
-        return Err(TableError::Memory);
-    };
-    if let Err(error) = collect(plan, &mut reader, table) {
-        assert_eq!(rt; error.cause, CollectCause::Table(TableError::Memory));
-        return Err(TableError::Memory);
-    }
-    Ok(())
-}
-
 /// The mark of an interface.
 fn is_heard<T: MetricTable>(table: &T, interface: usize) -> bool {
     interface < table.interface_count() && table.heard(interface)
-}
-
-/// Takes responses of a new table's first interface.
-fn takes<T: MetricTable>(rt: &impl Abort, plan: &Plan, table: &mut T)
-    requires { Fits plan.now (T.state table.old) }
-    ensures { Fits plan.now (T.state table.new) }
-{
-    let entries = [
-        entry(rt, 2, 3, "0.0.0.0"),
-        entry(rt, 3, 16, "10.9.9.9"),
-        entry(rt, 1, 1, "10.1.0.1"),
-    ];
-    assert_eq!(rt; take(rt, plan, table, 0, &entries), Ok(()));
-    assert_eq!(rt; take(rt, plan, table, 0, &entries), Ok(()));
-    assert_eq!(rt; table.prefix_count(), 3);
-    assert_eq!(rt;
-        (shown(table, 0, 0), shown(table, 0, 1), shown(table, 0, 2)),
-        (Some(1), Some(3), Some(16))
-    );
-    assert_eq!(rt; (shown(table, 1, 1), shown(table, 2, 1)), (None, None));
-    assert_eq!(rt;
-        (is_heard(table, 0), is_heard(table, 1), is_heard(table, 2)),
-        (true, false, false)
-    );
-    if table.prefix_count() == 3 {
-        assert_eq!(rt;
-            (table.prefix(0), table.prefix(1), table.prefix(2)),
-            (prefix(rt, 1), prefix(rt, 2), prefix(rt, 3))
-        );
-    }
-}
-
-/// The refusal of a prefix of 10.X.0.0/16 whose metric changed.
-fn changed(rt: &impl Abort, x: u8, old: u32, new: u32) -> TableError {
-    TableError::Changed {
-        prefix: prefix(rt, x),
-        old: metric(rt, old),
-        new: metric(rt, new),
-    }
-}
-
-/// Refuses responses that are bad.
-fn refuses<T: MetricTable>(rt: &impl Abort, plan: &Plan, table: &mut T)
-    requires { Fits plan.now (T.state table.old) }
-    ensures { Fits plan.now (T.state table.new) }
-{
-    let entries = [entry(rt, 4, 1, "0.0.0.0"), entry(rt, 2, 4, "10.1.0.2")];
-    assert_eq!(rt;
-        take(rt, plan, table, 0, &entries),
-        Err(changed(rt, 2, 3, 4))
-    );
-    let entries = [entry(rt, 50, 16, "0.0.0.0"), entry(rt, 50, 4, "0.0.0.0")];
-    assert_eq!(rt;
-        take(rt, plan, table, 1, &entries),
-        Err(changed(rt, 50, 16, 4))
-    );
-    let foreign = TableError::NextHop {
-        prefix: prefix(rt, 2),
-    };
-    let entries = [entry(rt, 5, 1, "10.1.0.2"), entry(rt, 2, 3, "10.1.0.1")];
-    assert_eq!(rt; take(rt, plan, table, 2, &entries), Err(foreign));
-}
-
-/// Expects what a table shows after the first responses, where no other has left a trace.
-fn expect_first<T: MetricTable>(rt: &impl Abort, table: &T) {
-    assert_eq!(rt; table.prefix_count(), 3);
-    assert_eq!(rt;
-        (shown(table, 0, 1), shown(table, 1, 1), shown(table, 2, 1)),
-        (Some(3), None, None)
-    );
-    assert_eq!(rt;
-        (is_heard(table, 0), is_heard(table, 1), is_heard(table, 2)),
-        (true, false, false)
-    );
-}
-
-/// Takes nothing in from a request.
-fn passes_request<T: MetricTable>(rt: &impl Abort, plan: &Plan, table: &mut T)
-    requires { Fits plan.now (T.state table.old) }
-{
-    let Ok(request) = read(&[1, 2, 0, 0]) else {
-        panic!(rt; "no datagram");
-    };
-    if plan.interfaces() > 1 {
-        assert_eq!(rt; table.take(plan, 1, &request), Ok(()));
-    }
-    assert_eq!(rt; (table.prefix_count(), is_heard(table, 1)), (3, false));
-}
-
-fn takes_and_refuses<T: MetricTable>(rt: &impl Abort, plan: &Plan, table: &mut T)
-    requires { Fits plan.now (T.state table.old) }
-{
-    assert_eq!(rt; (table.interface_count(), table.prefix_count()), (3, 1));
-    takes(rt, plan, table);
-    refuses(rt, plan, table);
-    expect_first(rt, table);
-    passes_request(rt, plan, table);
-}
-
-#[test]
-fn list_takes_and_refuses(rt: HostRuntime) -> Result<(), Fail> {
-    let plan = plan_in(&rt, rt.alloc());
-    let mut table = ListTable::new(rt.alloc(), &plan)?;
-    takes_and_refuses(&rt, &plan, &mut table);
-    Ok(())
-}
-
-#[test]
-fn grid_takes_and_refuses(rt: HostRuntime) -> Result<(), Fail> {
-    let plan = plan_in(&rt, rt.alloc());
-    let mut table = new_grid(rt.alloc(), &plan)?;
-    takes_and_refuses(&rt, &plan, &mut table);
-    Ok(())
 }

@@ -4,8 +4,8 @@ ghost use Rattle.std.specs.Prelude.{◌≡◌, ◌↔◌, true};
 ghost use Rattle.rip_check.specs.Laws.{ShowsRightTables};
 ghost use Rattle.rip_table.specs.State.{Fits};
 
-use crate::check::list_of;
-use crate::examples::{PHANTOM, SETTLED, TRIANGLE, plan_of};
+use crate::examples::{PHANTOM, SETTLED, TRIANGLE};
+use crate::fixtures::{list_of, plan_of};
 use rip_check::{Verdict, judge};
 use rip_plan::Plan;
 use rip_table::MetricTable;

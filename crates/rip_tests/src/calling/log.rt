@@ -25,11 +25,11 @@ fn first_sender<R: Source + Drop>(
 fn a_log_is_read(rt: HostRuntime) {
     let log = FromRead::new(SETTLED.as_bytes());
     let sender = Address::parse("10.1.0.1").expect(&rt, "an address");
-    assert_eq!(rt; first_sender(rt.alloc(), log), Ok(Some((1, sender))));
+    assert!(rt; first_sender(rt.alloc(), log) == Ok(Some((1, sender))));
     let error = LogError {
         code: LogCode::Fields,
         line: 2,
     };
     let log = FromRead::new("# nothing\na 10.1.0.1\n".as_bytes());
-    assert_eq!(rt; first_sender(rt.alloc(), log), Err(error));
+    assert!(rt; first_sender(rt.alloc(), log) == Err(error));
 }

@@ -4,11 +4,11 @@ ghost use Rattle.std.specs.Prelude.{◌≡◌, IfOk};
 ghost use Rattle.rip_table.specs.State.{Fits};
 
 use crate::examples::{SETTLED, TRIANGLE};
+use crate::fixtures::plan_of;
 use rip_log::{FromRead, LogReader};
 use rip_plan::Plan;
 use rip_table::{ListTable, MetricTable, TableError, collect};
 use std::alloc::Global;
-use std::test::Fail;
 
 /// The table of a log, and whether the log was taken to its end.
 fn table_of(alloc: Global, plan: &Plan, log: &[u8]) -> Result<(ListTable, bool), TableError>
@@ -23,10 +23,11 @@ fn table_of(alloc: Global, plan: &Plan, log: &[u8]) -> Result<(ListTable, bool),
 }
 
 #[test]
-fn a_table_is_filled(rt: HostRuntime) -> Result<(), Fail> {
-    let plan = Plan::read(rt.alloc(), TRIANGLE.as_bytes())?;
-    let (table, is_whole) = table_of(rt.alloc(), &plan, SETTLED.as_bytes())?;
+fn a_table_is_filled(rt: HostRuntime) {
+    let plan = plan_of(&rt, rt.alloc(), TRIANGLE);
+    let Ok((table, is_whole)) = table_of(rt.alloc(), &plan, SETTLED.as_bytes()) else {
+        panic!(rt; "no memory");
+    };
     assert!(rt; is_whole && table.interface_count() == 6 && table.prefix_count() == 3);
-    assert_eq!(rt; table.metric(1, 1).map(|metric| metric.get()), Some(2));
-    Ok(())
+    assert!(rt; table.metric(1, 1).is_some_and(|metric| metric.get() == 2));
 }

@@ -39,7 +39,6 @@ fn a_datagram_is_asked(rt: HostRuntime) {
         2, 2, 0, 0, 0, 2, 0, 0, 10, 3, 0, 0, 255, 255, 0, 0, 0, 0, 0, 0, 0, 0, 0, 5,
     ];
     let prefix = Prefix::parse("10.3.0.0/16").expect(&rt, "a prefix");
-    assert_eq!(rt; entries_in(&bytes), Some(1));
-    assert_eq!(rt; metric_in(&bytes, prefix), Some(5));
-    assert_eq!(rt; entries_in(&bytes[..23]), None);
+    assert!(rt; entries_in(&bytes) == Some(1) && metric_in(&bytes, prefix) == Some(5));
+    assert!(rt; entries_in(&bytes[..23]) == None);
 }

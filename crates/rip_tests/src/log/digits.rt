@@ -1,55 +1,17 @@
-//! Digits in blocks, beside what the crate `hex` says of them.
+//! Digits of either case, in a block and after it, and what is none.
 
 use rip_log::decode_digits;
-use std::test::Fail;
-
-/// A digit of each value, of either case.
-const DIGITS: [u8; 22] = *b"0123456789abcdefABCDEF";
-
-/// Bytes beside the digits, and far from them.
-const OTHERS: [u8; 10] = [0, b' ', b'/', b':', b'@', b'G', b'`', b'g', 0x80, 0xff];
-
-/// How many digits are tried: three blocks and some.
-const MOST: usize = 100;
-
-/// Digits of each value and case, in an order of their own for each start.
-fn fill(text: &mut [u8; MOST], start: usize) {
-    for i in 0..MOST {
-        let k = i.wrapping_mul(7).wrapping_add(start);
-        text[i] = DIGITS[k % 22];
-    }
-}
 
 #[test]
-fn spells_what_the_crate_says(rt: HostRuntime) -> Result<(), Fail> {
-    let mut text = [0; MOST];
-    for len in 0..MOST {
-        fill(&mut text, len);
-        let mut room = [0xA5; 50];
-        let mut wanted = [0xA5; 50];
-        let is_even = hex::decode_to_slice(&text[..len], &mut wanted[..len / 2]).is_ok();
-        assert_eq!(rt; decode_digits(&text[..len], &mut room), is_even, "{len}");
-        if is_even {
-            assert!(rt; room == wanted, "{len}");
-        }
-    }
-    Ok(())
-}
-
-#[test]
-fn refuses_each_other_byte(rt: HostRuntime) {
-    for len in [2, 32, 34, 64, 98] {
-        for at in 0..len {
-            for other in OTHERS {
-                let mut text = [0; MOST];
-                fill(&mut text, at);
-                text[at] = other;
-                let mut room = [0; 50];
-                assert!(rt;
-                    !decode_digits(&text[..len], &mut room),
-                    "{other} at {at} of {len}"
-                );
-            }
-        }
+fn decodes_digits(rt: HostRuntime) {
+    let mut room = [0xA5; 19];
+    assert!(rt; decode_digits(b"0123456789abcdEFabcdefABCDEF99999999", &mut room));
+    let front = [
+        0x01, 0x23, 0x45, 0x67, 0x89, 0xAB, 0xCD, 0xEF, 0xAB, 0xCD, 0xEF,
+    ];
+    assert!(rt; room[..11] == front[..]);
+    assert!(rt; room[11..] == [0xAB, 0xCD, 0xEF, 0x99, 0x99, 0x99, 0x99, 0xA5][..]);
+    for digits in [&b"012"[..], b"0g", b"0 ", b"\xFF0"] {
+        assert!(rt; !decode_digits(digits, &mut room));
     }
 }

@@ -15,8 +15,8 @@ fn new_hands_back(rt: HostRuntime) -> Result<(), Fail> {
             code: LogCode::Memory,
             line: 0,
         };
-        assert_eq!(rt; error, memory);
-        assert_eq!(rt; source.into_reader().calls(), 0);
+        assert!(rt; error == memory);
+        assert!(rt; source.into_reader().calls() == 0);
         println!(rt; "handed back")?;
     }
     Ok(())

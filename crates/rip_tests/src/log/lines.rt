@@ -47,47 +47,55 @@ fn expect_said(
     match reader.next_line() {
         Ok(Some(Line::Record(record))) => {
             let sender = record.sender().get();
-            assert_eq!(rt; (record.line, None, Some((record.link, sender))), line);
+            assert!(rt; (record.line, None, Some((record.link, sender))) == line);
         }
         Ok(Some(Line::Bad(bad))) => {
             let origin = match &bad.origin {
                 Some(origin) => Some((origin.link, origin.sender().get())),
                 None => None,
             };
-            assert_eq!(rt; (bad.line, Some(bad.code), origin), line);
+            assert!(rt; (bad.line, Some(bad.code), origin) == line);
         }
         Ok(None) | Err(_) => panic!(rt; "a line"),
     }
 }
 
+/// Expects all lines of a log, which comes in pieces of this size.
+fn expect_lines(rt: &impl Abort, alloc: Global, log: &[u8], piece: usize) {
+    let mut reader = reader_of(rt, alloc, Pieces::new(log, piece));
+    for line in LINES {
+        expect_said(rt, &mut reader, line);
+    }
+    assert!(rt; matches!(reader.next_line(), Ok(None)));
+}
+
 #[test]
 fn bad_lines_end_nothing(rt: HostRuntime) -> Result<(), Fail> {
-    let alloc = rt.alloc();
     for size in [2049, 5000, 70_000] {
-        let log = bad_log(alloc, size)?;
+        let log = bad_log(rt.alloc(), size)?;
         for piece in PIECES {
-            let mut reader = reader_of(&rt, alloc, Pieces::new(log.as_slice(), piece));
-            for line in LINES {
-                expect_said(&rt, &mut reader, line);
-            }
-            assert!(rt; matches!(reader.next_line(), Ok(None)));
+            expect_lines(&rt, rt.alloc(), log.as_slice(), piece);
         }
     }
     Ok(())
 }
 
-#[test]
-fn a_source_that_fails_in_a_long_line(rt: HostRuntime) -> Result<(), Fail> {
-    let log = bad_log(rt.alloc(), 5000)?;
-    let mut reader = reader_of(&rt, rt.alloc(), Pieces::failing(log.as_slice(), 4000));
-    for line in [LINES[0], LINES[1]] {
-        expect_said(&rt, &mut reader, line);
-    }
+/// Expects two lines, and then that the source fails in the next one.
+fn expect_failure(rt: &impl Abort, alloc: Global, log: &[u8]) {
+    let mut reader = reader_of(rt, alloc, Pieces::failing(log, 4000));
+    expect_said(rt, &mut reader, LINES[0]);
+    expect_said(rt, &mut reader, LINES[1]);
     for code in [LogCode::Read, LogCode::Ended] {
         match reader.next_line() {
-            Err(error) => assert_eq!(rt; error, LogError { code, line: 4 }),
+            Err(error) => assert!(rt; error.code == code && error.line == 4),
             Ok(_) => panic!(rt; "a failure"),
         }
     }
+}
+
+#[test]
+fn a_source_that_fails_in_a_long_line(rt: HostRuntime) -> Result<(), Fail> {
+    let log = bad_log(rt.alloc(), 5000)?;
+    expect_failure(&rt, rt.alloc(), log.as_slice());
     Ok(())
 }

@@ -1,10 +1,9 @@
 //! When the reader beneath is read, and what a read that fails leaves.
 
 use super::{expect_outcome, reader_of};
-use crate::devices::Pieces;
+use crate::devices::{Endless, Pieces};
 use crate::examples::SETTLED;
 use rip_log::{FromRead, LogCode, LogError, LogReader, Source};
-use std::test::Fail;
 
 /// How many reads a text takes in pieces of so many bytes, after so many calls.
 const READS: [(usize, [(usize, usize); 5]); 4] = [
@@ -20,7 +19,7 @@ fn reads_of(reader: LogReader<FromRead<Pieces<'_>>>) -> usize {
 }
 
 #[test]
-fn reads_what_a_line_needs(rt: HostRuntime) -> Result<(), Fail> {
+fn reads_what_a_line_needs(rt: HostRuntime) {
     for (piece, counts) in READS {
         for (calls, reads) in counts {
             let mut reader = reader_of(&rt, rt.alloc(), Pieces::new(SETTLED.as_bytes(), piece));
@@ -34,26 +33,26 @@ fn reads_what_a_line_needs(rt: HostRuntime) -> Result<(), Fail> {
             );
         }
     }
-    Ok(())
 }
 
 #[test]
-fn reads_nothing_after_the_end(rt: HostRuntime) -> Result<(), Fail> {
-    for (more, calls, reads) in [("", 3, 101), ("#", 3, 102), ("#\n", 3, 103), ("x", 4, 102)] {
-        let mut log = String::from_str(rt.alloc(), SETTLED)?;
-        log.truncate(100);
-        log.push_str(more)?;
+fn reads_nothing_after_the_end(rt: HostRuntime) {
+    for (log, calls, reads) in [
+        ("z 9.9.9.9 01020000\n", 3, 20),
+        ("z 9.9.9.9 01020000\n#", 3, 21),
+        ("z 9.9.9.9 01020000\n#\n", 3, 22),
+        ("z 9.9.9.9 01020000\nx", 4, 21),
+    ] {
         let mut reader = reader_of(&rt, rt.alloc(), Pieces::new(log.as_bytes(), 1));
         for _ in 0..calls {
             let _answer = reader.next();
         }
-        assert_eq!(rt; reads_of(reader), reads, "after {more}");
+        assert!(rt; reads_of(reader) == reads, "{log}");
     }
-    Ok(())
 }
 
 #[test]
-fn failing_reads(rt: HostRuntime) -> Result<(), Fail> {
+fn failing_reads(rt: HostRuntime) {
     for call in 1..603u32 {
         let lines = (call - 1) / 100;
         let mut reader = reader_of(
@@ -67,7 +66,7 @@ fn failing_reads(rt: HostRuntime) -> Result<(), Fail> {
         };
         let fails = call < 602;
         expect_outcome(&rt, &mut reader, lines as usize, fails.then_some(fault));
-        assert_eq!(rt; reader.into_source().failed(), fails);
+        assert!(rt; reader.into_source().failed() == fails);
     }
     let mut reader = reader_of(&rt, rt.alloc(), Pieces::failing(b"a 10.1.0.1\n", 12));
     let fault = LogError {
@@ -75,5 +74,23 @@ fn failing_reads(rt: HostRuntime) -> Result<(), Fail> {
         line: 1,
     };
     expect_outcome(&rt, &mut reader, 0, Some(fault));
-    Ok(())
+}
+
+#[test]
+fn endless_sources(rt: HostRuntime) {
+    for (byte, piece, code, line, calls) in [
+        (b'x', 1, LogCode::LongLine, 1, 2049),
+        (b'x', 100, LogCode::LongLine, 1, 21),
+        (b'\n', 1000, LogCode::TooManyLines, 1_000_001, 1001),
+    ] {
+        let source = FromRead::new(Endless::new(byte, piece));
+        let Ok(mut reader) = LogReader::new(rt.alloc(), source) else {
+            panic!(rt; "no memory");
+        };
+        match reader.next() {
+            Err(error) => assert!(rt; error.code == code && error.line == line),
+            Ok(_) => panic!(rt; "no fault"),
+        }
+        assert!(rt; reader.into_source().into_reader().calls() == calls);
+    }
 }

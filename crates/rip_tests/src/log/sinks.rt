@@ -35,10 +35,8 @@ impl Write for Fragile {
 #[test]
 fn takes_bytes(rt: HostRuntime) {
     let mut sink = IntoWrite::new(Vec::new(rt.alloc()));
-    assert_eq!(rt; sink.push(b"settled"), Ok(7));
-    assert_eq!(rt; sink.push(b""), Ok(0));
-    assert_eq!(rt; sink.push(b"!"), Ok(1));
-    assert!(rt; !sink.failed());
+    assert!(rt; sink.push(b"settled") == Ok(7) && sink.push(b"") == Ok(0));
+    assert!(rt; sink.push(b"!") == Ok(1) && !sink.failed());
     assert!(rt; sink.into_writer().as_slice() == &b"settled!"[..]);
 }
 
@@ -57,14 +55,11 @@ fn fails_for_good(rt: HostRuntime) {
             bad_call: 2,
             kind,
         });
-        assert_eq!(rt; sink.push(b"abc"), Ok(2));
-        assert!(rt; !sink.failed());
-        assert_eq!(rt; sink.push(b"c"), Err(Failed));
-        assert!(rt; sink.failed());
-        assert_eq!(rt; sink.push(b"c"), Err(Failed));
-        assert_eq!(rt; sink.push(b""), Err(Failed));
-        assert!(rt; sink.failed());
+        assert!(rt; sink.push(b"abc") == Ok(2) && !sink.failed());
+        for bytes in [&b"c"[..], b"c", b""] {
+            assert!(rt; sink.push(bytes) == Err(Failed) && sink.failed());
+        }
         let writer = sink.into_writer();
-        assert_eq!(rt; (writer.calls, writer.taken), (2, 2));
+        assert!(rt; writer.calls == 2 && writer.taken == 2);
     }
 }

@@ -4,8 +4,9 @@
 ghost use Rattle.std.specs.Prelude.{◌≡◌};
 ghost use Rattle.rip_table.specs.State.{Fits};
 
-use super::{PLAN, agree, entry, fill, new_grid, take};
+use super::{PLAN, agree, entry, take};
 use crate::examples::{SETTLED, TRIANGLE};
+use crate::fixtures::{fill, new_grid};
 use rip_log::{FromRead, LogReader, Source};
 use rip_plan::Plan;
 use rip_table::{CollectCause, CollectError, ListTable, MetricTable, TableError, collect};
@@ -47,7 +48,7 @@ fn fills<T: MetricTable, U: MetricTable>(
         match take_one(rt, plan, first, number) {
             Ok(()) => {}
             Err(error) => {
-                assert_eq!(rt; error, TableError::Memory);
+                assert!(rt; error == TableError::Memory);
                 assert!(rt; agree(first, second));
                 return false;
             }
@@ -65,7 +66,40 @@ fn takes_again<T: MetricTable>(rt: &impl Abort, plan: &Plan, table: &mut T)
     requires { Fits plan.now (T.state table.old) }
 {
     for number in 0..60u8 {
-        assert_eq!(rt; take_one(rt, plan, table, number), Ok(()));
+        assert!(rt; take_one(rt, plan, table, number).is_ok());
+    }
+}
+
+/// Fills two tables, and then the first again. It tells whether there was memory for all.
+fn keeps<T: MetricTable, U: MetricTable>(
+    rt: &impl Abort,
+    plan: &Plan,
+    first: &mut T,
+    second: &mut U,
+) -> bool
+    requires first { Fits plan.now (T.state first.old) }
+    requires second { Fits plan.now (U.state second.old) }
+{
+    let is_full = fills(rt, plan, first, second);
+    if is_full {
+        takes_again(rt, plan, first);
+    }
+    is_full
+}
+
+/// A grid beside a plain table.
+fn grid_keeps(rt: &impl Abort, alloc: Global, plan: &Plan) -> bool {
+    match (new_grid(alloc, plan), ListTable::new(alloc, plan)) {
+        (Ok(mut grid), Ok(mut list)) => keeps(rt, plan, &mut grid, &mut list),
+        _ => false,
+    }
+}
+
+/// A plain table beside a grid.
+fn list_keeps(rt: &impl Abort, alloc: Global, plan: &Plan) -> bool {
+    match (ListTable::new(alloc, plan), new_grid(alloc, plan)) {
+        (Ok(mut list), Ok(mut grid)) => keeps(rt, plan, &mut list, &mut grid),
+        _ => false,
     }
 }
 
@@ -74,14 +108,7 @@ fn grid_keeps_what_it_had(rt: HostRuntime) -> Result<(), Fail> {
     let Ok(plan) = Plan::read(rt.alloc(), PLAN.as_bytes()) else {
         return Ok(());
     };
-    let Ok(mut list) = ListTable::new(rt.alloc(), &plan) else {
-        return Ok(());
-    };
-    let Ok(mut grid) = new_grid(rt.alloc(), &plan) else {
-        return Ok(());
-    };
-    if fills(&rt, &plan, &mut grid, &mut list) {
-        takes_again(&rt, &plan, &mut grid);
+    if grid_keeps(&rt, rt.alloc(), &plan) {
         println!(rt; "sixty responses")?;
     }
     Ok(())
@@ -92,14 +119,7 @@ fn list_keeps_what_it_had(rt: HostRuntime) -> Result<(), Fail> {
     let Ok(plan) = Plan::read(rt.alloc(), PLAN.as_bytes()) else {
         return Ok(());
     };
-    let Ok(mut list) = ListTable::new(rt.alloc(), &plan) else {
-        return Ok(());
-    };
-    let Ok(mut grid) = new_grid(rt.alloc(), &plan) else {
-        return Ok(());
-    };
-    if fills(&rt, &plan, &mut list, &mut grid) {
-        takes_again(&rt, &plan, &mut list);
+    if list_keeps(&rt, rt.alloc(), &plan) {
         println!(rt; "sixty responses")?;
     }
     Ok(())
@@ -154,7 +174,7 @@ fn expect_memory<R: Source, T: MetricTable>(
     table: &T,
     before: &[ListTable],
 ) {
-    assert_eq!(rt; error.cause, CollectCause::Table(TableError::Memory));
+    assert!(rt; error.cause == CollectCause::Table(TableError::Memory));
     assert!(rt; error.line != REPEAT);
     let Some(other) = before.get((error.line as usize).wrapping_sub(1)) else {
         panic!(rt; "no line");
@@ -163,10 +183,35 @@ fn expect_memory<R: Source, T: MetricTable>(
     let Ok(Some(record)) = reader.next() else {
         panic!(rt; "no record");
     };
-    assert_eq!(rt; record.line, error.line.wrapping_add(1));
+    assert!(rt; record.line == error.line.wrapping_add(1));
 }
 
 /// Joins a log into a new table, and then again, which allocates nothing.
+fn joins_twice<T: MetricTable>(
+    rt: &impl Abort,
+    alloc: Global,
+    plan: &Plan,
+    log: &str,
+    table: &mut T,
+    before: &[ListTable],
+) -> Result<(), TableError>
+    requires { Fits plan.now (T.state table.old) }
+{
+    let (Ok(mut reader), Ok(mut again)) = (
+        LogReader::new(alloc, FromRead::new(log.as_bytes())),
+        LogReader::new(alloc, FromRead::new(log.as_bytes())),
+    ) else {
+        return Err(TableError::Memory);
+    };
+    if let Err(error) = collect(plan, &mut reader, table) {
+        expect_memory(rt, error, &mut reader, table, before);
+        return Err(TableError::Memory);
+    }
+    assert!(rt; collect(plan, &mut again, table).is_ok());
+    Ok(())
+}
+
+/// Makes a log, and for each of its lines a table of those before it, and joins the log into a new table.
 fn joins<T: MetricTable>(
     rt: &impl Abort,
     alloc: Global,
@@ -179,18 +224,7 @@ fn joins<T: MetricTable>(
     let mut before = Vec::new(alloc);
     push_lines(rt, alloc, plan, SETTLED, (&mut log, &mut before))?;
     push_lines(rt, alloc, plan, LATER, (&mut log, &mut before))?;
-    let (Ok(mut reader), Ok(mut again)) = (
-        LogReader::new(alloc, FromRead::new(log.as_bytes())),
-        LogReader::new(alloc, FromRead::new(log.as_bytes())),
-    ) else {
-        return Err(TableError::Memory);
-    };
-    if let Err(error) = collect(plan, &mut reader, table) {
-        expect_memory(rt, error, &mut reader, table, before.as_slice());
-        return Err(TableError::Memory);
-    }
-    assert_eq!(rt; collect(plan, &mut again, table), Ok(()));
-    Ok(())
+    joins_twice(rt, alloc, plan, log.as_str(), table, before.as_slice())
 }
 
 #[test]

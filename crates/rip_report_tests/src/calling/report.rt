@@ -7,9 +7,9 @@ ghost use Rattle.rip_report.specs.AuditText.{AuditText, IsJudged};
 ghost use Rattle.rip_report.specs.Given.{IsGiven};
 ghost use Rattle.rip_report.specs.ReportText.{IsAccepted};
 
-use crate::examples::{PHANTOM, SETTLED, TRIANGLE};
 use rip_log::{FromRead, IntoWrite, Sink, Source};
 use rip_report::{RunError, Status, run_audit};
+use rip_tests::examples::{PHANTOM, SETTLED, TRIANGLE};
 use std::alloc::Global;
 use std::hash::{BuildHasherDefault, FoldHasher};
 

@@ -8,7 +8,7 @@ use Rattle.rip_report.specs.Sent.{BeginningOut, Keeps, WentOut}
 use Rattle.rip_report.specs.Written.{Written}
 use Rattle.rip_report.specs.declared.status.Status.{Status}
 use Rattle.rip_report.specs.declared.status.RunError.{RunError}
-use Rattle.rip_tests.proofs.calling.report.audit_into.Goals as goal
+use Rattle.rip_report_tests.proofs.calling.report.audit_into.Goals as goal
 
 -- what a vector holds
 abbrev contents : Vec ℕ Global → Option (List ℕ)
