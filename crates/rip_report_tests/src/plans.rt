@@ -5,8 +5,10 @@ use rip_report::{RunError, Status, run_decode, run_expect, run_plan, run_whatif}
 use rip_tests::devices::Slow;
 use rip_tests::examples::TRIANGLE;
 use std::alloc::Global;
+use std::fmt::Write as _;
 use std::io::Write;
 use std::process::Abort;
+use std::test::Fail;
 
 const PARTS: &str = "plan: 3 routers, 3 links, 6 interfaces, 3 prefixes
 interface r1 a 10.1.0.1 cost 1
@@ -142,4 +144,39 @@ fn whole_texts_and_sinks_that_fail(rt: HostRuntime) {
             expect_until(&rt, rt.alloc(), &row, most);
         }
     }
+}
+
+/// The triangle with 200 own prefixes, whose routes are more than two pages.
+fn long_plan(alloc: Global) -> Result<String, Fail> {
+    let mut plan = String::from_str(alloc, TRIANGLE)?;
+    for k in 0..200usize {
+        write!(plan, "[[router.own]]\nprefix = \"12.0.{k}.0/24\"\n")?;
+    }
+    Ok(plan)
+}
+
+/// The routes of a plan.
+fn routes_of(rt: &impl Abort, alloc: Global, plan: &str) -> Vec<u8> {
+    let mut out = IntoWrite::new(Vec::new(alloc));
+    assert!(rt; run_expect(alloc, plan.as_bytes(), &mut out) == Ok(Status::Done));
+    out.into_writer()
+}
+
+/// Expects the beginning of the routes of a plan where the sink fails after so many bytes.
+fn expect_beginning(rt: &impl Abort, alloc: Global, plan: &str, routes: &[u8], most: usize) {
+    let mut out = IntoWrite::new(Slow::new(alloc, most));
+    assert!(rt; run_expect(alloc, plan.as_bytes(), &mut out) == Err(RunError::Write));
+    let writer = out.into_writer();
+    assert!(rt; Some(writer.taken()) == routes.get(..most));
+}
+
+#[test]
+fn a_sink_that_fails_on_a_later_page(rt: HostRuntime) -> Result<(), Fail> {
+    let plan = long_plan(rt.alloc())?;
+    let routes = routes_of(&rt, rt.alloc(), plan.as_str());
+    assert!(rt; 8193 < routes.len());
+    for most in [4000, 4095, 4096, 4097, 8191, 8192, 8193] {
+        expect_beginning(&rt, rt.alloc(), plan.as_str(), routes.as_slice(), most);
+    }
+    Ok(())
 }

@@ -27,6 +27,13 @@ own = [
 ]
 ";
 
+/// Expects the names of the plan above, and the interfaces of its router.
+fn expect_names(rt: &impl Abort, plan: &Plan) {
+    assert!(rt; plan.routers() == 1 && plan.links() == 2);
+    assert!(rt; plan.router_name(0) == "r1" && plan.link_name(1) == "k");
+    assert!(rt; plan.of_router(0).len() == 2 && plan.of_router(0).get(1) == Some(&1));
+}
+
 /// Expects costs of the plan above, and where its first prefix is.
 fn expect_costs(rt: &impl Abort, plan: &Plan) {
     assert!(rt; plan.interfaces() == 2 && plan.places() == 4);
@@ -55,6 +62,7 @@ fn expect_own(rt: &impl Abort, plan: &Plan) {
 #[test]
 fn what_daemons_do(rt: HostRuntime) {
     let plan = plan_of(&rt, rt.alloc(), DAEMONS);
+    expect_names(&rt, &plan);
     expect_costs(&rt, &plan);
     expect_further_addresses(&rt, &plan);
     expect_own(&rt, &plan);
