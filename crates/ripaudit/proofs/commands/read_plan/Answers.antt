@@ -1,5 +1,4 @@
 use Rattle.std.proofs.Common.{◌≡◌, ◌∙◌, ◌≤◌, ◌+◌, ◌++◌, ℕ, Bool, true, false, refl, sym, ap, ap₂, arith, List, length, take, take-take, take_all, append_assoc, ◌-◌, drop, length-append, length-take, length-take-le}
-use Prim.{search}
 use Rattle.std.proofs.Math.Seq.{take-append-add, take-append_seam}
 use Rattle.std.proofs.lemmas.List.{take-append-le}
 use Rattle.ripaudit.proofs.commands.read_plan.Goals as goal
