@@ -1,6 +1,6 @@
 -- The tables whose fields are read are those that have the keys, each of its kind.
 use Rattle.std.proofs.Common.{◌≡◌, ◌≢◌, ℕ, zero, suc, List, [], ◌∷◌, Bool, true, false, cond, ◌&&◌, Option, Some, None, Ordering, Less, Equal, Greater, nat_cmp, is_eq, refl, sym, ◌∙◌, ap, subst}
-use Rattle.std.specs.Prelude.{ℤ, is_some, option_and_then, option_map, slice_get, codes as codes_of}
+use Rattle.std.specs.Prelude.{ℤ, is_some, option_and_then, option_map, slice_get, unwrap_or, codes as codes_of}
 use Rattle.std.specs.List.{list_all}
 use Rattle.std.specs.Str.{bytes_eq}
 use Rattle.std.specs.Ordering.{match_ordering}
@@ -8,7 +8,7 @@ use Rattle.std.specs.Cmp.Lexicographic.{slice_cmp}
 use Rattle.std.proofs.lemmas.Map.Text.{is_eq-slice_cmp}
 use Rattle.std.proofs.lemmas.Option.{none-some, same_Some, cond_some}
 use Rattle.std.proofs.lemmas.Slice.Eq.{bytes_eq-Decides}
-use Rattle.toml.specs.Data.{Data, Members, no_members, member, string, array, table, get_member, as_array, as_integer, as_str, as_table}
+use Rattle.toml.specs.Data.{Data, Members, no_members, member, string, array, table, get_member, as_array, as_bool, as_integer, as_str, as_table}
 use Rattle.rip_plan.specs.DocumentTables.{HasOnly, IsFlag, IsInteger, IsInterfaceTable, IsLinkTable, IsList, IsOwnTable, IsRoot, IsRouterTable, IsSomeList, IsString, IsTextList}
 use Rattle.rip_plan.specs.Fields.{InterfaceFields, OwnFields, ◌&>◌, flag_if, has_only, integer_if, interface_fields, interface_keys, items_at, items_if, link_fields, link_keys, list_of, own_fields, own_keys, root_fields, root_keys, router_fields, router_keys, some_items, text_at, text_if, texts_of}
 use Rattle.rip_plan.specs.Names.{is_one_of}
@@ -88,8 +88,12 @@ integer_may o given h d is = by_given (as_integer d) refl (ap integer_if (sym is
     by_given None k g = absurd (none-some given g)
     by_given (Some z) k g = (z, integer_is d z k)
 
-flag_may : (o : Option Data) (b : Bool) → flag_if o ≡ Some b → MayHaveAt o IsFlag
-flag_may o b h d is = (b, boolean_is d b (ap flag_if (sym is) ∙ h))
+flag_may : (o : Option Data) (given : Option Bool) → flag_if o ≡ Some given → MayHaveAt o IsFlag
+flag_may o given h d is = by_given (as_bool d) refl (ap flag_if (sym is) ∙ h)
+  where
+    by_given : (i : Option Bool) → as_bool d ≡ i → option_map Some i ≡ Some given → IsFlag d
+    by_given None k g = absurd (none-some given g)
+    by_given (Some b) k g = (b, boolean_is d b k)
 
 text_may : (o : Option Data) (given : Option (List ℕ)) → text_if o ≡ Some given → MayHaveAt o IsString
 text_may o given h d is = by_given (as_str d) refl (ap text_if (sym is) ∙ h)
@@ -136,9 +140,9 @@ integer_given : (o : Option Data) → MayHaveAt o IsInteger → (given : Option 
 integer_given None may = (None, refl)
 integer_given (Some d) may = let (z, is) = may d refl in (Some z, ap (λ (x : Data). integer_if (Some x)) is)
 
-flag_given : (o : Option Data) → MayHaveAt o IsFlag → (b : Bool) × (flag_if o ≡ Some b)
-flag_given None may = (false, refl)
-flag_given (Some d) may = let (b, is) = may d refl in (b, ap (λ (x : Data). flag_if (Some x)) is)
+flag_given : (o : Option Data) → MayHaveAt o IsFlag → (given : Option Bool) × (flag_if o ≡ Some given)
+flag_given None may = (None, refl)
+flag_given (Some d) may = let (b, is) = may d refl in (Some b, ap (λ (x : Data). flag_if (Some x)) is)
 
 text_if_given : (o : Option Data) → MayHaveAt o IsString → (given : Option (List ℕ)) × (text_if o ≡ Some given)
 text_if_given None may = (None, refl)
@@ -169,24 +173,27 @@ guarded : {A : Type 0} (b : Bool) (o : Option A) (x : A) → cond b o None ≡ S
 guarded true o x h = refl
 guarded false o x h = absurd (none-some x h)
 
-pub root_told : (document : Members) (f : List Data × List Data) → root_fields document ≡ Some f → IsRoot document
+pub root_told : (document : Members) (f : List Data × List Data × Bool) → root_fields document ≡ Some f → IsRoot document
 unfolding root_fields
 root_told ms f h =
     let h2 = chosen (has_only root_keys ms) _ f h in
     let (a, first, h3) = then_some (items_at (codes_of "link") ms &> some_items) _ f h2 in
     let (b, second, h4) = then_some (items_at (codes_of "router") ms &> some_items) _ f h3 in
+    let (c, third, h5) = then_some (flag_if (get_member (codes_of "poison") ms)) _ f h4 in
     record {
       keys = keys_only root_keys ms (guarded (has_only root_keys ms) _ f h);
       link = some_has (get_member (codes_of "link") ms) a first;
       router = some_has (get_member (codes_of "router") ms) b second;
+      poison = flag_may (get_member (codes_of "poison") ms) c third;
     }
 
-pub root_given : (document : Members) → IsRoot document → (f : List Data × List Data) × (root_fields document ≡ Some f)
+pub root_given : (document : Members) → IsRoot document → (f : List Data × List Data × Bool) × (root_fields document ≡ Some f)
 unfolding root_fields
 root_given ms is =
     let (a, first) = some_given (get_member (codes_of "link") ms) is.link in
     let (b, second) = some_given (get_member (codes_of "router") ms) is.router in
-    ((a, b), rw (only_keys root_keys ms is.keys, first, second) refl)
+    let (c, third) = flag_given (get_member (codes_of "poison") ms) is.poison in
+    ((a, b, unwrap_or c true), rw (only_keys root_keys ms is.keys, first, second, third) refl)
 
 pub link_told : (d : Data) (f : List ℕ × List Data) → (as_table d &> link_fields) ≡ Some f → IsLinkTable d
 unfolding link_fields
@@ -263,6 +270,7 @@ interface_told d f h =
     let (c, third, h5) = then_some (integer_if (get_member (codes_of "cost") ms)) _ f h4 in
     let (e, fourth, h6) = then_some (integer_if (get_member (codes_of "direct") ms)) _ f h5 in
     let (g, fifth, h7) = then_some (items_if (get_member (codes_of "also") ms) &> texts_of) _ f h6 in
+    let (p, sixth, h8) = then_some (flag_if (get_member (codes_of "poison") ms)) _ f h7 in
     let there : d ≡ table ms = table_is d ms is in
     subst IsInterfaceTable (sym there) (record {
       members = ms;
@@ -273,6 +281,7 @@ interface_told d f h =
       cost = integer_may (get_member (codes_of "cost") ms) c third;
       direct = integer_may (get_member (codes_of "direct") ms) e fourth;
       also = texts_may (get_member (codes_of "also") ms) g fifth;
+      poison = flag_may (get_member (codes_of "poison") ms) p sixth;
     })
 
 interface_read : (ms : Members) → IsInterfaceTable (table ms) → (f : InterfaceFields) × (interface_fields ms ≡ Some f)
@@ -283,7 +292,8 @@ interface_read ms its =
     let (c, third) = integer_given (get_member (codes_of "cost") ms) its.cost in
     let (e, fourth) = integer_given (get_member (codes_of "direct") ms) its.direct in
     let (g, fifth) = texts_given (get_member (codes_of "also") ms) its.also in
-    (record { link = a; address = b; cost = c; direct = e; also = g }, rw (only_keys interface_keys ms its.keys, first, second, third, fourth, fifth) refl)
+    let (p, sixth) = flag_given (get_member (codes_of "poison") ms) its.poison in
+    (record { link = a; address = b; cost = c; direct = e; also = g; poison = p }, rw (only_keys interface_keys ms its.keys, first, second, third, fourth, fifth, sixth) refl)
 
 pub interface_given : (d : Data) → IsInterfaceTable d → (f : InterfaceFields) × ((as_table d &> interface_fields) ≡ Some f)
 interface_given d is =
@@ -323,7 +333,7 @@ own_read ms its =
     let (c, third) = flag_given (get_member (codes_of "kept") ms) its.kept in
     let (e, fourth) = text_if_given (get_member (codes_of "link") ms) its.link in
     let (g, fifth) = text_if_given (get_member (codes_of "via") ms) its.via in
-    (record { prefix = a; cost = b; kept = c; link = e; via = g }, rw (only_keys own_keys ms its.keys, first, second, third, fourth, fifth) refl)
+    (record { prefix = a; cost = b; kept = unwrap_or c false; link = e; via = g }, rw (only_keys own_keys ms its.keys, first, second, third, fourth, fifth) refl)
 
 pub own_given : (d : Data) → IsOwnTable d → (f : OwnFields) × ((as_table d &> own_fields) ≡ Some f)
 own_given d is =
@@ -350,6 +360,6 @@ by_table {A} Is fields told d not_lacks not = by_option (as_table d &> fields) r
 pub by_root : (document : Members) → ((IsRoot document → ⊥) → ⊥) → IsRoot document
 by_root document not_lacks = by_option (root_fields document) refl
   where
-    by_option : (o : Option (List Data × List Data)) → root_fields document ≡ o → IsRoot document
+    by_option : (o : Option (List Data × List Data × Bool)) → root_fields document ≡ o → IsRoot document
     by_option (Some f) e = root_told document f e
     by_option None e = absurd (not_lacks (root_not document e))

@@ -1,7 +1,7 @@
 -- What the first pass over a plan's places keeps.
 use Rattle.std.proofs.Common.{◌≡◌, ℕ, ◌+◌, ◌-◌, ◌<◌, ◌≤◌, ◌^◌, List, [], ◌∷◌, ◌++◌, length, length-append, Bool, true, false, not, ◌&&◌, ◌||◌, Option, Some, None, Ok, refl, ◌∙◌, ap, subst, arith}
 use Rattle.std.proofs.lemmas.Iterator.Adapters.{position_from-zero}
-use Rattle.std.specs.Prelude.{nat_le, nat_lt, option_map}
+use Rattle.std.specs.Prelude.{nat_le, nat_lt, option_map, unwrap_or}
 use Rattle.std.specs.List.{AllByRecursion, IsDistinct, list_any, position_or_len}
 use Rattle.std.specs.Str.{bytes_eq}
 use Rattle.std.proofs.lemmas.Option.{cond_some, none-some, same_Some}
@@ -223,7 +223,7 @@ interface_keeps laws links r j d s t some while h =
     let kept = while.kept in
     let number : length s.routers ≡ r = while.number in
     let room = room_for s taken.also taken.room in
-    let added : DraftInterface = record { interface = record { router = r - 1; link = taken.link; address = taken.address; cost = taken.cost; direct = taken.direct }; at = _ } in
+    let added : DraftInterface = record { interface = record { router = r - 1; link = taken.link; address = taken.address; cost = taken.cost; direct = taken.direct; poison = unwrap_or taken.given.poison s.poison }; at = _ } in
     let costs = cost_within taken.given.cost taken.cost taken.costs in
     let directs = direct_within taken.cost taken.given.direct taken.direct costs.0 taken.directs in
     rw taken.made (record {

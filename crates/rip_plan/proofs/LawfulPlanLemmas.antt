@@ -1,13 +1,13 @@
 -- A plan that was read keeps the laws.
 use Rattle.std.proofs.Common.{◌≡◌, ℕ, zero, suc, ◌+◌, ◌^◌, ◌<◌, ◌≤◌, inl, inr, List, [], ◌∷◌, length, map, Bool, true, false, cond, not, ◌&&◌, ◌||◌, Option, Some, None, Ok, refl, sym, ◌∙◌, ap, subst, arith}
-use Rattle.std.specs.Prelude.{slice_get, find, ◌==◌, nat_lt, codes as codes_of}
+use Rattle.std.specs.Prelude.{slice_get, find, ◌==◌, nat_lt, unwrap_or, codes as codes_of}
 use Rattle.std.specs.List.{IsDistinct, list_any}
 use Rattle.std.specs.Str.{bytes_eq}
 use Rattle.std.proofs.lemmas.Option.{none-some, same_Some, slice_get_within}
 use Rattle.std.proofs.lemmas.List.{length-map}
 use Rattle.std.proofs.lemmas.List.Sums.{sum-map}
 use Rattle.std.proofs.lemmas.Bool.Decides.{nat_tests}
-use Rattle.toml.specs.Data.{Data, Members}
+use Rattle.toml.specs.Data.{Data, Members, get_member}
 use Rattle.rip_wire.specs.Name.{IsName}
 use Rattle.rip_wire.specs.Prefix.{Block, IsBlock}
 use Rattle.rip_plan.specs.declared.addresses.Held.{Held}
@@ -16,7 +16,7 @@ use Rattle.rip_plan.specs.declared.draft.DraftPlace.{DraftPlace}
 use Rattle.rip_plan.specs.declared.parts.Interface.{Interface}
 use Rattle.rip_plan.specs.declared.parts.Seat.{Seat}
 use Rattle.rip_plan.specs.declared.parts.Seat.TheVariants as seats
-use Rattle.rip_plan.specs.Fields.{some_items, root_fields, items_at, root_keys, has_only, ◌&>◌}
+use Rattle.rip_plan.specs.Fields.{flag_if, some_items, root_fields, items_at, root_keys, has_only, ◌&>◌}
 use Rattle.rip_plan.specs.Seats.{is_on}
 use Rattle.rip_plan.specs.Draft.{Sketch, link_step, router_step, is_outside, has_address}
 use Rattle.rip_plan.specs.Passes.{same_prefix, touched, touching, do_meet, is_same_link, have_common, are_twice, is_astray, is_there}
@@ -93,7 +93,7 @@ module _ (s : Sketch) (good : Good s) where
   one_interface r h =
       let (i, x, at, of) = has_one s.interfaces (length s.routers) r good.clear.bare h in
       let listed = see_got (λ (y : DraftInterface). y.interface) s.interfaces i x at in
-      (i, x.interface.link, x.interface.cost, record { address = x.interface.address; direct = x.interface.direct; listed = listed ∙ ap (λ m. Some (record x.interface { router = m })) of })
+      (i, x.interface.link, x.interface.cost, record { address = x.interface.address; direct = x.interface.direct; poison = x.interface.poison; listed = listed ∙ ap (λ m. Some (record x.interface { router = m })) of })
 
   one_on_link : (i j r l c d : ℕ) → IsInterface (network_of_sketch s) i r l c → IsInterface (network_of_sketch s) j r l d → i ≡ j
   one_on_link i j r l c d h k =
@@ -204,6 +204,7 @@ module _ (s : Sketch) (good : Good s) where
           record {
             address = x.interface.address;
             direct = x.interface.direct;
+            poison = x.interface.poison;
             listed = see_got (λ (y : DraftInterface). y.interface) s.interfaces i x listed
                 ∙ ap (λ (m : ℕ). Some (record x.interface { router = m })) router
                 ∙ ap (λ (m : ℕ). Some (record x.interface { router = r; link = m })) link;
@@ -282,34 +283,35 @@ some_at : (xs ys : List Data) → some_items xs ≡ Some ys → 1 ≤ length ys
 some_at [] ys h = absurd (none-some ys h)
 some_at (x ∷ xs) ys h = rw (← same_Some (x ∷ xs) ys h) (omega arith)
 
-some_of_both : (a b : Option (List Data)) (f : List Data × List Data) → (a &> some_items &> (λ x. b &> some_items &> (λ y. Some (x, y)))) ≡ Some f → (1 ≤ length f.0) × (1 ≤ length f.1)
-some_of_both None b f h = absurd cc
-some_of_both (Some []) b f h = absurd cc
-some_of_both (Some (x ∷ xs)) None f h = absurd cc
-some_of_both (Some (x ∷ xs)) (Some []) f h = absurd cc
-some_of_both (Some (x ∷ xs)) (Some (y ∷ ys)) f h =
-    let same : (x ∷ xs, y ∷ ys) ≡ f = same_Some (x ∷ xs, y ∷ ys) f h in
+some_of_both : (a b : Option (List Data)) (p : Option (Option Bool)) (f : List Data × List Data × Bool) → (a &> some_items &> (λ x. b &> some_items &> (λ y. p &> (λ z. Some (x, y, unwrap_or z true))))) ≡ Some f → (1 ≤ length f.0) × (1 ≤ length f.1)
+some_of_both None b p f h = absurd cc
+some_of_both (Some []) b p f h = absurd cc
+some_of_both (Some (x ∷ xs)) None p f h = absurd cc
+some_of_both (Some (x ∷ xs)) (Some []) p f h = absurd cc
+some_of_both (Some (x ∷ xs)) (Some (y ∷ ys)) None f h = absurd cc
+some_of_both (Some (x ∷ xs)) (Some (y ∷ ys)) (Some z) f h =
+    let same : (x ∷ xs, y ∷ ys, unwrap_or z true) ≡ f = same_Some (x ∷ xs, y ∷ ys, unwrap_or z true) f h in
     rw (← same) (omega arith, omega arith)
 
-some_of_root : (doc : Members) (f : List Data × List Data) → root_fields doc ≡ Some f → (1 ≤ length f.0) × (1 ≤ length f.1)
+some_of_root : (doc : Members) (f : List Data × List Data × Bool) → root_fields doc ≡ Some f → (1 ≤ length f.0) × (1 ≤ length f.1)
 unfolding root_fields
-some_of_root doc f h = some_of_both (items_at (codes_of "link") doc) (items_at (codes_of "router") doc) f (chosen (has_only root_keys doc) _ f h)
+some_of_root doc f h = some_of_both (items_at (codes_of "link") doc) (items_at (codes_of "router") doc) (flag_if (get_member (codes_of "poison") doc)) f (chosen (has_only root_keys doc) _ f h)
 
 good_document : (laws : TextLaws) (doc : Members) (s : Sketch) → DocumentTaken doc s → Good s
 unfolding IsDistinct
 good_document laws doc s taken =
-    let nothing : BetweenLinks 1 empty = record {
+    let nothing : BetweenLinks 1 (empty taken.poison) = record {
       kept = record { link_names = tt; links_differ = tt; router_names = tt; routers_differ = tt; interfaces = tt; inside = tt; places = tt; also = tt; also_listed = refl; few_interfaces = omega arith; few_also = omega arith; few_places = omega arith };
       interfaces = refl;
       routers = refl;
       next = refl;
     } in
-    let links = steps_keep link_step BetweenLinks (link_keeps laws) 1 taken.links empty taken.between nothing taken.first (1 + length taken.links) refl in
+    let links = steps_keep link_step BetweenLinks (link_keeps laws) 1 taken.links (empty taken.poison) taken.between nothing taken.first (1 + length taken.links) refl in
     let counted : length taken.between.links ≡ length taken.links = omega (arith, links.next) in
     let start : BetweenRouters (length taken.links) 1 taken.between = record { kept = links.kept; links = counted; next = ap (λ (names : List (List ℕ)). length names + 1) links.routers } in
     let end = steps_keep router_step (BetweenRouters (length taken.links)) (router_keeps laws (length taken.links)) 1 taken.routers taken.between s start taken.second (1 + length taken.routers) refl in
     let routers : length s.routers ≡ length taken.routers = omega (arith, end.next) in
-    let some = some_of_root doc (taken.links, taken.routers) taken.root in
+    let some = some_of_root doc (taken.links, taken.routers, taken.poison) taken.root in
     let few = or_false (nat_lt 512 (length taken.links)) (nat_lt 128 (length taken.routers)) taken.room in
     record {
       kept = end.kept;

@@ -129,12 +129,12 @@ module _ (document : Members) (links routers done : List Data) (d : Data) (rest 
   at_count : (u : Sketch) (spots : List At) → place_ats u ≡ spots → length u.places ≡ length spots
   at_count u spots h = sym (length-map u.places (λ (p : DraftPlace). p.at)) ∙ ap length h
 
-  prefixes_find : (laws : TextLaws) (u : Sketch) (name : List ℕ) → steps link_step 1 done empty ≡ Ok u → (all : List Data) → items_in (get (codes_of "prefixes") d) ≡ all
+  prefixes_find : (laws : TextLaws) (poison : Bool) (u : Sketch) (name : List ℕ) → steps link_step 1 done (empty poison) ≡ Ok u → (all : List Data) → items_in (get (codes_of "prefixes") d) ≡ all
       → Finds (IsTold document links routers) (prefixes_rows (1 + length done)).has (steps (prefix_step (1 + length done)) 1 all (with_link name u))
-  prefixes_find laws u name taken all items =
+  prefixes_find laws poison u name taken all items =
       steps_finds (IsTold document links routers) (prefix_step i) (λ j. (prefix_rows i j).has) (0 ∷ 1 ∷ i ∷ 1 ∷ []) (prefix_starts i) all (with_link name u)
       (λ front x back v parts steps_taken.
-      let before = links_stand 1 done empty u taken in
+      let before = links_stand 1 done (empty poison) u taken in
       let inner = prefixes_stand i 1 front (with_link name u) v steps_taken in
       let one : length u.places ≡ length (stood done) = at_count u (stood done) before.places in
       let two : length v.places ≡ length (place_ats u ++ spots_of (LinkPrefix i) 1 front) = at_count v (place_ats u ++ spots_of (LinkPrefix i) 1 front) inner.places in
@@ -150,11 +150,11 @@ module _ (document : Members) (links routers done : List Data) (d : Data) (rest 
       i : ℕ
       i = 1 + length done
 
-  link_finds : (laws : TextLaws) (u : Sketch) → steps link_step 1 done empty ≡ Ok u → Finds (IsTold document links routers) (link_rows (1 + length done)).has (link_step (1 + length done) d u)
+  link_finds : (laws : TextLaws) (poison : Bool) (u : Sketch) → steps link_step 1 done (empty poison) ≡ Ok u → Finds (IsTold document links routers) (link_rows (1 + length done)).has (link_step (1 + length done) d u)
   unfolding link_step
-  link_finds laws u taken =
+  link_finds laws poison u taken =
       let i : ℕ = 1 + length done in
-      let added = links_added laws 0 done empty u taken in
+      let added = links_added laws 0 done (empty poison) u taken in
       let names : u.links ≡ added.names = ap (λ (v : Sketch). v.links) added.made in
       let named : Matched IsNameOf u.links done = subst (λ (l : List (List ℕ)). Matched IsNameOf l done) (sym names) added.named in
       want_told document links routers codes.Key (Link i) (as_table d &> link_fields) (link_from_name i) (by_code (Link i) codes.Key codes.Name refl (omega arith)) _
@@ -169,10 +169,10 @@ module _ (document : Members) (links routers done : List Data) (d : Data) (rest 
       guard_told document links routers (is_one_of f.0 u.links) codes.DuplicateName (Link i) (prefixes_rows i) (inr (refl, inr (refl, inr (refl, inl (omega arith))))) _
       (λ again. again_told laws links done d rest split u.links named f.0 table.named again)
       (λ fresh h. again_clear laws links done d rest split u.links named f.0 table.named fresh h)
-      (λ fresh. prefixes_find laws u f.0 taken f.1 table.prefixes_are)))
+      (λ fresh. prefixes_find laws poison u f.0 taken f.1 table.prefixes_are)))
 
-pub links_find : (laws : TextLaws) (document : Members) (links routers : List Data) → Finds (IsTold document links routers) links_rows.has (steps link_step 1 links empty)
-links_find laws document links routers =
-    steps_finds (IsTold document links routers) link_step (λ i. (link_rows i).has) (0 ∷ 1 ∷ []) link_starts links empty
-    (λ done x rest u split taken. link_finds document links routers done x rest split laws u taken)
+pub links_find : (laws : TextLaws) (document : Members) (links routers : List Data) (poison : Bool) → Finds (IsTold document links routers) links_rows.has (steps link_step 1 links (empty poison))
+links_find laws document links routers poison =
+    steps_finds (IsTold document links routers) link_step (λ i. (link_rows i).has) (0 ∷ 1 ∷ []) link_starts links (empty poison)
+    (λ done x rest u split taken. link_finds document links routers done x rest split laws poison u taken)
     (λ m o past row f. let within : m ≤ length links = link_row_within document links routers m o row f in omega arith)

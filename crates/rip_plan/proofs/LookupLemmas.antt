@@ -57,9 +57,9 @@ number_of_planned n laws p k h =
 
 -- an interface of the list with this router, this link and this direct metric
 abbrev IsConnectedIn : List Interface → ℕ → ℕ → ℕ → ℕ → Type 0
-IsConnectedIn is i r l d = (a c : ℕ) × (slice_get is i ≡ Some (record { router = r; link = l; address = a; cost = c; direct = d }))
+IsConnectedIn is i r l d = (a c : ℕ) × (b : Bool) × (slice_get is i ≡ Some (record { router = r; link = l; address = a; cost = c; direct = d; poison = b }))
 
-same_interface : (x : Interface) (r l d : ℕ) → x.router ≡ r → x.link ≡ l → x.direct ≡ d → x ≡ record { router = r; link = l; address = x.address; cost = x.cost; direct = d }
+same_interface : (x : Interface) (r l d : ℕ) → x.router ≡ r → x.link ≡ l → x.direct ≡ d → x ≡ record { router = r; link = l; address = x.address; cost = x.cost; direct = d; poison = x.poison }
 same_interface x r l d e f g = rw (← e, ← f, ← g) refl
 
 cost_found : (r l d : ℕ) (is : List Interface) → cost_on r l is ≡ Some d → (i : ℕ) × IsConnectedIn is i r l d
@@ -73,18 +73,18 @@ cost_found r l d (x ∷ xs) h = by_test (x.router == r && x.link == l) refl h (�
         let router : x.router ≡ r = grind (arith, nat_tests) in
         let link : x.link ≡ l = grind (arith, nat_tests) in
         let direct : x.direct ≡ d = same_Some x.direct d f in
-        (zero, (x.address, x.cost, ap (λ (y : Interface). Some y) (same_interface x r l d router link direct)))
-    by_test false e f later = let (i, (a, c, at)) = later f in (suc i, (a, c, at))
+        (zero, (x.address, x.cost, x.poison, ap (λ (y : Interface). Some y) (same_interface x r l d router link direct)))
+    by_test false e f later = let (i, (a, c, p, at)) = later f in (suc i, (a, c, p, at))
 
-cost_there : (r l d a c i : ℕ) (is : List Interface) → slice_get is i ≡ Some (record { router = r; link = l; address = a; cost = c; direct = d }) → cost_on r l is ≡ None → ⊥
-cost_there r l d a c i [] h e = absurd (none-some _ h)
-cost_there r l d a c zero (x ∷ xs) h e =
+cost_there : (r l d a c i : ℕ) (b : Bool) (is : List Interface) → slice_get is i ≡ Some (record { router = r; link = l; address = a; cost = c; direct = d; poison = b }) → cost_on r l is ≡ None → ⊥
+cost_there r l d a c i b [] h e = absurd (none-some _ h)
+cost_there r l d a c zero b (x ∷ xs) h e =
     let same = same_Some x _ h in
     let router : (x.router == r) ≡ true = rw same (grind (arith, nat_tests)) in
     let link : (x.link == l) ≡ true = rw same (grind (arith, nat_tests)) in
     let here : cost_on r l (x ∷ xs) ≡ Some x.direct = rw (router, link) refl in
     none-some x.direct (sym e ∙ here)
-cost_there r l d a c (suc i) (x ∷ xs) h e = by_test (x.router == r && x.link == l) e (λ f. cost_there r l d a c i xs h f)
+cost_there r l d a c (suc i) b (x ∷ xs) h e = by_test (x.router == r && x.link == l) e (λ f. cost_there r l d a c i b xs h f)
   where
     by_test : (b : Bool) → cond b (Some x.direct) (cost_on r l xs) ≡ None → (cost_on r l xs ≡ None → ⊥) → ⊥
     by_test true f later = absurd cc
@@ -127,8 +127,8 @@ direct_there r k (suc j) seat is (q ∷ qs) h e = by_test (q.prefix == k) e (λ 
 
 cost_touches : (n : Network) (j k r c : ℕ) (seat : Seat) → IsPlace n j k seat → cost_at r n.interfaces seat ≡ Some c → Touches n j k r c
 cost_touches n j k r c (seats.Link l) place h =
-    let (i, (a, cost, at)) = cost_found r l c n.interfaces h in
-    inl (l, place, (i, record { address = a; cost = cost; listed = at }))
+    let (i, (a, cost, poison, at)) = cost_found r l c n.interfaces h in
+    inl (l, place, (i, record { address = a; cost = cost; poison = poison; listed = at }))
 cost_touches n j k r c (seats.Own owner d kept link via) place h = by_test (owner == r) refl h
   where
     by_test : (b : Bool) → (owner == r) ≡ b → cond b (Some d) None ≡ Some c → Touches n j k r c
@@ -144,11 +144,11 @@ cost_touches n j k r c (seats.Own owner d kept link via) place h = by_test (owne
     by_test false e f = absurd cc
 
 touch_costs : (n : Network) (j k r c : ℕ) → Touches n j k r c → (seat : Seat) × IsPlace n j k seat × (cost_at r n.interfaces seat ≡ None → ⊥)
-touch_costs n j k r c (inl (l, place, (i, is))) = (seats.Link l, place, λ e. cost_there r l c is.address is.cost i n.interfaces is.listed e)
+touch_costs n j k r c (inl (l, place, (i, is))) = (seats.Link l, place, λ e. cost_there r l c is.address is.cost i is.poison n.interfaces is.listed e)
 touch_costs n j k r c (inr own) = (seats.Own r c own.kept own.link own.via, own.place, λ e. let same : (r == r) ≡ true = grind (arith, nat_tests) in none-some c (sym (rw same at e)))
 
 pub interface_of : (n : Network) (i r l d : ℕ) → (is : IsConnected n i r l d) → IsInterface n i r l is.cost
-interface_of n i r l d is = record { address = is.address; direct = d; listed = is.listed }
+interface_of n i r l d is = record { address = is.address; direct = d; poison = is.poison; listed = is.listed }
 
 -- a place has one seat
 pub one_seat : (n : Network) (j k : ℕ) (seat other : Seat) → IsPlace n j k seat → IsPlace n j k other → seat ≡ other
@@ -316,7 +316,7 @@ on_link_gives n l i h =
     let (j, x, e, is, test) = number_passes (is_on l) 0 n.interfaces k i at in
     let same : i ≡ j = omega arith in
     let link : x.link ≡ l = grind (arith, nat_tests) in
-    (x.router, x.cost, record { address = x.address; direct = x.direct; listed = ap (slice_get n.interfaces) same ∙ is ∙ ap (λ (m : ℕ). Some (record x { link = m })) link })
+    (x.router, x.cost, record { address = x.address; direct = x.direct; poison = x.poison; listed = ap (slice_get n.interfaces) same ∙ is ∙ ap (λ (m : ℕ). Some (record x { link = m })) link })
 
 pub on_link_finds : (n : Network) (l i r c : ℕ) → IsInterface n i r l c → Contains (numbers_where (is_on l) 0 n.interfaces) i
 on_link_finds n l i r c h =
@@ -331,7 +331,7 @@ of_router_gives n r i h =
     let (j, x, e, is, test) = number_passes (is_of r) 0 n.interfaces k i at in
     let same : i ≡ j = omega arith in
     let router : x.router ≡ r = grind (arith, nat_tests) in
-    (x.link, x.cost, record { address = x.address; direct = x.direct; listed = ap (slice_get n.interfaces) same ∙ is ∙ ap (λ (m : ℕ). Some (record x { router = m })) router })
+    (x.link, x.cost, record { address = x.address; direct = x.direct; poison = x.poison; listed = ap (slice_get n.interfaces) same ∙ is ∙ ap (λ (m : ℕ). Some (record x { router = m })) router })
 
 pub of_router_finds : (n : Network) (r i l c : ℕ) → IsInterface n i r l c → Contains (numbers_where (is_of r) 0 n.interfaces) i
 of_router_finds n r i l c h =

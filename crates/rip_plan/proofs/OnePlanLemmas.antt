@@ -1,5 +1,5 @@
 -- A document has one plan.
-use Rattle.std.proofs.Common.{◌≡◌, ℕ, inl, inr, List, ◌++◌, map, Bool, Option, Some, None, refl, sym, ◌∙◌, ap, subst}
+use Rattle.std.proofs.Common.{◌≡◌, ℕ, inl, inr, List, ◌++◌, map, Bool, true, false, Option, Some, None, refl, sym, ◌∙◌, ap, subst}
 use Rattle.std.specs.Prelude.{pos, slice_get, codes as codes_of}
 use Rattle.std.proofs.lemmas.Option.{none-some, same_Some}
 use Rattle.toml.specs.Data.{Data, Members, string, boolean, integer, array, table, get}
@@ -11,7 +11,7 @@ use Rattle.rip_plan.specs.declared.parts.Seat.TheVariants as seats
 use Rattle.rip_plan.specs.Fields.{list_of}
 use Rattle.rip_plan.specs.Passes.{same_prefix}
 use Rattle.rip_plan.specs.Network.{Network}
-use Rattle.rip_plan.specs.PlanOf.{Matched, HasText, HasItems, IsAddressOf, AreAlsoOf, IsCostOf, IsDirectOf, IsGatewayOf, IsKeptOf, IsLinkOf, IsNameOf, items_in, items_under, IsInterfaceOf, Placement, IsOnLink, IsOwned, IsPlaceOf, each_once, PlanOf, IsFirstNamed}
+use Rattle.rip_plan.specs.PlanOf.{Matched, HasText, HasItems, IsAddressOf, AreAlsoOf, IsCostOf, IsDirectOf, IsFlagOf, IsGatewayOf, IsLinkOf, IsNameOf, items_in, items_under, IsInterfaceOf, Placement, IsOnLink, IsOwned, IsPlaceOf, each_once, PlanOf, IsFirstNamed}
 use Rattle.rip_plan.proofs.ItemLemmas.{distinct_at}
 use Rattle.rip_plan.proofs.NumberingLemmas.{same_self}
 use Rattle.rip_plan.proofs.MatchingLemmas.{matched_same}
@@ -39,11 +39,11 @@ direct_same d b c e x y (inl h) (inr k) = absurd (none-some _ (sym k.0 ∙ h))
 direct_same d b c e x y (inr h) (inl k) = absurd (none-some _ (sym h.0 ∙ k))
 direct_same d b c e x y (inr h) (inr k) = h.1 ∙ e ∙ sym k.1
 
-kept_same : (d : Data) (b c : Bool) → IsKeptOf d b → IsKeptOf d c → b ≡ c
-kept_same d b c (inl h) (inl k) = let same : boolean b ≡ boolean c = same_Some _ _ (sym h ∙ k) in cc
-kept_same d b c (inl h) (inr k) = absurd (none-some _ (sym k.0 ∙ h))
-kept_same d b c (inr h) (inl k) = absurd (none-some _ (sym h.0 ∙ k))
-kept_same d b c (inr h) (inr k) = h.1 ∙ sym k.1
+flag_same : (key : List ℕ) (d : Data) (b c : Bool) → b ≡ c → (x y : Bool) → IsFlagOf key b d x → IsFlagOf key c d y → x ≡ y
+flag_same key d b c e x y (inl h) (inl k) = let same : boolean x ≡ boolean y = same_Some _ _ (sym h ∙ k) in cc
+flag_same key d b c e x y (inl h) (inr k) = absurd (none-some _ (sym k.0 ∙ h))
+flag_same key d b c e x y (inr h) (inl k) = absurd (none-some _ (sym h.0 ∙ k))
+flag_same key d b c e x y (inr h) (inr k) = h.1 ∙ e ∙ sym k.1
 
 link_same : (names others : List (List ℕ)) → names ≡ others → (d : Data) (l m : Option ℕ) → IsLinkOf names d l → IsLinkOf others d m → l ≡ m
 link_same names others same d None None h k = refl
@@ -59,8 +59,8 @@ gateway_same laws d None (Some b) h k = absurd (none-some _ (sym h ∙ k.1))
 gateway_same laws d (Some a) None h k = absurd (none-some _ (sym k ∙ h.1))
 gateway_same laws d (Some a) (Some b) h k = let one : h.0 ≡ k.0 = text_same (codes_of "via") d h.0 k.0 h.1 k.1 in ap (λ (n : ℕ). Some n) (one_address laws h.0 k.0 a b one h.2 k.2)
 
-interface_same : (laws : TextLaws) (names others : List (List ℕ)) → names ≡ others → (x y : Interface) (at : ℕ × Data) → IsInterfaceOf names x at → IsInterfaceOf others y at → x ≡ y
-interface_same laws names others same x y at h k =
+interface_same : (laws : TextLaws) (names others : List (List ℕ)) → names ≡ others → (b c : Bool) → b ≡ c → (x y : Interface) (at : ℕ × Data) → IsInterfaceOf names b x at → IsInterfaceOf others c y at → x ≡ y
+interface_same laws names others same b c root x y at h k =
     let router : x.router ≡ y.router = h.router ∙ sym k.router in
     let name : h.link_name ≡ k.link_name = text_same (codes_of "link") at.1 h.link_name k.link_name h.has_link k.has_link in
     let link : x.link ≡ y.link = one_named names h.link_name k.link_name x.link y.link name h.link (subst (λ (ns : List (List ℕ)). IsFirstNamed ns k.link_name y.link) (sym same) k.link) in
@@ -68,11 +68,13 @@ interface_same laws names others same x y at h k =
     let address : x.address ≡ y.address = one_address laws h.text k.text x.address y.address text h.address k.address in
     let cost : x.cost ≡ y.cost = cost_same at.1 x.cost y.cost h.cost k.cost in
     let direct : x.direct ≡ y.direct = direct_same at.1 x.cost y.cost cost x.direct y.direct h.direct k.direct in
+    let poison : x.poison ≡ y.poison = flag_same (codes_of "poison") at.1 b c root x.poison y.poison h.poisons k.poisons in
     ap (λ (v : ℕ). record x { router = v }) router
-    ∙ ap (λ (v : ℕ). record { router = y.router; link = v; address = x.address; cost = x.cost; direct = x.direct }) link
-    ∙ ap (λ (v : ℕ). record { router = y.router; link = y.link; address = v; cost = x.cost; direct = x.direct }) address
-    ∙ ap (λ (v : ℕ). record { router = y.router; link = y.link; address = y.address; cost = v; direct = x.direct }) cost
-    ∙ ap (λ (v : ℕ). record { router = y.router; link = y.link; address = y.address; cost = y.cost; direct = v }) direct
+    ∙ ap (λ (v : ℕ). record { router = y.router; link = v; address = x.address; cost = x.cost; direct = x.direct; poison = x.poison }) link
+    ∙ ap (λ (v : ℕ). record { router = y.router; link = y.link; address = v; cost = x.cost; direct = x.direct; poison = x.poison }) address
+    ∙ ap (λ (v : ℕ). record { router = y.router; link = y.link; address = y.address; cost = v; direct = x.direct; poison = x.poison }) cost
+    ∙ ap (λ (v : ℕ). record { router = y.router; link = y.link; address = y.address; cost = y.cost; direct = v; poison = x.poison }) direct
+    ∙ ap (λ (v : Bool). record { router = y.router; link = y.link; address = y.address; cost = y.cost; direct = y.direct; poison = v }) poison
 
 address_same : (laws : TextLaws) (a b : ℕ) (d : Data) → IsAddressOf a d → IsAddressOf b d → a ≡ b
 address_same laws a b d (t, h, is) (u, k, its) =
@@ -96,7 +98,7 @@ owned_same : (laws : TextLaws) (names others : List (List ℕ)) → names ≡ ot
 owned_same laws names others same x y at h k =
     let text : h.text ≡ k.text = text_same (codes_of "prefix") at.1 h.text k.text h.has_prefix k.has_prefix in
     let cost : h.cost ≡ k.cost = cost_same at.1 h.cost k.cost h.is_cost k.is_cost in
-    let kept : h.kept ≡ k.kept = kept_same at.1 h.kept k.kept h.is_kept k.is_kept in
+    let kept : h.kept ≡ k.kept = flag_same (codes_of "kept") at.1 false false refl h.kept k.kept h.is_kept k.is_kept in
     let link : h.link ≡ k.link = link_same names others same at.1 h.link k.link h.is_link k.is_link in
     let via : h.via ≡ k.via = gateway_same laws at.1 h.via k.via h.is_via k.is_via in
     let seat : seats.Own at.0 h.cost h.kept h.link h.via ≡ seats.Own at.0 k.cost k.kept k.link k.via = rw (cost, kept, link, via) refl in
@@ -128,9 +130,10 @@ one_plan laws document n m p q =
     let others : n.routers ≡ m.routers =
     matched_same IsNameOf IsNameOf (λ x y d h k. text_same (codes_of "name") d x y h k) n.routers m.routers p.routers p.router_names
     (subst (Matched IsNameOf m.routers) router_tables q.router_names) in
+    let poison : p.poison ≡ q.poison = flag_same (codes_of "poison") (table document) true true refl p.poison q.poison p.has_poison q.has_poison in
     let interfaces : n.interfaces ≡ m.interfaces =
-    matched_same (IsInterfaceOf n.links) (IsInterfaceOf m.links) (interface_same laws n.links m.links names) n.interfaces m.interfaces (items_under (codes_of "interface") 0 p.routers) p.interfaces
-    (subst (λ (ds : List Data). Matched (IsInterfaceOf m.links) m.interfaces (items_under (codes_of "interface") 0 ds)) router_tables q.interfaces) in
+    matched_same (IsInterfaceOf n.links p.poison) (IsInterfaceOf m.links q.poison) (interface_same laws n.links m.links names p.poison q.poison poison) n.interfaces m.interfaces (items_under (codes_of "interface") 0 p.routers) p.interfaces
+    (subst (λ (ds : List Data). Matched (IsInterfaceOf m.links q.poison) m.interfaces (items_under (codes_of "interface") 0 ds)) router_tables q.interfaces) in
     let also : n.also ≡ m.also =
     matched_same AreAlsoOf AreAlsoOf (also_same laws) n.also m.also (items_under (codes_of "interface") 0 p.routers) p.also
     (subst (λ (ds : List Data). Matched AreAlsoOf m.also (items_under (codes_of "interface") 0 ds)) router_tables q.also) in

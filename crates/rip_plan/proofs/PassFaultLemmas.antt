@@ -254,7 +254,7 @@ module _ (s : Sketch) where
   touches : (k p r : ℕ) (seat : Seat) → IsPlace (network_of_sketch s) k p seat → list_any (λ m. m == r) (touched s.interfaces seat) ≡ true → (c : ℕ) × Touches (network_of_sketch s) k p r c
   touches k p r (seats.Link l) place h =
       let (i, x, at, link, router) = touched_on s.interfaces l r h in
-      (x.interface.direct, inl (l, place, (i, record { address = x.interface.address; cost = x.interface.cost; listed = listed_as i x r l at router link })))
+      (x.interface.direct, inl (l, place, (i, record { address = x.interface.address; cost = x.interface.cost; poison = x.interface.poison; listed = listed_as i x r l at router link })))
   touches k p r (seats.Own owner c kept link via) place h =
       let one : (owner == r) ≡ true = only (owner == r) h in
       let same : owner ≡ r = grind (arith, nat_tests) in
@@ -327,8 +327,8 @@ module _ (s : Sketch) where
         y.interface.link,
         y.interface.cost,
         x.interface.cost,
-        record { address = y.interface.address; direct = y.interface.direct; listed = interface_from j y at },
-        record { address = x.interface.address; direct = x.interface.direct; listed = listed_as k x y.interface.router y.interface.link there router link },
+        record { address = y.interface.address; direct = y.interface.direct; poison = y.interface.poison; listed = interface_from j y at },
+        record { address = x.interface.address; direct = x.interface.direct; poison = x.interface.poison; listed = listed_as k x y.interface.router y.interface.link there router link },
       )
 
   twice_takes : (j k : ℕ) (y x : DraftInterface) → slice_get s.interfaces j ≡ Some y → slice_get s.interfaces k ≡ Some x → AreTwice (network_of_sketch s) j k → are_twice y x ≡ true
@@ -444,7 +444,7 @@ module _ (s : Sketch) where
           let (routers, links) = both (x.interface.router == r) (x.interface.link == l) test in
           let router : x.interface.router ≡ r = grind (arith, nat_tests) in
           let link : x.interface.link ≡ l = grind (arith, nat_tests) in
-          none (x.interface.cost, (i, record { address = x.interface.address; direct = x.interface.direct; listed = listed_as i x r l listed router link }))
+          none (x.interface.cost, (i, record { address = x.interface.address; direct = x.interface.direct; poison = x.interface.poison; listed = listed_as i x r l listed router link }))
 
       by_test : (b : Bool) → is_there s.interfaces r l ≡ b → is_there s.interfaces r l ≡ false
       by_test true e = absurd (on e)
@@ -465,7 +465,7 @@ module _ (s : Sketch) where
   bare_takes k h none =
       let (i, x, at, test) = any_finds (λ (y : DraftInterface). y.interface.router == k) s.interfaces (not_false (list_any (λ (y : DraftInterface). y.interface.router == k) s.interfaces) h) in
       let of : x.interface.router ≡ k = grind (arith, nat_tests) in
-      none i x.interface.link x.interface.cost (record { address = x.interface.address; direct = x.interface.direct; listed = interface_from i x at ∙ ap (λ (m : ℕ). Some (record x.interface { router = m })) of })
+      none i x.interface.link x.interface.cost (record { address = x.interface.address; direct = x.interface.direct; poison = x.interface.poison; listed = interface_from i x at ∙ ap (λ (m : ℕ). Some (record x.interface { router = m })) of })
     where
       not_false : (b : Bool) → not b ≡ false → b ≡ true
       not_false true e = refl

@@ -1,6 +1,6 @@
 -- A plan that was read is matched item by item with the document.
-use Rattle.std.proofs.Common.{◌≡◌, ℕ, ◌+◌, ◌-◌, List, [], ◌∷◌, ◌++◌, map, append_assoc, Some, Ok, refl, sym, ◌∙◌, ap, subst, arith}
-use Rattle.std.specs.Prelude.{codes as codes_of}
+use Rattle.std.proofs.Common.{◌≡◌, ℕ, ◌+◌, ◌-◌, List, [], ◌∷◌, ◌++◌, map, append_assoc, Bool, true, Some, Ok, refl, sym, ◌∙◌, ap, subst, arith}
+use Rattle.std.specs.Prelude.{unwrap_or, codes as codes_of}
 use Rattle.std.proofs.lemmas.Option.{none-some, same_Some}
 use Rattle.std.proofs.lemmas.List.{append-nil, length-map}
 use Rattle.toml.specs.Data.{Data, Members, get_member, table}
@@ -11,18 +11,18 @@ use Rattle.rip_plan.specs.declared.parts.Interface.{Interface}
 use Rattle.rip_plan.specs.declared.parts.Seat.TheVariants as seats
 use Rattle.rip_plan.specs.declared.error.At.TheVariants.{LinkPrefix, RouterInterface, RouterOwn}
 use Rattle.rip_plan.specs.Fault.{steps}
-use Rattle.rip_plan.specs.Fields.{◌&>◌, items_at, root_keys, has_only, some_items, root_fields}
+use Rattle.rip_plan.specs.Fields.{◌&>◌, flag_if, items_at, root_keys, has_only, some_items, root_fields}
 use Rattle.rip_plan.specs.Draft.{Sketch, prefix_step, link_step, interface_step, own_step, router_step}
 use Rattle.rip_plan.specs.PlanText.{empty, sketch_of}
 use Rattle.rip_plan.specs.Network.{Network, network_in, network_of_sketch}
-use Rattle.rip_plan.specs.PlanOf.{Matched, HasItems, IsAddressOf, AreAlsoOf, IsNameOf, items_under, IsInterfaceOf, Placement, IsOnLink, IsOwned, IsPlaceOf, each_once, PlanOf, IsPlanOfText}
+use Rattle.rip_plan.specs.PlanOf.{Matched, HasItems, IsAddressOf, AreAlsoOf, IsNameOf, items_under, IsInterfaceOf, Placement, IsOnLink, IsOwned, IsPlaceOf, IsPoisonOf, each_once, PlanOf, IsPlanOfText}
 use Rattle.rip_plan.proofs.BindLemmas.{bind_ok, ok_same}
 use Rattle.rip_plan.proofs.TakenStepLemmas.{with_link, with_router, prefix_taken, link_taken, interface_taken, own_taken, router_taken, text_taken}
 use Rattle.rip_plan.proofs.NumberingLemmas.{numbers}
 use Rattle.rip_plan.proofs.MatchingLemmas.{matched_append, matched_at, map_append}
 use Rattle.rip_plan.proofs.EachOnceLemmas.{numbered_once}
 use Rattle.rip_plan.proofs.ItemLemmas.{get_seen}
-use Rattle.rip_plan.proofs.TableLemmas.{addresses_are, link_table, interface_table, own_table, router_table, then_some, chosen, items_there, text_is}
+use Rattle.rip_plan.proofs.TableLemmas.{addresses_are, flag_if_is, flag_meant, link_table, interface_table, own_table, router_table, then_some, chosen, items_there, text_is}
 use Rattle.rip_plan.proofs.TextLemmas.{TextLaws, address_is, prefix_is, first_named}
 
 abbrev pub placement : DraftPlace → Placement
@@ -98,7 +98,7 @@ pub record InterfacesAdded (r : ℕ) (xs : List Data) (s t : Sketch) : Type 0 wh
   pub added : List DraftInterface
   pub further : List (List ℕ)
   pub made : t ≡ record s { interfaces = s.interfaces ++ added; also = s.also ++ further }
-  pub match : Matched (IsInterfaceOf s.links) (map its_interface added) (map (with_number r) xs)
+  pub match : Matched (IsInterfaceOf s.links s.poison) (map its_interface added) (map (with_number r) xs)
   pub also_match : Matched AreAlsoOf further (map (with_number r) xs)
 
 pub interfaces_added : (laws : TextLaws) (r j : ℕ) (xs : List Data) (s t : Sketch) → steps (interface_step (r + 1)) j xs s ≡ Ok t → InterfacesAdded r xs s t
@@ -116,7 +116,7 @@ interfaces_added laws r j (x ∷ xs) s t h =
     let taken = interface_taken (r + 1) j x s u first in
     let fields = interface_table x taken.given taken.cost taken.direct taken.fields taken.costs taken.directs in
     let rest = interfaces_added laws r (j + 1) xs u t others in
-    let new : DraftInterface = record { interface = record { router = r + 1 - 1; link = taken.link; address = taken.address; cost = taken.cost; direct = taken.direct }; at = RouterInterface (r + 1) j } in
+    let new : DraftInterface = record { interface = record { router = r + 1 - 1; link = taken.link; address = taken.address; cost = taken.cost; direct = taken.direct; poison = unwrap_or taken.given.poison s.poison }; at = RouterInterface (r + 1) j } in
     record {
       added = new ∷ rest.added;
       further = taken.also ∷ rest.further;
@@ -125,8 +125,8 @@ interfaces_added laws r j (x ∷ xs) s t h =
           ∙ ap (λ (is : List DraftInterface). record s { interfaces = is; also = (s.also ++ taken.also ∷ []) ++ rest.further }) (append_assoc s.interfaces (new ∷ []) rest.added)
           ∙ ap (λ (l : List (List ℕ)). record s { interfaces = s.interfaces ++ new ∷ rest.added; also = l }) (append_assoc s.also (taken.also ∷ []) rest.further);
       match = (
-        record { router = back r; link_name = taken.given.link; has_link = fields.has.has_link; link = first_named taken.given.link s.links taken.link taken.known; text = taken.given.address; has_address = fields.has.has_address; address = address_is laws taken.given.address taken.address taken.parsed; cost = fields.cost; direct = fields.direct },
-        subst (λ (names : List (List ℕ)). Matched (IsInterfaceOf names) (map its_interface rest.added) (map (with_number r) xs)) (ap (λ (v : Sketch). v.links) taken.made) rest.match,
+        record { router = back r; link_name = taken.given.link; has_link = fields.has.has_link; link = first_named taken.given.link s.links taken.link taken.known; text = taken.given.address; has_address = fields.has.has_address; address = address_is laws taken.given.address taken.address taken.parsed; cost = fields.cost; direct = fields.direct; poisons = fields.poisons s.poison },
+        subst (λ (v : Sketch). Matched (IsInterfaceOf v.links v.poison) (map its_interface rest.added) (map (with_number r) xs)) taken.made rest.match,
       );
       also_match = (subst (Matched IsAddressOf taken.also) (sym fields.has.also_are) (addresses_are laws taken.given.also taken.also taken.others), rest.also_match);
     }
@@ -175,7 +175,7 @@ pub record RoutersAdded (k : ℕ) (xs : List Data) (s t : Sketch) : Type 0 where
   pub owned : List DraftPlace
   pub made : t ≡ record s { routers = s.routers ++ names; interfaces = s.interfaces ++ interfaces; also = s.also ++ also; places = s.places ++ owned }
   pub named : Matched IsNameOf names xs
-  pub on_links : Matched (IsInterfaceOf s.links) (map its_interface interfaces) (items_under (codes_of "interface") k xs)
+  pub on_links : Matched (IsInterfaceOf s.links s.poison) (map its_interface interfaces) (items_under (codes_of "interface") k xs)
   pub further : Matched AreAlsoOf also (items_under (codes_of "interface") k xs)
   pub own : Matched (IsOwned s.links) (map placement owned) (items_under (codes_of "own") k xs)
 
@@ -218,8 +218,8 @@ routers_added laws k (x ∷ xs) s t h =
           ∙ ap (λ (ps : List DraftPlace). record s { routers = s.routers ++ taken.name ∷ rest.names; interfaces = s.interfaces ++ (inner.added ++ rest.interfaces); also = s.also ++ (inner.further ++ rest.also); places = ps }) (append_assoc s.places own.added rest.owned);
       named = (fields.named, rest.named);
       on_links = rw (map_append its_interface inner.added rest.interfaces, fields.interfaces_are)
-          (matched_append (IsInterfaceOf s.links) (map its_interface inner.added) (map its_interface rest.interfaces) (map (with_number k) taken.interfaces) (items_under (codes_of "interface") (k + 1) xs) inner.match
-          (subst (λ (names : List (List ℕ)). Matched (IsInterfaceOf names) (map its_interface rest.interfaces) (items_under (codes_of "interface") (k + 1) xs)) (ap (λ (v : Sketch). v.links) here) rest.on_links));
+          (matched_append (IsInterfaceOf s.links s.poison) (map its_interface inner.added) (map its_interface rest.interfaces) (map (with_number k) taken.interfaces) (items_under (codes_of "interface") (k + 1) xs) inner.match
+          (subst (λ (v : Sketch). Matched (IsInterfaceOf v.links v.poison) (map its_interface rest.interfaces) (items_under (codes_of "interface") (k + 1) xs)) here rest.on_links));
       further = rw fields.interfaces_are (matched_append AreAlsoOf inner.further rest.also (map (with_number k) taken.interfaces) (items_under (codes_of "interface") (k + 1) xs) inner.also_match rest.further);
       own = rw (map_append placement own.added rest.owned, fields.owns_are)
           (matched_append (IsOwned s.links) (map placement own.added) (map placement rest.owned) (map (with_number k) taken.owns) (items_under (codes_of "own") (k + 1) xs)
@@ -233,22 +233,27 @@ pub some_items_same : (xs ys : List Data) → some_items xs ≡ Some ys → xs �
 some_items_same [] ys h = absurd (none-some ys h)
 some_items_same (x ∷ xs) ys h = same_Some (x ∷ xs) ys h
 
-pub record IsRoot (doc : Members) (links routers : List Data) : Type 0 where
+pub record IsRoot (doc : Members) (links routers : List Data) (poison : Bool) : Type 0 where
   pub has_links : HasItems (codes_of "link") (table doc) links
   pub has_routers : HasItems (codes_of "router") (table doc) routers
+  pub has_poison : IsPoisonOf true (table doc) poison
 
-pub root_table : (doc : Members) (links routers : List Data) → root_fields doc ≡ Some (links, routers) → IsRoot doc links routers
+pub root_table : (doc : Members) (links routers : List Data) (poison : Bool) → root_fields doc ≡ Some (links, routers, poison) → IsRoot doc links routers poison
 unfolding root_fields
-root_table doc links routers h =
-    let h1 = chosen (has_only root_keys doc) _ (links, routers) h in
-    let (a, first, h2) = then_some (items_at (codes_of "link") doc &> some_items) _ (links, routers) h1 in
-    let (b, second, h3) = then_some (items_at (codes_of "router") doc &> some_items) _ (links, routers) h2 in
-    let same = same_Some (a, b) (links, routers) h3 in
+root_table doc links routers poison h =
+    let root : List Data × List Data × Bool = (links, routers, poison) in
+    let h1 = chosen (has_only root_keys doc) _ root h in
+    let (a, first, h2) = then_some (items_at (codes_of "link") doc &> some_items) _ root h1 in
+    let (b, second, h3) = then_some (items_at (codes_of "router") doc &> some_items) _ root h2 in
+    let (p, third, h4) = then_some (flag_if (get_member (codes_of "poison") doc)) _ root h3 in
+    let same = same_Some (a, b, unwrap_or p true) root h4 in
     let (c, given, some) = then_some (items_at (codes_of "link") doc) some_items a first in
     let (d, given', some') = then_some (items_at (codes_of "router") doc) some_items b second in
     record {
-      has_links = items_there (get_member (codes_of "link") doc) links (given ∙ ap (λ (xs : List Data). Some xs) (some_items_same c a some ∙ ap (λ (f : List Data × List Data). f.0) same));
-      has_routers = items_there (get_member (codes_of "router") doc) routers (given' ∙ ap (λ (xs : List Data). Some xs) (some_items_same d b some' ∙ ap (λ (f : List Data × List Data). f.1) same));
+      has_links = items_there (get_member (codes_of "link") doc) links (given ∙ ap (λ (xs : List Data). Some xs) (some_items_same c a some ∙ ap (λ (f : List Data × List Data × Bool). f.0) same));
+      has_routers = items_there (get_member (codes_of "router") doc) routers (given' ∙ ap (λ (xs : List Data). Some xs) (some_items_same d b some' ∙ ap (λ (f : List Data × List Data × Bool). f.1) same));
+      has_poison = subst (IsPoisonOf true (table doc)) (ap (λ (f : List Data × List Data × Bool). f.2) same)
+          (flag_meant (get_member (codes_of "poison") doc) p true (flag_if_is (get_member (codes_of "poison") doc) p third));
     }
 
 places_match : (s : Sketch) → Matched (IsPlaceOf (network_of_sketch s)) (network_of_sketch s).places (map placement s.places)
@@ -265,17 +270,18 @@ places_match s =
 pub record TablesTaken (doc : Members) (t : Sketch) : Type 0 where
   pub links : List Data
   pub routers : List Data
-  pub root : root_fields doc ≡ Some (links, routers)
+  pub poison : Bool
+  pub root : root_fields doc ≡ Some (links, routers, poison)
   pub between : Sketch
-  pub first : steps link_step 1 links empty ≡ Ok between
+  pub first : steps link_step 1 links (empty poison) ≡ Ok between
   pub second : steps router_step 1 routers between ≡ Ok t
 
 pub document_matches : (laws : TextLaws) (doc : Members) (s : Sketch) → TablesTaken doc s → PlanOf doc (network_of_sketch s)
 document_matches laws doc s taken =
-    let root = root_table doc taken.links taken.routers taken.root in
-    let links = links_added laws 0 taken.links empty taken.between taken.first in
+    let root = root_table doc taken.links taken.routers taken.poison taken.root in
+    let links = links_added laws 0 taken.links (empty taken.poison) taken.between taken.first in
     let routers = routers_added laws 0 taken.routers taken.between s taken.second in
-    let made : s ≡ record { links = links.names; routers = routers.names; interfaces = routers.interfaces; also = routers.also; places = links.added ++ routers.owned } =
+    let made : s ≡ record { links = links.names; routers = routers.names; poison = taken.poison; interfaces = routers.interfaces; also = routers.also; places = links.added ++ routers.owned } =
     routers.made ∙ ap (λ (v : Sketch). record v { routers = v.routers ++ routers.names; interfaces = v.interfaces ++ routers.interfaces; also = v.also ++ routers.also; places = v.places ++ routers.owned }) links.made in
     let names : s.links ≡ taken.between.links = ap (λ (v : Sketch). v.links) routers.made in
     let split : map placement s.places ≡ map placement links.added ++ map placement routers.owned = ap (λ (v : Sketch). map placement v.places) made ∙ map_append placement links.added routers.owned in
@@ -286,6 +292,8 @@ document_matches laws doc s taken =
       routers = taken.routers;
       has_routers = root.has_routers;
       router_names = subst (λ (names : List (List ℕ)). Matched IsNameOf names taken.routers) (ap (λ (v : Sketch). v.routers) (sym made)) routers.named;
+      poison = taken.poison;
+      has_poison = root.has_poison;
       interfaces = interfaces_match doc s taken;
       also = subst (λ (l : List (List ℕ)). Matched AreAlsoOf l (items_under (codes_of "interface") 0 taken.routers)) (ap (λ (v : Sketch). v.also) (sym made)) routers.further;
       on_links = map placement links.added;
@@ -300,20 +308,22 @@ document_matches laws doc s taken =
     blocks_seen [] = refl
     blocks_seen (d ∷ ds) = ap (λ (l : List Block). d.prefix ∷ l) (blocks_seen ds)
 
-    interfaces_match : (m : Members) (v : Sketch) (was : TablesTaken m v) → Matched (IsInterfaceOf v.links) (map its_interface v.interfaces) (items_under (codes_of "interface") 0 was.routers)
+    interfaces_match : (m : Members) (v : Sketch) (was : TablesTaken m v) → Matched (IsInterfaceOf v.links was.poison) (map its_interface v.interfaces) (items_under (codes_of "interface") 0 was.routers)
     interfaces_match m v was =
-        let links = links_added laws 0 was.links empty was.between was.first in
+        let links = links_added laws 0 was.links (empty was.poison) was.between was.first in
         let routers = routers_added laws 0 was.routers was.between v was.second in
         let none : was.between.interfaces ≡ [] = ap (λ (w : Sketch). w.interfaces) links.made in
         let are : v.interfaces ≡ routers.interfaces = ap (λ (w : Sketch). w.interfaces) routers.made ∙ ap (λ (is : List DraftInterface). is ++ routers.interfaces) none in
         let names : v.links ≡ was.between.links = ap (λ (w : Sketch). w.links) routers.made in
-        subst (λ (is : List DraftInterface). Matched (IsInterfaceOf v.links) (map its_interface is) (items_under (codes_of "interface") 0 was.routers)) (sym are)
-        (subst (λ (ls : List (List ℕ)). Matched (IsInterfaceOf ls) (map its_interface routers.interfaces) (items_under (codes_of "interface") 0 was.routers)) (sym names) routers.on_links)
+        let poison : was.between.poison ≡ was.poison = ap (λ (w : Sketch). w.poison) links.made in
+        subst (λ (is : List DraftInterface). Matched (IsInterfaceOf v.links was.poison) (map its_interface is) (items_under (codes_of "interface") 0 was.routers)) (sym are)
+        (subst (λ (ls : List (List ℕ)). Matched (IsInterfaceOf ls was.poison) (map its_interface routers.interfaces) (items_under (codes_of "interface") 0 was.routers)) (sym names)
+        (subst (λ (b : Bool). Matched (IsInterfaceOf was.between.links b) (map its_interface routers.interfaces) (items_under (codes_of "interface") 0 was.routers)) poison routers.on_links))
 
 matches : (laws : TextLaws) (bytes : List ℕ) (s : Sketch) → sketch_of bytes ≡ Ok s → IsPlanOfText bytes (network_of_sketch s)
 matches laws bytes s h =
     let taken = text_taken bytes s h in
-    record { document = taken.document; reads = taken.read; plan = document_matches laws taken.document s (record { links = taken.taken.links; routers = taken.taken.routers; root = taken.taken.root; between = taken.taken.between; first = taken.taken.first; second = taken.taken.second }) }
+    record { document = taken.document; reads = taken.read; plan = document_matches laws taken.document s (record { links = taken.taken.links; routers = taken.taken.routers; poison = taken.taken.poison; root = taken.taken.root; between = taken.taken.between; first = taken.taken.first; second = taken.taken.second }) }
 
 -- of a network that the bytes are
 pub network_matches : (laws : TextLaws) (bytes : List ℕ) (n : Network) → network_in bytes ≡ Ok n → IsPlanOfText bytes n

@@ -429,14 +429,14 @@ none_differ : IsDistinct bytes_eq []
 unfolding IsDistinct
 none_differ = tt
 
-linked_through : (laws : TextLaws) (links done : List Data) (w u : Sketch) → steps link_step 1 links empty ≡ Ok w → steps router_step 1 done w ≡ Ok u → Linked links u
-linked_through laws links done w u first second =
-    let added = links_added laws 0 links empty w first in
+linked_through : (laws : TextLaws) (links done : List Data) (poison : Bool) (w u : Sketch) → steps link_step 1 links (empty poison) ≡ Ok w → steps router_step 1 done w ≡ Ok u → Linked links u
+linked_through laws links done poison w u first second =
+    let added = links_added laws 0 links (empty poison) w first in
     let more = routers_added laws 0 done w u second in
     let names : u.links ≡ added.names = ap (λ (v : Sketch). v.links) more.made ∙ ap (λ (v : Sketch). v.links) added.made in
     record {
       named = subst (λ (l : List (List ℕ)). Matched IsNameOf l links) (sym names) added.named;
-      differ = subst (IsDistinct bytes_eq) (sym (ap (λ (v : Sketch). v.links) more.made)) (names_differ 1 links empty w none_differ first);
+      differ = subst (IsDistinct bytes_eq) (sym (ap (λ (v : Sketch). v.links) more.made)) (names_differ 1 links (empty poison) w none_differ first);
       on_links = added.added;
       owned = more.owned;
       places = ap (λ (v : Sketch). v.places) more.made ∙ ap (λ (v : Sketch). v.places ++ more.owned) added.made;
@@ -452,20 +452,20 @@ places_count u spots h = sym (length-map u.places (λ (p : DraftPlace). p.at)) �
 interfaces_count : (u : Sketch) (spots : List At) → interface_ats u ≡ spots → length u.interfaces ≡ length spots
 interfaces_count u spots h = sym (length-map u.interfaces (λ (p : DraftInterface). p.at)) ∙ ap length h
 
-module _ (document : Members) (links routers done : List Data) (d : Data) (rest : List Data) (split : routers ≡ done ++ d ∷ rest) (w u : Sketch) (first : steps link_step 1 links empty ≡ Ok w) (second : steps router_step 1 done w ≡ Ok u) where
+module _ (document : Members) (links routers done : List Data) (d : Data) (rest : List Data) (split : routers ≡ done ++ d ∷ rest) (poison : Bool) (w u : Sketch) (first : steps link_step 1 links (empty poison) ≡ Ok w) (second : steps router_step 1 done w ≡ Ok u) where
   interfaces_find : (laws : TextLaws) (name : List ℕ) (all : List Data) → items_in (get (codes_of "interface") d) ≡ all → Finds (IsTold document links routers) (interfaces_rows (1 + length done)).has (steps (interface_step (1 + length done)) 1 all (with_router name u))
   interfaces_find laws name all items =
       steps_finds (IsTold document links routers) (interface_step r) (λ j. (interface_rows r j).has) (0 ∷ 2 ∷ r ∷ 1 ∷ []) (interface_starts r) all (with_router name u)
       (λ front x back v parts taken.
       let left = interfaces_leave r 1 front (with_router name u) v taken in
-      let linked = linked_same links u v left.0 left.1 (linked_through laws links done w u first second) in
-      let none = links_stand 1 links empty w first in
+      let linked = linked_same links u v left.0 left.1 (linked_through laws links done poison w u first second) in
+      let none = links_stand 1 links (empty poison) w first in
       let before = routers_stand 1 done w u second in
       let inner = interfaces_stand r 1 front (with_router name u) v taken in
       let start : interface_ats u ≡ spots_under (codes_of "interface") RouterInterface 1 done = before.interfaces ∙ ap (λ (l : List At). l ++ spots_under (codes_of "interface") RouterInterface 1 done) none.interfaces in
       let two : length v.interfaces ≡ length (interface_ats u ++ spots_of (RouterInterface r) 1 front) = interfaces_count v (interface_ats u ++ spots_of (RouterInterface r) 1 front) inner.interfaces in
       let three : length (interface_ats u) ≡ length (spots_under (codes_of "interface") RouterInterface 1 done) = ap length start in
-      let empty_none : further empty ≡ 0 = refl in
+      let empty_none : further (empty poison) ≡ 0 = refl in
       let few : further u ≤ 1024 = few_routers 1 done w u (omega (arith, none.also)) second in
       interface_finds document links routers done d rest split laws front x back v (items ∙ parts) linked
       (omega (arith, two, three, length-append (interface_ats u) (spots_of (RouterInterface r) 1 front), count_of (RouterInterface r) 1 front))
@@ -487,7 +487,7 @@ module _ (document : Members) (links routers done : List Data) (d : Data) (rest 
       steps_finds (IsTold document links routers) (own_step r) (λ j. (own_rows r j).has) (0 ∷ 2 ∷ r ∷ 2 ∷ []) (own_starts r) all v0
       (λ front x back v parts taken.
       let left = interfaces_leave r 1 ins (with_router name u) v0 between in
-      let none = links_stand 1 links empty w first in
+      let none = links_stand 1 links (empty poison) w first in
       let before = routers_stand 1 done w u second in
       let inner = owns_stand r 1 front v0 v taken in
       let on_links = spots_under (codes_of "prefixes") LinkPrefix 1 links in
@@ -497,7 +497,7 @@ module _ (document : Members) (links routers done : List Data) (d : Data) (rest 
       let two : length v.places ≡ length (place_ats v0 ++ spots_of (RouterOwn r) 1 front) = places_count v (place_ats v0 ++ spots_of (RouterOwn r) 1 front) inner.places in
       let three : length (place_ats v0) ≡ length (on_links ++ own) = ap length same in
       let names : v.links ≡ u.links = owns_leave r 1 front v0 v taken ∙ left.0 in
-      own_finds document links routers done d rest split laws front x back v (items ∙ parts) (subst (λ (l : List (List ℕ)). Matched IsNameOf l links) (sym names) (linked_through laws links done w u first second).named)
+      own_finds document links routers done d rest split laws front x back v (items ∙ parts) (subst (λ (l : List (List ℕ)). Matched IsNameOf l links) (sym names) (linked_through laws links done poison w u first second).named)
       (omega (arith, two, three, length-append on_links own, length-append (place_ats v0) (spots_of (RouterOwn r) 1 front), count_of (RouterOwn r) 1 front)))
       (λ m o past row f.
       let (x, (e, is, item)) = own_row_item document links routers r m o row f in
@@ -513,7 +513,7 @@ module _ (document : Members) (links routers done : List Data) (d : Data) (rest 
   unfolding router_step
   router_finds laws =
       let r : ℕ = 1 + length done in
-      let before = links_added laws 0 links empty w first in
+      let before = links_added laws 0 links (empty poison) w first in
       let added = routers_added laws 0 done w u second in
       let names : u.routers ≡ added.names = ap (λ (v : Sketch). v.routers) added.made ∙ ap (λ (v : Sketch). v.routers ++ added.names) before.made in
       let named : Matched IsNameOf u.routers done = subst (λ (l : List (List ℕ)). Matched IsNameOf l done) (sym names) added.named in
@@ -535,8 +535,8 @@ module _ (document : Members) (links routers done : List Data) (d : Data) (rest 
       (interfaces_find laws f.0 f.1 table.interfaces_are)
       (λ v between. owns_find laws f.0 f.1 v between f.2 table.owns_are))))
 
-pub routers_find : (laws : TextLaws) (document : Members) (links routers : List Data) (w : Sketch) → steps link_step 1 links empty ≡ Ok w → Finds (IsTold document links routers) routers_rows.has (steps router_step 1 routers w)
-routers_find laws document links routers w first =
+pub routers_find : (laws : TextLaws) (document : Members) (links routers : List Data) (poison : Bool) (w : Sketch) → steps link_step 1 links (empty poison) ≡ Ok w → Finds (IsTold document links routers) routers_rows.has (steps router_step 1 routers w)
+routers_find laws document links routers poison w first =
     steps_finds (IsTold document links routers) router_step (λ r. (router_rows r).has) (0 ∷ 2 ∷ []) router_starts routers w
-    (λ done x rest u split taken. router_finds document links routers done x rest split w u first taken laws)
+    (λ done x rest u split taken. router_finds document links routers done x rest split poison w u first taken laws)
     (λ m o past row f. let within : m ≤ length routers = router_row_within document links routers m o row f in omega arith)

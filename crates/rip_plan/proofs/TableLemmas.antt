@@ -1,6 +1,6 @@
 -- What the tables of a document hold, where their fields were read.
 use Rattle.std.proofs.Common.{◌≡◌, ℕ, zero, suc, ◌≤◌, ◌⊎◌, inl, inr, List, [], ◌∷◌, Bool, true, false, cond, ◌&&◌, Option, Some, None, refl, sym, ◌∙◌, ap, subst, arith}
-use Rattle.std.specs.Prelude.{ℤ, pos, negsuc, is_some, option_and_then, option_map, slice_get, codes as codes_of}
+use Rattle.std.specs.Prelude.{ℤ, pos, negsuc, is_some, option_and_then, option_map, slice_get, unwrap_or, codes as codes_of}
 use Rattle.std.specs.List.{list_all}
 use Rattle.std.proofs.lemmas.Option.{none-some, same_Some, cond_some}
 use Rattle.std.proofs.lemmas.Bool.Decides.{nat_tests}
@@ -8,7 +8,7 @@ use Rattle.toml.specs.Data.{Data, Items, Members, string, integer, float, boolea
 use Rattle.rip_wire.specs.Address.{address_in}
 use Rattle.rip_plan.specs.Fields.{InterfaceFields, OwnFields, ◌&>◌, has_only, list_of, text_at, items_at, items_if, integer_if, texts_of, flag_if, text_if, address_if, link_if, addresses_in, link_keys, interface_keys, own_keys, router_keys, is_between, link_fields, interface_fields, own_fields, router_fields, cost_of, direct_of}
 use Rattle.rip_plan.specs.Names.{number_of_name}
-use Rattle.rip_plan.specs.PlanOf.{HasText, IsAddressOf, IsCostOf, IsDirectOf, IsGatewayOf, IsKeptOf, IsLinkOf, IsNameOf, Matched, items_in}
+use Rattle.rip_plan.specs.PlanOf.{HasText, IsAddressOf, IsCostOf, IsDirectOf, IsGatewayOf, IsKeptOf, IsLinkOf, IsNameOf, IsPoisonOf, Matched, items_in}
 use Rattle.rip_plan.specs.PlanFaults.{HasNoAddress, IsOutsideOf}
 use Rattle.rip_plan.proofs.MatchingLemmas.{matched_right, matched_weaker}
 use Rattle.rip_plan.proofs.TextLemmas.{TextLaws, address_is, no_address, first_named}
@@ -108,9 +108,23 @@ boolean_is (float x) b h = absurd (none-some b h)
 boolean_is (datetime u) b h = absurd (none-some b h)
 boolean_is (array ds) b h = absurd (none-some b h)
 
-flag_is : (o : Option Data) (b : Bool) → flag_if o ≡ Some b → (o ≡ Some (boolean b)) ⊎ ((o ≡ None) × (b ≡ false))
-flag_is None b h = inr (refl, sym (same_Some false b h))
-flag_is (Some d) b h = inl (ap (λ (x : Data). Some x) (boolean_is d b h))
+-- a flag stands there, or nothing
+abbrev pub IsFlagIf : Option Data → Option Bool → Type 0
+IsFlagIf o None = o ≡ None
+IsFlagIf o (Some b) = o ≡ Some (boolean b)
+
+pub flag_if_is : (o : Option Data) (given : Option Bool) → flag_if o ≡ Some given → IsFlagIf o given
+flag_if_is None given h = let same : None ≡ given = same_Some None given h in subst (IsFlagIf None) same refl
+flag_if_is (Some d) given h = by_flag (as_bool d) refl h
+  where
+    by_flag : (b : Option Bool) → as_bool d ≡ b → option_map Some b ≡ Some given → IsFlagIf (Some d) given
+    by_flag None k g = absurd (none-some given g)
+    by_flag (Some b) k g = subst (IsFlagIf (Some d)) (same_Some (Some b) given g) (ap (λ (x : Data). Some x) (boolean_is d b k))
+
+-- the flag that is meant: the one that stands there, or the other one
+pub flag_meant : (o : Option Data) (given : Option Bool) (other : Bool) → IsFlagIf o given → (o ≡ Some (boolean (unwrap_or given other))) ⊎ ((o ≡ None) × (unwrap_or given other ≡ other))
+flag_meant o None other h = inr (h, refl)
+flag_meant o (Some b) other h = inl h
 
 -- a text stands there, or nothing
 abbrev pub IsTextIf : Option Data → Option (List ℕ) → Type 0
@@ -151,6 +165,7 @@ pub record HasInterfaceFields (d : Data) (f : InterfaceFields) : Type 0 where
   pub direct : integer_if (get (codes_of "direct") d) ≡ Some f.direct
   pub also_are : items_in (get (codes_of "also") d) ≡ f.also
   pub also_texts : list_all (λ x. is_some (as_str x)) f.also ≡ true
+  pub poison : IsFlagIf (get (codes_of "poison") d) f.poison
 
 pub interface_texts : (d : Data) (f : InterfaceFields) → (as_table d &> interface_fields) ≡ Some f → HasInterfaceFields d f
 unfolding interface_fields
@@ -163,8 +178,9 @@ interface_texts d f h =
     let (e, fourth, h6) = then_some (integer_if (get_member (codes_of "direct") ms)) _ f h5 in
     let (g, fifth, h7) = then_some (items_if (get_member (codes_of "also") ms) &> texts_of) _ f h6 in
     let (xs, given, texts) = then_some (items_if (get_member (codes_of "also") ms)) texts_of g fifth in
-    let given_fields : InterfaceFields = record { link = a; address = b; cost = c; direct = e; also = g } in
-    let same : given_fields ≡ f = same_Some given_fields f h7 in
+    let (p, sixth, h8) = then_some (flag_if (get_member (codes_of "poison") ms)) _ f h7 in
+    let given_fields : InterfaceFields = record { link = a; address = b; cost = c; direct = e; also = g; poison = p } in
+    let same : given_fields ≡ f = same_Some given_fields f h8 in
     let all = cond_some (list_all (λ (x : Data). is_some (as_str x)) xs) xs g texts in
     let there : d ≡ table ms = table_is d ms is in
     subst (λ (x : Data). HasInterfaceFields x f) (sym there) (subst (HasInterfaceFields (table ms)) same (record {
@@ -174,17 +190,24 @@ interface_texts d f h =
       direct = fourth;
       also_are = items_given (get_member (codes_of "also") ms) g (given ∙ ap (λ (l : List Data). Some l) all.1);
       also_texts = ap (list_all (λ (x : Data). is_some (as_str x))) (sym all.1) ∙ all.0;
+      poison = flag_if_is (get_member (codes_of "poison") ms) p sixth;
     }))
 
 pub record IsInterfaceTable (d : Data) (f : InterfaceFields) (c e : ℕ) : Type 0 where
   pub has : HasInterfaceFields d f
   pub cost : IsCostOf d c
   pub direct : IsDirectOf d c e
+  pub poisons : (other : Bool) → IsPoisonOf other d (unwrap_or f.poison other)
 
 pub interface_table : (d : Data) (f : InterfaceFields) (c e : ℕ) → (as_table d &> interface_fields) ≡ Some f → cost_of f.cost ≡ Some c → direct_of c f.direct ≡ Some e → IsInterfaceTable d f c e
 interface_table d f c e h costs directs =
     let has = interface_texts d f h in
-    record { has = has; cost = cost_is (get (codes_of "cost") d) f.cost c has.cost costs; direct = direct_is (get (codes_of "direct") d) c f.direct e has.direct directs }
+    record {
+      has = has;
+      cost = cost_is (get (codes_of "cost") d) f.cost c has.cost costs;
+      direct = direct_is (get (codes_of "direct") d) c f.direct e has.direct directs;
+      poisons = λ other. flag_meant (get (codes_of "poison") d) f.poison other has.poison;
+    }
 
 -- what an own prefix's table holds
 pub record HasOwnFields (d : Data) (f : OwnFields) : Type 0 where
@@ -204,13 +227,13 @@ own_texts d f h =
     let (c, third, h5) = then_some (flag_if (get_member (codes_of "kept") ms)) _ f h4 in
     let (e, fourth, h6) = then_some (text_if (get_member (codes_of "link") ms)) _ f h5 in
     let (g, fifth, h7) = then_some (text_if (get_member (codes_of "via") ms)) _ f h6 in
-    let given_fields : OwnFields = record { prefix = a; cost = b; kept = c; link = e; via = g } in
+    let given_fields : OwnFields = record { prefix = a; cost = b; kept = unwrap_or c false; link = e; via = g } in
     let same : given_fields ≡ f = same_Some given_fields f h7 in
     let there : d ≡ table ms = table_is d ms is in
     subst (λ (x : Data). HasOwnFields x f) (sym there) (subst (HasOwnFields (table ms)) same (record {
       has_prefix = text_there (get_member (codes_of "prefix") ms) a first;
       cost = second;
-      kept = flag_is (get_member (codes_of "kept") ms) c third;
+      kept = flag_meant (get_member (codes_of "kept") ms) c false (flag_if_is (get_member (codes_of "kept") ms) c third);
       link = text_if_is (get_member (codes_of "link") ms) e fourth;
       via = text_if_is (get_member (codes_of "via") ms) g fifth;
     }))

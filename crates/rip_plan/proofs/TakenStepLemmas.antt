@@ -1,6 +1,6 @@
 -- What each step of the first pass found where it ended with no fault.
-use Rattle.std.proofs.Common.{◌≡◌, ℕ, ◌-◌, List, [], ◌∷◌, ◌++◌, length, false, not, ◌||◌, Option, Some, Ok, sym, ap, ◌∙◌}
-use Rattle.std.specs.Prelude.{nat_le, nat_lt, codes as codes_of}
+use Rattle.std.proofs.Common.{◌≡◌, ℕ, ◌-◌, List, [], ◌∷◌, ◌++◌, length, Bool, false, not, ◌||◌, Option, Some, Ok, sym, ap, ◌∙◌}
+use Rattle.std.specs.Prelude.{nat_le, nat_lt, unwrap_or, codes as codes_of}
 use Rattle.toml.specs.Data.{Data, Members, as_str, as_table, get_member}
 use Rattle.rip_wire.specs.Address.{address_in}
 use Rattle.rip_wire.specs.Name.{is_name}
@@ -82,7 +82,7 @@ pub record InterfaceTaken (r j : ℕ) (d : Data) (s t : Sketch) : Type 0 where
   pub known : number_of_name given.link s.links ≡ Some link
   pub inside : is_outside link address s.places ≡ false
   pub room : is_full s also ≡ false
-  pub made : t ≡ with_interface (record { interface = record { router = r - 1; link = link; address = address; cost = cost; direct = direct }; at = RouterInterface r j }) also s
+  pub made : t ≡ with_interface (record { interface = record { router = r - 1; link = link; address = address; cost = cost; direct = direct; poison = unwrap_or given.poison s.poison }; at = RouterInterface r j }) also s
 
 pub interface_taken : (r j : ℕ) (d : Data) (s t : Sketch) → interface_step r j d s ≡ Ok t → InterfaceTaken r j d s t
 unfolding interface_step
@@ -172,10 +172,11 @@ pub record DocumentTaken (doc : Members) (t : Sketch) : Type 0 where
   pub version : not (is_version (get_member (codes_of "version") doc)) ≡ false
   pub links : List Data
   pub routers : List Data
-  pub root : root_fields doc ≡ Some (links, routers)
+  pub poison : Bool
+  pub root : root_fields doc ≡ Some (links, routers, poison)
   pub room : (nat_lt 512 (length links) || nat_lt 128 (length routers)) ≡ false
   pub between : Sketch
-  pub first : steps link_step 1 links empty ≡ Ok between
+  pub first : steps link_step 1 links (empty poison) ≡ Ok between
   pub second : steps router_step 1 routers between ≡ Ok t
   pub passed : second_passes t ≡ Ok tt
 
@@ -185,11 +186,11 @@ document_taken doc t h =
     let (version, h1) = guard_ok (not (is_version (get_member (codes_of "version") doc))) (fault codes.Version Version) _ t h in
     let (root, is, h2) = wanted_ok (fault codes.Key Text) (root_fields doc) _ t h1 in
     let (room, h3) = guard_ok (nat_lt 512 (length root.0) || nat_lt 128 (length root.1)) (fault codes.Limit Text) _ t h2 in
-    let (v, both, h4) = bind_ok (steps link_step 1 root.0 empty >>= steps router_step 1 root.1) (λ s. second_passes s >>= (λ _. Ok s)) t h3 in
-    let (u, first, second) = bind_ok (steps link_step 1 root.0 empty) (steps router_step 1 root.1) v both in
+    let (v, both, h4) = bind_ok (steps link_step 1 root.0 (empty root.2) >>= steps router_step 1 root.1) (λ s. second_passes s >>= (λ _. Ok s)) t h3 in
+    let (u, first, second) = bind_ok (steps link_step 1 root.0 (empty root.2)) (steps router_step 1 root.1) v both in
     let (done, passed, h5) = bind_ok (second_passes v) (λ _. Ok v) t h4 in
     let same : v ≡ t = ok_same v t h5 in
-    record { version = version; links = root.0; routers = root.1; root = is; room = room; between = u; first = first; second = second ∙ ap (λ (x : Sketch). Ok x) same; passed = ap second_passes (sym same) ∙ passed }
+    record { version = version; links = root.0; routers = root.1; poison = root.2; root = is; room = room; between = u; first = first; second = second ∙ ap (λ (x : Sketch). Ok x) same; passed = ap second_passes (sym same) ∙ passed }
 
 pub record TextTaken (bytes : List ℕ) (t : Sketch) : Type 0 where
   pub room : nat_lt 1048576 (length bytes) ≡ false

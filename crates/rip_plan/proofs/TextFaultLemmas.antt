@@ -39,22 +39,22 @@ use Rattle.rip_plan.proofs.DocumentTableLemmas.{root_told, root_not}
 
 -- ---- the tables
 
-module _ (laws : TextLaws) (document : Members) (links routers : List Data) (root : root_fields document ≡ Some (links, routers)) where
-  tables_find : Finds (IsOfTables document links routers) table_rows.has (steps link_step 1 links empty >>= steps router_step 1 routers >>= (λ s. second_passes s >>= (λ _. Ok s)))
+module _ (laws : TextLaws) (document : Members) (links routers : List Data) (poison : Bool) (root : root_fields document ≡ Some (links, routers, poison)) where
+  tables_find : Finds (IsOfTables document links routers) table_rows.has (steps link_step 1 links (empty poison) >>= steps router_step 1 routers >>= (λ s. second_passes s >>= (λ _. Ok s)))
   tables_find =
       let F = IsOfTables document links routers in
       let T = IsTold document links routers in
-      bind_rows F first_rows.has pass_rows (steps link_step 1 links empty >>= steps router_step 1 routers) (λ s. second_passes s >>= (λ _. Ok s)) (λ e h. first_high e h)
-      (told_finds document links routers first_rows.has (steps link_step 1 links empty >>= steps router_step 1 routers) first_sooner
-      (bind_rows T links_rows.has routers_rows (steps link_step 1 links empty) (steps router_step 1 routers) (λ e h. links_high e h) (links_find laws document links routers) (λ w is. routers_find laws document links routers w is)))
+      bind_rows F first_rows.has pass_rows (steps link_step 1 links (empty poison) >>= steps router_step 1 routers) (λ s. second_passes s >>= (λ _. Ok s)) (λ e h. first_high e h)
+      (told_finds document links routers first_rows.has (steps link_step 1 links (empty poison) >>= steps router_step 1 routers) first_sooner
+      (bind_rows T links_rows.has routers_rows (steps link_step 1 links (empty poison)) (steps router_step 1 routers) (λ e h. links_high e h) (links_find laws document links routers poison) (λ w is. routers_find laws document links routers poison w is)))
       (λ s taken.
-      let (w, first, second) = bind_ok (steps link_step 1 links empty) (steps router_step 1 routers) s taken in
-      let plan : PlanOf document (network_of_sketch s) = document_matches laws document s (record { links = links; routers = routers; root = root; between = w; first = first; second = second }) in
-      let one = links_stand 1 links empty w first in
+      let (w, first, second) = bind_ok (steps link_step 1 links (empty poison)) (steps router_step 1 routers) s taken in
+      let plan : PlanOf document (network_of_sketch s) = document_matches laws document s (record { links = links; routers = routers; poison = poison; root = root; between = w; first = first; second = second }) in
+      let one = links_stand 1 links (empty poison) w first in
       let two = routers_stand 1 routers w s second in
       let placed : place_ats s ≡ place_spots links routers = two.places ∙ ap (λ (l : List At). l ++ spots_under (codes_of "own") RouterOwn 1 routers) one.places in
       let listed : interface_ats s ≡ interface_spots routers = two.interfaces ∙ ap (λ (l : List At). l ++ spots_under (codes_of "interface") RouterInterface 1 routers) one.interfaces in
-      let tables : plan.links ≡ links = items_same (codes_of "link") (table document) plan.links links plan.has_links (root_table document links routers root).has_links in
+      let tables : plan.links ≡ links = items_same (codes_of "link") (table document) plan.links links plan.has_links (root_table document links routers poison root).has_links in
       then_ok F s (second_passes s) (passes_find laws document links routers s plan placed listed tables))
     where
       then_ok : (F : Found → Type 0) (s : Sketch) (r : Result (Unit {0}) PlanError) → Finds F pass_rows.has r → Finds F pass_rows.has (r >>= (λ _. Ok s))
@@ -143,9 +143,9 @@ module _ (laws : TextLaws) (bytes : List ℕ) (document : Members) (short : leng
   text = record { short = short; reads = reads }
 
   -- the rows of the tables, in the words of all faults
-  module _ (links routers : List Data) (root : root_fields document ≡ Some (links, routers)) where
+  module _ (links routers : List Data) (poison : Bool) (root : root_fields document ≡ Some (links, routers, poison)) where
     tables : HasTables bytes document links routers
-    tables = let r = root_table document links routers root in record { text = text; has_links = r.has_links; has_routers = r.has_routers }
+    tables = let r = root_table document links routers poison root in record { text = text; has_links = r.has_links; has_routers = r.has_routers }
 
     -- a fault is one of the text as a whole, or of the tables
     split_fault : (pass : ℕ) (c : PlanCode) (place : At) → IsFound bytes pass (fault c place) → Before (rank pass (fault c place)) (0 ∷ 1 ∷ 1 ∷ []) ⊎ IsOfTables document links routers (record { pass = pass; error = fault c place })
@@ -211,17 +211,17 @@ module _ (laws : TextLaws) (bytes : List ℕ) (document : Members) (short : leng
       h.2 (subst IsRoot (sym (same_document bytes document h.0 reads h.1)) (root_told document r is)))
       (λ r is.
       guard_finds (IsTextFault bytes) (nat_lt 512 (length r.0) || nat_lt 128 (length r.1)) (row_at codes.Limit Text) table_rows (inr (refl, inl (omega arith))) _
-      (λ over. inl (inr (document, r.0, r.1, tables r.0 r.1 is, over_told r.0 r.1 over), refl))
-      (λ room f. limit_clear r.0 r.1 is room (in_table bytes 0 codes.Limit Text (λ a. a) f))
+      (λ over. inl (inr (document, r.0, r.1, tables r.0 r.1 r.2 is, over_told r.0 r.1 over), refl))
+      (λ room f. limit_clear r.0 r.1 r.2 is room (in_table bytes 0 codes.Limit Text (λ a. a) f))
       (λ room.
-      finds_in (IsOfTables document r.0 r.1) (IsTextFault bytes) table_rows.has table_rows.has (steps link_step 1 r.0 empty >>= steps router_step 1 r.1 >>= (λ s. second_passes s >>= (λ _. Ok s))) (λ o t. whole r.0 r.1 is o t) (λ o here. here)
-      (λ o here f. by_fault r.0 r.1 o here (split_fault r.0 r.1 is o.pass o.error.code o.error.place f))
-      (tables_find laws document r.0 r.1 is))))
+      finds_in (IsOfTables document r.0 r.1) (IsTextFault bytes) table_rows.has table_rows.has (steps link_step 1 r.0 (empty r.2) >>= steps router_step 1 r.1 >>= (λ s. second_passes s >>= (λ _. Ok s))) (λ o t. whole r.0 r.1 r.2 is o t) (λ o here. here)
+      (λ o here f. by_fault r.0 r.1 o here (split_fault r.0 r.1 r.2 is o.pass o.error.code o.error.place f))
+      (tables_find laws document r.0 r.1 r.2 is))))
     where
-      limit_clear : (links routers : List Data) → root_fields document ≡ Some (links, routers) → (nat_lt 512 (length links) || nat_lt 128 (length routers)) ≡ false → FaultAt bytes codes.Limit Text → ⊥
-      limit_clear links routers is room (inl more) = let past : 1048576 < length bytes = more in omega arith
-      limit_clear links routers is room (inr (other, ls, rs, has, over)) =
-          let (one, two, three) = one_tables bytes document links routers (tables links routers is) other ls rs has in
+      limit_clear : (links routers : List Data) (poison : Bool) → root_fields document ≡ Some (links, routers, poison) → (nat_lt 512 (length links) || nat_lt 128 (length routers)) ≡ false → FaultAt bytes codes.Limit Text → ⊥
+      limit_clear links routers poison is room (inl more) = let past : 1048576 < length bytes = more in omega arith
+      limit_clear links routers poison is room (inr (other, ls, rs, has, over)) =
+          let (one, two, three) = one_tables bytes document links routers (tables links routers poison is) other ls rs has in
           over_clear links routers room (subst (λ (l : List Data). (512 < length links) ⊎ (128 < length l)) three (subst (λ (l : List Data). (512 < length l) ⊎ (128 < length rs)) two over))
 
       by_fault : (links routers : List Data) (o : Found) → table_rows.has o → Before (ranked o) (0 ∷ 1 ∷ 1 ∷ []) ⊎ IsOfTables document links routers o → IsOfTables document links routers o × table_rows.has o

@@ -171,7 +171,7 @@ module _ (laws : TextLaws) (document : Members) (n : Network) (plan : PlanOf doc
       )
 
   interfaces_count : length n.interfaces ≡ length (interface_spots plan.routers)
-  interfaces_count = matched_length (IsInterfaceOf n.links) n.interfaces (items_under (codes_of "interface") 0 plan.routers) plan.interfaces ∙ sym (spots_count (codes_of "interface") RouterInterface 1 0 plan.routers)
+  interfaces_count = matched_length (IsInterfaceOf n.links plan.poison) n.interfaces (items_under (codes_of "interface") 0 plan.routers) plan.interfaces ∙ sym (spots_count (codes_of "interface") RouterInterface 1 0 plan.routers)
 
   -- the interface of an item
   record HasInterface (x : Data) : Type 0 where
@@ -179,12 +179,12 @@ module _ (laws : TextLaws) (document : Members) (n : Network) (plan : PlanOf doc
     i : Interface
     listed : slice_get n.interfaces k ≡ Some i
     m : ℕ
-    of : IsInterfaceOf n.links i (m, x)
+    of : IsInterfaceOf n.links plan.poison i (m, x)
 
   its_interface : (r j : ℕ) (x : Data) → IsItem (codes_of "interface") plan.routers r j x → HasInterface x
   its_interface r j x item =
       let u = item_under (codes_of "interface") plan.routers r j x item in
-      let (i, listed, of) = matched_right (IsInterfaceOf n.links) n.interfaces (items_under (codes_of "interface") 0 plan.routers) u.k (u.m, x) plan.interfaces u.at in
+      let (i, listed, of) = matched_right (IsInterfaceOf n.links plan.poison) n.interfaces (items_under (codes_of "interface") 0 plan.routers) u.k (u.m, x) plan.interfaces u.at in
       record { k = u.k; i = i; listed = listed; m = u.m; of = of }
 
   -- the own prefix of an item
@@ -260,6 +260,7 @@ module _ (laws : TextLaws) (document : Members) (n : Network) (plan : PlanOf doc
         router = h.i.router;
         cost = h.i.cost;
         direct = h.i.direct;
+        poison = h.i.poison;
         listed = h.listed ∙ ap (λ (l : ℕ). Some (record h.i { link = l })) link ∙ ap (λ (a : ℕ). Some (record h.i { link = o.link; address = a })) address;
       } in
       let (q, block, on, prefix, contains) = lawful.inside h.k o.link o.address p is carries in
@@ -321,8 +322,8 @@ module _ (laws : TextLaws) (document : Members) (n : Network) (plan : PlanOf doc
 
   interface_cost : (x : Data) → HasInterface x → HasWrongCost x ⊎ HasWrongDirect x → ⊥
   interface_cost x h wrong =
-      let is : IsInterface n h.k h.i.router h.i.link h.i.cost = record { address = h.i.address; direct = h.i.direct; listed = h.listed } in
-      let on : IsConnected n h.k h.i.router h.i.link h.i.direct = record { address = h.i.address; cost = h.i.cost; listed = h.listed } in
+      let is : IsInterface n h.k h.i.router h.i.link h.i.cost = record { address = h.i.address; direct = h.i.direct; poison = h.i.poison; listed = h.listed } in
+      let on : IsConnected n h.k h.i.router h.i.link h.i.direct = record { address = h.i.address; cost = h.i.cost; poison = h.i.poison; listed = h.listed } in
       elim wrong [
         | inl cost ↦ costs x h.i.cost h.of.cost (lawful.cost_least h.k h.i.router h.i.link h.i.cost is) (lawful.cost_most h.k h.i.router h.i.link h.i.cost is) cost
         | inr direct ↦ directs x h.i.cost h.i.direct h.of.cost h.of.direct (lawful.direct_least h.k h.i.router h.i.link h.i.direct on) (lawful.direct_most h.k h.i.router h.i.link h.i.cost h.i.direct is on) direct

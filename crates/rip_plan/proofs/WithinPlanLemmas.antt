@@ -13,12 +13,12 @@ module _ (n : Network) (laws : IsLawful n) where
   pub interfaces_links : All (λ i. i.link < length n.links) n.interfaces
   interfaces_links k d h =
       let x = get_or n.interfaces k d in
-      laws.link_known k x.router x.link x.cost (record { address = x.address; direct = x.direct; listed = slice_get-get_or n.interfaces k d h })
+      laws.link_known k x.router x.link x.cost (record { address = x.address; direct = x.direct; poison = x.poison; listed = slice_get-get_or n.interfaces k d h })
 
   pub interfaces_routers : All (λ i. i.router < length n.routers) n.interfaces
   interfaces_routers k d h =
       let x = get_or n.interfaces k d in
-      laws.router_known k x.router x.link x.cost (record { address = x.address; direct = x.direct; listed = slice_get-get_or n.interfaces k d h })
+      laws.router_known k x.router x.link x.cost (record { address = x.address; direct = x.direct; poison = x.poison; listed = slice_get-get_or n.interfaces k d h })
 
   pub places_prefixes : All (λ q. q.prefix < length n.prefixes) n.places
   places_prefixes k d h =

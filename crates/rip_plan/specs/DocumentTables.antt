@@ -45,9 +45,11 @@ IsTextList d =
 
 -- the document itself; its version is judged apart
 pub record IsRoot (document : Members) : Type 0 where
-  pub keys : HasOnly (codes "version" ∷ codes "link" ∷ codes "router" ∷ []) (table document)
+  pub keys : HasOnly (codes "version" ∷ codes "link" ∷ codes "router" ∷ codes "poison" ∷ [])
+      (table document)
   pub link : Has (codes "link") (table document) IsSomeList
   pub router : Has (codes "router") (table document) IsSomeList
+  pub poison : MayHave (codes "poison") (table document) IsFlag
 
 pub record IsLinkTable (d : Data) : Type 0 where
   pub members : Members
@@ -68,12 +70,14 @@ pub record IsInterfaceTable (d : Data) : Type 0 where
   pub members : Members
   pub is_table : d ≡ table members
   pub keys : HasOnly
-      (codes "link" ∷ codes "address" ∷ codes "cost" ∷ codes "direct" ∷ codes "also" ∷ []) d
+      (codes "link" ∷ codes "address" ∷ codes "cost" ∷ codes "direct" ∷ codes "also"
+      ∷ codes "poison" ∷ []) d
   pub link : Has (codes "link") d IsString
   pub address : Has (codes "address") d IsString
   pub cost : MayHave (codes "cost") d IsInteger
   pub direct : MayHave (codes "direct") d IsInteger
   pub also : MayHave (codes "also") d IsTextList
+  pub poison : MayHave (codes "poison") d IsFlag
 
 pub record IsOwnTable (d : Data) : Type 0 where
   pub members : Members

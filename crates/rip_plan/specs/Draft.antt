@@ -1,5 +1,5 @@
 -- What was read of a plan so far, and each step of the first pass over its text.
-use Rattle.std.specs.Prelude.{◌≡◌, ℕ, ◌+◌, ◌-◌, ◌/◌, List, [], ◌∷◌, ◌++◌, length, map, Bool, ◌&&◌, ◌||◌, not, ◌==◌, nat_le, nat_lt, Result, Ok, Err, if◌then◌else◌, string_bytes}
+use Rattle.std.specs.Prelude.{◌≡◌, ℕ, ◌+◌, ◌-◌, ◌/◌, List, [], ◌∷◌, ◌++◌, length, map, Bool, ◌&&◌, ◌||◌, not, ◌==◌, nat_le, nat_lt, Result, Ok, Err, if◌then◌else◌, string_bytes, unwrap_or}
 use Rattle.std.specs.List.{list_any, sum_by}
 use Rattle.toml.specs.Data.{Data, as_str, as_table}
 use Rattle.rip_wire.specs.Address.{address_in}
@@ -21,11 +21,12 @@ use Rattle.rip_plan.specs.Seats.{is_on}
 use Rattle.rip_plan.specs.Fault.{fault, ◌>>=◌, wanted, steps, Fails}
 use Rattle.rip_plan.specs.Fields.{◌&>◌, link_fields, interface_fields, own_fields, router_fields, cost_of, direct_of, addresses_in, address_if, link_if}
 
--- what was read: names, interfaces with the further addresses of each, and places of prefixes;
--- interfaces and places with where they stand in the text
+-- what was read: names, whether interfaces poison that do not say it, interfaces with the further
+-- addresses of each, and places of prefixes; interfaces and places with where they stand in the text
 pub record Sketch : Type 0 where
   pub links : List (List ℕ)
   pub routers : List (List ℕ)
+  pub poison : Bool
   pub interfaces : List DraftInterface
   pub also : List (List ℕ)
   pub places : List DraftPlace
@@ -34,6 +35,7 @@ abbrev pub sketch : Draft → Sketch
 sketch d = record {
   links = map string_bytes d.links.items;
   routers = map string_bytes d.routers.items;
+  poison = d.poison;
   interfaces = d.interfaces.items;
   also = map (λ w. w.items) d.also.items;
   places = d.places.items;
@@ -109,6 +111,7 @@ interface_step r j d s =
         address = address;
         cost = cost;
         direct = direct;
+        poison = unwrap_or f.poison s.poison;
       };
       at = RouterInterface r j;
     }) also s)))))))

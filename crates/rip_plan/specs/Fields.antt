@@ -1,5 +1,5 @@
 -- The tables of a plan's document, by their keys.
-use Rattle.std.specs.Prelude.{ℕ, ℤ, pos, negsuc, List, [], ◌∷◌, codes, Bool, true, false, ◌&&◌, ◌==◌, nat_le, Option, Some, None, is_some, option_and_then, option_map, if◌then◌else◌}
+use Rattle.std.specs.Prelude.{ℕ, ℤ, pos, negsuc, List, [], ◌∷◌, codes, Bool, true, false, ◌&&◌, ◌==◌, nat_le, Option, Some, None, is_some, option_and_then, option_map, unwrap_or, if◌then◌else◌}
 use Rattle.std.specs.List.{list_all}
 use Rattle.toml.specs.Data.{Data, integer, Items, no_items, item, Members, no_members, member, get_member, as_bool, as_str, as_integer, as_array}
 use Rattle.rip_wire.specs.Address.{address_in}
@@ -25,7 +25,8 @@ link_keys = codes "name" ∷ codes "prefixes" ∷ []
 
 abbrev pub interface_keys : List (List ℕ)
 interface_keys =
-    codes "link" ∷ codes "address" ∷ codes "cost" ∷ codes "direct" ∷ codes "also" ∷ []
+    codes "link" ∷ codes "address" ∷ codes "cost" ∷ codes "direct" ∷ codes "also"
+    ∷ codes "poison" ∷ []
 
 abbrev pub text_at : List ℕ → Members → Option (List ℕ)
 text_at key ms = option_and_then as_str (get_member key ms)
@@ -42,6 +43,11 @@ items_if (Some d) = option_map list_of (as_array d)
 abbrev pub integer_if : Option Data → Option (Option ℤ)
 integer_if None = Some None
 integer_if (Some d) = option_map Some (as_integer d)
+
+-- nothing, a flag, or a value of another kind
+abbrev pub flag_if : Option Data → Option (Option Bool)
+flag_if None = Some None
+flag_if (Some d) = option_map Some (as_bool d)
 
 -- the name and the prefixes of a link's table
 unfoldable pub link_fields : Members → Option (List ℕ × List Data)
@@ -63,9 +69,10 @@ pub record InterfaceFields : Type 0 where
   pub cost : Option ℤ
   pub direct : Option ℤ
   pub also : List Data
+  pub poison : Option Bool
 
 -- the link, the address, the cost, the direct metric and the further addresses of an interface's
--- table
+-- table, and whether it poisons
 unfoldable pub interface_fields : Members → Option InterfaceFields
 interface_fields ms =
     if has_only interface_keys ms then
@@ -74,7 +81,15 @@ interface_fields ms =
     integer_if (get_member (codes "cost") ms) &> (λ cost.
     integer_if (get_member (codes "direct") ms) &> (λ direct.
     items_if (get_member (codes "also") ms) &> texts_of &> (λ also.
-    Some (record { link = link; address = address; cost = cost; direct = direct; also = also })))))))
+    flag_if (get_member (codes "poison") ms) &> (λ poison.
+    Some (record {
+      link = link;
+      address = address;
+      cost = cost;
+      direct = direct;
+      also = also;
+      poison = poison;
+    }))))))))
     else None
 
 abbrev pub is_between : ℕ → ℕ → ℕ → Bool
@@ -110,11 +125,6 @@ pub record OwnFields : Type 0 where
   pub link : Option (List ℕ)
   pub via : Option (List ℕ)
 
--- a given flag, and no where nothing stands
-abbrev pub flag_if : Option Data → Option Bool
-flag_if None = Some false
-flag_if (Some d) = as_bool d
-
 -- nothing, a text, or a value of another kind
 abbrev pub text_if : Option Data → Option (Option (List ℕ))
 text_if None = Some None
@@ -129,7 +139,13 @@ own_fields ms =
     flag_if (get_member (codes "kept") ms) &> (λ kept.
     text_if (get_member (codes "link") ms) &> (λ link.
     text_if (get_member (codes "via") ms) &> (λ via.
-    Some (record { prefix = prefix; cost = cost; kept = kept; link = link; via = via })))))))
+    Some (record {
+      prefix = prefix;
+      cost = cost;
+      kept = unwrap_or kept false;
+      link = link;
+      via = via;
+    })))))))
     else None
 
 -- the address of a given text, nothing where none is given; `None` where the text is no address
@@ -156,19 +172,21 @@ router_fields ms =
     else None
 
 abbrev pub root_keys : List (List ℕ)
-root_keys = codes "version" ∷ codes "link" ∷ codes "router" ∷ []
+root_keys = codes "version" ∷ codes "link" ∷ codes "router" ∷ codes "poison" ∷ []
 
 -- a list that is not empty
 abbrev pub some_items : List Data → Option (List Data)
 some_items [] = None
 some_items (d ∷ ds) = Some (d ∷ ds)
 
-unfoldable pub root_fields : Members → Option (List Data × List Data)
+-- the links and the routers of the document, and whether interfaces poison that do not say it
+unfoldable pub root_fields : Members → Option (List Data × List Data × Bool)
 root_fields ms =
     if has_only root_keys ms then
     (items_at (codes "link") ms &> some_items &> (λ links.
     items_at (codes "router") ms &> some_items &> (λ routers.
-    Some (links, routers))))
+    flag_if (get_member (codes "poison") ms) &> (λ poison.
+    Some (links, routers, unwrap_or poison true)))))
     else None
 
 -- the version is the integer 1

@@ -13,6 +13,7 @@ seen_interface f = record {
   cost = f.cost;
   direct = f.direct;
   also = map view f.also.now;
+  poison = f.poison;
 }
 
 abbrev pub seen_own : GivenOwn → OwnFields

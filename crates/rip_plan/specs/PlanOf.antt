@@ -1,6 +1,6 @@
 -- What it is for a network to be the plan of a document: each list is matched item by item with the
 -- document's tables.
-use Rattle.std.specs.Prelude.{◌≡◌, ◌⊎◌, ℕ, ◌+◌, ◌≤◌, pos, List, [], ◌∷◌, ◌++◌, map, filter, Bool, false, not, codes, Option, None, Some, slice_get}
+use Rattle.std.specs.Prelude.{◌≡◌, ◌⊎◌, ℕ, ◌+◌, ◌≤◌, pos, List, [], ◌∷◌, ◌++◌, map, filter, Bool, true, false, not, codes, Option, None, Some, slice_get}
 use Rattle.toml.specs.Data.{Data, Items, Members, string, boolean, integer, array, table, get}
 use Rattle.rip_wire.specs.Prefix.{Block}
 use Rattle.rip_plan.specs.declared.parts.Interface.{Interface}
@@ -43,11 +43,19 @@ IsDirectOf d cost direct =
     (get (codes "direct") d ≡ Some (integer (pos direct)))
     ⊎ ((get (codes "direct") d ≡ None) × (direct ≡ cost))
 
+-- the table's flag at the key: what it gives, or the other one where it gives none
+abbrev pub IsFlagOf : List ℕ → Bool → Data → Bool → Type 0
+IsFlagOf key other d flag =
+    (get key d ≡ Some (boolean flag)) ⊎ ((get key d ≡ None) × (flag ≡ other))
+
 -- whether this own prefix's table says that the prefix is kept
 abbrev pub IsKeptOf : Data → Bool → Type 0
-IsKeptOf d kept =
-    (get (codes "kept") d ≡ Some (boolean kept))
-    ⊎ ((get (codes "kept") d ≡ None) × (kept ≡ false))
+IsKeptOf = IsFlagOf (codes "kept") false
+
+-- whether the interfaces of this table poison: what it says, or what is said for all where it says
+-- nothing
+abbrev pub IsPoisonOf : Bool → Data → Bool → Type 0
+IsPoisonOf for_all = IsFlagOf (codes "poison") for_all
 
 -- name l is the first that is this one
 abbrev pub IsFirstNamed : List (List ℕ) → List ℕ → ℕ → Type 0
@@ -85,8 +93,11 @@ items_under key n (d ∷ ds) =
 
 -- ---- parts of the plan
 
--- the interface of this table, which stands in the table of the router of this number
-pub record IsInterfaceOf (links : List (List ℕ)) (i : Interface) (at : ℕ × Data) : Type 0 where
+-- the interface of this table, which stands in the table of the router of this number; whether it
+-- poisons is said at the root, where its table does not say it
+pub record IsInterfaceOf
+    (links : List (List ℕ)) (poison : Bool) (i : Interface) (at : ℕ × Data)
+    : Type 0 where
   pub router : i.router ≡ at.0
   pub link_name : List ℕ
   pub has_link : HasText (codes "link") at.1 link_name
@@ -96,6 +107,7 @@ pub record IsInterfaceOf (links : List (List ℕ)) (i : Interface) (at : ℕ × 
   pub address : IsAddressText text i.address
   pub cost : IsCostOf at.1 i.cost
   pub direct : IsDirectOf at.1 i.cost i.direct
+  pub poisons : IsPoisonOf poison at.1 i.poison
 
 -- the further addresses of the interface of this table
 abbrev pub AreAlsoOf : List ℕ → ℕ × Data → Type 0
@@ -147,7 +159,9 @@ pub record PlanOf (document : Members) (n : Network) : Type 0 where
   pub routers : List Data
   pub has_routers : HasItems (codes "router") (table document) routers
   pub router_names : Matched IsNameOf n.routers routers
-  pub interfaces : Matched (IsInterfaceOf n.links) n.interfaces
+  pub poison : Bool
+  pub has_poison : IsPoisonOf true (table document) poison
+  pub interfaces : Matched (IsInterfaceOf n.links poison) n.interfaces
       (items_under (codes "interface") 0 routers)
   pub also : Matched AreAlsoOf n.also (items_under (codes "interface") 0 routers)
   pub on_links : List Placement

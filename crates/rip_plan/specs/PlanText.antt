@@ -1,5 +1,5 @@
 -- The plan that a text is, or its first fault.
-use Rattle.std.specs.Prelude.{ℕ, List, [], length, codes, ◌||◌, not, nat_lt, Option, None, Result, Ok, Err, if◌then◌else◌}
+use Rattle.std.specs.Prelude.{ℕ, Bool, List, [], length, codes, ◌||◌, not, nat_lt, Option, None, Result, Ok, Err, if◌then◌else◌}
 use Rattle.std.specs.Str.{is_utf8}
 use Rattle.toml.specs.Data.{Members, get_member}
 use Rattle.toml.specs.Parse.{parse_document}
@@ -12,8 +12,16 @@ use Rattle.rip_plan.specs.Fields.{root_fields, is_version}
 use Rattle.rip_plan.specs.Draft.{Sketch, link_step, router_step}
 use Rattle.rip_plan.specs.Passes.{second_passes}
 
-abbrev pub empty : Sketch
-empty = record { links = []; routers = []; interfaces = []; also = []; places = [] }
+-- nothing was read but whether interfaces poison that do not say it
+abbrev pub empty : Bool → Sketch
+empty poison = record {
+  links = [];
+  routers = [];
+  poison = poison;
+  interfaces = [];
+  also = [];
+  places = [];
+}
 
 -- what a document says: the version, the root, the first pass, and the other passes
 unfoldable pub sketch_of_document : Members → Result Sketch PlanError
@@ -22,7 +30,7 @@ sketch_of_document doc =
     else (wanted (fault codes.Key Text) (root_fields doc) >>= (λ root.
     if nat_lt MOST_LINKS (length root.0) || nat_lt MOST_ROUTERS (length root.1) then
     Err (fault codes.Limit Text)
-    else (steps link_step 1 root.0 empty >>= steps router_step 1 root.1 >>= (λ s.
+    else (steps link_step 1 root.0 (empty root.2) >>= steps router_step 1 root.1 >>= (λ s.
     second_passes s >>= (λ _. Ok s)))))
 
 -- the document that the bytes are

@@ -26,16 +26,37 @@ IsPrefix n k p = slice_get n.prefixes k ≡ Some p
 pub record IsInterface (n : Network) (i r l c : ℕ) : Type 0 where
   pub address : ℕ
   pub direct : ℕ
-  pub listed : slice_get n.interfaces i
-      ≡ Some (record { router = r; link = l; address = address; cost = c; direct = direct })
+  pub poison : Bool
+  pub listed : slice_get n.interfaces i ≡ Some (record {
+    router = r;
+    link = l;
+    address = address;
+    cost = c;
+    direct = direct;
+    poison = poison;
+  })
 
 -- interface i is router r's on link l, and d is the metric at which the router has the prefixes of
 -- the link
 pub record IsConnected (n : Network) (i r l d : ℕ) : Type 0 where
   pub address : ℕ
   pub cost : ℕ
-  pub listed : slice_get n.interfaces i
-      ≡ Some (record { router = r; link = l; address = address; cost = cost; direct = d })
+  pub poison : Bool
+  pub listed : slice_get n.interfaces i ≡ Some (record {
+    router = r;
+    link = l;
+    address = address;
+    cost = cost;
+    direct = d;
+    poison = poison;
+  })
+
+-- interface i poisons: where its router has a route over the link, it shows 16 there, and does not
+-- leave the route out (RFC 2453, 3.4.3: split horizon with poisoned reverse)
+pub record Poisons (n : Network) (i : ℕ) : Type 0 where
+  pub interface : Interface
+  pub listed : slice_get n.interfaces i ≡ Some interface
+  pub poisons : interface.poison ≡ true
 
 -- these are the addresses of interface i, which is on link l: its own, and then its further ones
 pub record HasAddresses (n : Network) (i l : ℕ) (addresses : List ℕ) : Type 0 where
@@ -56,8 +77,15 @@ pub record HasOwnAddress (n : Network) (i l a : ℕ) : Type 0 where
   pub router : ℕ
   pub cost : ℕ
   pub direct : ℕ
-  pub listed : slice_get n.interfaces i
-      ≡ Some (record { router = router; link = l; address = a; cost = cost; direct = direct })
+  pub poison : Bool
+  pub listed : slice_get n.interfaces i ≡ Some (record {
+    router = router;
+    link = l;
+    address = a;
+    cost = cost;
+    direct = direct;
+    poison = poison;
+  })
 
 -- interface i is on the link of this name and has address a there
 abbrev pub IsAt : Network → List ℕ → ℕ → ℕ → Type 0

@@ -28,12 +28,14 @@ pub(crate) struct DraftPlace {
     pub at: At,
 }
 
-/// What was read of a plan so far. Beside the interfaces stand the further addresses of each and how
-/// many these are; beside the links the numbers of their names and, by link, the prefixes on them.
+/// What was read of a plan so far, and whether interfaces poison that do not say it. Beside the
+/// interfaces stand the further addresses of each and how many these are; beside the links the numbers
+/// of their names and, by link, the prefixes on them.
 #[derive(Drop)]
 pub(crate) struct Draft {
     pub links: Vec<String>,
     pub routers: Vec<String>,
+    pub poison: bool,
     pub interfaces: Vec<DraftInterface>,
     pub also: Vec<Vec<Address>>,
     pub also_count: usize,

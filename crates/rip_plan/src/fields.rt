@@ -71,6 +71,19 @@ fn integer_at(table: &Table, key: &str) -> Option<Option<i64>>
     }
 }
 
+/// The flag at a key, if anything is there; `None` where it is of another kind.
+fn flag_at(table: &Table, key: &str) -> Option<Option<bool>>
+    ensures { result ≡ flag_if (get_member key.now (table_view table.now)) }
+{
+    match member(table, key) {
+        None => Some(None),
+        Some(value) => match value.as_bool() {
+            Some(flag) => Some(Some(flag)),
+            None => None,
+        },
+    }
+}
+
 /// Whether a key is one of these.
 fn is_key_of(key: &str, known: &[&str]) -> bool
     ensures { result ≡ is_one_of key.now (map (λ k. k.now) known.now) }
@@ -118,15 +131,19 @@ pub(crate) struct InterfaceFields<'a> {
     pub cost: Option<i64>,
     pub direct: Option<i64>,
     pub also: &'a [Value],
+    pub poison: Option<bool>,
 }
 
 /// The link, the address, the cost, the direct metric and the further addresses of an interface's
-/// table.
+/// table, and whether it poisons.
 #[tactic(auto, unfolding(crate::specs::Fields::interface_fields))]
 pub(crate) fn fields_of_interface<'a>(table: &'a Table) -> Option<InterfaceFields<'a>>
     ensures { option_map seen_interface result ≡ interface_fields (table_view table.now) }
 {
-    if !has_only(table, &["link", "address", "cost", "direct", "also"]) {
+    if !has_only(
+        table,
+        &["link", "address", "cost", "direct", "also", "poison"],
+    ) {
         return None;
     }
     let link = text_at(table, "link")?;
@@ -134,12 +151,14 @@ pub(crate) fn fields_of_interface<'a>(table: &'a Table) -> Option<InterfaceField
     let cost = integer_at(table, "cost")?;
     let direct = integer_at(table, "direct")?;
     let also = all_texts(list_if(table, "also")?)?;
+    let poison = flag_at(table, "poison")?;
     Some(InterfaceFields {
         link,
         address,
         cost,
         direct,
         also,
+        poison,
     })
 }
 
@@ -172,16 +191,6 @@ pub(crate) fn direct_of(cost: u8, given: Option<i64>) -> Option<u8>
                 None
             }
         }
-    }
-}
-
-/// The flag at a key, `false` where nothing is there; `None` where it is of another kind.
-fn flag_at(table: &Table, key: &str) -> Option<bool>
-    ensures { result ≡ flag_if (get_member key.now (table_view table.now)) }
-{
-    match member(table, key) {
-        None => Some(false),
-        Some(value) => value.as_bool(),
     }
 }
 
@@ -219,7 +228,7 @@ pub(crate) fn fields_of_own<'a>(table: &'a Table) -> Option<OwnFields<'a>>
     }
     let prefix = text_at(table, "prefix")?;
     let cost = integer_at(table, "cost")?;
-    let kept = flag_at(table, "kept")?;
+    let kept = flag_at(table, "kept")?.unwrap_or(false);
     let link = text_if(table, "link")?;
     let via = text_if(table, "via")?;
     Some(OwnFields {
@@ -246,13 +255,14 @@ pub(crate) fn fields_of_router<'a>(table: &'a Table) -> Option<(&'a str, &'a [Va
     Some((name, interfaces, owns))
 }
 
-/// The links and the routers of the document, at least one of each.
+/// The links and the routers of the document, at least one of each, and whether interfaces poison that
+/// do not say it.
 #[tactic(auto, unfolding(crate::specs::Fields::root_fields))]
-pub(crate) fn fields_of_root<'a>(table: &'a Table) -> Option<(&'a [Value], &'a [Value])>
-    ensures { option_map (λ f. (map view f.0.now, map view f.1.now)) result
+pub(crate) fn fields_of_root<'a>(table: &'a Table) -> Option<(&'a [Value], &'a [Value], bool)>
+    ensures { option_map (λ f. (map view f.0.now, map view f.1.now, f.2)) result
         ≡ root_fields (table_view table.now) }
 {
-    if !has_only(table, &["version", "link", "router"]) {
+    if !has_only(table, &["version", "link", "router", "poison"]) {
         return None;
     }
     let links = list_at(table, "link")?;
@@ -263,7 +273,8 @@ pub(crate) fn fields_of_root<'a>(table: &'a Table) -> Option<(&'a [Value], &'a [
     if routers.is_empty() {
         return None;
     }
-    Some((links, routers))
+    let poison = flag_at(table, "poison")?.unwrap_or(true);
+    Some((links, routers, poison))
 }
 
 /// Whether the document's version is 1.

@@ -18,6 +18,9 @@ pub struct Interface {
     pub cost: u8,
     /// The metric at which the router has the prefixes of the link, 1 to the cost.
     pub direct: u8,
+    /// Whether the router shows 16 on the link for what it has over it (RFC 2453, section 3.4.3: split
+    /// horizon with poisoned reverse); else it may leave that out there.
+    pub poison: bool,
 }
 
 /// Where a prefix stands: on a link, or with a router as its own.

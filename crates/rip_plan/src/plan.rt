@@ -11,7 +11,7 @@ ghost use Rattle.rip_plan.specs.Addresses.{holder_at};
 ghost use Rattle.rip_plan.specs.Network.{addresses_of, direct_at, first_carrying, found_at, is_of, is_on, network_in, network_of_sketch, number_of_prefix, numbers_where, own_seat};
 ghost use Rattle.rip_plan.specs.Draft.{sketch};
 ghost use Rattle.rip_plan.specs.Seats.{gateway_of};
-ghost use Rattle.rip_plan.specs.Relations.{Carries, HasAddress, HasTwoInterfaces, IsAt, IsAttached, IsConnected, IsDirect, IsGateway, IsInterface, IsKept, IsLawful, IsLeaf, IsLinkName, IsPlace, IsPrefix, IsRouterName};
+ghost use Rattle.rip_plan.specs.Relations.{Carries, HasAddress, HasTwoInterfaces, IsAt, IsAttached, IsConnected, IsDirect, IsGateway, IsInterface, IsKept, IsLawful, IsLeaf, IsLinkName, IsPlace, IsPrefix, IsRouterName, Poisons};
 
 use crate::addresses::all_addresses;
 use crate::draft::Draft;
@@ -226,6 +226,7 @@ impl Plan {
         ensures exact { slice_get self.now.interfaces i ≡ Some result }
         ensures is { IsInterface self.now i result.router result.link result.cost }
         ensures connected { IsConnected self.now i result.router result.link result.direct }
+        ensures poisons { Decides result.poison (Poisons self.now i) }
     {
         self.interfaces[i]
     }

@@ -24,7 +24,7 @@ fn draft_of(alloc: Global, table: &Table) -> Result<Draft, ReadError>
     if !fields::is_version_one(table) {
         return Err(fault(PlanCode::Version, At::Version));
     }
-    let Some((links, routers)) = fields::fields_of_root(table) else {
+    let Some((links, routers, poison)) = fields::fields_of_root(table) else {
         return Err(fault(PlanCode::Key, At::Text));
     };
     if MOST_LINKS < links.len() || MOST_ROUTERS < routers.len() {
@@ -33,6 +33,7 @@ fn draft_of(alloc: Global, table: &Table) -> Result<Draft, ReadError>
     let mut draft = Draft {
         links: Vec::new(alloc),
         routers: Vec::new(alloc),
+        poison,
         interfaces: Vec::new(alloc),
         also: Vec::new(alloc),
         also_count: 0,

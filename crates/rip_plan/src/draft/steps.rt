@@ -247,6 +247,7 @@ fn add_interface(
         address,
         cost,
         direct,
+        poison: given.poison.unwrap_or(draft.poison),
     };
     Ok(keep_interface(draft, DraftInterface { interface, at }, also)?)
 }
