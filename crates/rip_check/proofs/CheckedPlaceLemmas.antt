@@ -54,14 +54,14 @@ is_direct n r p m = some (λ k q. (q.prefix == p) && some_cost n r m q.seat) n.p
 -- an interface that is what it is tested for
 its_own : (n : Network) (i r l c : ℕ) (x : Interface) → slice_get n.interfaces i ≡ Some x → x.router ≡ r → x.link ≡ l → x.cost ≡ c → IsInterface n i r l c
 its_own n i r l c x at router link cost =
-    let there : IsInterface n i x.router x.link x.cost = record { address = x.address; direct = x.direct; listed = at } in
+    let there : IsInterface n i x.router x.link x.cost = record { address = x.address; direct = x.direct; poison = x.poison; listed = at } in
     let there' : IsInterface n i r x.link x.cost = rw router at there in
     let there'' : IsInterface n i r l x.cost = rw link at there' in
     rw cost at there''
 
 its_connected : (n : Network) (i r l d : ℕ) (x : Interface) → slice_get n.interfaces i ≡ Some x → x.router ≡ r → x.link ≡ l → x.direct ≡ d → IsConnected n i r l d
 its_connected n i r l d x at router link direct =
-    let there : IsConnected n i x.router x.link x.direct = record { address = x.address; cost = x.cost; listed = at } in
+    let there : IsConnected n i x.router x.link x.direct = record { address = x.address; cost = x.cost; poison = x.poison; listed = at } in
     let there' : IsConnected n i r x.link x.direct = rw router at there in
     let there'' : IsConnected n i r l x.direct = rw link at there' in
     rw direct at there''

@@ -345,7 +345,7 @@ module _ (n : Network) (ok : Passes n) where
 
   inside : (i l a p : ℕ) → HasOwnAddress n i l a → Carries n l p → IsInside n l a
   inside i l a p h carries =
-      let x : Interface = record { router = h.router; link = l; address = a; cost = h.cost; direct = h.direct } in
+      let x : Interface = record { router = h.router; link = l; address = a; cost = h.cost; direct = h.direct; poison = h.poison } in
       let here = some_holds (λ k q. is_link l q.seat) n.places carries.0 _ carries.1.listed (eq-eqb l l refl) in
       let found = some_gives (λ k q. is_link l q.seat && some (λ p b. (p == q.prefix) && contains b a) n.prefixes) n.places
       (when_gives _ (is_inside n x) (each_gives (is_inside_prefixes n) n.interfaces ok.inside i x h.listed) here) in
@@ -360,7 +360,7 @@ module _ (n : Network) (ok : Passes n) where
   one_interface : (r : ℕ) → r < length n.routers → (i l c : ℕ) × IsInterface n i r l c
   one_interface r lt =
       let h = some_gives (λ i x. x.router == r) n.interfaces (below_gives (λ r. some (λ i x. x.router == r) n.interfaces) (length n.routers) (and_parts _ _ ok.has).0 r lt) in
-      let there : IsInterface n h.0 h.1.router h.1.link h.1.cost = record { address = h.1.address; direct = h.1.direct; listed = h.2 } in
+      let there : IsInterface n h.0 h.1.router h.1.link h.1.cost = record { address = h.1.address; direct = h.1.direct; poison = h.1.poison; listed = h.2 } in
       (h.0, h.1.link, h.1.cost, rw (eqb-true _ _ h.3) at there)
 
   one_place : (p : ℕ) → p < length n.prefixes → (k : ℕ) × (s : Seat) × IsPlace n k p s
@@ -381,7 +381,7 @@ module _ (n : Network) (ok : Passes n) where
       let found = some_gives (λ i x. (x.router == r) && (x.link == l)) n.interfaces test in
       let x = found.1 in
       let parts = and_parts (x.router == r) (x.link == l) found.3 in
-      let there : IsInterface n found.0 x.router x.link x.cost = record { address = x.address; direct = x.direct; listed = found.2 } in
+      let there : IsInterface n found.0 x.router x.link x.cost = record { address = x.address; direct = x.direct; poison = x.poison; listed = found.2 } in
       let there' : IsInterface n found.0 r x.link x.cost = rw (eqb-true _ _ parts.0) at there in
       (x.cost, (found.0, rw (eqb-true _ _ parts.1) at there'))
 

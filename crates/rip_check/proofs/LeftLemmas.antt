@@ -96,22 +96,22 @@ module _ (n : Network) (f : Option Failure) where
   pub was_cost : (r l c : ℕ) → HasCost (network_left n f) r l c → HasCost n r l c × (is_router_up f r ≡ true) × (is_link_up f l ≡ true)
   was_cost r l c has =
       let h = was_listed n f has.0 _ has.1.listed in
-      ((h.0, record { address = has.1.address; direct = has.1.direct; listed = h.1 }), h.2, h.3)
+      ((h.0, record { address = has.1.address; direct = has.1.direct; poison = has.1.poison; listed = h.1 }), h.2, h.3)
 
   pub still_cost : (r l c : ℕ) → HasCost n r l c → is_router_up f r ≡ true → is_link_up f l ≡ true → HasCost (network_left n f) r l c
   still_cost r l c has r_up l_up =
       let h = still_listed n f has.0 _ has.1.listed r_up l_up in
-      (h.0, record { address = has.1.address; direct = has.1.direct; listed = h.1 })
+      (h.0, record { address = has.1.address; direct = has.1.direct; poison = has.1.poison; listed = h.1 })
 
   was_connected : (j r l d : ℕ) → IsConnected (network_left n f) j r l d → ((i : ℕ) × IsConnected n i r l d) × (is_router_up f r ≡ true) × (is_link_up f l ≡ true)
   was_connected j r l d is =
       let h = was_listed n f j _ is.listed in
-      ((h.0, record { address = is.address; cost = is.cost; listed = h.1 }), h.2, h.3)
+      ((h.0, record { address = is.address; cost = is.cost; poison = is.poison; listed = h.1 }), h.2, h.3)
 
   still_connected : (i r l d : ℕ) → IsConnected n i r l d → is_router_up f r ≡ true → is_link_up f l ≡ true → (j : ℕ) × IsConnected (network_left n f) j r l d
   still_connected i r l d is r_up l_up =
       let h = still_listed n f i _ is.listed r_up l_up in
-      (h.0, record { address = is.address; cost = is.cost; listed = h.1 })
+      (h.0, record { address = is.address; cost = is.cost; poison = is.poison; listed = h.1 })
 
 -- ---- places
 
@@ -167,7 +167,7 @@ module _ (n : Network) (f : Option Failure) where
   pub still_direct : (r p c : ℕ) → is_router_up f r ≡ true → ((l : ℕ) → Carries n l p → IsOn n r l → is_link_up f l ≡ true) → ((l : ℕ) → IsAttached n r p l → is_link_up f l ≡ true) →
       IsDirect n r p c → IsDirect (network_left n f) r p c
   still_direct r p c r_up carried attached (k, inl at) =
-      let on : IsOn n r at.0 = (at.2.1.cost, (at.2.0, record { address = at.2.1.address; direct = c; listed = at.2.1.listed })) in
+      let on : IsOn n r at.0 = (at.2.1.cost, (at.2.0, record { address = at.2.1.address; direct = c; poison = at.2.1.poison; listed = at.2.1.listed })) in
       let l_up = carried at.0 (k, at.1) on in
       let h = still_place n f k p _ at.1 l_up in
       (h.0, inl (at.0, h.1, still_connected n f at.2.0 r at.0 c at.2.1 r_up l_up))
@@ -249,7 +249,7 @@ module _ (n : Network) (plan : IsLawful n) where
     carried_up r p c l direct carried on = go direct
       where
         touch : Touches n carried.0 p r on.1.1.direct
-        touch = inl (l, carried.1, (on.1.0, record { address = on.1.1.address; cost = on.0; listed = on.1.1.listed }))
+        touch = inl (l, carried.1, (on.1.0, record { address = on.1.1.address; cost = on.0; poison = on.1.1.poison; listed = on.1.1.listed }))
 
         go : IsDirect (network_left n f) r p c → is_link_up f l ≡ true
         go (k, inl here) =
@@ -310,7 +310,7 @@ left_routers n (Some f) = refl
 
 -- who has a prefix is a router of the plan
 pub direct_known : (n : Network) → IsLawful n → (r p c : ℕ) → IsDirect n r p c → r < length n.routers
-direct_known n plan r p c (k, inl at) = plan.router_known at.2.0 r at.0 at.2.1.cost (record { address = at.2.1.address; direct = c; listed = at.2.1.listed })
+direct_known n plan r p c (k, inl at) = plan.router_known at.2.0 r at.0 at.2.1.cost (record { address = at.2.1.address; direct = c; poison = at.2.1.poison; listed = at.2.1.listed })
 direct_known n plan r p c (k, inr own) = plan.owner_known k p r c own
 
 -- a path after the failure is one before it, where no router has the prefix attached to what has failed

@@ -127,11 +127,11 @@ attached_ne n r p l o b exact e = go (option_eq eqb o (Some l)) refl e
 
 -- the direct metric of an interface
 pub its_direct : (n : Network) (i r l c : ℕ) → (h : IsInterface n i r l c) → IsConnected n i r l h.direct
-its_direct n i r l c h = record { address = h.address; cost = c; listed = h.listed }
+its_direct n i r l c h = record { address = h.address; cost = c; poison = h.poison; listed = h.listed }
 
 -- the cost of an interface
 pub its_cost : (n : Network) (i r l d : ℕ) → (h : IsConnected n i r l d) → IsInterface n i r l h.cost
-its_cost n i r l d h = record { address = h.address; direct = d; listed = h.listed }
+its_cost n i r l d h = record { address = h.address; direct = d; poison = h.poison; listed = h.listed }
 
 -- on a link of the prefix a router has it at no more than the link costs it
 pub carried_direct : (n : Network) → IsLawful n → (r l c p : ℕ) → HasCost n r l c → Carries n l p → (d : ℕ) × IsDirect n r p d × (d ≤ c)
@@ -146,7 +146,7 @@ pub attached_kept : (n : Network) (r p l : ℕ) → IsAttached n r p l → IsKep
 attached_kept n r p l at = inr (l, at)
 
 -- what is kept is the router's own
-kept_own : (n : Network) (r p : ℕ) → IsKept n r p → (k c : ℕ) × IsOwnAt n k p r c
+pub kept_own : (n : Network) (r p : ℕ) → IsKept n r p → (k c : ℕ) × IsOwnAt n k p r c
 kept_own n r p (inl h) = (h.0, h.1.cost, record { kept = _; link = h.1.link; via = h.1.via; place = h.1.place })
 kept_own n r p (inr h) = (h.1.0, h.1.1.cost, attached_own n h.1.0 p r h.0 h.1.1)
 

@@ -73,7 +73,7 @@ another_or_not n shown r p i j = go (cases_eq j i) (poisoned_or_not n shown r p 
 
 on_its_link : (n : Network) (shown : State) (r p i : ℕ) (h : IsPoisoned n shown r p i) → IsInterface n i r h.own.link h.own.cost
 on_its_link n shown r p i h =
-    let there : IsInterface n i h.own.router h.own.link h.own.cost = record { address = h.own.address; direct = h.own.direct; listed = h.listed } in
+    let there : IsInterface n i h.own.router h.own.link h.own.cost = record { address = h.own.address; direct = h.own.direct; poison = h.own.poison; listed = h.listed } in
     rw h.its at there
 
 module _ (n : Network) (plan : IsLawful n) (shown : State) (range : IsInRange n shown) (r p : ℕ)
@@ -251,7 +251,7 @@ module _ (n : Network) (plan : IsLawful n) (shown : State) (range : IsInRange n 
         elim (find_below (IsOther n shown r p) (other_or_not n shown r p) (length n.interfaces)) [
           | inl h ↦
               let o = h.2 in
-              let its : IsInterface n h.0 o.own.router o.own.link o.own.cost = record { address = o.own.address; direct = o.own.direct; listed = o.listed } in
+              let its : IsInterface n h.0 o.own.router o.own.link o.own.cost = record { address = o.own.address; direct = o.own.direct; poison = o.own.poison; listed = o.listed } in
               let there : IsInterface n h.0 r o.own.link o.own.cost = rw o.its at its in
               let b = below h.0 o.own.link o.own.cost there (λ g. o.shows g.shows) in
               (h.0, b.0, record { link = o.own.link; cost = o.own.cost; its = there; shows = b.1; below = b.3 })

@@ -25,7 +25,14 @@ ten x = block (octets 10 x 0 0) 16
 
 -- router r on link l, with address a, at cost c, at which it has the link's prefixes too
 abbrev pub interface : ℕ → ℕ → ℕ → ℕ → Interface
-interface r l a c = record { router = r; link = l; address = a; cost = c; direct = c }
+interface r l a c = record {
+  router = r;
+  link = l;
+  address = a;
+  cost = c;
+  direct = c;
+  poison = true;
+}
 
 -- so many interfaces have no further address
 abbrev pub one_each : ℕ → List (List ℕ)

@@ -8,6 +8,7 @@ ghost use Rattle.rip_check.specs.TwoLeasts.{AreLeastShown};
 ghost use Rattle.rip_check.specs.Verdicts.{IsFirstPlace, IsRowFirst, IsSound, IsVerdict, ShowsTables, IsNextUnsettled, HoldsAfter, IsKnownPlace};
 ghost use Rattle.rip_check.specs.Laws.{ShowsRightTables, EachPlaceHolds};
 ghost use Rattle.rip_check.specs.Walks.{PacketsArrive};
+ghost use Rattle.rip_check.specs.Told.{told};
 
 use crate::links::{NOTHING, TwoLeast, fill};
 use crate::lookup::in_range;
@@ -41,9 +42,10 @@ fn first_in_row<T: MetricTable>(
 ) -> Option<Place2>
     requires fits { Fits plan.now (T.state table.now) }
     requires router { router < length plan.now.routers }
-    ensures some { IfSome result (IsRowFirst plan.now (T.state table.now) router from) }
+    ensures some { IfSome result
+        (IsRowFirst plan.now (told plan.now (T.state table.now)) router from) }
     ensures none { IfNone result ((q : ℕ) → from ≤ q → q < length (T.state table.now).prefixes →
-        IsSound plan.now (T.state table.now) router q) }
+        IsSound plan.now (told plan.now (T.state table.now)) router q) }
 {
     for prefix in from..table.prefix_count() {
         if let Some(found) = failing_place(plan, table, router, prefix) {
@@ -63,8 +65,8 @@ pub fn next_unsettled<T: MetricTable>(
     requires fits { Fits plan.now (T.state table.now) }
     requires known { IsKnownPlace (T.state table.now) after }
     ensures some { IfSome result (λ place.
-        IsNextUnsettled plan.now (T.state table.now) after place) }
-    ensures none { IfNone result (HoldsAfter plan.now (T.state table.now) after) }
+        IsNextUnsettled plan.now (told plan.now (T.state table.now)) after place) }
+    ensures none { IfNone result (HoldsAfter plan.now (told plan.now (T.state table.now)) after) }
 {
     let (row, start) = match after {
         None => (0, 0),
@@ -90,10 +92,10 @@ fn first_unreadable<T: MetricTable>(
 ) -> Option<usize>
     requires fits { Fits plan.now (T.state table.now) }
     requires prefix { prefix < length (T.state table.now).prefixes }
-    requires links { AreLeastShown plan.now (T.state table.now) prefix links.now }
+    requires links { AreLeastShown plan.now (told plan.now (T.state table.now)) prefix links.now }
     requires known { below ≤ length plan.now.routers }
     ensures { IsFirstOf below
-        (λ s. IsReadable plan.now (T.state table.now) s prefix) result }
+        (λ s. IsReadable plan.now (told plan.now (T.state table.now)) s prefix) result }
 {
     plan.lawful();
     in_range(plan, table);
@@ -116,14 +118,14 @@ fn first_failing<T: MetricTable>(
 ) -> Result<Option<usize>, usize>
     requires fits { Fits plan.now (T.state table.now) }
     requires prefix { prefix < length (T.state table.now).prefixes }
-    requires links { AreLeastShown plan.now (T.state table.now) prefix links.now }
+    requires links { AreLeastShown plan.now (told plan.now (T.state table.now)) prefix links.now }
     requires known { below ≤ length plan.now.routers }
     ensures unreadable { IfErr result (λ r. IsFirstOf (length plan.now.routers)
-        (λ s. IsReadable plan.now (T.state table.now) s prefix) (Some r)) }
+        (λ s. IsReadable plan.now (told plan.now (T.state table.now)) s prefix) (Some r)) }
     ensures readable { IfOk result (λ _. IsFirstOf (length plan.now.routers)
-        (λ s. IsReadable plan.now (T.state table.now) s prefix) None) }
+        (λ s. IsReadable plan.now (told plan.now (T.state table.now)) s prefix) None) }
     ensures failing { IfOk result (λ first. IsFirstOf below
-        (λ s. IsSound plan.now (T.state table.now) s prefix) first) }
+        (λ s. IsSound plan.now (told plan.now (T.state table.now)) s prefix) first) }
 {
     plan.lawful();
     in_range(plan, table);
@@ -156,9 +158,9 @@ fn with_prefix<T: MetricTable>(
 ) -> FirstPlace
     requires fits { Fits plan.now (T.state table.now) }
     requires prefix { prefix < length (T.state table.now).prefixes }
-    requires links { AreLeastShown plan.now (T.state table.now) prefix links.now }
-    requires found { IsFirstPlace plan.now (T.state table.now) prefix found }
-    ensures { IsFirstPlace plan.now (T.state table.now) (prefix + 1) result }
+    requires links { AreLeastShown plan.now (told plan.now (T.state table.now)) prefix links.now }
+    requires found { IsFirstPlace plan.now (told plan.now (T.state table.now)) prefix found }
+    ensures { IsFirstPlace plan.now (told plan.now (T.state table.now)) (prefix + 1) result }
 {
     match found {
         Err((router, first)) => {
@@ -185,7 +187,7 @@ fn with_prefix<T: MetricTable>(
 /// are found once for all routers.
 fn first_place<T: MetricTable>(plan: &Plan, table: &T) -> FirstPlace
     requires { Fits plan.now (T.state table.now) }
-    ensures { IsFirstPlace plan.now (T.state table.now)
+    ensures { IsFirstPlace plan.now (told plan.now (T.state table.now))
         (length (T.state table.now).prefixes) result }
 {
     plan.lawful();
@@ -202,7 +204,7 @@ fn first_place<T: MetricTable>(plan: &Plan, table: &T) -> FirstPlace
 /// The verdict, by its definition.
 fn decide<T: MetricTable>(plan: &Plan, table: &T) -> Verdict
     requires { Fits plan.now (T.state table.now) }
-    ensures { IsVerdict plan.now (T.state table.now) result }
+    ensures { IsVerdict plan.now (told plan.now (T.state table.now)) result }
 {
     plan.lawful();
     in_range(plan, table);
@@ -222,22 +224,27 @@ fn decide<T: MetricTable>(plan: &Plan, table: &T) -> Verdict
     }
 }
 
-/// The verdict on a table that fits a plan. Settled is answered exactly where the table shows right
-/// tables; then what follows them arrives. Unsettled names the first place that does not hold, by
-/// router and then by prefix, and Unclear the first reason why no tables are shown.
+/// The verdict on a table that fits a plan, by what its interfaces tell: the metric that is shown, and
+/// where nothing is, 16 of an interface that does not poison. Settled is answered exactly where right
+/// tables are told; then what follows them arrives. Unsettled names the first place that does not hold,
+/// by router and then by prefix, and Unclear the first reason why no tables are told.
 pub fn judge<T: MetricTable>(plan: &Plan, table: &T) -> Verdict
     requires { Fits plan.now (T.state table.now) }
-    ensures settled { (result ≡ Verdict.Settled) ↔ ShowsRightTables plan.now (T.state table.now) }
-    ensures places { (result ≡ Verdict.Settled) ↔ EachPlaceHolds plan.now (T.state table.now) }
+    ensures settled { (result ≡ Verdict.Settled)
+        ↔ ShowsRightTables plan.now (told plan.now (T.state table.now)) }
+    ensures places { (result ≡ Verdict.Settled)
+        ↔ EachPlaceHolds plan.now (told plan.now (T.state table.now)) }
     ensures unsettled { (place : Place2) →
         (result ≡ Verdict.Unsettled place)
-        ↔ (ShowsTables plan.now (T.state table.now)
-        × IsNextUnsettled plan.now (T.state table.now) None place) }
+        ↔ (ShowsTables plan.now (told plan.now (T.state table.now))
+        × IsNextUnsettled plan.now (told plan.now (T.state table.now)) None place) }
     ensures unclear { (trouble : Unclear) →
-        (result ≡ Verdict.Unclear trouble) ↔ IsFirstTrouble plan.now (T.state table.now) trouble }
+        (result ≡ Verdict.Unclear trouble)
+        ↔ IsFirstTrouble plan.now (told plan.now (T.state table.now)) trouble }
     ensures no_tables { ((trouble : Unclear) × (result ≡ Verdict.Unclear trouble))
-        ↔ (ShowsTables plan.now (T.state table.now) → ⊥) }
-    ensures arrive { result ≡ Verdict.Settled → PacketsArrive plan.now (T.state table.now) }
+        ↔ (ShowsTables plan.now (told plan.now (T.state table.now)) → ⊥) }
+    ensures arrive { result ≡ Verdict.Settled →
+        PacketsArrive plan.now (told plan.now (T.state table.now)) }
 {
     plan.lawful();
     in_range(plan, table);

@@ -1,7 +1,7 @@
 //! Laws of settled tables: functions that do nothing, whose contracts hold of every plan and every
 //! table.
 
-ghost use Rattle.std.specs.Prelude.{ℕ, ◌↔◌, ◌<◌, ◌≤◌, List, length};
+ghost use Rattle.std.specs.Prelude.{◌≡◌, ℕ, ◌↔◌, ◌<◌, ◌≤◌, Bool, List, length, true};
 ghost use Rattle.rip_plan.specs.Network.{Network};
 ghost use Rattle.rip_plan.specs.Relations.{IsAttached, IsLawful, IsPlain};
 ghost use Rattle.rip_table.specs.State.{State};
@@ -11,8 +11,9 @@ ghost use Rattle.rip_check.specs.Firsts.{IsReadable, IsReason, ShowsTwoWays};
 ghost use Rattle.rip_check.specs.Laws.{Case, EachIsExpected, EachPlaceHolds, GiversAreNear, HasRightTables, IsSettled, MetricsAreReached, NoPathIsCheaper, OneIsShown, OneRouteFits, PoisonHidesNothing, ShowsRightTables, SilenceIsShared, WalksFall};
 ghost use Rattle.rip_check.specs.Metrics.{IsInRange};
 ghost use Rattle.rip_check.specs.Paths.{HasPathOver, Hop, IsLeast, IsPath, IsPlainPath};
-ghost use Rattle.rip_check.specs.Settled.{IsPlainRight, IsRight};
-ghost use Rattle.rip_check.specs.Tables.{MayHoldBack, Route};
+ghost use Rattle.rip_check.specs.Settled.{AllRight, IsPlainRight, IsRight};
+ghost use Rattle.rip_check.specs.Tables.{MayHoldBack, Route, Shows, Tables};
+ghost use Rattle.rip_check.specs.Told.{EachPoisons, told, told_where};
 ghost use Rattle.rip_check.specs.Walks.{EachCanGoOn, EachEndsThere, EachIsShort};
 ghost use Rattle.rip_check.specs.declared.failures.Failure.{Failure};
 ghost use Rattle.rip_check.specs.declared.verdict.Unclear.TheVariants.{TwoWays};
@@ -111,6 +112,19 @@ pub fn failures_bring_nothing_nearer()
     ensures { (n : Network) (f : Failure) (p r v w : ℕ) →
         ((s q l : ℕ) → IsAttached n s q l → ⊥) → IsLeast n p r v →
         IsLeast (network_after n f) p r w → v ≤ w }
+{}
+
+/// In a plan in which each interface poisons, what is told is what is shown.
+pub fn told_is_shown()
+    ensures { (n : Network) (s : State) → EachPoisons n → told n s ≡ s }
+{}
+
+/// Less poison takes nothing away: where a log shows right tables, it shows the same tables where fewer
+/// interfaces are said to poison.
+pub fn less_poison()
+    ensures { (n : Network) (s : State) (more fewer : ℕ → Bool) (T : Tables) → IsLawful n →
+        ((i : ℕ) → fewer i ≡ true → more i ≡ true) → Shows n (told_where more s) T →
+        AllRight n (length s.prefixes) T → Shows n (told_where fewer s) T }
 {}
 
 /// Where `two ways` is the reason why no route can be read, the router shows 16 on two of its interfaces

@@ -6,8 +6,9 @@ ghost use Rattle.rip_plan.specs.Relations.{IsInterface};
 ghost use Rattle.rip_table.specs.State.{Fits};
 ghost use Rattle.rip_check.specs.TwoLeasts.{AreTwoLeast, AreTwoLeastBefore, IsSeen, IsTwoLeast, shown_of};
 ghost use Rattle.rip_check.specs.Metrics.{metric_at};
+ghost use Rattle.rip_check.specs.Told.{told};
 
-use crate::lookup::shown_at;
+use crate::lookup::told_at;
 use rip_plan::Plan;
 use rip_table::MetricTable;
 
@@ -32,10 +33,11 @@ fn seen_at<T: MetricTable>(plan: &Plan, table: &T, interface: usize, prefix: usi
     requires fits { Fits plan.now (T.state table.now) }
     requires interface { interface < length plan.now.interfaces }
     requires prefix { prefix < length (T.state table.now).prefixes }
-    ensures value { result ≡ unwrap_or (metric_at (T.state table.now) interface prefix) 16 }
+    ensures value { result
+        ≡ unwrap_or (metric_at (told plan.now (T.state table.now)) interface prefix) 16 }
     ensures most { result ≤ 16 }
 {
-    match shown_at(plan, table, interface, prefix) {
+    match told_at(plan, table, interface, prefix) {
         Some(metric) => metric,
         None => 16,
     }
@@ -103,7 +105,7 @@ pub(crate) fn fill<T: MetricTable>(plan: &Plan, table: &T, prefix: usize, links:
     requires fits { Fits plan.now (T.state table.now) }
     requires prefix { prefix < length (T.state table.now).prefixes }
     requires size { length plan.now.links ≤ length links.old }
-    ensures { AreTwoLeast plan.now (shown_of (T.state table.now) prefix) links.new }
+    ensures { AreTwoLeast plan.now (shown_of (told plan.now (T.state table.now)) prefix) links.new }
 {
     reset(links);
     for i in 0..plan.interfaces() {

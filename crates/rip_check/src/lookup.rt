@@ -5,6 +5,7 @@ ghost use Rattle.rip_plan.specs.Relations.{IsAttached};
 ghost use Rattle.rip_table.specs.State.{Fits};
 ghost use Rattle.rip_check.specs.Metrics.{IsInRange, metric_at};
 ghost use Rattle.rip_check.specs.Tables.{MayHoldBack};
+ghost use Rattle.rip_check.specs.Told.{told};
 
 use rip_plan::Plan;
 use rip_table::MetricTable;
@@ -19,11 +20,11 @@ pub(crate) fn metric_of(number: u32) -> Metric
     Metric::new(number).unwrap()
 }
 
-/// What the interfaces of the plan show is a metric. This does nothing when it runs: the plan and the
+/// What the interfaces of the plan tell is a metric. This does nothing when it runs: the plan and the
 /// table are what its contract speaks of.
 pub(crate) fn in_range<T: MetricTable>(plan: &Plan, table: &T)
     requires { Fits plan.now (T.state table.now) }
-    ensures { IsInRange plan.now (T.state table.now) }
+    ensures { IsInRange plan.now (told plan.now (T.state table.now)) }
 {
     let _ = plan;
     let _ = table;
@@ -47,6 +48,32 @@ pub(crate) fn shown_at<T: MetricTable>(
     match table.metric(interface, prefix) {
         Some(metric) => Some(metric.get()),
         None => None,
+    }
+}
+
+/// The metric that an interface tells of a prefix: what it shows, or 16 where it shows nothing and does
+/// not poison.
+pub(crate) fn told_at<T: MetricTable>(
+    plan: &Plan,
+    table: &T,
+    interface: usize,
+    prefix: usize,
+) -> Option<u32>
+    requires fits { Fits plan.now (T.state table.now) }
+    requires interface { interface < length plan.now.interfaces }
+    requires prefix { prefix < length (T.state table.now).prefixes }
+    ensures metric { result ≡ metric_at (told plan.now (T.state table.now)) interface prefix }
+    ensures range { IfSome result (λ m. (1 ≤ m) × (m ≤ 16)) }
+{
+    match shown_at(plan, table, interface, prefix) {
+        Some(metric) => Some(metric),
+        None => {
+            if plan.interface(interface).poison {
+                None
+            } else {
+                Some(16)
+            }
+        }
     }
 }
 

@@ -7,9 +7,10 @@ ghost use Rattle.rip_table.specs.State.{Fits};
 ghost use Rattle.rip_check.specs.Settled.{IsChoice};
 ghost use Rattle.rip_check.specs.Tables.{Offers};
 ghost use Rattle.rip_check.specs.TwoLeasts.{AreLeastShown, IsSeen, IsTwoLeast};
+ghost use Rattle.rip_check.specs.Told.{told};
 
 use crate::links::TwoLeast;
-use crate::lookup::{metric_of, shown_at};
+use crate::lookup::{metric_of, shown_at, told_at};
 use rip_plan::{Interface, Plan};
 use rip_table::MetricTable;
 use rip_wire::Metric;
@@ -39,10 +40,10 @@ fn least_asked<T: MetricTable>(
     requires own { HasCost plan.now own.router own.link own.cost }
     ensures at_most { result ≤ best }
     ensures least { (s v : ℕ) →
-        Offers plan.now (T.state table.now) own.router own.link s prefix v →
+        Offers plan.now (told plan.now (T.state table.now)) own.router own.link s prefix v →
         result ≤ v }
     ensures chosen { (result ≡ best) ⊎ ((s : ℕ)
-        × Offers plan.now (T.state table.now) own.router own.link s prefix result) }
+        × Offers plan.now (told plan.now (T.state table.now)) own.router own.link s prefix result) }
 {
     plan.lawful();
     let mut least = best;
@@ -50,7 +51,7 @@ fn least_asked<T: MetricTable>(
     for j in numbers {
         let across = plan.interface(*j);
         if across.router != own.router {
-            let offer = offer_of(own.cost, shown_at(plan, table, *j, prefix));
+            let offer = offer_of(own.cost, told_at(plan, table, *j, prefix));
             if offer < least {
                 least = offer;
             }
@@ -95,15 +96,15 @@ pub(crate) fn best_over<T: MetricTable>(
     requires fits { Fits plan.now (T.state table.now) }
     requires prefix { prefix < length (T.state table.now).prefixes }
     requires links { IfSome links (λ l.
-        AreLeastShown plan.now (T.state table.now) prefix l.now) }
+        AreLeastShown plan.now (told plan.now (T.state table.now)) prefix l.now) }
     requires own { HasCost plan.now own.router own.link own.cost }
     requires best { best ≤ 16 }
     ensures at_most { result ≤ best }
     ensures least { (s v : ℕ) →
-        Offers plan.now (T.state table.now) own.router own.link s prefix v →
+        Offers plan.now (told plan.now (T.state table.now)) own.router own.link s prefix v →
         result ≤ v }
     ensures chosen { (result ≡ best) ⊎ ((s : ℕ)
-        × Offers plan.now (T.state table.now) own.router own.link s prefix result) }
+        × Offers plan.now (told plan.now (T.state table.now)) own.router own.link s prefix result) }
 {
     plan.lawful();
     match links {
@@ -141,12 +142,12 @@ pub(crate) fn least_choice<T: MetricTable>(
     requires router { router < length plan.now.routers }
     requires prefix { prefix < length (T.state table.now).prefixes }
     requires links { IfSome links (λ l.
-        AreLeastShown plan.now (T.state table.now) prefix l.now) }
+        AreLeastShown plan.now (told plan.now (T.state table.now)) prefix l.now) }
     requires keeps { Decides keeps (IsKept plan.now router prefix) }
     ensures most { result ≤ 16 }
-    ensures chosen { IsChoice plan.now (T.state table.now) router prefix result }
-    ensures least { (v : ℕ) → IsChoice plan.now (T.state table.now) router prefix v →
-        result ≤ v }
+    ensures chosen { IsChoice plan.now (told plan.now (T.state table.now)) router prefix result }
+    ensures least { (v : ℕ) →
+        IsChoice plan.now (told plan.now (T.state table.now)) router prefix v → result ≤ v }
 {
     let mut best = direct_or_16(plan, router, prefix);
     if keeps {

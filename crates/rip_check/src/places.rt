@@ -8,6 +8,7 @@ ghost use Rattle.rip_check.specs.Tables.{IsOnlyRoute, FitsShown, FitsWay, Offers
 ghost use Rattle.rip_check.specs.TwoLeasts.{AreLeastShown};
 ghost use Rattle.rip_check.specs.Verdicts.{IsFailing, IsSound, route_of, IsHidden};
 ghost use Rattle.rip_check.specs.Firsts.{IsReadable, IsReason};
+ghost use Rattle.rip_check.specs.Told.{told};
 
 use crate::links::TwoLeast;
 use crate::lookup::{in_range, metric_of};
@@ -44,13 +45,13 @@ fn is_offered<T: MetricTable>(
     requires router { router < length plan.now.routers }
     requires prefix { prefix < length (T.state table.now).prefixes }
     requires links { IfSome links (λ l.
-        AreLeastShown plan.now (T.state table.now) prefix l.now) }
+        AreLeastShown plan.now (told plan.now (T.state table.now)) prefix l.now) }
     requires takes { IsKept plan.now router prefix → ⊥ }
     requires small { metric < 16 }
-    requires least { (v : ℕ) → IsChoice plan.now (T.state table.now) router prefix v →
-        metric ≤ v }
+    requires least { (v : ℕ) →
+        IsChoice plan.now (told plan.now (T.state table.now)) router prefix v → metric ≤ v }
     ensures { Decides result ((s : ℕ)
-        × Offers plan.now (T.state table.now) router link s prefix metric) }
+        × Offers plan.now (told plan.now (T.state table.now)) router link s prefix metric) }
 {
     let numbers = plan.of_router(router);
     for i in numbers {
@@ -76,13 +77,14 @@ fn is_given<T: MetricTable>(
     requires router { router < length plan.now.routers }
     requires prefix { prefix < length (T.state table.now).prefixes }
     requires links { IfSome links (λ l.
-        AreLeastShown plan.now (T.state table.now) prefix l.now) }
+        AreLeastShown plan.now (told plan.now (T.state table.now)) prefix l.now) }
     requires keeps { Decides keeps (IsKept plan.now router prefix) }
     requires way { FitsWay plan.now router prefix route.metric route.way }
-    requires least { (v : ℕ) → IsChoice plan.now (T.state table.now) router prefix v →
-        route.metric ≤ v }
+    requires least { (v : ℕ) →
+        IsChoice plan.now (told plan.now (T.state table.now)) router prefix v → route.metric ≤ v }
     ensures { Decides result
-        (IsGiven plan.now (T.state table.now) router prefix route.metric route.way) }
+        (IsGiven plan.now (told plan.now (T.state table.now)) router prefix
+        route.metric route.way) }
 {
     match route.way {
         Way::Unreachable => true,
@@ -106,14 +108,16 @@ pub(crate) fn failing_equation<T: MetricTable>(
     requires router { router < length plan.now.routers }
     requires prefix { prefix < length (T.state table.now).prefixes }
     requires links { IfSome links (λ l.
-        AreLeastShown plan.now (T.state table.now) prefix l.now) }
-    requires route { FitsShown plan.now (T.state table.now) router prefix (route_of route) }
+        AreLeastShown plan.now (told plan.now (T.state table.now)) prefix l.now) }
+    requires route { FitsShown plan.now (told plan.now (T.state table.now)) router prefix
+        (route_of route) }
     ensures holds { IfNone result
-        (Holds plan.now (T.state table.now) router prefix (route_of route)) }
+        (Holds plan.now (told plan.now (T.state table.now)) router prefix (route_of route)) }
     ensures fails { IfSome result
-        (λ _. Holds plan.now (T.state table.now) router prefix (route_of route) → ⊥) }
+        (λ _. Holds plan.now (told plan.now (T.state table.now)) router prefix
+        (route_of route) → ⊥) }
     ensures equation { IfSome result (λ v. (1 ≤ v) × (v ≤ 16)
-        × IsLeastChoice plan.now (T.state table.now) router prefix v) }
+        × IsLeastChoice plan.now (told plan.now (T.state table.now)) router prefix v) }
 {
     plan.lawful();
     let keeps = plan.keeps(router, prefix);
@@ -158,8 +162,9 @@ pub(crate) fn failing_place<T: MetricTable>(
     requires router { router < length plan.now.routers }
     requires prefix { prefix < length (T.state table.now).prefixes }
     ensures some { IfSome result (λ f. (f.router ≡ router) × (f.prefix ≡ prefix)
-        × IsFailing plan.now (T.state table.now) f) }
-    ensures none { IfNone result (IsSound plan.now (T.state table.now) router prefix) }
+        × IsFailing plan.now (told plan.now (T.state table.now)) f) }
+    ensures none { IfNone result
+        (IsSound plan.now (told plan.now (T.state table.now)) router prefix) }
 {
     plan.lawful();
     in_range(plan, table);
@@ -183,16 +188,18 @@ pub fn route<T: MetricTable>(
     requires fits { Fits plan.now (T.state table.now) }
     requires router { router < length plan.now.routers }
     requires prefix { prefix < length (T.state table.now).prefixes }
-    ensures exact { IsTrue (is_ok result) ↔ IsReadable plan.now (T.state table.now) router prefix }
-    ensures fits { IfOk result (λ t. FitsShown plan.now (T.state table.now) router prefix
+    ensures exact { IsTrue (is_ok result)
+        ↔ IsReadable plan.now (told plan.now (T.state table.now)) router prefix }
+    ensures fits { IfOk result (λ t.
+        FitsShown plan.now (told plan.now (T.state table.now)) router prefix
         (record { metric = t.metric; way = t.way })) }
     ensures one { IfOk result (λ t. IsTrue t.hidden
-        ⊎ IsOnlyRoute plan.now (T.state table.now) router prefix
+        ⊎ IsOnlyRoute plan.now (told plan.now (T.state table.now)) router prefix
         (record { metric = t.metric; way = t.way })) }
     ensures hidden { IfOk result (λ t. Decides t.hidden
-        (IsHidden plan.now (T.state table.now) router prefix)) }
+        (IsHidden plan.now (told plan.now (T.state table.now)) router prefix)) }
     ensures unclear { IfErr result (λ trouble.
-        IsReason plan.now (T.state table.now) router prefix trouble) }
+        IsReason plan.now (told plan.now (T.state table.now)) router prefix trouble) }
 {
     plan.lawful();
     in_range(plan, table);
@@ -212,7 +219,7 @@ pub fn equation<T: MetricTable>(plan: &Plan, table: &T, router: usize, prefix: u
     requires fits { Fits plan.now (T.state table.now) }
     requires router { router < length plan.now.routers }
     requires prefix { prefix < length (T.state table.now).prefixes }
-    ensures { IsLeastChoice plan.now (T.state table.now) router prefix result }
+    ensures { IsLeastChoice plan.now (told plan.now (T.state table.now)) router prefix result }
 {
     plan.lawful();
     let keeps = plan.keeps(router, prefix);

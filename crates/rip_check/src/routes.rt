@@ -7,9 +7,10 @@ ghost use Rattle.rip_check.specs.Firsts.{IsFirstGap, IsReadable, IsReason, Shows
 ghost use Rattle.rip_check.specs.Tables.{FitsShown, IsOnlyRoute, Route as TableRoute, Tells};
 ghost use Rattle.rip_check.specs.TwoLeasts.{AreLeastShown};
 ghost use Rattle.rip_check.specs.Verdicts.{IsHidden};
+ghost use Rattle.rip_check.specs.Told.{told};
 
 use crate::links::TwoLeast;
-use crate::lookup::{in_range, may_hold_back, shown_at};
+use crate::lookup::{in_range, may_hold_back, told_at};
 use crate::offers::{best_over, direct_or_16};
 use crate::surveys::survey_of;
 use crate::verdict::Unclear;
@@ -45,10 +46,11 @@ fn read_route<T: MetricTable>(
     requires two { HasTwoInterfaces plan.now router }
     ensures most { IfSome result (λ t. t.metric ≤ 16) }
     ensures shown { IfSome result (λ t. t.hidden ≡ false) }
-    ensures some { IfSome result (λ t. Tells plan.now (T.state table.now) router prefix
+    ensures some { IfSome result (λ t.
+        Tells plan.now (told plan.now (T.state table.now)) router prefix
         (record { metric = t.metric; way = t.way })) }
     ensures none { IfNone result ((t : TableRoute) →
-        Tells plan.now (T.state table.now) router prefix t → ⊥) }
+        Tells plan.now (told plan.now (T.state table.now)) router prefix t → ⊥) }
 {
     plan.lawful();
     in_range(plan, table);
@@ -86,14 +88,14 @@ fn first_gap<T: MetricTable>(plan: &Plan, table: &T, router: usize, prefix: usiz
     requires router { router < length plan.now.routers }
     requires prefix { prefix < length (T.state table.now).prefixes }
     ensures some { IfSome result (λ l.
-        IsFirstGap plan.now (T.state table.now) router prefix l) }
+        IsFirstGap plan.now (told plan.now (T.state table.now)) router prefix l) }
     ensures none { IfNone result
-        (ShowsEach plan.now (T.state table.now) router prefix) }
+        (ShowsEach plan.now (told plan.now (T.state table.now)) router prefix) }
 {
     let numbers = plan.of_router(router);
     for i in numbers {
         let own = plan.interface(*i);
-        match shown_at(plan, table, *i, prefix) {
+        match told_at(plan, table, *i, prefix) {
             None => return Some(own.link),
             Some(_) => {}
         }
@@ -111,7 +113,7 @@ pub(crate) fn reason<T: MetricTable>(
     requires fits { Fits plan.now (T.state table.now) }
     requires router { router < length plan.now.routers }
     requires prefix { prefix < length (T.state table.now).prefixes }
-    ensures { IsReason plan.now (T.state table.now) router prefix result }
+    ensures { IsReason plan.now (told plan.now (T.state table.now)) router prefix result }
 {
     plan.lawful();
     in_range(plan, table);
@@ -149,27 +151,28 @@ fn leaf_route<T: MetricTable>(
     requires router { router < length plan.now.routers }
     requires prefix { prefix < length (T.state table.now).prefixes }
     requires links { IfSome links (λ l.
-        AreLeastShown plan.now (T.state table.now) prefix l.now) }
+        AreLeastShown plan.now (told plan.now (T.state table.now)) prefix l.now) }
     requires leaf { (i l c : ℕ) × IsLeaf plan.now router i l c }
     ensures most { IfSome result (λ t. t.metric ≤ 16) }
     ensures fits { IfSome result
-        (λ t. FitsShown plan.now (T.state table.now) router prefix
+        (λ t. FitsShown plan.now (told plan.now (T.state table.now)) router prefix
         (record { metric = t.metric; way = t.way })) }
     ensures hidden { IfSome result
-        (λ t. Decides t.hidden (IsHidden plan.now (T.state table.now) router prefix)) }
+        (λ t. Decides t.hidden
+        (IsHidden plan.now (told plan.now (T.state table.now)) router prefix)) }
     ensures one { IfSome result
         (λ t. IsTrue t.hidden
-        ⊎ IsOnlyRoute plan.now (T.state table.now) router prefix
+        ⊎ IsOnlyRoute plan.now (told plan.now (T.state table.now)) router prefix
         (record { metric = t.metric; way = t.way })) }
     ensures none { IfNone result ((t : TableRoute) →
-        Tells plan.now (T.state table.now) router prefix t → ⊥) }
+        Tells plan.now (told plan.now (T.state table.now)) router prefix t → ⊥) }
 {
     plan.lawful();
     let i = plan.of_router(router)[0];
     let own = plan.interface(i);
-    let shown = shown_at(plan, table, i, prefix);
+    let told = told_at(plan, table, i, prefix);
     let attached = plan.attached_link(router, prefix);
-    match shown {
+    match told {
         Some(metric) if metric < 16 => {
             if attached == Some(own.link) {
                 return None;
@@ -213,19 +216,20 @@ pub(crate) fn read<T: MetricTable>(
     requires router { router < length plan.now.routers }
     requires prefix { prefix < length (T.state table.now).prefixes }
     requires links { IfSome links (λ l.
-        AreLeastShown plan.now (T.state table.now) prefix l.now) }
+        AreLeastShown plan.now (told plan.now (T.state table.now)) prefix l.now) }
     ensures most { IfSome result (λ t. t.metric ≤ 16) }
     ensures fits { IfSome result
-        (λ t. FitsShown plan.now (T.state table.now) router prefix
+        (λ t. FitsShown plan.now (told plan.now (T.state table.now)) router prefix
         (record { metric = t.metric; way = t.way })) }
     ensures hidden { IfSome result
-        (λ t. Decides t.hidden (IsHidden plan.now (T.state table.now) router prefix)) }
+        (λ t. Decides t.hidden
+        (IsHidden plan.now (told plan.now (T.state table.now)) router prefix)) }
     ensures one { IfSome result
         (λ t. IsTrue t.hidden
-        ⊎ IsOnlyRoute plan.now (T.state table.now) router prefix
+        ⊎ IsOnlyRoute plan.now (told plan.now (T.state table.now)) router prefix
         (record { metric = t.metric; way = t.way })) }
     ensures none { IfNone result
-        (IsReadable plan.now (T.state table.now) router prefix → ⊥) }
+        (IsReadable plan.now (told plan.now (T.state table.now)) router prefix → ⊥) }
 {
     plan.lawful();
     in_range(plan, table);

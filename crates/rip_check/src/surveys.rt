@@ -7,8 +7,9 @@ ghost use Rattle.rip_table.specs.State.{Fits, State};
 ghost use Rattle.rip_check.specs.Metrics.{metric_at};
 ghost use Rattle.rip_check.specs.Surveys.{IsSurvey};
 ghost use Rattle.rip_check.specs.Tables.{IsSilent};
+ghost use Rattle.rip_check.specs.Told.{told};
 
-use crate::lookup::{may_hold_back, shown_at};
+use crate::lookup::{may_hold_back, told_at};
 use rip_plan::Plan;
 use rip_table::MetricTable;
 
@@ -106,7 +107,7 @@ pub(crate) fn survey_of<T: MetricTable>(
     requires fits { Fits plan.now (T.state table.now) }
     requires router { router < length plan.now.routers }
     requires prefix { prefix < length (T.state table.now).prefixes }
-    ensures { IsSurvey plan.now (T.state table.now) router prefix
+    ensures { IsSurvey plan.now (told plan.now (T.state table.now)) router prefix
         (length plan.now.interfaces) result }
 {
     let mut found = Survey {
@@ -120,8 +121,8 @@ pub(crate) fn survey_of<T: MetricTable>(
     let numbers = plan.of_router(router);
     for i in numbers {
         let own = plan.interface(*i);
-        let shown = shown_at(plan, table, *i, prefix);
-        add_shown(plan, &mut found, attached, own.link, prefix, shown);
+        let told = told_at(plan, table, *i, prefix);
+        add_shown(plan, &mut found, attached, own.link, prefix, told);
     }
     found
 }

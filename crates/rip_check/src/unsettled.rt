@@ -5,6 +5,7 @@ ghost use Rattle.rip_table.specs.State.{Fits};
 ghost use Rattle.rip_check.specs.Marks.{AreUnsettled, IsMark};
 ghost use Rattle.rip_check.specs.TwoLeasts.{AreLeastShown};
 ghost use Rattle.rip_check.specs.Verdicts.{IsFailing, IsSound};
+ghost use Rattle.rip_check.specs.Told.{told};
 
 use crate::links::{NOTHING, TwoLeast, fill};
 use crate::lookup::in_range;
@@ -33,8 +34,8 @@ fn mark_of<T: MetricTable>(
     requires fits { Fits plan.now (T.state table.now) }
     requires router { router < length plan.now.routers }
     requires prefix { prefix < length (T.state table.now).prefixes }
-    requires links { AreLeastShown plan.now (T.state table.now) prefix links.now }
-    ensures { IsMark plan.now (T.state table.now) router prefix result }
+    requires links { AreLeastShown plan.now (told plan.now (T.state table.now)) prefix links.now }
+    ensures { IsMark plan.now (told plan.now (T.state table.now)) router prefix result }
 {
     plan.lawful();
     in_range(plan, table);
@@ -57,11 +58,11 @@ fn mark_prefix<T: MetricTable>(
 )
     requires fits { Fits plan.now (T.state table.now) }
     requires prefix { prefix < length (T.state table.now).prefixes }
-    requires links { AreLeastShown plan.now (T.state table.now) prefix links.now }
+    requires links { AreLeastShown plan.now (told plan.now (T.state table.now)) prefix links.now }
     requires size { length marks.old
         ≡ length plan.now.routers * length (T.state table.now).prefixes }
     ensures marked { (r : ℕ) → r < length plan.now.routers →
-        IsMark plan.now (T.state table.now) r prefix
+        IsMark plan.now (told plan.now (T.state table.now)) r prefix
         (slice_index_or marks.new (r * length (T.state table.now).prefixes + prefix) None) }
     ensures others { (r q : ℕ) → q < length (T.state table.now).prefixes → q ≢ prefix →
         slice_index_or marks.new (r * length (T.state table.now).prefixes + q) None
@@ -82,7 +83,8 @@ impl Unsettled {
         table: &T,
     ) -> Result<Unsettled, AllocError>
         requires { Fits plan.now (T.state table.now) }
-        ensures { IfOk result (λ unsettled. AreUnsettled plan.now (T.state table.now) unsettled) }
+        ensures { IfOk result (λ unsettled.
+            AreUnsettled plan.now (told plan.now (T.state table.now)) unsettled) }
     {
         plan.lawful();
         let count = table.prefix_count();
@@ -105,12 +107,13 @@ impl Unsettled {
         prefix: usize,
     ) -> Option<Place2>
         requires fits { Fits plan.now (T.state table.now) }
-        requires places { AreUnsettled plan.now (T.state table.now) self.now }
+        requires places { AreUnsettled plan.now (told plan.now (T.state table.now)) self.now }
         requires router { router < length plan.now.routers }
         requires prefix { prefix < length (T.state table.now).prefixes }
         ensures some { IfSome result (λ f. (f.router ≡ router) × (f.prefix ≡ prefix)
-            × IsFailing plan.now (T.state table.now) f) }
-        ensures none { IfNone result (IsSound plan.now (T.state table.now) router prefix) }
+            × IsFailing plan.now (told plan.now (T.state table.now)) f) }
+        ensures none { IfNone result
+            (IsSound plan.now (told plan.now (T.state table.now)) router prefix) }
     {
         plan.lawful();
         in_range(plan, table);

@@ -100,7 +100,7 @@ known_gateway n i p a h = by (slice_get n.interfaces i) refl h
           x.link,
           x.cost,
           q.prefix,
-          record { address = x.address; direct = x.direct; listed = e },
+          record { address = x.address; direct = x.direct; poison = x.poison; listed = e },
           prefix_is p (slice_get n.prefixes q.prefix) parts.1,
           (j, record { cost = c; kept = kept; link = link; place = record { listed = placed } }),
         )
@@ -117,7 +117,7 @@ address_decided n i r l c a b is says = decided b (holds_address n i a) (λ h. a
   where
     moved : (l' : ℕ) × HasAddress n i l' a → HasAddress n i l a
     moved (l', (all, has, holds)) =
-        let same : has.interface ≡ record { router = r; link = l; address = is.address; cost = c; direct = is.direct } = (let one : Some has.interface ≡ Some (record { router = r; link = l; address = is.address; cost = c; direct = is.direct }) = sym has.listed ∙ is.listed in cc one) in
+        let same : has.interface ≡ record { router = r; link = l; address = is.address; cost = c; direct = is.direct; poison = is.poison } = (let one : Some has.interface ≡ Some (record { router = r; link = l; address = is.address; cost = c; direct = is.direct; poison = is.poison }) = sym has.listed ∙ is.listed in cc one) in
         (all, record { interface = has.interface; listed = has.listed; on = ap (λ (x : Interface). x.link) same; also = has.also; further = has.further; all = has.all }, holds)
 
 pub gateway_decided : (n : Network) (i r l c : ℕ) (p : Block) (a : ℕ) (b : Bool) → IsInterface n i r l c
@@ -128,7 +128,7 @@ gateway_decided n i r l c p a b is planned unplanned = decided b (knows_gateway 
     router_of {x} {y} h = let same : x ≡ y = cc h in ap (λ (z : Interface). z.router) same
 
     of_router : (r' l' c' : ℕ) → IsInterface n i r' l' c' → r' ≡ r
-    of_router r' l' c' its = let one : Some (record { router = r'; link = l'; address = its.address; cost = c'; direct = its.direct }) ≡ Some (record { router = r; link = l; address = is.address; cost = c; direct = is.direct }) = sym its.listed ∙ is.listed in router_of one
+    of_router r' l' c' its = let one : Some (record { router = r'; link = l'; address = its.address; cost = c'; direct = its.direct; poison = its.poison }) ≡ Some (record { router = r; link = l; address = is.address; cost = c; direct = is.direct; poison = is.poison }) = sym its.listed ∙ is.listed in router_of one
 
     back : knows_gateway n i p a ≡ true → b ≡ true
     back h =

@@ -2,11 +2,12 @@ use Rattle.rip_check.specs.Firsts.{IsFirstUnclear}
 use Rattle.rip_check.proofs.ReadableLemmas.{tables_shown}
 use Rattle.rip_check.proofs.OneVerdictLemmas.{trouble_from, sound_is_right}
 use Rattle.rip_check.proofs.audit.decide.Goals as goal
+use Rattle.rip_check.specs.Told.{told}
 
 pub returns-in-Err : goal.returns-in-Err
 returns-in-Err g c =
     let n = c.args.plan.now in
-    let shown = (g.T.MetricTable.state c.args.table.now) in
+    let shown = (told c.args.plan.now (g.T.MetricTable.state c.args.table.now)) in
     let first = rw c.in-Err.is at c.first_place.ensures in
     let is : IsFirstUnclear n shown c.reason.result = record { router = c.in-Err.router; prefix = c.in-Err.prefix; first = first; reason = c.reason.ensures } in
     trouble_from n shown c.reason.result c.in_default.ensures.none is
@@ -14,7 +15,7 @@ returns-in-Err g c =
 pub returns-in-Ok-Some : goal.returns-in-Ok-Some
 returns-in-Ok-Some g c =
     let n = c.args.plan.now in
-    let shown = (g.T.MetricTable.state c.args.table.now) in
+    let shown = (told c.args.plan.now (g.T.MetricTable.state c.args.table.now)) in
     let first = rw (c.in-Ok-Some.is, c.in-Ok-Some.field-0-is) at c.first_place.ensures in
     let place = rw c.unwrap.ensures at c.failing_place-place.ensures.some in (
       tables_shown n c.lawful.ensures shown c.in_range.ensures c.in_default.ensures.none first.0,
@@ -24,6 +25,6 @@ returns-in-Ok-Some g c =
 pub returns-in-Ok-None : goal.returns-in-Ok-None
 returns-in-Ok-None g c =
     let n = c.args.plan.now in
-    let shown = (g.T.MetricTable.state c.args.table.now) in
+    let shown = (told c.args.plan.now (g.T.MetricTable.state c.args.table.now)) in
     let first = rw (c.in-Ok-None.is, c.in-Ok-None.field-0-is) at c.first_place.ensures in
     sound_is_right n shown c.lawful.ensures c.in_range.ensures c.in_default.ensures.none first.0 first.1

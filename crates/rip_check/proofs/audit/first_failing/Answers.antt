@@ -4,6 +4,7 @@ use Rattle.rip_check.proofs.ReadableLemmas.{fits_readable, one_sound, one_fails}
 use Rattle.rip_check.proofs.FirstPlaceLemmas.{so_far_on, so_far_first, all_so_far, IsFirstSoFar}
 use Rattle.rip_check.proofs.audit.first_failing.Goals as goal
 use Rattle.rip_check.proofs.audit.first_failing.Goals.{then-is_none+then-router-below+then-is_some, else-is_none, else-is_none-via-then-is_none+then-router-below+else-is_some, else-is_none-via-then-is_none+else-router-below, else-is_none-via-else-is_none}
+use Rattle.rip_check.specs.Told.{told}
 
 some_fails : {P : Type 0} (o : Option ℕ) → IfSome o (λ _. P) → is_some o ≡ true → P
 some_fails None h e = absurd cc
@@ -24,7 +25,7 @@ pub loop-router-preserved : goal.loop-router-preserved
 loop-router-preserved g c =
     let n = c.args.plan.now in
     let plan = c.lawful.ensures in
-    let shown = (g.T.MetricTable.state c.args.table.now) in
+    let shown = (told c.args.plan.now (g.T.MetricTable.state c.args.table.now)) in
     let range = c.in_range.ensures in
     let r = c.loop-router.router in
     let p = c.args.prefix in
@@ -53,5 +54,5 @@ loop-router-preserved g c =
 
 pub returns-clause-failing : goal.returns-clause-failing
 returns-clause-failing g c =
-    all_so_far c.args.below c.loop-router.router (λ s. IsSound c.args.plan.now (g.T.MetricTable.state c.args.table.now) s c.args.prefix) c.loop-router.first
+    all_so_far c.args.below c.loop-router.router (λ s. IsSound c.args.plan.now (told c.args.plan.now (g.T.MetricTable.state c.args.table.now)) s c.args.prefix) c.loop-router.first
     (omega (arith, c.requires.known, c.loop-router-test.false, c.loop-router.auto.router-end, c.routers-router-end.ensures)) c.loop-router.invariant.failing

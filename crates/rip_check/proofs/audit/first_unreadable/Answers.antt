@@ -3,6 +3,7 @@ use Rattle.rip_check.specs.Verdicts.{route_of}
 use Rattle.rip_check.specs.declared.routes.ReadRoute.{ReadRoute}
 use Rattle.rip_check.proofs.ReadableLemmas.{fits_readable}
 use Rattle.rip_check.proofs.audit.first_unreadable.Goals as goal
+use Rattle.rip_check.specs.Told.{told}
 
 of_some : {P : ReadRoute → Type 0} {Q : Type 0} (o : Option ReadRoute) → IfSome o P → is_some o ≡ true → ((t : ReadRoute) → P t → Q) → Q
 of_some None h e then = absurd cc
@@ -11,7 +12,7 @@ of_some (Some t) h e then = then t h
 pub loop-router-preserved : goal.loop-router-preserved
 loop-router-preserved g c =
     let n = c.args.plan.now in
-    let shown = (g.T.MetricTable.state c.args.table.now) in
+    let shown = (told c.args.plan.now (g.T.MetricTable.state c.args.table.now)) in
     let r = c.loop-router.router in
     let known : r < length n.routers = omega (arith, c.loop-router-test.true, c.requires.known) in
     below_more _ _ c.loop-router.invariant (of_some c.read.result c.read.ensures.fits c.if-is_none.ensures

@@ -1,11 +1,12 @@
 use Rattle.rip_check.specs.declared.verdict.Verdict.TheVariants.{Settled, Unsettled, Unclear as IsUnclear}
 use Rattle.rip_check.proofs.MeaningLemmas.{exactly, settled_places_too, no_tables, arrive}
 use Rattle.rip_check.proofs.audit.judge.Goals as goal
+use Rattle.rip_check.specs.Told.{told}
 
 pub returns : goal.returns
 returns g c =
     let n = c.args.plan.now in
-    let shown = (g.T.MetricTable.state c.args.table.now) in
+    let shown = (told c.args.plan.now (g.T.MetricTable.state c.args.table.now)) in
     let plan = c.lawful.ensures in
     let range = c.in_range.ensures in
     let v = c.decide.result in

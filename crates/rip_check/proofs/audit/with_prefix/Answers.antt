@@ -4,29 +4,30 @@ use Rattle.rip_check.specs.Verdicts.{IsSound}
 use Rattle.rip_check.proofs.FirstPlaceLemmas.{IsRouterOf, next_none, next_some}
 use Rattle.rip_check.proofs.audit.with_prefix.Goals as goal
 use Rattle.rip_check.proofs.audit.with_prefix.Goals.{in-Some-failing, in-None-failing}
+use Rattle.rip_check.specs.Told.{told}
 
 pub returns-in-Some : goal.returns-in-Some
 returns-in-Some g c =
     let n = c.args.plan.now in
     let was = rw c.in-Err.is at c.requires.found in
-    next_some n c.args.prefix (IsReadable n (g.T.MetricTable.state c.args.table.now)) (Some (c.in-Err.router, c.in-Err.first)) c.in-Err.router refl was c.in-Some.sooner c.in-Some.ensures
+    next_some n c.args.prefix (IsReadable n (told c.args.plan.now (g.T.MetricTable.state c.args.table.now))) (Some (c.in-Err.router, c.in-Err.first)) c.in-Err.router refl was c.in-Some.sooner c.in-Some.ensures
 
 pub returns-in-None : goal.returns-in-None
 returns-in-None g c =
     let n = c.args.plan.now in
     let was = rw c.in-Err.is at c.requires.found in
-    next_none n c.args.prefix (IsReadable n (g.T.MetricTable.state c.args.table.now)) (Some (c.in-Err.router, c.in-Err.first)) c.in-Err.router refl was c.in-None.ensures
+    next_none n c.args.prefix (IsReadable n (told c.args.plan.now (g.T.MetricTable.state c.args.table.now))) (Some (c.in-Err.router, c.in-Err.first)) c.in-Err.router refl was c.in-None.ensures
 
 pub returns-in-Err-first_failing : goal.returns-in-Err-first_failing
 returns-in-Err-first_failing g c =
     let n = c.args.plan.now in
     let was = rw c.in-Ok.is at c.requires.found in
-    next_some n c.args.prefix (IsReadable n (g.T.MetricTable.state c.args.table.now)) None (length n.routers) refl was.0 c.in-Err-first_failing.router c.in-Err-first_failing.ensures.unreadable
+    next_some n c.args.prefix (IsReadable n (told c.args.plan.now (g.T.MetricTable.state c.args.table.now))) None (length n.routers) refl was.0 c.in-Err-first_failing.router c.in-Err-first_failing.ensures.unreadable
 
 pub returns-in-Ok-Some : goal.returns-in-Ok-Some
 returns-in-Ok-Some g c =
     let n = c.args.plan.now in
-    let shown = (g.T.MetricTable.state c.args.table.now) in
+    let shown = (told c.args.plan.now (g.T.MetricTable.state c.args.table.now)) in
     let was = rw c.in-Ok.is at c.requires.found in
     let router : IsRouterOf n c.in-Ok.failing c.match-failing.below = elim c.match-failing.branch [
       | in-Some-failing w ↦ rw w.in-Some-failing.is w.below-is
@@ -40,7 +41,7 @@ returns-in-Ok-Some g c =
 pub returns-in-Ok-None : goal.returns-in-Ok-None
 returns-in-Ok-None g c =
     let n = c.args.plan.now in
-    let shown = (g.T.MetricTable.state c.args.table.now) in
+    let shown = (told c.args.plan.now (g.T.MetricTable.state c.args.table.now)) in
     let was = rw c.in-Ok.is at c.requires.found in
     let router : IsRouterOf n c.in-Ok.failing c.match-failing.below = elim c.match-failing.branch [
       | in-Some-failing w ↦ rw w.in-Some-failing.is w.below-is

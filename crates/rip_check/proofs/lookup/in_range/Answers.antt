@@ -1,5 +1,10 @@
+use Rattle.rip_check.specs.Told.{poisons}
 use Rattle.rip_check.proofs.NumberLemmas.{in_range}
+use Rattle.rip_check.proofs.ToldTableLemmas.{told_range}
 use Rattle.rip_check.proofs.lookup.in_range.Goals as goal
 
 pub returns : goal.returns
-returns g c = in_range c.args.plan.now (g.T.MetricTable.state c.args.table.now) c.requires (g.T.MetricTable.is_state c.args.table.now)
+returns g c =
+    let n = c.args.plan.now in
+    let s = g.T.MetricTable.state c.args.table.now in
+    told_range n (poisons n) s (in_range n s c.requires (g.T.MetricTable.is_state c.args.table.now))

@@ -3,11 +3,12 @@ use Rattle.rip_plan.specs.Relations.{IsInterface}
 use Rattle.rip_check.specs.Tables.{Offers}
 use Rattle.rip_check.proofs.offers.least_asked.Given as goal
 use Rattle.rip_check.specs.Metrics.{metric_at}
+use Rattle.rip_check.specs.Told.{told}
 
 abbrev pub invariant-loop-j : goal.invariant-loop-j
 invariant-loop-j g l = record {
   at_most : l.least ≤ l.best;
   below : (k s d : ℕ) → k < l.j-index → IsInterface l.plan (get_or l.numbers k 0) s l.own.link d → s ≢ l.own.router →
-      l.least ≤ min 16 (l.own.cost + unwrap_or (metric_at (g.T.MetricTable.state l.table) (get_or l.numbers k 0) l.prefix) 16);
-  chosen : (l.least ≡ l.best) ⊎ ((s : ℕ) × Offers l.plan (g.T.MetricTable.state l.table) l.own.router l.own.link s l.prefix l.least);
+      l.least ≤ min 16 (l.own.cost + unwrap_or (metric_at (told l.plan (g.T.MetricTable.state l.table)) (get_or l.numbers k 0) l.prefix) 16);
+  chosen : (l.least ≡ l.best) ⊎ ((s : ℕ) × Offers l.plan (told l.plan (g.T.MetricTable.state l.table)) l.own.router l.own.link s l.prefix l.least);
 }

@@ -3,6 +3,7 @@ use Rattle.rip_check.specs.Tables.{Offers}
 use Rattle.rip_check.proofs.OwnedLemmas.{its_number, its_router, each_more, every}
 use Rattle.rip_check.proofs.OnePlaceLemmas.{offered_is}
 use Rattle.rip_check.proofs.places.is_offered.Goals as goal
+use Rattle.rip_check.specs.Told.{told}
 
 pub interface-own-requires : goal.interface-own-requires
 interface-own-requires g c = its_number c.args.plan.now c.args.router c.of_router-numbers.result.now c.of_router-numbers.ensures.exact c.loop-i.i-index c.loop-i-test.true
@@ -13,7 +14,7 @@ returns-then-own-link g c =
     let r = c.args.router in
     let l = c.args.link in
     let p = c.args.prefix in
-    let shown = (g.T.MetricTable.state c.args.table.now) in
+    let shown = (told c.args.plan.now (g.T.MetricTable.state c.args.table.now)) in
     let own = c.interface-own.result in
     let v = c.best_over.result in
     let mine = its_router n r c.of_router-numbers.result.now c.of_router-numbers.ensures.exact c.loop-i.i-index own c.loop-i-test.true c.interface-own.ensures.is in

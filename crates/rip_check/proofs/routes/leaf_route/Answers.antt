@@ -9,6 +9,7 @@ use Rattle.rip_check.proofs.PlanLemmas.{attached_test, direct_most, held_back_di
 use Rattle.rip_plan.specs.Relations.{IsDirect}
 use Rattle.rip_check.proofs.routes.leaf_route.Goals as goal
 use Rattle.rip_check.proofs.routes.leaf_route.Goals.{in_default-via-in-Some+else-metric-lt16, in_default-via-in-None}
+use Rattle.rip_check.specs.Told.{told}
 
 pub bounds-of_router-0 : goal.bounds-of_router-0
 bounds-of_router-0 g c =
@@ -19,19 +20,19 @@ pub interface-own-requires : goal.interface-own-requires
 interface-own-requires g c =
     its_number c.args.plan.now c.args.router c.of_router.result.now c.of_router.ensures.exact 0 (some_number c.args.plan.now c.args.router c.of_router.result.now c.of_router.ensures.exact c.requires.leaf.0 c.requires.leaf.1 c.requires.leaf.2 c.requires.leaf.3)
 
-pub shown_at-shown-requires-clause-interface : goal.shown_at-shown-requires-clause-interface
-shown_at-shown-requires-clause-interface g c = within c.args.plan.now (get_or c.of_router.result.now 0 0) c.interface-own.result.router c.interface-own.result.link c.interface-own.result.cost c.interface-own.ensures.is
+pub told_at-told-requires-clause-interface : goal.told_at-told-requires-clause-interface
+told_at-told-requires-clause-interface g c = within c.args.plan.now (get_or c.of_router.result.now 0 0) c.interface-own.result.router c.interface-own.result.link c.interface-own.result.cost c.interface-own.ensures.is
 
 pub returns-then-eq : goal.returns-then-eq
 returns-then-eq g c =
     let n = c.args.plan.now in
-    let shown = (g.T.MetricTable.state c.args.table.now) in
+    let shown = (told c.args.plan.now (g.T.MetricTable.state c.args.table.now)) in
     let i = get_or c.of_router.result.now 0 0 in
     let own = c.interface-own.result in
     let alone = c.requires.leaf in
     let only = first_is_leaf n c.args.router c.of_router.result.now c.of_router.ensures.exact alone.0 alone.1 alone.2 own alone.3 c.interface-own.ensures.is in
     let m = c.in-Some.metric in
-    let e = sym {b = metric_at shown i c.args.prefix} c.shown_at-shown.ensures.metric ∙ c.in-Some.is in
+    let e = sym {b = metric_at shown i c.args.prefix} c.told_at-told.ensures.metric ∙ c.in-Some.is in
     let d = attached_test n c.args.router c.args.prefix own.link c.attached_link-attached.result c.eq.result c.attached_link-attached.ensures c.eq.ensures in
     record {
       most = tt;
@@ -44,13 +45,13 @@ returns-then-eq g c =
 pub returns-else-eq : goal.returns-else-eq
 returns-else-eq g c =
     let n = c.args.plan.now in
-    let shown = (g.T.MetricTable.state c.args.table.now) in
+    let shown = (told c.args.plan.now (g.T.MetricTable.state c.args.table.now)) in
     let i = get_or c.of_router.result.now 0 0 in
     let own = c.interface-own.result in
     let alone = c.requires.leaf in
     let only = first_is_leaf n c.args.router c.of_router.result.now c.of_router.ensures.exact alone.0 alone.1 alone.2 own alone.3 c.interface-own.ensures.is in
     let m = c.in-Some.metric in
-    let e = sym {b = metric_at shown i c.args.prefix} c.shown_at-shown.ensures.metric ∙ c.in-Some.is in
+    let e = sym {b = metric_at shown i c.args.prefix} c.told_at-told.ensures.metric ∙ c.in-Some.is in
     let d = attached_test n c.args.router c.args.prefix own.link c.attached_link-attached.result c.eq.result c.attached_link-attached.ensures c.eq.ensures in
     record {
       most = omega (arith, c.if-metric-lt16.true);
@@ -63,13 +64,13 @@ returns-else-eq g c =
 pub returns-in_default : goal.returns-in_default
 returns-in_default g c =
     let n = c.args.plan.now in
-    let shown = (g.T.MetricTable.state c.args.table.now) in
+    let shown = (told c.args.plan.now (g.T.MetricTable.state c.args.table.now)) in
     let i = get_or c.of_router.result.now 0 0 in
     let own = c.interface-own.result in
     let alone = c.requires.leaf in
     let only = first_is_leaf n c.args.router c.of_router.result.now c.of_router.ensures.exact alone.0 alone.1 alone.2 own alone.3 c.interface-own.ensures.is in
-    let silent : IsSilent (metric_at shown i c.args.prefix) = rw (← c.shown_at-shown.ensures.metric) (elim c.in_default.branch [
-      | in_default-via-in-Some+else-metric-lt16 w ↦ high_is_silent c.shown_at-shown.result w.in-Some.metric c.shown_at-shown.ensures.range w.in-Some.is w.if-metric-lt16.false
+    let silent : IsSilent (metric_at shown i c.args.prefix) = rw (← c.told_at-told.ensures.metric) (elim c.in_default.branch [
+      | in_default-via-in-Some+else-metric-lt16 w ↦ high_is_silent c.told_at-told.result w.in-Some.metric c.told_at-told.ensures.range w.in-Some.is w.if-metric-lt16.false
       | in_default-via-in-None w ↦ inl w.in_default.is
     ]) in
     let on = (c.may_hold_back.ensures c.args.router c.attached_link-attached.ensures).0 c.if-may_hold_back.true in
@@ -89,16 +90,16 @@ returns-in_default g c =
 pub returns-in-None : goal.returns-in-None
 returns-in-None g c =
     let n = c.args.plan.now in
-    let shown = (g.T.MetricTable.state c.args.table.now) in
+    let shown = (told c.args.plan.now (g.T.MetricTable.state c.args.table.now)) in
     let i = get_or c.of_router.result.now 0 0 in
     let own = c.interface-own.result in
     let alone = c.requires.leaf in
     let only = first_is_leaf n c.args.router c.of_router.result.now c.of_router.ensures.exact alone.0 alone.1 alone.2 own alone.3 c.interface-own.ensures.is in
-    let same : c.shown_at-shown.result ≡ c.in_default.shown = elim c.in_default.branch [
-      | in_default-via-in-Some+else-metric-lt16 w ↦ w.in-Some.is ∙ sym w.shown-is
-      | in_default-via-in-None w ↦ sym w.shown-is
+    let same : c.told_at-told.result ≡ c.in_default.told = elim c.in_default.branch [
+      | in_default-via-in-Some+else-metric-lt16 w ↦ w.in-Some.is ∙ sym w.told-is
+      | in_default-via-in-None w ↦ sym w.told-is
     ] in
-    let e : metric_at shown i c.args.prefix ≡ None = sym {b = metric_at shown i c.args.prefix} c.shown_at-shown.ensures.metric ∙ same ∙ c.in-None.is in
+    let e : metric_at shown i c.args.prefix ≡ None = sym {b = metric_at shown i c.args.prefix} c.told_at-told.ensures.metric ∙ same ∙ c.in-None.is in
     let off = not_from_Decides c.may_hold_back.result (c.may_hold_back.ensures c.args.router c.attached_link-attached.ensures) c.if-may_hold_back.false in
     record {
       most = omega arith;
@@ -111,21 +112,21 @@ returns-in-None g c =
 pub returns-then-least-lt16 : goal.returns-then-least-lt16
 returns-then-least-lt16 g c =
     let n = c.args.plan.now in
-    let shown = (g.T.MetricTable.state c.args.table.now) in
+    let shown = (told c.args.plan.now (g.T.MetricTable.state c.args.table.now)) in
     let i = get_or c.of_router.result.now 0 0 in
     let own = c.interface-own.result in
     let alone = c.requires.leaf in
     let only = first_is_leaf n c.args.router c.of_router.result.now c.of_router.ensures.exact alone.0 alone.1 alone.2 own alone.3 c.interface-own.ensures.is in
-    let silent : IsSilent (metric_at shown i c.args.prefix) = rw (← c.shown_at-shown.ensures.metric) (elim c.in_default.branch [
-      | in_default-via-in-Some+else-metric-lt16 w ↦ high_is_silent c.shown_at-shown.result w.in-Some.metric c.shown_at-shown.ensures.range w.in-Some.is w.if-metric-lt16.false
+    let silent : IsSilent (metric_at shown i c.args.prefix) = rw (← c.told_at-told.ensures.metric) (elim c.in_default.branch [
+      | in_default-via-in-Some+else-metric-lt16 w ↦ high_is_silent c.told_at-told.result w.in-Some.metric c.told_at-told.ensures.range w.in-Some.is w.if-metric-lt16.false
       | in_default-via-in-None w ↦ inl w.in_default.is
     ]) in
-    let same : c.shown_at-shown.result ≡ c.in_default.shown = elim c.in_default.branch [
-      | in_default-via-in-Some+else-metric-lt16 w ↦ w.in-Some.is ∙ sym w.shown-is
-      | in_default-via-in-None w ↦ sym w.shown-is
+    let same : c.told_at-told.result ≡ c.in_default.told = elim c.in_default.branch [
+      | in_default-via-in-Some+else-metric-lt16 w ↦ w.in-Some.is ∙ sym w.told-is
+      | in_default-via-in-None w ↦ sym w.told-is
     ] in
     let e : metric_at shown i c.args.prefix ≡ Some 16 =
-    poison_is (metric_at shown i c.args.prefix) c.in-Some-2.field-0 silent (sym {b = metric_at shown i c.args.prefix} c.shown_at-shown.ensures.metric ∙ same ∙ c.in-Some-2.is) in
+    poison_is (metric_at shown i c.args.prefix) c.in-Some-2.field-0 silent (sym {b = metric_at shown i c.args.prefix} c.told_at-told.ensures.metric ∙ same ∙ c.in-Some-2.is) in
     let off = not_from_Decides c.may_hold_back.result (c.may_hold_back.ensures c.args.router c.attached_link-attached.ensures) c.if-may_hold_back.false in
     let so = least_offer n shown c.args.router i c.args.prefix own only.0 only.1 c.best_over-least.result c.best_over-least.ensures.at_most c.best_over-least.ensures.least c.best_over-least.ensures.chosen in
     record {
@@ -139,21 +140,21 @@ returns-then-least-lt16 g c =
 pub returns-else-least-lt16 : goal.returns-else-least-lt16
 returns-else-least-lt16 g c =
     let n = c.args.plan.now in
-    let shown = (g.T.MetricTable.state c.args.table.now) in
+    let shown = (told c.args.plan.now (g.T.MetricTable.state c.args.table.now)) in
     let i = get_or c.of_router.result.now 0 0 in
     let own = c.interface-own.result in
     let alone = c.requires.leaf in
     let only = first_is_leaf n c.args.router c.of_router.result.now c.of_router.ensures.exact alone.0 alone.1 alone.2 own alone.3 c.interface-own.ensures.is in
-    let silent : IsSilent (metric_at shown i c.args.prefix) = rw (← c.shown_at-shown.ensures.metric) (elim c.in_default.branch [
-      | in_default-via-in-Some+else-metric-lt16 w ↦ high_is_silent c.shown_at-shown.result w.in-Some.metric c.shown_at-shown.ensures.range w.in-Some.is w.if-metric-lt16.false
+    let silent : IsSilent (metric_at shown i c.args.prefix) = rw (← c.told_at-told.ensures.metric) (elim c.in_default.branch [
+      | in_default-via-in-Some+else-metric-lt16 w ↦ high_is_silent c.told_at-told.result w.in-Some.metric c.told_at-told.ensures.range w.in-Some.is w.if-metric-lt16.false
       | in_default-via-in-None w ↦ inl w.in_default.is
     ]) in
-    let same : c.shown_at-shown.result ≡ c.in_default.shown = elim c.in_default.branch [
-      | in_default-via-in-Some+else-metric-lt16 w ↦ w.in-Some.is ∙ sym w.shown-is
-      | in_default-via-in-None w ↦ sym w.shown-is
+    let same : c.told_at-told.result ≡ c.in_default.told = elim c.in_default.branch [
+      | in_default-via-in-Some+else-metric-lt16 w ↦ w.in-Some.is ∙ sym w.told-is
+      | in_default-via-in-None w ↦ sym w.told-is
     ] in
     let e : metric_at shown i c.args.prefix ≡ Some 16 =
-    poison_is (metric_at shown i c.args.prefix) c.in-Some-2.field-0 silent (sym {b = metric_at shown i c.args.prefix} c.shown_at-shown.ensures.metric ∙ same ∙ c.in-Some-2.is) in
+    poison_is (metric_at shown i c.args.prefix) c.in-Some-2.field-0 silent (sym {b = metric_at shown i c.args.prefix} c.told_at-told.ensures.metric ∙ same ∙ c.in-Some-2.is) in
     let off = not_from_Decides c.may_hold_back.result (c.may_hold_back.ensures c.args.router c.attached_link-attached.ensures) c.if-may_hold_back.false in
     let so = least_offer n shown c.args.router i c.args.prefix own only.0 only.1 c.best_over-least.result c.best_over-least.ensures.at_most c.best_over-least.ensures.least c.best_over-least.ensures.chosen in
     let is : c.best_over-least.result ≡ 16 = omega (arith, c.best_over-least.ensures.at_most, c.if-least-lt16.false) in

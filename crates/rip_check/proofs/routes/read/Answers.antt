@@ -11,6 +11,7 @@ use Rattle.rip_check.specs.Verdicts.{IsHidden, route_of}
 use Rattle.rip_check.proofs.RouteLemmas.{one_route}
 use Rattle.rip_check.proofs.ReadableLemmas.{two_fits, two_not_leaf, not_readable}
 use Rattle.rip_check.proofs.routes.read.Goals as goal
+use Rattle.rip_check.specs.Told.{told}
 
 module _ (n : Network) (plan : IsLawful n) (shown : State) (range : IsInRange n shown) (r p : ℕ) (two : HasTwoInterfaces n r) where
   fitting : (o : Option ReadRoute) → IfSome o (λ t. Tells n shown r p (route_of t)) → IfSome o (λ t. FitsShown n shown r p (route_of t))
@@ -33,25 +34,25 @@ unreadable n plan shown range r p (Some t) h = tt
 
 pub returns-clause-fits : goal.returns-clause-fits
 returns-clause-fits g c =
-    fitting c.args.plan.now c.lawful.ensures (g.T.MetricTable.state c.args.table.now) c.in_range.ensures c.args.router c.args.prefix
+    fitting c.args.plan.now c.lawful.ensures (told c.args.plan.now (g.T.MetricTable.state c.args.table.now)) c.in_range.ensures c.args.router c.args.prefix
     (c.leaf.ensures.more.0 (not_from_false _ c.if-leaf.false)) c.read_route.result c.read_route.ensures.some
 
 pub returns-clause-hidden : goal.returns-clause-hidden
 returns-clause-hidden g c =
-    not_hidden c.args.plan.now c.lawful.ensures (g.T.MetricTable.state c.args.table.now) c.in_range.ensures c.args.router c.args.prefix
+    not_hidden c.args.plan.now c.lawful.ensures (told c.args.plan.now (g.T.MetricTable.state c.args.table.now)) c.in_range.ensures c.args.router c.args.prefix
     (c.leaf.ensures.more.0 (not_from_false _ c.if-leaf.false)) c.read_route.result c.read_route.ensures.shown
 
 pub returns-clause-one : goal.returns-clause-one
 returns-clause-one g c =
-    only c.args.plan.now c.lawful.ensures (g.T.MetricTable.state c.args.table.now) c.in_range.ensures c.args.router c.args.prefix
+    only c.args.plan.now c.lawful.ensures (told c.args.plan.now (g.T.MetricTable.state c.args.table.now)) c.in_range.ensures c.args.router c.args.prefix
     (c.leaf.ensures.more.0 (not_from_false _ c.if-leaf.false)) c.requires.router c.read_route.result c.read_route.ensures.some
 
 pub returns-clause-none : goal.returns-clause-none
 returns-clause-none g c =
-    unreadable c.args.plan.now c.lawful.ensures (g.T.MetricTable.state c.args.table.now) c.in_range.ensures c.args.router c.args.prefix
+    unreadable c.args.plan.now c.lawful.ensures (told c.args.plan.now (g.T.MetricTable.state c.args.table.now)) c.in_range.ensures c.args.router c.args.prefix
     c.read_route.result c.read_route.ensures.none
 
 pub returns-then-leaf-clause-none : goal.returns-then-leaf-clause-none
 returns-then-leaf-clause-none g c =
-    unreadable c.args.plan.now c.lawful.ensures (g.T.MetricTable.state c.args.table.now) c.in_range.ensures c.args.router c.args.prefix
+    unreadable c.args.plan.now c.lawful.ensures (told c.args.plan.now (g.T.MetricTable.state c.args.table.now)) c.in_range.ensures c.args.router c.args.prefix
     c.leaf_route.result c.leaf_route.ensures.none

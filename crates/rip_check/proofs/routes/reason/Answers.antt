@@ -2,6 +2,7 @@ use Rattle.std.proofs.Common.{◌≡◌, ℕ, true, false, Option, None, Some, a
 use Rattle.rip_check.proofs.OnePlaceLemmas.{two_shown, not_two}
 use Rattle.rip_check.proofs.SurveyedLemmas.{mute, one_metric, silent_nowhere, tells_there, told_everywhere}
 use Rattle.rip_check.proofs.routes.reason.Goals as goal
+use Rattle.rip_check.specs.Told.{told}
 
 none_there : (o : Option ℕ) → is_some o ≡ false → o ≡ None
 none_there None e = refl
@@ -17,7 +18,7 @@ nothing o l none some = cc (none, some)
 pub returns-then-found : goal.returns-then-found
 returns-then-found g c =
     let n = c.args.plan.now in
-    let shown = (g.T.MetricTable.state c.args.table.now) in
+    let shown = (told c.args.plan.now (g.T.MetricTable.state c.args.table.now)) in
     let found = c.survey_of-found.result in
     let is = c.survey_of-found.ensures in
     let two = is.speech.two c.if-found.true in (
@@ -29,7 +30,7 @@ returns-then-found g c =
 pub returns-in-Some : goal.returns-in-Some
 returns-in-Some g c =
     let n = c.args.plan.now in
-    let shown = (g.T.MetricTable.state c.args.table.now) in
+    let shown = (told c.args.plan.now (g.T.MetricTable.state c.args.table.now)) in
     let found = c.survey_of-found.result in (
       refl,
       refl,
@@ -40,7 +41,7 @@ returns-in-Some g c =
 pub returns-in-Some-attached_link : goal.returns-in-Some-attached_link
 returns-in-Some-attached_link g c =
     let n = c.args.plan.now in
-    let shown = (g.T.MetricTable.state c.args.table.now) in
+    let shown = (told c.args.plan.now (g.T.MetricTable.state c.args.table.now)) in
     let found = c.survey_of-found.result in
     let is = c.survey_of-found.ensures in (
       refl,
@@ -53,7 +54,7 @@ returns-in-Some-attached_link g c =
 pub returns-in_default-attached_link : goal.returns-in_default-attached_link
 returns-in_default-attached_link g c =
     let n = c.args.plan.now in
-    let shown = (g.T.MetricTable.state c.args.table.now) in
+    let shown = (told c.args.plan.now (g.T.MetricTable.state c.args.table.now)) in
     let found = c.survey_of-found.result in
     let is = c.survey_of-found.ensures in (
       refl,
@@ -66,7 +67,7 @@ returns-in_default-attached_link g c =
 pub returns-in_default-attached_link-2 : goal.returns-in_default-attached_link-2
 returns-in_default-attached_link-2 g c =
     let n = c.args.plan.now in
-    let shown = (g.T.MetricTable.state c.args.table.now) in
+    let shown = (told c.args.plan.now (g.T.MetricTable.state c.args.table.now)) in
     let found = c.survey_of-found.result in
     let is = c.survey_of-found.ensures in (
       refl,
@@ -79,7 +80,7 @@ returns-in_default-attached_link-2 g c =
 pub returns-in_default-attached_link-3 : goal.returns-in_default-attached_link-3
 returns-in_default-attached_link-3 g c =
     let n = c.args.plan.now in
-    let shown = (g.T.MetricTable.state c.args.table.now) in
+    let shown = (told c.args.plan.now (g.T.MetricTable.state c.args.table.now)) in
     let found = c.survey_of-found.result in
     let is = c.survey_of-found.ensures in (
       refl,

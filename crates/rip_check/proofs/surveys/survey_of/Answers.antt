@@ -4,11 +4,12 @@ use Rattle.rip_check.proofs.OwnedLemmas.{ascends, ascends_below, its_number, its
 use Rattle.rip_check.proofs.SurveyLemmas.{nothing_yet, stretch}
 use Rattle.rip_check.proofs.surveys.survey_of.Goals as goal
 use Rattle.rip_check.specs.Metrics.{metric_at}
+use Rattle.rip_check.specs.Told.{told}
 
 pub loop-i-init : goal.loop-i-init
 loop-i-init g c = λ b above next.
     let n = c.args.plan.now in
-    let shown = (g.T.MetricTable.state c.args.table.now) in
+    let shown = (told c.args.plan.now (g.T.MetricTable.state c.args.table.now)) in
     let numbers = c.of_router-numbers.result.now in
     stretch n shown c.args.router c.args.prefix 0 b _ (omega arith)
     (λ j l d its less. let h = place_before n c.args.router numbers c.of_router-numbers.ensures.exact c.of_router-numbers.ensures.ascending 0 b next j l d its less in absurd (omega (arith, h.1)))
@@ -17,8 +18,8 @@ loop-i-init g c = λ b above next.
 pub interface-own-requires : goal.interface-own-requires
 interface-own-requires g c = its_number c.args.plan.now c.args.router c.of_router-numbers.result.now c.of_router-numbers.ensures.exact c.loop-i.i-index c.loop-i-test.true
 
-pub shown_at-shown-requires-clause-interface : goal.shown_at-shown-requires-clause-interface
-shown_at-shown-requires-clause-interface g c =
+pub told_at-told-requires-clause-interface : goal.told_at-told-requires-clause-interface
+told_at-told-requires-clause-interface g c =
     its_number c.args.plan.now c.args.router c.of_router-numbers.result.now c.of_router-numbers.ensures.exact c.loop-i.i-index c.loop-i-test.true
 
 pub loop-i-preserved : goal.loop-i-preserved
@@ -26,7 +27,7 @@ loop-i-preserved g c = λ b above next.
     let n = c.args.plan.now in
     let r = c.args.router in
     let p = c.args.prefix in
-    let shown = (g.T.MetricTable.state c.args.table.now) in
+    let shown = (told c.args.plan.now (g.T.MetricTable.state c.args.table.now)) in
     let numbers = c.of_router-numbers.result.now in
     let exact = c.of_router-numbers.ensures.exact in
     let up = c.of_router-numbers.ensures.ascending in
@@ -34,7 +35,7 @@ loop-i-preserved g c = λ b above next.
     let i = get_or numbers k 0 in
     let own = c.interface-own.result in
     let its = its_own n r numbers exact k own c.loop-i-test.true c.interface-own.ensures.is in
-    let seen : metric_at shown i p ≡ c.shown_at-shown.result = sym {b = metric_at shown i p} c.shown_at-shown.ensures.metric in
+    let seen : metric_at shown i p ≡ c.told_at-told.result = sym {b = metric_at shown i p} c.told_at-told.ensures.metric in
     let was : IsSurvey n shown r p i c.loop-i.found = c.loop-i.invariant i (λ j sooner. ascends_below numbers up j k sooner c.loop-i-test.true) (λ lt. omega arith) in
     let is : IsSurvey n shown r p (i + 1) c.add_shown.new.found = c.add_shown.ensures shown r i own.cost was its seen c.attached_link-attached.ensures in
     stretch n shown r p (i + 1) b c.add_shown.new.found (omega (arith, above k (omega arith)))

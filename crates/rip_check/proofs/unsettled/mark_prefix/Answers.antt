@@ -4,6 +4,7 @@ use Rattle.std.proofs.lemmas.Grind.{common_steps}
 use Rattle.rip_check.specs.Marks.{IsMark}
 use Rattle.rip_check.proofs.MarkLemmas.{one_more_mark, other_mark}
 use Rattle.rip_check.proofs.unsettled.mark_prefix.Goals as goal
+use Rattle.rip_check.specs.Told.{told}
 
 pub loop-router-init : goal.loop-router-init
 loop-router-init g c = record { marked = λ r lt. absurd (omega (arith, lt)); others = λ r q lt other. refl; size = refl }
@@ -11,8 +12,8 @@ loop-router-init g c = record { marked = λ r lt. absurd (omega (arith, lt)); ot
 pub loop-router-preserved : goal.loop-router-preserved
 loop-router-preserved g c =
     let n = c.args.plan.now in
-    let shown = (g.T.MetricTable.state c.args.table.now) in
-    let count = length (g.T.MetricTable.state c.args.table.now).prefixes in
+    let shown = (told c.args.plan.now (g.T.MetricTable.state c.args.table.now)) in
+    let count = length (told c.args.plan.now (g.T.MetricTable.state c.args.table.now)).prefixes in
     let i = c.loop-router.router in
     let p = c.args.prefix in
     let is = c.loop-router.invariant in

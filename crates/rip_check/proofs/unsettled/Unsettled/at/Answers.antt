@@ -10,6 +10,7 @@ use Rattle.rip_check.specs.Verdicts.{route_of}
 use Rattle.rip_check.proofs.RouteLemmas.{one_route}
 use Rattle.rip_check.proofs.ReadableLemmas.{fits_readable}
 use Rattle.rip_check.proofs.unsettled.Unsettled.at.Goals as goal
+use Rattle.rip_check.specs.Told.{told}
 
 -- what is kept of a place
 mark_at : (n : Network) (s : State) (unsettled : Unsettled) → AreUnsettled n s unsettled → (r p w : ℕ) (mark : Option ℕ) → w ≡ length s.prefixes → r < length n.routers → p < length s.prefixes
@@ -32,14 +33,14 @@ there P (Some t) none p = refl
 pub returns-in_default-clause-none : goal.returns-in_default-clause-none
 returns-in_default-clause-none g c =
     let n = c.args.plan.now in
-    let s = g.T.MetricTable.state c.args.table.now in
+    let s = told c.args.plan.now (g.T.MetricTable.state c.args.table.now) in
     let is = mark_at n s c.args.self.now c.requires.places c.args.router c.args.prefix c.prefix_count.result c.index.result.now c.prefix_count.ensures c.requires.router c.requires.prefix c.index.ensures in
     rw c.in_default.is at is.sound
 
 pub unwrap-route-requires : goal.unwrap-route-requires
 unwrap-route-requires g c =
     let n = c.args.plan.now in
-    let s = g.T.MetricTable.state c.args.table.now in
+    let s = told c.args.plan.now (g.T.MetricTable.state c.args.table.now) in
     let is = mark_at n s c.args.self.now c.requires.places c.args.router c.args.prefix c.prefix_count.result c.index.result.now c.prefix_count.ensures c.requires.router c.requires.prefix c.index.ensures in
     let failing = failing_at n s c.args.router c.args.prefix c.in-Some.equation c.index.result.now c.in-Some.is is in
     there _ c.read.result c.read.ensures.none (fits_readable n c.lawful.ensures s c.in_range.ensures c.args.router c.args.prefix failing.2.route c.requires.router failing.2.fits)
@@ -47,7 +48,7 @@ unwrap-route-requires g c =
 pub place_of-requires-clause-equation : goal.place_of-requires-clause-equation
 place_of-requires-clause-equation g c =
     let n = c.args.plan.now in
-    let s = g.T.MetricTable.state c.args.table.now in
+    let s = told c.args.plan.now (g.T.MetricTable.state c.args.table.now) in
     let is = mark_at n s c.args.self.now c.requires.places c.args.router c.args.prefix c.prefix_count.result c.index.result.now c.prefix_count.ensures c.requires.router c.requires.prefix c.index.ensures in
     let failing = failing_at n s c.args.router c.args.prefix c.in-Some.equation c.index.result.now c.in-Some.is is in
     (omega (arith, failing.0, c.from.ensures), omega (arith, failing.1, c.from.ensures))
@@ -55,7 +56,7 @@ place_of-requires-clause-equation g c =
 pub returns-clause-some : goal.returns-clause-some
 returns-clause-some g c =
     let n = c.args.plan.now in
-    let s = g.T.MetricTable.state c.args.table.now in
+    let s = told c.args.plan.now (g.T.MetricTable.state c.args.table.now) in
     let r = c.args.router in
     let p = c.args.prefix in
     let t = route_of c.unwrap-route.result in

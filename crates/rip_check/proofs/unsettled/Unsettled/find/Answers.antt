@@ -3,6 +3,7 @@ use Rattle.std.proofs.Math.Seq.{take-append_seam}
 use Rattle.std.proofs.lemmas.Bool.{cases_lt}
 use Rattle.std.proofs.lemmas.List.{length-take-le}
 use Rattle.rip_check.proofs.unsettled.Unsettled.find.Goals as goal
+use Rattle.rip_check.specs.Told.{told}
 
 pub loop-prefix-init : goal.loop-prefix-init
 loop-prefix-init g c =
@@ -16,8 +17,8 @@ loop-prefix-init g c =
 pub loop-prefix-preserved : goal.loop-prefix-preserved
 loop-prefix-preserved g c =
     let n = c.args.plan.now in
-    let shown = (g.T.MetricTable.state c.args.table.now) in
-    let count = length (g.T.MetricTable.state c.args.table.now).prefixes in
+    let shown = (told c.args.plan.now (g.T.MetricTable.state c.args.table.now)) in
+    let count = length (told c.args.plan.now (g.T.MetricTable.state c.args.table.now)).prefixes in
     let is = c.loop-prefix.invariant in
     let new = c.mark_prefix.new.marks in
     let e : c.loop-prefix.marks.len ≡ length new = omega (arith, c.mark_prefix.auto.marks, c.as_mut_slice.ensures.len, c.loop-prefix.marks.ok.0) in

@@ -1,0 +1,46 @@
+-- What is told is a metric where what is shown is one, and is offered as what is shown.
+use Rattle.std.proofs.Common.{◌≡◌, ℕ, ◌<◌, ◌≤◌, Bool, true, false, cond, Option, None, Some, get_or, length, slice_get, unwrap_or, option_and_then, refl, sym, ◌∙◌, ap, arith}
+use Rattle.std.specs.Option.{option_map_or}
+use Rattle.std.proofs.lemmas.Option.{none-some, same_Some, slice_get-get_or}
+use Rattle.rip_wire.specs.Prefix.{Block, block}
+use Rattle.rip_plan.specs.Network.{Network}
+use Rattle.rip_plan.specs.declared.parts.Interface.{Interface}
+use Rattle.rip_table.specs.State.{State}
+use Rattle.rip_check.specs.Metrics.{IsInRange, metric_at}
+use Rattle.rip_check.specs.Told.{poisons, told_of, told_where}
+
+-- whether an interface of the plan poisons
+pub its_poison : (n : Network) (i : ℕ) (x : Interface) → slice_get n.interfaces i ≡ Some x → poisons n i ≡ x.poison
+its_poison n i x at = ap (λ (o : Option Interface). option_map_or (λ y. y.poison) o true) at
+
+-- what is told of a prefix of the list
+pub told_metric : (poison : ℕ → Bool) (s : State) (i k : ℕ) → k < length s.prefixes → metric_at (told_where poison s) i k ≡ told_of (poison i) (metric_at s i k)
+told_metric poison s i k lt =
+    let at : slice_get s.prefixes k ≡ Some (get_or s.prefixes k (block 0 0)) = slice_get-get_or s.prefixes k (block 0 0) lt in
+    rw at refl
+
+-- a metric that is shown is told
+pub told_shown : (poison : ℕ → Bool) (s : State) (i k m : ℕ) → k < length s.prefixes → metric_at s i k ≡ Some m → metric_at (told_where poison s) i k ≡ Some m
+unfolding told_of
+told_shown poison s i k m lt e = told_metric poison s i k lt ∙ ap (told_of (poison i)) e
+
+-- an interface that shows nothing tells nothing, or 16
+pub told_silent : (poison : ℕ → Bool) (s : State) (i k : ℕ) → k < length s.prefixes → metric_at s i k ≡ None → metric_at (told_where poison s) i k ≡ cond (poison i) None (Some 16)
+unfolding told_of
+told_silent poison s i k lt e = told_metric poison s i k lt ∙ ap (told_of (poison i)) e
+
+pub told_range : (n : Network) (poison : ℕ → Bool) (s : State) → IsInRange n s → IsInRange n (told_where poison s)
+unfolding told_of
+told_range n poison s range i r l c p m its tells = go (slice_get s.prefixes p) refl tells
+  where
+    by_poison : (b : Bool) → cond b None (Some 16) ≡ Some m → (1 ≤ m) × (m ≤ 16)
+    by_poison true e = absurd (none-some m e)
+    by_poison false e = let same : 16 ≡ m = same_Some 16 m e in (omega (arith, same), omega (arith, same))
+
+    by_shown : (o : Option ℕ) → metric_at s i p ≡ o → told_of (poison i) o ≡ Some m → (1 ≤ m) × (m ≤ 16)
+    by_shown None at e = by_poison (poison i) e
+    by_shown (Some v) at e = range i r l c p m its (at ∙ e)
+
+    go : (o : Option Block) → slice_get s.prefixes p ≡ o → option_and_then (λ b. told_of (poison i) (s.shows i b)) o ≡ Some m → (1 ≤ m) × (m ≤ 16)
+    go None at e = absurd (none-some m e)
+    go (Some b) at e = by_shown (s.shows i b) (ap (option_and_then (λ q. s.shows i q)) at) e

@@ -1,0 +1,29 @@
+-- What the interfaces of a plan tell: what they show, and 16 where they show nothing and do not
+-- poison.
+use Rattle.std.specs.Prelude.{◌≡◌, ℕ, Bool, true, Option, None, Some, if◌then◌else◌, slice_get}
+use Rattle.std.specs.Option.{option_map_or}
+use Rattle.rip_plan.specs.Network.{Network}
+use Rattle.rip_plan.specs.declared.parts.Interface.{Interface}
+use Rattle.rip_table.specs.State.{State}
+
+-- what an interface tells that shows this: simple split horizon leaves out what poisoned reverse shows
+-- with 16 (RFC 2453, 3.4.3)
+unfoldable pub told_of : Bool → Option ℕ → Option ℕ
+told_of poison None = if poison then None else Some 16
+told_of poison (Some m) = Some m
+
+-- the table with what is told in the place of what is shown, where these interfaces poison
+abbrev pub told_where : (ℕ → Bool) → State → State
+told_where poison s = record s { shows = λ i p. told_of (poison i) (s.shows i p) }
+
+-- interface i poisons
+abbrev pub poisons : Network → ℕ → Bool
+poisons n i = option_map_or (λ x. x.poison) (slice_get n.interfaces i) true
+
+-- all interfaces poison
+abbrev pub EachPoisons : Network → Type 0
+EachPoisons n = (i : ℕ) (x : Interface) → slice_get n.interfaces i ≡ Some x → x.poison ≡ true
+
+-- the table with what the plan's interfaces tell
+abbrev pub told : Network → State → State
+told n s = told_where (poisons n) s
