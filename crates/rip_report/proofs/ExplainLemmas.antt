@@ -42,7 +42,7 @@ on_below n l numbers exact k lt = let h = on_number n l numbers exact k lt in sl
 -- what was read of an interface on a link
 pub its_own_link : (n : Network) (j r l c : ℕ) (x : Interface) → IsInterface n j r l c → slice_get n.interfaces j ≡ Some x → IsInterface n j x.router l x.cost
 its_own_link n j r l c x is at =
-    let same : record { router = r; link = l; address = is.address; cost = c; direct = is.direct } ≡ x = same_Some (record { router = r; link = l; address = is.address; cost = c; direct = is.direct }) x (sym is.listed ∙ at) in
+    let same : record { router = r; link = l; address = is.address; cost = c; direct = is.direct; poison = is.poison } ≡ x = same_Some (record { router = r; link = l; address = is.address; cost = c; direct = is.direct; poison = is.poison }) x (sym is.listed ∙ at) in
     subst (λ (y : Interface). IsInterface n j y.router l y.cost) same is
 
 -- each interface on a link is at a place of the list

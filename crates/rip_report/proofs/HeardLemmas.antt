@@ -15,7 +15,7 @@ use Rattle.rip_plan.specs.declared.parts.Interface.{Interface}
 
 -- a listed interface, by its router and link
 pub is_listed : (n : Network) (i : ℕ) (x : Interface) → slice_get n.interfaces i ≡ Some x → IsInterface n i x.router x.link x.cost
-is_listed n i x listed = record { address = x.address; direct = x.direct; listed = listed }
+is_listed n i x listed = record { address = x.address; direct = x.direct; poison = x.poison; listed = listed }
 
 -- what has an address on a link is an interface on it
 pub its_link : (n : Network) (i l a : ℕ) → HasAddress n i l a → (r c : ℕ) × IsInterface n i r l c
@@ -27,7 +27,8 @@ its_link n i l a h =
       record {
         address = x.address;
         direct = x.direct;
-        listed = subst (λ l. slice_get n.interfaces i ≡ Some (record { router = x.router; link = l; address = x.address; cost = x.cost; direct = x.direct })) has.on has.listed;
+        poison = x.poison;
+        listed = subst (λ l. slice_get n.interfaces i ≡ Some (record { router = x.router; link = l; address = x.address; cost = x.cost; direct = x.direct; poison = x.poison })) has.on has.listed;
       },
     )
 

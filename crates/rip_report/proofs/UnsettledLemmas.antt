@@ -7,6 +7,7 @@ use Rattle.rip_check.specs.declared.verdict.Place2.{Place2}
 use Rattle.rip_check.specs.declared.way.Way.{Way}
 use Rattle.rip_check.specs.declared.way.Way.TheVariants.{Unreachable, Here, Over}
 use Rattle.rip_check.specs.Tables.{FitsWay}
+use Rattle.rip_check.specs.Told.{told}
 use Rattle.rip_check.specs.Verdicts.{IsFailing, IsNextUnsettled}
 use Rattle.rip_report.specs.AuditText.{AreKnown}
 use Rattle.rip_report.specs.Names.{IsKnownWay}
@@ -19,7 +20,7 @@ known_way n r p m (Over l) lawful fits =
 known_way n r p m Here lawful fits = tt
 known_way n r p m Unreachable lawful fits = tt
 
-pub known_place : (n : Network) (s : State) (after : Option (ℕ × ℕ)) (f : Place2) → IsLawful n → IsNextUnsettled n s after f → AreKnown n s f
+pub known_place : (n : Network) (s : State) (after : Option (ℕ × ℕ)) (f : Place2) → IsLawful n → IsNextUnsettled n (told n s) after f → AreKnown n s f
 known_place n s after f lawful next = record {
   router = next.first.router;
   prefix = next.first.prefix;
@@ -27,7 +28,7 @@ known_place n s after f lawful next = record {
 }
 
 -- a place that fails, by its router and its prefix
-pub failing_place : (n : Network) (s : State) (r p : ℕ) (f : Place2) → IsLawful n → r < length n.routers → p < length s.prefixes → f.router ≡ r → f.prefix ≡ p → IsFailing n s f → AreKnown n s f
+pub failing_place : (n : Network) (s : State) (r p : ℕ) (f : Place2) → IsLawful n → r < length n.routers → p < length s.prefixes → f.router ≡ r → f.prefix ≡ p → IsFailing n (told n s) f → AreKnown n s f
 failing_place n s r p f lawful router prefix same_router same_prefix failing = record {
   router = rw same_router router;
   prefix = rw same_prefix prefix;

@@ -23,6 +23,7 @@ use Rattle.rip_report.specs.declared.status.RunError.{RunError}
 use Rattle.rip_check.specs.Laws.{ShowsRightTables}
 use Rattle.rip_check.specs.Settled.{IsPlainRight, IsRight}
 use Rattle.rip_check.specs.Tables.{Route}
+use Rattle.rip_check.specs.Told.{told}
 use Rattle.rip_check.specs.Firsts.{IsFirstTrouble, IsReason}
 use Rattle.rip_check.specs.Walks.{PacketsArrive}
 
@@ -31,7 +32,7 @@ attached_known : (n : Network) (r p l : ℕ) → IsLawful n → IsAttached n r p
 attached_known n r p l lawful attached = let (c, (i, is)) = lawful.attached_there r p l attached in lawful.link_known i r l c is
 
 -- what a trouble names is known
-pub known_trouble : (n : Network) (s : State) (trouble : Unclear) → IsLawful n → IsFirstTrouble n s trouble → IsTroubleOf n s trouble
+pub known_trouble : (n : Network) (s : State) (trouble : Unclear) → IsLawful n → IsFirstTrouble n (told n s) trouble → IsTroubleOf n s trouble
 known_trouble n s (NotHeard r l) lawful h = (lawful.router_known h.interface r l h.cost h.its, lawful.link_known h.interface r l h.cost h.its)
 known_trouble n s (TwoMetrics r p) lawful (heard, h) = (rw h.reason.0 h.first.router, rw h.reason.1 h.first.prefix)
 known_trouble n s (Missing r p l) lawful (heard, h) = (rw h.reason.0 h.first.router, rw h.reason.1 h.first.prefix, lawful.link_known h.reason.3.interface h.router l h.reason.3.cost h.reason.3.its)
@@ -39,7 +40,7 @@ known_trouble n s (ShownOn r p l) lawful (heard, h) = (rw h.reason.0 h.first.rou
 known_trouble n s (TwoWays r p) lawful (heard, h) = (rw h.reason.0 h.first.router, rw h.reason.1 h.first.prefix)
 
 -- the link of a reason is known
-pub known_reason : (n : Network) (s : State) (r p : ℕ) (trouble : Unclear) → IsLawful n → IsReason n s r p trouble → IsKnownReason n trouble
+pub known_reason : (n : Network) (s : State) (r p : ℕ) (trouble : Unclear) → IsLawful n → IsReason n (told n s) r p trouble → IsKnownReason n trouble
 known_reason n s r p (NotHeard t l) lawful h = tt
 known_reason n s r p (TwoMetrics t q) lawful h = tt
 known_reason n s r p (Missing t q l) lawful h = lawful.link_known h.3.interface r l h.3.cost h.3.its
@@ -47,7 +48,7 @@ known_reason n s r p (ShownOn t q l) lawful h = attached_known n r p l lawful h.
 known_reason n s r p (TwoWays t q) lawful h = tt
 
 -- the router, the prefix and the link of a reason are known
-pub reason_known : (n : Network) (s : State) (r p : ℕ) (trouble : Unclear) → IsLawful n → r < length n.routers → p < length s.prefixes → IsReason n s r p trouble → IsTroubleOf n s trouble
+pub reason_known : (n : Network) (s : State) (r p : ℕ) (trouble : Unclear) → IsLawful n → r < length n.routers → p < length s.prefixes → IsReason n (told n s) r p trouble → IsTroubleOf n s trouble
 reason_known n s r p (NotHeard t l) lawful router prefix h = absurd h
 reason_known n s r p (TwoMetrics t q) lawful router prefix h = (rw h.0 router, rw h.1 prefix)
 reason_known n s r p (Missing t q l) lawful router prefix h = (rw h.0 router, rw h.1 prefix, lawful.link_known h.3.interface r l h.3.cost h.3.its)
@@ -56,13 +57,13 @@ reason_known n s r p (TwoWays t q) lawful router prefix h = (rw h.0 router, rw h
 
 -- what judging answers, of each verdict
 pub record Judges (n : Network) (s : State) (v : Verdict) : Type 0 where
-  pub settled : (v ≡ verdicts.Settled) ↔ ShowsRightTables n s
-  pub unsettled : (f : Place2) → (v ≡ verdicts.Unsettled f) ↔ (ShowsTables n s × IsNextUnsettled n s None f)
-  pub unclear : (trouble : Unclear) → (v ≡ verdicts.Unclear trouble) ↔ IsFirstTrouble n s trouble
-  pub no_tables : ((trouble : Unclear) × (v ≡ verdicts.Unclear trouble)) ↔ (ShowsTables n s → ⊥)
-  pub arrive : v ≡ verdicts.Settled → PacketsArrive n s
+  pub settled : (v ≡ verdicts.Settled) ↔ ShowsRightTables n (told n s)
+  pub unsettled : (f : Place2) → (v ≡ verdicts.Unsettled f) ↔ (ShowsTables n (told n s) × IsNextUnsettled n (told n s) None f)
+  pub unclear : (trouble : Unclear) → (v ≡ verdicts.Unclear trouble) ↔ IsFirstTrouble n (told n s) trouble
+  pub no_tables : ((trouble : Unclear) × (v ≡ verdicts.Unclear trouble)) ↔ (ShowsTables n (told n s) → ⊥)
+  pub arrive : v ≡ verdicts.Settled → PacketsArrive n (told n s)
 
-pub said : (n : Network) (s : State) (v : Verdict) → Judges n s v → IsVerdict n s v
+pub said : (n : Network) (s : State) (v : Verdict) → Judges n s v → IsVerdict n (told n s) v
 said n s verdicts.Settled j = j.settled.0 refl
 said n s (verdicts.Unsettled f) j = (j.unsettled f).0 refl
 said n s (verdicts.Unclear trouble) j = (j.unclear trouble).0 refl
@@ -106,13 +107,13 @@ ended_judged n s status (Ok done) outcome is h = rw is h
 ended_judged n s status (Err e) outcome is h = rw is tt
 
 -- what each verdict writes
-pub settled_told : (n : Network) (s : State) (all : Bool) (v : Verdict) → v ≡ verdicts.Settled → IsVerdict n s v → VerdictText n s all (record { text = settled_line n s; status = verdict_status v })
+pub settled_told : (n : Network) (s : State) (all : Bool) (v : Verdict) → v ≡ verdicts.Settled → IsVerdict n (told n s) v → VerdictText n s all (record { text = settled_line n s; status = verdict_status v })
 settled_told n s all v e h = rw e (a_settled (rw e at h))
 
-pub unclear_told : (n : Network) (s : State) (all : Bool) (v : Verdict) (trouble : Unclear) → v ≡ verdicts.Unclear trouble → IsVerdict n s v → VerdictText n s all (record { text = unclear_line n s trouble; status = verdict_status v })
+pub unclear_told : (n : Network) (s : State) (all : Bool) (v : Verdict) (trouble : Unclear) → v ≡ verdicts.Unclear trouble → IsVerdict n (told n s) v → VerdictText n s all (record { text = unclear_line n s trouble; status = verdict_status v })
 unclear_told n s all v trouble e h = rw e (an_unclear trouble (rw e at h))
 
-pub unsettled_told : (n : Network) (s : State) (all : Bool) (v : Verdict) (f : Place2) (text : List ℕ) → v ≡ verdicts.Unsettled f → IsVerdict n s v → UnsettledLines n s all f text → VerdictText n s all (record { text = text; status = verdict_status v })
+pub unsettled_told : (n : Network) (s : State) (all : Bool) (v : Verdict) (f : Place2) (text : List ℕ) → v ≡ verdicts.Unsettled f → IsVerdict n (told n s) v → UnsettledLines n s all f text → VerdictText n s all (record { text = text; status = verdict_status v })
 unsettled_told n s all v f text e h lines = let both = rw e at h in rw e (an_unsettled f text both.0 both.1 lines)
 
 pub ifok-map : {A E : Type 0} {P Q : A → Type 0} (r : Result A E) → ((x : A) → P x → Q x) → IfOk r P → IfOk r Q
@@ -121,8 +122,8 @@ ifok-map (Err e) f p = tt
 
 -- the headline, of what is judged and what is told
 pub headline : (n : Network) (s : State) (IsText : Written → Type 0) (a b : Taken) (outcome : Result Status RunError) → IfOk outcome (IsJudged n s) → IfOk outcome (WentOut IsText a b) → IfOk outcome (AnswersRightly n s IsText a b)
-headline n s IsText a b (Ok status) j told = (j.settled, j.arrive, told)
-headline n s IsText a b (Err e) j told = tt
+headline n s IsText a b (Ok status) j out = (j.settled, j.arrive, out)
+headline n s IsText a b (Err e) j out = tt
 
 -- a verdict on a plan that says nothing beside the standard, by the paths over any neighbours
 pub plain_headline : (n : Network) (s : State) (outcome : Result Status RunError) → ((r p : ℕ) (route : Route) → IsRight n r p route ↔ IsPlainRight n r p route) → IfOk outcome (IsJudged n s)

@@ -23,6 +23,7 @@ use Rattle.rip_check.specs.Verdicts.{IsFailing, IsNextUnsettled, IsSound, ShowsT
 use Rattle.rip_check.specs.Firsts.{IsFirstTrouble}
 use Rattle.rip_check.specs.Settled.{IsPlainRight}
 use Rattle.rip_check.specs.Tables.{Shows, Tables}
+use Rattle.rip_check.specs.Told.{told}
 use Rattle.rip_check.specs.Walks.{PacketsArrive}
 
 -- ---- Lines
@@ -123,9 +124,9 @@ unclear_line n s trouble = line (codes "unclear: " ++ trouble_part n s trouble)
 -- what is written of router r and prefix p: a text of the place there, if it fails
 pub data FailingText (n : Network) (s : State) (IsText : Place2 → List ℕ → Type 0) (r p : ℕ)
     : List ℕ → Type 0 where
-  fails : (f : Place2) (text : List ℕ) → f.router ≡ r → f.prefix ≡ p → IsFailing n s f
+  fails : (f : Place2) (text : List ℕ) → f.router ≡ r → f.prefix ≡ p → IsFailing n (told n s) f
       → IsText f text → FailingText n s IsText r p text
-  holds : IsSound n s r p → FailingText n s IsText r p []
+  holds : IsSound n (told n s) r p → FailingText n s IsText r p []
 
 -- a text of each place that fails, router by router and prefix by prefix
 abbrev pub AllFailing : Network → State → (Place2 → List ℕ → Type 0) → List ℕ → Type 0
@@ -140,14 +141,14 @@ abbrev pub UnsettledLines : Network → State → Bool → Place2 → List ℕ �
 UnsettledLines n s true f = AllFailing n s (UnsettledLine n s)
 UnsettledLines n s false f = UnsettledLine n s f
 
--- what is written of a table
+-- what is written of a table: the verdict on what its interfaces tell
 pub data VerdictText (n : Network) (s : State) (all : Bool) : Written → Type 0 where
-  a_settled : ShowsRightTables n s
+  a_settled : ShowsRightTables n (told n s)
       → VerdictText n s all (record { text = settled_line n s; status = Settled })
-  an_unclear : (trouble : Unclear) → IsFirstTrouble n s trouble
+  an_unclear : (trouble : Unclear) → IsFirstTrouble n (told n s) trouble
       → VerdictText n s all (record { text = unclear_line n s trouble; status = IsUnclear })
-  an_unsettled : (f : Place2) (text : List ℕ) → ShowsTables n s → IsNextUnsettled n s None f
-      → UnsettledLines n s all f text
+  an_unsettled : (f : Place2) (text : List ℕ) → ShowsTables n (told n s)
+      → IsNextUnsettled n (told n s) None f → UnsettledLines n s all f text
       → VerdictText n s all (record { text = text; status = Unsettled })
 
 -- the status of a verdict
@@ -163,24 +164,24 @@ AuditText plan log all = ReportText (λ n s. VerdictText n s all) plan log
 -- ---- What the statuses mean
 
 -- the table shows tables in which each metric is the least cost of a path over any neighbours, or 16,
--- and each way begins such a path: right tables of a plan that says nothing beside RFC 2453
+-- and each way begins such a path: right tables of a plan that says nothing of paths beside RFC 2453
 abbrev pub ShowsPlainRightTables : Network → State → Type 0
-ShowsPlainRightTables n shown =
-    (T : Tables) × Shows n shown T
-    × ((r p : ℕ) → r < length n.routers → p < length shown.prefixes → IsPlainRight n r p (T r p))
+ShowsPlainRightTables n s =
+    (T : Tables) × Shows n (told n s) T
+    × ((r p : ℕ) → r < length n.routers → p < length s.prefixes → IsPlainRight n r p (T r p))
 
 -- a run that judges answers rightly: Settled exactly where the log shows right tables, and then packets
 -- arrive; and one of these texts went out
 abbrev pub AnswersRightly : Network → State → (Written → Type 0) → Taken → Taken → Status → Type 0
 AnswersRightly n s IsText old new status =
-    ((status ≡ Settled) ↔ ShowsRightTables n s) × (status ≡ Settled → PacketsArrive n s)
-    × WentOut IsText old new status
+    ((status ≡ Settled) ↔ ShowsRightTables n (told n s))
+    × (status ≡ Settled → PacketsArrive n (told n s)) × WentOut IsText old new status
 
 -- what a verdict's status says of the table
 pub record IsJudged (n : Network) (s : State) (status : Status) : Type 0 where
-  pub settled : (status ≡ Settled) ↔ ShowsRightTables n s
-  pub arrive : status ≡ Settled → PacketsArrive n s
+  pub settled : (status ≡ Settled) ↔ ShowsRightTables n (told n s)
+  pub arrive : status ≡ Settled → PacketsArrive n (told n s)
   pub unsettled : (status ≡ Unsettled)
-      ↔ (ShowsTables n s × ((f : Place2) × IsNextUnsettled n s None f))
-  pub unclear : (status ≡ IsUnclear) ↔ ((trouble : Unclear) × IsFirstTrouble n s trouble)
-  pub no_tables : (status ≡ IsUnclear) ↔ (ShowsTables n s → ⊥)
+      ↔ (ShowsTables n (told n s) × ((f : Place2) × IsNextUnsettled n (told n s) None f))
+  pub unclear : (status ≡ IsUnclear) ↔ ((trouble : Unclear) × IsFirstTrouble n (told n s) trouble)
+  pub no_tables : (status ≡ IsUnclear) ↔ (ShowsTables n (told n s) → ⊥)

@@ -10,6 +10,7 @@ use Rattle.rip_check.specs.Laws.{ShowsRightTables}
 use Rattle.rip_check.specs.Metrics.{metric_at}
 use Rattle.rip_check.specs.Paths.{IsLeast}
 use Rattle.rip_check.specs.Tables.{Offers, Route}
+use Rattle.rip_check.specs.Told.{told}
 use Rattle.rip_check.specs.Verdicts.{IsNextUnsettled, ShowsTables}
 use Rattle.rip_check.specs.declared.verdict.Place2.{Place2}
 use Rattle.rip_check.specs.declared.verdict.Unclear.{Unclear}
@@ -171,9 +172,10 @@ pub data UnheardLines (n : Network) (s : State) (i : ℕ) : List ℕ → Type 0 
 
 -- the lines of router r and prefix p, if no route can be read there
 pub data UnreadLines (n : Network) (s : State) (r p : ℕ) : List ℕ → Type 0 where
-  unread : (trouble : Unclear) (text : List ℕ) → (IsReadable n s r p → ⊥)
-      → IsReason n s r p trouble → TroubleLines n s trouble text → UnreadLines n s r p text
-  readable : IsReadable n s r p → UnreadLines n s r p []
+  unread : (trouble : Unclear) (text : List ℕ) → (IsReadable n (told n s) r p → ⊥)
+      → IsReason n (told n s) r p trouble → TroubleLines n s trouble text
+      → UnreadLines n s r p text
+  readable : IsReadable n (told n s) r p → UnreadLines n s r p []
 
 -- ---- Texts
 
@@ -207,14 +209,14 @@ UnclearText n s false trouble = TroubleLines n s trouble
 
 -- the verdict, and what it comes from
 pub data ExplainText (n : Network) (s : State) (all : Bool) : Written → Type 0 where
-  a_settled : (lines : List ℕ) → ShowsRightTables n s
+  a_settled : (lines : List ℕ) → ShowsRightTables n (told n s)
       → TextsOfPairs (UnreachableLine n s) (length n.routers) (length s.prefixes) lines
       → ExplainText n s all (record { text = settled_line n s ++ lines; status = Settled })
-  an_unclear : (trouble : Unclear) (text : List ℕ) → IsFirstTrouble n s trouble
+  an_unclear : (trouble : Unclear) (text : List ℕ) → IsFirstTrouble n (told n s) trouble
       → UnclearText n s all trouble text
       → ExplainText n s all (record { text = text; status = IsUnclear })
-  an_unsettled : (f : Place2) (text : List ℕ) → ShowsTables n s → IsNextUnsettled n s None f
-      → UnsettledText n s all f text
+  an_unsettled : (f : Place2) (text : List ℕ) → ShowsTables n (told n s)
+      → IsNextUnsettled n (told n s) None f → UnsettledText n s all f text
       → ExplainText n s all (record { text = text; status = Unsettled })
 
 -- a text whose first line is the verdict's, as `audit` prints it

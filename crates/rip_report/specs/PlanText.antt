@@ -85,11 +85,16 @@ counts_line n =
 abbrev pub direct_text : Interface → List ℕ
 direct_text i = if i.direct == i.cost then [] else codes " direct " ++ decimal i.direct
 
--- `interface r1 a 10.1.0.1 cost 5 direct 1`, an interface without its further addresses
+-- that the interface does not poison
+abbrev pub poison_text : Bool → List ℕ
+poison_text poison = if poison then [] else codes " poison false"
+
+-- `interface r1 a 10.1.0.1 cost 5 direct 1 poison false`, an interface without its further addresses
 unfoldable pub interface_text : Network → Interface → List ℕ
 interface_text n i =
     codes "interface " ++ name_of n.routers i.router ++ codes " " ++ name_of n.links i.link
     ++ codes " " ++ address_text i.address ++ codes " cost " ++ decimal i.cost ++ direct_text i
+    ++ poison_text i.poison
 
 abbrev pub address_part : ℕ → List ℕ
 address_part a = codes " " ++ address_text a
@@ -103,7 +108,7 @@ also_text (a ∷ rest) = codes " also" ++ flat_map address_part (a ∷ rest)
 abbrev pub also_of : Network → ℕ → List ℕ
 also_of n k = unwrap_or (slice_get n.also k) []
 
--- `interface r1 a 10.1.0.1 cost 5 direct 1 also 10.20.9.1 10.20.8.1`, with its further addresses
+-- `interface r1 a 10.1.0.1 cost 5 direct 1 poison false also 10.20.9.1`, with its further addresses
 unfoldable pub interface_line : Network → Interface → List ℕ → List ℕ
 interface_line n i also = line (interface_text n i ++ also_text also)
 

@@ -6,6 +6,7 @@ use Rattle.rip_table.specs.State.{State}
 use Rattle.rip_check.specs.Firsts.{IsReadable, IsReason}
 use Rattle.rip_check.specs.Paths.{IsLeast}
 use Rattle.rip_check.specs.Tables.{FitsShown, IsOnlyRoute, Route}
+use Rattle.rip_check.specs.Told.{told}
 use Rattle.rip_check.specs.Verdicts.{IsHidden}
 use Rattle.rip_check.specs.declared.verdict.Unclear.{Unclear}
 use Rattle.rip_report.specs.Lines.{read_part, reason_part, unheard_line}
@@ -40,16 +41,17 @@ unread_line n s r p trouble =
 -- the route that is read of what router r shows of prefix p, and whether it is that of a leaf which
 -- cannot show it
 pub record IsRead (n : Network) (s : State) (r p : ℕ) (route : Route) (hidden : Bool) : Type 0 where
-  pub fits : FitsShown n s r p route
-  pub one : IsTrue hidden ⊎ IsOnlyRoute n s r p route
-  pub hides : Decides hidden (IsHidden n s r p)
+  pub fits : FitsShown n (told n s) r p route
+  pub one : IsTrue hidden ⊎ IsOnlyRoute n (told n s) r p route
+  pub hides : Decides hidden (IsHidden n (told n s) r p)
 
 -- the line of a router and a prefix: the route that is read, and the least metric of the plan where
 -- it is another; or why none can be read
 pub data RouteLine (n : Network) (s : State) (r p : ℕ) : List ℕ → Type 0 where
   a_route : (route : Route) (hidden : Bool) (least : ℕ) → IsRead n s r p route hidden
       → IsLeast n p r least → RouteLine n s r p (read_line n s r p route hidden least)
-  unclear : (trouble : Unclear) → (IsReadable n s r p → ⊥) → IsReason n s r p trouble
+  unclear : (trouble : Unclear) → (IsReadable n (told n s) r p → ⊥)
+      → IsReason n (told n s) r p trouble
       → RouteLine n s r p (unread_line n s r p trouble)
 
 -- the line of the interface of a number, where it was not heard

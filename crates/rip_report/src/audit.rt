@@ -15,6 +15,7 @@ ghost use Rattle.rip_report.specs.PlanText.{IsNoText};
 ghost use Rattle.rip_report.specs.ReportText.{IsAccepted};
 ghost use Rattle.rip_report.specs.Sent.{Prints, Reads, WentOut, Writes};
 ghost use Rattle.rip_check.specs.Laws.{OneIsShown};
+ghost use Rattle.rip_check.specs.Told.{told};
 
 use crate::lines::verdicts::{settled_text, unclear_text, unsettled_text};
 use crate::listing::Listing;
@@ -31,7 +32,7 @@ use std::alloc::{AllocError, Global};
 use std::hash::BuildHasher;
 
 impl PairText for Unsettled {
-    ghost fits = { λ places n s. AreUnsettled n s places };
+    ghost fits = { λ places n s. AreUnsettled n (told n s) places };
 
     ghost is_text = { λ _ n s. FailingText n s (UnsettledLine n s) };
 
@@ -59,7 +60,7 @@ fn write_each<T: MetricTable, K: Sink>(
     out: &mut K,
 ) -> Result<(), Failed>
     requires fits { Fits plan.now (T.state table.now) }
-    requires places { AreUnsettled plan.now (T.state table.now) places.now }
+    requires places { AreUnsettled plan.now (told plan.now (T.state table.now)) places.now }
     ensures { (text : List ℕ)
         × AllFailing plan.now (T.state table.now) (UnsettledLine plan.now (T.state table.now)) text
         × Writes K.taken K.broken out.old out.new result text [] }
@@ -76,7 +77,7 @@ fn write_first<T: MetricTable, K: Sink>(
     place: &Place2,
     out: &mut K,
 ) -> Result<(), Failed>
-    requires { IsNextUnsettled plan.now (T.state table.now) None place.now }
+    requires { IsNextUnsettled plan.now (told plan.now (T.state table.now)) None place.now }
     ensures { Writes K.taken K.broken out.old out.new result
         (unsettled_line plan.now (T.state table.now) place.now) [] }
 {
@@ -95,9 +96,10 @@ fn write_unsettled<T: MetricTable, K: Sink>(
     out: &mut K,
 ) -> Result<(), Failed>
     requires fits { Fits plan.now (T.state table.now) }
-    requires places { IfSome places.now (AreUnsettled plan.now (T.state table.now)) }
+    requires places { IfSome places.now
+        (AreUnsettled plan.now (told plan.now (T.state table.now))) }
     requires all { is_some places.now ≡ all }
-    requires first { IsNextUnsettled plan.now (T.state table.now) None place.now }
+    requires first { IsNextUnsettled plan.now (told plan.now (T.state table.now)) None place.now }
     ensures { (text : List ℕ) × UnsettledLines plan.now (T.state table.now) all place.now text
         × Writes K.taken K.broken out.old out.new result text [] }
 {
@@ -128,10 +130,11 @@ fn write_verdict<T: MetricTable, K: Sink>(
     out: &mut K,
 ) -> Result<(), Failed>
     requires fits { Fits plan.now (T.state table.now) }
-    requires places { IfSome places.now (AreUnsettled plan.now (T.state table.now)) }
+    requires places { IfSome places.now
+        (AreUnsettled plan.now (told plan.now (T.state table.now))) }
     requires all { (place : Place2) → verdict.now ≡ Verdict.Unsettled place →
         is_some places.now ≡ all }
-    requires verdict { IsVerdict plan.now (T.state table.now) verdict.now }
+    requires verdict { IsVerdict plan.now (told plan.now (T.state table.now)) verdict.now }
     ensures { (text : List ℕ) × VerdictText plan.now (T.state table.now) all
         (record { text = text; status = verdict_status verdict.now })
         × Writes K.taken K.broken out.old out.new result text [] }
@@ -157,7 +160,7 @@ fn places_of<T: MetricTable>(
 ) -> Result<Option<Unsettled>, AllocError>
     requires { Fits plan.now (T.state table.now) }
     ensures places { IfOk result (λ places.
-        IfSome places (AreUnsettled plan.now (T.state table.now))) }
+        IfSome places (AreUnsettled plan.now (told plan.now (T.state table.now)))) }
     ensures all { IfOk result (λ places. (place : Place2) → verdict.now ≡ Verdict.Unsettled place →
         is_some places ≡ all) }
     ensures memory { is_err result ≡ true →
@@ -246,7 +249,7 @@ pub fn run_audit<R: Source, K: Sink, S: BuildHasher + Drop>(
     // No two sets of tables are shown.
     ensures one_set { (text : List ℕ) → IsGiven R.given R.at_end log result.0 text →
         (n : Network) (s : State) → IsAccepted plan.now text n s →
-        OneIsShown n s }
+        OneIsShown n (told n s) }
     // What each verdict is answered for.
     ensures judged { (text : List ℕ) → IsGiven R.given R.at_end log result.0 text →
         (n : Network) (s : State) → IsAccepted plan.now text n s →

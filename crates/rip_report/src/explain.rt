@@ -16,6 +16,7 @@ ghost use Rattle.rip_check.specs.Expected.{AreExpected};
 ghost use Rattle.rip_check.specs.Firsts.{IsFirstTrouble};
 ghost use Rattle.rip_check.specs.Laws.{OneIsShown, ShowsRightTables};
 ghost use Rattle.rip_check.specs.Verdicts.{IsNextUnsettled, ShowsTables};
+ghost use Rattle.rip_check.specs.Told.{told};
 ghost use Rattle.rip_report.specs.AuditText.{AnswersRightly, IsJudged, ShowsPlainRightTables};
 ghost use Rattle.rip_report.specs.ExplainText.{BeginsWithVerdict, ExplainText, ExplainsAll, UnreachableLine};
 ghost use Rattle.rip_report.specs.PlanText.{IsNoText};
@@ -73,7 +74,7 @@ fn explain_settled<T: MetricTable, K: Sink>(
     out: &mut K,
 ) -> Result<Status, RunError>
     requires fits { Fits plan.now (T.state table.now) }
-    requires right { ShowsRightTables plan.now (T.state table.now) }
+    requires right { ShowsRightTables plan.now (told plan.now (T.state table.now)) }
     ensures prints { (all : Bool) → Prints K.taken K.broken out.old out.new result
         (ExplainText plan.now (T.state table.now) all) }
     ensures read { result ≢ Err RunError.Read }
@@ -95,8 +96,8 @@ fn explain_place<T: MetricTable, K: Sink>(
     out: &mut K,
 ) -> Result<Status, RunError>
     requires fits { Fits plan.now (T.state table.now) }
-    requires shows { ShowsTables plan.now (T.state table.now) }
-    requires first { IsNextUnsettled plan.now (T.state table.now) None place.now }
+    requires shows { ShowsTables plan.now (told plan.now (T.state table.now)) }
+    requires first { IsNextUnsettled plan.now (told plan.now (T.state table.now)) None place.now }
     ensures prints { Prints K.taken K.broken out.old out.new result
         (ExplainText plan.now (T.state table.now) false) }
     ensures read { result ≢ Err RunError.Read }
@@ -116,8 +117,9 @@ fn explain_places<T: MetricTable, K: Sink>(
     out: &mut K,
 ) -> Result<Status, RunError>
     requires fits { Fits plan.now (T.state table.now) }
-    requires shows { ShowsTables plan.now (T.state table.now) }
-    requires first { (place : Place2) × IsNextUnsettled plan.now (T.state table.now) None place }
+    requires shows { ShowsTables plan.now (told plan.now (T.state table.now)) }
+    requires first { (place : Place2)
+        × IsNextUnsettled plan.now (told plan.now (T.state table.now)) None place }
     ensures prints { Prints K.taken K.broken out.old out.new result
         (ExplainText plan.now (T.state table.now) true) }
     ensures read { result ≢ Err RunError.Read }
@@ -144,8 +146,8 @@ fn explain_unsettled<T: MetricTable, K: Sink>(
     out: &mut K,
 ) -> Result<Status, RunError>
     requires fits { Fits plan.now (T.state table.now) }
-    requires shows { ShowsTables plan.now (T.state table.now) }
-    requires first { IsNextUnsettled plan.now (T.state table.now) None first.now }
+    requires shows { ShowsTables plan.now (told plan.now (T.state table.now)) }
+    requires first { IsNextUnsettled plan.now (told plan.now (T.state table.now)) None first.now }
     ensures prints { Prints K.taken K.broken out.old out.new result
         (ExplainText plan.now (T.state table.now) all) }
     ensures read { result ≢ Err RunError.Read }
@@ -166,7 +168,7 @@ fn explain_unclear<T: MetricTable, K: Sink>(
     out: &mut K,
 ) -> Result<Status, RunError>
     requires fits { Fits plan.now (T.state table.now) }
-    requires first { IsFirstTrouble plan.now (T.state table.now) first.now }
+    requires first { IsFirstTrouble plan.now (told plan.now (T.state table.now)) first.now }
     ensures prints { Prints K.taken K.broken out.old out.new result
         (ExplainText plan.now (T.state table.now) all) }
     ensures read { result ≢ Err RunError.Read }
@@ -252,7 +254,7 @@ pub fn run_explain<R: Source, K: Sink, S: BuildHasher + Drop>(
     // No two sets of tables are shown.
     ensures one_set { (text : List ℕ) → IsGiven R.given R.at_end log result.0 text →
         (n : Network) (s : State) → IsAccepted plan.now text n s →
-        OneIsShown n s }
+        OneIsShown n (told n s) }
     // What each verdict is answered for.
     ensures judged { (text : List ℕ) → IsGiven R.given R.at_end log result.0 text →
         (n : Network) (s : State) → IsAccepted plan.now text n s →

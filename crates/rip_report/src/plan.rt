@@ -3,7 +3,7 @@
 ghost use Rattle.std.specs.Prelude.{◌≡◌, ◌≢◌, ◌+◌, ◌≤◌, ◌<◌, ◌++◌, [], Err, IfSome, length};
 ghost use Rattle.std.specs.List.{flat_map};
 ghost use Rattle.rip_report.specs.declared.limits.TheConstants.{CODE_WORD, GATEWAY, LINE_BYTES, NAMED, NUMBERED, PLAN_CODE, POSITION, SEAT, WORDS};
-ghost use Rattle.rip_report.specs.PlanText.{IsNoText, IsSeat, PlanText, address_part, also_text, attached_text, counts_line, direct_text, gateway_text, interface_line, interface_lines, interface_text, kept_text, place_line, seat_text, shown_plan};
+ghost use Rattle.rip_report.specs.PlanText.{IsNoText, IsSeat, PlanText, address_part, also_text, attached_text, counts_line, direct_text, gateway_text, interface_line, interface_lines, interface_text, kept_text, place_line, poison_text, seat_text, shown_plan};
 ghost use Rattle.rip_report.specs.Held.{held};
 ghost use Rattle.rip_report.specs.Sent.{Prints, Writes};
 
@@ -48,6 +48,17 @@ fn push_direct(text: &mut Line, interface: Interface)
     }
 }
 
+/// Adds that an interface does not poison, where that is so.
+fn push_poison(text: &mut Line, poison: bool)
+    requires { length text.old + WORDS ≤ LINE_BYTES }
+    ensures text { text.new ≡ text.old ++ poison_text poison }
+    ensures size { length text.new ≤ length text.old + WORDS }
+{
+    if !poison {
+        text.push(" poison false");
+    }
+}
+
 /// The line of an interface, as far as its further addresses.
 #[tactic(auto, unfolding(crate::specs::PlanText::interface_text))]
 fn interface_text(plan: &Plan, interface: Interface) -> Line
@@ -64,7 +75,9 @@ fn interface_text(plan: &Plan, interface: Interface) -> Line
     text.push_address(interface.address);
     text.push(" cost ");
     text.push_number(u64::from(interface.cost));
+    let poison = interface.poison;
     push_direct(&mut text, interface);
+    push_poison(&mut text, poison);
     text
 }
 

@@ -6,6 +6,7 @@ ghost use Rattle.rip_table.specs.State.{Fits};
 ghost use Rattle.rip_check.specs.Expected.{AreExpected};
 ghost use Rattle.rip_check.specs.Marks.{AreUnsettled};
 ghost use Rattle.rip_check.specs.Paths.{IsLeast};
+ghost use Rattle.rip_check.specs.Told.{told};
 ghost use Rattle.rip_report.specs.AuditText.{AreKnown, FailingText};
 ghost use Rattle.rip_report.specs.ExplainText.{DirectLine, OfferLine, OfferLines, OffersOver, PlaceLines, ShownLine, ShownLines};
 ghost use Rattle.rip_report.specs.Listings.{Adds};
@@ -205,7 +206,8 @@ pub(crate) struct FailingPlaces {
 }
 
 impl PairText for FailingPlaces {
-    ghost fits = { λ texts n s. AreUnsettled n s texts.places × AreExpected n texts.expected };
+    ghost fits = { λ texts n s. AreUnsettled n (told n s) texts.places
+        × AreExpected n texts.expected };
 
     ghost is_text = { λ _ n s. FailingText n s (PlaceLines n s) };
 

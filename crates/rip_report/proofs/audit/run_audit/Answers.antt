@@ -3,6 +3,7 @@ use Rattle.rip_plan.specs.Relations.{IsLawful}
 use Rattle.rip_report.specs.AuditText.{VerdictText}
 use Rattle.rip_report.proofs.VerdictLemmas.{headline, plain_headline}
 use Rattle.rip_report.proofs.audit.run_audit.Goals as goal
+use Rattle.rip_check.specs.Told.{told}
 
 pub returns-clause-headline : goal.returns-clause-headline
 returns-clause-headline g c =
@@ -18,7 +19,7 @@ returns-clause-known g c =
 
 pub returns-clause-one_set : goal.returns-clause-one_set
 returns-clause-one_set g c = λ text given n s accepted.
-    c.one_set_of_tables.ensures.tables n s (subst IsLawful accepted.network accepted.well_formed.lawful)
+    c.one_set_of_tables.ensures.tables n (told n s) (subst IsLawful accepted.network accepted.well_formed.lawful)
 
 pub returns-clause-plain : goal.returns-clause-plain
 returns-clause-plain g c =

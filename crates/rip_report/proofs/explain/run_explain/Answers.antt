@@ -4,6 +4,7 @@ use Rattle.rip_report.specs.ExplainText.{ExplainText}
 use Rattle.rip_report.proofs.ExplainLemmas.{begins_out, explains_out}
 use Rattle.rip_report.proofs.VerdictLemmas.{headline, plain_headline}
 use Rattle.rip_report.proofs.explain.run_explain.Goals as goal
+use Rattle.rip_check.specs.Told.{told}
 
 pub returns-clause-headline : goal.returns-clause-headline
 returns-clause-headline g c = λ text given n s accepted.
@@ -26,7 +27,7 @@ returns-clause-known g c =
 
 pub returns-clause-one_set : goal.returns-clause-one_set
 returns-clause-one_set g c = λ text given n s accepted.
-    c.one_set_of_tables.ensures.tables n s (subst IsLawful accepted.network accepted.well_formed.lawful)
+    c.one_set_of_tables.ensures.tables n (told n s) (subst IsLawful accepted.network accepted.well_formed.lawful)
 
 pub returns-clause-plain : goal.returns-clause-plain
 returns-clause-plain g c =
