@@ -8,6 +8,7 @@ ghost use Rattle.rip_plan.specs.declared.error.PlanError.{PlanError};
 ghost use Rattle.rip_log.specs.Wholes.{Went};
 ghost use Rattle.rip_table.specs.State.{State};
 ghost use Rattle.rip_check.specs.Laws.{OneIsShown};
+ghost use Rattle.rip_check.specs.Told.{told};
 ghost use Rattle.rip_report.specs.AuditText.{AnswersRightly, IsJudged, ShowsPlainRightTables, VerdictText};
 ghost use Rattle.rip_report.specs.Given.{IsGiven};
 ghost use Rattle.rip_report.specs.Hearings.{IsUnread};
@@ -208,7 +209,7 @@ pub(crate) fn run_on_log<R: Source, K: Sink, S: BuildHasher + Drop>(
     // No two sets of tables are shown.
     ensures one_set { (text : List ℕ) → IsGiven R.given R.at_end log result.0 text →
         (n : Network) (s : State) → IsAccepted plan.now text n s →
-        OneIsShown n s }
+        OneIsShown n (told n s) }
     // What each verdict of `audit` is answered for.
     ensures judged { (all : Bool) → command ≡ LogCommand.Audit all →
         (text : List ℕ) → IsGiven R.given R.at_end log result.0 text →
