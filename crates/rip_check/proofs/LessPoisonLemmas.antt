@@ -1,23 +1,22 @@
 -- Where fewer interfaces poison, the same right tables are shown.
-use Rattle.std.proofs.Common.{◌≡◌, ◌⊎◌, ℕ, ◌<◌, ◌≤◌, ◌+◌, inl, inr, Bool, true, false, cond, Option, None, Some, length, min, unwrap_or, refl, sym, ◌∙◌, ap, subst, arith, slice_get}
+use Rattle.std.proofs.Common.{◌≡◌, ℕ, ◌<◌, ◌≤◌, ◌+◌, inl, inr, Bool, true, false, Option, None, Some, length, min, unwrap_or, refl, sym, ◌∙◌, ap, subst, arith, slice_get}
 use Rattle.std.specs.Option.{option_map_or}
 use Rattle.std.proofs.lemmas.Option.{none-some}
 use mathlib.Core.Path.{fun_ext}
 use Rattle.rip_wire.specs.Prefix.{Block}
 use Rattle.rip_plan.specs.Network.{Network}
 use Rattle.rip_plan.specs.declared.parts.Interface.{Interface}
-use Rattle.rip_plan.specs.Relations.{IsInterface, IsKept, IsLawful, IsLeaf}
+use Rattle.rip_plan.specs.Relations.{IsKept, IsLawful, IsLeaf}
 use Rattle.rip_table.specs.State.{State}
 use Rattle.rip_check.specs.declared.way.Way.{Way}
 use Rattle.rip_check.specs.declared.way.Way.TheVariants.{Unreachable, Here, Over}
-use Rattle.rip_check.specs.Laws.{Case}
 use Rattle.rip_check.specs.Metrics.{metric_at}
 use Rattle.rip_check.specs.Settled.{AllRight, Holds}
 use Rattle.rip_check.specs.Tables.{FitsWay, IsHiddenRoute, IsLeastOffer, IsSilent, MayHoldBack, MayShow, Offers, Route, Shows, Tables}
-use Rattle.rip_check.specs.Told.{EachPoisons, poisons, told, told_of, told_where}
+use Rattle.rip_check.specs.Told.{EachPoisons, told, told_of, told_where}
 use Rattle.rip_check.proofs.ConverseLemmas.{holds}
 use Rattle.rip_check.proofs.PlanLemmas.{kept_own}
-use Rattle.rip_check.proofs.ToldTableLemmas.{its_poison, told_metric}
+use Rattle.rip_check.proofs.ToldTableLemmas.{told_metric}
 
 -- ---- where all poison
 

@@ -9,12 +9,11 @@ use Rattle.rip_plan.specs.Relations.{IsLawful}
 use Rattle.rip_plan.specs.WellFormed.{IsWellFormed}
 use Rattle.rip_plan.specs.declared.error.PlanError.{PlanError}
 use Rattle.rip_log.specs.Said.{AllSaid, AreAllSaid, SaidAt, all_said, said_at}
-use Rattle.rip_log.specs.Logs.{Log, Numbered, log_at, log_in}
-use Rattle.rip_log.specs.LogText.{LogText}
+use Rattle.rip_log.specs.Logs.{Log, log_at}
 use Rattle.rip_log.specs.Taken.{Taken}
 use Rattle.rip_table.specs.Events.{AreCalm, ComeTo, EventAt, all_events, events_of, last_event, state_after}
 use Rattle.rip_table.specs.LogJoin.{IsJoined, IsOutcome}
-use Rattle.rip_table.specs.State.{Fits, IsState, State, new_state}
+use Rattle.rip_table.specs.State.{State, new_state}
 use Rattle.rip_table.specs.Tallies.{counts_of}
 use Rattle.rip_table.specs.declared.tallies.counts.Counts.{Counts}
 use Rattle.rip_report.specs.AnywayText.{Anyway}

@@ -2,6 +2,7 @@
 
 ghost use Rattle.std.specs.Prelude.{◌≡◌, ◌↔◌, true};
 ghost use Rattle.rip_check.specs.Laws.{ShowsRightTables};
+ghost use Rattle.rip_check.specs.Told.{told};
 ghost use Rattle.rip_table.specs.State.{Fits};
 
 use crate::examples::{PHANTOM, SETTLED, TRIANGLE};
@@ -13,7 +14,7 @@ use rip_table::MetricTable;
 /// Whether the tables that a log shows are right.
 fn is_right<T: MetricTable>(plan: &Plan, table: &T) -> bool
     requires { Fits plan.now (T.state table.now) }
-    ensures { (result ≡ true) ↔ ShowsRightTables plan.now (T.state table.now) }
+    ensures { (result ≡ true) ↔ ShowsRightTables plan.now (told plan.now (T.state table.now)) }
 {
     judge(plan, table) == Verdict::Settled
 }

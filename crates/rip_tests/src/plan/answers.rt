@@ -12,13 +12,14 @@ fn address(rt: &impl Abort, text: &str) -> Address {
 
 /// A plan of one router.
 const DAEMONS: &str = "version = 1
+poison = false
 link = [{ name = \"core\", prefixes = [\"10.1.0.0/16\"] }, { name = \"k\", prefixes = [] }]
 
 [[router]]
 name = \"r1\"
 interface = [
   { link = \"core\", address = \"10.1.0.1\", cost = 5, direct = 2, also = [\"10.20.9.1\", \"10.20.8.1\"] },
-  { link = \"k\", address = \"10.3.0.1\", cost = 3 },
+  { link = \"k\", address = \"10.3.0.1\", cost = 3, poison = true },
 ]
 own = [
   { prefix = \"0.0.0.0/0\", cost = 8, kept = true, via = \"10.1.0.254\" },
@@ -39,6 +40,7 @@ fn expect_costs(rt: &impl Abort, plan: &Plan) {
     assert!(rt; plan.interfaces() == 2 && plan.places() == 4);
     let core = plan.interface(0);
     assert!(rt; core.cost == 5 && core.direct == 2 && plan.interface(1).direct == 3);
+    assert!(rt; !core.poison && plan.interface(1).poison);
     assert!(rt; plan.direct_cost(0, 0) == Some(2) && plan.direct_cost(0, 4) == None);
     assert!(rt; plan.is_place(0, 0) && plan.place(0).seat == Seat::Link(0));
 }

@@ -1,5 +1,3 @@
-use Rattle.rip_plan.specs.Network.{Network}
-use Rattle.rip_plan.specs.Relations.{IsLawful}
 use Rattle.rip_table.specs.State.{new_state}
 use Rattle.rip_report.proofs.AcceptedLemmas.{Laws, accepted, judged}
 use Rattle.rip_report.proofs.laws.accepted_logs.Goals as goal
