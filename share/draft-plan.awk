@@ -1,5 +1,5 @@
-# Prints the plan of what the scripts before it have noted. A comment says what is guessed in a line, and what a router does there that
-# no key of a plan says.
+# Prints the plan of what the scripts before it have noted. A comment says what is guessed in a line, and what a router does
+# there that no key of a plan says.
 
 # Adds to what is guessed in the line that is being made.
 function guess(text) { guessed = guessed (guessed == "" ? "   # guessed: " : "; ") text }
@@ -36,8 +36,8 @@ function interface_item(router, net,    name, text, key, further, n, i) {
     item(text, router, name)
 }
 
-# A prefix of the router's own. FRR announces what it redistributes at a metric of its configuration. A route at 1 is kept anyway, since
-# every offer costs more; that a static default is, is written all the same.
+# A prefix of the router's own. FRR announces what it redistributes at a metric of its configuration. A route at 1 is kept
+# anyway, since every offer costs more; that a static default is, is written all the same.
 function own_item(router, prefix,    text, letter, cost_here, hop, i) {
     cost_here = metric[router, prefix]
     letter = kind[router, prefix]

@@ -1,6 +1,7 @@
-# Reads the configurations of routers of FRR and BIRD, after read-routers.awk and for draft-plan.awk: what interfaces cost, the metrics of
-# what is redistributed, the `manner` of an interface, and what no key of a plan says of it (`unsaid`). The manner is what a router shows
-# on the link over which it has a route: nothing (`simple`), 16 (`poison`), or the metric (`off`).
+# Reads the configurations of routers of FRR and BIRD, after read-routers.awk and for draft-plan.awk: what interfaces cost,
+# the metrics of what is redistributed, the `manner` of an interface, and what no key of a plan says of it (`unsaid`). The
+# manner is what a router shows on the link over which it has a route: nothing (`simple`), 16 (`poison`), or the metric
+# (`off`).
 
 # Notes what no key says of an interface, or of a router, where the name is "".
 function add_unsaid(name, text) {
@@ -37,7 +38,8 @@ section == "running-config" && /^[^ ]/ { part = $1 " " $2 }
 section == "running-config" && part ~ /^interface / { read_interface(substr(part, 11)) }
 section == "running-config" && (part == "" || part == "router rip") { read_rip() }
 
-# Begins what BIRD's configuration says of a list of interfaces. An interface belongs to the first list of its protocol that has it.
+# Begins what BIRD's configuration says of a list of interfaces. An interface belongs to the first list of its protocol that
+# has it.
 function add_clause() {
     clauses[router, owner]++
     clause = router SUBSEP owner SUBSEP clauses[router, owner]

@@ -1,6 +1,6 @@
-# Reads what daemons of FRR and BIRD say, in a file for each router, for draft-plan.awk. In a file `== show WORDS` stands above
-# what a command printed. Of a router it notes the interfaces on which it speaks RIP (`on`), all its addresses, what interfaces of BIRD
-# cost, and the prefixes that it announces itself (`own`) with the next hop and the metric of each.
+# Reads what daemons of FRR and BIRD say, in a file for each router, for draft-plan.awk. In a file `== show WORDS` stands
+# above what a command printed. Of a router it notes the interfaces on which it speaks RIP (`on`), all its addresses, what
+# interfaces of BIRD cost, and the prefixes that it announces itself (`own`) with the next hop and the metric of each.
 
 # Ends with a line on standard error.
 function stop(text) {
