@@ -36,8 +36,20 @@ function interface_item(router, net,    name, text, key, further, n, i) {
     item(text, router, name)
 }
 
-# A prefix of the router's own. FRR announces what it redistributes at a metric of its configuration. A route at 1 is kept
-# anyway, since every offer costs more; that a static default is, is written all the same.
+# Says that an own prefix is kept. One at 1 is anyway, since every offer costs more; of a static default it is written all the
+# same. FRR gives a static up for an offer where its distance is above 120, that of RIP.
+function keep(router, prefix, letter, cost_here,    far) {
+    if (cost_here <= 1 && (letter != "S" || prefix != "0.0.0.0/0")) return ""
+    far = (router, prefix) in distance ? distance[router, prefix] : 1
+    if (letter == "S" && far > 120) {
+        guess("that it is not kept, at distance " far)
+        return ""
+    }
+    guess("that it is kept")
+    return ", kept = true"
+}
+
+# A prefix of the router's own. FRR announces what it redistributes at a metric of its configuration.
 function own_item(router, prefix,    text, letter, cost_here, hop, i) {
     cost_here = metric[router, prefix]
     letter = kind[router, prefix]
@@ -49,10 +61,7 @@ function own_item(router, prefix,    text, letter, cost_here, hop, i) {
     }
     text = "prefix = \"" prefix "\""
     if (cost_here > 1) text = text ", cost = " cost_here
-    if (cost_here > 1 || (letter == "S" && prefix == "0.0.0.0/0")) {
-        text = text ", kept = true"
-        guess("that it is kept")
-    }
+    text = text keep(router, prefix, letter, cost_here)
     hop = gateway[router, prefix]
     for (i = 1; i <= joins[router]; i++)
         if (network(hop "/" bits(joined[router, i])) == joined[router, i]) {

@@ -1,7 +1,7 @@
 # Reads the configurations of routers of FRR and BIRD, after read-routers.awk and for draft-plan.awk: what interfaces cost,
-# the metrics of what is redistributed, the `manner` of an interface, and what no key of a plan says of it (`unsaid`). The
-# manner is what a router shows on the link over which it has a route: nothing (`simple`), 16 (`poison`), or the metric
-# (`off`).
+# the metrics of what is redistributed and the distances of statics, the `manner` of an interface, and what no key of a plan
+# says of it (`unsaid`). The manner is what a router shows on the link over which it has a route: nothing (`simple`), 16
+# (`poison`), or the metric (`off`).
 
 # Notes what no key says of an interface, or of a router, where the name is "".
 function add_unsaid(name, text) {
@@ -33,10 +33,19 @@ function read_rip(    letter, way) {
     if (/ route-map /) mapped[router, letter] = 1
 }
 
+# A static route of FRR. Of those to one prefix the least distance counts.
+function read_static(    far, i) {
+    far = 1
+    for (i = 5; i <= NF; i++)
+        if ($i ~ /^[0-9]+$/ && $(i - 1) !~ /^(tag|table|label|color)$/) far = $i + 0
+    if (!((router, $3) in distance) || far < distance[router, $3]) distance[router, $3] = far
+}
+
 # A file of an earlier --help has lines of `router rip` alone, without that line.
 section == "running-config" && /^[^ ]/ { part = $1 " " $2 }
 section == "running-config" && part ~ /^interface / { read_interface(substr(part, 11)) }
 section == "running-config" && (part == "" || part == "router rip") { read_rip() }
+section == "running-config" && /^ip route / { read_static() }
 
 # Begins what BIRD's configuration says of a list of interfaces. An interface belongs to the first list of its protocol that
 # has it.
