@@ -61,7 +61,7 @@ function read_option(    word) {
     split(statement, word, " ")
     if (statement ~ /^poison reverse (no|off|0) / && manner[clause] == "poison") manner[clause] = "simple"
     if (statement ~ /^split horizon (no|off|0) /) manner[clause] = "off"
-    if (word[1] == "authentication" && word[2] != "none") hidden[clause] = word[2]
+    if (word[1] == "authentication" && word[2] != "none") secret[clause] = word[2]
 }
 
 # Opens a brace of BIRD's configuration. The protocols of RIP without a name are rip1, rip2 and so on.
@@ -130,7 +130,7 @@ function find_clause(name,    clause, n) {
         clause = router SUBSEP exporter[router] SUBSEP n
         if (!has(listed[clause], name)) continue
         manner[router, name] = manner[clause]
-        if (clause in hidden) add_unsaid(name, "that it authenticates, by " hidden[clause])
+        if (clause in secret) add_unsaid(name, "that it authenticates, by " secret[clause])
         return
     }
 }
