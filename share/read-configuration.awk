@@ -9,7 +9,7 @@ function add_unsaid(name, text) {
     unsaid[router, name] = text
 }
 
-# A line below an interface of FRR.
+# A line below an interface of FRR. A key chain or a password does nothing without a mode.
 function read_interface(name) {
     if (/^ ip rip split-horizon poisoned-reverse/) manner[router, name] = "poison"
     if (/^ no ip rip split-horizon/) manner[router, name] = "off"
