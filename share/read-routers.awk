@@ -1,6 +1,6 @@
-# Reads what daemons of FRR and BIRD say, in a file for each router, for draft-plan.awk. In a file `== show WORDS` stands above
-# what a command printed. Of a router it notes the interfaces on which it speaks RIP (`on`), all its addresses, what interfaces
-# cost, and the prefixes that it announces itself (`own`) with the next hop and the metric of each.
+# Reads what daemons of FRR and BIRD say, in a file for each router, for draft-plan.awk. In a file `== show WORDS` stands
+# above what a command printed. Of a router it notes the interfaces on which it speaks RIP (`on`), all its addresses, what
+# interfaces of BIRD cost, and the prefixes that it announces itself (`own`) with the next hop and the metric of each.
 
 # Ends with a line on standard error.
 function stop(text) {
@@ -29,15 +29,17 @@ FNR == 1 {
     sub(/.*\//, "", router)
     names[++routers] = router
     section = ""
+    depth = unnamed = comment = 0
+    statement = ""
 }
 { sub(/\r$/, "") }
 /^== show / {
     section = $0
     sub(/^== show /, "", section)
     sub(/ (\||export ).*/, "", section)
-    shown[router, section] = 1
+    shown[router, section] = $0
     part = ""
-    protocol = $NF
+    if (section == "route all") exporter[router] = $NF
     next
 }
 /^% |^syntax error|^No valid tables/ { stop(router ": show " section ": " $0) }
@@ -55,15 +57,6 @@ section == "ip rip" && $5 == "self" && $4 < 16 {
     add_own($2, $3, $4)
     kind[router, prefix] = substr($1, 1, 1)
 }
-section == "running-config" && $1 == "offset-list" && $3 == "in" {
-    cost[router, $5] = $4
-    list[router, $5] = $2
-}
-section == "running-config" && $1 == "redistribute" {
-    letter = toupper(substr($2, 1, 1))
-    if ($3 == "metric") given[router, letter] = $4
-    if (/ route-map /) mapped[router, letter] = 1
-}
 
 # BIRD. It lists interfaces that are down too, and all that it exports, also what it learned by RIP.
 section == "rip interfaces" && $2 == "Up" {
@@ -74,7 +67,7 @@ section == "interfaces" && /^[^ \t]/ { name = $1 }
 section == "interfaces" && /^\t[0-9.]+\/[0-9]+ .*Preferred/ { add_address($1) }
 section == "route all" && /^[^ \t]/ {
     prefix = ""
-    if (/^[0-9.]+\/[0-9]+ / && $3 != "[" protocol) add_own($1, "", 1)
+    if (/^[0-9.]+\/[0-9]+ / && $3 != "[" exporter[router]) add_own($1, "", 1)
 }
 section == "route all" && $1 == "via" && prefix != "" { gateway[router, prefix] = $2 }
 section == "route all" && $1 == "RIP.metric:" && prefix != "" { metric[router, prefix] = $2 }
