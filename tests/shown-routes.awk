@@ -1,9 +1,10 @@
 # The routes that a log shows, as `ripaudit expect` writes routes: of the lines of `ripaudit plan`, then those of
 # `ripaudit table`, of a log whose verdict is settled or unsettled. A router shows 16 or nothing on the link that it sends
 # over. What it may show on a link that carries the prefix, or to which it has the prefix attached, tells nothing of its way.
-# A router with one interface does not show its route where it shows 16, nor, on such a link, with nothing; a prefix that is
-# not planned is left out where it is unreachable.
+# A router with one interface does not show its route where it shows 16, nor, on such a link or where it does not poison,
+# with nothing; a prefix that is not planned is left out where it is unreachable.
 $1 == "interface" { links[$2] = links[$2] " " $3; if (!known[$2]++) routers[++count] = $2 }
+$1 == "interface" && / poison false/ { simple[$2, $3] = 1 }
 $1 == "prefix" { planned[$2] = 1; if ($3 == "link") carries[$4, $2] = 1; else attach() }
 $1 != "prefix" && $3 ~ /\// { shown[$1, $2, $3] = $4; if (!seen[$3]++) prefixes[++most] = $3 }
 END {
@@ -27,6 +28,6 @@ function tell(router, prefix,    on, n, i, metric, way, given) {
     }
     if (metric == 16) way = "unreachable"
     if (metric == 16 && !planned[prefix]) return
-    if (metric == 16 && n == 1 && (given == 16 || is_own(router, on[1], prefix))) return
+    if (metric == 16 && n == 1 && (given == 16 || simple[router, on[1]] || is_own(router, on[1], prefix))) return
     print router, prefix, metric, way
 }
