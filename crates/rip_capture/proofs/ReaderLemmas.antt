@@ -132,7 +132,7 @@ Stands-begun given before taken frames old new mid h at_end was is keeps finds t
 -- an error that is kept, to be answered again
 pub Runs-refused : {R : Type 0} (given : R → List ℕ) (coming : R → Option (List ℕ)) (broken at_end : R → Bool) (old mid new : CaptureReader R) (e : CaptureError)
     → new ≡ record mid { refusal = Some e } → Runs given coming broken at_end (frame_at mid) place_at old mid (Err e) → Runs given coming broken at_end (frame_at new) place_at old new (Err e)
-Runs-refused given coming broken at_end old mid new e is r =
+Runs-refused {R = R} given coming broken at_end old mid new e is r =
     subst (λ (n : CaptureReader R). Runs given coming broken at_end (frame_at n) place_at old n (Err e)) (sym is) (record {
       goes = λ before taken frames s. let m = r.goes before taken frames s in record {
         taken = m.taken;
@@ -153,7 +153,7 @@ begun-is (Pcap h) b = (h, refl)
 -- behind a header that was read now or before
 pub Runs-on : {R : Type 0} (given : R → List ℕ) (coming : R → Option (List ℕ)) (broken at_end : R → Bool) (old mid new : CaptureReader R) (h : PcapHeader) (result : Result (Option Found) CaptureError)
     → Begins given coming broken at_end old mid (Ok h) → Runs given coming broken at_end (frame_at new) place_at mid new result → Runs given coming broken at_end (frame_at new) place_at old new result
-Runs-on given coming broken at_end old mid new h result b r = record {
+Runs-on {R = R} given coming broken at_end old mid new h result b r = record {
   goes = λ before taken frames s. let m = b.goes before taken frames s in r.goes before m.0 frames m.1;
   moves = record {
     went = went_on given coming at_end (source_of old) (source_of mid) (source_of new) b.moves.went r.moves.went;

@@ -41,3 +41,28 @@ returns-in-Ok-None-clause-runs g c =
       over = λ h. record { begun = ap has_begun c.requires; all = found.0; ended = found.1 };
       stays_over = λ o. refl;
     }
+
+pub returns-clause-runs : goal.returns-clause-runs
+returns-clause-runs g c =
+    let S = g.R.Source in
+    let old = c.args.self.now in
+    let mid = c.next_record.new.feed in
+    let h = c.args.header in
+    let n = c.in-Ok-Some.captured in
+    let took = c.take-taken in
+    let span = took.result in
+    let new : CaptureReader g.row.R.Denot = record { feed = took.new.self; format = old.format; position = c.in-Some.position; refusal = old.refusal } in
+    let found = rw c.in-Ok-Some.field-0-is at c.in-Ok-Some.ensures.found in
+    let made : List ℕ → Frame = λ b. record { link_type = h.link_type; bytes = b } in
+    let inside : span.from + 16 ≤ span.to = omega (arith, took.ensures.size) in
+    let bytes = sym (range-drop took.new.self.buffer.items span.from span.to 16 inside) ∙ ap (drop 16) took.ensures.lies in
+    record {
+      goes = λ before taken frames s. TakesPacket-found S.given before taken frames _ old new mid h n (S.at_end mid.source) c.requires c.requires c.next_record.ensures.keeps found took.ensures.takes (omega (arith, c.in-Some.ensures)) (ap made bytes) s;
+      moves = record {
+        went = subst (λ (s : g.row.R.Denot). Went S.given S.coming S.at_end old.feed.source s) (sym took.ensures.source) c.next_record.ensures.went;
+        failed = λ bad. absurd (false≢true bad);
+        marks = λ calm. ap S.broken took.ensures.source ∙ c.in-Ok-Some.ensures.marks refl;
+      };
+      over = λ e. cc e;
+      stays_over = λ o. cc (c.in-Ok-Some.ensures.over o.all o.ended);
+    }
