@@ -1,9 +1,8 @@
 -- What a packet carries is one thing: it is what the tests of its headers tell, one after the other.
-use Rattle.std.proofs.Common.{◌≡◌, ◌≢◌, ◌+◌, ◌*◌, ◌/◌, ◌%◌, ◌<◌, ◌≤◌, ◌⊎◌, ◌∙◌, ℕ, Bool, true, false, cond, eqb, ltb, List, [], length, drop, slice_index, ap, arith, inl, inr, refl, sym, subst}
+use Rattle.std.proofs.Common.{◌≡◌, ◌≢◌, ◌+◌, ◌/◌, ◌%◌, ◌<◌, ◌≤◌, ◌⊎◌, ◌∙◌, ℕ, Bool, true, false, cond, eqb, ltb, List, [], length, drop, slice_index, ap, arith, inl, inr, refl, sym, subst}
 use Rattle.std.proofs.lemmas.Bool.{eq-eqb, ne_eqb, lt-ltb, le-ltb}
 use Rattle.rip_wire.specs.Fields.{number_at}
 use Rattle.rip_capture.specs.Carries.{Carries}
-use Rattle.rip_capture.specs.Frames.{Holds}
 use Rattle.rip_capture.specs.Packets.{IpCarries, IsIpv4, IsUdp, IsToGroup, IsRip, IsWholeRip, IsGoodRip, IsCaptured, HasMore, destination, header_len, offset, port, source, total_len, udp_len}
 use Rattle.rip_capture.proofs.FrameLemmas.{Holds-one}
 use Rattle.rip_capture.specs.declared.frame.Network.{Network}

@@ -9,8 +9,8 @@ use Rattle.rip_capture.specs.Captures.FrontFault.{short as too_short, magic as n
 use Rattle.rip_capture.specs.Captures.HasMagic.{pcap as pcap_kind}
 use Rattle.rip_capture.specs.Captures.IsCapture.{pcap as pcap_capture}
 use Rattle.rip_capture.specs.LinkTypes.{IsNoType, number_of}
-use Rattle.rip_capture.specs.Numbers.{number_in, short_in}
-use Rattle.rip_capture.specs.Pcap.{AreRecords, Frame, HeaderFault, IsMagic, IsPcap, IsPcapHeader, IsRecord, IsVersion, RecordFault, captured_len, link_number}
+use Rattle.rip_capture.specs.Numbers.{short_in}
+use Rattle.rip_capture.specs.Pcap.{AreRecords, Frame, IsMagic, IsPcap, IsPcapHeader, IsRecord, IsVersion, RecordFault, captured_len, link_number}
 use Rattle.rip_capture.specs.Pcap.HeaderFault.{cut as cut_header, version as bad_version, link_type as bad_type}
 use Rattle.rip_capture.specs.Pcap.RecordFault.{header as short_record, long as long_record, packet as cut_record}
 use Rattle.rip_capture.proofs.PcapLemmas.{header-front, record-of}
@@ -37,18 +37,39 @@ HasType n = (t : LinkType) × (number_of t ≡ n)
 
 type-cases : (n : ℕ) → HasType n ⊎ IsNoType n
 type-cases n =
-    elim (cases_eq 0 n) [ inl is ↦ inl (Null, is) | inr a ↦
-    elim (cases_eq 1 n) [ inl is ↦ inl (Ethernet, is) | inr b ↦
-    elim (cases_eq 101 n) [ inl is ↦ inl (Raw, is) | inr c ↦
-    elim (cases_eq 108 n) [ inl is ↦ inl (Loop, is) | inr d ↦
-    elim (cases_eq 113 n) [ inl is ↦ inl (LinuxSll, is) | inr e ↦
-    elim (cases_eq 228 n) [ inl is ↦ inl (Ipv4, is) | inr f ↦
-    elim (cases_eq 276 n) [ inl is ↦ inl (LinuxSll2, is) | inr g ↦ inr (no_type n a b c d e f g) ] ] ] ] ] ] ]
+    elim (cases_eq 0 n) [
+      | inl is ↦ inl (Null, is)
+      | inr a ↦
+          elim (cases_eq 1 n) [
+            | inl is ↦ inl (Ethernet, is)
+            | inr b ↦
+                elim (cases_eq 101 n) [
+                  | inl is ↦ inl (Raw, is)
+                  | inr c ↦
+                      elim (cases_eq 108 n) [
+                        | inl is ↦ inl (Loop, is)
+                        | inr d ↦
+                            elim (cases_eq 113 n) [
+                              | inl is ↦ inl (LinuxSll, is)
+                              | inr e ↦
+                                  elim (cases_eq 228 n) [
+                                    | inl is ↦ inl (Ipv4, is)
+                                    | inr f ↦
+                                        elim (cases_eq 276 n) [ inl is ↦ inl (LinuxSll2, is) | inr g ↦ inr (no_type n a b c d e f g) ]
+                                  ]
+                            ]
+                      ]
+                ]
+          ]
+    ]
 
 version-cases : (o : Order) (b : List ℕ) → IsVersion o b ⊎ ¬ IsVersion o b
 version-cases o b =
-    elim (cases_eq (short_in o 4 b) 2) [ inr none ↦ inr (λ v. none v.major) | inl major ↦
-    elim (cases_eq (short_in o 6 b) 4) [ inr none ↦ inr (λ v. none v.minor) | inl minor ↦ inl (record { major = major; minor = minor }) ] ]
+    elim (cases_eq (short_in o 4 b) 2) [
+      | inr none ↦ inr (λ v. none v.major)
+      | inl major ↦
+          elim (cases_eq (short_in o 6 b) 4) [ inr none ↦ inr (λ v. none v.minor) | inl minor ↦ inl (record { major = major; minor = minor }) ]
+    ]
 
 no_magic : (b : List ℕ) → number_at 4 0 b ≢ 0xA1B2C3D4 → number_at 4 0 b ≢ 0xA1B23C4D → number_at 4 0 b ≢ 0xD4C3B2A1 → number_at 4 0 b ≢ 0x4D3CB2A1 → HasMagic b → ⊥
 no_magic b a c d e (pcap_kind Big (inl is)) = a is
@@ -61,10 +82,19 @@ HasOrder b = (o : Order) × IsMagic o b
 
 magic-cases : (b : List ℕ) → HasOrder b ⊎ ¬ HasMagic b
 magic-cases b =
-    elim (cases_eq (number_at 4 0 b) 0xA1B2C3D4) [ inl is ↦ inl (Big, inl is) | inr a ↦
-    elim (cases_eq (number_at 4 0 b) 0xA1B23C4D) [ inl is ↦ inl (Big, inr is) | inr c ↦
-    elim (cases_eq (number_at 4 0 b) 0xD4C3B2A1) [ inl is ↦ inl (Little, inl is) | inr d ↦
-    elim (cases_eq (number_at 4 0 b) 0x4D3CB2A1) [ inl is ↦ inl (Little, inr is) | inr e ↦ inr (no_magic b a c d e) ] ] ] ]
+    elim (cases_eq (number_at 4 0 b) 0xA1B2C3D4) [
+      | inl is ↦ inl (Big, inl is)
+      | inr a ↦
+          elim (cases_eq (number_at 4 0 b) 0xA1B23C4D) [
+            | inl is ↦ inl (Big, inr is)
+            | inr c ↦
+                elim (cases_eq (number_at 4 0 b) 0xD4C3B2A1) [
+                  | inl is ↦ inl (Little, inl is)
+                  | inr d ↦
+                      elim (cases_eq (number_at 4 0 b) 0x4D3CB2A1) [ inl is ↦ inl (Little, inr is) | inr e ↦ inr (no_magic b a c d e) ]
+                ]
+          ]
+    ]
 
 -- ---- records, up to their end
 
@@ -103,11 +133,23 @@ walk-on o t b n is w =
 walk : (fuel : ℕ) (o : Order) (t : LinkType) (b : List ℕ) → length b < fuel → Walk o t b
 walk zero o t b less = absurd (omega arith)
 walk (suc fuel) o t b less =
-    elim (cases_lt 0 (length b)) [ inr none ↦ walk-end o t b None (nil_from_length b (omega arith)) | inl some ↦
-    elim (cases_lt (length b) 16) [ inl short ↦ walk-end o t b (Some codes.Cut) (short_record some short refl) | inr room ↦
-    elim (cases_lt 262144 (captured_len o b)) [ inl long ↦ walk-end o t b (Some codes.Length) (long_record room long refl) | inr few ↦
-    elim (cases_lt (length b) (16 + captured_len o b)) [ inl cut ↦ walk-end o t b (Some codes.Cut) (cut_record room few cut refl) | inr inside ↦
-    walk-on o t b (captured_len o b) (record-of o t b (captured_len o b) inside refl few) (walk fuel o t (drop (16 + captured_len o b) b) (omega (arith, less, length-drop (16 + captured_len o b) b))) ] ] ] ]
+    elim (cases_lt 0 (length b)) [
+      | inr none ↦ walk-end o t b None (nil_from_length b (omega arith))
+      | inl some ↦
+          elim (cases_lt (length b) 16) [
+            | inl short ↦ walk-end o t b (Some codes.Cut) (short_record some short refl)
+            | inr room ↦
+                elim (cases_lt 262144 (captured_len o b)) [
+                  | inl long ↦ walk-end o t b (Some codes.Length) (long_record room long refl)
+                  | inr few ↦
+                      elim (cases_lt (length b) (16 + captured_len o b)) [
+                        | inl cut ↦ walk-end o t b (Some codes.Cut) (cut_record room few cut refl)
+                        | inr inside ↦
+                            walk-on o t b (captured_len o b) (record-of o t b (captured_len o b) inside refl few) (walk fuel o t (drop (16 + captured_len o b) b) (omega (arith, less, length-drop (16 + captured_len o b) b)))
+                      ]
+                ]
+          ]
+    ]
 
 -- ---- files
 
@@ -140,13 +182,28 @@ behind-header o t b header w =
 -- behind its first four bytes
 behind-magic : (o : Order) (b : List ℕ) → 4 ≤ length b → IsMagic o b → HasFrames b ⊎ HasFault b
 behind-magic o b begun magic =
-    elim (cases_lt (length b) 24) [ inl cut ↦ inr (front-faulty b codes.Cut (pcap_front o begun magic (cut_header cut refl))) | inr room ↦
-    elim (version-cases o b) [ inr none ↦ inr (front-faulty b codes.Version (pcap_front o begun magic (bad_version room none refl))) | inl version ↦
-    elim (type-cases (link_number o b)) [ inr none ↦ inr (front-faulty b codes.LinkType (pcap_front o begun magic (bad_type room version none refl))) | inl has ↦
-    behind-header o has.0 b (header-front o has.0 b room magic version has.1) (walk (suc (length b)) o has.0 (drop 24 b) (omega (arith, length-drop 24 b))) ] ] ]
+    elim (cases_lt (length b) 24) [
+      | inl cut ↦ inr (front-faulty b codes.Cut (pcap_front o begun magic (cut_header cut refl)))
+      | inr room ↦
+          elim (version-cases o b) [
+            | inr none ↦ inr (front-faulty b codes.Version (pcap_front o begun magic (bad_version room none refl)))
+            | inl version ↦
+                elim (type-cases (link_number o b)) [
+                  | inr none ↦ inr (front-faulty b codes.LinkType (pcap_front o begun magic (bad_type room version none refl)))
+                  | inl has ↦
+                      behind-header o has.0 b (header-front o has.0 b room magic version has.1) (walk (suc (length b)) o has.0 (drop 24 b) (omega (arith, length-drop 24 b)))
+                ]
+          ]
+    ]
 
 pub each : (b : List ℕ) → HasFrames b ⊎ HasFault b
 each b =
-    elim (cases_lt (length b) 4) [ inl less ↦ inr (front-faulty b codes.Cut (too_short less refl)) | inr begun ↦
-    elim (magic-cases b) [ inr none ↦ inr (front-faulty b codes.Magic (no_kind begun none refl)) | inl has ↦
-    behind-magic has.0 b begun has.1 ] ]
+    elim (cases_lt (length b) 4) [
+      | inl less ↦ inr (front-faulty b codes.Cut (too_short less refl))
+      | inr begun ↦
+          elim (magic-cases b) [
+            | inr none ↦ inr (front-faulty b codes.Magic (no_kind begun none refl))
+            | inl has ↦
+                behind-magic has.0 b begun has.1
+          ]
+    ]

@@ -1,7 +1,6 @@
 -- A file is one capture, or has one fault.
-use Rattle.std.proofs.Common.{◌≡◌, ◌≢◌, ◌+◌, ◌-◌, ◌%◌, ◌^◌, ◌<◌, ◌≤◌, ◌⊎◌, ◌∙◌, ℕ, Bool, true, false, cond, eqb, List, [], ◌∷◌, ◌++◌, Option, Some, None, length, take, drop, ap, sym, refl, inl, inr, subst, arith, append_assoc, append-nil}
-use Rattle.std.proofs.lemmas.Bool.{cases_eq, cases_lt}
-use Rattle.std.proofs.lemmas.List.{drop_at, length-append, length-drop, length-take, take-append-drop, take_at}
+use Rattle.std.proofs.Common.{◌≡◌, ◌≢◌, ◌+◌, ◌%◌, ◌^◌, ◌<◌, ◌≤◌, ◌∙◌, ℕ, cond, eqb, List, [], ◌∷◌, ◌++◌, Option, Some, None, length, take, drop, ap, sym, refl, inl, inr, subst, arith, append_assoc, append-nil}
+use Rattle.std.proofs.lemmas.List.{drop_at, length-append, length-drop, take_at}
 use Rattle.rip_wire.specs.Fields.{number_at}
 use Rattle.rip_capture.specs.Captures.{CaptureFault, FrontFault, HasMagic, IsCapture}
 use Rattle.rip_capture.specs.Captures.CaptureFault.{front as at_front, pcap as in_pcap}
@@ -9,12 +8,10 @@ use Rattle.rip_capture.specs.Captures.FrontFault.{short as too_short, magic as n
 use Rattle.rip_capture.specs.Captures.HasMagic.{pcap as pcap_kind}
 use Rattle.rip_capture.specs.Captures.IsCapture.{pcap as pcap_capture}
 use Rattle.rip_capture.specs.Feeds.{Extends}
-use Rattle.rip_capture.specs.LinkTypes.{IsNoType, number_of}
-use Rattle.rip_capture.specs.Numbers.{number_in, short_in}
-use Rattle.rip_capture.specs.Pcap.{AreRecords, Frame, HeaderFault, IsMagic, IsMagicNumber, IsPcap, IsPcapHeader, IsRecord, IsVersion, RecordFault, captured_len, link_number}
+use Rattle.rip_capture.specs.LinkTypes.{number_of}
+use Rattle.rip_capture.specs.Pcap.{AreRecords, Frame, HeaderFault, IsMagic, IsMagicNumber, IsPcap, IsPcapHeader, IsRecord, RecordFault, captured_len, link_number}
 use Rattle.rip_capture.specs.Pcap.HeaderFault.{cut as cut_header, version as bad_version, link_type as bad_type}
 use Rattle.rip_capture.specs.Pcap.RecordFault.{header as short_record, long as long_record, packet as cut_record}
-use Rattle.rip_capture.proofs.FeedLemmas.{Extends-take}
 use Rattle.rip_capture.proofs.NumberLemmas.{magic-front, magic-stays, number-stays, version-front, version-stays}
 use Rattle.rip_capture.specs.declared.error.CaptureCode.{CaptureCode}
 use Rattle.rip_capture.specs.declared.error.CaptureCode.TheVariants as codes
@@ -27,9 +24,10 @@ use Rattle.rip_capture.specs.declared.numbers.Order.TheVariants.{Big, Little}
 
 -- two lists with fronts of one length
 parts : (a b c d : List ℕ) → length a ≡ length c → a ++ b ≡ c ++ d → (a ≡ c) × (b ≡ d)
-parts a b c d size e =
-    (sym (take_at a b (length a) refl) ∙ ap (take (length a)) e ∙ take_at c d (length a) (sym size),
-    sym (drop_at a b (length a) refl) ∙ ap (drop (length a)) e ∙ drop_at c d (length a) (sym size))
+parts a b c d size e = (
+  sym (take_at a b (length a) refl) ∙ ap (take (length a)) e ∙ take_at c d (length a) (sym size),
+  sym (drop_at a b (length a) refl) ∙ ap (drop (length a)) e ∙ drop_at c d (length a) (sym size),
+)
 
 front-of : (xs rest : List ℕ) → Extends xs (xs ++ rest)
 front-of xs rest = record { more = rest; whole = refl }
@@ -164,7 +162,7 @@ records-one order t (f ∷ fs) [] xs ys rest last o p h s k r e =
     absurd (no_stop order t h.0 (h.1 ++ rest) f p h.2 (subst (λ (l : List ℕ). Stops order l p) same r))
 records-one order t (f ∷ fs) (g ∷ gs) xs ys rest last o p h s k r e =
     let both : h.0 ++ (h.1 ++ rest) ≡ k.0 ++ (k.1 ++ last) =
-        sym (ap (λ (l : List ℕ). l ++ rest) h.4 ∙ append_assoc h.0 h.1 rest) ∙ e ∙ ap (λ (l : List ℕ). l ++ last) k.4 ∙ append_assoc k.0 k.1 last in
+    sym (ap (λ (l : List ℕ). l ++ rest) h.4 ∙ append_assoc h.0 h.1 rest) ∙ e ∙ ap (λ (l : List ℕ). l ++ last) k.4 ∙ append_assoc k.0 k.1 last in
     let first = first-one order t h.0 (h.1 ++ rest) k.0 (k.1 ++ last) f g h.2 k.2 both in
     let on = records-one order t fs gs h.1 k.1 rest last o p h.3 s k.3 r first.1 in
     record {
@@ -184,7 +182,7 @@ header-order o p t u a b h k e =
 pcap-one : (o p : Order) (t u : LinkType) (a b : List ℕ) (fs gs : List Frame) (rest last : List ℕ) (x y : Option CaptureCode) → IsPcap a o t fs → Stops o rest x → IsPcap b p u gs → Stops p last y → a ++ rest ≡ b ++ last → One fs gs x y a b
 pcap-one o p t u a b fs gs rest last x y h s k r e =
     let both : h.header ++ (h.records ++ rest) ≡ k.header ++ (k.records ++ last) =
-        sym (ap (λ (l : List ℕ). l ++ rest) h.whole ∙ append_assoc h.header h.records rest) ∙ e ∙ ap (λ (l : List ℕ). l ++ last) k.whole ∙ append_assoc k.header k.records last in
+    sym (ap (λ (l : List ℕ). l ++ rest) h.whole ∙ append_assoc h.header h.records rest) ∙ e ∙ ap (λ (l : List ℕ). l ++ last) k.whole ∙ append_assoc k.header k.records last in
     let split = parts h.header (h.records ++ rest) k.header (k.records ++ last) (h.is_header.size ∙ sym k.is_header.size) both in
     let same = header-order o p t u h.header k.header h.is_header k.is_header split.0 in
     let stops : Stops p rest x = subst (λ (z : Order). Stops z rest x) same.0 s in

@@ -1,5 +1,5 @@
 -- Numbers in bytes of which more follow.
-use Rattle.std.proofs.Common.{◌≡◌, ◌+◌, ◌≤◌, ◌∙◌, ℕ, List, ◌++◌, length, drop, ap, arith, sym, subst}
+use Rattle.std.proofs.Common.{◌≡◌, ◌+◌, ◌≤◌, ◌∙◌, ℕ, List, length, drop, ap, arith, sym, subst}
 use Rattle.std.proofs.lemmas.List.{drop-append-le, length-drop}
 use Rattle.byteorder.specs.Endian.{big_number}
 use Rattle.byteorder.specs.Numbers.{big_from-append, little_from-append}

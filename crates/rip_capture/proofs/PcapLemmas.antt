@@ -1,9 +1,9 @@
 -- Headers and records at the front of bytes.
-use Rattle.std.proofs.Common.{◌≡◌, ◌≢◌, ◌+◌, ◌-◌, ◌*◌, ◌%◌, ◌^◌, ◌<◌, ◌≤◌, ◌⊎◌, ◌∙◌, ℕ, Bool, true, false, List, [], ◌∷◌, ◌++◌, Result, Ok, Err, Option, Some, None, length, take, drop, ap, sym, refl, inl, inr, subst, arith, append_assoc, append-nil}
-use Rattle.std.proofs.lemmas.List.{length-append, length-drop, length-take}
+use Rattle.std.proofs.Common.{◌≡◌, ◌+◌, ◌%◌, ◌^◌, ◌≤◌, ◌∙◌, ℕ, Bool, false, List, [], ◌∷◌, ◌++◌, Result, Ok, Err, length, take, drop, ap, sym, refl, inr, subst, arith, append_assoc, append-nil}
+use Rattle.std.proofs.lemmas.List.{length-drop, length-take}
 use Rattle.rip_capture.specs.Captures.FrontFault.{pcap}
 use Rattle.rip_capture.specs.Codes.{is_unread}
-use Rattle.rip_capture.specs.Finds.{FindsHeader, FindsRecord, ReadsHeader}
+use Rattle.rip_capture.specs.Finds.{FindsHeader, ReadsHeader}
 use Rattle.rip_capture.specs.LinkTypes.{number_of}
 use Rattle.rip_capture.specs.Numbers.{number_in}
 use Rattle.rip_capture.specs.Pcap.{AreRecords, Frame, IsMagic, IsPcap, IsPcapHeader, IsRecord, IsVersion, captured_len, link_number}

@@ -1,5 +1,5 @@
 -- Where a reader stands after a step.
-use Rattle.std.proofs.Common.{◌≡◌, ◌+◌, ◌≤◌, ◌⊎◌, ◌∙◌, ℕ, Bool, true, false, List, [], ◌∷◌, ◌++◌, Result, Ok, Err, Option, Some, None, length, take, drop, ap, sym, refl, inl, inr, subst, arith, append_assoc, append-nil}
+use Rattle.std.proofs.Common.{◌≡◌, ◌+◌, ◌⊎◌, ◌∙◌, ℕ, Bool, true, false, List, [], ◌∷◌, ◌++◌, Result, Ok, Err, Option, Some, None, length, take, drop, ap, sym, refl, inl, inr, subst, arith, append_assoc}
 use Rattle.std.proofs.lemmas.Bool.{false≢true}
 use Rattle.std.proofs.lemmas.List.{length-append, length-take}
 use Rattle.rip_capture.specs.Captures.{CaptureFault, FrontFault}
@@ -10,11 +10,11 @@ use Rattle.rip_capture.specs.Feeds.{Keeps, Takes, held}
 use Rattle.rip_capture.specs.Finds.{FindsHeader, FindsRecord}
 use Rattle.rip_log.proofs.WholeLemmas.{went_on}
 use Rattle.rip_capture.specs.NextCall.{EndsHere, HasRead, IsOver, Runs, Stands, StopsAt, TakesPacket, has_begun, source_of}
-use Rattle.rip_capture.specs.Pcap.{Frame, IsPcap, IsPcapHeader, RecordFault}
+use Rattle.rip_capture.specs.Pcap.{Frame, IsPcap, RecordFault}
 use Rattle.rip_capture.specs.Steps.{Begins, frame_at, place_at}
 use Rattle.rip_capture.proofs.PcapLemmas.{IsPcap-none, IsPcap-snoc, record-of}
 use Rattle.rip_capture.specs.declared.error.CaptureCode.{CaptureCode}
-use Rattle.rip_capture.specs.declared.error.CaptureCode.TheVariants.{Cut, Read}
+use Rattle.rip_capture.specs.declared.error.CaptureCode.TheVariants.{Read}
 use Rattle.rip_capture.specs.declared.error.CaptureError.{CaptureError}
 use Rattle.rip_capture.specs.declared.feed.Feed.{Feed}
 use Rattle.rip_capture.specs.declared.pcap.PcapHeader.{PcapHeader}
@@ -45,7 +45,7 @@ TakesPacket-found given before taken frames frame old new mid h n at_end was is 
     let more = take (16 + n) (held mid) in
     let right : IsPcap taken h.order h.link_type frames = subst (λ (f : Format). HasRead f taken frames) was s.read in
     let one = subst (λ (f : Frame). IsPcap (taken ++ more) h.order h.link_type (frames ++ f ∷ [])) (sym frame_is)
-        (IsPcap-snoc h.order h.link_type taken more (record { link_type = h.link_type; bytes = drop 16 more }) frames right (record-of h.order h.link_type (held mid) n finds.0 finds.1 finds.2)) in
+    (IsPcap-snoc h.order h.link_type taken more (record { link_type = h.link_type; bytes = drop 16 more }) frames right (record-of h.order h.link_type (held mid) n finds.0 finds.1 finds.2)) in
     record {
       front = taken;
       bytes = more;

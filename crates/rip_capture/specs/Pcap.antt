@@ -1,5 +1,5 @@
 -- The header and the records of a pcap file (draft-ietf-opsawg-pcap, sections 4 and 5).
-use Rattle.std.specs.Prelude.{◌≡◌, ◌≢◌, ◌⊎◌, ◌<◌, ◌≤◌, ◌+◌, ◌++◌, ◌%◌, ◌^◌, ℕ, List, [], ◌∷◌, length, drop}
+use Rattle.std.specs.Prelude.{◌≡◌, ◌⊎◌, ◌<◌, ◌≤◌, ◌+◌, ◌++◌, ◌%◌, ◌^◌, ℕ, List, [], ◌∷◌, length, drop}
 use Rattle.rip_wire.specs.Fields.{number_at}
 use Rattle.rip_capture.specs.LinkTypes.{IsNoType, number_of}
 use Rattle.rip_capture.specs.Numbers.{number_in, short_in}

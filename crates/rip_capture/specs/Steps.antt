@@ -1,5 +1,5 @@
 -- What the parts of a call of `next` do.
-use Rattle.std.specs.Prelude.{◌≡◌, ◌++◌, ℕ, Bool, List, [], Option, Result, Ok, Err, IfOk, vec_len}
+use Rattle.std.specs.Prelude.{◌≡◌, ℕ, Bool, List, Option, Result, Ok, Err, IfOk, vec_len}
 use Rattle.rip_capture.specs.NextCall.{Moves, Stands, StopsAt, refusal_of}
 use Rattle.rip_capture.specs.Pcap.{Frame}
 use Rattle.rip_capture.specs.Spans.{IsWithin, slice_of}

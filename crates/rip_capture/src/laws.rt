@@ -10,8 +10,8 @@ ghost use Rattle.rip_capture.specs.declared.link.LinkType.{LinkType};
 ghost use Rattle.rip_capture.specs.declared.packet.Carried.{Carried};
 
 use crate::limits::{
-    FILE_HEADER, GROUP, IP_HEADER, MAGIC_LEN, MOST_CAPTURED, MOST_PAYLOAD, PORT, RECORD_HEADER, UDP,
-    UDP_HEADER,
+    FILE_HEADER, GROUP, IP_HEADER, MAGIC_LEN, MOST_CAPTURED, MOST_PAYLOAD, PORT, RECORD_HEADER,
+    UDP, UDP_HEADER,
 };
 
 /// The numbers of RIP over IPv4, and the most bytes of a datagram.

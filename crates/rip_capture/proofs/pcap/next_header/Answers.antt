@@ -1,4 +1,4 @@
-use Rattle.std.proofs.Common.{arith, ◌∙◌, ◌≡◌, ◌≤◌, ℕ, List, Ok, length, sym, ap, inr, refl, subst}
+use Rattle.std.proofs.Common.{arith, ℕ, List, Ok, ap, inr, refl, subst}
 use Rattle.rip_log.proofs.WholeLemmas.{went_on}
 use Rattle.rip_capture.proofs.FeedLemmas.{Extends-length}
 use Rattle.rip_capture.proofs.NumberLemmas.{magic-stays}

@@ -1,4 +1,4 @@
-use Rattle.std.proofs.Common.{arith, ◌∙◌, ◌≡◌, ◌+◌, ◌≤◌, Ok, sym, ap, inr, refl}
+use Rattle.std.proofs.Common.{arith, ◌∙◌, Ok, sym, ap, inr, refl}
 use Rattle.rip_log.proofs.WholeLemmas.{went_on}
 use Rattle.rip_capture.proofs.FeedLemmas.{Extends-length}
 use Rattle.rip_capture.proofs.NumberLemmas.{number-stays}

@@ -1,6 +1,5 @@
-use Rattle.std.proofs.Common.{◌≡◌, ◌∙◌, None, Option, Some, refl, sym}
+use Rattle.std.proofs.Common.{◌≡◌, ◌∙◌, None, Some, refl, sym}
 use Rattle.rip_capture.proofs.ReaderLemmas.{Runs-refused}
-use Rattle.rip_capture.specs.declared.error.CaptureError.{CaptureError}
 use Rattle.rip_capture.specs.declared.reader.CaptureReader.{CaptureReader}
 use Rattle.rip_capture.proofs.reader.CaptureReader.advance.Goals as goal
 

@@ -1,9 +1,8 @@
-use Rattle.std.proofs.Common.{◌≡◌, ◌+◌, ◌≤◌, ◌∙◌, ℕ, List, ap, arith, drop, inl, refl, subst, sym, take}
+use Rattle.std.proofs.Common.{◌+◌, ◌≤◌, ◌∙◌, ℕ, List, ap, arith, drop, inl, refl, subst, sym}
 use Rattle.std.proofs.lemmas.Bool.{false≢true}
 use Rattle.rip_log.specs.Wholes.{Went}
 use Rattle.rip_capture.proofs.FeedLemmas.{range-drop}
 use Rattle.rip_capture.proofs.ReaderLemmas.{EndsHere-found, StopsAt-record, TakesPacket-found}
-use Rattle.rip_capture.specs.Feeds.{held}
 use Rattle.rip_capture.specs.NextCall.{has_begun}
 use Rattle.rip_capture.specs.Pcap.{Frame}
 use Rattle.rip_capture.specs.declared.reader.CaptureReader.{CaptureReader}
