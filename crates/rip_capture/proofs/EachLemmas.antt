@@ -1,0 +1,209 @@
+-- Each file is a capture or has a fault.
+use Rattle.std.proofs.Common.{◌≡◌, ◌≢◌, ◌+◌, ◌<◌, ◌≤◌, ◌⊎◌, ◌∙◌, ℕ, zero, suc, List, [], ◌∷◌, ◌++◌, Option, Some, None, length, take, drop, ap, sym, refl, inl, inr, subst, arith, append_assoc, append-nil}
+use Rattle.std.proofs.lemmas.Bool.{cases_eq, cases_lt}
+use Rattle.std.proofs.lemmas.List.{length-drop, nil_from_length, take-append-drop}
+use Rattle.rip_wire.specs.Fields.{number_at}
+use Rattle.rip_capture.specs.Captures.{CaptureFault, FrontFault, HasMagic, IsCapture}
+use Rattle.rip_capture.specs.Captures.CaptureFault.{front as at_front, pcap as in_pcap}
+use Rattle.rip_capture.specs.Captures.FrontFault.{short as too_short, magic as no_kind, pcap as pcap_front}
+use Rattle.rip_capture.specs.Captures.HasMagic.{pcap as pcap_kind}
+use Rattle.rip_capture.specs.Captures.IsCapture.{pcap as pcap_capture}
+use Rattle.rip_capture.specs.LinkTypes.{IsNoType, number_of}
+use Rattle.rip_capture.specs.Numbers.{short_in}
+use Rattle.rip_capture.specs.Pcap.{AreRecords, Frame, IsMagic, IsPcap, IsPcapHeader, IsRecord, IsVersion, RecordFault, captured_len, link_number}
+use Rattle.rip_capture.specs.Pcap.HeaderFault.{cut as cut_header, version as bad_version, link_type as bad_type}
+use Rattle.rip_capture.specs.Pcap.RecordFault.{header as short_record, long as long_record, packet as cut_record}
+use Rattle.rip_capture.proofs.PcapLemmas.{header-front, record-of}
+use Rattle.rip_capture.specs.declared.error.CaptureCode.{CaptureCode}
+use Rattle.rip_capture.specs.declared.error.CaptureCode.TheVariants as codes
+use Rattle.rip_capture.specs.declared.link.LinkType.{LinkType}
+use Rattle.rip_capture.specs.declared.link.LinkType.TheVariants.{Null, Ethernet, Raw, Loop, LinuxSll, Ipv4, LinuxSll2}
+use Rattle.rip_capture.specs.declared.numbers.Order.{Order}
+use Rattle.rip_capture.specs.declared.numbers.Order.TheVariants.{Big, Little}
+
+-- ---- a link type, a version, a beginning, or none
+
+pub no_type : (n : ℕ) → 0 ≢ n → 1 ≢ n → 101 ≢ n → 108 ≢ n → 113 ≢ n → 228 ≢ n → 276 ≢ n → IsNoType n
+no_type n a b c d e f g Null is = a is
+no_type n a b c d e f g Ethernet is = b is
+no_type n a b c d e f g Raw is = c is
+no_type n a b c d e f g Loop is = d is
+no_type n a b c d e f g LinuxSll is = e is
+no_type n a b c d e f g Ipv4 is = f is
+no_type n a b c d e f g LinuxSll2 is = g is
+
+abbrev HasType : ℕ → Type 0
+HasType n = (t : LinkType) × (number_of t ≡ n)
+
+type-cases : (n : ℕ) → HasType n ⊎ IsNoType n
+type-cases n =
+    elim (cases_eq 0 n) [
+      | inl is ↦ inl (Null, is)
+      | inr a ↦
+          elim (cases_eq 1 n) [
+            | inl is ↦ inl (Ethernet, is)
+            | inr b ↦
+                elim (cases_eq 101 n) [
+                  | inl is ↦ inl (Raw, is)
+                  | inr c ↦
+                      elim (cases_eq 108 n) [
+                        | inl is ↦ inl (Loop, is)
+                        | inr d ↦
+                            elim (cases_eq 113 n) [
+                              | inl is ↦ inl (LinuxSll, is)
+                              | inr e ↦
+                                  elim (cases_eq 228 n) [
+                                    | inl is ↦ inl (Ipv4, is)
+                                    | inr f ↦
+                                        elim (cases_eq 276 n) [ inl is ↦ inl (LinuxSll2, is) | inr g ↦ inr (no_type n a b c d e f g) ]
+                                  ]
+                            ]
+                      ]
+                ]
+          ]
+    ]
+
+version-cases : (o : Order) (b : List ℕ) → IsVersion o b ⊎ ¬ IsVersion o b
+version-cases o b =
+    elim (cases_eq (short_in o 4 b) 2) [
+      | inr none ↦ inr (λ v. none v.major)
+      | inl major ↦
+          elim (cases_eq (short_in o 6 b) 4) [ inr none ↦ inr (λ v. none v.minor) | inl minor ↦ inl (record { major = major; minor = minor }) ]
+    ]
+
+no_magic : (b : List ℕ) → number_at 4 0 b ≢ 0xA1B2C3D4 → number_at 4 0 b ≢ 0xA1B23C4D → number_at 4 0 b ≢ 0xD4C3B2A1 → number_at 4 0 b ≢ 0x4D3CB2A1 → HasMagic b → ⊥
+no_magic b a c d e (pcap_kind Big (inl is)) = a is
+no_magic b a c d e (pcap_kind Big (inr is)) = c is
+no_magic b a c d e (pcap_kind Little (inl is)) = d is
+no_magic b a c d e (pcap_kind Little (inr is)) = e is
+
+abbrev HasOrder : List ℕ → Type 0
+HasOrder b = (o : Order) × IsMagic o b
+
+magic-cases : (b : List ℕ) → HasOrder b ⊎ ¬ HasMagic b
+magic-cases b =
+    elim (cases_eq (number_at 4 0 b) 0xA1B2C3D4) [
+      | inl is ↦ inl (Big, inl is)
+      | inr a ↦
+          elim (cases_eq (number_at 4 0 b) 0xA1B23C4D) [
+            | inl is ↦ inl (Big, inr is)
+            | inr c ↦
+                elim (cases_eq (number_at 4 0 b) 0xD4C3B2A1) [
+                  | inl is ↦ inl (Little, inl is)
+                  | inr d ↦
+                      elim (cases_eq (number_at 4 0 b) 0x4D3CB2A1) [ inl is ↦ inl (Little, inr is) | inr e ↦ inr (no_magic b a c d e) ]
+                ]
+          ]
+    ]
+
+-- ---- records, up to their end
+
+abbrev Stops : Order → List ℕ → Option CaptureCode → Type 0
+Stops order rest None = rest ≡ []
+Stops order rest (Some code) = RecordFault order rest code
+
+-- bytes are records, and end so
+record Walk (o : Order) (t : LinkType) (b : List ℕ) : Type 0 where
+  frames : List Frame
+  records : List ℕ
+  rest : List ℕ
+  ends : Option CaptureCode
+  are : AreRecords o t records frames
+  stops : Stops o rest ends
+  whole : b ≡ records ++ rest
+
+walk-end : (o : Order) (t : LinkType) (b : List ℕ) (ends : Option CaptureCode) → Stops o b ends → Walk o t b
+walk-end o t b ends stops = record { frames = []; records = []; rest = b; ends = ends; are = refl; stops = stops; whole = refl }
+
+walk-more : (o : Order) (t : LinkType) (first b : List ℕ) (frame : Frame) → IsRecord o t first frame → Walk o t b → Walk o t (first ++ b)
+walk-more o t first b frame is w = record {
+  frames = frame ∷ w.frames;
+  records = first ++ w.records;
+  rest = w.rest;
+  ends = w.ends;
+  are = (first, w.records, is, w.are, refl);
+  stops = w.stops;
+  whole = ap (λ (l : List ℕ). first ++ l) w.whole ∙ sym (append_assoc first w.records w.rest);
+}
+
+walk-on : (o : Order) (t : LinkType) (b : List ℕ) (n : ℕ) → IsRecord o t (take (16 + n) b) (record { link_type = t; bytes = drop 16 (take (16 + n) b) }) → Walk o t (drop (16 + n) b) → Walk o t b
+walk-on o t b n is w =
+    subst (λ (l : List ℕ). Walk o t l) (take-append-drop (16 + n) b) (walk-more o t (take (16 + n) b) (drop (16 + n) b) (record { link_type = t; bytes = drop 16 (take (16 + n) b) }) is w)
+
+walk : (fuel : ℕ) (o : Order) (t : LinkType) (b : List ℕ) → length b < fuel → Walk o t b
+walk zero o t b less = absurd (omega arith)
+walk (suc fuel) o t b less =
+    elim (cases_lt 0 (length b)) [
+      | inr none ↦ walk-end o t b None (nil_from_length b (omega arith))
+      | inl some ↦
+          elim (cases_lt (length b) 16) [
+            | inl short ↦ walk-end o t b (Some codes.Cut) (short_record some short refl)
+            | inr room ↦
+                elim (cases_lt 262144 (captured_len o b)) [
+                  | inl long ↦ walk-end o t b (Some codes.Length) (long_record room long refl)
+                  | inr few ↦
+                      elim (cases_lt (length b) (16 + captured_len o b)) [
+                        | inl cut ↦ walk-end o t b (Some codes.Cut) (cut_record room few cut refl)
+                        | inr inside ↦
+                            walk-on o t b (captured_len o b) (record-of o t b (captured_len o b) inside refl few) (walk fuel o t (drop (16 + captured_len o b) b) (omega (arith, less, length-drop (16 + captured_len o b) b)))
+                      ]
+                ]
+          ]
+    ]
+
+-- ---- files
+
+pub record HasFault (b : List ℕ) : Type 0 where
+  pub frames : List Frame
+  pub code : CaptureCode
+  pub at : ℕ
+  pub is : CaptureFault b frames code at
+
+abbrev HasFrames : List ℕ → Type 0
+HasFrames b = (frames : List Frame) × IsCapture b frames
+
+front-faulty : (b : List ℕ) (code : CaptureCode) → FrontFault b code → HasFault b
+front-faulty b code f = record { frames = []; code = code; at = 0; is = at_front refl refl f }
+
+-- behind its header
+ends-as : (o : Order) (t : LinkType) (b : List ℕ) (frames : List Frame) (right rest : List ℕ) (ends : Option CaptureCode) → IsPcap right o t frames → Stops o rest ends → b ≡ right ++ rest → HasFrames b ⊎ HasFault b
+ends-as o t b frames right rest None is stops whole =
+    inl (frames, pcap_capture o t (subst (λ (l : List ℕ). IsPcap l o t frames) (sym (whole ∙ ap (λ (l : List ℕ). right ++ l) stops ∙ append-nil right)) is))
+ends-as o t b frames right rest (Some code) is stops whole =
+    inr (record { frames = frames; code = code; at = length right; is = in_pcap o t right rest whole is refl stops })
+
+behind-header : (o : Order) (t : LinkType) (b : List ℕ) → IsPcapHeader (take 24 b) o t → Walk o t (drop 24 b) → HasFrames b ⊎ HasFault b
+behind-header o t b header w =
+    ends-as o t b w.frames (take 24 b ++ w.records) w.rest w.ends
+    (record { header = take 24 b; records = w.records; is_header = header; are_records = w.are; whole = refl })
+    w.stops
+    (sym (take-append-drop 24 b) ∙ ap (λ (l : List ℕ). take 24 b ++ l) w.whole ∙ sym (append_assoc (take 24 b) w.records w.rest))
+
+-- behind its first four bytes
+behind-magic : (o : Order) (b : List ℕ) → 4 ≤ length b → IsMagic o b → HasFrames b ⊎ HasFault b
+behind-magic o b begun magic =
+    elim (cases_lt (length b) 24) [
+      | inl cut ↦ inr (front-faulty b codes.Cut (pcap_front o begun magic (cut_header cut refl)))
+      | inr room ↦
+          elim (version-cases o b) [
+            | inr none ↦ inr (front-faulty b codes.Version (pcap_front o begun magic (bad_version room none refl)))
+            | inl version ↦
+                elim (type-cases (link_number o b)) [
+                  | inr none ↦ inr (front-faulty b codes.LinkType (pcap_front o begun magic (bad_type room version none refl)))
+                  | inl has ↦
+                      behind-header o has.0 b (header-front o has.0 b room magic version has.1) (walk (suc (length b)) o has.0 (drop 24 b) (omega (arith, length-drop 24 b)))
+                ]
+          ]
+    ]
+
+pub each : (b : List ℕ) → HasFrames b ⊎ HasFault b
+each b =
+    elim (cases_lt (length b) 4) [
+      | inl less ↦ inr (front-faulty b codes.Cut (too_short less refl))
+      | inr begun ↦
+          elim (magic-cases b) [
+            | inr none ↦ inr (front-faulty b codes.Magic (no_kind begun none refl))
+            | inl has ↦
+                behind-magic has.0 b begun has.1
+          ]
+    ]

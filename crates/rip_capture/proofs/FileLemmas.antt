@@ -1,0 +1,290 @@
+-- A file is one capture, or has one fault.
+use Rattle.std.proofs.Common.{◌≡◌, ◌≢◌, ◌+◌, ◌%◌, ◌^◌, ◌<◌, ◌≤◌, ◌∙◌, ℕ, cond, eqb, List, [], ◌∷◌, ◌++◌, Option, Some, None, length, take, drop, ap, sym, refl, inl, inr, subst, arith, append_assoc, append-nil}
+use Rattle.std.proofs.lemmas.List.{drop_at, length-append, length-drop, take_at}
+use Rattle.rip_wire.specs.Fields.{number_at}
+use Rattle.rip_capture.specs.Captures.{CaptureFault, FrontFault, HasMagic, IsCapture}
+use Rattle.rip_capture.specs.Captures.CaptureFault.{front as at_front, pcap as in_pcap}
+use Rattle.rip_capture.specs.Captures.FrontFault.{short as too_short, magic as no_kind, pcap as pcap_front}
+use Rattle.rip_capture.specs.Captures.HasMagic.{pcap as pcap_kind}
+use Rattle.rip_capture.specs.Captures.IsCapture.{pcap as pcap_capture}
+use Rattle.rip_capture.specs.Feeds.{Extends}
+use Rattle.rip_capture.specs.LinkTypes.{number_of}
+use Rattle.rip_capture.specs.Pcap.{AreRecords, Frame, HeaderFault, IsMagic, IsMagicNumber, IsPcap, IsPcapHeader, IsRecord, RecordFault, captured_len, link_number}
+use Rattle.rip_capture.specs.Pcap.HeaderFault.{cut as cut_header, version as bad_version, link_type as bad_type}
+use Rattle.rip_capture.specs.Pcap.RecordFault.{header as short_record, long as long_record, packet as cut_record}
+use Rattle.rip_capture.proofs.NumberLemmas.{magic-front, magic-stays, number-stays, version-front, version-stays}
+use Rattle.rip_capture.specs.declared.error.CaptureCode.{CaptureCode}
+use Rattle.rip_capture.specs.declared.error.CaptureCode.TheVariants as codes
+use Rattle.rip_capture.specs.declared.link.LinkType.{LinkType}
+use Rattle.rip_capture.specs.declared.link.LinkType.TheVariants.{Null, Ethernet, Raw, Loop, LinuxSll, Ipv4, LinuxSll2}
+use Rattle.rip_capture.specs.declared.numbers.Order.{Order}
+use Rattle.rip_capture.specs.declared.numbers.Order.TheVariants.{Big, Little}
+
+-- ---- parts of lists
+
+-- two lists with fronts of one length
+parts : (a b c d : List ℕ) → length a ≡ length c → a ++ b ≡ c ++ d → (a ≡ c) × (b ≡ d)
+parts a b c d size e = (
+  sym (take_at a b (length a) refl) ∙ ap (take (length a)) e ∙ take_at c d (length a) (sym size),
+  sym (drop_at a b (length a) refl) ∙ ap (drop (length a)) e ∙ drop_at c d (length a) (sym size),
+)
+
+front-of : (xs rest : List ℕ) → Extends xs (xs ++ rest)
+front-of xs rest = record { more = rest; whole = refl }
+
+-- ---- one byte order, one link type
+
+no_order : (n : ℕ) → IsMagicNumber Big n → IsMagicNumber Little n → ⊥
+no_order n (inl a) (inl b) = omega arith
+no_order n (inl a) (inr b) = omega arith
+no_order n (inr a) (inl b) = omega arith
+no_order n (inr a) (inr b) = omega arith
+
+one_order : (o p : Order) (n : ℕ) → IsMagicNumber o n → IsMagicNumber p n → o ≡ p
+one_order Big Big n a b = refl
+one_order Big Little n a b = absurd (no_order n a b)
+one_order Little Big n a b = absurd (no_order n b a)
+one_order Little Little n a b = refl
+
+type_of : ℕ → Option LinkType
+type_of n =
+    cond (eqb n 0) (Some Null)
+    (cond (eqb n 1) (Some Ethernet)
+    (cond (eqb n 101) (Some Raw)
+    (cond (eqb n 108) (Some Loop)
+    (cond (eqb n 113) (Some LinuxSll)
+    (cond (eqb n 228) (Some Ipv4)
+    (cond (eqb n 276) (Some LinuxSll2) None))))))
+
+type_of-number : (t : LinkType) → type_of (number_of t) ≡ Some t
+unfolding type_of
+type_of-number Null = refl
+type_of-number Ethernet = refl
+type_of-number Raw = refl
+type_of-number Loop = refl
+type_of-number LinuxSll = refl
+type_of-number Ipv4 = refl
+type_of-number LinuxSll2 = refl
+
+one_type : (t u : LinkType) → number_of t ≡ number_of u → t ≡ u
+one_type t u e =
+    let same : Some t ≡ Some u = sym (type_of-number t) ∙ ap type_of e ∙ type_of-number u in
+    cc same
+
+-- ---- one fault of a header, and of a record
+
+HeaderFault-one : (order : Order) (b : List ℕ) (c d : CaptureCode) → HeaderFault order b c → HeaderFault order b d → c ≡ d
+HeaderFault-one order b c d (cut_header less e) (cut_header less' e') = e ∙ sym e'
+HeaderFault-one order b c d (cut_header less e) (bad_version room bad e') = absurd (omega arith)
+HeaderFault-one order b c d (cut_header less e) (bad_type room v none e') = absurd (omega arith)
+HeaderFault-one order b c d (bad_version room bad e) (cut_header less e') = absurd (omega arith)
+HeaderFault-one order b c d (bad_version room bad e) (bad_version room' bad' e') = e ∙ sym e'
+HeaderFault-one order b c d (bad_version room bad e) (bad_type room' v none e') = absurd (bad v)
+HeaderFault-one order b c d (bad_type room v none e) (cut_header less e') = absurd (omega arith)
+HeaderFault-one order b c d (bad_type room v none e) (bad_version room' bad e') = absurd (bad v)
+HeaderFault-one order b c d (bad_type room v none e) (bad_type room' v' none' e') = e ∙ sym e'
+
+RecordFault-one : (order : Order) (b : List ℕ) (c d : CaptureCode) → RecordFault order b c → RecordFault order b d → c ≡ d
+RecordFault-one order b c d (short_record some less e) (short_record some' less' e') = e ∙ sym e'
+RecordFault-one order b c d (short_record some less e) (long_record room more e') = absurd (omega arith)
+RecordFault-one order b c d (short_record some less e) (cut_record room few less' e') = absurd (omega arith)
+RecordFault-one order b c d (long_record room more e) (short_record some less e') = absurd (omega arith)
+RecordFault-one order b c d (long_record room more e) (long_record room' more' e') = e ∙ sym e'
+RecordFault-one order b c d (long_record room more e) (cut_record room' few less e') = absurd (omega arith)
+RecordFault-one order b c d (cut_record room few less e) (short_record some less' e') = absurd (omega arith)
+RecordFault-one order b c d (cut_record room few less e) (long_record room' more e') = absurd (omega arith)
+RecordFault-one order b c d (cut_record room few less e) (cut_record room' few' less' e') = e ∙ sym e'
+
+-- ---- how records end: with the file, or at a fault
+
+abbrev Stops : Order → List ℕ → Option CaptureCode → Type 0
+Stops order rest None = rest ≡ []
+Stops order rest (Some code) = RecordFault order rest code
+
+fault-some : (order : Order) (b : List ℕ) (code : CaptureCode) → RecordFault order b code → 0 < length b
+fault-some order b code (short_record some less e) = some
+fault-some order b code (long_record room more e) = omega arith
+fault-some order b code (cut_record room few less e) = omega arith
+
+Stops-one : (order : Order) (rest : List ℕ) (o p : Option CaptureCode) → Stops order rest o → Stops order rest p → o ≡ p
+Stops-one order rest None None h k = refl
+Stops-one order rest None (Some d) h k = absurd (omega (arith, ap length h, fault-some order rest d k))
+Stops-one order rest (Some c) None h k = absurd (omega (arith, ap length k, fault-some order rest c h))
+Stops-one order rest (Some c) (Some d) h k = ap Some (RecordFault-one order rest c d h k)
+
+-- how long a record is
+record-size : (order : Order) (t : LinkType) (first : List ℕ) (frame : Frame) → IsRecord order t first frame → length first ≡ 16 + captured_len order first
+record-size order t first frame is =
+    let n = is.captured ∙ ap length is.behind ∙ length-drop 16 first in
+    omega (arith, n, is.header)
+
+captured-stays : (order : Order) (t : LinkType) (first rest : List ℕ) (frame : Frame) → IsRecord order t first frame → captured_len order (first ++ rest) ≡ captured_len order first
+captured-stays order t first rest frame is = number-stays order 8 first (first ++ rest) (omega (arith, is.header)) (front-of first rest)
+
+-- no fault where a record is
+no_fault : (order : Order) (t : LinkType) (first rest : List ℕ) (frame : Frame) (code : CaptureCode) → IsRecord order t first frame → RecordFault order (first ++ rest) code → ⊥
+no_fault order t first rest frame code is (short_record some less e) = omega (arith, is.header, length-append first rest)
+no_fault order t first rest frame code is (long_record room more e) = omega (arith, captured-stays order t first rest frame is, is.captured, is.few)
+no_fault order t first rest frame code is (cut_record room few less e) =
+    omega (arith, captured-stays order t first rest frame is, record-size order t first frame is, length-append first rest)
+
+no_stop : (order : Order) (t : LinkType) (first rest : List ℕ) (frame : Frame) (o : Option CaptureCode) → IsRecord order t first frame → Stops order (first ++ rest) o → ⊥
+no_stop order t first rest frame None is h = omega (arith, is.header, ap length h, length-append first rest)
+no_stop order t first rest frame (Some code) is h = no_fault order t first rest frame code is h
+
+frame-is : (order : Order) (t : LinkType) (first : List ℕ) (frame : Frame) → IsRecord order t first frame → frame ≡ record { link_type = t; bytes = drop 16 first }
+frame-is order t first frame is =
+    let made : LinkType → List ℕ → Frame = λ u b. record { link_type = u; bytes = b } in
+    ap (λ (u : LinkType). made u frame.bytes) is.link ∙ ap (λ (b : List ℕ). made t b) is.behind
+
+-- the first record, where two are told
+first-one : (order : Order) (t : LinkType) (a b c d : List ℕ) (f g : Frame) → IsRecord order t a f → IsRecord order t c g → a ++ b ≡ c ++ d → (a ≡ c) × (b ≡ d) × (f ≡ g)
+first-one order t a b c d f g is js e =
+    let size : length a ≡ length c = omega (arith, record-size order t a f is, record-size order t c g js, captured-stays order t a b f is, captured-stays order t c d g js, ap (captured_len order) e) in
+    let p = parts a b c d size e in
+    (p.0, p.1, frame-is order t a f is ∙ ap (λ (l : List ℕ). record { link_type = t; bytes = drop 16 l }) p.0 ∙ sym (frame-is order t c g js))
+
+-- records, and how they end, are one thing
+pub record One (fs gs : List Frame) (o p : Option CaptureCode) (xs ys : List ℕ) : Type 0 where
+  pub frames : fs ≡ gs
+  pub ends : o ≡ p
+  pub size : length xs ≡ length ys
+
+records-one : (order : Order) (t : LinkType) (fs gs : List Frame) (xs ys rest last : List ℕ) (o p : Option CaptureCode) → AreRecords order t xs fs → Stops order rest o → AreRecords order t ys gs → Stops order last p → xs ++ rest ≡ ys ++ last → One fs gs o p xs ys
+records-one order t [] [] xs ys rest last o p h s k r e =
+    let same : rest ≡ last = ap (λ (l : List ℕ). l ++ rest) (sym h) ∙ e ∙ ap (λ (l : List ℕ). l ++ last) k in
+    record { frames = refl; ends = Stops-one order last o p (subst (λ (l : List ℕ). Stops order l o) same s) r; size = ap length (h ∙ sym k) }
+records-one order t [] (g ∷ gs) xs ys rest last o p h s k r e =
+    let same : rest ≡ k.0 ++ (k.1 ++ last) = ap (λ (l : List ℕ). l ++ rest) (sym h) ∙ e ∙ ap (λ (l : List ℕ). l ++ last) k.4 ∙ append_assoc k.0 k.1 last in
+    absurd (no_stop order t k.0 (k.1 ++ last) g o k.2 (subst (λ (l : List ℕ). Stops order l o) same s))
+records-one order t (f ∷ fs) [] xs ys rest last o p h s k r e =
+    let same : last ≡ h.0 ++ (h.1 ++ rest) = ap (λ (l : List ℕ). l ++ last) (sym k) ∙ sym e ∙ ap (λ (l : List ℕ). l ++ rest) h.4 ∙ append_assoc h.0 h.1 rest in
+    absurd (no_stop order t h.0 (h.1 ++ rest) f p h.2 (subst (λ (l : List ℕ). Stops order l p) same r))
+records-one order t (f ∷ fs) (g ∷ gs) xs ys rest last o p h s k r e =
+    let both : h.0 ++ (h.1 ++ rest) ≡ k.0 ++ (k.1 ++ last) =
+    sym (ap (λ (l : List ℕ). l ++ rest) h.4 ∙ append_assoc h.0 h.1 rest) ∙ e ∙ ap (λ (l : List ℕ). l ++ last) k.4 ∙ append_assoc k.0 k.1 last in
+    let first = first-one order t h.0 (h.1 ++ rest) k.0 (k.1 ++ last) f g h.2 k.2 both in
+    let on = records-one order t fs gs h.1 k.1 rest last o p h.3 s k.3 r first.1 in
+    record {
+      frames = ap (λ (x : Frame). x ∷ fs) first.2 ∙ ap (λ (l : List Frame). g ∷ l) on.frames;
+      ends = on.ends;
+      size = ap length h.4 ∙ length-append h.0 h.1 ∙ omega (arith, ap length first.0, on.size) ∙ sym (length-append k.0 k.1) ∙ sym (ap length k.4);
+    }
+
+-- ---- whole files
+
+header-order : (o p : Order) (t u : LinkType) (a b : List ℕ) → IsPcapHeader a o t → IsPcapHeader b p u → a ≡ b → (o ≡ p) × (t ≡ u)
+header-order o p t u a b h k e =
+    let orders : o ≡ p = one_order o p (number_at 4 0 b) (subst (λ (l : List ℕ). IsMagic o l) e h.magic) k.magic in
+    (orders, one_type t u (h.link ∙ ap (link_number o) e ∙ ap (λ (x : Order). link_number x b) orders ∙ sym k.link))
+
+-- files that begin with the same bytes, and how they end
+pcap-one : (o p : Order) (t u : LinkType) (a b : List ℕ) (fs gs : List Frame) (rest last : List ℕ) (x y : Option CaptureCode) → IsPcap a o t fs → Stops o rest x → IsPcap b p u gs → Stops p last y → a ++ rest ≡ b ++ last → One fs gs x y a b
+pcap-one o p t u a b fs gs rest last x y h s k r e =
+    let both : h.header ++ (h.records ++ rest) ≡ k.header ++ (k.records ++ last) =
+    sym (ap (λ (l : List ℕ). l ++ rest) h.whole ∙ append_assoc h.header h.records rest) ∙ e ∙ ap (λ (l : List ℕ). l ++ last) k.whole ∙ append_assoc k.header k.records last in
+    let split = parts h.header (h.records ++ rest) k.header (k.records ++ last) (h.is_header.size ∙ sym k.is_header.size) both in
+    let same = header-order o p t u h.header k.header h.is_header k.is_header split.0 in
+    let stops : Stops p rest x = subst (λ (z : Order). Stops z rest x) same.0 s in
+    let records : AreRecords p u h.records fs = subst (λ (z : LinkType). AreRecords p z h.records fs) same.1 (subst (λ (z : Order). AreRecords z t h.records fs) same.0 h.are_records) in
+    let on = records-one p u fs gs h.records k.records rest last x y records stops k.are_records r split.1 in
+    record {
+      frames = on.frames;
+      ends = on.ends;
+      size = ap length h.whole ∙ length-append h.header h.records ∙ omega (arith, h.is_header.size, k.is_header.size, on.size) ∙ sym (length-append k.header k.records) ∙ sym (ap length k.whole);
+    }
+
+-- a front that is right has no fault
+header-size : (b : List ℕ) (o : Order) (t : LinkType) (fs : List Frame) → IsPcap b o t fs → 24 ≤ length b
+header-size b o t fs h = omega (arith, ap length h.whole, length-append h.header h.records, h.is_header.size)
+
+header-on : (b : List ℕ) (o : Order) (t : LinkType) (fs : List Frame) (rest : List ℕ) (h : IsPcap b o t fs) → Extends h.header (b ++ rest)
+header-on b o t fs rest h = record {
+  more = h.records ++ rest;
+  whole = ap (λ (l : List ℕ). l ++ rest) h.whole ∙ append_assoc h.header h.records rest;
+}
+
+no_header_fault : (b : List ℕ) (o : Order) (t : LinkType) (fs : List Frame) (rest : List ℕ) (code : CaptureCode) → IsPcap b o t fs → HeaderFault o (b ++ rest) code → ⊥
+no_header_fault b o t fs rest code h (cut_header less e) = omega (arith, length-append b rest, header-size b o t fs h)
+no_header_fault b o t fs rest code h (bad_version room bad e) =
+    bad (version-stays o h.header (b ++ rest) (omega (arith, h.is_header.size)) (header-on b o t fs rest h) h.is_header.version)
+no_header_fault b o t fs rest code h (bad_type room v none e) =
+    none t (h.is_header.link ∙ ap (λ (n : ℕ). n % 2 ^ 26) (sym (number-stays o 20 h.header (b ++ rest) (omega (arith, h.is_header.size)) (header-on b o t fs rest h))))
+
+no_front_fault : (b : List ℕ) (o : Order) (t : LinkType) (fs : List Frame) (rest : List ℕ) (code : CaptureCode) → IsPcap b o t fs → FrontFault (b ++ rest) code → ⊥
+no_front_fault b o t fs rest code h (too_short less e) = omega (arith, length-append b rest, header-size b o t fs h)
+no_front_fault b o t fs rest code h (no_kind room none e) =
+    none (pcap_kind o (magic-stays o h.header (b ++ rest) (omega (arith, h.is_header.size)) (header-on b o t fs rest h) h.is_header.magic))
+no_front_fault b o t fs rest code h (pcap_front p room magic f) =
+    let here = magic-stays o h.header (b ++ rest) (omega (arith, h.is_header.size)) (header-on b o t fs rest h) h.is_header.magic in
+    let same : p ≡ o = one_order p o (number_at 4 0 (b ++ rest)) magic here in
+    no_header_fault b o t fs rest code h (subst (λ (z : Order). HeaderFault z (b ++ rest) code) same f)
+
+FrontFault-one : (b : List ℕ) (c d : CaptureCode) → FrontFault b c → FrontFault b d → c ≡ d
+FrontFault-one b c d (too_short less e) (too_short less' e') = e ∙ sym e'
+FrontFault-one b c d (too_short less e) (no_kind room none e') = absurd (omega arith)
+FrontFault-one b c d (too_short less e) (pcap_front p room magic f) = absurd (omega arith)
+FrontFault-one b c d (no_kind room none e) (too_short less e') = absurd (omega arith)
+FrontFault-one b c d (no_kind room none e) (no_kind room' none' e') = e ∙ sym e'
+FrontFault-one b c d (no_kind room none e) (pcap_front p room' magic f) = absurd (none (pcap_kind p magic))
+FrontFault-one b c d (pcap_front p room magic f) (too_short less e') = absurd (omega arith)
+FrontFault-one b c d (pcap_front p room magic f) (no_kind room' none e') = absurd (none (pcap_kind p magic))
+FrontFault-one b c d (pcap_front p room magic f) (pcap_front q room' magic' g) =
+    HeaderFault-one q b c d (subst (λ (z : Order). HeaderFault z b c) (one_order p q (number_at 4 0 b) magic magic') f) g
+
+-- ---- the laws
+
+pub captures-one : (b : List ℕ) (fs gs : List Frame) → IsCapture b fs → IsCapture b gs → fs ≡ gs
+captures-one b fs gs (pcap_capture o t h) (pcap_capture p u k) =
+    (pcap-one o p t u b b fs gs [] [] None None h refl k refl refl).frames
+
+pub capture-right : (b : List ℕ) (fs gs : List Frame) (code : CaptureCode) (at : ℕ) → IsCapture b fs → CaptureFault b gs code at → ⊥
+capture-right b fs gs code at (pcap_capture o t h) (at_front none start f) =
+    no_front_fault b o t fs [] code h (subst (λ (l : List ℕ). FrontFault l code) (sym (append-nil b)) f)
+capture-right b fs gs code at (pcap_capture o t h) (in_pcap p u right rest whole k place f) =
+    cc ((pcap-one o p t u b right fs gs [] rest None (Some code) h refl k f (append-nil b ∙ whole)).ends)
+
+same_code : (c d : CaptureCode) → Some c ≡ Some d → c ≡ d
+same_code c d e = cc e
+
+pub faults-one : (b : List ℕ) (fs gs : List Frame) (c d : CaptureCode) (at there : ℕ) → CaptureFault b fs c at → CaptureFault b gs d there → (fs ≡ gs) × (c ≡ d) × (at ≡ there)
+faults-one b fs gs c d at there (at_front none start f) (at_front none' start' g) =
+    (none ∙ sym none', FrontFault-one b c d f g, start ∙ sym start')
+faults-one b fs gs c d at there (at_front none start f) (in_pcap p u right rest whole k place g) =
+    absurd (no_front_fault right p u gs rest c k (subst (λ (l : List ℕ). FrontFault l c) whole f))
+faults-one b fs gs c d at there (in_pcap o t right rest whole h place f) (at_front none start g) =
+    absurd (no_front_fault right o t fs rest d h (subst (λ (l : List ℕ). FrontFault l d) whole g))
+faults-one b fs gs c d at there (in_pcap o t right rest whole h place f) (in_pcap p u right' rest' whole' k place' g) =
+    let one = pcap-one o p t u right right' fs gs rest rest' (Some c) (Some d) h f k g (sym whole ∙ whole') in
+    (one.frames, same_code c d one.ends, place ∙ one.size ∙ sym place')
+
+-- ---- what follows a fault
+
+header-fault-on : (o : Order) (b more : List ℕ) (code : CaptureCode) → code ≢ codes.Cut → HeaderFault o b code → HeaderFault o (b ++ more) code
+header-fault-on o b more code uncut (cut_header less e) = absurd (uncut e)
+header-fault-on o b more code uncut (bad_version room bad e) =
+    bad_version (omega (arith, room, length-append b more)) (λ v. bad (version-front o b (b ++ more) (omega (arith, room)) (front-of b more) v)) e
+header-fault-on o b more code uncut (bad_type room v none e) =
+    bad_type (omega (arith, room, length-append b more)) (version-stays o b (b ++ more) (omega (arith, room)) (front-of b more) v)
+    (λ t is. none t (is ∙ ap (λ (n : ℕ). n % 2 ^ 26) (number-stays o 20 b (b ++ more) (omega (arith, room)) (front-of b more)))) e
+
+magic-back : (b more : List ℕ) → 4 ≤ length b → HasMagic (b ++ more) → HasMagic b
+magic-back b more room (pcap_kind o m) = pcap_kind o (magic-front o b (b ++ more) room (front-of b more) m)
+
+front-fault-on : (b more : List ℕ) (code : CaptureCode) → code ≢ codes.Cut → FrontFault b code → FrontFault (b ++ more) code
+front-fault-on b more code uncut (too_short less e) = absurd (uncut e)
+front-fault-on b more code uncut (no_kind room none e) =
+    no_kind (omega (arith, room, length-append b more)) (λ m. none (magic-back b more room m)) e
+front-fault-on b more code uncut (pcap_front o room m f) =
+    pcap_front o (omega (arith, room, length-append b more)) (magic-stays o b (b ++ more) room (front-of b more) m) (header-fault-on o b more code uncut f)
+
+record-fault-on : (o : Order) (b more : List ℕ) (code : CaptureCode) → code ≢ codes.Cut → RecordFault o b code → RecordFault o (b ++ more) code
+record-fault-on o b more code uncut (short_record some less e) = absurd (uncut e)
+record-fault-on o b more code uncut (long_record room many e) =
+    long_record (omega (arith, room, length-append b more)) (omega (arith, many, number-stays o 8 b (b ++ more) (omega (arith, room)) (front-of b more))) e
+record-fault-on o b more code uncut (cut_record room few less e) = absurd (uncut e)
+
+pub fault-on : (b more : List ℕ) (fs : List Frame) (code : CaptureCode) (at : ℕ) → code ≢ codes.Cut → CaptureFault b fs code at → CaptureFault (b ++ more) fs code at
+fault-on b more fs code at uncut (at_front none start f) = at_front none start (front-fault-on b more code uncut f)
+fault-on b more fs code at uncut (in_pcap o t right rest whole h place f) =
+    in_pcap o t right (rest ++ more) (ap (λ (l : List ℕ). l ++ more) whole ∙ append_assoc right rest more) h place (record-fault-on o rest more code uncut f)

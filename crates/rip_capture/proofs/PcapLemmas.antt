@@ -1,0 +1,98 @@
+-- Headers and records at the front of bytes.
+use Rattle.std.proofs.Common.{◌≡◌, ◌+◌, ◌%◌, ◌^◌, ◌≤◌, ◌∙◌, ℕ, Bool, false, List, [], ◌∷◌, ◌++◌, Result, Ok, Err, length, take, drop, ap, sym, refl, inr, subst, arith, append_assoc, append-nil}
+use Rattle.std.proofs.lemmas.List.{length-drop, length-take}
+use Rattle.rip_capture.specs.Captures.FrontFault.{pcap}
+use Rattle.rip_capture.specs.Codes.{is_unread}
+use Rattle.rip_capture.specs.Finds.{FindsHeader, ReadsHeader}
+use Rattle.rip_capture.specs.LinkTypes.{number_of}
+use Rattle.rip_capture.specs.Numbers.{number_in}
+use Rattle.rip_capture.specs.Pcap.{AreRecords, Frame, IsMagic, IsPcap, IsPcapHeader, IsRecord, IsVersion, captured_len, link_number}
+use Rattle.rip_capture.specs.Pcap.HeaderFault.{version, link_type}
+use Rattle.rip_capture.proofs.FeedLemmas.{Extends-take}
+use Rattle.rip_capture.proofs.NumberLemmas.{magic-front, number-stays, version-front}
+use Rattle.rip_capture.specs.declared.error.CaptureCode.{CaptureCode}
+use Rattle.rip_capture.specs.declared.error.CaptureCode.TheVariants.{Magic, Cut, Version, LinkType as NoLinkType, Length, Interface, OldPacket, Read}
+use Rattle.rip_capture.specs.declared.link.LinkType.{LinkType}
+use Rattle.rip_capture.specs.declared.numbers.Order.{Order}
+use Rattle.rip_capture.specs.declared.pcap.PcapHeader.{PcapHeader}
+
+-- a header at the front
+pub header-front : (order : Order) (t : LinkType) (b : List ℕ) → 24 ≤ length b → IsMagic order b → IsVersion order b → number_of t ≡ link_number order b → IsPcapHeader (take 24 b) order t
+header-front order t b room magic v link =
+    let front = take 24 b in
+    let size : length front ≡ 24 = length-take 24 b ∙ omega (arith, room) in
+    let on = Extends-take 24 b in
+    record {
+      size = size;
+      magic = magic-front order front b (omega (arith, size)) on magic;
+      version = version-front order front b (omega (arith, size)) on v;
+      link = link ∙ ap (λ (n : ℕ). n % 2 ^ 26) (number-stays order 20 front b (omega (arith, size)) on);
+    }
+
+-- what a header says behind its first four bytes is what is found
+pub FindsHeader-read : (order : Order) (b : List ℕ) (at_end : Bool) (r : Result PcapHeader CaptureCode) → 24 ≤ length b → IsMagic order b → ReadsHeader order b r → FindsHeader b at_end r
+FindsHeader-read order b at_end (Ok h) room magic reads =
+    (room, subst (λ (o : Order). IsPcapHeader (take 24 b) o h.link_type) (sym reads.0) (header-front order h.link_type b room magic reads.1 reads.2))
+FindsHeader-read order b at_end (Err Version) room magic reads =
+    inr (pcap order (omega (arith, room)) magic (version room reads refl), λ e. cc e)
+FindsHeader-read order b at_end (Err NoLinkType) room magic reads =
+    inr (pcap order (omega (arith, room)) magic (link_type room reads.0 reads.1 refl), λ e. cc e)
+FindsHeader-read order b at_end (Err Magic) room magic reads = absurd reads
+FindsHeader-read order b at_end (Err Cut) room magic reads = absurd reads
+FindsHeader-read order b at_end (Err Length) room magic reads = absurd reads
+FindsHeader-read order b at_end (Err Interface) room magic reads = absurd reads
+FindsHeader-read order b at_end (Err OldPacket) room magic reads = absurd reads
+FindsHeader-read order b at_end (Err Read) room magic reads = absurd reads
+
+-- it does not fail
+pub header-told : (order : Order) (b : List ℕ) (r : Result PcapHeader CaptureCode) → ReadsHeader order b r → is_unread r ≡ false
+header-told order b (Ok h) reads = refl
+header-told order b (Err Version) reads = refl
+header-told order b (Err NoLinkType) reads = refl
+header-told order b (Err Magic) reads = refl
+header-told order b (Err Cut) reads = refl
+header-told order b (Err Length) reads = refl
+header-told order b (Err Interface) reads = refl
+header-told order b (Err OldPacket) reads = refl
+header-told order b (Err Read) reads = absurd reads
+
+-- the first record of bytes
+pub record-of : (order : Order) (t : LinkType) (b : List ℕ) (n : ℕ) → 16 + n ≤ length b → captured_len order b ≡ n → n ≤ 262144
+    → IsRecord order t (take (16 + n) b) (record { link_type = t; bytes = drop 16 (take (16 + n) b) })
+record-of order t b n inside is few =
+    let front = take (16 + n) b in
+    let long : length front ≡ 16 + n = length-take (16 + n) b ∙ omega (arith, inside) in
+    let same : number_in order 8 b ≡ number_in order 8 front = number-stays order 8 front b (omega (arith, long)) (Extends-take (16 + n) b) in
+    let size : length (drop 16 front) ≡ n = length-drop 16 front ∙ omega (arith, long) in
+    record {
+      header = omega (arith, long);
+      link = refl;
+      behind = refl;
+      captured = sym same ∙ is ∙ sym size;
+      few = omega (arith, size, few);
+    }
+
+-- a record more
+AreRecords-snoc : (order : Order) (t : LinkType) (b more : List ℕ) (frame : Frame) (frames : List Frame) → AreRecords order t b frames → IsRecord order t more frame → AreRecords order t (b ++ more) (frames ++ frame ∷ [])
+AreRecords-snoc order t b more frame [] none is = (more, [], is, refl, ap (λ l. l ++ more) none ∙ sym (append-nil more))
+AreRecords-snoc order t b more frame (f ∷ frames) h is =
+    (h.0, h.1 ++ more, h.2, AreRecords-snoc order t h.1 more frame frames h.3 is, ap (λ l. l ++ more) h.4 ∙ append_assoc h.0 h.1 more)
+
+pub IsPcap-snoc : (order : Order) (t : LinkType) (b more : List ℕ) (frame : Frame) (frames : List Frame) → IsPcap b order t frames → IsRecord order t more frame → IsPcap (b ++ more) order t (frames ++ frame ∷ [])
+IsPcap-snoc order t b more frame frames p is = record {
+  header = p.header;
+  records = p.records ++ more;
+  is_header = p.is_header;
+  are_records = AreRecords-snoc order t p.records more frame frames p.are_records is;
+  whole = ap (λ l. l ++ more) p.whole ∙ append_assoc p.header p.records more;
+}
+
+-- a header alone
+pub IsPcap-none : (order : Order) (t : LinkType) (header : List ℕ) → IsPcapHeader header order t → IsPcap header order t []
+IsPcap-none order t header is = record {
+  header = header;
+  records = [];
+  is_header = is;
+  are_records = refl;
+  whole = sym (append-nil header);
+}

@@ -1,0 +1,175 @@
+-- Where a reader stands after a step.
+use Rattle.std.proofs.Common.{◌≡◌, ◌+◌, ◌⊎◌, ◌∙◌, ℕ, Bool, true, false, List, [], ◌∷◌, ◌++◌, Result, Ok, Err, Option, Some, None, length, take, drop, ap, sym, refl, inl, inr, subst, arith, append_assoc}
+use Rattle.std.proofs.lemmas.Bool.{false≢true}
+use Rattle.std.proofs.lemmas.List.{length-append, length-take}
+use Rattle.rip_capture.specs.Captures.{CaptureFault, FrontFault}
+use Rattle.rip_capture.specs.Captures.CaptureFault.{front as at_front, pcap as in_pcap}
+use Rattle.rip_capture.specs.Captures.IsCapture.{pcap as pcap_capture}
+use Rattle.rip_capture.specs.Codes.{EndsFor, is_read}
+use Rattle.rip_capture.specs.Feeds.{Keeps, Takes, held}
+use Rattle.rip_capture.specs.Finds.{FindsHeader, FindsRecord}
+use Rattle.rip_log.proofs.WholeLemmas.{went_on}
+use Rattle.rip_capture.specs.NextCall.{EndsHere, HasRead, IsOver, Runs, Stands, StopsAt, TakesPacket, has_begun, source_of}
+use Rattle.rip_capture.specs.Pcap.{Frame, IsPcap, RecordFault}
+use Rattle.rip_capture.specs.Steps.{Begins, frame_at, place_at}
+use Rattle.rip_capture.proofs.PcapLemmas.{IsPcap-none, IsPcap-snoc, record-of}
+use Rattle.rip_capture.specs.declared.error.CaptureCode.{CaptureCode}
+use Rattle.rip_capture.specs.declared.error.CaptureCode.TheVariants.{Read}
+use Rattle.rip_capture.specs.declared.error.CaptureError.{CaptureError}
+use Rattle.rip_capture.specs.declared.feed.Feed.{Feed}
+use Rattle.rip_capture.specs.declared.pcap.PcapHeader.{PcapHeader}
+use Rattle.rip_capture.specs.declared.reader.CaptureReader.{CaptureReader}
+use Rattle.rip_capture.specs.declared.reader.Found.{Found}
+use Rattle.rip_capture.specs.declared.reader.Format.{Format}
+use Rattle.rip_capture.specs.declared.reader.Format.TheVariants.{Unread, Pcap}
+
+-- where nothing was taken
+pub Stands-kept : {R : Type 0} (given : R → List ℕ) (before taken : List ℕ) (frames : List Frame) (old new : CaptureReader R) → Keeps given old.feed new.feed → new.position ≡ old.position → new.format ≡ old.format → Stands given before old taken frames → Stands given before new taken frames
+Stands-kept given before taken frames old new keeps position format s = record {
+  gave = keeps (before ++ taken) s.gave;
+  position = position ∙ s.position;
+  read = subst (λ (f : Format). HasRead f taken frames) (sym format) s.read;
+}
+
+-- some bytes more were taken
+more-taken : {R : Type 0} (given : R → List ℕ) (before taken more : List ℕ) (old mid new : Feed R) → Keeps given old mid → Takes given mid new more → given old.source ≡ before ++ taken ++ held old → given new.source ≡ before ++ (taken ++ more) ++ held new
+more-taken given before taken more old mid new keeps takes gave =
+    takes (before ++ taken) (keeps (before ++ taken) gave) ∙ ap (λ l. l ++ held new) (append_assoc before taken more)
+
+-- the record of a packet
+pub TakesPacket-found : {R : Type 0} (given : R → List ℕ) (before taken : List ℕ) (frames : List Frame) (frame : Frame) (old new : CaptureReader R) (mid : Feed R) (h : PcapHeader) (n : ℕ) (at_end : Bool)
+    → old.format ≡ Pcap h → new.format ≡ Pcap h → Keeps given old.feed mid → FindsRecord h.order (held mid) at_end (Ok (Some n)) → Takes given mid new.feed (take (16 + n) (held mid))
+    → new.position ≡ old.position + (16 + n) → frame ≡ record { link_type = h.link_type; bytes = drop 16 (take (16 + n) (held mid)) }
+    → Stands given before old taken frames → TakesPacket given before frames frame old.position new
+TakesPacket-found given before taken frames frame old new mid h n at_end was is keeps finds takes position frame_is s =
+    let more = take (16 + n) (held mid) in
+    let right : IsPcap taken h.order h.link_type frames = subst (λ (f : Format). HasRead f taken frames) was s.read in
+    let one = subst (λ (f : Frame). IsPcap (taken ++ more) h.order h.link_type (frames ++ f ∷ [])) (sym frame_is)
+    (IsPcap-snoc h.order h.link_type taken more (record { link_type = h.link_type; bytes = drop 16 more }) frames right (record-of h.order h.link_type (held mid) n finds.0 finds.1 finds.2)) in
+    record {
+      front = taken;
+      bytes = more;
+      right = pcap_capture h.order h.link_type right;
+      place_is = s.position;
+      longer = pcap_capture h.order h.link_type one;
+      stands = record {
+        gave = more-taken given before taken more old.feed mid new.feed keeps takes s.gave;
+        position = omega (arith, position, s.position, length-append taken more, length-take (16 + n) (held mid), finds.0);
+        read = subst (λ (f : Format). HasRead f (taken ++ more) (frames ++ frame ∷ [])) (sym is) one;
+      };
+    }
+
+-- the end of the file
+pub EndsHere-found : {R : Type 0} (given : R → List ℕ) (at_end : R → Bool) (before taken : List ℕ) (frames : List Frame) (old new : CaptureReader R) (h : PcapHeader)
+    → old.format ≡ Pcap h → Keeps given old.feed new.feed → new.position ≡ old.position → new.format ≡ old.format → FindsRecord h.order (held new.feed) (at_end new.feed.source) (Ok None)
+    → Stands given before old taken frames → EndsHere given at_end before frames new
+EndsHere-found given at_end before taken frames old new h was keeps position format finds s = record {
+  file = taken;
+  right = pcap_capture h.order h.link_type (subst (λ (f : Format). HasRead f taken frames) was s.read);
+  all = finds.0;
+  ended = finds.1;
+  stands = Stands-kept given before taken frames old new keeps position format s;
+}
+
+-- a fault that is told of a record, of the whole file
+record-fault : (h : PcapHeader) (taken rest : List ℕ) (frames : List Frame) (code : CaptureCode) (at : ℕ) (at_end : Bool) → at ≡ length taken → IsPcap taken h.order h.link_type frames → (code ≡ Read) ⊎ (RecordFault h.order rest code × EndsFor code at_end) → is_read code ≡ false → CaptureFault (taken ++ rest) frames code at
+record-fault h taken rest frames code at at_end place right (inl e) calm = absurd (false≢true (sym calm ∙ ap is_read e))
+record-fault h taken rest frames code at at_end place right (inr f) calm = in_pcap h.order h.link_type taken rest refl right place f.0
+
+-- and of the front
+front-fault : (taken rest : List ℕ) (frames : List Frame) (code : CaptureCode) (at_end : Bool) → taken ≡ [] → frames ≡ [] → (code ≡ Read) ⊎ (FrontFault rest code × EndsFor code at_end) → is_read code ≡ false → CaptureFault (taken ++ rest) frames code 0
+front-fault taken rest frames code at_end none no_frames (inl e) calm = absurd (false≢true (sym calm ∙ ap is_read e))
+front-fault taken rest frames code at_end none no_frames (inr f) calm =
+    at_front no_frames refl (subst (λ (l : List ℕ). FrontFault (l ++ rest) code) (sym none) f.0)
+
+-- a cut is told at the end alone
+fault-ends : {F : Type 0} (code : CaptureCode) (at_end : Bool) → (code ≡ Read) ⊎ (F × EndsFor code at_end) → EndsFor code at_end
+fault-ends code at_end (inl e) cut = cc (e, cut)
+fault-ends code at_end (inr f) cut = f.1 cut
+
+-- a fault of a record, or a failure there
+pub StopsAt-record : {R : Type 0} (given : R → List ℕ) (at_end : R → Bool) (before taken : List ℕ) (frames : List Frame) (old new : CaptureReader R) (h : PcapHeader) (code : CaptureCode)
+    → old.format ≡ Pcap h → Keeps given old.feed new.feed → new.position ≡ old.position → new.format ≡ old.format → (code ≡ Read) ⊎ (RecordFault h.order (held new.feed) code × EndsFor code (at_end new.feed.source))
+    → Stands given before old taken frames → StopsAt given at_end before frames (record { code = code; at = old.position }) new
+StopsAt-record given at_end before taken frames old new h code was keeps position format finds s = record {
+  taken = taken;
+  place = s.position;
+  fault = record-fault h taken (held new.feed) frames code old.position (at_end new.feed.source) s.position (subst (λ (f : Format). HasRead f taken frames) was s.read) finds;
+  ended = fault-ends code (at_end new.feed.source) finds;
+  stands = Stands-kept given before taken frames old new keeps position format s;
+}
+
+-- a fault of the front, or a failure there
+pub StopsAt-front : {R : Type 0} (given : R → List ℕ) (at_end : R → Bool) (before taken : List ℕ) (frames : List Frame) (old new : CaptureReader R) (code : CaptureCode)
+    → old.format ≡ Unread → Keeps given old.feed new.feed → new.position ≡ old.position → new.format ≡ old.format → FindsHeader (held new.feed) (at_end new.feed.source) (Err code)
+    → Stands given before old taken frames → StopsAt given at_end before frames (record { code = code; at = 0 }) new
+StopsAt-front given at_end before taken frames old new code was keeps position format finds s =
+    let none : HasRead Unread taken frames = subst (λ (f : Format). HasRead f taken frames) was s.read in
+    record {
+      taken = taken;
+      place = sym (ap length none.0);
+      fault = front-fault taken (held new.feed) frames code (at_end new.feed.source) none.0 none.1 finds;
+      ended = fault-ends code (at_end new.feed.source) finds;
+      stands = Stands-kept given before taken frames old new keeps position format s;
+    }
+
+-- the header
+pub Stands-begun : {R : Type 0} (given : R → List ℕ) (before taken : List ℕ) (frames : List Frame) (old new : CaptureReader R) (mid : Feed R) (h : PcapHeader) (at_end : Bool)
+    → old.format ≡ Unread → new.format ≡ Pcap h → Keeps given old.feed mid → FindsHeader (held mid) at_end (Ok h) → Takes given mid new.feed (take 24 (held mid)) → new.position ≡ 24
+    → Stands given before old taken frames → Stands given before new (taken ++ take 24 (held mid)) frames
+Stands-begun given before taken frames old new mid h at_end was is keeps finds takes position s =
+    let more = take 24 (held mid) in
+    let none : HasRead Unread taken frames = subst (λ (f : Format). HasRead f taken frames) was s.read in
+    let alone : more ≡ taken ++ more = ap (λ (l : List ℕ). l ++ more) (sym none.0) in
+    let header = IsPcap-none h.order h.link_type more finds.1 in
+    let whole : IsPcap (taken ++ more) h.order h.link_type frames = subst (λ (l : List ℕ). IsPcap l h.order h.link_type frames) alone (subst (λ (l : List Frame). IsPcap more h.order h.link_type l) (sym none.1) header) in
+    record {
+      gave = more-taken given before taken more old.feed mid new.feed keeps takes s.gave;
+      position = position ∙ sym finds.1.size ∙ ap length alone;
+      read = subst (λ (f : Format). HasRead f (taken ++ more) frames) (sym is) whole;
+    }
+
+-- an error that is kept, to be answered again
+pub Runs-refused : {R : Type 0} (given : R → List ℕ) (coming : R → Option (List ℕ)) (broken at_end : R → Bool) (old mid new : CaptureReader R) (e : CaptureError)
+    → new ≡ record mid { refusal = Some e } → Runs given coming broken at_end (frame_at mid) place_at old mid (Err e) → Runs given coming broken at_end (frame_at new) place_at old new (Err e)
+Runs-refused {R = R} given coming broken at_end old mid new e is r =
+    subst (λ (n : CaptureReader R). Runs given coming broken at_end (frame_at n) place_at old n (Err e)) (sym is) (record {
+      goes = λ before taken frames s. let m = r.goes before taken frames s in record {
+        taken = m.taken;
+        place = m.place;
+        fault = m.fault;
+        ended = m.ended;
+        stands = record { gave = m.stands.gave; position = m.stands.position; read = m.stands.read };
+      };
+      moves = record { went = r.moves.went; failed = r.moves.failed; marks = r.moves.marks };
+      over = λ h. cc h;
+      stays_over = r.stays_over;
+    })
+
+begun-is : (f : Format) → has_begun f ≡ true → (h : PcapHeader) × (f ≡ Pcap h)
+begun-is Unread b = cc b
+begun-is (Pcap h) b = (h, refl)
+
+-- behind a header that was read now or before
+pub Runs-on : {R : Type 0} (given : R → List ℕ) (coming : R → Option (List ℕ)) (broken at_end : R → Bool) (old mid new : CaptureReader R) (h : PcapHeader) (result : Result (Option Found) CaptureError)
+    → Begins given coming broken at_end old mid (Ok h) → Runs given coming broken at_end (frame_at new) place_at mid new result → Runs given coming broken at_end (frame_at new) place_at old new result
+Runs-on {R = R} given coming broken at_end old mid new h result b r = record {
+  goes = λ before taken frames s. let m = b.goes before taken frames s in r.goes before m.0 frames m.1;
+  moves = record {
+    went = went_on given coming at_end (source_of old) (source_of mid) (source_of new) b.moves.went r.moves.went;
+    failed = r.moves.failed;
+    marks = λ calm. r.moves.marks calm ∙ b.moves.marks refl;
+  };
+  over = r.over;
+  stays_over = λ o. let is = begun-is old.format o.begun in r.stays_over (subst (λ (n : CaptureReader R). IsOver at_end n) (sym (b.kept is.0 is.1).1) o);
+}
+
+-- where it could not be read
+pub Runs-stopped : {R : Type 0} (given : R → List ℕ) (coming : R → Option (List ℕ)) (broken at_end : R → Bool) (old new : CaptureReader R) (e : CaptureError)
+    → Begins given coming broken at_end old new (Err e) → Runs given coming broken at_end (frame_at new) place_at old new (Err e)
+Runs-stopped given coming broken at_end old new e b = record {
+  goes = b.goes;
+  moves = record { went = b.moves.went; failed = b.moves.failed; marks = b.moves.marks };
+  over = λ h. cc h;
+  stays_over = λ o. let is = begun-is old.format o.begun in cc (b.kept is.0 is.1).0;
+}

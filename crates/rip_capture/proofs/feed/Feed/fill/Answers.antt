@@ -1,0 +1,24 @@
+use Rattle.std.proofs.Common.{rules, sym, ◌∙◌}
+use Rattle.std.proofs.lemmas.Bool.{false≢true}
+use Rattle.rip_log.proofs.WholeLemmas.{went_on}
+use Rattle.rip_capture.proofs.FeedLemmas.{Extends-on}
+use Rattle.rip_capture.specs.Feeds.{held}
+use Rattle.rip_capture.proofs.feed.Feed.fill.Goals as goal
+
+pub pulls-preserved : goal.pulls-preserved
+pulls-preserved g c = let S = g.R.Source in record {
+  keeps = λ taken behind. c.refill.ensures.keeps taken (c.pulls.invariant.keeps taken behind);
+  longer = Extends-on (held c.args.self.now) (held c.pulls.self) (held c.refill.new.self) c.pulls.invariant.longer c.refill.ensures.held;
+  went = went_on S.given S.coming S.at_end _ _ _ c.pulls.invariant.went c.refill.ensures.went;
+  marks = search rules;
+  stays = λ over. absurd (false≢true (sym c.if-ended.false ∙ c.ended.ensures ∙ (c.pulls.invariant.stays over).1));
+}
+
+pub returns-then-branch-eq0-clause-went : goal.returns-then-branch-eq0-clause-went
+returns-then-branch-eq0-clause-went g c = let S = g.R.Source in went_on S.given S.coming S.at_end _ _ _ c.pulls.invariant.went c.refill.ensures.went
+
+pub returns-then-branch-eq0-clause-held : goal.returns-then-branch-eq0-clause-held
+returns-then-branch-eq0-clause-held g c = Extends-on (held c.args.self.now) (held c.pulls.self) (held c.refill.new.self) c.pulls.invariant.longer c.refill.ensures.held
+
+pub returns-then-branch-eq0-clause-keeps : goal.returns-then-branch-eq0-clause-keeps
+returns-then-branch-eq0-clause-keeps g c = λ taken behind. c.refill.ensures.keeps taken (c.pulls.invariant.keeps taken behind)

@@ -1,0 +1,67 @@
+use Rattle.std.proofs.Common.{◌+◌, ◌≤◌, ◌∙◌, ℕ, List, ap, arith, drop, inl, refl, subst, sym}
+use Rattle.std.proofs.lemmas.Bool.{false≢true}
+use Rattle.rip_log.specs.Wholes.{Went}
+use Rattle.rip_capture.proofs.FeedLemmas.{range-drop}
+use Rattle.rip_capture.proofs.ReaderLemmas.{EndsHere-found, StopsAt-record, TakesPacket-found}
+use Rattle.rip_capture.specs.NextCall.{has_begun}
+use Rattle.rip_capture.specs.Pcap.{Frame}
+use Rattle.rip_capture.specs.declared.reader.CaptureReader.{CaptureReader}
+use Rattle.rip_capture.proofs.reader.CaptureReader.read_record.Goals as goal
+
+pub returns-in-Err-clause-runs : goal.returns-in-Err-clause-runs
+returns-in-Err-clause-runs g c =
+    let S = g.R.Source in
+    let old = c.args.self.now in
+    let new : CaptureReader g.row.R.Denot = record { feed = c.next_record.new.feed; format = old.format; position = old.position; refusal = old.refusal } in
+    record {
+      goes = λ before taken frames s. StopsAt-record S.given S.at_end before taken frames old new c.args.header c.in-Err.code c.requires c.next_record.ensures.keeps refl refl c.in-Err.ensures.found s;
+      moves = record {
+        went = c.next_record.ensures.went;
+        failed = λ bad. inl (c.in-Err.ensures.failed bad);
+        marks = λ calm. c.in-Err.ensures.marks calm;
+      };
+      over = λ h. cc h;
+      stays_over = λ o. cc (c.in-Err.ensures.over o.all o.ended);
+    }
+
+pub returns-in-Ok-None-clause-runs : goal.returns-in-Ok-None-clause-runs
+returns-in-Ok-None-clause-runs g c =
+    let S = g.R.Source in
+    let old = c.args.self.now in
+    let new : CaptureReader g.row.R.Denot = record { feed = c.next_record.new.feed; format = old.format; position = old.position; refusal = old.refusal } in
+    let found = rw c.in-Ok-None.field-0-is at c.in-Ok-None.ensures.found in
+    record {
+      goes = λ before taken frames s. EndsHere-found S.given S.at_end before taken frames old new c.args.header c.requires c.next_record.ensures.keeps refl refl found s;
+      moves = record {
+        went = c.next_record.ensures.went;
+        failed = λ bad. absurd (false≢true bad);
+        marks = λ calm. c.in-Ok-None.ensures.marks refl;
+      };
+      over = λ h. record { begun = ap has_begun c.requires; all = found.0; ended = found.1 };
+      stays_over = λ o. refl;
+    }
+
+pub returns-clause-runs : goal.returns-clause-runs
+returns-clause-runs g c =
+    let S = g.R.Source in
+    let old = c.args.self.now in
+    let mid = c.next_record.new.feed in
+    let h = c.args.header in
+    let n = c.in-Ok-Some.captured in
+    let took = c.take-taken in
+    let span = took.result in
+    let new : CaptureReader g.row.R.Denot = record { feed = took.new.self; format = old.format; position = c.in-Some.position; refusal = old.refusal } in
+    let found = rw c.in-Ok-Some.field-0-is at c.in-Ok-Some.ensures.found in
+    let made : List ℕ → Frame = λ b. record { link_type = h.link_type; bytes = b } in
+    let inside : span.from + 16 ≤ span.to = omega (arith, took.ensures.size) in
+    let bytes = sym (range-drop took.new.self.buffer.items span.from span.to 16 inside) ∙ ap (drop 16) took.ensures.lies in
+    record {
+      goes = λ before taken frames s. TakesPacket-found S.given before taken frames _ old new mid h n (S.at_end mid.source) c.requires c.requires c.next_record.ensures.keeps found took.ensures.takes (omega (arith, c.in-Some.ensures)) (ap made bytes) s;
+      moves = record {
+        went = subst (λ (s : g.row.R.Denot). Went S.given S.coming S.at_end old.feed.source s) (sym took.ensures.source) c.next_record.ensures.went;
+        failed = λ bad. absurd (false≢true bad);
+        marks = λ calm. ap S.broken took.ensures.source ∙ c.in-Ok-Some.ensures.marks refl;
+      };
+      over = λ e. cc e;
+      stays_over = λ o. cc (c.in-Ok-Some.ensures.over o.all o.ended);
+    }

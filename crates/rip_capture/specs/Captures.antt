@@ -1,0 +1,30 @@
+-- What a capture file is, and the first fault of what is none.
+use Rattle.std.specs.Prelude.{◌≡◌, ◌<◌, ◌≤◌, ◌++◌, ℕ, List, [], length}
+use Rattle.rip_capture.specs.Pcap.{Frame, HeaderFault, IsMagic, IsPcap, RecordFault}
+use Rattle.rip_capture.specs.declared.error.CaptureCode.{CaptureCode}
+use Rattle.rip_capture.specs.declared.error.CaptureCode.TheVariants.{Cut, Magic}
+use Rattle.rip_capture.specs.declared.limits.TheConstants.{MAGIC_LEN}
+use Rattle.rip_capture.specs.declared.link.LinkType.{LinkType}
+use Rattle.rip_capture.specs.declared.numbers.Order.{Order}
+
+-- a file begins as one of a kind that is read
+pub data HasMagic (b : List ℕ) : Type 0 where
+  pcap : (order : Order) → IsMagic order b → HasMagic b
+
+-- these bytes are a capture, up to here, with these frames
+pub data IsCapture (b : List ℕ) (frames : List Frame) : Type 0 where
+  pcap : (order : Order) (link_type : LinkType) → IsPcap b order link_type frames → IsCapture b frames
+
+-- what is wrong with the front of a file, the first of these
+pub data FrontFault (b : List ℕ) (code : CaptureCode) : Type 0 where
+  short : length b < MAGIC_LEN → code ≡ Cut → FrontFault b code
+  magic : MAGIC_LEN ≤ length b → ¬ HasMagic b → code ≡ Magic → FrontFault b code
+  pcap : (order : Order) → MAGIC_LEN ≤ length b → IsMagic order b → HeaderFault order b code →
+      FrontFault b code
+
+-- a file has this fault at an offset: behind a front of so many bytes that is right, with these frames
+pub data CaptureFault (b : List ℕ) (frames : List Frame) (code : CaptureCode) (at : ℕ) : Type 0 where
+  front : frames ≡ [] → at ≡ 0 → FrontFault b code → CaptureFault b frames code at
+  pcap : (order : Order) (link_type : LinkType) (right rest : List ℕ) → b ≡ right ++ rest →
+      IsPcap right order link_type frames → at ≡ length right → RecordFault order rest code →
+      CaptureFault b frames code at

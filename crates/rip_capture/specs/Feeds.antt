@@ -1,0 +1,25 @@
+-- Where a feed stands in what its source has given.
+use Rattle.std.specs.Prelude.{◌≡◌, ℕ, List, ◌++◌, slice_range}
+use Rattle.rip_capture.specs.declared.feed.Feed.{Feed}
+
+-- the bytes that were given and nobody has taken
+abbrev pub held : {R : Type 0} → Feed R → List ℕ
+held f = slice_range f.buffer.items f.start f.end
+
+-- these bytes were taken: they and what is held are what the source has given
+abbrev pub Behind : {R : Type 0} → (R → List ℕ) → Feed R → List ℕ → Type 0
+Behind given f taken = given f.source ≡ taken ++ held f
+
+-- nothing more was taken
+abbrev pub Keeps : {R : Type 0} → (R → List ℕ) → Feed R → Feed R → Type 0
+Keeps given old new = (taken : List ℕ) → Behind given old taken → Behind given new taken
+
+-- these bytes more were taken
+abbrev pub Takes : {R : Type 0} → (R → List ℕ) → Feed R → Feed R → List ℕ → Type 0
+Takes given old new bytes =
+    (taken : List ℕ) → Behind given old taken → Behind given new (taken ++ bytes)
+
+-- these bytes, and then perhaps more
+pub record Extends (bytes longer : List ℕ) : Type 0 where
+  pub more : List ℕ
+  pub whole : longer ≡ bytes ++ more

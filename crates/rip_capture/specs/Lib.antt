@@ -1,0 +1,14 @@
+pub mod Captures
+pub mod Carries
+pub mod Codes
+pub mod Feeds
+pub mod Finds
+pub mod Frames
+pub mod LinkTypes
+pub mod NextCall
+pub mod Numbers
+pub mod Packets
+pub mod Passwords
+pub mod Pcap
+pub mod Spans
+pub mod Steps

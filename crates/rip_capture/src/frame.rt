@@ -1,0 +1,93 @@
+//! What a frame holds behind its link's header.
+
+ghost use Rattle.std.specs.Prelude.{◌≡◌, ◌+◌, ◌≤◌, length};
+ghost use Rattle.rip_capture.specs.Frames.{BeginsWithin, Holds, HoldsLoop, HoldsTyped, is_tag};
+
+use crate::link::LinkType;
+use crate::numbers::{Order, number_in, u16_at};
+
+/// What a frame holds.
+#[derive(Clone, Copy)]
+pub enum Network {
+    /// An IPv4 packet, from an offset on.
+    Ip(usize),
+    /// A header or a tag that is not there whole.
+    Short,
+    /// Something else.
+    Other,
+}
+
+/// Ethernet's type of IPv4.
+pub(crate) const IPV4: u16 = 0x0800;
+
+/// The number of IPv4 in front of a loopback's packets.
+pub(crate) const LOOP_IPV4: u32 = 2;
+
+/// The bytes of a loopback's header.
+pub(crate) const LOOP_HEADER: usize = 4;
+
+/// The bytes of a tag and of the type behind it.
+pub(crate) const TAG: usize = 4;
+
+/// Whether the type is that of a tag.
+fn is_tag(kind: u16) -> bool
+    ensures { result ≡ is_tag kind }
+{
+    kind == 0x8100 || kind == 0x88A8 || kind == 0x9100
+}
+
+/// What a frame holds whose header has so many bytes, and its type at a place.
+fn read_typed(frame: &[u8], place: usize, header: usize) -> Network
+    requires { place + 2 ≤ header }
+    ensures holds { HoldsTyped frame.now place header result }
+    ensures within { BeginsWithin (length frame.now) result }
+{
+    if frame.len() < header {
+        return Network::Short;
+    }
+    let mut at = place;
+    let mut from = header;
+    'tags: while is_tag(u16_at(frame, at)) {
+        if frame.len() - from < TAG {
+            return Network::Short;
+        }
+        at = from + 2;
+        from += TAG;
+    }
+    if u16_at(frame, at) == IPV4 {
+        Network::Ip(from)
+    } else {
+        Network::Other
+    }
+}
+
+/// What a frame of a loopback holds.
+fn read_loop(frame: &[u8]) -> Network
+    ensures holds { HoldsLoop frame.now result }
+    ensures within { BeginsWithin (length frame.now) result }
+{
+    if frame.len() < LOOP_HEADER {
+        return Network::Short;
+    }
+    let big = number_in(Order::Big, frame, 0);
+    let little = number_in(Order::Little, frame, 0);
+    if big == LOOP_IPV4 || little == LOOP_IPV4 {
+        Network::Ip(LOOP_HEADER)
+    } else {
+        Network::Other
+    }
+}
+
+/// What a frame of a link type holds.
+pub(crate) fn network_of(link_type: LinkType, frame: &[u8]) -> Network
+    ensures holds { Holds link_type frame.now result }
+    ensures within { BeginsWithin (length frame.now) result }
+{
+    match link_type {
+        LinkType::Null | LinkType::Loop => read_loop(frame),
+        LinkType::Ethernet => read_typed(frame, 12, 14),
+        LinkType::LinuxSll => read_typed(frame, 14, 16),
+        LinkType::LinuxSll2 => read_typed(frame, 0, 20),
+        LinkType::Raw | LinkType::Ipv4 => Network::Ip(0),
+    }
+}

@@ -1,0 +1,64 @@
+//! Laws of the definitions alone: functions that do nothing, whose contracts hold of all frames and all
+//! files.
+
+ghost use Rattle.std.specs.Prelude.{◌≡◌, ◌≢◌, ◌⊎◌, ◌++◌, ℕ, List};
+ghost use Rattle.rip_capture.specs.Captures.{CaptureFault, IsCapture};
+ghost use Rattle.rip_capture.specs.Carries.{Carries};
+ghost use Rattle.rip_capture.specs.Pcap.{Frame};
+ghost use Rattle.rip_capture.specs.declared.error.CaptureCode.{CaptureCode};
+ghost use Rattle.rip_capture.specs.declared.link.LinkType.{LinkType};
+ghost use Rattle.rip_capture.specs.declared.packet.Carried.{Carried};
+
+use crate::limits::{
+    FILE_HEADER, GROUP, IP_HEADER, MAGIC_LEN, MOST_CAPTURED, MOST_PAYLOAD, PORT, RECORD_HEADER,
+    UDP, UDP_HEADER,
+};
+
+/// The numbers of RIP over IPv4, and the most bytes of a datagram.
+pub fn datagram_limits()
+    ensures group { GROUP ≡ 0xE0000009 }
+    ensures port { PORT ≡ 520 }
+    ensures udp { UDP ≡ 17 }
+    ensures ip_header { IP_HEADER ≡ 20 }
+    ensures udp_header { UDP_HEADER ≡ 8 }
+    ensures payload { MOST_PAYLOAD ≡ 999 }
+{}
+
+/// The sizes of a file's parts, and the most bytes of a packet.
+pub fn file_limits()
+    ensures magic { MAGIC_LEN ≡ 4 }
+    ensures file_header { FILE_HEADER ≡ 24 }
+    ensures record_header { RECORD_HEADER ≡ 16 }
+    ensures captured { MOST_CAPTURED ≡ 262144 }
+{}
+
+/// A frame of a link type carries one thing alone.
+pub fn one_carried()
+    ensures { (t : LinkType) (frame : List ℕ) (carried other : Carried) →
+        Carries t frame carried → Carries t frame other → carried ≡ other }
+{}
+
+/// A file is a capture of one list of frames, or has one fault, and not both.
+pub fn one_reading()
+    ensures frames { (file : List ℕ) (frames others : List Frame) →
+        IsCapture file frames → IsCapture file others → frames ≡ others }
+    ensures right { (file : List ℕ) (frames others : List Frame) (code : CaptureCode) (at : ℕ) →
+        IsCapture file frames → CaptureFault file others code at → ⊥ }
+    ensures fault { (file : List ℕ) (frames others : List Frame) (code other : CaptureCode)
+        (at there : ℕ) → CaptureFault file frames code at → CaptureFault file others other there →
+        (frames ≡ others) × (code ≡ other) × (at ≡ there) }
+{}
+
+/// A fault is one whatever bytes follow, but for a cut.
+pub fn early_faults()
+    ensures { (file more : List ℕ) (frames : List Frame) (code : CaptureCode) (at : ℕ) →
+        code ≢ CaptureCode.Cut → CaptureFault file frames code at →
+        CaptureFault (file ++ more) frames code at }
+{}
+
+/// Each file is a capture or has a fault.
+pub fn each_file()
+    ensures { (file : List ℕ) → ((frames : List Frame) × IsCapture file frames)
+        ⊎ ((frames : List Frame) × (code : CaptureCode) × (at : ℕ)
+        × CaptureFault file frames code at) }
+{}

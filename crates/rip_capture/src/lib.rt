@@ -1,0 +1,23 @@
+//! Captures: the packets of a capture file, and the RIP datagram that a packet carries.
+#![tactic(auto)]
+
+mod error;
+mod feed;
+mod frame;
+pub mod laws;
+mod limits;
+mod link;
+mod numbers;
+mod packet;
+mod password;
+mod pcap;
+mod reader;
+mod span;
+
+pub use error::{CaptureCode, CaptureError};
+pub use limits::{GROUP, MOST_CAPTURED, MOST_PAYLOAD, PORT};
+pub use link::LinkType;
+pub use packet::{Carried, read_frame};
+pub use password::password_in;
+pub use reader::{CaptureReader, Packet};
+pub use span::Span;
