@@ -13,10 +13,10 @@ use Rattle.rip_check.specs.declared.way.Way.TheVariants.{Unreachable, Here, Over
 use Rattle.rip_check.specs.Metrics.{metric_at}
 use Rattle.rip_check.specs.Settled.{AllRight, Holds}
 use Rattle.rip_check.specs.Tables.{FitsWay, IsHiddenRoute, IsLeastOffer, IsSilent, MayHoldBack, MayShow, Offers, Route, Shows, Tables}
-use Rattle.rip_check.specs.Told.{EachPoisons, told, told_of, told_where}
+use Rattle.rip_check.specs.Told.{EachPoisons, poisons, told, told_of, told_where}
 use Rattle.rip_check.proofs.ConverseLemmas.{holds}
 use Rattle.rip_check.proofs.PlanLemmas.{kept_own}
-use Rattle.rip_check.proofs.ToldTableLemmas.{told_metric}
+use Rattle.rip_check.proofs.ToldTableLemmas.{surely_poisons, told_metric, told_offered}
 
 -- ---- where all poison
 
@@ -29,9 +29,9 @@ pub told_is_shown : (n : Network) (s : State) → EachPoisons n → told n s ≡
 told_is_shown n s each =
     ap (λ (f : ℕ → Block → Option ℕ). record s { shows = f }) (fun_ext (λ i. fun_ext (λ p. ap (λ (b : Bool). told_of b (s.shows i p)) (on i (slice_get n.interfaces i) refl) ∙ told_same (s.shows i p))))
   where
-    on : (i : ℕ) (o : Option Interface) → slice_get n.interfaces i ≡ o → option_map_or (λ x. x.poison) o true ≡ true
-    on i None at = refl
-    on i (Some x) at = each i x at
+    on : (i : ℕ) (o : Option Interface) → slice_get n.interfaces i ≡ o → poisons n i ≡ true
+    on i None at = ap (λ (o : Option Interface). option_map_or (λ x. x.poison) o true) at
+    on i (Some x) at = surely_poisons n i (each i x.router x.link x.cost (record { address = x.address; direct = x.direct; poison = x.poison; listed = at }))
 
 -- ---- where fewer poison
 
@@ -60,10 +60,6 @@ was_silent : (before now : Option ℕ) → Change before now → IsSilent now �
 was_silent before now (same e) h = subst IsSilent (sym e) h
 was_silent before now (silent e f) h = inl e
 
-offered_alike : (before now : Option ℕ) → Change before now → unwrap_or before 16 ≡ unwrap_or now 16
-offered_alike before now (same e) = ap (λ (o : Option ℕ). unwrap_or o 16) e
-offered_alike before now (silent e f) = ap (λ (o : Option ℕ). unwrap_or o 16) e ∙ sym (ap (λ (o : Option ℕ). unwrap_or o 16) f)
-
 -- a way that is silent where nothing is told, and not to hold back the router's own route
 nowhere : (n : Network) (r l p m : ℕ) (w : Way) → (MayHoldBack n r p l → ⊥) → FitsWay n r p m w → (x : Option ℕ) → x ≡ None → MayShow n r l p m w x → (w ≡ Unreachable) × (m ≡ 16)
 nowhere n r l p m Unreachable tells fits x e h = (refl, fits)
@@ -86,7 +82,7 @@ module _ (n : Network) (s : State) (more fewer : ℕ → Bool) (T : Tables) (pla
     interface = o.interface;
     its_cost = o.its_cost;
     there = o.there;
-    value = o.value ∙ ap (λ (m : ℕ). min 16 (o.cost + m)) (sym (offered_alike _ _ (changed o.interface p lt)));
+    value = o.value ∙ ap (λ (m : ℕ). min 16 (o.cost + m)) (told_offered fewer s o.interface p lt ∙ sym (told_offered more s o.interface p lt));
   }
 
   offered_still : (r l t p v : ℕ) → p < length s.prefixes → Offers n (told_where more s) r l t p v → Offers n (told_where fewer s) r l t p v
@@ -97,7 +93,7 @@ module _ (n : Network) (s : State) (more fewer : ℕ → Bool) (T : Tables) (pla
     interface = o.interface;
     its_cost = o.its_cost;
     there = o.there;
-    value = o.value ∙ ap (λ (m : ℕ). min 16 (o.cost + m)) (offered_alike _ _ (changed o.interface p lt));
+    value = o.value ∙ ap (λ (m : ℕ). min 16 (o.cost + m)) (told_offered more s o.interface p lt ∙ sym (told_offered fewer s o.interface p lt));
   }
 
   still_least : (r p h : ℕ) → p < length s.prefixes → IsLeastOffer n (told_where more s) r p h → IsLeastOffer n (told_where fewer s) r p h
@@ -146,8 +142,8 @@ module _ (n : Network) (s : State) (more fewer : ℕ → Bool) (T : Tables) (pla
             λ is. out.0,
           )
 
-  pub less_poison : Shows n (told_where fewer s) T
-  less_poison = record {
+  pub fewer_poison : Shows n (told_where fewer s) T
+  fewer_poison = record {
     heard = was.heard;
     fits = λ r p router lt. record {
       told = record {

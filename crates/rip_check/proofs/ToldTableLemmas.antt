@@ -1,9 +1,10 @@
 -- What is told is a metric where what is shown is one, and is offered as what is shown.
-use Rattle.std.proofs.Common.{◌≡◌, ℕ, ◌<◌, ◌≤◌, Bool, true, false, cond, Option, None, Some, get_or, length, slice_get, option_and_then, refl, ◌∙◌, ap, arith}
+use Rattle.std.proofs.Common.{◌≡◌, ℕ, ◌<◌, ◌≤◌, Bool, true, false, cond, Option, None, Some, get_or, length, slice_get, option_and_then, unwrap_or, refl, ◌∙◌, ap, arith}
 use Rattle.std.specs.Option.{option_map_or}
 use Rattle.std.proofs.lemmas.Option.{none-some, same_Some, slice_get-get_or}
 use Rattle.rip_wire.specs.Prefix.{Block, block}
 use Rattle.rip_plan.specs.Network.{Network}
+use Rattle.rip_plan.specs.Relations.{Poisons}
 use Rattle.rip_plan.specs.declared.parts.Interface.{Interface}
 use Rattle.rip_table.specs.State.{State}
 use Rattle.rip_check.specs.Metrics.{IsInRange, metric_at}
@@ -12,6 +13,9 @@ use Rattle.rip_check.specs.Told.{poisons, told_of, told_where}
 -- whether an interface of the plan poisons
 pub its_poison : (n : Network) (i : ℕ) (x : Interface) → slice_get n.interfaces i ≡ Some x → poisons n i ≡ x.poison
 its_poison n i x at = ap (λ (o : Option Interface). option_map_or (λ y. y.poison) o true) at
+
+pub surely_poisons : (n : Network) (i : ℕ) → Poisons n i → poisons n i ≡ true
+surely_poisons n i is = its_poison n i is.interface is.listed ∙ is.poisons
 
 -- what is told of a prefix of the list
 pub told_metric : (poison : ℕ → Bool) (s : State) (i k : ℕ) → k < length s.prefixes → metric_at (told_where poison s) i k ≡ told_of (poison i) (metric_at s i k)
@@ -28,6 +32,16 @@ told_shown poison s i k m lt e = told_metric poison s i k lt ∙ ap (told_of (po
 pub told_silent : (poison : ℕ → Bool) (s : State) (i k : ℕ) → k < length s.prefixes → metric_at s i k ≡ None → metric_at (told_where poison s) i k ≡ cond (poison i) None (Some 16)
 unfolding told_of
 told_silent poison s i k lt e = told_metric poison s i k lt ∙ ap (told_of (poison i)) e
+
+-- nothing and 16 offer the same
+unwrapped : (poison : Bool) (x : Option ℕ) → unwrap_or (told_of poison x) 16 ≡ unwrap_or x 16
+unfolding told_of
+unwrapped poison (Some m) = refl
+unwrapped true None = refl
+unwrapped false None = refl
+
+pub told_offered : (poison : ℕ → Bool) (s : State) (i k : ℕ) → k < length s.prefixes → unwrap_or (metric_at (told_where poison s) i k) 16 ≡ unwrap_or (metric_at s i k) 16
+told_offered poison s i k lt = ap (λ (o : Option ℕ). unwrap_or o 16) (told_metric poison s i k lt) ∙ unwrapped (poison i) (metric_at s i k)
 
 pub told_range : (n : Network) (poison : ℕ → Bool) (s : State) → IsInRange n s → IsInRange n (told_where poison s)
 unfolding told_of

@@ -1,9 +1,10 @@
 -- What the interfaces of a plan tell: what they show, and 16 where they show nothing and do not
 -- poison.
-use Rattle.std.specs.Prelude.{◌≡◌, ℕ, Bool, true, Option, None, Some, if◌then◌else◌, slice_get}
+use Rattle.std.specs.Prelude.{◌≡◌, ℕ, Bool, true, Option, None, Some, if◌then◌else◌, map, slice_get}
 use Rattle.std.specs.Option.{option_map_or}
 use Rattle.rip_plan.specs.Network.{Network}
 use Rattle.rip_plan.specs.declared.parts.Interface.{Interface}
+use Rattle.rip_plan.specs.Relations.{IsInterface, Poisons}
 use Rattle.rip_table.specs.State.{State}
 
 -- what an interface tells that shows this: simple split horizon leaves out what poisoned reverse shows
@@ -22,7 +23,22 @@ poisons n i = option_map_or (λ x. x.poison) (slice_get n.interfaces i) true
 
 -- all interfaces poison
 abbrev pub EachPoisons : Network → Type 0
-EachPoisons n = (i : ℕ) (x : Interface) → slice_get n.interfaces i ≡ Some x → x.poison ≡ true
+EachPoisons n = (i r l c : ℕ) → IsInterface n i r l c → Poisons n i
+
+-- the interface, as one that poisons
+abbrev pub poisoning : Interface → Interface
+poisoning x = record x { poison = true }
+
+-- the plans are alike, but for which interfaces poison
+abbrev pub AreAlike : Network → Network → Type 0
+AreAlike n m =
+    record n { interfaces = map poisoning n.interfaces }
+    ≡ record m { interfaces = map poisoning m.interfaces }
+
+-- the second plan is the first with no more poison
+pub record HasLessPoison (n m : Network) : Type 0 where
+  pub alike : AreAlike n m
+  pub less : (i : ℕ) → Poisons m i → Poisons n i
 
 -- the table with what the plan's interfaces tell
 abbrev pub told : Network → State → State

@@ -12,8 +12,8 @@ ghost use Rattle.rip_check.specs.Laws.{Case, EachIsExpected, EachPlaceHolds, Giv
 ghost use Rattle.rip_check.specs.Metrics.{IsInRange};
 ghost use Rattle.rip_check.specs.Paths.{HasPathOver, Hop, IsLeast, IsPath, IsPlainPath};
 ghost use Rattle.rip_check.specs.Settled.{AllRight, IsPlainRight, IsRight};
-ghost use Rattle.rip_check.specs.Tables.{MayHoldBack, Route, Shows, Tables};
-ghost use Rattle.rip_check.specs.Told.{EachPoisons, told, told_where};
+ghost use Rattle.rip_check.specs.Tables.{MayHoldBack, Offers, Route, Shows, Tables};
+ghost use Rattle.rip_check.specs.Told.{EachPoisons, HasLessPoison, told};
 ghost use Rattle.rip_check.specs.Walks.{EachCanGoOn, EachEndsThere, EachIsShort};
 ghost use Rattle.rip_check.specs.declared.failures.Failure.{Failure};
 ghost use Rattle.rip_check.specs.declared.verdict.Unclear.TheVariants.{TwoWays};
@@ -119,12 +119,19 @@ pub fn told_is_shown()
     ensures { (n : Network) (s : State) → EachPoisons n → told n s ≡ s }
 {}
 
-/// Less poison takes nothing away: where a log shows right tables, it shows the same tables where fewer
-/// interfaces are said to poison.
+/// Less poison takes nothing away: where a log shows right tables by a plan, it shows the same ones, as
+/// right, by the plan with less poison.
 pub fn less_poison()
-    ensures { (n : Network) (s : State) (more fewer : ℕ → Bool) (T : Tables) → IsLawful n →
-        ((i : ℕ) → fewer i ≡ true → more i ≡ true) → Shows n (told_where more s) T →
-        AllRight n (length s.prefixes) T → Shows n (told_where fewer s) T }
+    ensures shows { (n m : Network) (s : State) (T : Tables) → IsLawful n → HasLessPoison n m →
+        Shows n (told n s) T → AllRight n (length s.prefixes) T → Shows m (told m s) T }
+    ensures right { (n m : Network) (count : ℕ) (T : Tables) → HasLessPoison n m →
+        AllRight n count T → AllRight m count T }
+{}
+
+/// What a neighbour offers is the same by what is told and by what is shown.
+pub fn told_offers()
+    ensures { (n : Network) (s : State) (r l t p v : ℕ) → p < length s.prefixes →
+        Offers n (told n s) r l t p v ↔ Offers n s r l t p v }
 {}
 
 /// Where `two ways` is the reason why no route can be read, the router shows 16 on two of its interfaces

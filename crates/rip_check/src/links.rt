@@ -28,7 +28,7 @@ pub(crate) const NOTHING: TwoLeast = TwoLeast {
     next: 16,
 };
 
-/// What an interface shows, 16 where it shows nothing.
+/// What an interface tells, 16 where it tells nothing.
 fn seen_at<T: MetricTable>(plan: &Plan, table: &T, interface: usize, prefix: usize) -> u32
     requires fits { Fits plan.now (T.state table.now) }
     requires interface { interface < length plan.now.interfaces }
@@ -100,7 +100,7 @@ fn add_interface(plan: &Plan, interface: usize, metric: u32, links: &mut [TwoLea
     }
 }
 
-/// Writes the two least metrics that are shown of a prefix on each link. 16 is there to begin with.
+/// Writes the two least metrics that are told of a prefix on each link. 16 is there to begin with.
 pub(crate) fn fill<T: MetricTable>(plan: &Plan, table: &T, prefix: usize, links: &mut [TwoLeast])
     requires fits { Fits plan.now (T.state table.now) }
     requires prefix { prefix < length (T.state table.now).prefixes }

@@ -15,7 +15,7 @@ use rip_plan::{Interface, Plan};
 use rip_table::MetricTable;
 use rip_wire::Metric;
 
-/// What a neighbour offers that shows this, over a link of this cost (RFC 2453, section 3.9.2).
+/// What a neighbour offers that tells this, over a link of this cost (RFC 2453, section 3.9.2).
 fn offer_of(cost: u8, shown: Option<u32>) -> u32
     requires { IfSome shown (λ m. m ≤ 16) }
     ensures { result ≡ min 16 (cost + unwrap_or shown 16) }
@@ -84,7 +84,7 @@ pub(crate) fn least_told(own: Interface, two: TwoLeast, best: u32) -> u32
 }
 
 /// The least of `best` and of what the neighbours over the link of an interface offer: by the two least
-/// metrics that are shown on each link, where they are known, or else by asking each neighbour.
+/// metrics that are told on each link, where they are known, or else by asking each neighbour.
 pub(crate) fn best_over<T: MetricTable>(
     plan: &Plan,
     table: &T,

@@ -82,7 +82,7 @@ fn read_route<T: MetricTable>(
     })
 }
 
-/// The link of a router's first interface that shows nothing.
+/// The link of a router's first interface that tells nothing.
 fn first_gap<T: MetricTable>(plan: &Plan, table: &T, router: usize, prefix: usize) -> Option<usize>
     requires fits { Fits plan.now (T.state table.now) }
     requires router { router < length plan.now.routers }

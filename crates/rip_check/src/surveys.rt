@@ -1,4 +1,4 @@
-//! What a router shows of a prefix, found by one walk over its interfaces.
+//! What a router tells of a prefix, found by one walk over its interfaces.
 
 ghost use Rattle.std.specs.Prelude.{◌≡◌, ◌↔◌, ℕ, ◌+◌, ◌<◌, ◌≤◌, Decides, IfSome, None, Some, length};
 ghost use Rattle.rip_plan.specs.Network.{Network};
@@ -13,27 +13,27 @@ use crate::lookup::{may_hold_back, told_at};
 use rip_plan::Plan;
 use rip_table::MetricTable;
 
-/// What a router shows of a prefix.
+/// What a router tells of a prefix.
 #[derive(Clone, Copy)]
 pub(crate) struct Survey {
-    /// The first metric below 16 that is shown, or 16.
+    /// The first metric below 16 that is told, or 16.
     pub metric: u32,
-    /// Whether another metric below 16 is shown.
+    /// Whether another metric below 16 is told.
     pub another: bool,
     /// The link of the first silent interface (nothing or 16) on a link that does not carry the prefix
     /// and to which it is not attached. Where there is none the route may be the router's own, which
     /// may be held back on those links.
     pub silent: Option<usize>,
-    /// Whether this cannot come from a route over one link, which is poisoned there and shown
+    /// Whether this cannot come from a route over one link, which is poisoned there and told
     /// everywhere else: two interfaces are silent, or one on a link that carries the prefix or to which
-    /// it is attached, or the interface on the link of `silent` shows nothing, and not 16.
+    /// it is attached, or the interface on the link of `silent` tells nothing, and not 16.
     pub blocked: bool,
-    /// Whether a metric below 16 is shown on the link to which the prefix is attached, so that the
+    /// Whether a metric below 16 is told on the link to which the prefix is attached, so that the
     /// route is not the router's own.
     pub not_here: bool,
 }
 
-/// Adds an interface that shows this metric below 16, on the link to which the prefix is attached or on
+/// Adds an interface that tells this metric below 16, on the link to which the prefix is attached or on
 /// another.
 fn add_speech(found: &mut Survey, on_attached: bool, metric: u32)
     requires low { 1 ≤ metric }
@@ -50,7 +50,7 @@ fn add_speech(found: &mut Survey, on_attached: bool, metric: u32)
     }
 }
 
-/// Adds an interface that is on this link and shows nothing or 16, by the link to which the prefix is
+/// Adds an interface that is on this link and tells nothing or 16, by the link to which the prefix is
 /// attached.
 fn add_silence(
     plan: &Plan,
@@ -75,7 +75,7 @@ fn add_silence(
     }
 }
 
-/// Adds an interface that is on this link and shows this, by the link to which the prefix is attached.
+/// Adds an interface that is on this link and tells this, by the link to which the prefix is attached.
 fn add_shown(
     plan: &Plan,
     found: &mut Survey,
@@ -96,7 +96,7 @@ fn add_shown(
     }
 }
 
-/// What a router shows of a prefix. Every place is read by it, so it stands in the loop over them.
+/// What a router tells of a prefix. Every place is read by it, so it stands in the loop over them.
 #[inline(always)]
 pub(crate) fn survey_of<T: MetricTable>(
     plan: &Plan,

@@ -29,11 +29,11 @@ pub enum Unclear {
         router: usize,
         prefix: usize,
     },
-    /// A router shows nothing of a prefix on a link, and no route of it can be read.
+    /// A router shows nothing of a prefix on a link where it poisons, and no route of it can be read.
     Missing {
         router: usize,
         prefix: usize,
-        /// The first link on which it shows nothing.
+        /// The first link on which it poisons and shows nothing.
         link: usize,
     },
     /// A router shows a metric below 16 for a prefix on each of its links, also on the one to which the
@@ -44,8 +44,8 @@ pub enum Unclear {
         /// The link to which the prefix is attached.
         link: usize,
     },
-    /// A router shows 16 for a prefix on two links and a metric below 16 on another, as if it had two
-    /// ways.
+    /// A router shows 16, or nothing where it does not poison, for a prefix on two links and a metric below
+    /// 16 on another, as if it had two ways.
     TwoWays {
         router: usize,
         prefix: usize,

@@ -1,5 +1,8 @@
-use Rattle.rip_check.proofs.LessPoisonLemmas.{less_poison}
+use Rattle.rip_check.proofs.AlikeLemmas.{less_poison, still_right}
 use Rattle.rip_check.proofs.laws.less_poison.Goals as goal
 
-pub returns : goal.returns
-returns c = less_poison
+pub returns-clause-shows : goal.returns-clause-shows
+returns-clause-shows c = less_poison
+
+pub returns-clause-right : goal.returns-clause-right
+returns-clause-right c = still_right
