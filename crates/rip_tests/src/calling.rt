@@ -1,5 +1,6 @@
 //! The callers that the pages `CALLING.md` of the libraries show.
 
+mod capture;
 mod check;
 mod log;
 mod plan;

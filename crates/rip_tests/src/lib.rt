@@ -5,6 +5,8 @@
 #[cfg(test)]
 mod calling;
 #[cfg(test)]
+mod capture;
+#[cfg(test)]
 mod check;
 pub mod devices;
 pub mod examples;
