@@ -157,6 +157,17 @@ fn failing_reads(rt: HostRuntime) {
     }
 }
 
+#[test]
+fn reads_what_a_record_needs(rt: HostRuntime) {
+    for (calls, reads) in [(0, 0), (1, 106), (2, 107), (3, 107)] {
+        let mut reader = reader_of(&rt, rt.alloc(), Pieces::new(&LITTLE, 1));
+        for _ in 0..calls {
+            assert!(rt; reader.next().is_ok());
+        }
+        assert!(rt; reader.into_source().into_reader().calls() == reads);
+    }
+}
+
 /// A file whose byte at a place is another has a fault.
 #[test]
 fn faults_of_files(rt: HostRuntime) {
