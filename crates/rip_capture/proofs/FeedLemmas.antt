@@ -1,7 +1,9 @@
 -- What is held behind bytes that were taken.
-use Rattle.std.proofs.Common.{◌≡◌, ◌+◌, ◌-◌, ◌≤◌, ℕ, List, [], ◌++◌, sym, append_assoc, append-nil, take, drop, ap, ◌∙◌, arith, length, slice_range}
+use Rattle.std.proofs.Common.{◌≡◌, ◌+◌, ◌-◌, ◌<◌, ◌≤◌, ℕ, List, [], ◌++◌, sym, append_assoc, append-nil, take, drop, ap, ◌∙◌, arith, length, slice_range}
 use Rattle.std.proofs.lemmas.List.{drop-take, drop-drop, length-append, take-append-drop, take-take}
-use Rattle.rip_capture.specs.Feeds.{Extends}
+use Rattle.rip_log.proofs.CutLemmas.{length-range}
+use Rattle.rip_capture.specs.Feeds.{Extends, held}
+use Rattle.rip_capture.specs.declared.feed.Feed.{Feed}
 
 pub range-drop : (items : List ℕ) (start end n : ℕ) → start + n ≤ end → drop n (slice_range items start end) ≡ slice_range items (start + n) end
 range-drop items start end n h =
@@ -28,3 +30,8 @@ Extends-length xs ys e = omega (arith, ap length e.whole, length-append xs e.mor
 
 pub Extends-take : (n : ℕ) (xs : List ℕ) → Extends (take n xs) xs
 Extends-take n xs = record { more = drop n xs; whole = sym (take-append-drop n xs) }
+
+-- where enough is held, no more is wanted
+pub too_few : {R : Type 0} (old now : Feed R) (count : ℕ) → now ≡ old → count ≤ length (held old) → now.start ≤ now.end → now.end ≤ length now.buffer.items → now.end - now.start < count → ⊥
+too_few {R = R} old now count same enough ordered within short =
+    omega (arith, enough, ap (λ (f : Feed R). length (held f)) same, length-range now.buffer.items now.start now.end ordered within, short)

@@ -1,17 +1,18 @@
 -- Headers and records at the front of bytes.
-use Rattle.std.proofs.Common.{◌≡◌, ◌+◌, ◌%◌, ◌^◌, ◌≤◌, ◌∙◌, ℕ, Bool, false, List, [], ◌∷◌, ◌++◌, Result, Ok, Err, length, take, drop, ap, sym, refl, inr, subst, arith, append_assoc, append-nil}
+use Rattle.std.proofs.Common.{◌≡◌, ◌+◌, ◌%◌, ◌^◌, ◌≤◌, ◌∙◌, ℕ, Bool, List, [], ◌∷◌, ◌++◌, Result, Ok, Err, length, take, drop, ap, sym, refl, inr, subst, arith, append_assoc, append-nil}
 use Rattle.std.proofs.lemmas.List.{length-drop, length-take}
 use Rattle.rip_capture.specs.Captures.FrontFault.{pcap}
-use Rattle.rip_capture.specs.Codes.{is_unread}
+use Rattle.rip_capture.specs.Feeds.{held}
 use Rattle.rip_capture.specs.Finds.{FindsHeader, ReadsHeader}
 use Rattle.rip_capture.specs.LinkTypes.{number_of}
 use Rattle.rip_capture.specs.Numbers.{number_in}
-use Rattle.rip_capture.specs.Pcap.{AreRecords, Frame, IsMagic, IsPcap, IsPcapHeader, IsRecord, IsVersion, captured_len, link_number}
+use Rattle.rip_capture.specs.Pcap.{AreRecords, Frame, HoldsRecord, IsMagic, IsPcap, IsPcapHeader, IsRecord, IsVersion, captured_len, link_number}
 use Rattle.rip_capture.specs.Pcap.HeaderFault.{version, link_type}
 use Rattle.rip_capture.proofs.FeedLemmas.{Extends-take}
 use Rattle.rip_capture.proofs.NumberLemmas.{magic-front, number-stays, version-front}
 use Rattle.rip_capture.specs.declared.error.CaptureCode.{CaptureCode}
 use Rattle.rip_capture.specs.declared.error.CaptureCode.TheVariants.{Magic, Cut, Version, LinkType as NoLinkType, Length, Interface, OldPacket, Read}
+use Rattle.rip_capture.specs.declared.feed.Feed.{Feed}
 use Rattle.rip_capture.specs.declared.link.LinkType.{LinkType}
 use Rattle.rip_capture.specs.declared.numbers.Order.{Order}
 use Rattle.rip_capture.specs.declared.pcap.PcapHeader.{PcapHeader}
@@ -43,18 +44,6 @@ FindsHeader-read order b at_end (Err Length) room magic reads = absurd reads
 FindsHeader-read order b at_end (Err Interface) room magic reads = absurd reads
 FindsHeader-read order b at_end (Err OldPacket) room magic reads = absurd reads
 FindsHeader-read order b at_end (Err Read) room magic reads = absurd reads
-
--- it does not fail
-pub header-told : (order : Order) (b : List ℕ) (r : Result PcapHeader CaptureCode) → ReadsHeader order b r → is_unread r ≡ false
-header-told order b (Ok h) reads = refl
-header-told order b (Err Version) reads = refl
-header-told order b (Err NoLinkType) reads = refl
-header-told order b (Err Magic) reads = refl
-header-told order b (Err Cut) reads = refl
-header-told order b (Err Length) reads = refl
-header-told order b (Err Interface) reads = refl
-header-told order b (Err OldPacket) reads = refl
-header-told order b (Err Read) reads = absurd reads
 
 -- the first record of bytes
 pub record-of : (order : Order) (t : LinkType) (b : List ℕ) (n : ℕ) → 16 + n ≤ length b → captured_len order b ≡ n → n ≤ 262144
@@ -96,3 +85,10 @@ IsPcap-none order t header is = record {
   are_records = refl;
   whole = sym (append-nil header);
 }
+
+-- a second step that needs nothing where a whole record is held
+pub ready-on : {R : Type 0} (order : Order) (old first second : Feed R) (now : List ℕ) (n : ℕ) → HoldsRecord order (held old) → first ≡ old → now ≡ held first → n ≡ number_in order 8 now → (16 + n ≤ length (held first) → second ≡ first) → second ≡ old
+ready-on {R = R} order old first second now n holds is now_is n_is next =
+    let same = ap (λ (f : Feed R). held f) is in
+    let size = n_is ∙ ap (number_in order 8) (now_is ∙ same) in
+    next (omega (arith, size, ap length same, holds.packet)) ∙ is

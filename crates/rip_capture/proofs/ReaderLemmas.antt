@@ -9,7 +9,7 @@ use Rattle.rip_capture.specs.Codes.{EndsFor, is_read}
 use Rattle.rip_capture.specs.Feeds.{Keeps, Takes, held}
 use Rattle.rip_capture.specs.Finds.{FindsHeader, FindsRecord}
 use Rattle.rip_log.proofs.WholeLemmas.{went_on}
-use Rattle.rip_capture.specs.NextCall.{EndsHere, HasRead, IsOver, Runs, Stands, StopsAt, TakesPacket, has_begun, source_of}
+use Rattle.rip_capture.specs.NextCall.{EndsHere, HasRead, HoldsPacket, IsOver, Runs, Stands, StopsAt, TakesPacket, has_begun, held_by, source_of}
 use Rattle.rip_capture.specs.Pcap.{Frame, IsPcap, RecordFault}
 use Rattle.rip_capture.specs.Steps.{Begins, frame_at, place_at}
 use Rattle.rip_capture.proofs.PcapLemmas.{IsPcap-none, IsPcap-snoc, record-of}
@@ -144,11 +144,16 @@ Runs-refused {R = R} given coming broken at_end old mid new e is r =
       moves = record { went = r.moves.went; failed = r.moves.failed; marks = r.moves.marks };
       over = λ h. cc h;
       stays_over = r.stays_over;
+      ready = r.ready;
     })
 
 begun-is : (f : Format) → has_begun f ≡ true → (h : PcapHeader) × (f ≡ Pcap h)
 begun-is Unread b = cc b
 begun-is (Pcap h) b = (h, refl)
+
+packet-begun : (f : Format) (b : List ℕ) → HoldsPacket f b → has_begun f ≡ true
+packet-begun Unread b holds = absurd holds
+packet-begun (Pcap h) b holds = refl
 
 -- behind a header that was read now or before
 pub Runs-on : {R : Type 0} (given : R → List ℕ) (coming : R → Option (List ℕ)) (broken at_end : R → Bool) (old mid new : CaptureReader R) (h : PcapHeader) (result : Result (Option Found) CaptureError)
@@ -162,6 +167,10 @@ Runs-on {R = R} given coming broken at_end old mid new h result b r = record {
   };
   over = r.over;
   stays_over = λ o. let is = begun-is old.format o.begun in r.stays_over (subst (λ (n : CaptureReader R). IsOver at_end n) (sym (b.kept is.0 is.1).1) o);
+  ready = λ holds.
+      let is = begun-is old.format (packet-begun old.format (held_by old) holds) in
+      let same = (b.kept is.0 is.1).1 in
+      r.ready (subst (λ (n : CaptureReader R). HoldsPacket n.format (held_by n)) (sym same) holds) ∙ ap (λ (n : CaptureReader R). source_of n) same;
 }
 
 -- where it could not be read
@@ -172,4 +181,5 @@ Runs-stopped given coming broken at_end old new e b = record {
   moves = record { went = b.moves.went; failed = b.moves.failed; marks = b.moves.marks };
   over = λ h. cc h;
   stays_over = λ o. let is = begun-is old.format o.begun in cc (b.kept is.0 is.1).0;
+  ready = λ holds. let is = begun-is old.format (packet-begun old.format (held_by old) holds) in cc (b.kept is.0 is.1).0;
 }

@@ -4,7 +4,7 @@ use Rattle.rip_log.specs.Wholes.{Went}
 use Rattle.rip_capture.specs.Captures.{CaptureFault, IsCapture}
 use Rattle.rip_capture.specs.Codes.{EndsFor, is_read}
 use Rattle.rip_capture.specs.Feeds.{held}
-use Rattle.rip_capture.specs.Pcap.{Frame, IsPcap}
+use Rattle.rip_capture.specs.Pcap.{Frame, HoldsRecord, IsPcap}
 use Rattle.rip_capture.specs.declared.error.CaptureError.{CaptureError}
 use Rattle.rip_capture.specs.declared.reader.CaptureReader.{CaptureReader}
 use Rattle.rip_capture.specs.declared.reader.Format.{Format}
@@ -97,6 +97,11 @@ pub record IsOver {R : Type 0} (at_end : R → Bool) (reader : CaptureReader R) 
   pub all : held_by reader ≡ []
   pub ended : at_end (source_of reader) ≡ true
 
+-- bytes of a file of this kind, behind its front, begin with a whole record
+abbrev pub HoldsPacket : Format → List ℕ → Type 0
+HoldsPacket Unread b = ⊥
+HoldsPacket (Pcap h) b = HoldsRecord h.order b
+
 -- the next part of the file may end past the greatest offset
 abbrev pub IsFar : {R : Type 0} → CaptureReader R → Type 0
 IsFar reader = 2 ^ 64 ≤ position_of reader + 2 ^ 32
@@ -123,6 +128,8 @@ pub record Runs {R X : Type 0} (given : R → List ℕ) (coming : R → Option (
   pub moves : Moves given coming broken at_end old new result
   pub over : result ≡ Ok None → IsOver at_end new
   pub stays_over : IsOver at_end old → result ≡ Ok None
+  -- nothing is pulled where the next record is held
+  pub ready : HoldsPacket old.format (held_by old) → source_of new ≡ source_of old
 
 -- the error of an answer
 abbrev pub error_of : {A : Type 0} → Result A CaptureError → Option CaptureError

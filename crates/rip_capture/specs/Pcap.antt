@@ -69,6 +69,11 @@ pub record IsPcap (b : List ℕ) (order : Order) (link_type : LinkType) (frames 
   pub are_records : AreRecords order link_type records frames
   pub whole : b ≡ header ++ records
 
+-- bytes begin with a whole record
+pub record HoldsRecord (order : Order) (b : List ℕ) : Type 0 where
+  pub header : RECORD_HEADER ≤ length b
+  pub packet : RECORD_HEADER + captured_len order b ≤ length b
+
 -- what is wrong with the header of a file of this order, the first of these
 pub data HeaderFault (order : Order) (b : List ℕ) (code : CaptureCode) : Type 0 where
   cut : length b < FILE_HEADER → code ≡ Cut → HeaderFault order b code

@@ -120,6 +120,7 @@ impl<R: Source> Feed<R> {
         ensures err { OnErr result (R.broken self.new.source ≡ true) }
         ensures stays { R.at_end self.old.source ≡ true →
             (held self.new ≡ held self.old) × (is_err result ≡ false) }
+        ensures ready { count ≤ length (held self.old) → self.new ≡ self.old }
     {
         'pulls: while self.end - self.start < count {
             if self.source.ended() {

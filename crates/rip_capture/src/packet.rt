@@ -2,7 +2,7 @@
 
 ghost use Rattle.std.specs.Prelude.{◌≡◌, ◌+◌, ◌≤◌, length};
 ghost use Rattle.rip_capture.specs.Carries.{Carries, LiesWithin};
-ghost use Rattle.rip_capture.specs.Packets.{IpCarries};
+ghost use Rattle.rip_capture.specs.Packets.{IpCarries, IsToGroup};
 
 use crate::frame::{Network, network_of};
 use crate::limits::{GROUP, IP_HEADER, MOST_PAYLOAD, PORT, UDP, UDP_HEADER};
@@ -33,32 +33,15 @@ pub enum Carried {
     Others,
 }
 
-/// What the network's bytes of a frame carry, which begin at a place in it.
-fn read_packet(packet: &[u8], place: usize) -> Carried
-    requires { place + length packet.now ≤ usize.MAX }
+/// What an IPv4 packet of UDP to the group carries, which begins at a place in its frame.
+fn read_to_group(packet: &[u8], place: usize) -> Carried
+    requires room { place + length packet.now ≤ usize.MAX }
+    requires to_group { IsToGroup packet.now }
     ensures carries { IpCarries place packet.now result }
     ensures lies { LiesWithin (place + length packet.now) result }
 {
-    if packet.is_empty() {
-        return Carried::Unknown;
-    }
-    if packet[0] / 16 != 4 || packet[0] % 16 < 5 {
-        return Carried::Others;
-    }
-    if packet.len() < IP_HEADER {
-        return Carried::Unknown;
-    }
-    if packet[9] != UDP {
-        return Carried::Others;
-    }
     let udp = 4 * usize::from(packet[0] % 16);
     let fragment = u16_at(packet, 6);
-    if u32_at(packet, 16) != GROUP {
-        if fragment % 8192 == 0 && udp + 4 <= packet.len() && u16_at(packet, udp + 2) == PORT {
-            return Carried::Elsewhere;
-        }
-        return Carried::Others;
-    }
     let sender = Address::new(u32_at(packet, 12));
     if fragment % 8192 != 0 {
         return Carried::Fragment(sender);
@@ -87,6 +70,36 @@ fn read_packet(packet: &[u8], place: usize) -> Carried
         to: place + udp + size,
     };
     Carried::Datagram(sender, span)
+}
+
+/// What the network's bytes of a frame carry, which begin at a place in it.
+fn read_packet(packet: &[u8], place: usize) -> Carried
+    requires { place + length packet.now ≤ usize.MAX }
+    ensures carries { IpCarries place packet.now result }
+    ensures lies { LiesWithin (place + length packet.now) result }
+{
+    if packet.is_empty() {
+        return Carried::Unknown;
+    }
+    if packet[0] / 16 != 4 || packet[0] % 16 < 5 {
+        return Carried::Others;
+    }
+    if packet.len() < IP_HEADER {
+        return Carried::Unknown;
+    }
+    if packet[9] != UDP {
+        return Carried::Others;
+    }
+    if u32_at(packet, 16) == GROUP {
+        return read_to_group(packet, place);
+    }
+    let udp = 4 * usize::from(packet[0] % 16);
+    let first = u16_at(packet, 6) % 8192 == 0;
+    if first && udp + 4 <= packet.len() && u16_at(packet, udp + 2) == PORT {
+        Carried::Elsewhere
+    } else {
+        Carried::Others
+    }
 }
 
 /// What a frame of a link type carries. Lengths are those of the IPv4 and UDP headers (RFC 791, RFC 768),

@@ -6,7 +6,7 @@ ghost use Rattle.rip_capture.specs.Captures.{HasMagic};
 ghost use Rattle.rip_capture.specs.Codes.{is_unread};
 ghost use Rattle.rip_capture.specs.Feeds.{held, Keeps};
 ghost use Rattle.rip_capture.specs.Finds.{FindsHeader, FindsRecord, ReadsHeader};
-ghost use Rattle.rip_capture.specs.Pcap.{IsMagic};
+ghost use Rattle.rip_capture.specs.Pcap.{HoldsRecord, IsMagic};
 
 use crate::error::CaptureCode;
 use crate::feed::Feed;
@@ -91,6 +91,7 @@ pub(crate) fn next_record<R: Source>(
     ensures marks { is_unread result ≡ false →
         R.broken feed.new.source ≡ R.broken feed.old.source }
     ensures over { held feed.old ≡ [] → R.at_end feed.old.source ≡ true → result ≡ Ok None }
+    ensures ready { HoldsRecord order (held feed.old) → feed.new ≡ feed.old }
 {
     let Ok(begun) = feed.fill(RECORD_HEADER) else {
         return Err(CaptureCode::Read);

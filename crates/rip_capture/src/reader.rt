@@ -175,9 +175,9 @@ impl<R: Source> CaptureReader<R> {
     }
 
     /// The next packet, which borrows the reader's buffer, or None at the end of the file. It allocates
-    /// nothing. An error is the first fault of the file, or Read where the source failed (or a part of the
-    /// file may end past the offset 2 ^ 64 - 1). After an error each call answers the same error, and pulls
-    /// nothing; after the end each call answers None.
+    /// nothing, and pulls nothing for a record that it holds. An error is the first fault of the file, or
+    /// Read where the source failed (or a part of the file may end past the offset 2 ^ 64 - 1). After an
+    /// error each call answers the same error, and pulls nothing; after the end each call answers None.
     pub fn next(&mut self) -> Result<Option<Packet<'_>>, CaptureError>
         // Once the packet that it lends is let go, the reader is as `NextCall` says.
         ensures* leaves { sem 𝓛 (Rests (the_row R.row) self.entry (λ new.

@@ -1,8 +1,10 @@
 //! Captures: files of both byte orders, in pieces, cut, and from readers that fail.
 
 use crate::devices::Pieces;
-use rip_capture::{CaptureCode, CaptureError, CaptureReader, Carried, LinkType, Packet, Span};
-use rip_capture::{password_in, read_frame};
+use rip_capture::{
+    CaptureCode, CaptureError, CaptureReader, Carried, LinkType, Packet, Span, password_in,
+    read_frame,
+};
 use rip_log::{FromRead, Source};
 use rip_wire::Address;
 use std::alloc::Global;
@@ -116,7 +118,16 @@ fn files_in_any_pieces(rt: HostRuntime) {
 /// Where a file is cut that ends after so many bytes.
 #[test]
 fn files_that_are_cut(rt: HostRuntime) {
-    for (len, at) in [(0, 0), (3, 0), (4, 0), (23, 0), (25, 24), (39, 24), (40, 24), (105, 24)] {
+    for (len, at) in [
+        (0, 0),
+        (3, 0),
+        (4, 0),
+        (23, 0),
+        (25, 24),
+        (39, 24),
+        (40, 24),
+        (105, 24),
+    ] {
         let file = LITTLE.get(..len).expect(&rt, "a front");
         let mut reader = reader_of(&rt, rt.alloc(), Pieces::new(file, 1));
         let fault = CaptureError {
@@ -129,7 +140,13 @@ fn files_that_are_cut(rt: HostRuntime) {
 
 #[test]
 fn failing_reads(rt: HostRuntime) {
-    for (call, packets, at) in [(1, 0, 0), (24, 0, 0), (25, 0, 24), (106, 0, 24), (107, 1, 106)] {
+    for (call, packets, at) in [
+        (1, 0, 0),
+        (24, 0, 0),
+        (25, 0, 24),
+        (106, 0, 24),
+        (107, 1, 106),
+    ] {
         let mut reader = reader_of(&rt, rt.alloc(), Pieces::failing(&LITTLE, call));
         let fault = CaptureError {
             code: CaptureCode::Read,
@@ -137,6 +154,17 @@ fn failing_reads(rt: HostRuntime) {
         };
         expect_file(&rt, &mut reader, packets, Some(fault));
         assert!(rt; reader.into_source().failed());
+    }
+}
+
+#[test]
+fn reads_what_a_record_needs(rt: HostRuntime) {
+    for (calls, reads) in [(0, 0), (1, 106), (2, 107), (3, 107)] {
+        let mut reader = reader_of(&rt, rt.alloc(), Pieces::new(&LITTLE, 1));
+        for _ in 0..calls {
+            assert!(rt; reader.next().is_ok());
+        }
+        assert!(rt; reader.into_source().into_reader().calls() == reads);
     }
 }
 

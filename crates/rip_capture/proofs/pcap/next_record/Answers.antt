@@ -2,6 +2,7 @@ use Rattle.std.proofs.Common.{arith, ◌∙◌, Ok, sym, ap, inr, refl}
 use Rattle.rip_log.proofs.WholeLemmas.{went_on}
 use Rattle.rip_capture.proofs.FeedLemmas.{Extends-length}
 use Rattle.rip_capture.proofs.NumberLemmas.{number-stays}
+use Rattle.rip_capture.proofs.PcapLemmas.{ready-on}
 use Rattle.rip_capture.specs.Feeds.{held}
 use Rattle.rip_capture.specs.Numbers.{number_in}
 use Rattle.rip_capture.specs.Pcap.RecordFault.{packet}
@@ -32,3 +33,15 @@ returns-else-whole-clause-found g c =
     let short = c.in-Ok-fill.ensures.none (ap Ok c.if-whole.false) in
     let longer = Extends-length (held c.fill.new.self) (held c.fill-2.new.self) c.fill-2.ensures.held in
     inr (packet (omega (arith, enough, longer)) (omega (arith, is, c.if-captured-gt-MOST_CAPTURED.false)) (omega (arith, is, short.0)) refl, λ e. short.1)
+
+pub returns-in_default-fill-clause-ready : goal.returns-in_default-fill-clause-ready
+returns-in_default-fill-clause-ready g c = λ holds.
+    ready-on c.args.order c.args.feed.now c.fill.new.self c.fill-2.new.self c.held-2.result.now c.number_in-captured.result holds (c.fill.ensures.ready holds.header) c.held-2.ensures c.number_in-captured.ensures c.fill-2.ensures.ready
+
+pub returns-then-whole-clause-ready : goal.returns-then-whole-clause-ready
+returns-then-whole-clause-ready g c = λ holds.
+    ready-on c.args.order c.args.feed.now c.fill.new.self c.fill-2.new.self c.held-2.result.now c.number_in-captured.result holds (c.fill.ensures.ready holds.header) c.held-2.ensures c.number_in-captured.ensures c.fill-2.ensures.ready
+
+pub returns-else-whole-clause-ready : goal.returns-else-whole-clause-ready
+returns-else-whole-clause-ready g c = λ holds.
+    ready-on c.args.order c.args.feed.now c.fill.new.self c.fill-2.new.self c.held-2.result.now c.number_in-captured.result holds (c.fill.ensures.ready holds.header) c.held-2.ensures c.number_in-captured.ensures c.fill-2.ensures.ready

@@ -3,9 +3,12 @@ use Rattle.std.proofs.lemmas.Bool.{false≢true}
 use Rattle.rip_log.specs.Wholes.{Went}
 use Rattle.rip_capture.proofs.FeedLemmas.{range-drop}
 use Rattle.rip_capture.proofs.ReaderLemmas.{EndsHere-found, StopsAt-record, TakesPacket-found}
-use Rattle.rip_capture.specs.NextCall.{has_begun}
+use Rattle.rip_capture.specs.Feeds.{held}
+use Rattle.rip_capture.specs.NextCall.{HoldsPacket, has_begun}
 use Rattle.rip_capture.specs.Pcap.{Frame}
+use Rattle.rip_capture.specs.declared.feed.Feed.{Feed}
 use Rattle.rip_capture.specs.declared.reader.CaptureReader.{CaptureReader}
+use Rattle.rip_capture.specs.declared.reader.Format.{Format}
 use Rattle.rip_capture.proofs.reader.CaptureReader.read_record.Goals as goal
 
 pub returns-in-Err-clause-runs : goal.returns-in-Err-clause-runs
@@ -22,6 +25,7 @@ returns-in-Err-clause-runs g c =
       };
       over = λ h. cc h;
       stays_over = λ o. cc (c.in-Err.ensures.over o.all o.ended);
+      ready = λ holds. ap (λ (f : Feed g.row.R.Denot). f.source) (c.next_record.ensures.ready (subst (λ (f : Format). HoldsPacket f (held old.feed)) c.requires holds));
     }
 
 pub returns-in-Ok-None-clause-runs : goal.returns-in-Ok-None-clause-runs
@@ -39,6 +43,7 @@ returns-in-Ok-None-clause-runs g c =
       };
       over = λ h. record { begun = ap has_begun c.requires; all = found.0; ended = found.1 };
       stays_over = λ o. refl;
+      ready = λ holds. ap (λ (f : Feed g.row.R.Denot). f.source) (c.next_record.ensures.ready (subst (λ (f : Format). HoldsPacket f (held old.feed)) c.requires holds));
     }
 
 pub returns-clause-runs : goal.returns-clause-runs
@@ -64,4 +69,5 @@ returns-clause-runs g c =
       };
       over = λ e. cc e;
       stays_over = λ o. cc (c.in-Ok-Some.ensures.over o.all o.ended);
+      ready = λ holds. took.ensures.source ∙ ap (λ (f : Feed g.row.R.Denot). f.source) (c.next_record.ensures.ready (subst (λ (f : Format). HoldsPacket f (held old.feed)) c.requires holds));
     }
