@@ -37,11 +37,11 @@ function interface_item(router, net,    name, text, key, further, n, i) {
 }
 
 # Says that an own prefix is kept. One at 1 is anyway, since every offer costs more; of a static default it is written all the
-# same. FRR gives a static up for an offer where its distance is above 120, that of RIP.
+# same. FRR gives a static up for an offer where its distance is that of RIP, 120, or above.
 function keep(router, prefix, letter, cost_here,    far) {
     if (cost_here <= 1 && (letter != "S" || prefix != "0.0.0.0/0")) return ""
     far = (router, prefix) in distance ? distance[router, prefix] : 1
-    if (letter == "S" && far > 120) {
+    if (letter == "S" && far >= 120) {
         guess("that it is not kept, at distance " far)
         return ""
     }

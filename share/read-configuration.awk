@@ -26,6 +26,7 @@ function read_rip(    letter, way) {
     way = $2 == "prefix" ? 4 : 3
     if ($1 == "distribute-list" && $way == "out")
         add_unsaid($(way + 1), "that it filters what it sends, by distribute-list " $(way - 1))
+    if ($1 == "route-map" && $3 == "out") add_unsaid($4, "that it changes what it sends, by route-map " $2)
     if ($1 == "allow-ecmp") add_unsaid("", "that it goes several equal ways at once, by allow-ecmp")
     if ($1 != "redistribute") return
     letter = toupper(substr($2, 1, 1))
