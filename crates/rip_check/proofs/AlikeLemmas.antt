@@ -1,19 +1,19 @@
 -- Only what is told asks which interfaces poison: plans that are alike but for it have the same paths, and
 -- the same tables are shown.
-use Rattle.std.proofs.Common.{◌≡◌, ◌↔◌, ◌⊎◌, ℕ, ◌<◌, ◌+◌, inl, inr, Bool, true, Option, None, Some, List, [], ◌∷◌, length, map, min, unwrap_or, slice_get, option_map, refl, sym, ◌∙◌, ap, subst}
+use Rattle.std.proofs.Common.{◌≡◌, ◌↔◌, ◌⊎◌, ℕ, ◌<◌, ◌+◌, inl, inr, Bool, true, Option, None, Some, List, [], ◌∷◌, length, min, unwrap_or, slice_get, option_map, refl, sym, ◌∙◌, ap, subst}
 use Rattle.std.specs.Option.{option_map_or}
 use Rattle.std.proofs.lemmas.Option.{none-some, same_Some, slice_get-map}
 use Rattle.rip_plan.specs.Network.{Network}
 use Rattle.rip_plan.specs.declared.parts.Interface.{Interface}
 use Rattle.rip_plan.specs.declared.parts.Seat.{Seat}
 use Rattle.rip_plan.specs.declared.parts.Seat.TheVariants.{Link}
-use Rattle.rip_plan.specs.Relations.{Carries, HasCost, IsAttached, IsConnected, IsDirect, IsInterface, IsKept, IsLawful, IsLeaf, IsNeighbour, IsOn, IsOwnAt, IsPlace, Poisons, Touches}
+use Rattle.rip_plan.specs.Relations.{Carries, HasCost, IsAttached, IsConnected, IsDirect, IsInterface, IsKept, IsLawful, IsLeaf, IsNeighbour, IsOn, IsOwnAt, IsPlace, Touches}
 use Rattle.rip_table.specs.State.{State}
 use Rattle.rip_check.specs.declared.way.Way.{Way}
 use Rattle.rip_check.specs.declared.way.Way.TheVariants.{Unreachable, Here, Over}
 use Rattle.rip_check.specs.Metrics.{metric_at}
-use Rattle.rip_check.specs.Paths.{HasPathOver, Hop, IsLeast, IsPath, MayHop}
-use Rattle.rip_check.specs.Settled.{AllRight, GoesRight, IsRight}
+use Rattle.rip_check.specs.Paths.{Hop, IsLeast, IsPath, MayHop}
+use Rattle.rip_check.specs.Settled.{AllRight, GoesRight}
 use Rattle.rip_check.specs.Tables.{FitsShown, FitsWay, IsHiddenRoute, IsLeastOffer, MayHoldBack, MayShow, Offers, Route, Shows, Tables}
 use Rattle.rip_check.specs.Told.{AreAlike, HasLessPoison, poisoning, poisons, told}
 use Rattle.rip_check.proofs.LessPoisonLemmas.{fewer_poison}

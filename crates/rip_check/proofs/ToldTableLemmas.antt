@@ -1,14 +1,14 @@
 -- What is told is a metric where what is shown is one, and is offered as what is shown.
-use Rattle.std.proofs.Common.{◌≡◌, ℕ, ◌<◌, ◌≤◌, Bool, true, false, cond, Option, None, Some, get_or, length, slice_get, option_and_then, unwrap_or, refl, ◌∙◌, ap, arith}
+use Rattle.std.proofs.Common.{◌≡◌, ℕ, ◌<◌, ◌≤◌, ◌↔◌, inl, inr, Bool, true, false, cond, Option, None, Some, get_or, length, slice_get, option_and_then, unwrap_or, refl, sym, ◌∙◌, ap, arith}
 use Rattle.std.specs.Option.{option_map_or}
 use Rattle.std.proofs.lemmas.Option.{none-some, same_Some, slice_get-get_or}
 use Rattle.rip_wire.specs.Prefix.{Block, block}
 use Rattle.rip_plan.specs.Network.{Network}
-use Rattle.rip_plan.specs.Relations.{Poisons}
+use Rattle.rip_plan.specs.Relations.{IsInterface, Poisons}
 use Rattle.rip_plan.specs.declared.parts.Interface.{Interface}
 use Rattle.rip_table.specs.State.{State}
 use Rattle.rip_check.specs.Metrics.{IsInRange, metric_at}
-use Rattle.rip_check.specs.Told.{poisons, told_of, told_where}
+use Rattle.rip_check.specs.Told.{TellsMetric, poisons, told, told_of, told_where}
 
 -- whether an interface of the plan poisons
 pub its_poison : (n : Network) (i : ℕ) (x : Interface) → slice_get n.interfaces i ≡ Some x → poisons n i ≡ x.poison
@@ -32,6 +32,30 @@ told_shown poison s i k m lt e = told_metric poison s i k lt ∙ ap (told_of (po
 pub told_silent : (poison : ℕ → Bool) (s : State) (i k : ℕ) → k < length s.prefixes → metric_at s i k ≡ None → metric_at (told_where poison s) i k ≡ cond (poison i) None (Some 16)
 unfolding told_of
 told_silent poison s i k lt e = told_metric poison s i k lt ∙ ap (told_of (poison i)) e
+
+pub told_metrics : (n : Network) (s : State) (i r l c p m : ℕ) → IsInterface n i r l c → p < length s.prefixes → (metric_at (told n s) i p ≡ Some m) ↔ TellsMetric n s i p m
+told_metrics n s i r l c p m its lt = (by_shown (metric_at s i p) refl, back)
+  where
+    silent : (b : Bool) → poisons n i ≡ b → cond b None (Some 16) ≡ Some m → (Poisons n i → ⊥) × (m ≡ 16)
+    silent true on e = absurd (none-some m e)
+    silent false off e = (λ is. (let clash : false ≡ true = sym off ∙ surely_poisons n i is in cc clash), sym (same_Some 16 m e))
+
+    by_shown : (o : Option ℕ) → metric_at s i p ≡ o → metric_at (told n s) i p ≡ Some m → TellsMetric n s i p m
+    by_shown None at e =
+        let (keeps, is) = silent (poisons n i) refl (sym (told_silent (poisons n) s i p lt at) ∙ e) in
+        inr (at, keeps, is)
+    by_shown (Some v) at e = inl (at ∙ sym (told_shown (poisons n) s i p v lt at) ∙ e)
+
+    at_last : (b : Bool) → its.poison ≡ b → (Poisons n i → ⊥) → m ≡ 16 → cond b None (Some 16) ≡ Some m
+    at_last true on keeps is = absurd (keeps (record { interface = _; listed = its.listed; poisons = on }))
+    at_last false off keeps is = ap Some (sym is)
+
+    back : TellsMetric n s i p m → metric_at (told n s) i p ≡ Some m
+    back (inl shown) = told_shown (poisons n) s i p m lt shown
+    back (inr (none, keeps, is)) =
+        told_silent (poisons n) s i p lt none
+        ∙ ap (λ (b : Bool). cond b None (Some 16)) (its_poison n i _ its.listed)
+        ∙ at_last its.poison refl keeps is
 
 -- nothing and 16 offer the same
 unwrapped : (poison : Bool) (x : Option ℕ) → unwrap_or (told_of poison x) 16 ≡ unwrap_or x 16

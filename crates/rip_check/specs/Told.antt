@@ -1,11 +1,12 @@
 -- What the interfaces of a plan tell: what they show, and 16 where they show nothing and do not
 -- poison.
-use Rattle.std.specs.Prelude.{◌≡◌, ℕ, Bool, true, Option, None, Some, if◌then◌else◌, map, slice_get}
+use Rattle.std.specs.Prelude.{◌≡◌, ◌⊎◌, ℕ, Bool, true, Option, None, Some, if◌then◌else◌, map, slice_get}
 use Rattle.std.specs.Option.{option_map_or}
 use Rattle.rip_plan.specs.Network.{Network}
 use Rattle.rip_plan.specs.declared.parts.Interface.{Interface}
 use Rattle.rip_plan.specs.Relations.{IsInterface, Poisons}
 use Rattle.rip_table.specs.State.{State}
+use Rattle.rip_check.specs.Metrics.{metric_at}
 
 -- what an interface tells that shows this: simple split horizon leaves out what poisoned reverse shows
 -- with 16 (RFC 2453, 3.4.3)
@@ -20,6 +21,13 @@ told_where poison s = record s { shows = λ i p. told_of (poison i) (s.shows i p
 -- interface i poisons
 abbrev pub poisons : Network → ℕ → Bool
 poisons n i = option_map_or (λ x. x.poison) (slice_get n.interfaces i) true
+
+-- interface i tells metric m of prefix p: it shows it, or it shows nothing and does not poison, and m is
+-- 16
+abbrev pub TellsMetric : Network → State → ℕ → ℕ → ℕ → Type 0
+TellsMetric n s i p m =
+    (metric_at s i p ≡ Some m)
+    ⊎ ((metric_at s i p ≡ None) × (Poisons n i → ⊥) × (m ≡ 16))
 
 -- all interfaces poison
 abbrev pub EachPoisons : Network → Type 0

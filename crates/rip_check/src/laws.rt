@@ -1,19 +1,19 @@
 //! Laws of settled tables: functions that do nothing, whose contracts hold of every plan and every
 //! table.
 
-ghost use Rattle.std.specs.Prelude.{◌≡◌, ℕ, ◌↔◌, ◌<◌, ◌≤◌, Bool, List, length, true};
+ghost use Rattle.std.specs.Prelude.{◌≡◌, ℕ, ◌↔◌, ◌<◌, ◌≤◌, List, Some, length};
 ghost use Rattle.rip_plan.specs.Network.{Network};
-ghost use Rattle.rip_plan.specs.Relations.{IsAttached, IsLawful, IsPlain};
+ghost use Rattle.rip_plan.specs.Relations.{IsAttached, IsInterface, IsLawful, IsPlain};
 ghost use Rattle.rip_table.specs.State.{State};
 ghost use Rattle.rip_check.specs.Expected.{IsExpected};
 ghost use Rattle.rip_check.specs.Failures.{network_after};
 ghost use Rattle.rip_check.specs.Firsts.{IsReadable, IsReason, ShowsTwoWays};
 ghost use Rattle.rip_check.specs.Laws.{Case, EachIsExpected, EachPlaceHolds, GiversAreNear, HasRightTables, IsSettled, MetricsAreReached, NoPathIsCheaper, OneIsShown, OneRouteFits, PoisonHidesNothing, ShowsRightTables, SilenceIsShared, WalksFall};
-ghost use Rattle.rip_check.specs.Metrics.{IsInRange};
+ghost use Rattle.rip_check.specs.Metrics.{IsInRange, metric_at};
 ghost use Rattle.rip_check.specs.Paths.{HasPathOver, Hop, IsLeast, IsPath, IsPlainPath};
 ghost use Rattle.rip_check.specs.Settled.{AllRight, IsPlainRight, IsRight};
 ghost use Rattle.rip_check.specs.Tables.{MayHoldBack, Offers, Route, Shows, Tables};
-ghost use Rattle.rip_check.specs.Told.{EachPoisons, HasLessPoison, told};
+ghost use Rattle.rip_check.specs.Told.{EachPoisons, HasLessPoison, TellsMetric, told};
 ghost use Rattle.rip_check.specs.Walks.{EachCanGoOn, EachEndsThere, EachIsShort};
 ghost use Rattle.rip_check.specs.declared.failures.Failure.{Failure};
 ghost use Rattle.rip_check.specs.declared.verdict.Unclear.TheVariants.{TwoWays};
@@ -114,12 +114,19 @@ pub fn failures_bring_nothing_nearer()
         IsLeast (network_after n f) p r w → v ≤ w }
 {}
 
+/// What an interface tells is the metric that it shows, or 16, where it shows nothing and does not
+/// poison.
+pub fn told_metrics()
+    ensures { (n : Network) (s : State) (i r l c p m : ℕ) → IsInterface n i r l c →
+        p < length s.prefixes → (metric_at (told n s) i p ≡ Some m) ↔ TellsMetric n s i p m }
+{}
+
 /// In a plan in which each interface poisons, what is told is what is shown.
 pub fn told_is_shown()
     ensures { (n : Network) (s : State) → EachPoisons n → told n s ≡ s }
 {}
 
-/// Less poison takes nothing away: where a log shows right tables by a plan, it shows the same ones, as
+/// Less poison takes nothing away: where a table shows right routes by a plan, it shows the same ones, as
 /// right, by the plan with less poison.
 pub fn less_poison()
     ensures shows { (n m : Network) (s : State) (T : Tables) → IsLawful n → HasLessPoison n m →
