@@ -1,5 +1,5 @@
 -- A file is one capture, or has one fault.
-use Rattle.std.proofs.Common.{◌≡◌, ◌≢◌, ◌+◌, ◌%◌, ◌^◌, ◌<◌, ◌≤◌, ◌∙◌, ℕ, cond, eqb, List, [], ◌∷◌, ◌++◌, Option, Some, None, length, take, drop, ap, sym, refl, inl, inr, subst, arith, append_assoc, append-nil}
+use Rattle.std.proofs.Common.{◌≡◌, ◌≢◌, ◌+◌, ◌*◌, ◌%◌, ◌^◌, ◌<◌, ◌≤◌, ◌∙◌, ℕ, cond, eqb, List, [], ◌∷◌, ◌++◌, Option, Some, None, length, take, drop, ap, sym, refl, inl, inr, subst, arith, append_assoc, append-nil}
 use Rattle.std.proofs.lemmas.List.{drop_at, length-append, length-drop, take_at}
 use Rattle.rip_wire.specs.Fields.{number_at}
 use Rattle.rip_capture.specs.Captures.{CaptureFault, FrontFault, HasMagic, IsCapture}
@@ -288,3 +288,19 @@ pub fault-on : (b more : List ℕ) (fs : List Frame) (code : CaptureCode) (at : 
 fault-on b more fs code at uncut (at_front none start f) = at_front none start (front-fault-on b more code uncut f)
 fault-on b more fs code at uncut (in_pcap o t right rest whole h place f) =
     in_pcap o t right (rest ++ more) (ap (λ (l : List ℕ). l ++ more) whole ∙ append_assoc right rest more) h place (record-fault-on o rest more code uncut f)
+
+-- ---- a capture has a header in front of each packet
+
+records-long : (order : Order) (t : LinkType) (b : List ℕ) (fs : List Frame) → AreRecords order t b fs → 16 * length fs ≤ length b
+records-long order t b [] h = omega arith
+records-long order t b (f ∷ fs) (first, rest, is, are, whole) =
+    let rest_long = records-long order t rest fs are in
+    let size : length b ≡ length first + length rest = ap length whole ∙ length-append first rest in
+    let header = is.header in
+    omega (arith, rest_long, size, header)
+
+pub capture-long : (b : List ℕ) (fs : List Frame) → IsCapture b fs → 16 * length fs ≤ length b
+capture-long b fs (pcap_capture order t h) =
+    let few = records-long order t h.records fs h.are_records in
+    let size : length b ≡ length h.header + length h.records = ap length h.whole ∙ length-append h.header h.records in
+    omega (arith, few, size)

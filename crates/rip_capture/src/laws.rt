@@ -1,7 +1,7 @@
 //! Laws of the definitions alone: functions that do nothing, whose contracts hold of all frames and all
 //! files.
 
-ghost use Rattle.std.specs.Prelude.{◌≡◌, ◌≢◌, ◌⊎◌, ◌++◌, ℕ, List};
+ghost use Rattle.std.specs.Prelude.{◌≡◌, ◌≢◌, ◌⊎◌, ◌*◌, ◌≤◌, ◌++◌, ℕ, List, length};
 ghost use Rattle.rip_capture.specs.Captures.{CaptureFault, IsCapture};
 ghost use Rattle.rip_capture.specs.Carries.{Carries};
 ghost use Rattle.rip_capture.specs.Pcap.{Frame};
@@ -47,6 +47,12 @@ pub fn one_reading()
     ensures fault { (file : List ℕ) (frames others : List Frame) (code other : CaptureCode)
         (at there : ℕ) → CaptureFault file frames code at → CaptureFault file others other there →
         (frames ≡ others) × (code ≡ other) × (at ≡ there) }
+{}
+
+/// A capture has at least sixteen bytes for each packet.
+pub fn long_captures()
+    ensures { (file : List ℕ) (frames : List Frame) → IsCapture file frames →
+        RECORD_HEADER * length frames ≤ length file }
 {}
 
 /// A fault is one whatever bytes follow, but for a cut.

@@ -1,7 +1,7 @@
 //! The password of a datagram, which no log is to have.
 
-ghost use Rattle.std.specs.Prelude.{◌≤◌, length, IfSome, MatchOption};
-ghost use Rattle.rip_capture.specs.Passwords.{HasPassword, IsPassword};
+ghost use Rattle.std.specs.Prelude.{◌≡◌, ◌+◌, ◌-◌, ◌≤◌, ◌++◌, drop, length, replicate, take, IfSome, MatchOption, is_some};
+ghost use Rattle.rip_capture.specs.Passwords.{HasPassword, IsPassword, has_password, without_password};
 ghost use Rattle.rip_capture.specs.Spans.{IsWithin};
 
 use crate::numbers::u16_at;
@@ -22,6 +22,11 @@ pub(crate) const AUTHENTICATION: u16 = 0xFFFF;
 /// Where a datagram has a password, as far as it is there: these bytes are shown as 0.
 pub fn password_in(datagram: &[u8]) -> Option<Span>
     ensures found { MatchOption result (¬ HasPassword datagram.now) (IsPassword datagram.now) }
+    ensures exact { is_some result ≡ has_password datagram.now }
+    ensures shown { IfSome result (λ span. without_password datagram.now
+        ≡ take span.from datagram.now ++ replicate (span.to - span.from) 0
+        ++ drop span.to datagram.now) }
+    ensures few { IfSome result (λ span. span.to ≤ span.from + 16) }
     ensures within { IfSome result (IsWithin (length datagram.now)) }
 {
     if datagram.len() < PASSWORD_FROM

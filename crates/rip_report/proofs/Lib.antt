@@ -15,3 +15,5 @@ pub mod GivenLemmas
 pub mod WhatifLemmas
 pub mod HearingLemmas
 pub mod HeardLemmas
+pub mod CaptureLemmas
+pub mod CaptureFileLemmas

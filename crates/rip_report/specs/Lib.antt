@@ -23,3 +23,6 @@ pub mod LeftOut
 pub mod HeardText
 pub mod AnywayText
 pub mod Hearings
+pub mod CaptureText
+pub mod CaptureLogs
+pub mod CapturePackets

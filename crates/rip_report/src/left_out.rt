@@ -16,7 +16,7 @@ pub(crate) fn is_all_joined(counts: Counts) -> bool
 }
 
 /// Adds a count and its word after a separator, where it is not 0.
-fn push_count(text: &mut Line, separator: &str, count: u32, word: &str)
+pub(crate) fn push_count(text: &mut Line, separator: &str, count: u64, word: &str)
     requires short { length separator.now + length word.now ≤ WORDS }
     requires room { length text.old + NUMBERED ≤ LINE_BYTES }
     ensures text { text.new ≡ text.old ++ count_part separator.now count word.now }
@@ -24,9 +24,19 @@ fn push_count(text: &mut Line, separator: &str, count: u32, word: &str)
 {
     if count > 0 {
         text.push(separator);
-        text.push_number(u64::from(count));
+        text.push_number(count);
         text.push(word);
     }
+}
+
+/// Adds how much of a kind is left out, as a count.
+fn push_left(text: &mut Line, separator: &str, count: u32, word: &str)
+    requires short { length separator.now + length word.now ≤ WORDS }
+    requires room { length text.old + NUMBERED ≤ LINE_BYTES }
+    ensures text { text.new ≡ text.old ++ count_part separator.now count word.now }
+    ensures size { length text.new ≤ length text.old + NUMBERED }
+{
+    push_count(text, separator, u64::from(count), word);
 }
 
 /// Adds how much is left out, after other counts.
@@ -36,9 +46,9 @@ pub(crate) fn push_left_out(text: &mut Line, counts: Counts)
     ensures text { text.new ≡ text.old ++ left_out_part counts }
     ensures size { length text.new ≤ length text.old + LEFT_OUT }
 {
-    push_count(text, ", ", counts.refused, " refused");
-    push_count(text, ", ", counts.strangers, " of strangers");
-    push_count(text, ", ", counts.bad, " bad");
+    push_left(text, ", ", counts.refused, " refused");
+    push_left(text, ", ", counts.strangers, " of strangers");
+    push_left(text, ", ", counts.bad, " bad");
 }
 
 /// A colon before the first count, a comma before the others.
@@ -60,15 +70,15 @@ pub(crate) fn push_left_out_line(text: &mut Line, counts: Counts)
     }
     let none_refused = counts.refused == 0;
     text.push("left out");
-    push_count(text, ": ", counts.refused, " refused");
-    push_count(
+    push_left(text, ": ", counts.refused, " refused");
+    push_left(
         text,
         separator(none_refused),
         counts.strangers,
         " of strangers",
     );
     let is_first = none_refused && counts.strangers == 0;
-    push_count(text, separator(is_first), counts.bad, " bad");
+    push_left(text, separator(is_first), counts.bad, " bad");
     text.end();
 }
 

@@ -84,3 +84,5 @@ pub(crate) const WHO: usize = NAME + " has the address on ".len() + NAME;
 pub(crate) const STRANGER_WHO: usize = "no link of that name, ".len() + WHO;
 /// The next hop of a bad entry, and who has it.
 pub(crate) const BY_HOP: usize = " by ".len() + ADDRESS + ": ".len() + WHO;
+/// The number of a capture file, and its link.
+pub(crate) const FILE_PART: usize = NUMBERED + NAMED;

@@ -1,6 +1,6 @@
 //! Lines on their way out.
 
-ghost use Rattle.std.specs.Prelude.{◌≡◌, ◌++◌, [], List, Ok, ℕ};
+ghost use Rattle.std.specs.Prelude.{◌≡◌, ◌++◌, [], List, Ok, ℕ, is_err};
 ghost use Rattle.rip_report.specs.Held.{held};
 ghost use Rattle.rip_report.specs.Listings.{Adds};
 ghost use Rattle.rip_report.specs.Sent.{Writes};
@@ -30,7 +30,7 @@ impl Listing {
     }
 
     /// Adds bytes, unless a write before has failed.
-    fn add_bytes<K: Sink>(&mut self, bytes: &[u8], out: &mut K)
+    pub(crate) fn add_bytes<K: Sink>(&mut self, bytes: &[u8], out: &mut K)
         ensures { Adds K.taken K.broken out.old out.new self.old self.new bytes.now }
     {
         if self.wrote.is_ok() {
@@ -50,6 +50,13 @@ impl Listing {
         ensures { Adds K.taken K.broken out.old out.new self.old self.new text.now }
     {
         self.add_bytes(text.as_bytes(), out);
+    }
+
+    /// Whether a write has failed.
+    pub(crate) fn has_failed(&self) -> bool
+        ensures { result ≡ is_err self.now.wrote }
+    {
+        self.wrote.is_err()
     }
 
     /// Sends what is left, and tells whether all lines went out.

@@ -1,0 +1,164 @@
+-- From the parts of a run to what it adds of a file to a log.
+use Rattle.std.proofs.Common.{◌≡◌, ◌≢◌, ◌⊎◌, ◌+◌, ◌^◌, ◌≤◌, ◌<◌, ◌∙◌, ℕ, Bool, true, false, List, [], ◌∷◌, ◌++◌, Result, Ok, Err, length, map, ap, sym, refl, inl, inr, is_err, subst, arith, codes, append_assoc, append-nil}
+use Rattle.std.specs.List.{AllByRecursion}
+use Rattle.std.proofs.lemmas.Bool.{false≢true}
+use Rattle.std.proofs.lemmas.List.{append_cancel_left, length-append}
+use Rattle.rip_log.specs.Taken.{Taken, Took}
+use Rattle.rip_log.specs.Wholes.{Begins}
+use Rattle.rip_capture.specs.Captures.{CaptureFault, IsCapture}
+use Rattle.rip_capture.specs.Captures.IsCapture.{pcap as pcap_capture}
+use Rattle.rip_capture.specs.NextCall.{EndsHere, HasRead, IsFar, Stands, StopsAt, TakesPacket, held_by, position_of, source_of}
+use Rattle.rip_capture.specs.Pcap.{Frame}
+use Rattle.rip_capture.specs.declared.error.CaptureCode.{CaptureCode}
+use Rattle.rip_capture.specs.declared.error.CaptureCode.TheVariants.{Magic, Cut, Version, LinkType as NoLinkType, Length, Interface, OldPacket, Read as NoRead}
+use Rattle.rip_capture.specs.declared.reader.CaptureReader.{CaptureReader}
+use Rattle.rip_capture.specs.declared.reader.Format.{Format}
+use Rattle.rip_capture.specs.declared.reader.Format.TheVariants.{Unread as Unread-yet, Pcap}
+use Rattle.rip_report.specs.CaptureLogs.{AddsFile, BeginsWith, FileFront, FileText, Follows, IsRefusedAt}
+use Rattle.rip_report.specs.CaptureLogs.BeginsWith.{none, some}
+use Rattle.rip_report.specs.CaptureLogs.FileFront.{text as whole_front, packets as some_packets}
+use Rattle.rip_report.specs.CaptureLogs.FileText.{whole, refused, unread}
+use Rattle.rip_report.specs.CaptureLogs.IsRefusedAt.{fault, packet, comment}
+use Rattle.rip_report.specs.CapturePackets.{ClosesSo, EndsSo, EndsWith}
+use Rattle.rip_report.specs.CaptureText.{Carrier, IsCaptureOf, IsCarrier, comment_line, counted_status, counts_of, file_refusal_line, line_count, packet_lines}
+use Rattle.rip_report.specs.Sent.{Began}
+use Rattle.rip_report.specs.Written.{line}
+use Rattle.rip_report.specs.declared.captures.ending.Ending.{Ending}
+use Rattle.rip_report.specs.declared.captures.ending.Ending.TheVariants.{Whole, Refused, Unread, Unwritten}
+use Rattle.rip_report.specs.declared.captures.ending.RefusalCode.{RefusalCode}
+use Rattle.rip_report.specs.declared.captures.ending.RefusalCode.TheVariants.{Capture, TooManyLines}
+use Rattle.rip_report.specs.declared.captures.log.CaptureLog.{CaptureLog}
+use Rattle.rip_report.specs.declared.listing.Listing.{Listing}
+use Rattle.rip_report.specs.declared.status.RunError.{RunError}
+use Rattle.rip_report.specs.declared.status.RunError.TheVariants.{Read, Write}
+use Rattle.rip_report.specs.declared.status.Status.{Status}
+use Rattle.rip_report.specs.declared.status.Status.TheVariants.{Refused as RefusedFile}
+use Rattle.rip_report.proofs.CaptureLemmas.{all-snoc, frames-snoc}
+
+-- a fault is one whatever follows, but for a cut
+abbrev Early : Type 0
+Early = (file more : List ℕ) (frames : List Frame) (code : CaptureCode) (at : ℕ) → code ≢ Cut → CaptureFault file frames code at → CaptureFault (file ++ more) frames code at
+
+-- the text of a file is what was taken, what is held, and what is left
+text-split : (before taken held gave left bytes : List ℕ) → gave ≡ before ++ taken ++ held → before ++ bytes ≡ gave ++ left → bytes ≡ (taken ++ held) ++ left
+text-split before taken held gave left bytes e f =
+    append_cancel_left before bytes ((taken ++ held) ++ left)
+    (f ∙ ap (λ l. l ++ left) (e ∙ append_assoc before taken held) ∙ append_assoc before (taken ++ held) left)
+
+module _ {R : Type 0} (given : R → List ℕ) (at_end : R → Bool) (before bytes : List ℕ) (reader : CaptureReader R)
+    (text : Begins (before ++ bytes) (given (source_of reader)) (at_end (source_of reader))) where
+  split-at : (taken : List ℕ) (frames : List Frame) → Stands given before reader taken frames → bytes ≡ (taken ++ held_by reader) ++ text.left
+  split-at taken frames s = text-split before taken (held_by reader) (given (source_of reader)) text.left bytes s.gave text.split
+
+  -- at the end of a file nothing is held or left
+  whole-is : (frames : List Frame) (h : EndsHere given at_end before frames reader) → bytes ≡ h.file
+  whole-is frames h =
+      split-at h.file frames h.stands ∙ ap (λ l. (h.file ++ held_by reader) ++ l) (text.ended h.ended) ∙ append-nil (h.file ++ held_by reader)
+      ∙ ap (λ l. h.file ++ l) h.all ∙ append-nil h.file
+
+  -- what was read is a beginning of the file
+  begins-by : (cs : List Carrier) (taken : List ℕ) → AllByRecursion IsCarrier cs → Stands given before reader taken (map (λ c. c.frame) cs) → BeginsWith bytes cs
+  begins-by cs taken carry s = by_format reader.format s.read where
+    no-frames : (cs : List Carrier) → map (λ c. c.frame) cs ≡ [] → cs ≡ []
+    no-frames [] e = refl
+    no-frames (c ∷ cs) e = cc e
+
+    by_format : (f : Format) → HasRead f taken (map (λ c. c.frame) cs) → BeginsWith bytes cs
+    by_format Unread-yet h = none (no-frames cs h.1)
+    by_format (Pcap h) is = some taken (held_by reader ++ text.left) (split-at taken (map (λ c. c.frame) cs) s ∙ append_assoc taken (held_by reader) text.left)
+        (record { capture = pcap_capture h.order h.link_type is; carry = carry })
+
+  -- a file that is refused by its fault
+  fault-by : Early → (frames : List Frame) (taken : List ℕ) (code : CaptureCode) (at : ℕ) → Stands given before reader taken frames → CaptureFault (taken ++ held_by reader) frames code at
+      → (code ≡ Cut → at_end (source_of reader) ≡ true) → CaptureFault bytes frames code at
+  fault-by early frames taken code at s found ended = by_code code found ended where
+    is : bytes ≡ (taken ++ held_by reader) ++ text.left
+    is = split-at taken frames s
+
+    later : (code : CaptureCode) → code ≢ Cut → CaptureFault (taken ++ held_by reader) frames code at → CaptureFault bytes frames code at
+    later code other found = subst (λ l. CaptureFault l frames code at) (sym is) (early (taken ++ held_by reader) text.left frames code at other found)
+
+    by_code : (code : CaptureCode) → CaptureFault (taken ++ held_by reader) frames code at → (code ≡ Cut → at_end (source_of reader) ≡ true) → CaptureFault bytes frames code at
+    by_code Cut found ended = subst (λ l. CaptureFault l frames Cut at) (sym (is ∙ ap (λ l. (taken ++ held_by reader) ++ l) (text.ended (ended refl)) ∙ append-nil (taken ++ held_by reader))) found
+    by_code Magic found ended = later Magic (λ e. cc e) found
+    by_code Version found ended = later Version (λ e. cc e) found
+    by_code NoLinkType found ended = later NoLinkType (λ e. cc e) found
+    by_code Length found ended = later Length (λ e. cc e) found
+    by_code Interface found ended = later Interface (λ e. cc e) found
+    by_code OldPacket found ended = later OldPacket (λ e. cc e) found
+    by_code NoRead found ended = later NoRead (λ e. cc e) found
+
+  -- a file that is refused since the log has no room
+  many-by : (lines : ℕ) (cs : List Carrier) (at : ℕ) (listing : Listing) → AllByRecursion IsCarrier cs → EndsSo given at_end before lines cs reader listing (Refused TooManyLines at)
+      → IsRefusedAt lines bytes cs TooManyLines at
+  many-by lines cs at listing carry (count, inl (next, is, takes, has)) =
+      packet takes.front takes.bytes (held_by reader ++ text.left) next (record { capture = takes.right; carry = carry })
+      (record { capture = subst (λ (fs : List Frame). IsCapture (takes.front ++ takes.bytes) fs) (sym (frames-snoc cs next)) takes.longer; carry = all-snoc IsCarrier cs next carry is })
+      (split-at (takes.front ++ takes.bytes) (map (λ c. c.frame) cs ++ next.frame ∷ []) takes.stands ∙ append_assoc (takes.front ++ takes.bytes) (held_by reader) text.left)
+      has count takes.place_is refl
+  many-by lines cs at listing carry (count, inr (here, place)) =
+      let is = whole-is (map (λ c. c.frame) cs) here in
+      comment (record { capture = subst (λ l. IsCapture l (map (λ c. c.frame) cs)) (sym is) here.right; carry = carry })
+      count (place ∙ here.stands.position ∙ ap length (sym is)) refl
+
+-- a run that wrote the text of a file, and then ends, has added it
+module _ {K : Type 0} (taken : K → Taken) (broken : K → Bool) (old new : K) (before after : CaptureLog) (link bytes : List ℕ) where
+  pub adds-text : (text : List ℕ) (lines : ℕ) (answer result : Result Status RunError) → EndsWith taken broken old new text answer result
+      → FileText (before.files + 1) before.lines link bytes text lines answer → Follows before after lines result → AddsFile taken broken old new before after link bytes result
+  adds-text text lines answer result ends is follows = record {
+    text = λ h. let out = ends.out h in (text, lines, subst (λ r. FileText (before.files + 1) before.lines link bytes text lines r) (sym out.0) is, out.1, follows);
+    write = λ e. let h = ends.write e in (h.0, (text, whole_front lines answer is, h.1));
+    sink = ends.sink;
+  }
+
+  pub not-followed : (text : List ℕ) (lines : ℕ) (answer result : Result Status RunError) → (answer ≡ Ok RefusedFile) ⊎ (is_err answer ≡ true) → EndsWith taken broken old new text answer result → after ≡ before → Follows before after lines result
+  not-followed text lines answer (Err e) h ends same = same
+  not-followed text lines answer (Ok s) (inl e) ends same =
+      let is : s ≡ RefusedFile = cc ((ends.out (λ f. cc f)).0, e) in
+      subst (λ (t : Status). Follows before after lines (Ok t)) (sym is) same
+  not-followed text lines answer (Ok s) (inr e) ends same = absurd (false≢true (ap is_err (ends.out (λ f. cc f)).0 ∙ e))
+
+module _ {R K : Type 0} (given : R → List ℕ) (at_end : R → Bool) (start bytes : List ℕ) (reader : CaptureReader R)
+    (text : Begins (start ++ bytes) (given (source_of reader)) (at_end (source_of reader)))
+    (taken : K → Taken) (broken : K → Bool) (old new : K) (before after : CaptureLog) (link : List ℕ) (listing : Listing) (early : Early)
+    (cs : List Carrier) (carry : AllByRecursion IsCarrier cs) (few : before.lines + line_count cs ≤ 1000000) where
+  pub adds-file : (ending : Ending) (result : Result Status RunError) → EndsSo given at_end start before.lines cs reader listing ending
+      → ClosesSo taken broken old new before after link (packet_lines link cs) ending result → AddsFile taken broken old new before after link bytes result
+  adds-file (Whole tally) result (here, counts, count, room) (ends, follows) =
+      let is = whole-is given at_end start bytes reader text (map (λ c. c.frame) cs) here in
+      adds-text taken broken old new before after link bytes _ (tally.lines + 1) _ result ends
+      (whole cs (record { capture = subst (λ l. IsCapture l (map (λ c. c.frame) cs)) (sym is) here.right; carry = carry }) (omega (arith, count)) (omega (arith, room))
+      (ap (λ n. packet_lines link cs ++ comment_line (before.files + 1) link n) counts) (ap (λ n. Ok (counted_status n)) counts)) follows
+  adds-file (Refused (Capture code) at) result (stops, calm) (ends, same) =
+      let found = fault-by given at_end start bytes reader text early (map (λ c. c.frame) cs) stops.taken code at stops.stands (stops.fault calm) stops.ended in
+      adds-text taken broken old new before after link bytes _ 0 _ result ends
+      (refused cs (Capture code) at (fault code found carry few refl) refl refl) (not-followed taken broken old new before after link bytes _ 0 _ result (inl refl) ends same)
+  adds-file (Refused TooManyLines at) result ends_so (ends, same) =
+      adds-text taken broken old new before after link bytes _ 0 _ result ends
+      (refused cs TooManyLines at (many-by given at_end start bytes reader text before.lines cs at listing carry ends_so) refl refl) (not-followed taken broken old new before after link bytes _ 0 _ result (inl refl) ends same)
+  adds-file Unread result (so_far, stands) (ends, same) =
+      adds-text taken broken old new before after link bytes _ 0 _ result ends
+      (unread cs (begins-by given at_end start bytes reader text cs so_far carry stands) refl refl) (not-followed taken broken old new before after link bytes _ 0 _ result (inr refl) ends same)
+  adds-file Unwritten result (failed, (so_far, stands)) (is, sink, began, same) = record {
+    text = λ h. absurd (h is);
+    write = λ e. (sink, (packet_lines link cs, some_packets cs (begins-by given at_end start bytes reader text cs so_far carry stands) refl, began));
+    sink = λ h. absurd (h is);
+  }
+
+-- a run that ends with Read had a source that failed
+module _ {R K : Type 0} (given : R → List ℕ) (at_end : R → Bool) (start bytes : List ℕ) (reader : CaptureReader R)
+    (text : Begins (start ++ bytes) (given (source_of reader)) (at_end (source_of reader)))
+    (taken : K → Taken) (broken : K → Bool) (old new : K) (before after : CaptureLog) (link : List ℕ) (lines : ℕ) (listing : Listing) (cs : List Carrier) where
+  pub reads-unread : (ending : Ending) (result : Result Status RunError) → ClosesSo taken broken old new before after link (packet_lines link cs) ending result → result ≡ Err Read → ending ≡ Unread
+  reads-unread (Whole tally) result (ends, follows) e = absurd (cc ((ends.out (λ f. cc (e, f))).0, e))
+  reads-unread (Refused (Capture code) at) result (ends, same) e = absurd (cc ((ends.out (λ f. cc (e, f))).0, e))
+  reads-unread (Refused TooManyLines at) result (ends, same) e = absurd (cc ((ends.out (λ f. cc (e, f))).0, e))
+  reads-unread Unread result h e = refl
+  reads-unread Unwritten result (is, sink, began, same) e = absurd (cc (is, e))
+
+  -- or the file is longer than offsets go
+  pub far-bytes : EndsSo given at_end start lines cs reader listing Unread → IsFar reader → 2 ^ 64 ≤ length bytes + 2 ^ 32
+  far-bytes (so_far, s) far =
+      let is = split-at given at_end start bytes reader text so_far (map (λ c. c.frame) cs) s in
+      let size : length bytes ≡ length so_far + length (held_by reader ++ text.left) = ap length (is ∙ append_assoc so_far (held_by reader) text.left) ∙ length-append so_far (held_by reader ++ text.left) in
+      omega (arith, size, s.position, far)

@@ -1,0 +1,159 @@
+-- Digits in parts, and packets one after the other.
+use Rattle.std.proofs.Common.{◌≡◌, ◌≢◌, ◌==◌, if◌then◌else◌, inr, ◌+◌, ◌-◌, ◌*◌, ◌/◌, ◌%◌, ◌^◌, ◌<◌, ◌≤◌, ◌∙◌, ℕ, Bool, true, false, cond, List, [], ◌∷◌, ◌++◌, length, slice_index, map, ap, sym, refl, arith, append_assoc, append-nil}
+use Rattle.std.specs.Prelude.{count_by, flat_map}
+use Rattle.std.specs.List.{AllByRecursion}
+use Rattle.std.proofs.lemmas.Bool.{eqb-false, eqb-true}
+use Rattle.std.proofs.lemmas.Grind.{flat_map-append}
+use Rattle.std.proofs.lemmas.List.{length-append, map-append}
+use Rattle.std.proofs.lemmas.List.Sums.{count_by-le-length, sum_by-append}
+use Rattle.hex.specs.Hex.{encode_lower, encode_with, lower_digits}
+use Rattle.rip_capture.specs.Captures.{IsCapture}
+use Rattle.rip_capture.specs.Captures.IsCapture.{pcap as pcap_capture}
+use Rattle.rip_capture.specs.Codes.{is_read}
+use Rattle.rip_capture.specs.NextCall.{EndsHere, HasRead, IsFar, StopsAt, position_of}
+use Rattle.rip_capture.specs.Pcap.{Frame}
+use Rattle.rip_capture.specs.declared.error.CaptureCode.{CaptureCode}
+use Rattle.rip_capture.specs.declared.error.CaptureCode.TheVariants.{Magic, Cut, Version, LinkType as NoLinkType, Length, Interface, OldPacket, Read}
+use Rattle.rip_capture.specs.declared.reader.CaptureReader.{CaptureReader}
+use Rattle.rip_capture.specs.declared.reader.Format.{Format}
+use Rattle.rip_capture.specs.declared.reader.Format.TheVariants.{Unread as Unread-yet, Pcap}
+use Rattle.rip_report.specs.CapturePackets.{EndsSo, ended_at, ended_by}
+use Rattle.rip_report.specs.declared.captures.ending.Ending.TheVariants.{Refused as RefusedFile, Unread, Whole}
+use Rattle.rip_report.specs.declared.captures.ending.RefusalCode.TheVariants.{TooManyLines}
+use Rattle.rip_report.specs.declared.captures.tally.Tally.{Tally}
+use Rattle.rip_report.specs.CaptureText.{Carrier, HasRoom, carried_line, carries_password, counted, counts_of, has_line, is_cut, is_datagram, is_elsewhere, is_fragment, is_long, is_malformed, is_other, line_count, one, packet_lines}
+use Rattle.rip_log.specs.Taken.{Taken}
+use Rattle.rip_report.proofs.ListingLemmas.{adds_same, adds_then}
+use Rattle.rip_report.specs.Listings.{Adds}
+use Rattle.rip_report.specs.declared.listing.Listing.{Listing}
+use Rattle.rip_report.specs.declared.captures.counts.PacketCounts.{PacketCounts}
+
+encode-append : (t xs ys : List ℕ) → encode_with t (xs ++ ys) ≡ encode_with t xs ++ encode_with t ys
+unfolding encode_with
+encode-append t [] ys = refl
+encode-append t (x ∷ xs) ys = ap (λ l. slice_index t (x / 16) ∷ slice_index t (x % 16) ∷ l) (encode-append t xs ys)
+
+-- the digits of three parts, one after the other
+pub digits-parts : (xs ys zs : List ℕ) → encode_lower xs ++ (encode_lower ys ++ encode_lower zs) ≡ encode_lower ((xs ++ ys) ++ zs)
+digits-parts xs ys zs =
+    let parts = encode-append lower_digits (xs ++ ys) zs ∙ ap (λ l. l ++ encode_lower zs) (encode-append lower_digits xs ys) in
+    sym (parts ∙ append_assoc (encode_lower xs) (encode_lower ys) (encode_lower zs))
+
+-- ---- one packet more
+
+module _ {X : Type 0} where
+  pub all-snoc : (P : X → Type 0) (xs : List X) (x : X) → AllByRecursion P xs → P x → AllByRecursion P (xs ++ x ∷ [])
+  all-snoc P [] x h p = (p, tt)
+  all-snoc P (y ∷ xs) x h p = (h.0, all-snoc P xs x h.1 p)
+
+  count-snoc : (p : X → Bool) (xs : List X) (x : X) → count_by p (xs ++ x ∷ []) ≡ count_by p xs + cond (p x) 1 0
+  count-snoc p xs x = omega (arith, sum_by-append (λ y. cond (p y) 1 0) xs (x ∷ []))
+
+  pub length-snoc : (xs : List X) (x : X) → length (xs ++ x ∷ []) ≡ length xs + 1
+  length-snoc xs x = length-append xs (x ∷ [])
+
+pub frames-snoc : (cs : List Carrier) (c : Carrier) → map (λ d. d.frame) (cs ++ c ∷ []) ≡ map (λ d. d.frame) cs ++ c.frame ∷ []
+frames-snoc cs c = map-append (λ d. d.frame) cs (c ∷ [])
+
+pub lines-snoc : (link : List ℕ) (cs : List Carrier) (c : Carrier) → packet_lines link (cs ++ c ∷ []) ≡ packet_lines link cs ++ carried_line link c.frame.bytes c.carried
+lines-snoc link cs c = flat_map-append (λ d. carried_line link d.frame.bytes d.carried) cs (c ∷ []) ∙ ap (λ l. packet_lines link cs ++ l) (append-nil (carried_line link c.frame.bytes c.carried))
+
+pub line_count-snoc : (cs : List Carrier) (c : Carrier) → line_count (cs ++ c ∷ []) ≡ line_count cs + one (has_line c.carried)
+line_count-snoc cs c = count-snoc (λ d. has_line d.carried) cs c
+
+pub counts-snoc : (cs : List Carrier) (c : Carrier) → counts_of (cs ++ c ∷ []) ≡ counted (counts_of cs) c.carried (carries_password c.frame.bytes c.carried)
+counts-snoc cs c = rw (
+  length-snoc cs c,
+  count-snoc (λ d. is_datagram d.carried) cs c,
+  count-snoc (λ d. is_cut d.carried) cs c,
+  count-snoc (λ d. is_fragment d.carried) cs c,
+  count-snoc (λ d. is_malformed d.carried) cs c,
+  count-snoc (λ d. is_long d.carried) cs c,
+  count-snoc (λ d. carries_password d.frame.bytes d.carried) cs c,
+  count-snoc (λ d. is_elsewhere d.carried) cs c,
+  count-snoc (λ d. is_other d.carried) cs c,
+) refl
+
+-- there is room for a packet more while there are fewer than the greatest number
+pub has-room : (n : PacketCounts) (cs : List Carrier) → n ≡ counts_of cs → n.packets < 2 ^ 64 - 1 → HasRoom n
+has-room n cs is few =
+    let at : (p : Carrier → Bool) → count_by p cs ≤ length cs = λ p. count_by-le-length p cs in
+    let packets : length cs < 2 ^ 64 - 1 = rw is at few in
+    rw is (record {
+      packets = omega (arith, packets);
+      datagrams = at _;
+      cut = at _;
+      fragments = at _;
+      malformed = at _;
+      long = at _;
+      passwords = at _;
+      elsewhere = at _;
+      others = at _;
+    })
+
+-- what a packet more does to all that was logged before
+module _ {K : Type 0} (taken : K → Taken) (failed : K → Bool) where
+  pub adds-packet : (a b c : K) (old mid new : Listing) (link : List ℕ) (cs : List Carrier) (p : Carrier) → Adds taken failed a b old mid (packet_lines link cs)
+      → Adds taken failed b c mid new (carried_line link p.frame.bytes p.carried) → Adds taken failed a c old new (packet_lines link (cs ++ p ∷ []))
+  adds-packet a b c old mid new link cs p f g = adds_same taken failed a c old new _ (packet_lines link (cs ++ p ∷ [])) (sym (lines-snoc link cs p))
+      (adds_then taken failed a b c old mid new (packet_lines link cs) (carried_line link p.frame.bytes p.carried) f g)
+
+-- ---- how a file ends
+
+module _ {R : Type 0} (given : R → List ℕ) (at_end : R → Bool) (before : List ℕ) (lines : ℕ) (cs : List Carrier) (new : CaptureReader R) (listing : Listing) where
+  -- at an error
+  pub ends-by : (code : CaptureCode) (at : ℕ) → StopsAt given at_end before (map (λ c. c.frame) cs) (record { code = code; at = at }) new → EndsSo given at_end before lines cs new listing (ended_by (record { code = code; at = at }))
+  ends-by Magic at h = (h, refl)
+  ends-by Cut at h = (h, refl)
+  ends-by Version at h = (h, refl)
+  ends-by NoLinkType at h = (h, refl)
+  ends-by Length at h = (h, refl)
+  ends-by Interface at h = (h, refl)
+  ends-by OldPacket at h = (h, refl)
+  ends-by Read at h = (h.taken, h.stands)
+
+  -- at its end
+  pub ends-at : (tally : Tally) → EndsHere given at_end before (map (λ c. c.frame) cs) new → tally.counts ≡ counts_of cs → tally.lines ≡ lines + line_count cs → tally.lines ≤ 1000000
+      → EndsSo given at_end before lines cs new listing (ended_at tally (position_of new))
+  ends-at tally here counts count few = elim (tally.lines == 1000000) as (λ b. (tally.lines == 1000000) ≡ b → EndsSo given at_end before lines cs new listing (if b then RefusedFile TooManyLines (position_of new) else Whole tally)) [
+    | true ↦ λ e. (sym count ∙ eqb-true tally.lines 1000000 e, inr (here, refl))
+    | false ↦ λ e. (here, counts, count, omega (arith, few, eqb-false tally.lines 1000000 e))
+  ] refl
+
+pub never-unread : (tally : Tally) (at : ℕ) → ended_at tally at ≡ Unread → ⊥
+never-unread tally at h = elim (tally.lines == 1000000) as (λ b. (if b then RefusedFile TooManyLines at else Whole tally) ≡ Unread → ⊥) [
+  | true ↦ λ e. cc e
+  | false ↦ λ e. cc e
+] h
+
+pub unread-is_read : (code : CaptureCode) (at : ℕ) → ended_by (record { code = code; at = at }) ≡ Unread → is_read code ≡ true
+unread-is_read Magic at h = cc h
+unread-is_read Cut at h = cc h
+unread-is_read Version at h = cc h
+unread-is_read NoLinkType at h = cc h
+unread-is_read Length at h = cc h
+unread-is_read Interface at h = cc h
+unread-is_read OldPacket at h = cc h
+unread-is_read Read at h = refl
+
+pub read-is_unread : (code : CaptureCode) (at : ℕ) → ended_by (record { code = code; at = at }) ≢ Unread → is_read code ≡ false
+read-is_unread Magic at h = refl
+read-is_unread Cut at h = refl
+read-is_unread Version at h = refl
+read-is_unread NoLinkType at h = refl
+read-is_unread Length at h = refl
+read-is_unread Interface at h = refl
+read-is_unread OldPacket at h = refl
+read-is_unread Read at h = absurd (h refl)
+
+-- behind 2^64 - 1 packets a reader is far
+pub far : {R : Type 0} (reader : CaptureReader R) (taken : List ℕ) (fs : List Frame) → ((b : List ℕ) (gs : List Frame) → IsCapture b gs → 16 * length gs ≤ length b)
+    → position_of reader ≡ length taken → HasRead reader.format taken fs → 2 ^ 64 - 1 ≤ length fs → IsFar reader
+far reader taken fs long position read many = far-by reader.format read where
+  far-by : (f : Format) → HasRead f taken fs → IsFar reader
+  far-by Unread-yet h =
+      let none = ap length h.1 in
+      absurd (omega (arith, none, many))
+  far-by (Pcap h) is =
+      let size = long taken fs (pcap_capture h.order h.link_type is) in
+      omega (arith, size, position, many)

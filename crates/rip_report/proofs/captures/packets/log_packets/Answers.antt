@@ -1,0 +1,172 @@
+use Rattle.std.proofs.Common.{◌≡◌, ◌∙◌, ◌+◌, ◌*◌, ◌^◌, ◌≤◌, ◌++◌, ◌∷◌, [], List, ℕ, Err, Ok, None, ap, arith, inl, inr, is_err, length, map, refl, rules, sym, subst}
+use Rattle.std.proofs.lemmas.List.{length-map}
+use Rattle.rip_log.proofs.WholeLemmas.{went_nowhere, went_on}
+use Rattle.rip_capture.specs.Captures.{IsCapture}
+use Rattle.rip_capture.specs.Codes.{is_read}
+use Rattle.rip_capture.specs.NextCall.{IsFar, Stands, TakesPacket, frame_of, place_of, position_of, source_of}
+use Rattle.rip_capture.specs.Pcap.{Frame}
+use Rattle.rip_report.specs.CapturePackets.{ended_at, ended_by}
+use Rattle.rip_report.specs.CaptureText.{Carrier, IsCarrier, carried_line, carries_password, counted, has_line, line_count, one, packet_lines}
+use Rattle.rip_report.proofs.CaptureLemmas.{adds-packet, all-snoc, counts-snoc, ends-at, ends-by, far, frames-snoc, has-room, line_count-snoc, never-unread, read-is_unread, unread-is_read}
+use Rattle.rip_report.proofs.ListingLemmas.{adds_none, adds_same, adds_then}
+use Rattle.rip_report.proofs.captures.packets.log_packets.Goals as goal
+
+pub packets-init : goal.packets-init
+packets-init g c =
+    let S = g.R.Source in
+    record {
+      carriers = [];
+      carry = tt;
+      taken = [];
+      stands = c.requires.front;
+      counts = c.new.ensures;
+      lines = omega arith;
+      few = c.requires.lines;
+      adds = adds_none g.K.Sink.taken g.K.Sink.broken c.args.out.now c.args.listing.now;
+      went = went_nowhere S.given S.coming S.at_end (source_of c.args.reader.now);
+      running = c.requires.running;
+      marks = refl;
+    }
+
+pub log_packet-requires-clause-room : goal.log_packet-requires-clause-room
+log_packet-requires-clause-room g c = has-room c.packets.tally.counts c.packets.invariant.carriers c.packets.invariant.counts c.packets-test.true
+
+pub packets-preserved : goal.packets-preserved
+packets-preserved g c =
+    let S = g.R.Source in
+    let inv = c.packets.invariant in
+    let now = c.next.follows.lender-at-none in
+    let h = rw (c.in-Ok-Some.is, c.in-Ok-Some.field-0-is) at c.next.follows.holds-at-none in
+    let runs = h.runs inv.running in
+    let packet = c.in-Ok-Some.packet in
+    let before = S.given (source_of c.args.reader.now) in
+    let goes : TakesPacket S.given before (map (λ c. c.frame) inv.carriers) (frame_of packet) (place_of packet) now = runs.goes before inv.taken (map (λ c. c.frame) inv.carriers) inv.stands in
+    let logs = rw c.if-not-log_packet.false at c.log_packet.ensures.logs in
+    let p : Carrier = record { frame = frame_of packet; carried = c.log_packet.ensures.carried } in
+    let cs = inv.carriers in
+    record {
+      carriers = cs ++ p ∷ [];
+      carry = all-snoc IsCarrier cs p inv.carry c.log_packet.ensures.carries;
+      taken = goes.front ++ goes.bytes;
+      stands = subst (λ (fs : List Frame). Stands S.given before now (goes.front ++ goes.bytes) fs) (sym (frames-snoc cs p)) goes.stands;
+      counts = logs.counts ∙ ap (λ n. counted n p.carried (carries_password p.frame.bytes p.carried)) inv.counts ∙ sym (counts-snoc cs p);
+      lines = omega (arith, logs.lines, inv.lines, line_count-snoc cs p);
+      few = logs.few;
+      adds = adds-packet g.K.Sink.taken g.K.Sink.broken c.args.out.now c.packets.out c.log_packet.new.out c.args.listing.now c.packets.listing c.log_packet.new.listing c.args.link.now cs p inv.adds logs.adds;
+      went = went_on S.given S.coming S.at_end (source_of c.args.reader.now) (source_of c.packets.reader) (source_of now) inv.went runs.moves.went;
+      running = h.refused;
+      marks = runs.moves.marks refl ∙ inv.marks;
+    }
+
+pub packets-smaller : goal.packets-smaller
+packets-smaller g c =
+    let logs = rw c.if-not-log_packet.false at c.log_packet.ensures.logs in
+    let more : c.log_packet.new.tally.counts.packets ≡ c.packets.tally.counts.packets + 1 = ap (λ n. n.packets) logs.counts in
+    omega (arith, more, c.packets-test.true)
+
+pub returns-then-not-log_packet : goal.returns-then-not-log_packet
+returns-then-not-log_packet g c =
+    let S = g.R.Source in
+    let inv = c.packets.invariant in
+    let now = c.next.follows.lender-at-none in
+    let h = rw (c.in-Ok-Some.is, c.in-Ok-Some.field-0-is) at c.next.follows.holds-at-none in
+    let runs = h.runs inv.running in
+    let packet = c.in-Ok-Some.packet in
+    let before = S.given (source_of c.args.reader.now) in
+    let goes : TakesPacket S.given before (map (λ c. c.frame) inv.carriers) (frame_of packet) (place_of packet) now = runs.goes before inv.taken (map (λ c. c.frame) inv.carriers) inv.stands in
+    let lacks = rw c.if-not-log_packet.true at c.log_packet.ensures.logs in
+    let p : Carrier = record { frame = frame_of packet; carried = c.log_packet.ensures.carried } in
+    record {
+      carriers = inv.carriers;
+      carry = inv.carry;
+      few = omega (arith, inv.lines, inv.few);
+      adds = rw (lacks.listing, lacks.out) inv.adds;
+      ends = (omega (arith, inv.lines, lacks.many), inl (p, c.log_packet.ensures.carries, goes, lacks.line));
+      went = went_on S.given S.coming S.at_end (source_of c.args.reader.now) (source_of c.packets.reader) (source_of now) inv.went runs.moves.went;
+      unread = λ e. cc e;
+      marks = λ e. runs.moves.marks refl ∙ inv.marks;
+    }
+
+pub returns-then-has_failed : goal.returns-then-has_failed
+returns-then-has_failed g c =
+    let S = g.R.Source in
+    let inv = c.packets.invariant in
+    let now = c.next.follows.lender-at-none in
+    let h = rw (c.in-Ok-Some.is, c.in-Ok-Some.field-0-is) at c.next.follows.holds-at-none in
+    let runs = h.runs inv.running in
+    let packet = c.in-Ok-Some.packet in
+    let before = S.given (source_of c.args.reader.now) in
+    let goes : TakesPacket S.given before (map (λ c. c.frame) inv.carriers) (frame_of packet) (place_of packet) now = runs.goes before inv.taken (map (λ c. c.frame) inv.carriers) inv.stands in
+    let logs = rw c.if-not-log_packet.false at c.log_packet.ensures.logs in
+    let p : Carrier = record { frame = frame_of packet; carried = c.log_packet.ensures.carried } in
+    let cs = inv.carriers in
+    record {
+      carriers = cs ++ p ∷ [];
+      carry = all-snoc IsCarrier cs p inv.carry c.log_packet.ensures.carries;
+      few = omega (arith, logs.lines, inv.lines, line_count-snoc cs p, logs.few);
+      adds = adds-packet g.K.Sink.taken g.K.Sink.broken c.args.out.now c.packets.out c.log_packet.new.out c.args.listing.now c.packets.listing c.log_packet.new.listing c.args.link.now cs p inv.adds logs.adds;
+      ends = (sym c.has_failed.ensures ∙ c.if-has_failed.true, (goes.front ++ goes.bytes, subst (λ (fs : List Frame). Stands S.given before now (goes.front ++ goes.bytes) fs) (sym (frames-snoc cs p)) goes.stands));
+      went = went_on S.given S.coming S.at_end (source_of c.args.reader.now) (source_of c.packets.reader) (source_of now) inv.went runs.moves.went;
+      unread = λ e. cc e;
+      marks = λ e. runs.moves.marks refl ∙ inv.marks;
+    }
+
+pub returns-in-Ok-None : goal.returns-in-Ok-None
+returns-in-Ok-None g c =
+    let S = g.R.Source in
+    let inv = c.packets.invariant in
+    let now = c.next.follows.lender-at-none in
+    let h = rw (c.in-Ok-None.is, c.in-Ok-None.field-0-is) at c.next.follows.holds-at-none in
+    let runs = h.runs inv.running in
+    let before = S.given (source_of c.args.reader.now) in
+    let tally = c.packets.tally in
+    let here = runs.goes before inv.taken (map (λ c. c.frame) inv.carriers) inv.stands in
+    let known = c.ended_at.ensures ∙ ap (ended_at tally) c.position.ensures in
+    rw known (record {
+      carriers = inv.carriers;
+      carry = inv.carry;
+      few = omega (arith, inv.lines, inv.few);
+      adds = inv.adds;
+      ends = ends-at S.given S.at_end before c.args.lines inv.carriers now c.packets.listing tally here inv.counts inv.lines inv.few;
+      went = went_on S.given S.coming S.at_end (source_of c.args.reader.now) (source_of c.packets.reader) (source_of now) inv.went runs.moves.went;
+      unread = λ e. absurd (never-unread tally (position_of now) e);
+      marks = λ e. runs.moves.marks refl ∙ inv.marks;
+    })
+
+pub returns-in-Err : goal.returns-in-Err
+returns-in-Err g c =
+    let S = g.R.Source in
+    let inv = c.packets.invariant in
+    let now = c.next.follows.lender-at-none in
+    let h = rw c.in-Err.is at c.next.follows.holds-at-none in
+    let runs = h.runs inv.running in
+    let before = S.given (source_of c.args.reader.now) in
+    let goes = runs.goes before inv.taken (map (λ c. c.frame) inv.carriers) inv.stands in
+    let ends = ends-by S.given S.at_end before c.args.lines inv.carriers now c.packets.listing c.in-Err.error.code c.in-Err.error.at goes in
+    rw c.ended_by.ensures (record {
+      carriers = inv.carriers;
+      carry = inv.carry;
+      few = omega (arith, inv.lines, inv.few);
+      adds = inv.adds;
+      ends = ends;
+      went = went_on S.given S.coming S.at_end (source_of c.args.reader.now) (source_of c.packets.reader) (source_of now) inv.went runs.moves.went;
+      unread = λ e. runs.moves.failed (unread-is_read c.in-Err.error.code c.in-Err.error.at e);
+      marks = λ e. runs.moves.marks (read-is_unread c.in-Err.error.code c.in-Err.error.at e) ∙ inv.marks;
+    })
+
+pub returns : goal.returns
+returns g c =
+    let S = g.R.Source in
+    let inv = c.packets.invariant in
+    let frames = map (λ (c : Carrier). c.frame) inv.carriers in
+    let many : c.packets.tally.counts.packets ≡ length inv.carriers = ap (λ n. n.packets) inv.counts in
+    record {
+      carriers = inv.carriers;
+      carry = inv.carry;
+      few = omega (arith, inv.lines, inv.few);
+      adds = inv.adds;
+      ends = (inv.taken, inv.stands);
+      went = inv.went;
+      unread = λ e. inr (far c.packets.reader inv.taken frames c.long_captures.ensures inv.stands.position inv.stands.read (omega (arith, many, length-map inv.carriers (λ (c : Carrier). c.frame), c.packets-test.false)));
+      marks = λ e. absurd (e refl);
+    }

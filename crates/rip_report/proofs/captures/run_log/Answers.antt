@@ -1,0 +1,78 @@
+use Rattle.std.proofs.Common.{◌≡◌, ◌++◌, ◌∙◌, [], Err, ap, inl, inr, refl, subst, sym}
+use Rattle.rip_log.specs.Wholes.{Begins, Went}
+use Rattle.rip_capture.specs.NextCall.{source_of}
+use Rattle.rip_report.specs.CaptureLogs.{AddsFile}
+use Rattle.rip_report.specs.CaptureLogs.FileText.{memory}
+use Rattle.rip_report.specs.CapturePackets.{ClosesSo, EndsSo}
+use Rattle.rip_report.specs.CaptureText.{packet_lines}
+use Rattle.rip_report.specs.declared.captures.ending.Ending.TheVariants.{Unread}
+use Rattle.rip_report.specs.declared.status.RunError.TheVariants.{Memory, Read}
+use Rattle.rip_report.proofs.CaptureFileLemmas.{adds-file, adds-text, far-bytes, not-followed, reads-unread}
+use Rattle.rip_report.proofs.GivenLemmas.{told_given}
+use Rattle.rip_report.proofs.ListingLemmas.{writes_none}
+use Rattle.rip_report.proofs.captures.run_log.Goals as goal
+
+pub returns-in-Ok-clause-prints : goal.returns-in-Ok-clause-prints
+returns-in-Ok-clause-prints g c = λ bytes is.
+    let S = g.R.Source in
+    let taken = g.K.Sink.taken in
+    let broken = g.K.Sink.broken in
+    let start = S.given c.args.file in
+    let logs = c.log_packets-ending.ensures in
+    let reader = c.log_packets-ending.new.reader in
+    let link = c.args.link.now in
+    let out = c.args.out.now in
+    let text : Begins (start ++ bytes) (S.given (source_of reader)) (S.at_end (source_of reader)) = subst (λ (s : g.row.R.Denot). Begins (start ++ bytes) (S.given s) (S.at_end s)) c.into_source.ensures is in
+    let ends = subst (λ (s : g.row.R.Denot). EndsSo S.given S.at_end (S.given s) c.args.log.now.lines logs.carriers reader c.log_packets-ending.new.listing c.log_packets-ending.result) c.in-Ok.ensures.source logs.ends in
+    let wrote = logs.adds out [] (writes_none taken broken out c.new-listing.result c.new-listing.ensures.page c.new-listing.ensures.wrote) in
+    adds-file S.given S.at_end start bytes reader text taken broken out c.close_file-answer.new.out c.args.log.now c.close_file-answer.new.log link c.log_packets-ending.new.listing c.early_faults.ensures logs.carriers logs.carry logs.few c.log_packets-ending.result c.close_file-answer.result ends
+    (c.close_file-answer.ensures out (packet_lines link logs.carriers) wrote)
+
+pub returns-in-Ok-clause-read : goal.returns-in-Ok-clause-read
+returns-in-Ok-clause-read g c = λ bytes is e.
+    let S = g.R.Source in
+    let taken = g.K.Sink.taken in
+    let broken = g.K.Sink.broken in
+    let start = S.given c.args.file in
+    let logs = c.log_packets-ending.ensures in
+    let reader = c.log_packets-ending.new.reader in
+    let link = c.args.link.now in
+    let out = c.args.out.now in
+    let text : Begins (start ++ bytes) (S.given (source_of reader)) (S.at_end (source_of reader)) = subst (λ (s : g.row.R.Denot). Begins (start ++ bytes) (S.given s) (S.at_end s)) c.into_source.ensures is in
+    let ends = subst (λ (s : g.row.R.Denot). EndsSo S.given S.at_end (S.given s) c.args.log.now.lines logs.carriers reader c.log_packets-ending.new.listing c.log_packets-ending.result) c.in-Ok.ensures.source logs.ends in
+    let wrote = logs.adds out [] (writes_none taken broken out c.new-listing.result c.new-listing.ensures.page c.new-listing.ensures.wrote) in
+    let closes = c.close_file-answer.ensures out (packet_lines link logs.carriers) wrote in
+    let unread = reads-unread S.given S.at_end start bytes reader text taken broken out c.close_file-answer.new.out c.args.log.now c.close_file-answer.new.log link c.args.log.now.lines c.log_packets-ending.new.listing logs.carriers c.log_packets-ending.result c.close_file-answer.result closes e in
+    elim (logs.unread unread) [
+      | inl failed ↦ inl (ap S.broken c.into_source.ensures ∙ failed)
+      | inr far ↦ inr (far-bytes S.given S.at_end start bytes reader text taken broken out c.close_file-answer.new.out c.args.log.now c.close_file-answer.new.log link c.args.log.now.lines c.log_packets-ending.new.listing logs.carriers (rw unread at ends) far)
+    ]
+
+pub returns-in-Ok-clause-source : goal.returns-in-Ok-clause-source
+returns-in-Ok-clause-source g c = λ no_read no_write.
+    let S = g.R.Source in
+    let taken = g.K.Sink.taken in
+    let broken = g.K.Sink.broken in
+    let logs = c.log_packets-ending.ensures in
+    let link = c.args.link.now in
+    let out = c.args.out.now in
+    let wrote = logs.adds out [] (writes_none taken broken out c.new-listing.result c.new-listing.ensures.page c.new-listing.ensures.wrote) in
+    let closes = c.close_file-answer.ensures out (packet_lines link logs.carriers) wrote in
+    ap S.broken c.into_source.ensures
+    ∙ logs.marks (λ e. no_read ((rw e at closes).0.out no_write).0)
+    ∙ ap S.broken c.in-Ok.ensures.source
+
+pub returns-in-Err-clause-prints : goal.returns-in-Err-clause-prints
+returns-in-Err-clause-prints g c = λ bytes is.
+    let taken = g.K.Sink.taken in
+    let broken = g.K.Sink.broken in
+    let out = c.args.out.now in
+    let log = c.args.log.now in
+    adds-text taken broken out c.log_failure.new.out log log c.args.link.now bytes _ 0 (Err Memory) c.log_failure.result c.log_failure.ensures
+    (memory refl refl) (not-followed taken broken out c.log_failure.new.out log log c.args.link.now bytes _ 0 (Err Memory) c.log_failure.result (inr refl) c.log_failure.ensures refl)
+
+pub returns-in-Ok-clause-to_come : goal.returns-in-Ok-clause-to_come
+returns-in-Ok-clause-to_come g c = λ bytes is.
+    let S = g.R.Source in
+    let went = subst (λ (s : g.row.R.Denot). Went S.given S.coming S.at_end s c.into_source.result) c.in-Ok.ensures.source (subst (λ (s : g.row.R.Denot). Went S.given S.coming S.at_end (source_of c.in-Ok.reader) s) (sym c.into_source.ensures) c.log_packets-ending.ensures.went) in
+    told_given S.given S.coming S.at_end c.args.file c.into_source.result went (g.met.R.Source.nothing_left c.into_source.result) bytes is

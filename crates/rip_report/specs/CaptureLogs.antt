@@ -1,0 +1,160 @@
+-- What a log of capture files is, and what a run leaves that adds a file to one.
+use Rattle.std.specs.Prelude.{◌≡◌, ◌≢◌, ◌⊎◌, ℕ, ◌+◌, ◌<◌, ◌≤◌, Bool, true, false, List, [], ◌∷◌, ◌++◌, length, map, flat_map, codes, Result, Ok, Err, is_err}
+use Rattle.std.specs.List.{AllByRecursion, AllPass}
+use Rattle.rip_log.specs.Lines.{Capture as Captured}
+use Rattle.rip_log.specs.Logs.{Numbered}
+use Rattle.rip_log.specs.Taken.{Taken, Took}
+use Rattle.rip_log.specs.declared.limits.TheConstants.{MOST_LINES}
+use Rattle.rip_capture.specs.Captures.{CaptureFault}
+use Rattle.rip_capture.specs.Spans.{slice_of}
+use Rattle.rip_capture.specs.declared.error.CaptureCode.{CaptureCode}
+use Rattle.rip_capture.specs.declared.packet.Carried.{Carried}
+use Rattle.rip_capture.specs.declared.packet.Carried.TheVariants.{Datagram, Cut, Fragment, Malformed, Long, Unknown, Elsewhere, Others}
+use Rattle.rip_report.specs.CaptureText.{Carrier, IsCaptureOf, IsCarrier, comment_line, counted_status, counts_of, file_refusal_line, has_line, line_count, packet_lines}
+use Rattle.rip_report.specs.Sent.{Began}
+use Rattle.rip_report.specs.Written.{line}
+use Rattle.rip_report.specs.declared.captures.log.CaptureLog.{CaptureLog}
+use Rattle.rip_report.specs.declared.captures.ending.RefusalCode.{RefusalCode}
+use Rattle.rip_report.specs.declared.captures.ending.RefusalCode.TheVariants.{Capture, TooManyLines}
+use Rattle.rip_report.specs.declared.status.RunError.{RunError}
+use Rattle.rip_report.specs.declared.status.RunError.TheVariants.{Read, Write, Memory}
+use Rattle.rip_report.specs.declared.status.Status.{Status}
+use Rattle.rip_report.specs.declared.status.Status.TheVariants.{Done, Refused}
+
+-- ---- a file
+
+-- a beginning of these bytes is a capture of these packets, or there are none
+pub data BeginsWith (b : List ℕ) (carriers : List Carrier) : Type 0 where
+  none : carriers ≡ [] → BeginsWith b carriers
+  some : (front rest : List ℕ) → b ≡ front ++ rest → IsCaptureOf front carriers →
+      BeginsWith b carriers
+
+-- a file is refused behind these packets, of a log of so many lines: by its first fault, or where the
+-- line of the next packet, or the comment, would be one too many
+pub data IsRefusedAt (lines : ℕ) (b : List ℕ) (carriers : List Carrier) (code : RefusalCode) (at : ℕ)
+    : Type 0 where
+  fault : (fault : CaptureCode) → CaptureFault b (map (λ c. c.frame) carriers) fault at →
+      AllByRecursion IsCarrier carriers → lines + line_count carriers ≤ MOST_LINES →
+      code ≡ Capture fault → IsRefusedAt lines b carriers code at
+  packet : (front more rest : List ℕ) (next : Carrier) → IsCaptureOf front carriers →
+      IsCaptureOf (front ++ more) (carriers ++ next ∷ []) → b ≡ (front ++ more) ++ rest →
+      has_line next.carried ≡ true → lines + line_count carriers ≡ MOST_LINES → at ≡ length front →
+      code ≡ TooManyLines → IsRefusedAt lines b carriers code at
+  comment : IsCaptureOf b carriers → lines + line_count carriers ≡ MOST_LINES → at ≡ length b →
+      code ≡ TooManyLines → IsRefusedAt lines b carriers code at
+
+-- what a log has of the file of this number, behind so many lines, and how many lines it then has
+pub data FileText (number lines : ℕ) (link b text : List ℕ) (after : ℕ)
+    (answer : Result Status RunError) : Type 0 where
+  whole : (carriers : List Carrier) → IsCaptureOf b carriers →
+      after ≡ lines + line_count carriers + 1 → after ≤ MOST_LINES →
+      text ≡ packet_lines link carriers ++ comment_line number link (counts_of carriers) →
+      answer ≡ Ok (counted_status (counts_of carriers)) →
+      FileText number lines link b text after answer
+  refused : (carriers : List Carrier) (code : RefusalCode) (at : ℕ) →
+      IsRefusedAt lines b carriers code at →
+      text ≡ packet_lines link carriers ++ file_refusal_line number link code at →
+      answer ≡ Ok Refused → FileText number lines link b text after answer
+  unread : (carriers : List Carrier) → BeginsWith b carriers →
+      text ≡ packet_lines link carriers ++ line (codes "failed: read") →
+      answer ≡ Err Read → FileText number lines link b text after answer
+  memory : text ≡ line (codes "failed: memory") → answer ≡ Err Memory →
+      FileText number lines link b text after answer
+
+-- what was to go out of a file where the sink failed: its text, or the lines of its first packets
+pub data FileFront (number lines : ℕ) (link b text : List ℕ) : Type 0 where
+  text : (after : ℕ) (answer : Result Status RunError) →
+      FileText number lines link b text after answer → FileFront number lines link b text
+  packets : (carriers : List Carrier) → BeginsWith b carriers → text ≡ packet_lines link carriers →
+      FileFront number lines link b text
+
+-- Done where both are Done
+abbrev pub worse : Status → Status → Status
+worse Done status = status
+worse other status = other
+
+-- a log after a file of this answer, with which it has so many lines
+abbrev pub Follows : CaptureLog → CaptureLog → ℕ → Result Status RunError → Type 0
+Follows before after lines (Ok Refused) = after ≡ before
+Follows before after lines (Ok status) =
+    (after.files ≡ before.files + 1) × (after.lines ≡ lines)
+    × (after.status ≡ worse before.status status)
+Follows before after lines (Err e) = after ≡ before
+
+-- what a run leaves that adds a file to a log
+pub record AddsFile
+    {K : Type 0}
+    (taken : K → Taken)
+    (broken : K → Bool)
+    (old new : K)
+    (before after : CaptureLog)
+    (link b : List ℕ)
+    (answer : Result Status RunError)
+    : Type 0 where
+  -- the text of the file went out, and nothing else
+  pub text : answer ≢ Err Write →
+      (text : List ℕ) × (lines : ℕ)
+      × FileText (before.files + 1) before.lines link b text lines answer
+      × Took (taken old) (taken new) text × Follows before after lines answer
+  -- the sink has failed, and a beginning went out
+  pub write : answer ≡ Err Write →
+      (broken new ≡ true)
+      × ((text : List ℕ) × FileFront (before.files + 1) before.lines link b text
+      × Began (taken old) (taken new) text)
+  -- every other answer leaves the sink's mark as it was
+  pub sink : answer ≢ Err Write → broken new ≡ broken old
+
+-- ---- a log of files
+
+-- a capture file: its link, and its bytes
+pub record File : Type 0 where
+  pub link : List ℕ
+  pub bytes : List ℕ
+
+-- the log of these files, each of which is a capture: its text, how many lines it has, and its status
+pub data SoFar : List File → List ℕ → ℕ → Status → Type 0 where
+  none : SoFar [] [] 0 Done
+  more : (files : List File) (file : File) (text part : List ℕ) (lines after : ℕ)
+      (before status : Status) → SoFar files text lines before → status ≢ Refused →
+      FileText (length files + 1) lines file.link file.bytes part after (Ok status) →
+      SoFar (files ++ file ∷ []) (text ++ part) after (worse before status)
+
+-- the log of these files: of all, or up to one that is refused or could not be read
+pub data LogOf (files : List File) (text : List ℕ) (answer : Result Status RunError) : Type 0 where
+  all : (lines : ℕ) (status : Status) → SoFar files text lines status → answer ≡ Ok status →
+      LogOf files text answer
+  stopped : (before after : List File) (file : File) (front part : List ℕ) (lines more : ℕ)
+      (status : Status) → SoFar before front lines status →
+      FileText (length before + 1) lines file.link file.bytes part more answer →
+      (answer ≡ Ok Refused) ⊎ (is_err answer ≡ true) →
+      files ≡ before ++ file ∷ after → text ≡ front ++ part → LogOf files text answer
+
+-- ---- the datagrams of files
+
+-- this is a whole datagram, or none to 224.0.0.9
+abbrev pub is_whole : Carried → Bool
+is_whole (Datagram sender span) = true
+is_whole Elsewhere = true
+is_whole Others = true
+is_whole _ = false
+
+-- the datagram that a frame carries, as a record of a log has it
+abbrev pub datagram_in : List ℕ → List ℕ → Carried → List Captured
+datagram_in link frame (Datagram sender span) =
+    (record { link = link; sender = sender; datagram = slice_of frame span }) ∷ []
+datagram_in link frame _ = []
+
+-- a file is a capture, each datagram to 224.0.0.9 is there whole, and these are they, in order
+pub record HasDatagrams (file : File) (captures : List Captured) : Type 0 where
+  pub carriers : List Carrier
+  pub capture : IsCaptureOf file.bytes carriers
+  pub whole : AllByRecursion (λ c. is_whole c.carried ≡ true) carriers
+  pub datagrams : captures
+      ≡ flat_map (λ c. datagram_in file.link c.frame.bytes c.carried) carriers
+
+-- the same of files, one after the other
+abbrev pub HaveDatagrams : List File → List Captured → Type 0
+HaveDatagrams [] captures = captures ≡ []
+HaveDatagrams (file ∷ files) captures =
+    (first rest : List Captured) × HasDatagrams file first × HaveDatagrams files rest
+    × (captures ≡ first ++ rest)

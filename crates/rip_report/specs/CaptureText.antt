@@ -1,0 +1,208 @@
+-- The lines that `log` prints of the packets of a capture file.
+use Rattle.std.specs.Prelude.{◌≡◌, ℕ, ◌+◌, ◌<◌, ◌≤◌, ◌^◌, ◌==◌, ◌&&◌, if◌then◌else◌, Bool, true, false, List, [], ◌++◌, length, map, count_by, flat_map, codes, decimal}
+use Rattle.std.specs.List.{AllByRecursion}
+use Rattle.hex.specs.Hex.{encode_lower}
+use Rattle.rip_wire.specs.Address.{address_text}
+use Rattle.rip_capture.specs.Captures.{IsCapture}
+use Rattle.rip_capture.specs.Carries.{Carries}
+use Rattle.rip_capture.specs.Passwords.{has_password, without_password}
+use Rattle.rip_capture.specs.Pcap.{Frame}
+use Rattle.rip_capture.specs.Spans.{slice_of}
+use Rattle.rip_capture.specs.declared.error.CaptureCode.{CaptureCode}
+use Rattle.rip_capture.specs.declared.error.CaptureCode.TheVariants as capture
+use Rattle.rip_capture.specs.declared.packet.Carried.{Carried}
+use Rattle.rip_capture.specs.declared.packet.Carried.TheVariants.{Datagram, Cut, Fragment, Malformed, Long, Unknown, Elsewhere, Others}
+use Rattle.rip_report.specs.LeftOut.{count_part}
+use Rattle.rip_report.specs.Written.{line}
+use Rattle.rip_report.specs.declared.captures.counts.PacketCounts.{PacketCounts}
+use Rattle.rip_report.specs.declared.captures.ending.RefusalCode.{RefusalCode}
+use Rattle.rip_report.specs.declared.captures.ending.RefusalCode.TheVariants.{Capture, TooManyLines}
+use Rattle.rip_report.specs.declared.status.Status.{Status}
+use Rattle.rip_report.specs.declared.status.Status.TheVariants.{Done, Unclear}
+
+-- a packet, and what it carries
+pub record Carrier : Type 0 where
+  pub frame : Frame
+  pub carried : Carried
+
+-- it carries that
+abbrev pub IsCarrier : Carrier → Type 0
+IsCarrier c = Carries c.frame.link_type c.frame.bytes c.carried
+
+-- these bytes are a capture, up to here, of these packets
+pub record IsCaptureOf (b : List ℕ) (carriers : List Carrier) : Type 0 where
+  pub capture : IsCapture b (map (λ c. c.frame) carriers)
+  pub carry : AllByRecursion IsCarrier carriers
+
+-- ---- the line of a packet
+
+-- `a 10.1.0.1 `, the link and the sender of a datagram
+abbrev pub sender_part : List ℕ → ℕ → List ℕ
+sender_part link sender = link ++ codes " " ++ address_text sender ++ codes " "
+
+-- the line of what a frame carries, or nothing
+unfoldable pub carried_line : List ℕ → List ℕ → Carried → List ℕ
+carried_line link frame (Datagram sender span) =
+    line (sender_part link sender ++ encode_lower (without_password (slice_of frame span)))
+carried_line link frame (Cut sender) = line (sender_part link sender ++ codes "cut")
+carried_line link frame (Fragment sender) = line (sender_part link sender ++ codes "fragment")
+carried_line link frame (Malformed sender) = line (sender_part link sender ++ codes "malformed")
+carried_line link frame (Long sender) = line (sender_part link sender ++ codes "long")
+carried_line link frame Unknown = line (link ++ codes " unknown cut")
+carried_line link frame Elsewhere = []
+carried_line link frame Others = []
+
+-- the lines of packets, in order
+abbrev pub packet_lines : List ℕ → List Carrier → List ℕ
+packet_lines link carriers = flat_map (λ c. carried_line link c.frame.bytes c.carried) carriers
+
+-- ---- how many packets there are of each kind
+
+-- a datagram that is there whole
+abbrev pub is_datagram : Carried → Bool
+is_datagram (Datagram sender span) = true
+is_datagram _ = false
+
+-- the capture lacks the end, or the headers that would tell
+abbrev pub is_cut : Carried → Bool
+is_cut (Cut sender) = true
+is_cut Unknown = true
+is_cut _ = false
+
+abbrev pub is_fragment : Carried → Bool
+is_fragment (Fragment sender) = true
+is_fragment _ = false
+
+abbrev pub is_malformed : Carried → Bool
+is_malformed (Malformed sender) = true
+is_malformed _ = false
+
+abbrev pub is_long : Carried → Bool
+is_long (Long sender) = true
+is_long _ = false
+
+-- a datagram to another address
+abbrev pub is_elsewhere : Carried → Bool
+is_elsewhere Elsewhere = true
+is_elsewhere _ = false
+
+abbrev pub is_other : Carried → Bool
+is_other Others = true
+is_other _ = false
+
+-- a datagram with a password
+abbrev pub carries_password : List ℕ → Carried → Bool
+carries_password frame (Datagram sender span) = has_password (slice_of frame span)
+carries_password frame _ = false
+
+-- the packet has a line
+abbrev pub has_line : Carried → Bool
+has_line Elsewhere = false
+has_line Others = false
+has_line _ = true
+
+-- how many of the packets carry such a thing
+abbrev pub count_of : (Carried → Bool) → List Carrier → ℕ
+count_of is_such carriers = count_by (λ c. is_such c.carried) carriers
+
+-- the lines of the packets
+abbrev pub line_count : List Carrier → ℕ
+line_count carriers = count_of has_line carriers
+
+-- the packets, counted by what they carry
+abbrev pub counts_of : List Carrier → PacketCounts
+counts_of carriers = record {
+  packets = length carriers;
+  datagrams = count_of is_datagram carriers;
+  cut = count_of is_cut carriers;
+  fragments = count_of is_fragment carriers;
+  malformed = count_of is_malformed carriers;
+  long = count_of is_long carriers;
+  passwords = count_by (λ c. carries_password c.frame.bytes c.carried) carriers;
+  elsewhere = count_of is_elsewhere carriers;
+  others = count_of is_other carriers;
+}
+
+-- 1 where it holds
+abbrev pub one : Bool → ℕ
+one b = if b then 1 else 0
+
+-- a packet more was counted, which carries this, and perhaps a password
+abbrev pub counted : PacketCounts → Carried → Bool → PacketCounts
+counted n carried is_password = record {
+  packets = n.packets + 1;
+  datagrams = n.datagrams + one (is_datagram carried);
+  cut = n.cut + one (is_cut carried);
+  fragments = n.fragments + one (is_fragment carried);
+  malformed = n.malformed + one (is_malformed carried);
+  long = n.long + one (is_long carried);
+  passwords = n.passwords + one is_password;
+  elsewhere = n.elsewhere + one (is_elsewhere carried);
+  others = n.others + one (is_other carried);
+}
+
+-- each count is below the greatest number
+pub record HasRoom (n : PacketCounts) : Type 0 where
+  pub packets : n.packets + 1 < 2 ^ 64
+  pub datagrams : n.datagrams ≤ n.packets
+  pub cut : n.cut ≤ n.packets
+  pub fragments : n.fragments ≤ n.packets
+  pub malformed : n.malformed ≤ n.packets
+  pub long : n.long ≤ n.packets
+  pub passwords : n.passwords ≤ n.packets
+  pub elsewhere : n.elsewhere ≤ n.packets
+  pub others : n.others ≤ n.packets
+
+-- Done where each datagram is there whole, else Unclear
+abbrev pub counted_status : PacketCounts → Status
+counted_status n =
+    if n.cut == 0 && (n.fragments == 0 && (n.malformed == 0 && n.long == 0)) then Done else Unclear
+
+-- ---- the last line of a file
+
+-- `file 1 link a`
+abbrev pub file_part : ℕ → List ℕ → List ℕ
+file_part number link = codes "file " ++ decimal number ++ codes " link " ++ link
+
+-- `# file 1 link a: 14 packets, 1 datagrams`
+unfoldable pub comment_front : ℕ → List ℕ → PacketCounts → List ℕ
+comment_front number link n =
+    codes "# " ++ file_part number link ++ codes ": " ++ decimal n.packets ++ codes " packets, "
+    ++ decimal n.datagrams ++ codes " datagrams"
+
+-- `, 1 cut, 2 long`: the datagrams that are not there whole, where there are any
+unfoldable pub lacking_part : PacketCounts → List ℕ
+lacking_part n =
+    count_part (codes ", ") n.cut (codes " cut")
+    ++ count_part (codes ", ") n.fragments (codes " fragments")
+    ++ count_part (codes ", ") n.malformed (codes " malformed")
+    ++ count_part (codes ", ") n.long (codes " long")
+
+-- `, 1 passwords, 12 others`: the other counts, where they are not 0
+unfoldable pub other_part : PacketCounts → List ℕ
+other_part n =
+    count_part (codes ", ") n.passwords (codes " passwords")
+    ++ count_part (codes ", ") n.elsewhere (codes " elsewhere")
+    ++ count_part (codes ", ") n.others (codes " others")
+
+-- the comment behind the lines of a file
+abbrev pub comment_line : ℕ → List ℕ → PacketCounts → List ℕ
+comment_line number link n = line (comment_front number link n ++ (lacking_part n ++ other_part n))
+
+-- the number and the word of a code; of a source that failed it is never printed
+unfoldable pub refusal_code_text : RefusalCode → List ℕ
+refusal_code_text (Capture capture.Magic) = codes "1 Magic"
+refusal_code_text (Capture capture.Cut) = codes "2 Cut"
+refusal_code_text (Capture capture.Version) = codes "3 Version"
+refusal_code_text (Capture capture.LinkType) = codes "4 LinkType"
+refusal_code_text (Capture capture.Length) = codes "5 Length"
+refusal_code_text (Capture capture.Interface) = codes "6 Interface"
+refusal_code_text (Capture capture.OldPacket) = codes "7 OldPacket"
+refusal_code_text (Capture capture.Read) = codes "Read"
+refusal_code_text TooManyLines = codes "8 TooManyLines"
+
+-- `refused: file 1 link a: 2 Cut at 0`
+unfoldable pub file_refusal_line : ℕ → List ℕ → RefusalCode → ℕ → List ℕ
+file_refusal_line number link code at =
+    line (codes "refused: " ++ file_part number link ++ codes ": " ++ refusal_code_text code
+    ++ codes " at " ++ decimal at)

@@ -1,0 +1,168 @@
+//! The command `log`: a log of the datagrams in capture files.
+
+mod counts;
+mod ending;
+mod lines;
+mod log;
+mod packets;
+mod tally;
+
+ghost use Rattle.std.specs.Prelude.{◌≡◌, ◌≢◌, ◌⊎◌, ◌+◌, ◌^◌, ◌<◌, ◌≤◌, ℕ, List, Some, Err, is_err, length, true};
+ghost use Rattle.rip_report.specs.CaptureLogs.{AddsFile, worse};
+ghost use Rattle.rip_log.specs.declared.limits.TheConstants.{MOST_LINES};
+ghost use Rattle.rip_report.specs.CapturePackets.{ClosesFile, EndsWith};
+ghost use Rattle.rip_log.specs.Wholes.{Went};
+ghost use Rattle.rip_wire.specs.Name.{IsName};
+ghost use Rattle.rip_report.specs.Given.{IsGiven};
+ghost use Rattle.rip_report.specs.Held.{held};
+ghost use Rattle.rip_report.specs.Statuses.{fault_line_of};
+ghost use Rattle.rip_report.specs.Written.{line};
+ghost use Rattle.rip_report.specs.Sent.{Writes};
+ghost use Rattle.rip_report.specs.declared.captures.tally.Tally.{Tally};
+ghost use Rattle.rip_report.specs.declared.limits.TheConstants.{NAME};
+
+use crate::captures::ending::Ending;
+use crate::captures::lines::{add_comment, file_refusal_text};
+pub use crate::captures::log::CaptureLog;
+use crate::captures::packets::log_packets;
+use crate::captures::tally::Tally;
+use crate::limits::NAME;
+use crate::listing::Listing;
+use crate::status::{RunError, Status, fault_line};
+use rip_capture::CaptureReader;
+use rip_capture::laws::{early_faults, long_captures};
+use rip_log::{Failed, MOST_LINES, Sink, Source};
+use std::alloc::Global;
+
+/// This status, or Unclear where that of the files before is.
+fn worse(before: Status, status: Status) -> Status
+    ensures { result ≡ worse before status }
+{
+    match before {
+        Status::Done => status,
+        other => other,
+    }
+}
+
+/// Sends what is left, and ends with this answer, or with Write where the sink has failed.
+fn end_listing<K: Sink>(
+    listing: Listing,
+    answer: Result<Status, RunError>,
+    out: &mut K,
+) -> Result<Status, RunError>
+    requires { answer ≢ Err RunError.Write }
+    ensures { (start : K) (text : List ℕ) →
+        Writes K.taken K.broken start out.old listing.wrote text (held listing.page) →
+        EndsWith K.taken K.broken start out.new text answer result }
+{
+    match listing.finish(out) {
+        Ok(()) => answer,
+        Err(Failed) => Err(RunError::Write),
+    }
+}
+
+/// Adds the comment of a file, and tells the log of it.
+fn close_whole<K: Sink>(
+    log: &mut CaptureLog,
+    link: &str,
+    tally: Tally,
+    mut listing: Listing,
+    out: &mut K,
+) -> Result<Status, RunError>
+    requires link { length link.now ≤ NAME }
+    requires later { log.old.lines ≤ tally.lines }
+    requires room { tally.lines < MOST_LINES }
+    ensures { ClosesFile K.taken K.broken out.old out.new log.old log.new link.now listing
+        (Ending.Whole tally) result }
+{
+    let number = log.files + 1;
+    add_comment(&mut listing, number, link, &tally.counts, out);
+    let status = end_listing(listing, Ok(tally.counts.status()), out)?;
+    *log = CaptureLog {
+        files: number,
+        lines: tally.lines + 1,
+        status: worse(log.status, status),
+    };
+    Ok(status)
+}
+
+/// Adds the last line of a file, and tells the log of it.
+fn close_file<K: Sink>(
+    log: &mut CaptureLog,
+    link: &str,
+    ending: Ending,
+    mut listing: Listing,
+    out: &mut K,
+) -> Result<Status, RunError>
+    requires link { length link.now ≤ NAME }
+    requires whole { (tally : Tally) → ending ≡ Ending.Whole tally →
+        (log.old.lines ≤ tally.lines) × (tally.lines < MOST_LINES) }
+    requires unwritten { ending ≡ Ending.Unwritten → is_err listing.wrote ≡ true }
+    ensures { ClosesFile K.taken K.broken out.old out.new log.old log.new link.now listing
+        ending result }
+{
+    match ending {
+        Ending::Whole(tally) => close_whole(log, link, tally, listing, out),
+        Ending::Refused { code, at } => {
+            listing.add(&file_refusal_text(log.files + 1, link, code, at), out);
+            end_listing(listing, Ok(Status::Refused), out)
+        }
+        Ending::Unread => {
+            listing.add_text("failed: read\n", out);
+            end_listing(listing, Err(RunError::Read), out)
+        }
+        Ending::Unwritten => Err(RunError::Write),
+    }
+}
+
+/// Writes the line of a failure as the last one of a log, so that nobody takes the log for a whole one.
+pub fn log_failure<K: Sink>(error: RunError, out: &mut K) -> Result<Status, RunError>
+    requires { error ≢ RunError.Write }
+    ensures { EndsWith K.taken K.broken out.old out.new (line (fault_line_of error)) (Err error)
+        result }
+{
+    let mut listing = Listing::new();
+    listing.add_text(fault_line(&error), out);
+    listing.add_text("\n", out);
+    end_listing(listing, Err(error), out)
+}
+
+/// Writes what a log has of a capture file of a link, behind the files that were written before: a line
+/// for each packet that carries a RIP datagram to 224.0.0.9, and a comment that counts all packets. Where
+/// the file is refused or cannot be read, the last line says so, no comment follows, and no file should.
+/// It allocates a buffer, which a file of any size fits.
+pub fn run_log<R: Source, K: Sink>(
+    alloc: Global,
+    log: &mut CaptureLog,
+    link: &str,
+    file: R,
+    out: &mut K,
+) -> (R, Result<Status, RunError>)
+    requires { IsName link.now }
+    // The whole text went out, or a beginning where the sink failed.
+    ensures prints { (bytes : List ℕ) → IsGiven R.given R.at_end file result.0 bytes →
+        AddsFile K.taken K.broken out.old out.new log.old log.new link.now bytes result.1 }
+    // The bytes given are the first of those to come, where these are modelled.
+    ensures went { Went R.given R.coming R.at_end file result.0 }
+    ensures to_come { (bytes : List ℕ) → R.coming file ≡ Some bytes →
+        IsGiven R.given R.at_end file result.0 bytes }
+    // Read only where the source has failed, or a file has more than 2^64 - 2^32 bytes.
+    ensures read { (bytes : List ℕ) → IsGiven R.given R.at_end file result.0 bytes →
+        result.1 ≡ Err RunError.Read →
+        (R.broken result.0 ≡ true) ⊎ (2 ^ 64 ≤ length bytes + 2 ^ 32) }
+    // Every other answer but Write leaves the source's mark as it was.
+    ensures source { result.1 ≢ Err RunError.Read → result.1 ≢ Err RunError.Write →
+        R.broken result.0 ≡ R.broken file }
+{
+    long_captures();
+    early_faults();
+    match CaptureReader::new(alloc, file) {
+        Err((_, file)) => (file, log_failure(RunError::Memory, out)),
+        Ok(mut reader) => {
+            let mut listing = Listing::new();
+            let ending = log_packets(&mut reader, link, log.lines, &mut listing, out);
+            let answer = close_file(log, link, ending, listing, out);
+            (reader.into_source(), answer)
+        }
+    }
+}

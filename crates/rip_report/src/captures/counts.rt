@@ -1,0 +1,74 @@
+//! How many packets of a file there are of each kind.
+
+ghost use Rattle.std.specs.Prelude.{◌≡◌, []};
+ghost use Rattle.rip_report.specs.CaptureText.{HasRoom, counted, counted_status, counts_of};
+
+use crate::status::Status;
+use rip_capture::Carried;
+
+/// The packets of a file, counted by what they carry.
+#[derive(Clone, Copy)]
+pub(crate) struct PacketCounts {
+    pub(crate) packets: u64,
+    /// Datagrams to 224.0.0.9 that are there whole.
+    pub(crate) datagrams: u64,
+    pub(crate) cut: u64,
+    pub(crate) fragments: u64,
+    pub(crate) malformed: u64,
+    pub(crate) long: u64,
+    /// Datagrams with a password.
+    pub(crate) passwords: u64,
+    /// Datagrams to other addresses.
+    pub(crate) elsewhere: u64,
+    pub(crate) others: u64,
+}
+
+impl PacketCounts {
+    /// No packets.
+    pub(crate) fn new() -> PacketCounts
+        ensures { result ≡ counts_of [] }
+    {
+        PacketCounts {
+            packets: 0,
+            datagrams: 0,
+            cut: 0,
+            fragments: 0,
+            malformed: 0,
+            long: 0,
+            passwords: 0,
+            elsewhere: 0,
+            others: 0,
+        }
+    }
+
+    /// Counts a packet that carries this, and perhaps a password.
+    pub(crate) fn add(&mut self, carried: &Carried, has_password: bool)
+        requires { HasRoom self.old }
+        ensures { self.new ≡ counted self.old carried.now has_password }
+    {
+        self.packets += 1;
+        match carried {
+            Carried::Datagram(..) => self.datagrams += 1,
+            Carried::Cut(_) | Carried::Unknown => self.cut += 1,
+            Carried::Fragment(_) => self.fragments += 1,
+            Carried::Malformed(_) => self.malformed += 1,
+            Carried::Long(_) => self.long += 1,
+            Carried::Elsewhere => self.elsewhere += 1,
+            Carried::Others => self.others += 1,
+        }
+        if has_password {
+            self.passwords += 1;
+        }
+    }
+
+    /// Done where each datagram is there whole, else Unclear.
+    pub(crate) fn status(self) -> Status
+        ensures { result ≡ counted_status self }
+    {
+        if self.cut == 0 && self.fragments == 0 && self.malformed == 0 && self.long == 0 {
+            Status::Done
+        } else {
+            Status::Unclear
+        }
+    }
+}

@@ -1,0 +1,40 @@
+//! A log of capture files, as far as it was written.
+
+ghost use Rattle.std.specs.Prelude.{◌≡◌, ◌≤◌, []};
+ghost use Rattle.rip_log.specs.declared.limits.TheConstants.{MOST_LINES};
+
+use crate::status::Status;
+
+/// A log of capture files, as far as it was written: how many files and lines it has, and its status,
+/// Unclear where a datagram is not there whole.
+#[derive(Clone, Copy, Debug)]
+pub struct CaptureLog {
+    pub(super) files: u32,
+    pub(super) lines: u32,
+    pub(super) status: Status,
+    ghost few: { lines ≤ MOST_LINES },
+    ghost one_each: { files ≤ lines },
+}
+
+impl CaptureLog {
+    ghost use Rattle.rip_report.specs.CaptureLogs.{SoFar};
+
+    /// A log of no file.
+    pub fn new() -> CaptureLog
+        ensures files { result.files ≡ 0 }
+        ensures log { SoFar [] [] result.lines result.status }
+    {
+        CaptureLog {
+            files: 0,
+            lines: 0,
+            status: Status::Done,
+        }
+    }
+
+    /// Done where each datagram in the files is there whole, else Unclear.
+    pub fn status(&self) -> Status
+        ensures { result ≡ self.now.status }
+    {
+        self.status
+    }
+}

@@ -1,0 +1,110 @@
+//! From the packets of a capture file to the lines of a log.
+
+ghost use Rattle.std.specs.Prelude.{◌≡◌, ◌≤◌, [], None, length};
+ghost use Rattle.rip_capture.specs.NextCall.{Stands, frame_of, refusal_of, source_of};
+ghost use Rattle.rip_log.specs.declared.limits.TheConstants.{MOST_LINES};
+ghost use Rattle.rip_report.specs.CapturePackets.{LogsPacket, LogsPackets, ended_at, ended_by};
+ghost use Rattle.rip_report.specs.CaptureText.{HasRoom};
+ghost use Rattle.rip_report.specs.declared.limits.TheConstants.{NAME};
+
+use crate::captures::counts::PacketCounts;
+use crate::captures::ending::{Ending, RefusalCode};
+use crate::captures::lines::{add_line, carries_password, has_line};
+use crate::captures::tally::Tally;
+use crate::limits::NAME;
+use crate::listing::Listing;
+use rip_capture::laws::long_captures;
+use rip_capture::{CaptureCode, CaptureError, CaptureReader, Packet, read_frame};
+use rip_log::{MOST_LINES, Sink, Source};
+
+/// Adds the line of a packet, if it has one, and counts it. False where the log has no room for the line.
+fn log_packet<K: Sink>(
+    packet: &Packet<'_>,
+    link: &str,
+    tally: &mut Tally,
+    listing: &mut Listing,
+    out: &mut K,
+) -> bool
+    requires link { length link.now ≤ NAME }
+    requires room { HasRoom tally.old.counts }
+    requires lines { tally.old.lines ≤ MOST_LINES }
+    ensures { LogsPacket K.taken K.broken link.now (frame_of packet.now) tally.old tally.new
+        listing.old listing.new out.old out.new result }
+{
+    let carried = read_frame(packet.link_type, packet.bytes);
+    if has_line(&carried) {
+        if tally.lines >= MOST_LINES {
+            return false;
+        }
+        tally.lines += 1;
+    }
+    add_line(listing, link, packet.bytes, &carried, out);
+    let has_password = carries_password(packet.bytes, &carried);
+    tally.counts.add(&carried, has_password);
+    true
+}
+
+/// How the reading of a file ends at this error.
+fn ended_by(error: CaptureError) -> Ending
+    ensures { result ≡ ended_by error }
+{
+    match error.code {
+        CaptureCode::Read => Ending::Unread,
+        code => Ending::Refused {
+            code: RefusalCode::Capture(code),
+            at: error.at,
+        },
+    }
+}
+
+/// How the reading of a file ends at its end, after so many bytes: the log may have no room for the comment.
+fn ended_at(tally: Tally, at: u64) -> Ending
+    ensures { result ≡ ended_at tally at }
+{
+    if tally.lines == MOST_LINES {
+        let code = RefusalCode::TooManyLines;
+        Ending::Refused { code, at }
+    } else {
+        Ending::Whole(tally)
+    }
+}
+
+/// Adds the lines of the packets of a file, of a log of so many lines, and counts them.
+pub(crate) fn log_packets<R: Source, K: Sink>(
+    reader: &mut CaptureReader<R>,
+    link: &str,
+    lines: u32,
+    listing: &mut Listing,
+    out: &mut K,
+) -> Ending
+    requires front { Stands R.given (R.given (source_of reader.old)) reader.old [] [] }
+    requires running { refusal_of reader.old ≡ None }
+    requires link { length link.now ≤ NAME }
+    requires lines { lines ≤ MOST_LINES }
+    ensures { LogsPackets R.given R.coming R.broken R.at_end K.taken K.broken link.now lines
+        reader.old reader.new listing.old listing.new out.old out.new result }
+{
+    long_captures();
+    let mut tally = Tally {
+        counts: PacketCounts::new(),
+        lines,
+    };
+    'packets: while tally.counts.packets < u64::MAX {
+        match reader.next() {
+            Ok(Some(packet)) => {
+                let at = packet.at;
+                if !log_packet(&packet, link, &mut tally, listing, out) {
+                    let code = RefusalCode::TooManyLines;
+                    return Ending::Refused { code, at };
+                }
+                if listing.has_failed() {
+                    return Ending::Unwritten;
+                }
+            }
+            Ok(None) => return ended_at(tally, reader.position()),
+            Err(error) => return ended_by(error),
+        }
+    }
+    // Only a file of more than 2^64 bytes has so many packets.
+    Ending::Unread
+}
