@@ -6,3 +6,4 @@ pub mod PcapLemmas
 pub mod ReaderLemmas
 pub mod FileLemmas
 pub mod EachLemmas
+pub mod ByteLemmas

@@ -1,7 +1,8 @@
 //! Laws of the definitions alone: functions that do nothing, whose contracts hold of all frames and all
 //! files.
 
-ghost use Rattle.std.specs.Prelude.{◌≡◌, ◌≢◌, ◌⊎◌, ◌*◌, ◌≤◌, ◌++◌, ℕ, List, length};
+ghost use Rattle.std.specs.Prelude.{◌≡◌, ◌≢◌, ◌⊎◌, ◌*◌, ◌<◌, ◌≤◌, ◌++◌, ℕ, List, length};
+ghost use Rattle.std.specs.List.{AllByRecursion};
 ghost use Rattle.rip_capture.specs.Captures.{CaptureFault, IsCapture};
 ghost use Rattle.rip_capture.specs.Carries.{Carries};
 ghost use Rattle.rip_capture.specs.Pcap.{Frame};
@@ -53,6 +54,16 @@ pub fn one_reading()
 pub fn long_captures()
     ensures { (file : List ℕ) (frames : List Frame) → IsCapture file frames →
         RECORD_HEADER * length frames ≤ length file }
+{}
+
+/// The bytes of packets are bytes where those of the file are, of a capture and of a file with a fault.
+pub fn packet_bytes()
+    ensures right { (file : List ℕ) (frames : List Frame) → IsCapture file frames →
+        AllByRecursion (λ b. b < 256) file →
+        AllByRecursion (λ frame. AllByRecursion (λ b. b < 256) frame.bytes) frames }
+    ensures fault { (file : List ℕ) (frames : List Frame) (code : CaptureCode) (at : ℕ) →
+        CaptureFault file frames code at → AllByRecursion (λ b. b < 256) file →
+        AllByRecursion (λ frame. AllByRecursion (λ b. b < 256) frame.bytes) frames }
 {}
 
 /// A fault is one whatever bytes follow, but for a cut.

@@ -1,36 +1,33 @@
 -- From the parts of a run to what it adds of a file to a log.
-use Rattle.std.proofs.Common.{◌≡◌, ◌≢◌, ◌⊎◌, ◌+◌, ◌^◌, ◌≤◌, ◌<◌, ◌∙◌, ℕ, Bool, true, false, List, [], ◌∷◌, ◌++◌, Result, Ok, Err, length, map, ap, sym, refl, inl, inr, is_err, subst, arith, codes, append_assoc, append-nil}
+use Rattle.std.proofs.Common.{◌≡◌, ◌≢◌, ◌⊎◌, ◌+◌, ◌^◌, ◌≤◌, ◌∙◌, ℕ, Bool, true, List, [], ◌∷◌, ◌++◌, Result, Ok, Err, length, map, ap, sym, refl, inl, inr, is_err, subst, arith, append_assoc, append-nil}
 use Rattle.std.specs.List.{AllByRecursion}
 use Rattle.std.proofs.lemmas.Bool.{false≢true}
 use Rattle.std.proofs.lemmas.List.{append_cancel_left, length-append}
-use Rattle.rip_log.specs.Taken.{Taken, Took}
+use Rattle.rip_log.specs.Taken.{Taken}
 use Rattle.rip_log.specs.Wholes.{Begins}
 use Rattle.rip_capture.specs.Captures.{CaptureFault, IsCapture}
 use Rattle.rip_capture.specs.Captures.IsCapture.{pcap as pcap_capture}
-use Rattle.rip_capture.specs.NextCall.{EndsHere, HasRead, IsFar, Stands, StopsAt, TakesPacket, held_by, position_of, source_of}
+use Rattle.rip_capture.specs.NextCall.{EndsHere, HasRead, IsFar, Stands, held_by, source_of}
 use Rattle.rip_capture.specs.Pcap.{Frame}
 use Rattle.rip_capture.specs.declared.error.CaptureCode.{CaptureCode}
 use Rattle.rip_capture.specs.declared.error.CaptureCode.TheVariants.{Magic, Cut, Version, LinkType as NoLinkType, Length, Interface, OldPacket, Read as NoRead}
 use Rattle.rip_capture.specs.declared.reader.CaptureReader.{CaptureReader}
 use Rattle.rip_capture.specs.declared.reader.Format.{Format}
 use Rattle.rip_capture.specs.declared.reader.Format.TheVariants.{Unread as Unread-yet, Pcap}
-use Rattle.rip_report.specs.CaptureLogs.{AddsFile, BeginsWith, FileFront, FileText, Follows, IsRefusedAt}
+use Rattle.rip_report.specs.CaptureLogs.{AddsFile, BeginsWith, FileText, Follows, IsRefusedAt}
 use Rattle.rip_report.specs.CaptureLogs.BeginsWith.{none, some}
 use Rattle.rip_report.specs.CaptureLogs.FileFront.{text as whole_front, packets as some_packets}
 use Rattle.rip_report.specs.CaptureLogs.FileText.{whole, refused, unread}
 use Rattle.rip_report.specs.CaptureLogs.IsRefusedAt.{fault, packet, comment}
 use Rattle.rip_report.specs.CapturePackets.{ClosesSo, EndsSo, EndsWith}
-use Rattle.rip_report.specs.CaptureText.{Carrier, IsCaptureOf, IsCarrier, comment_line, counted_status, counts_of, file_refusal_line, line_count, packet_lines}
-use Rattle.rip_report.specs.Sent.{Began}
-use Rattle.rip_report.specs.Written.{line}
+use Rattle.rip_report.specs.CaptureText.{Carrier, IsCarrier, comment_line, counted_status, line_count, packet_lines}
 use Rattle.rip_report.specs.declared.captures.ending.Ending.{Ending}
 use Rattle.rip_report.specs.declared.captures.ending.Ending.TheVariants.{Whole, Refused, Unread, Unwritten}
-use Rattle.rip_report.specs.declared.captures.ending.RefusalCode.{RefusalCode}
 use Rattle.rip_report.specs.declared.captures.ending.RefusalCode.TheVariants.{Capture, TooManyLines}
 use Rattle.rip_report.specs.declared.captures.log.CaptureLog.{CaptureLog}
 use Rattle.rip_report.specs.declared.listing.Listing.{Listing}
 use Rattle.rip_report.specs.declared.status.RunError.{RunError}
-use Rattle.rip_report.specs.declared.status.RunError.TheVariants.{Read, Write}
+use Rattle.rip_report.specs.declared.status.RunError.TheVariants.{Read}
 use Rattle.rip_report.specs.declared.status.Status.{Status}
 use Rattle.rip_report.specs.declared.status.Status.TheVariants.{Refused as RefusedFile}
 use Rattle.rip_report.proofs.CaptureLemmas.{all-snoc, frames-snoc}

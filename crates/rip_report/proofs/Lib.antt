@@ -17,3 +17,6 @@ pub mod HearingLemmas
 pub mod HeardLemmas
 pub mod CaptureLemmas
 pub mod CaptureFileLemmas
+pub mod LogLineLemmas
+pub mod CapturedLogLemmas
+pub mod CapturedFileLemmas

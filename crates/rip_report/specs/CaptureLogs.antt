@@ -1,15 +1,16 @@
 -- What a log of capture files is, and what a run leaves that adds a file to one.
 use Rattle.std.specs.Prelude.{◌≡◌, ◌≢◌, ◌⊎◌, ℕ, ◌+◌, ◌<◌, ◌≤◌, Bool, true, false, List, [], ◌∷◌, ◌++◌, length, map, flat_map, codes, Result, Ok, Err, is_err}
-use Rattle.std.specs.List.{AllByRecursion, AllPass}
+use Rattle.std.specs.List.{AllByRecursion}
+use Rattle.rip_wire.specs.Name.{IsName}
 use Rattle.rip_log.specs.Lines.{Capture as Captured}
-use Rattle.rip_log.specs.Logs.{Numbered}
 use Rattle.rip_log.specs.Taken.{Taken, Took}
 use Rattle.rip_log.specs.declared.limits.TheConstants.{MOST_LINES}
 use Rattle.rip_capture.specs.Captures.{CaptureFault}
+use Rattle.rip_capture.specs.Passwords.{without_password}
 use Rattle.rip_capture.specs.Spans.{slice_of}
 use Rattle.rip_capture.specs.declared.error.CaptureCode.{CaptureCode}
 use Rattle.rip_capture.specs.declared.packet.Carried.{Carried}
-use Rattle.rip_capture.specs.declared.packet.Carried.TheVariants.{Datagram, Cut, Fragment, Malformed, Long, Unknown, Elsewhere, Others}
+use Rattle.rip_capture.specs.declared.packet.Carried.TheVariants.{Datagram, Elsewhere, Others}
 use Rattle.rip_report.specs.CaptureText.{Carrier, IsCaptureOf, IsCarrier, comment_line, counted_status, counts_of, file_refusal_line, has_line, line_count, packet_lines}
 use Rattle.rip_report.specs.Sent.{Began}
 use Rattle.rip_report.specs.Written.{line}
@@ -138,11 +139,19 @@ is_whole Elsewhere = true
 is_whole Others = true
 is_whole _ = false
 
--- the datagram that a frame carries, as a record of a log has it
+-- the datagram that a frame carries, with zeros for a password, as a record of a log has it
 abbrev pub datagram_in : List ℕ → List ℕ → Carried → List Captured
-datagram_in link frame (Datagram sender span) =
-    (record { link = link; sender = sender; datagram = slice_of frame span }) ∷ []
+datagram_in link frame (Datagram sender span) = (record {
+  link = link;
+  sender = sender;
+  datagram = without_password (slice_of frame span);
+}) ∷ []
 datagram_in link frame _ = []
+
+-- the name of its link is one, and its bytes are bytes
+pub record IsFile (file : File) : Type 0 where
+  pub name : IsName file.link
+  pub bytes : AllByRecursion (λ b. b < 256) file.bytes
 
 -- a file is a capture, each datagram to 224.0.0.9 is there whole, and these are they, in order
 pub record HasDatagrams (file : File) (captures : List Captured) : Type 0 where

@@ -1,16 +1,24 @@
 //! Laws of the definitions alone: functions that do nothing, whose contracts hold of every plan and
 //! every log.
 
-ghost use Rattle.std.specs.Prelude.{◌≡◌, ◌↔◌, ℕ, true, List};
+ghost use Rattle.std.specs.Prelude.{◌≡◌, ◌↔◌, ℕ, true, List, Ok, Result, map};
+ghost use Rattle.std.specs.List.{AllByRecursion};
+ghost use Rattle.rip_log.specs.Logs.{Numbered};
+ghost use Rattle.rip_log.specs.LogText.{LogText};
+ghost use Rattle.rip_report.specs.CaptureLogs.{File, HaveDatagrams, IsFile, LogOf};
+ghost use Rattle.rip_report.specs.declared.status.RunError.{RunError};
+ghost use Rattle.rip_report.specs.declared.status.Status.{Status};
 ghost use Rattle.rip_plan.specs.Network.{Network};
 ghost use Rattle.rip_plan.specs.Relations.{IsLawful};
 ghost use Rattle.rip_table.specs.Events.{EventAt};
-ghost use Rattle.rip_table.specs.State.{State};
+ghost use Rattle.rip_table.specs.LogJoin.{IsJoined};
+ghost use Rattle.rip_table.specs.State.{State, new_state};
 ghost use Rattle.rip_table.specs.Tallies.{counts_of};
 ghost use Rattle.rip_report.specs.Hearings.{LogComesTo};
 ghost use Rattle.rip_report.specs.LeftOut.{is_all_joined};
 ghost use Rattle.rip_report.specs.ReportText.{IsTable};
 
+use rip_capture::laws::packet_bytes;
 use rip_log::laws::log_texts;
 use rip_table::laws::{calm_counts, calm_logs, lines_come_to, new_states};
 
@@ -29,4 +37,24 @@ pub fn accepted_logs()
     lines_come_to();
     calm_logs();
     calm_counts();
+}
+
+/// Where a log of capture files has no bad line, each file is a capture, all its datagrams to 224.0.0.9
+/// are there whole, and they are the records of the log, in order, and nothing else is.
+pub fn captured_logs()
+    ensures says { (files : List File) (text : List ℕ) (answer : Result Status RunError)
+        (records : List Numbered) → LogOf files text answer → AllByRecursion IsFile files →
+        LogText text records →
+        (answer ≡ Ok Status.Done) × HaveDatagrams files (map (λ r. r.capture) records) }
+    // The table of such a log, as the commands take it, is the join of just these datagrams.
+    ensures joined { (files : List File) (text : List ℕ) (answer : Result Status RunError)
+        (n : Network) (s : State) → LogOf files text answer → AllByRecursion IsFile files →
+        IsTable n text s → (records : List Numbered)
+        × HaveDatagrams files (map (λ r. r.capture) records)
+        × IsJoined n (new_state n) records s }
+{
+    log_texts();
+    packet_bytes();
+    rip_wire::laws::names();
+    rip_wire::laws::address_texts();
 }

@@ -1,12 +1,10 @@
-use Rattle.std.proofs.Common.{◌≡◌, ◌++◌, ◌∙◌, [], Err, ap, inl, inr, refl, subst, sym}
+use Rattle.std.proofs.Common.{◌++◌, ◌∙◌, [], Err, ap, inl, inr, refl, subst, sym}
 use Rattle.rip_log.specs.Wholes.{Begins, Went}
 use Rattle.rip_capture.specs.NextCall.{source_of}
-use Rattle.rip_report.specs.CaptureLogs.{AddsFile}
 use Rattle.rip_report.specs.CaptureLogs.FileText.{memory}
-use Rattle.rip_report.specs.CapturePackets.{ClosesSo, EndsSo}
+use Rattle.rip_report.specs.CapturePackets.{EndsSo}
 use Rattle.rip_report.specs.CaptureText.{packet_lines}
-use Rattle.rip_report.specs.declared.captures.ending.Ending.TheVariants.{Unread}
-use Rattle.rip_report.specs.declared.status.RunError.TheVariants.{Memory, Read}
+use Rattle.rip_report.specs.declared.status.RunError.TheVariants.{Memory}
 use Rattle.rip_report.proofs.CaptureFileLemmas.{adds-file, adds-text, far-bytes, not-followed, reads-unread}
 use Rattle.rip_report.proofs.GivenLemmas.{told_given}
 use Rattle.rip_report.proofs.ListingLemmas.{writes_none}

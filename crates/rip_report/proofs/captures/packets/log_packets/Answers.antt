@@ -1,14 +1,12 @@
-use Rattle.std.proofs.Common.{◌≡◌, ◌∙◌, ◌+◌, ◌*◌, ◌^◌, ◌≤◌, ◌++◌, ◌∷◌, [], List, ℕ, Err, Ok, None, ap, arith, inl, inr, is_err, length, map, refl, rules, sym, subst}
+use Rattle.std.proofs.Common.{◌≡◌, ◌∙◌, ◌+◌, ◌++◌, ◌∷◌, [], List, ap, arith, inl, inr, length, map, refl, sym, subst}
 use Rattle.std.proofs.lemmas.List.{length-map}
 use Rattle.rip_log.proofs.WholeLemmas.{went_nowhere, went_on}
-use Rattle.rip_capture.specs.Captures.{IsCapture}
-use Rattle.rip_capture.specs.Codes.{is_read}
-use Rattle.rip_capture.specs.NextCall.{IsFar, Stands, TakesPacket, frame_of, place_of, position_of, source_of}
+use Rattle.rip_capture.specs.NextCall.{Stands, TakesPacket, frame_of, place_of, position_of, source_of}
 use Rattle.rip_capture.specs.Pcap.{Frame}
-use Rattle.rip_report.specs.CapturePackets.{ended_at, ended_by}
-use Rattle.rip_report.specs.CaptureText.{Carrier, IsCarrier, carried_line, carries_password, counted, has_line, line_count, one, packet_lines}
+use Rattle.rip_report.specs.CapturePackets.{ended_at}
+use Rattle.rip_report.specs.CaptureText.{Carrier, IsCarrier, carries_password, counted}
 use Rattle.rip_report.proofs.CaptureLemmas.{adds-packet, all-snoc, counts-snoc, ends-at, ends-by, far, frames-snoc, has-room, line_count-snoc, never-unread, read-is_unread, unread-is_read}
-use Rattle.rip_report.proofs.ListingLemmas.{adds_none, adds_same, adds_then}
+use Rattle.rip_report.proofs.ListingLemmas.{adds_none}
 use Rattle.rip_report.proofs.captures.packets.log_packets.Goals as goal
 
 pub packets-init : goal.packets-init
