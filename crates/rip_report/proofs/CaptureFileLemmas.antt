@@ -3,7 +3,7 @@ use Rattle.std.proofs.Common.{◌≡◌, ◌≢◌, ◌⊎◌, ◌+◌, ◌^◌,
 use Rattle.std.specs.List.{AllByRecursion}
 use Rattle.std.proofs.lemmas.Bool.{false≢true}
 use Rattle.std.proofs.lemmas.List.{append_cancel_left, length-append}
-use Rattle.rip_log.specs.Taken.{Taken}
+use Rattle.rip_log.specs.Taken.{Taken, Took}
 use Rattle.rip_log.specs.Wholes.{Begins}
 use Rattle.rip_capture.specs.Captures.{CaptureFault, IsCapture}
 use Rattle.rip_capture.specs.Captures.IsCapture.{pcap as pcap_capture}
@@ -14,7 +14,9 @@ use Rattle.rip_capture.specs.declared.error.CaptureCode.TheVariants.{Magic, Cut,
 use Rattle.rip_capture.specs.declared.reader.CaptureReader.{CaptureReader}
 use Rattle.rip_capture.specs.declared.reader.Format.{Format}
 use Rattle.rip_capture.specs.declared.reader.Format.TheVariants.{Unread as Unread-yet, Pcap}
-use Rattle.rip_report.specs.CaptureLogs.{AddsFile, BeginsWith, FileText, Follows, IsRefusedAt}
+use Rattle.rip_report.specs.CaptureLogs.{AddsFile, BeginsWith, File, FileFront, FileText, Follows, GoesOn, IsLogOf, IsRefusedAt, LogOf, SoFar, worse}
+use Rattle.rip_report.specs.CaptureLogs.LogOf.{stopped}
+use Rattle.rip_report.specs.CaptureLogs.SoFar.{more}
 use Rattle.rip_report.specs.CaptureLogs.BeginsWith.{none, some}
 use Rattle.rip_report.specs.CaptureLogs.FileFront.{text as whole_front, packets as some_packets}
 use Rattle.rip_report.specs.CaptureLogs.FileText.{whole, refused, unread}
@@ -27,10 +29,10 @@ use Rattle.rip_report.specs.declared.captures.ending.RefusalCode.TheVariants.{Ca
 use Rattle.rip_report.specs.declared.captures.log.CaptureLog.{CaptureLog}
 use Rattle.rip_report.specs.declared.listing.Listing.{Listing}
 use Rattle.rip_report.specs.declared.status.RunError.{RunError}
-use Rattle.rip_report.specs.declared.status.RunError.TheVariants.{Read}
+use Rattle.rip_report.specs.declared.status.RunError.TheVariants.{Read, Write}
 use Rattle.rip_report.specs.declared.status.Status.{Status}
-use Rattle.rip_report.specs.declared.status.Status.TheVariants.{Refused as RefusedFile}
-use Rattle.rip_report.proofs.CaptureLemmas.{all-snoc, frames-snoc}
+use Rattle.rip_report.specs.declared.status.Status.TheVariants.{Done, Refused as RefusedFile, Settled, Unclear, Unsettled}
+use Rattle.rip_report.proofs.CaptureLemmas.{all-snoc, frames-snoc, length-snoc}
 
 -- a fault is one whatever follows, but for a cut
 abbrev Early : Type 0
@@ -159,3 +161,38 @@ module _ {R K : Type 0} (given : R → List ℕ) (at_end : R → Bool) (start by
       let is = split-at given at_end start bytes reader text so_far (map (λ c. c.frame) cs) s in
       let size : length bytes ≡ length so_far + length (held_by reader ++ text.left) = ap length (is ∙ append_assoc so_far (held_by reader) text.left) ∙ length-append so_far (held_by reader ++ text.left) in
       omega (arith, size, s.position, far)
+
+-- ---- a log that goes on
+
+module _ (before after : CaptureLog) (link bytes part : List ℕ) (lines : ℕ) (files : List File) (text : List ℕ) (is : IsLogOf before files text) where
+  stops : (answer : Result Status RunError) → FileText (before.files + 1) before.lines link bytes part lines answer → (answer ≡ Ok RefusedFile) ⊎ (is_err answer ≡ true)
+      → LogOf (files ++ record { link = link; bytes = bytes } ∷ []) (text ++ part) answer
+  stops answer file stop = stopped files [] (record { link = link; bytes = bytes }) text part before.lines lines before.status is.so_far
+      (subst (λ n. FileText (n + 1) before.lines link bytes part lines answer) is.count file) stop refl refl
+
+  one-more : (status : Status) → status ≢ RefusedFile → FileText (before.files + 1) before.lines link bytes part lines (Ok status)
+      → (after.files ≡ before.files + 1) × (after.lines ≡ lines) × (after.status ≡ worse before.status status)
+      → IsLogOf after (files ++ record { link = link; bytes = bytes } ∷ []) (text ++ part)
+  one-more status good file (count, ends, answers) = record {
+    count = count ∙ ap (λ n. n + 1) is.count ∙ sym (length-snoc files (record { link = link; bytes = bytes }));
+    so_far = subst (λ n. SoFar (files ++ record { link = link; bytes = bytes } ∷ []) (text ++ part) n after.status) (sym ends)
+        (subst (λ s. SoFar (files ++ record { link = link; bytes = bytes } ∷ []) (text ++ part) lines s) (sym answers)
+        (more files (record { link = link; bytes = bytes }) text part before.lines lines before.status status is.so_far good
+        (subst (λ n. FileText (n + 1) before.lines link bytes part lines (Ok status)) is.count file)));
+  }
+
+  pub goes-on : (answer : Result Status RunError) → FileText (before.files + 1) before.lines link bytes part lines answer → Follows before after lines answer
+      → GoesOn after (files ++ record { link = link; bytes = bytes } ∷ []) (text ++ part) answer
+  goes-on (Ok RefusedFile) file follows = stops (Ok RefusedFile) file (inl refl)
+  goes-on (Ok Done) file follows = one-more Done (λ e. cc e) file follows
+  goes-on (Ok Unclear) file follows = one-more Unclear (λ e. cc e) file follows
+  goes-on (Ok Settled) file follows = one-more Settled (λ e. cc e) file follows
+  goes-on (Ok Unsettled) file follows = one-more Unsettled (λ e. cc e) file follows
+  goes-on (Err e) file follows = stops (Err e) file (inr refl)
+
+pub log-goes-on : {K : Type 0} (taken : K → Taken) (broken : K → Bool) (old new : K) (before after : CaptureLog) (link bytes : List ℕ) (answer : Result Status RunError) → AddsFile taken broken old new before after link bytes answer
+    → (files : List File) (text : List ℕ) → IsLogOf before files text → answer ≢ Err Write
+    → (part : List ℕ) × Took (taken old) (taken new) part × GoesOn after (files ++ record { link = link; bytes = bytes } ∷ []) (text ++ part) answer
+log-goes-on taken broken old new before after link bytes answer adds files text is wrote =
+    let out = adds.text wrote in
+    (out.0, out.3, goes-on before after link bytes out.0 out.1 files text is answer out.2 out.4)

@@ -130,6 +130,17 @@ pub data LogOf (files : List File) (text : List ℕ) (answer : Result Status Run
       (answer ≡ Ok Refused) ⊎ (is_err answer ≡ true) →
       files ≡ before ++ file ∷ after → text ≡ front ++ part → LogOf files text answer
 
+-- a log has these files, each a capture, and this text
+pub record IsLogOf (log : CaptureLog) (files : List File) (text : List ℕ) : Type 0 where
+  pub count : log.files ≡ length files
+  pub so_far : SoFar files text log.lines log.status
+
+-- what became of a log by the last of these files: it has that one too, or ends with it
+abbrev pub GoesOn : CaptureLog → List File → List ℕ → Result Status RunError → Type 0
+GoesOn log files out (Ok Refused) = LogOf files out (Ok Refused)
+GoesOn log files out (Ok status) = IsLogOf log files out
+GoesOn log files out (Err e) = LogOf files out (Err e)
+
 -- ---- the datagrams of files
 
 -- this is a whole datagram, or none to 224.0.0.9

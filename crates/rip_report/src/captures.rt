@@ -7,10 +7,11 @@ mod log;
 mod packets;
 mod tally;
 
-ghost use Rattle.std.specs.Prelude.{◌≡◌, ◌≢◌, ◌⊎◌, ◌+◌, ◌^◌, ◌<◌, ◌≤◌, ℕ, List, Some, Err, is_err, length, true};
-ghost use Rattle.rip_report.specs.CaptureLogs.{AddsFile, worse};
+ghost use Rattle.std.specs.Prelude.{◌≡◌, ◌≢◌, ◌⊎◌, ◌+◌, ◌^◌, ◌<◌, ◌≤◌, ◌++◌, ◌∷◌, [], ℕ, List, Some, Err, is_err, length, true};
+ghost use Rattle.rip_report.specs.CaptureLogs.{AddsFile, File, GoesOn, IsLogOf, worse};
 ghost use Rattle.rip_log.specs.declared.limits.TheConstants.{MOST_LINES};
 ghost use Rattle.rip_report.specs.CapturePackets.{ClosesFile, EndsWith};
+ghost use Rattle.rip_log.specs.Taken.{Took};
 ghost use Rattle.rip_log.specs.Wholes.{Went};
 ghost use Rattle.rip_wire.specs.Name.{IsName};
 ghost use Rattle.rip_report.specs.Given.{IsGiven};
@@ -142,6 +143,13 @@ pub fn run_log<R: Source, K: Sink>(
     // The whole text went out, or a beginning where the sink failed.
     ensures prints { (bytes : List ℕ) → IsGiven R.given R.at_end file result.0 bytes →
         AddsFile K.taken K.broken out.old out.new log.old log.new link.now bytes result.1 }
+    // Behind a log of files that are captures it has the log of one more, or one that ends with it.
+    ensures goes_on { (bytes : List ℕ) → IsGiven R.given R.at_end file result.0 bytes →
+        (files : List File) (text : List ℕ) → IsLogOf log.old files text →
+        result.1 ≢ Err RunError.Write → (part : List ℕ)
+        × Took (K.taken out.old) (K.taken out.new) part
+        × GoesOn log.new (files ++ record { link = link.now; bytes = bytes } ∷ [])
+        (text ++ part) result.1 }
     // The bytes given are the first of those to come, where these are modelled.
     ensures went { Went R.given R.coming R.at_end file result.0 }
     ensures to_come { (bytes : List ℕ) → R.coming file ≡ Some bytes →

@@ -17,12 +17,11 @@ pub struct CaptureLog {
 }
 
 impl CaptureLog {
-    ghost use Rattle.rip_report.specs.CaptureLogs.{SoFar};
+    ghost use Rattle.rip_report.specs.CaptureLogs.{IsLogOf};
 
     /// A log of no file.
     pub fn new() -> CaptureLog
-        ensures files { result.files ≡ 0 }
-        ensures log { SoFar [] [] result.lines result.status }
+        ensures { IsLogOf result [] [] }
     {
         CaptureLog {
             files: 0,

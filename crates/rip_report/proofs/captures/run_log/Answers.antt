@@ -5,7 +5,7 @@ use Rattle.rip_report.specs.CaptureLogs.FileText.{memory}
 use Rattle.rip_report.specs.CapturePackets.{EndsSo}
 use Rattle.rip_report.specs.CaptureText.{packet_lines}
 use Rattle.rip_report.specs.declared.status.RunError.TheVariants.{Memory}
-use Rattle.rip_report.proofs.CaptureFileLemmas.{adds-file, adds-text, far-bytes, not-followed, reads-unread}
+use Rattle.rip_report.proofs.CaptureFileLemmas.{adds-file, adds-text, far-bytes, log-goes-on, not-followed, reads-unread}
 use Rattle.rip_report.proofs.GivenLemmas.{told_given}
 use Rattle.rip_report.proofs.ListingLemmas.{writes_none}
 use Rattle.rip_report.proofs.captures.run_log.Goals as goal
@@ -74,3 +74,11 @@ returns-in-Ok-clause-to_come g c = λ bytes is.
     let S = g.R.Source in
     let went = subst (λ (s : g.row.R.Denot). Went S.given S.coming S.at_end s c.into_source.result) c.in-Ok.ensures.source (subst (λ (s : g.row.R.Denot). Went S.given S.coming S.at_end (source_of c.in-Ok.reader) s) (sym c.into_source.ensures) c.log_packets-ending.ensures.went) in
     told_given S.given S.coming S.at_end c.args.file c.into_source.result went (g.met.R.Source.nothing_left c.into_source.result) bytes is
+
+pub returns-in-Ok-clause-goes_on : goal.returns-in-Ok-clause-goes_on
+returns-in-Ok-clause-goes_on g c = λ bytes given files text is wrote.
+    log-goes-on g.K.Sink.taken g.K.Sink.broken c.args.out.now c.close_file-answer.new.out c.args.log.now c.close_file-answer.new.log c.args.link.now bytes c.close_file-answer.result (returns-in-Ok-clause-prints g c bytes given) files text is wrote
+
+pub returns-in-Err-clause-goes_on : goal.returns-in-Err-clause-goes_on
+returns-in-Err-clause-goes_on g c = λ bytes given files text is wrote.
+    log-goes-on g.K.Sink.taken g.K.Sink.broken c.args.out.now c.log_failure.new.out c.args.log.now c.args.log.now c.args.link.now bytes c.log_failure.result (returns-in-Err-clause-prints g c bytes given) files text is wrote

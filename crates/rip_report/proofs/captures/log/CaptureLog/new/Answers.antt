@@ -1,5 +1,6 @@
+use Rattle.std.proofs.Common.{refl}
 use Rattle.rip_report.specs.CaptureLogs.SoFar.{none}
 use Rattle.rip_report.proofs.captures.log.CaptureLog.new.Goals as goal
 
-pub returns-clause-log : goal.returns-clause-log
-returns-clause-log c = none
+pub returns : goal.returns
+returns c = record { count = refl; so_far = none }
