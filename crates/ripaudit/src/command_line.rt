@@ -1,13 +1,20 @@
 //! The words of the command line, and what they ask for.
 
+ghost use Rattle.std.specs.Prelude.{◌≢◌};
+ghost use Rattle.rip_wire.specs.Name.{IsName};
+ghost use Rattle.rip_report.specs.declared.status.RunError.{RunError};
+
 use crate::commands::{
     PlanCommand, ReadCommand, plan_command, read_command, read_plan, run_anyway, run_on_log,
     run_on_plan,
 };
+use crate::words::{CaptureWord, capture_word, first_bad_word};
 use clap::error::ErrorKind;
 use clap::{Arg, ArgAction, ArgMatches, Command, Error};
-use rip_log::{FromRead, IntoWrite};
-use rip_report::{RunError, Status, exit_code, fault_line, run_decode};
+use rip_log::{FromRead, IntoWrite, Sink};
+use rip_report::{
+    CaptureLog, RunError, Status, exit_code, fault_line, log_failure, run_decode, run_log,
+};
 use std::alloc::{AllocError, Global};
 use std::collections::hash_map::RandomState;
 use std::io::{IsTerminal, Read};
@@ -83,6 +90,18 @@ fn on_log_with_anyway<'a>(
     on_log(alloc, name, about)?.arg(flag(alloc, "anyway", anyway))
 }
 
+/// The command that reads captures.
+fn log_command<'a>(alloc: Global) -> Result<Command<'a>, AllocError> {
+    let files = "The capture files, each named after its link or LINK=FILE; - is standard input";
+    Command::new(alloc, "log")
+        .about("Makes a log of the RIP datagrams in capture files")
+        .arg(
+            word(alloc, "FILE", files, true)
+                .value_name("[LINK=]FILE")
+                .num_args(1..),
+        )
+}
+
 /// The command that reads a datagram.
 fn decode_command<'a>(alloc: Global) -> Result<Command<'a>, AllocError> {
     let hex = "The datagram's bytes in hexadecimal digits of either case";
@@ -130,6 +149,7 @@ fn commands<'a>(alloc: Global) -> Result<Command<'a>, AllocError> {
     let ripaudit = add(ripaudit, on_plan_with_all(alloc, "whatif", whatif, lost));
     let plan = "Prints the parts of a plan";
     let ripaudit = add(ripaudit, on_plan(alloc, "plan", plan));
+    let ripaudit = add(ripaudit, log_command(alloc));
     add(ripaudit, decode_command(alloc))
 }
 
@@ -159,7 +179,9 @@ fn end_words(rt: &(impl Print + Eprint), error: &Error) -> u8 {
 }
 
 /// Memory was refused, or reading failed.
-fn read_failure(error: &io::Error) -> RunError {
+fn read_failure(error: &io::Error) -> RunError
+    ensures { result ≢ RunError.Write }
+{
     match error.kind() {
         io::ErrorKind::OutOfMemory => RunError::Memory,
         _ => RunError::Read,
@@ -214,15 +236,15 @@ fn report_from<R: AllocGlobal + RandomSource + Print, L: Read + Drop>(
     outcome
 }
 
-/// Standard input as a log. Someone who sits at it is told so.
-fn log_of_input<R: Input + Eprint>(rt: &R) -> R::Reader
+/// Standard input, of which the text tells someone who sits at it.
+fn told_input<R: Input + Eprint>(rt: &R, text: &str) -> R::Reader
 where
     R::Reader: IsTerminal,
 {
     let input = rt.reader();
     if input.is_terminal() {
         // A failed write to standard error does not change the status.
-        let _ = rt.eprintln("reading the log from standard input");
+        let _ = rt.eprintln(text);
     }
     input
 }
@@ -239,11 +261,86 @@ where
 {
     let plan = read_plan_file(rt, path)?;
     match log {
-        None => report_from(rt, command, plan.as_slice(), log_of_input(rt)),
+        None => {
+            let log = told_input(rt, "reading the log from standard input");
+            report_from(rt, command, plan.as_slice(), log)
+        }
         Some(log) => match fs::open(rt, log) {
             Ok(file) => report_from(rt, command, plan.as_slice(), file),
             Err(error) => Err(read_failure(&error)),
         },
+    }
+}
+
+/// Adds a capture file to a log.
+fn log_file<R: Files + AllocGlobal + Input + Eprint, K: Sink>(
+    rt: &R,
+    log: &mut CaptureLog,
+    word: CaptureWord<'_>,
+    out: &mut K,
+) -> Result<Status, RunError>
+where
+    R::Reader: IsTerminal,
+    requires { IsName word.link.now }
+{
+    let alloc = rt.alloc();
+    if word.is_input() {
+        let input = told_input(rt, "reading the capture from standard input");
+        let (_, answer) = run_log(alloc, log, word.link, FromRead::new(input), out);
+        return answer;
+    }
+    match fs::open(rt, word.path) {
+        Ok(file) => {
+            let (_, answer) = run_log(alloc, log, word.link, FromRead::new(file), out);
+            answer
+        }
+        Err(error) => log_failure(read_failure(&error), out),
+    }
+}
+
+/// Makes a log of capture files, up to one that is refused or that cannot be read.
+fn log_files<R: Files + AllocGlobal + Input + Print + Eprint>(
+    rt: &R,
+    words: &[&str],
+) -> Result<Status, RunError>
+where
+    R::Reader: IsTerminal,
+{
+    let mut out = IntoWrite::new(io::writer(rt));
+    let mut log = CaptureLog::new();
+    for word in words {
+        let Some(word) = capture_word(word) else {
+            return Ok(Status::Refused);
+        };
+        if log_file(rt, &mut log, word, &mut out)? == Status::Refused {
+            return Ok(Status::Refused);
+        }
+    }
+    Ok(log.status())
+}
+
+/// Refuses a word of `log`: it names no file and link, or standard input once more.
+fn refuse_word(rt: &impl Eprint, word: &str) -> Result<Status, RunError> {
+    let fault = match capture_word(word) {
+        None => "names no file and link",
+        Some(_) => "is standard input once more",
+    };
+    // A failed write to standard error does not change the status.
+    let _ = eprintln!(rt; "error: '{word}' {fault}");
+    Ok(Status::Refused)
+}
+
+/// Makes a log of capture files, if all words name some.
+fn run_log_command<R: Files + AllocGlobal + Input + Print + Eprint>(
+    rt: &R,
+    words: &[&str],
+) -> Result<Status, RunError>
+where
+    R::Reader: IsTerminal,
+{
+    match first_bad_word(words) {
+        None => log_files(rt, words),
+        Some(at) => refuse_word(rt, words[at]),
     }
 }
 
@@ -259,6 +356,9 @@ where
     if word == "decode" {
         let hex = words.get_str("HEX")?;
         return Some(run_decode(hex, &mut IntoWrite::new(io::writer(rt))));
+    }
+    if word == "log" {
+        return Some(run_log_command(rt, words.get_strs("FILE")?));
     }
     let path = words.get_str("PLAN")?;
     let all = words.get_flag("all");
