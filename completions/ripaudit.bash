@@ -17,8 +17,9 @@ _ripaudit() {
     audit:*:-* | explain:*:-* | whatif:*:-*) _ripaudit_words --all --help ;;
     routes:*:-* | table:*:-*) _ripaudit_words --anyway --help ;;
     *:-*) _ripaudit_words --help ;;
-    :0:* | help:0:*) _ripaudit_words audit explain heard routes table expect whatif plan decode help ;;
+    :0:* | help:0:*) _ripaudit_words audit explain heard routes table expect whatif plan log decode help ;;
     audit:0:* | explain:0:* | heard:0:* | routes:0:* | table:0:* | expect:0:* | whatif:0:* | plan:0:*) _ripaudit_files '*.toml' ;;
+    log:*) _ripaudit_captures ;;
     audit:1:* | explain:1:* | heard:1:* | routes:1:* | table:1:*) _ripaudit_files '*' ;;
     esac
 }
@@ -36,6 +37,12 @@ _ripaudit_files() {
     elif [[ $1 != '*' ]]; then
         mapfile -t -O "${#COMPREPLY[@]}" COMPREPLY < <(compgen -d -X "$1" -- "$current")
     fi
+}
+
+# A capture, or what follows LINK=, at which bash breaks words.
+_ripaudit_captures() {
+    current=${current#*=}
+    _ripaudit_files '*'
 }
 
 complete -F _ripaudit ripaudit

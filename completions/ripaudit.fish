@@ -15,6 +15,7 @@ function __ripaudit_commands
         expect 'print the right routes of a plan' \
         whatif 'tell what each failure of a link or a router would cost' \
         plan 'print the parts of a plan' \
+        log 'make a log of the RIP datagrams in capture files' \
         decode 'print one datagram' \
         help 'print the commands, or the words of one'
 end
@@ -30,3 +31,4 @@ complete -c ripaudit -n '__fish_seen_subcommand_from whatif' -l all -d 'name eac
 complete -c ripaudit -n '__ripaudit_word 2; and __fish_seen_subcommand_from audit explain heard routes table expect whatif plan' \
     -k -a '(__fish_complete_suffix .toml)'
 complete -c ripaudit -n '__ripaudit_word 3; and __fish_seen_subcommand_from audit explain heard routes table' -F
+complete -c ripaudit -n 'not __ripaudit_word 1; and __fish_seen_subcommand_from log' -F

@@ -319,11 +319,11 @@ where
     Ok(log.status())
 }
 
-/// Refuses a word of `log`: it names no file and link, or standard input once more.
+/// Refuses a word of `log`: it names no file and link, or standard input a second time.
 fn refuse_word(rt: &impl Eprint, word: &str) -> Result<Status, RunError> {
     let fault = match capture_word(word) {
         None => "names no file and link",
-        Some(_) => "is standard input once more",
+        Some(_) => "is standard input a second time",
     };
     // A failed write to standard error does not change the status.
     let _ = eprintln!(rt; "error: '{word}' {fault}");
