@@ -184,7 +184,7 @@ fn each_kind_of_packet(rt: HostRuntime) -> Result<(), Fail> {
 }
 
 const ALL_LINES: &str = "a 10.1.0.2 01020000
-a 10.1.0.2 
+a 10.1.0.2\x20
 a 10.1.0.2 cut
 a 10.1.0.2 cut
 a 10.1.0.2 fragment
