@@ -5,6 +5,8 @@
 #[cfg(test)]
 mod calling;
 #[cfg(test)]
+mod captures;
+#[cfg(test)]
 mod commands;
 #[cfg(test)]
 mod logs;

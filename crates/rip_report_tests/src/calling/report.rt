@@ -1,15 +1,19 @@
 //! The callers of `rip_report`.
 
-ghost use Rattle.std.specs.Prelude.{◌≡◌, ◌++◌, ℕ, List, Err, IfOk, false};
+ghost use Rattle.std.specs.Prelude.{◌≡◌, ◌≢◌, ◌∷◌, ◌++◌, [], ℕ, List, Err, IfOk, false};
+ghost use Rattle.rip_log.specs.Taken.{Took};
 ghost use Rattle.rip_plan.specs.Network.{Network};
 ghost use Rattle.rip_table.specs.State.{State};
+ghost use Rattle.rip_wire.specs.Name.{IsName};
 ghost use Rattle.rip_report.specs.AuditText.{AuditText, IsJudged};
+ghost use Rattle.rip_report.specs.CaptureLogs.{LogOf};
 ghost use Rattle.rip_report.specs.Given.{IsGiven};
 ghost use Rattle.rip_report.specs.ReportText.{IsAccepted};
 
 use rip_log::{FromRead, IntoWrite, Sink, Source};
-use rip_report::{RunError, Status, run_audit};
-use rip_tests::examples::{PHANTOM, SETTLED, TRIANGLE};
+use rip_report::{CaptureLog, RunError, Status, run_audit, run_log};
+use rip_tests::examples::{LITTLE, PHANTOM, SETTLED, TRIANGLE};
+use rip_wire::is_name;
 use std::alloc::Global;
 use std::hash::{BuildHasherDefault, FoldHasher};
 
@@ -26,6 +30,24 @@ fn verdict_of<R: Source, K: Sink>(
 {
     let hasher = BuildHasherDefault::<FoldHasher>::default();
     run_audit(alloc, plan, log, out, false, hasher)
+}
+
+/// Writes the log of one capture file, of a link. Where the sink fails a beginning of it goes out, and else
+/// the whole: it ends in a line that says so where the file is refused or could not be read.
+fn log_of<R: Source, K: Sink>(
+    alloc: Global,
+    link: &str,
+    file: R,
+    out: &mut K,
+) -> (R, Result<Status, RunError>)
+    requires { IsName link.now }
+    ensures { (bytes : List ℕ) → IsGiven R.given R.at_end file result.0 bytes →
+        result.1 ≢ Err RunError.Write → (text : List ℕ)
+        × LogOf (record { link = link.now; bytes = bytes } ∷ []) text result.1
+        × Took (K.taken out.old) (K.taken out.new) text }
+{
+    let mut log = CaptureLog::new();
+    run_log(alloc, &mut log, link, file, out)
 }
 
 /// Audits a plan and a log in memory, and adds the lines of the verdict to a vector. The vector comes
@@ -75,4 +97,17 @@ fn verdicts_are_added(rt: HostRuntime) {
 unsettled: router r1 prefix 10.9.0.0/16: metric 2, equation 3
 ";
     assert!(rt; lines.as_slice() == &both[..]);
+}
+
+#[test]
+fn a_capture_becomes_a_log(rt: HostRuntime) {
+    let mut out = IntoWrite::new(Vec::new(rt.alloc()));
+    let link = "10.2.0.0-16";
+    assert!(rt; is_name(link.as_bytes()));
+    let (_, answer) = log_of(rt.alloc(), link, FromRead::new(&LITTLE[..]), &mut out);
+    assert_eq!(rt; answer, Ok(Status::Done));
+    let text = b"10.2.0.0-16 10.1.0.1 02020000000200000a020000ffff00000000000000000003
+# file 1 link 10.2.0.0-16: 1 packets, 1 datagrams
+";
+    assert!(rt; out.into_writer().as_slice() == &text[..]);
 }

@@ -1,6 +1,6 @@
 //! The caller of `rip_capture`.
 
-use crate::capture::LITTLE;
+use crate::examples::LITTLE;
 use rip_capture::{CaptureReader, Carried, read_frame};
 use rip_log::{FromRead, Source};
 use rip_wire::Address;
