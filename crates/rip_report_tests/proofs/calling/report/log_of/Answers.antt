@@ -36,4 +36,4 @@ pub returns : goal.returns
 returns g c = λ bytes is not.
     let log = c.new-log.result in
     let (text, lines, has, took, follows) = (c.run_log.ensures.prints bytes is).text not in
-    (text, log-of log.lines lines log.status c.new-log.ensures.log c.args.link.now bytes text c.run_log.result.1 (rw c.new-log.ensures.files at has), took)
+    (text, log-of log.lines lines log.status c.new-log.ensures.so_far c.args.link.now bytes text c.run_log.result.1 (rw c.new-log.ensures.count at has), took)
