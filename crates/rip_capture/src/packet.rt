@@ -25,7 +25,7 @@ pub enum Carried {
     Malformed(Address),
     /// A datagram of more than 999 bytes.
     Long(Address),
-    /// The capture lacks the headers that would tell.
+    /// The capture lacks the headers that would tell, or what is behind them.
     Unknown,
     /// A datagram to another address.
     Elsewhere,
