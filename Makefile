@@ -23,7 +23,7 @@ test:
 	$(MAKE) -j 2 --output-sync=line gate wrong-bodies-apart
 
 gate:
-	rt ci
+	sh tests/gate $(ANEW)
 	sh tests/run $(PROGRAM)
 	sh tests/limits $(PROGRAM)
 	sh tests/pages $(PROGRAM)
