@@ -19,17 +19,19 @@ use Rattle.rip_report.specs.CaptureLogs.LogOf.{stopped}
 use Rattle.rip_report.specs.CaptureLogs.SoFar.{more}
 use Rattle.rip_report.specs.CaptureLogs.BeginsWith.{none, some}
 use Rattle.rip_report.specs.CaptureLogs.FileFront.{text as whole_front, packets as some_packets}
-use Rattle.rip_report.specs.CaptureLogs.FileText.{whole, refused, unread}
+use Rattle.rip_report.specs.CaptureLogs.FileText.{whole, refused, unread, memory}
 use Rattle.rip_report.specs.CaptureLogs.IsRefusedAt.{fault, packet, comment}
 use Rattle.rip_report.specs.CapturePackets.{ClosesSo, EndsSo, EndsWith}
 use Rattle.rip_report.specs.CaptureText.{Carrier, IsCarrier, comment_line, counted_status, line_count, packet_lines}
+use Rattle.rip_report.specs.Statuses.{fault_line_of}
+use Rattle.rip_report.specs.Written.{line}
 use Rattle.rip_report.specs.declared.captures.ending.Ending.{Ending}
 use Rattle.rip_report.specs.declared.captures.ending.Ending.TheVariants.{Whole, Refused, Unread, Unwritten}
 use Rattle.rip_report.specs.declared.captures.ending.RefusalCode.TheVariants.{Capture, TooManyLines}
 use Rattle.rip_report.specs.declared.captures.log.CaptureLog.{CaptureLog}
 use Rattle.rip_report.specs.declared.listing.Listing.{Listing}
 use Rattle.rip_report.specs.declared.status.RunError.{RunError}
-use Rattle.rip_report.specs.declared.status.RunError.TheVariants.{Read, Write}
+use Rattle.rip_report.specs.declared.status.RunError.TheVariants.{Memory, Read, Write}
 use Rattle.rip_report.specs.declared.status.Status.{Status}
 use Rattle.rip_report.specs.declared.status.Status.TheVariants.{Done, Refused as RefusedFile, Settled, Unclear, Unsettled}
 use Rattle.rip_report.proofs.CaptureLemmas.{all-snoc, frames-snoc, length-snoc}
@@ -105,6 +107,7 @@ module _ {K : Type 0} (taken : K → Taken) (broken : K → Bool) (old new : K) 
   pub adds-text : (text : List ℕ) (lines : ℕ) (answer result : Result Status RunError) → EndsWith taken broken old new text answer result
       → FileText (before.files + 1) before.lines link bytes text lines answer → Follows before after lines result → AddsFile taken broken old new before after link bytes result
   adds-text text lines answer result ends is follows = record {
+    kept = λ e is_error. subst (Follows before after lines) is_error follows;
     text = λ h. let out = ends.out h in (text, lines, subst (λ r. FileText (before.files + 1) before.lines link bytes text lines r) (sym out.0) is, out.1, follows);
     write = λ e. let h = ends.write e in (h.0, (text, whole_front lines answer is, h.1));
     sink = ends.sink;
@@ -137,11 +140,12 @@ module _ {R K : Type 0} (given : R → List ℕ) (at_end : R → Bool) (start by
       (refused cs TooManyLines at (many-by given at_end start bytes reader text before.lines cs at listing carry ends_so) refl refl) (not-followed taken broken old new before after link bytes _ 0 _ result (inl refl) ends same)
   adds-file Unread result (so_far, stands) (ends, same) =
       adds-text taken broken old new before after link bytes _ 0 _ result ends
-      (unread cs (begins-by given at_end start bytes reader text cs so_far carry stands) refl refl) (not-followed taken broken old new before after link bytes _ 0 _ result (inr refl) ends same)
+      (unread cs (begins-by given at_end start bytes reader text cs so_far carry stands) few refl refl) (not-followed taken broken old new before after link bytes _ 0 _ result (inr refl) ends same)
   adds-file Unwritten result (failed, (so_far, stands)) (is, sink, began, same) = record {
     text = λ h. absurd (h is);
-    write = λ e. (sink, (packet_lines link cs, some_packets cs (begins-by given at_end start bytes reader text cs so_far carry stands) refl, began));
+    write = λ e. (sink, (packet_lines link cs, some_packets cs (begins-by given at_end start bytes reader text cs so_far carry stands) few refl, began));
     sink = λ h. absurd (h is);
+    kept = λ e is_error. same;
   }
 
 -- a run that ends with Read had a source that failed
@@ -196,3 +200,17 @@ pub log-goes-on : {K : Type 0} (taken : K → Taken) (broken : K → Bool) (old 
 log-goes-on taken broken old new before after link bytes answer adds files text is wrote =
     let out = adds.text wrote in
     (out.0, out.3, goes-on before after link bytes out.0 out.1 files text is answer out.2 out.4)
+
+-- a failure before a file is begun, of which nothing was read
+failed-text : (error : RunError) → error ≢ Write → (n : ℕ) (log : CaptureLog) (link bytes : List ℕ) → FileText n log.lines link bytes (line (fault_line_of error)) log.lines (Err error)
+failed-text Read h n log link bytes = unread [] (none refl) (omega (arith, log.few)) refl refl
+failed-text Write h n log link bytes = absurd (h refl)
+failed-text Memory h n log link bytes = memory refl refl
+
+pub failure-goes-on : {K : Type 0} (taken : K → Taken) (broken : K → Bool) (old new : K) (error : RunError) (result : Result Status RunError) → error ≢ Write
+    → EndsWith taken broken old new (line (fault_line_of error)) (Err error) result → (log : CaptureLog) (files : List File) (text : List ℕ) (file : File) → IsLogOf log files text → result ≢ Err Write
+    → (part : List ℕ) × Took (taken old) (taken new) part × LogOf (files ++ file ∷ []) (text ++ part) result
+failure-goes-on taken broken old new error result good ends log files text file is wrote =
+    let out = ends.out wrote in
+    let log_of = stopped files [] file text (line (fault_line_of error)) log.lines log.lines log.status is.so_far (failed-text error good (length files + 1) log file.link file.bytes) (inr refl) refl refl in
+    (line (fault_line_of error), out.1, subst (λ r. LogOf (files ++ file ∷ []) (text ++ line (fault_line_of error)) r) (sym out.0) log_of)

@@ -5,13 +5,17 @@ use Rattle.std.specs.List.{AllByRecursion}
 use Rattle.std.proofs.lemmas.Bool.{eqb-false, eqb-true}
 use Rattle.std.proofs.lemmas.Grind.{flat_map-append}
 use Rattle.std.proofs.lemmas.List.{length-append, map-append}
-use Rattle.std.proofs.lemmas.List.Sums.{count_by-le-length, sum_by-append}
+use Rattle.std.proofs.lemmas.List.Sums.{count_by-le-length, sum_by-append, sum_by-cons}
 use Rattle.hex.specs.Hex.{encode_lower, encode_with, lower_digits}
 use Rattle.rip_capture.specs.Captures.{IsCapture}
 use Rattle.rip_capture.specs.Captures.IsCapture.{pcap as pcap_capture}
 use Rattle.rip_capture.specs.Codes.{is_read}
 use Rattle.rip_capture.specs.NextCall.{EndsHere, HasRead, IsFar, StopsAt, position_of}
+use Rattle.rip_capture.specs.Passwords.{has_password}
 use Rattle.rip_capture.specs.Pcap.{Frame}
+use Rattle.rip_capture.specs.Spans.{slice_of}
+use Rattle.rip_capture.specs.declared.packet.Carried.{Carried}
+use Rattle.rip_capture.specs.declared.packet.Carried.TheVariants.{Cut as CutOff, Datagram, Elsewhere, Fragment, Long, Malformed, Others, Unknown}
 use Rattle.rip_capture.specs.declared.error.CaptureCode.{CaptureCode}
 use Rattle.rip_capture.specs.declared.error.CaptureCode.TheVariants.{Magic, Cut, Version, LinkType as NoLinkType, Length, Interface, OldPacket, Read}
 use Rattle.rip_capture.specs.declared.reader.CaptureReader.{CaptureReader}
@@ -21,7 +25,7 @@ use Rattle.rip_report.specs.CapturePackets.{EndsSo, ended_at, ended_by}
 use Rattle.rip_report.specs.declared.captures.ending.Ending.TheVariants.{Refused as RefusedFile, Unread, Whole}
 use Rattle.rip_report.specs.declared.captures.ending.RefusalCode.TheVariants.{TooManyLines}
 use Rattle.rip_report.specs.declared.captures.tally.Tally.{Tally}
-use Rattle.rip_report.specs.CaptureText.{Carrier, HasRoom, carried_line, carries_password, counted, counts_of, has_line, is_cut, is_datagram, is_elsewhere, is_fragment, is_long, is_malformed, is_other, line_count, one, packet_lines}
+use Rattle.rip_report.specs.CaptureText.{Carrier, HasRoom, carried_line, carries_password, count_of, counted, counts_of, has_line, is_cut, is_datagram, is_elsewhere, is_fragment, is_long, is_malformed, is_other, line_count, one, packet_lines}
 use Rattle.rip_log.specs.Taken.{Taken}
 use Rattle.rip_report.proofs.ListingLemmas.{adds_same, adds_then}
 use Rattle.rip_report.specs.Listings.{Adds}
@@ -157,3 +161,50 @@ far reader taken fs long position read many = far-by reader.format read where
   far-by (Pcap h) is =
       let size = long taken fs (pcap_capture h.order h.link_type is) in
       omega (arith, size, position, many)
+
+-- ---- each packet is of one kind
+
+one-kind : (c : Carried) → one (is_datagram c) + (one (is_cut c) + (one (is_fragment c) + (one (is_malformed c) + (one (is_long c) + (one (is_elsewhere c) + one (is_other c)))))) ≡ 1
+one-kind (Datagram a span) = refl
+one-kind (CutOff a) = refl
+one-kind (Fragment a) = refl
+one-kind (Malformed a) = refl
+one-kind (Long a) = refl
+one-kind Unknown = refl
+one-kind Elsewhere = refl
+one-kind Others = refl
+
+of-datagram : (frame : List ℕ) (c : Carried) → one (carries_password frame c) ≤ one (is_datagram c)
+of-datagram frame (Datagram a span) = at-most (has_password (slice_of frame span)) where
+  at-most : (b : Bool) → one b ≤ 1
+  at-most true = omega arith
+  at-most false = omega arith
+of-datagram frame (CutOff a) = omega arith
+of-datagram frame (Fragment a) = omega arith
+of-datagram frame (Malformed a) = omega arith
+of-datagram frame (Long a) = omega arith
+of-datagram frame Unknown = omega arith
+of-datagram frame Elsewhere = omega arith
+of-datagram frame Others = omega arith
+
+counted-more : (p : Carrier → Bool) (c : Carrier) (cs : List Carrier) → count_by p (c ∷ cs) ≡ one (p c) + count_by p cs
+counted-more p c cs = sum_by-cons (λ d. cond (p d) 1 0) c cs
+
+pub kinds-sum : (cs : List Carrier) → length cs ≡ count_of is_datagram cs + count_of is_cut cs + count_of is_fragment cs + count_of is_malformed cs + count_of is_long cs + count_of is_elsewhere cs + count_of is_other cs
+kinds-sum [] = refl
+kinds-sum (c ∷ cs) = omega (
+  arith,
+  kinds-sum cs,
+  one-kind c.carried,
+  counted-more (λ d. is_datagram d.carried) c cs,
+  counted-more (λ d. is_cut d.carried) c cs,
+  counted-more (λ d. is_fragment d.carried) c cs,
+  counted-more (λ d. is_malformed d.carried) c cs,
+  counted-more (λ d. is_long d.carried) c cs,
+  counted-more (λ d. is_elsewhere d.carried) c cs,
+  counted-more (λ d. is_other d.carried) c cs,
+)
+
+pub passwords-few : (cs : List Carrier) → count_by (λ c. carries_password c.frame.bytes c.carried) cs ≤ count_of is_datagram cs
+passwords-few [] = omega arith
+passwords-few (c ∷ cs) = omega (arith, passwords-few cs, of-datagram c.frame.bytes c.carried, counted-more (λ d. carries_password d.frame.bytes d.carried) c cs, counted-more (λ d. is_datagram d.carried) c cs)

@@ -271,7 +271,7 @@ module _ (packet_bytes : PacketBytes) where
         let say = packets-say names addresses n link cs (bad ++ rest) records is.name (refused-carry lines file.bytes cs code at found) (refused-bytes lines file.bytes cs code at found is.bytes)
         (subst (λ l. Reads n l records) (ap (λ l. l ++ rest) e ∙ append_assoc (packet_lines link cs) bad rest) reads) in
         absurd (refusal-bad say.says.lines k link code at rest say.says.later is.name say.says.reads)
-    file-says n k lines file text after answer rest records is (unread cs begun e f) reads =
+    file-says n k lines file text after answer rest records is (unread cs begun few e f) reads =
         let link = file.link in
         let bad = line (codes "failed: read") in
         let say = packets-say names addresses n link cs (bad ++ rest) records is.name (begun-carry file.bytes cs begun) (begun-bytes file.bytes cs begun is.bytes)

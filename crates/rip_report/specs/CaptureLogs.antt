@@ -22,6 +22,20 @@ use Rattle.rip_report.specs.declared.status.RunError.TheVariants.{Read, Write, M
 use Rattle.rip_report.specs.declared.status.Status.{Status}
 use Rattle.rip_report.specs.declared.status.Status.TheVariants.{Done, Refused}
 
+-- ---- what was written so far
+
+-- how many files
+abbrev pub files_of : CaptureLog → ℕ
+files_of log = log.files
+
+-- how many lines
+abbrev pub lines_of : CaptureLog → ℕ
+lines_of log = log.lines
+
+-- Done where each datagram is there whole, else Unclear
+abbrev pub status_of : CaptureLog → Status
+status_of log = log.status
+
 -- ---- a file
 
 -- a beginning of these bytes is a capture of these packets, or there are none
@@ -44,7 +58,8 @@ pub data IsRefusedAt (lines : ℕ) (b : List ℕ) (carriers : List Carrier) (cod
   comment : IsCaptureOf b carriers → lines + line_count carriers ≡ MOST_LINES → at ≡ length b →
       code ≡ TooManyLines → IsRefusedAt lines b carriers code at
 
--- what a log has of the file of this number, behind so many lines, and how many lines it then has
+-- what a log has of the file of this number, behind so many lines, and, where the file is whole, how many
+-- lines it then has
 pub data FileText (number lines : ℕ) (link b text : List ℕ) (after : ℕ)
     (answer : Result Status RunError) : Type 0 where
   whole : (carriers : List Carrier) → IsCaptureOf b carriers →
@@ -57,6 +72,7 @@ pub data FileText (number lines : ℕ) (link b text : List ℕ) (after : ℕ)
       text ≡ packet_lines link carriers ++ file_refusal_line number link code at →
       answer ≡ Ok Refused → FileText number lines link b text after answer
   unread : (carriers : List Carrier) → BeginsWith b carriers →
+      lines + line_count carriers ≤ MOST_LINES →
       text ≡ packet_lines link carriers ++ line (codes "failed: read") →
       answer ≡ Err Read → FileText number lines link b text after answer
   memory : text ≡ line (codes "failed: memory") → answer ≡ Err Memory →
@@ -66,7 +82,8 @@ pub data FileText (number lines : ℕ) (link b text : List ℕ) (after : ℕ)
 pub data FileFront (number lines : ℕ) (link b text : List ℕ) : Type 0 where
   text : (after : ℕ) (answer : Result Status RunError) →
       FileText number lines link b text after answer → FileFront number lines link b text
-  packets : (carriers : List Carrier) → BeginsWith b carriers → text ≡ packet_lines link carriers →
+  packets : (carriers : List Carrier) → BeginsWith b carriers →
+      lines + line_count carriers ≤ MOST_LINES → text ≡ packet_lines link carriers →
       FileFront number lines link b text
 
 -- Done where both are Done
@@ -78,8 +95,8 @@ worse other status = other
 abbrev pub Follows : CaptureLog → CaptureLog → ℕ → Result Status RunError → Type 0
 Follows before after lines (Ok Refused) = after ≡ before
 Follows before after lines (Ok status) =
-    (after.files ≡ before.files + 1) × (after.lines ≡ lines)
-    × (after.status ≡ worse before.status status)
+    (files_of after ≡ files_of before + 1) × (lines_of after ≡ lines)
+    × (status_of after ≡ worse (status_of before) status)
 Follows before after lines (Err e) = after ≡ before
 
 -- what a run leaves that adds a file to a log
@@ -95,15 +112,17 @@ pub record AddsFile
   -- the text of the file went out, and nothing else
   pub text : answer ≢ Err Write →
       (text : List ℕ) × (lines : ℕ)
-      × FileText (before.files + 1) before.lines link b text lines answer
+      × FileText (files_of before + 1) (lines_of before) link b text lines answer
       × Took (taken old) (taken new) text × Follows before after lines answer
   -- the sink has failed, and a beginning went out
   pub write : answer ≡ Err Write →
       (broken new ≡ true)
-      × ((text : List ℕ) × FileFront (before.files + 1) before.lines link b text
+      × ((text : List ℕ) × FileFront (files_of before + 1) (lines_of before) link b text
       × Began (taken old) (taken new) text)
   -- every other answer leaves the sink's mark as it was
   pub sink : answer ≢ Err Write → broken new ≡ broken old
+  -- an error leaves the log as it was
+  pub kept : (e : RunError) → answer ≡ Err e → after ≡ before
 
 -- ---- a log of files
 
@@ -132,8 +151,8 @@ pub data LogOf (files : List File) (text : List ℕ) (answer : Result Status Run
 
 -- a log has these files, each a capture, and this text
 pub record IsLogOf (log : CaptureLog) (files : List File) (text : List ℕ) : Type 0 where
-  pub count : log.files ≡ length files
-  pub so_far : SoFar files text log.lines log.status
+  pub count : files_of log ≡ length files
+  pub so_far : SoFar files text (lines_of log) (status_of log)
 
 -- what became of a log by the last of these files: it has that one too, or ends with it
 abbrev pub GoesOn : CaptureLog → List File → List ℕ → Result Status RunError → Type 0

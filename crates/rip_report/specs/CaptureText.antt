@@ -140,7 +140,7 @@ counted n carried is_password = record {
   others = n.others + one (is_other carried);
 }
 
--- each count is below the greatest number
+-- there is room for a packet more, and no count is above that of the packets
 pub record HasRoom (n : PacketCounts) : Type 0 where
   pub packets : n.packets + 1 < 2 ^ 64
   pub datagrams : n.datagrams ≤ n.packets

@@ -8,7 +8,7 @@ mod packets;
 mod tally;
 
 ghost use Rattle.std.specs.Prelude.{◌≡◌, ◌≢◌, ◌⊎◌, ◌+◌, ◌^◌, ◌<◌, ◌≤◌, ◌++◌, ◌∷◌, [], ℕ, List, Some, Err, is_err, length, true};
-ghost use Rattle.rip_report.specs.CaptureLogs.{AddsFile, File, GoesOn, IsLogOf, worse};
+ghost use Rattle.rip_report.specs.CaptureLogs.{AddsFile, File, GoesOn, IsLogOf, LogOf, worse};
 ghost use Rattle.rip_log.specs.declared.limits.TheConstants.{MOST_LINES};
 ghost use Rattle.rip_report.specs.CapturePackets.{ClosesFile, EndsWith};
 ghost use Rattle.rip_log.specs.Taken.{Took};
@@ -19,6 +19,7 @@ ghost use Rattle.rip_report.specs.Held.{held};
 ghost use Rattle.rip_report.specs.Statuses.{fault_line_of};
 ghost use Rattle.rip_report.specs.Written.{line};
 ghost use Rattle.rip_report.specs.Sent.{Writes};
+ghost use Rattle.rip_report.specs.declared.captures.log.CaptureLog.{CaptureLog};
 ghost use Rattle.rip_report.specs.declared.captures.tally.Tally.{Tally};
 ghost use Rattle.rip_report.specs.declared.limits.TheConstants.{NAME};
 
@@ -116,11 +117,17 @@ fn close_file<K: Sink>(
     }
 }
 
-/// Writes the line of a failure as the last one of a log, so that nobody takes the log for a whole one.
+/// Writes the line of a failure as the last one of a log, so that nobody takes the log for a whole one: a
+/// file could not be opened, or there is no memory for one.
 pub fn log_failure<K: Sink>(error: RunError, out: &mut K) -> Result<Status, RunError>
     requires { error ≢ RunError.Write }
-    ensures { EndsWith K.taken K.broken out.old out.new (line (fault_line_of error)) (Err error)
-        result }
+    ensures ends { EndsWith K.taken K.broken out.old out.new (line (fault_line_of error))
+        (Err error) result }
+    // Behind a log of files it makes the log that ends with one more, whatever that is.
+    ensures goes_on { (log : CaptureLog) (files : List File) (text : List ℕ) (file : File) →
+        IsLogOf log files text → result ≢ Err RunError.Write → (part : List ℕ)
+        × Took (K.taken out.old) (K.taken out.new) part
+        × LogOf (files ++ file ∷ []) (text ++ part) result }
 {
     let mut listing = Listing::new();
     listing.add_text(fault_line(&error), out);
@@ -131,7 +138,7 @@ pub fn log_failure<K: Sink>(error: RunError, out: &mut K) -> Result<Status, RunE
 /// Writes what a log has of a capture file of a link, behind the files that were written before: a line
 /// for each packet that carries a RIP datagram to 224.0.0.9, and a comment that counts all packets. Where
 /// the file is refused or cannot be read, the last line says so, no comment follows, and no file should.
-/// It allocates a buffer, which a file of any size fits.
+/// It allocates one buffer, of the same size for every file.
 pub fn run_log<R: Source, K: Sink>(
     alloc: Global,
     log: &mut CaptureLog,
@@ -154,7 +161,7 @@ pub fn run_log<R: Source, K: Sink>(
     ensures went { Went R.given R.coming R.at_end file result.0 }
     ensures to_come { (bytes : List ℕ) → R.coming file ≡ Some bytes →
         IsGiven R.given R.at_end file result.0 bytes }
-    // Read only where the source has failed, or a file has more than 2^64 - 2^32 bytes.
+    // Read only where the source has failed, or a file has 2^64 - 2^32 bytes or more.
     ensures read { (bytes : List ℕ) → IsGiven R.given R.at_end file result.0 bytes →
         result.1 ≡ Err RunError.Read →
         (R.broken result.0 ≡ true) ⊎ (2 ^ 64 ≤ length bytes + 2 ^ 32) }

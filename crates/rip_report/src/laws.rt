@@ -1,10 +1,12 @@
 //! Laws of the definitions alone: functions that do nothing, whose contracts hold of every plan and
 //! every log.
 
-ghost use Rattle.std.specs.Prelude.{◌≡◌, ◌↔◌, ℕ, true, List, Ok, Result, map};
+ghost use Rattle.std.specs.Prelude.{◌≡◌, ◌↔◌, ◌+◌, ◌≤◌, ℕ, true, List, Ok, Result, length, map};
 ghost use Rattle.std.specs.List.{AllByRecursion};
 ghost use Rattle.rip_log.specs.Logs.{Numbered};
 ghost use Rattle.rip_log.specs.LogText.{LogText};
+ghost use Rattle.rip_report.specs.CaptureText.{Carrier, count_of, is_cut, is_datagram, is_elsewhere, is_fragment, is_long, is_malformed, is_other};
+ghost use Rattle.rip_report.specs.CaptureText.{counts_of as counts_of_packets};
 ghost use Rattle.rip_report.specs.CaptureLogs.{File, HaveDatagrams, IsFile, LogOf};
 ghost use Rattle.rip_report.specs.declared.status.RunError.{RunError};
 ghost use Rattle.rip_report.specs.declared.status.Status.{Status};
@@ -38,6 +40,16 @@ pub fn accepted_logs()
     calm_logs();
     calm_counts();
 }
+
+/// Each packet of a file is counted as one thing, and passwords are those of whole datagrams.
+pub fn counted_packets()
+    ensures kinds { (carriers : List Carrier) → length carriers
+        ≡ count_of is_datagram carriers + count_of is_cut carriers + count_of is_fragment carriers
+        + count_of is_malformed carriers + count_of is_long carriers
+        + count_of is_elsewhere carriers + count_of is_other carriers }
+    ensures passwords { (carriers : List Carrier) →
+        (counts_of_packets carriers).passwords ≤ (counts_of_packets carriers).datagrams }
+{}
 
 /// Where a log of capture files has no bad line, each file is a capture, all its datagrams to 224.0.0.9
 /// are there whole, and they are the records of the log, in order, and nothing else is.

@@ -14,9 +14,9 @@ pub enum Status {
     Done,
     /// A place is named where the routes are not right.
     Unsettled,
-    /// The log does not show one set of tables.
+    /// The log does not show one set of tables, or a datagram in a capture file is not there whole.
     Unclear,
-    /// A plan, a log or a datagram is refused.
+    /// A plan, a log, a datagram or a capture file is refused.
     Refused,
 }
 

@@ -1,8 +1,9 @@
 //! The words of the command line, and what they ask for.
 
-ghost use Rattle.std.specs.Prelude.{◌≢◌};
+ghost use Rattle.std.specs.Prelude.{◌≢◌, map};
 ghost use Rattle.rip_wire.specs.Name.{IsName};
 ghost use Rattle.rip_report.specs.declared.status.RunError.{RunError};
+ghost use Rattle.ripaudit.specs.CaptureWords.{AreFineWords};
 
 use crate::commands::{
     PlanCommand, ReadCommand, plan_command, read_command, read_plan, run_anyway, run_on_log,
@@ -305,12 +306,13 @@ fn log_files<R: Files + AllocGlobal + Input + Print + Eprint>(
 ) -> Result<Status, RunError>
 where
     R::Reader: IsTerminal,
+    requires { AreFineWords (map (λ w. w.now) words.now) }
 {
     let mut out = IntoWrite::new(io::writer(rt));
     let mut log = CaptureLog::new();
-    for word in words {
-        let Some(word) = capture_word(word) else {
-            return Ok(Status::Refused);
+    for i in 0..words.len() {
+        let Some(word) = capture_word(words[i]) else {
+            unreachable!();
         };
         if log_file(rt, &mut log, word, &mut out)? == Status::Refused {
             return Ok(Status::Refused);
@@ -319,14 +321,15 @@ where
     Ok(log.status())
 }
 
-/// Refuses a word of `log`: it names no file and link, or standard input a second time.
-fn refuse_word(rt: &impl Eprint, word: &str) -> Result<Status, RunError> {
+/// Refuses a word of `log`, by its number: it names no file and link, or standard input a second time. It is not
+/// told itself: a file's name could hold a line feed.
+fn refuse_word(rt: &impl Eprint, word: &str, number: usize) -> Result<Status, RunError> {
     let fault = match capture_word(word) {
         None => "names no file and link",
         Some(_) => "is standard input a second time",
     };
     // A failed write to standard error does not change the status.
-    let _ = eprintln!(rt; "error: '{word}' {fault}");
+    let _ = eprintln!(rt; "error: word {number} of log {fault}");
     Ok(Status::Refused)
 }
 
@@ -340,7 +343,7 @@ where
 {
     match first_bad_word(words) {
         None => log_files(rt, words),
-        Some(at) => refuse_word(rt, words[at]),
+        Some(at) => refuse_word(rt, words[at], at + 1),
     }
 }
 

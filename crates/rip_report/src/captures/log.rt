@@ -1,4 +1,4 @@
-//! A log of capture files, as far as it was written.
+//! What was written so far of a log of capture files.
 
 ghost use Rattle.std.specs.Prelude.{◌≡◌, ◌≤◌, []};
 ghost use Rattle.rip_log.specs.declared.limits.TheConstants.{MOST_LINES};
@@ -17,7 +17,7 @@ pub struct CaptureLog {
 }
 
 impl CaptureLog {
-    ghost use Rattle.rip_report.specs.CaptureLogs.{IsLogOf};
+    ghost use Rattle.rip_report.specs.CaptureLogs.{IsLogOf, status_of};
 
     /// A log of no file.
     pub fn new() -> CaptureLog
@@ -32,7 +32,7 @@ impl CaptureLog {
 
     /// Done where each datagram in the files is there whole, else Unclear.
     pub fn status(&self) -> Status
-        ensures { result ≡ self.now.status }
+        ensures { result ≡ status_of self.now }
     {
         self.status
     }

@@ -66,8 +66,8 @@ returns-in-Err-clause-prints g c = λ bytes is.
     let broken = g.K.Sink.broken in
     let out = c.args.out.now in
     let log = c.args.log.now in
-    adds-text taken broken out c.log_failure.new.out log log c.args.link.now bytes _ 0 (Err Memory) c.log_failure.result c.log_failure.ensures
-    (memory refl refl) (not-followed taken broken out c.log_failure.new.out log log c.args.link.now bytes _ 0 (Err Memory) c.log_failure.result (inr refl) c.log_failure.ensures refl)
+    adds-text taken broken out c.log_failure.new.out log log c.args.link.now bytes _ 0 (Err Memory) c.log_failure.result c.log_failure.ensures.ends
+    (memory refl refl) (not-followed taken broken out c.log_failure.new.out log log c.args.link.now bytes _ 0 (Err Memory) c.log_failure.result (inr refl) c.log_failure.ensures.ends refl)
 
 pub returns-in-Ok-clause-to_come : goal.returns-in-Ok-clause-to_come
 returns-in-Ok-clause-to_come g c = λ bytes is.
