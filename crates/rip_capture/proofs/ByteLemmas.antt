@@ -1,5 +1,5 @@
 -- What holds of each byte of a file holds of those of its packets.
-use Rattle.std.proofs.Common.{◌≡◌, ℕ, zero, suc, List, [], ◌∷◌, ◌++◌, drop, subst, sym}
+use Rattle.std.proofs.Common.{ℕ, zero, suc, List, [], ◌∷◌, ◌++◌, drop, subst, sym}
 use Rattle.std.specs.List.{AllByRecursion}
 use Rattle.rip_capture.specs.Captures.{CaptureFault, IsCapture}
 use Rattle.rip_capture.specs.Captures.CaptureFault.{front, pcap as in_pcap}

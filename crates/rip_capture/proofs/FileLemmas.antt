@@ -2,14 +2,14 @@
 use Rattle.std.proofs.Common.{◌≡◌, ◌≢◌, ◌+◌, ◌*◌, ◌%◌, ◌^◌, ◌<◌, ◌≤◌, ◌∙◌, ℕ, cond, eqb, List, [], ◌∷◌, ◌++◌, Option, Some, None, length, take, drop, ap, sym, refl, inl, inr, subst, arith, append_assoc, append-nil}
 use Rattle.std.proofs.lemmas.List.{drop_at, length-append, length-drop, take_at}
 use Rattle.rip_wire.specs.Fields.{number_at}
-use Rattle.rip_capture.specs.Captures.{CaptureFault, FrontFault, HasMagic, IsCapture}
+use Rattle.rip_capture.specs.Captures.{CaptureFault, FrontFault, HasMagic, HasNoMore, IsCapture}
 use Rattle.rip_capture.specs.Captures.CaptureFault.{front as at_front, pcap as in_pcap}
 use Rattle.rip_capture.specs.Captures.FrontFault.{short as too_short, magic as no_kind, pcap as pcap_front}
 use Rattle.rip_capture.specs.Captures.HasMagic.{pcap as pcap_kind}
 use Rattle.rip_capture.specs.Captures.IsCapture.{pcap as pcap_capture}
 use Rattle.rip_capture.specs.Feeds.{Extends}
 use Rattle.rip_capture.specs.LinkTypes.{number_of}
-use Rattle.rip_capture.specs.Pcap.{AreRecords, Frame, HeaderFault, IsMagic, IsMagicNumber, IsPcap, IsPcapHeader, IsRecord, RecordFault, captured_len, link_number}
+use Rattle.rip_capture.specs.Pcap.{AreRecords, Frame, HeaderFault, HoldsRecord, IsMagic, IsMagicNumber, IsPcap, IsPcapHeader, IsRecord, RecordFault, captured_len, link_number}
 use Rattle.rip_capture.specs.Pcap.HeaderFault.{cut as cut_header, version as bad_version, link_type as bad_type}
 use Rattle.rip_capture.specs.Pcap.RecordFault.{header as short_record, long as long_record, packet as cut_record}
 use Rattle.rip_capture.proofs.NumberLemmas.{magic-front, magic-stays, number-stays, version-front, version-stays}
@@ -171,6 +171,25 @@ records-one order t (f ∷ fs) (g ∷ gs) xs ys rest last o p h s k r e =
       size = ap length h.4 ∙ length-append h.0 h.1 ∙ omega (arith, ap length first.0, on.size) ∙ sym (length-append k.0 k.1) ∙ sym (ap length k.4);
     }
 
+-- ---- where no whole record is left, there are no more of them
+
+holds-record : (order : Order) (t : LinkType) (first rest : List ℕ) (frame : Frame) → IsRecord order t first frame → HoldsRecord order (first ++ rest)
+holds-record order t first rest frame is = record {
+  header = omega (arith, is.header, length-append first rest);
+  packet = omega (arith, captured-stays order t first rest frame is, record-size order t first frame is, length-append first rest);
+}
+
+records-most : (order : Order) (t : LinkType) (fs gs : List Frame) (xs ys rest last : List ℕ) → AreRecords order t xs fs → ¬ HoldsRecord order rest → AreRecords order t ys gs → xs ++ rest ≡ ys ++ last → length gs ≤ length fs
+records-most order t fs [] xs ys rest last h none k e = omega arith
+records-most order t [] (g ∷ gs) xs ys rest last h none k e =
+    let same : rest ≡ k.0 ++ (k.1 ++ last) = ap (λ (l : List ℕ). l ++ rest) (sym h) ∙ e ∙ ap (λ (l : List ℕ). l ++ last) k.4 ∙ append_assoc k.0 k.1 last in
+    absurd (none (subst (HoldsRecord order) (sym same) (holds-record order t k.0 (k.1 ++ last) g k.2)))
+records-most order t (f ∷ fs) (g ∷ gs) xs ys rest last h none k e =
+    let both : h.0 ++ (h.1 ++ rest) ≡ k.0 ++ (k.1 ++ last) =
+    sym (ap (λ (l : List ℕ). l ++ rest) h.4 ∙ append_assoc h.0 h.1 rest) ∙ e ∙ ap (λ (l : List ℕ). l ++ last) k.4 ∙ append_assoc k.0 k.1 last in
+    let first = first-one order t h.0 (h.1 ++ rest) k.0 (k.1 ++ last) f g h.2 k.2 both in
+    omega (arith, records-most order t fs gs h.1 k.1 rest last h.3 none k.3 first.1)
+
 -- ---- whole files
 
 header-order : (o p : Order) (t u : LinkType) (a b : List ℕ) → IsPcapHeader a o t → IsPcapHeader b p u → a ≡ b → (o ≡ p) × (t ≡ u)
@@ -194,10 +213,28 @@ pcap-one o p t u a b fs gs rest last x y h s k r e =
       size = ap length h.whole ∙ length-append h.header h.records ∙ omega (arith, h.is_header.size, k.is_header.size, on.size) ∙ sym (length-append k.header k.records) ∙ sym (ap length k.whole);
     }
 
--- a front that is right has no fault
+pcap-most : (o p : Order) (t u : LinkType) (a b : List ℕ) (fs gs : List Frame) (rest last : List ℕ) → IsPcap a o t fs → ¬ HoldsRecord o rest → IsPcap b p u gs → a ++ rest ≡ b ++ last → length gs ≤ length fs
+pcap-most o p t u a b fs gs rest last h none k e =
+    let both : h.header ++ (h.records ++ rest) ≡ k.header ++ (k.records ++ last) =
+    sym (ap (λ (l : List ℕ). l ++ rest) h.whole ∙ append_assoc h.header h.records rest) ∙ e ∙ ap (λ (l : List ℕ). l ++ last) k.whole ∙ append_assoc k.header k.records last in
+    let split = parts h.header (h.records ++ rest) k.header (k.records ++ last) (h.is_header.size ∙ sym k.is_header.size) both in
+    let same = header-order o p t u h.header k.header h.is_header k.is_header split.0 in
+    let records : AreRecords p u h.records fs = subst (λ (z : LinkType). AreRecords p z h.records fs) same.1 (subst (λ (z : Order). AreRecords z t h.records fs) same.0 h.are_records) in
+    records-most p u fs gs h.records k.records rest last records (subst (λ (z : Order). ¬ HoldsRecord z rest) same.0 none) k.are_records split.1
+
 header-size : (b : List ℕ) (o : Order) (t : LinkType) (fs : List Frame) → IsPcap b o t fs → 24 ≤ length b
 header-size b o t fs h = omega (arith, ap length h.whole, length-append h.header h.records, h.is_header.size)
 
+-- behind records of which no whole one follows, and in front of a header, there are no more packets
+pub record-most : (o : Order) (t : LinkType) (taken rest : List ℕ) (frames : List Frame) → IsPcap taken o t frames → ¬ HoldsRecord o rest → HasNoMore (taken ++ rest) frames
+record-most o t taken rest frames h none front last others e (pcap_capture p u k) = pcap-most o p t u taken front frames others rest last h none k e
+
+pub front-most : (b : List ℕ) (frames : List Frame) → length b < 24 → HasNoMore b frames
+front-most b frames less front rest others e (pcap_capture p u k) =
+    absurd (omega (arith, less, ap length e, length-append front rest, header-size front p u others k))
+
+-- a front that is right has no fault
+ 
 header-on : (b : List ℕ) (o : Order) (t : LinkType) (fs : List Frame) (rest : List ℕ) (h : IsPcap b o t fs) → Extends h.header (b ++ rest)
 header-on b o t fs rest h = record {
   more = h.records ++ rest;

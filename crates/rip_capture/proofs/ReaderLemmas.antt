@@ -1,17 +1,19 @@
 -- Where a reader stands after a step.
-use Rattle.std.proofs.Common.{◌≡◌, ◌+◌, ◌⊎◌, ◌∙◌, ℕ, Bool, true, false, List, [], ◌∷◌, ◌++◌, Result, Ok, Err, Option, Some, None, length, take, drop, ap, sym, refl, inl, inr, subst, arith, append_assoc}
+use Rattle.std.proofs.Common.{◌≡◌, ◌+◌, ◌⊎◌, ◌<◌, ◌∙◌, ℕ, Bool, true, false, List, [], ◌∷◌, ◌++◌, Result, Ok, Err, Option, Some, None, length, take, drop, ap, sym, refl, inl, inr, subst, arith, append_assoc}
 use Rattle.std.proofs.lemmas.Bool.{false≢true}
 use Rattle.std.proofs.lemmas.List.{length-append, length-take}
-use Rattle.rip_capture.specs.Captures.{CaptureFault, FrontFault}
+use Rattle.rip_capture.specs.Captures.{CaptureFault, FrontFault, HasNoMore, IsRead}
 use Rattle.rip_capture.specs.Captures.CaptureFault.{front as at_front, pcap as in_pcap}
 use Rattle.rip_capture.specs.Captures.IsCapture.{pcap as pcap_capture}
+use Rattle.rip_capture.specs.Captures.IsRead.{none as nothing_read, capture as capture_read}
 use Rattle.rip_capture.specs.Codes.{EndsFor, is_read}
 use Rattle.rip_capture.specs.Feeds.{Keeps, Takes, held}
 use Rattle.rip_capture.specs.Finds.{FindsHeader, FindsRecord}
 use Rattle.rip_log.proofs.WholeLemmas.{went_on}
-use Rattle.rip_capture.specs.NextCall.{EndsHere, HasRead, HoldsPacket, IsOver, Runs, Stands, StopsAt, TakesPacket, has_begun, held_by, source_of}
-use Rattle.rip_capture.specs.Pcap.{Frame, IsPcap, RecordFault}
+use Rattle.rip_capture.specs.NextCall.{EndsHere, HasRead, HoldsPacket, IsFar, IsOver, Runs, Stands, StopsAt, TakesPacket, has_begun, held_by, source_of}
+use Rattle.rip_capture.specs.Pcap.{Frame, HoldsRecord, IsPcap, RecordFault}
 use Rattle.rip_capture.specs.Steps.{Begins, frame_at, place_at}
+use Rattle.rip_capture.proofs.FileLemmas.{front-most, record-most}
 use Rattle.rip_capture.proofs.PcapLemmas.{IsPcap-none, IsPcap-snoc, record-of}
 use Rattle.rip_capture.specs.declared.error.CaptureCode.{CaptureCode}
 use Rattle.rip_capture.specs.declared.error.CaptureCode.TheVariants.{Read}
@@ -22,6 +24,10 @@ use Rattle.rip_capture.specs.declared.reader.CaptureReader.{CaptureReader}
 use Rattle.rip_capture.specs.declared.reader.Found.{Found}
 use Rattle.rip_capture.specs.declared.reader.Format.{Format}
 use Rattle.rip_capture.specs.declared.reader.Format.TheVariants.{Unread, Pcap}
+
+pub read-capture : (f : Format) (taken : List ℕ) (frames : List Frame) → HasRead f taken frames → IsRead taken frames
+read-capture Unread taken frames h = nothing_read h.0 h.1
+read-capture (Pcap h) taken frames is = capture_read (pcap_capture h.order h.link_type is)
 
 -- where nothing was taken
 pub Stands-kept : {R : Type 0} (given : R → List ℕ) (before taken : List ℕ) (frames : List Frame) (old new : CaptureReader R) → Keeps given old.feed new.feed → new.position ≡ old.position → new.format ≡ old.format → Stands given before old taken frames → Stands given before new taken frames
@@ -89,28 +95,54 @@ fault-ends code at_end (inr f) cut = f.1 cut
 
 -- a fault of a record, or a failure there
 pub StopsAt-record : {R : Type 0} (given : R → List ℕ) (at_end : R → Bool) (before taken : List ℕ) (frames : List Frame) (old new : CaptureReader R) (h : PcapHeader) (code : CaptureCode)
-    → old.format ≡ Pcap h → Keeps given old.feed new.feed → new.position ≡ old.position → new.format ≡ old.format → (code ≡ Read) ⊎ (RecordFault h.order (held new.feed) code × EndsFor code (at_end new.feed.source))
+    → old.format ≡ Pcap h → Keeps given old.feed new.feed → new.position ≡ old.position → (code ≡ Read) ⊎ (RecordFault h.order (held new.feed) code × EndsFor code (at_end new.feed.source)) → (is_read code ≡ true → ¬ HoldsRecord h.order (held new.feed))
     → Stands given before old taken frames → StopsAt given at_end before frames (record { code = code; at = old.position }) new
-StopsAt-record given at_end before taken frames old new h code was keeps position format finds s = record {
-  taken = taken;
+StopsAt-record given at_end before taken frames old new h code was keeps position finds short s =
+    let right : IsPcap taken h.order h.link_type frames = subst (λ (f : Format). HasRead f taken frames) was s.read in
+    record {
+      front = taken;
+      rest = held new.feed;
+      gave = keeps (before ++ taken) s.gave;
+      read = capture_read (pcap_capture h.order h.link_type right);
+      place = s.position;
+      position = position ∙ s.position;
+      fault = record-fault h taken (held new.feed) frames code old.position (at_end new.feed.source) s.position right finds;
+      all = λ failed. inl (record-most h.order h.link_type taken (held new.feed) frames right (short failed));
+      ended = fault-ends code (at_end new.feed.source) finds;
+    }
+
+-- where the next record may end past the greatest offset
+pub StopsAt-far : {R : Type 0} (given : R → List ℕ) (at_end : R → Bool) (before taken : List ℕ) (frames : List Frame) (old new : CaptureReader R) (h : PcapHeader)
+    → old.format ≡ Pcap h → Keeps given old.feed new.feed → new.position ≡ old.position → IsFar new
+    → Stands given before old taken frames → StopsAt given at_end before frames (record { code = Read; at = old.position }) new
+StopsAt-far given at_end before taken frames old new h was keeps position far s = record {
+  front = taken;
+  rest = held new.feed;
+  gave = keeps (before ++ taken) s.gave;
+  read = capture_read (pcap_capture h.order h.link_type (subst (λ (f : Format). HasRead f taken frames) was s.read));
   place = s.position;
-  fault = record-fault h taken (held new.feed) frames code old.position (at_end new.feed.source) s.position (subst (λ (f : Format). HasRead f taken frames) was s.read) finds;
-  ended = fault-ends code (at_end new.feed.source) finds;
-  stands = Stands-kept given before taken frames old new keeps position format s;
+  position = position ∙ s.position;
+  fault = λ calm. cc calm;
+  all = λ failed. inr far;
+  ended = λ cut. cc cut;
 }
 
 -- a fault of the front, or a failure there
 pub StopsAt-front : {R : Type 0} (given : R → List ℕ) (at_end : R → Bool) (before taken : List ℕ) (frames : List Frame) (old new : CaptureReader R) (code : CaptureCode)
-    → old.format ≡ Unread → Keeps given old.feed new.feed → new.position ≡ old.position → new.format ≡ old.format → FindsHeader (held new.feed) (at_end new.feed.source) (Err code)
+    → old.format ≡ Unread → Keeps given old.feed new.feed → new.position ≡ old.position → FindsHeader (held new.feed) (at_end new.feed.source) (Err code) → (is_read code ≡ true → length (held new.feed) < 24)
     → Stands given before old taken frames → StopsAt given at_end before frames (record { code = code; at = 0 }) new
-StopsAt-front given at_end before taken frames old new code was keeps position format finds s =
+StopsAt-front given at_end before taken frames old new code was keeps position finds short s =
     let none : HasRead Unread taken frames = subst (λ (f : Format). HasRead f taken frames) was s.read in
     record {
-      taken = taken;
+      front = taken;
+      rest = held new.feed;
+      gave = keeps (before ++ taken) s.gave;
+      read = nothing_read none.0 none.1;
       place = sym (ap length none.0);
+      position = position ∙ s.position;
       fault = front-fault taken (held new.feed) frames code (at_end new.feed.source) none.0 none.1 finds;
+      all = λ failed. inl (subst (λ (l : List ℕ). HasNoMore (l ++ held new.feed) frames) (sym none.0) (front-most (held new.feed) frames (short failed)));
       ended = fault-ends code (at_end new.feed.source) finds;
-      stands = Stands-kept given before taken frames old new keeps position format s;
     }
 
 -- the header
@@ -135,11 +167,15 @@ pub Runs-refused : {R : Type 0} (given : R → List ℕ) (coming : R → Option 
 Runs-refused {R = R} given coming broken at_end old mid new e is r =
     subst (λ (n : CaptureReader R). Runs given coming broken at_end (frame_at n) place_at old n (Err e)) (sym is) (record {
       goes = λ before taken frames s. let m = r.goes before taken frames s in record {
-        taken = m.taken;
+        front = m.front;
+        rest = m.rest;
+        gave = m.gave;
+        read = m.read;
         place = m.place;
+        position = m.position;
         fault = m.fault;
+        all = m.all;
         ended = m.ended;
-        stands = record { gave = m.stands.gave; position = m.stands.position; read = m.stands.read };
       };
       moves = record { went = r.moves.went; failed = r.moves.failed; marks = r.moves.marks };
       over = λ h. cc h;

@@ -15,6 +15,17 @@ pub data HasMagic (b : List ℕ) : Type 0 where
 pub data IsCapture (b : List ℕ) (frames : List Frame) : Type 0 where
   pcap : (order : Order) (link_type : LinkType) → IsPcap b order link_type frames → IsCapture b frames
 
+-- what was read of a file: a capture of these frames, or nothing yet
+pub data IsRead (b : List ℕ) (frames : List Frame) : Type 0 where
+  none : b ≡ [] → frames ≡ [] → IsRead b frames
+  capture : IsCapture b frames → IsRead b frames
+
+-- no beginning of these bytes is a capture of more frames than these
+abbrev pub HasNoMore : List ℕ → List Frame → Type 0
+HasNoMore b frames =
+    (front rest : List ℕ) (others : List Frame) → b ≡ front ++ rest → IsCapture front others →
+    length others ≤ length frames
+
 -- what is wrong with the front of a file, the first of these
 pub data FrontFault (b : List ℕ) (code : CaptureCode) : Type 0 where
   short : length b < MAGIC_LEN → code ≡ Cut → FrontFault b code

@@ -1,7 +1,7 @@
 -- What a reader stands for, and what a call of `next` answers and leaves.
 use Rattle.std.specs.Prelude.{◌≡◌, ◌⊎◌, ◌≤◌, ◌+◌, ◌^◌, ◌++◌, ℕ, Bool, true, false, List, [], ◌∷◌, Option, Some, None, Result, Ok, Err, length}
 use Rattle.rip_log.specs.Wholes.{Went}
-use Rattle.rip_capture.specs.Captures.{CaptureFault, IsCapture}
+use Rattle.rip_capture.specs.Captures.{CaptureFault, HasNoMore, IsCapture, IsRead}
 use Rattle.rip_capture.specs.Codes.{EndsFor, is_read}
 use Rattle.rip_capture.specs.Feeds.{held}
 use Rattle.rip_capture.specs.Pcap.{Frame, HoldsRecord, IsPcap}
@@ -72,16 +72,24 @@ pub record EndsHere {R : Type 0} (given : R → List ℕ) (at_end : R → Bool) 
   pub ended : at_end (source_of new) ≡ true
   pub stands : Stands given before new file frames
 
+-- the next part of the file may end past the greatest offset
+abbrev pub IsFar : {R : Type 0} → CaptureReader R → Type 0
+IsFar reader = 2 ^ 64 ≤ position_of reader + 2 ^ 32
+
 -- the file has a fault behind these frames, or the source failed there
 pub record StopsAt {R : Type 0} (given : R → List ℕ) (at_end : R → Bool) (before : List ℕ)
     (frames : List Frame) (error : CaptureError) (new : CaptureReader R) : Type 0 where
-  pub taken : List ℕ
-  pub place : error.at ≡ length taken
-  pub fault : is_read error.code ≡ false →
-      CaptureFault (taken ++ held_by new) frames error.code error.at
+  pub front : List ℕ
+  pub rest : List ℕ
+  pub gave : given (source_of new) ≡ before ++ front ++ rest
+  pub read : IsRead front frames
+  pub place : error.at ≡ length front
+  pub position : position_of new ≡ length front
+  pub fault : is_read error.code ≡ false → CaptureFault (front ++ rest) frames error.code error.at
+  -- the source failed only where all packets that it gave whole were answered
+  pub all : is_read error.code ≡ true → HasNoMore (front ++ rest) frames ⊎ IsFar new
   -- that it is cut is told only at its end, where these are all bytes of it
   pub ended : EndsFor error.code (at_end (source_of new))
-  pub stands : Stands given before new taken frames
 
 -- what a call does to a file of which these frames were read, each packet seen by frame and place
 abbrev pub Goes : {R X : Type 0} → (R → List ℕ) → (R → Bool) → (X → Frame) → (X → ℕ) →
@@ -101,10 +109,6 @@ pub record IsOver {R : Type 0} (at_end : R → Bool) (reader : CaptureReader R) 
 abbrev pub HoldsPacket : Format → List ℕ → Type 0
 HoldsPacket Unread b = ⊥
 HoldsPacket (Pcap h) b = HoldsRecord h.order b
-
--- the next part of the file may end past the greatest offset
-abbrev pub IsFar : {R : Type 0} → CaptureReader R → Type 0
-IsFar reader = 2 ^ 64 ≤ position_of reader + 2 ^ 32
 
 -- the call failed since the source did
 abbrev pub is_unreadable : {A : Type 0} → Result A CaptureError → Bool

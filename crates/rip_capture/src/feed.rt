@@ -118,6 +118,7 @@ impl<R: Source> Feed<R> {
             (length (held self.new) < count) × (R.at_end self.new.source ≡ true) }
         ensures ok { OnOk result (R.broken self.new.source ≡ R.broken self.old.source) }
         ensures err { OnErr result (R.broken self.new.source ≡ true) }
+        ensures short { OnErr result (length (held self.new) < count) }
         ensures stays { R.at_end self.old.source ≡ true →
             (held self.new ≡ held self.old) × (is_err result ≡ false) }
         ensures ready { count ≤ length (held self.old) → self.new ≡ self.old }

@@ -3,12 +3,14 @@
 
 ghost use Rattle.std.specs.Prelude.{◌≡◌, ◌≢◌, ◌⊎◌, ◌*◌, ◌<◌, ◌≤◌, ◌++◌, ℕ, List, length};
 ghost use Rattle.std.specs.List.{AllByRecursion};
-ghost use Rattle.rip_capture.specs.Captures.{CaptureFault, IsCapture};
+ghost use Rattle.rip_capture.specs.Captures.{CaptureFault, IsCapture, IsRead};
 ghost use Rattle.rip_capture.specs.Carries.{Carries};
+ghost use Rattle.rip_capture.specs.NextCall.{HasRead};
 ghost use Rattle.rip_capture.specs.Pcap.{Frame};
 ghost use Rattle.rip_capture.specs.declared.error.CaptureCode.{CaptureCode};
 ghost use Rattle.rip_capture.specs.declared.link.LinkType.{LinkType};
 ghost use Rattle.rip_capture.specs.declared.packet.Carried.{Carried};
+ghost use Rattle.rip_capture.specs.declared.reader.Format.{Format};
 
 use crate::limits::{
     FILE_HEADER, GROUP, IP_HEADER, MAGIC_LEN, MOST_CAPTURED, MOST_PAYLOAD, PORT, RECORD_HEADER,
@@ -48,6 +50,12 @@ pub fn one_reading()
     ensures fault { (file : List ℕ) (frames others : List Frame) (code other : CaptureCode)
         (at there : ℕ) → CaptureFault file frames code at → CaptureFault file others other there →
         (frames ≡ others) × (code ≡ other) × (at ≡ there) }
+{}
+
+/// What a reader has read of a file is a capture of the packets that it answered, or nothing yet.
+pub fn read_captures()
+    ensures { (format : Format) (taken : List ℕ) (frames : List Frame) →
+        HasRead format taken frames → IsRead taken frames }
 {}
 
 /// A capture has at least sixteen bytes for each packet.

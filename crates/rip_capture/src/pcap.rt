@@ -1,6 +1,6 @@
 //! The header and the records of a pcap file (draft-ietf-opsawg-pcap).
 
-ghost use Rattle.std.specs.Prelude.{◌≡◌, ◌≤◌, [], Ok, None, true, false, length, MatchOption};
+ghost use Rattle.std.specs.Prelude.{◌≡◌, ◌<◌, ◌≤◌, [], Ok, None, true, false, length, MatchOption};
 ghost use Rattle.rip_log.specs.Wholes.{Went};
 ghost use Rattle.rip_capture.specs.Captures.{HasMagic};
 ghost use Rattle.rip_capture.specs.Codes.{is_unread};
@@ -58,6 +58,7 @@ pub(crate) fn next_header<R: Source>(feed: &mut Feed<R>) -> Result<PcapHeader, C
     ensures went { Went R.given R.coming R.at_end feed.old.source feed.new.source }
     ensures found { FindsHeader (held feed.new) (R.at_end feed.new.source) result }
     ensures failed { is_unread result ≡ true → R.broken feed.new.source ≡ true }
+    ensures short { is_unread result ≡ true → length (held feed.new) < FILE_HEADER }
     ensures marks { is_unread result ≡ false →
         R.broken feed.new.source ≡ R.broken feed.old.source }
 {
@@ -90,6 +91,7 @@ pub(crate) fn next_record<R: Source>(
     ensures failed { is_unread result ≡ true → R.broken feed.new.source ≡ true }
     ensures marks { is_unread result ≡ false →
         R.broken feed.new.source ≡ R.broken feed.old.source }
+    ensures short { is_unread result ≡ true → ¬ HoldsRecord order (held feed.new) }
     ensures over { held feed.old ≡ [] → R.at_end feed.old.source ≡ true → result ≡ Ok None }
     ensures ready { HoldsRecord order (held feed.old) → feed.new ≡ feed.old }
 {

@@ -5,16 +5,15 @@ use Rattle.std.proofs.lemmas.Bool.{false≢true}
 use Rattle.std.proofs.lemmas.List.{append_cancel_left, length-append}
 use Rattle.rip_log.specs.Taken.{Taken, Took}
 use Rattle.rip_log.specs.Wholes.{Begins}
-use Rattle.rip_capture.specs.Captures.{CaptureFault, IsCapture}
-use Rattle.rip_capture.specs.Captures.IsCapture.{pcap as pcap_capture}
+use Rattle.rip_capture.specs.Captures.{CaptureFault, HasNoMore, IsCapture, IsRead}
+use Rattle.rip_capture.specs.Captures.IsRead.{none as nothing_read, capture as capture_read}
 use Rattle.rip_capture.specs.NextCall.{EndsHere, HasRead, IsFar, Stands, held_by, source_of}
 use Rattle.rip_capture.specs.Pcap.{Frame}
 use Rattle.rip_capture.specs.declared.error.CaptureCode.{CaptureCode}
 use Rattle.rip_capture.specs.declared.error.CaptureCode.TheVariants.{Magic, Cut, Version, LinkType as NoLinkType, Length, Interface, OldPacket, Read as NoRead}
 use Rattle.rip_capture.specs.declared.reader.CaptureReader.{CaptureReader}
 use Rattle.rip_capture.specs.declared.reader.Format.{Format}
-use Rattle.rip_capture.specs.declared.reader.Format.TheVariants.{Unread as Unread-yet, Pcap}
-use Rattle.rip_report.specs.CaptureLogs.{AddsFile, BeginsWith, File, FileFront, FileText, Follows, GoesOn, IsLogOf, IsRefusedAt, LogOf, SoFar, worse}
+use Rattle.rip_report.specs.CaptureLogs.{AddsFile, AddsUnread, BeginsWith, File, FileText, Follows, GoesOn, IsLogOf, IsRefusedAt, LogOf, SoFar, worse}
 use Rattle.rip_report.specs.CaptureLogs.LogOf.{stopped}
 use Rattle.rip_report.specs.CaptureLogs.SoFar.{more}
 use Rattle.rip_report.specs.CaptureLogs.BeginsWith.{none, some}
@@ -40,16 +39,32 @@ use Rattle.rip_report.proofs.CaptureLemmas.{all-snoc, frames-snoc, length-snoc}
 abbrev Early : Type 0
 Early = (file more : List ℕ) (frames : List Frame) (code : CaptureCode) (at : ℕ) → code ≢ Cut → CaptureFault file frames code at → CaptureFault (file ++ more) frames code at
 
+-- what a reader has read is a capture
+abbrev ReadCaptures : Type 0
+ReadCaptures = (format : Format) (taken : List ℕ) (frames : List Frame) → HasRead format taken frames → IsRead taken frames
+
 -- the text of a file is what was taken, what is held, and what is left
 text-split : (before taken held gave left bytes : List ℕ) → gave ≡ before ++ taken ++ held → before ++ bytes ≡ gave ++ left → bytes ≡ (taken ++ held) ++ left
 text-split before taken held gave left bytes e f =
     append_cancel_left before bytes ((taken ++ held) ++ left)
     (f ∙ ap (λ l. l ++ left) (e ∙ append_assoc before taken held) ∙ append_assoc before (taken ++ held) left)
 
+no-frames : (cs : List Carrier) → map (λ c. c.frame) cs ≡ [] → cs ≡ []
+no-frames [] e = refl
+no-frames (c ∷ cs) e = cc e
+
+-- what was read of a file is a beginning of it
+begins-read : (cs : List Carrier) (bytes front rest : List ℕ) → AllByRecursion IsCarrier cs → IsRead front (map (λ c. c.frame) cs) → bytes ≡ front ++ rest → BeginsWith bytes cs
+begins-read cs bytes front rest carry (nothing_read empty none_of) split = none (no-frames cs none_of)
+begins-read cs bytes front rest carry (capture_read is) split = some front rest split (record { capture = is; carry = carry })
+
 module _ {R : Type 0} (given : R → List ℕ) (at_end : R → Bool) (before bytes : List ℕ) (reader : CaptureReader R)
     (text : Begins (before ++ bytes) (given (source_of reader)) (at_end (source_of reader))) where
+  split-by : (front rest : List ℕ) → given (source_of reader) ≡ before ++ front ++ rest → bytes ≡ (front ++ rest) ++ text.left
+  split-by front rest gave = text-split before front rest (given (source_of reader)) text.left bytes gave text.split
+
   split-at : (taken : List ℕ) (frames : List Frame) → Stands given before reader taken frames → bytes ≡ (taken ++ held_by reader) ++ text.left
-  split-at taken frames s = text-split before taken (held_by reader) (given (source_of reader)) text.left bytes s.gave text.split
+  split-at taken frames s = split-by taken (held_by reader) s.gave
 
   -- at the end of a file nothing is held or left
   whole-is : (frames : List Frame) (h : EndsHere given at_end before frames reader) → bytes ≡ h.file
@@ -58,29 +73,21 @@ module _ {R : Type 0} (given : R → List ℕ) (at_end : R → Bool) (before byt
       ∙ ap (λ l. h.file ++ l) h.all ∙ append-nil h.file
 
   -- what was read is a beginning of the file
-  begins-by : (cs : List Carrier) (taken : List ℕ) → AllByRecursion IsCarrier cs → Stands given before reader taken (map (λ c. c.frame) cs) → BeginsWith bytes cs
-  begins-by cs taken carry s = by_format reader.format s.read where
-    no-frames : (cs : List Carrier) → map (λ c. c.frame) cs ≡ [] → cs ≡ []
-    no-frames [] e = refl
-    no-frames (c ∷ cs) e = cc e
-
-    by_format : (f : Format) → HasRead f taken (map (λ c. c.frame) cs) → BeginsWith bytes cs
-    by_format Unread-yet h = none (no-frames cs h.1)
-    by_format (Pcap h) is = some taken (held_by reader ++ text.left) (split-at taken (map (λ c. c.frame) cs) s ∙ append_assoc taken (held_by reader) text.left)
-        (record { capture = pcap_capture h.order h.link_type is; carry = carry })
+  begins-by : (cs : List Carrier) (front rest : List ℕ) → AllByRecursion IsCarrier cs → IsRead front (map (λ c. c.frame) cs) → given (source_of reader) ≡ before ++ front ++ rest → BeginsWith bytes cs
+  begins-by cs front rest carry read gave = begins-read cs bytes front (rest ++ text.left) carry read (split-by front rest gave ∙ append_assoc front rest text.left)
 
   -- a file that is refused by its fault
-  fault-by : Early → (frames : List Frame) (taken : List ℕ) (code : CaptureCode) (at : ℕ) → Stands given before reader taken frames → CaptureFault (taken ++ held_by reader) frames code at
+  fault-by : Early → (frames : List Frame) (front rest : List ℕ) (code : CaptureCode) (at : ℕ) → given (source_of reader) ≡ before ++ front ++ rest → CaptureFault (front ++ rest) frames code at
       → (code ≡ Cut → at_end (source_of reader) ≡ true) → CaptureFault bytes frames code at
-  fault-by early frames taken code at s found ended = by_code code found ended where
-    is : bytes ≡ (taken ++ held_by reader) ++ text.left
-    is = split-at taken frames s
+  fault-by early frames front rest code at gave found ended = by_code code found ended where
+    is : bytes ≡ (front ++ rest) ++ text.left
+    is = split-by front rest gave
 
-    later : (code : CaptureCode) → code ≢ Cut → CaptureFault (taken ++ held_by reader) frames code at → CaptureFault bytes frames code at
-    later code other found = subst (λ l. CaptureFault l frames code at) (sym is) (early (taken ++ held_by reader) text.left frames code at other found)
+    later : (code : CaptureCode) → code ≢ Cut → CaptureFault (front ++ rest) frames code at → CaptureFault bytes frames code at
+    later code other found = subst (λ l. CaptureFault l frames code at) (sym is) (early (front ++ rest) text.left frames code at other found)
 
-    by_code : (code : CaptureCode) → CaptureFault (taken ++ held_by reader) frames code at → (code ≡ Cut → at_end (source_of reader) ≡ true) → CaptureFault bytes frames code at
-    by_code Cut found ended = subst (λ l. CaptureFault l frames Cut at) (sym (is ∙ ap (λ l. (taken ++ held_by reader) ++ l) (text.ended (ended refl)) ∙ append-nil (taken ++ held_by reader))) found
+    by_code : (code : CaptureCode) → CaptureFault (front ++ rest) frames code at → (code ≡ Cut → at_end (source_of reader) ≡ true) → CaptureFault bytes frames code at
+    by_code Cut found ended = subst (λ l. CaptureFault l frames Cut at) (sym (is ∙ ap (λ l. (front ++ rest) ++ l) (text.ended (ended refl)) ∙ append-nil (front ++ rest))) found
     by_code Magic found ended = later Magic (λ e. cc e) found
     by_code Version found ended = later Version (λ e. cc e) found
     by_code NoLinkType found ended = later NoLinkType (λ e. cc e) found
@@ -122,7 +129,7 @@ module _ {K : Type 0} (taken : K → Taken) (broken : K → Bool) (old new : K) 
 
 module _ {R K : Type 0} (given : R → List ℕ) (at_end : R → Bool) (start bytes : List ℕ) (reader : CaptureReader R)
     (text : Begins (start ++ bytes) (given (source_of reader)) (at_end (source_of reader)))
-    (taken : K → Taken) (broken : K → Bool) (old new : K) (before after : CaptureLog) (link : List ℕ) (listing : Listing) (early : Early)
+    (taken : K → Taken) (broken : K → Bool) (old new : K) (before after : CaptureLog) (link : List ℕ) (listing : Listing) (early : Early) (captures : ReadCaptures)
     (cs : List Carrier) (carry : AllByRecursion IsCarrier cs) (few : before.lines + line_count cs ≤ 1000000) where
   pub adds-file : (ending : Ending) (result : Result Status RunError) → EndsSo given at_end start before.lines cs reader listing ending
       → ClosesSo taken broken old new before after link (packet_lines link cs) ending result → AddsFile taken broken old new before after link bytes result
@@ -132,39 +139,64 @@ module _ {R K : Type 0} (given : R → List ℕ) (at_end : R → Bool) (start by
       (whole cs (record { capture = subst (λ l. IsCapture l (map (λ c. c.frame) cs)) (sym is) here.right; carry = carry }) (omega (arith, count)) (omega (arith, room))
       (ap (λ n. packet_lines link cs ++ comment_line (before.files + 1) link n) counts) (ap (λ n. Ok (counted_status n)) counts)) follows
   adds-file (Refused (Capture code) at) result (stops, calm) (ends, same) =
-      let found = fault-by given at_end start bytes reader text early (map (λ c. c.frame) cs) stops.taken code at stops.stands (stops.fault calm) stops.ended in
+      let found = fault-by given at_end start bytes reader text early (map (λ c. c.frame) cs) stops.front stops.rest code at stops.gave (stops.fault calm) stops.ended in
       adds-text taken broken old new before after link bytes _ 0 _ result ends
       (refused cs (Capture code) at (fault code found carry few refl) refl refl) (not-followed taken broken old new before after link bytes _ 0 _ result (inl refl) ends same)
   adds-file (Refused TooManyLines at) result ends_so (ends, same) =
       adds-text taken broken old new before after link bytes _ 0 _ result ends
       (refused cs TooManyLines at (many-by given at_end start bytes reader text before.lines cs at listing carry ends_so) refl refl) (not-followed taken broken old new before after link bytes _ 0 _ result (inl refl) ends same)
-  adds-file Unread result (so_far, stands) (ends, same) =
+  adds-file Unread result (error, stops, failed) (ends, same) =
       adds-text taken broken old new before after link bytes _ 0 _ result ends
-      (unread cs (begins-by given at_end start bytes reader text cs so_far carry stands) few refl refl) (not-followed taken broken old new before after link bytes _ 0 _ result (inr refl) ends same)
+      (unread cs (begins-by given at_end start bytes reader text cs stops.front stops.rest carry stops.read stops.gave) few refl refl) (not-followed taken broken old new before after link bytes _ 0 _ result (inr refl) ends same)
   adds-file Unwritten result (failed, (so_far, stands)) (is, sink, began, same) = record {
     text = λ h. absurd (h is);
-    write = λ e. (sink, (packet_lines link cs, some_packets cs (begins-by given at_end start bytes reader text cs so_far carry stands) few refl, began));
+    write = λ e. (sink, (packet_lines link cs, some_packets cs (begins-by given at_end start bytes reader text cs so_far (held_by reader) carry (captures reader.format so_far (map (λ c. c.frame) cs) stands.read) stands.gave) few refl, began));
     sink = λ h. absurd (h is);
     kept = λ e is_error. same;
   }
 
 -- a run that ends with Read had a source that failed
-module _ {R K : Type 0} (given : R → List ℕ) (at_end : R → Bool) (start bytes : List ℕ) (reader : CaptureReader R)
-    (text : Begins (start ++ bytes) (given (source_of reader)) (at_end (source_of reader)))
-    (taken : K → Taken) (broken : K → Bool) (old new : K) (before after : CaptureLog) (link : List ℕ) (lines : ℕ) (listing : Listing) (cs : List Carrier) where
-  pub reads-unread : (ending : Ending) (result : Result Status RunError) → ClosesSo taken broken old new before after link (packet_lines link cs) ending result → result ≡ Err Read → ending ≡ Unread
-  reads-unread (Whole tally) result (ends, follows) e = absurd (cc ((ends.out (λ f. cc (e, f))).0, e))
-  reads-unread (Refused (Capture code) at) result (ends, same) e = absurd (cc ((ends.out (λ f. cc (e, f))).0, e))
-  reads-unread (Refused TooManyLines at) result (ends, same) e = absurd (cc ((ends.out (λ f. cc (e, f))).0, e))
-  reads-unread Unread result h e = refl
-  reads-unread Unwritten result (is, sink, began, same) e = absurd (cc (is, e))
+pub unread-only : {K : Type 0} (taken : K → Taken) (broken : K → Bool) (old new : K) (before after : CaptureLog) (link text : List ℕ) (ending : Ending) (result : Result Status RunError)
+    → ClosesSo taken broken old new before after link text ending result → result ≡ Err Read → ending ≡ Unread
+unread-only taken broken old new before after link text (Whole tally) result (ends, follows) e = absurd (cc ((ends.out (λ f. cc (e, f))).0, e))
+unread-only taken broken old new before after link text (Refused (Capture code) at) result (ends, same) e = absurd (cc ((ends.out (λ f. cc (e, f))).0, e))
+unread-only taken broken old new before after link text (Refused TooManyLines at) result (ends, same) e = absurd (cc ((ends.out (λ f. cc (e, f))).0, e))
+unread-only taken broken old new before after link text Unread result h e = refl
+unread-only taken broken old new before after link text Unwritten result (is, sink, began, same) e = absurd (cc (is, e))
 
+-- no run that began a file ends with Memory
+pub never-memory : {K : Type 0} (taken : K → Taken) (broken : K → Bool) (old new : K) (before after : CaptureLog) (link text : List ℕ) (ending : Ending) (result : Result Status RunError)
+    → ClosesSo taken broken old new before after link text ending result → result ≡ Err Memory → ⊥
+never-memory taken broken old new before after link text (Whole tally) result (ends, follows) e = cc ((ends.out (λ f. cc (e, f))).0, e)
+never-memory taken broken old new before after link text (Refused (Capture code) at) result (ends, same) e = cc ((ends.out (λ f. cc (e, f))).0, e)
+never-memory taken broken old new before after link text (Refused TooManyLines at) result (ends, same) e = cc ((ends.out (λ f. cc (e, f))).0, e)
+never-memory taken broken old new before after link text Unread result (ends, same) e = cc ((ends.out (λ f. cc (e, f))).0, e)
+never-memory taken broken old new before after link text Unwritten result (is, sink, began, same) e = cc (is, e)
+
+module _ {R : Type 0} (given : R → List ℕ) (at_end : R → Bool) (start bytes : List ℕ) (reader : CaptureReader R)
+    (text : Begins (start ++ bytes) (given (source_of reader)) (at_end (source_of reader))) (lines : ℕ) (listing : Listing) (cs : List Carrier) where
   -- or the file is longer than offsets go
   pub far-bytes : EndsSo given at_end start lines cs reader listing Unread → IsFar reader → 2 ^ 64 ≤ length bytes + 2 ^ 32
-  far-bytes (so_far, s) far =
-      let is = split-at given at_end start bytes reader text so_far (map (λ c. c.frame) cs) s in
-      let size : length bytes ≡ length so_far + length (held_by reader ++ text.left) = ap length (is ∙ append_assoc so_far (held_by reader) text.left) ∙ length-append so_far (held_by reader ++ text.left) in
-      omega (arith, size, s.position, far)
+  far-bytes (error, stops, failed) far =
+      let is = split-by given at_end start bytes reader text stops.front stops.rest stops.gave in
+      let size : length bytes ≡ length stops.front + length (stops.rest ++ text.left) = ap length (is ∙ append_assoc stops.front stops.rest text.left) ∙ length-append stops.front (stops.rest ++ text.left) in
+      omega (arith, size, stops.position, far)
+
+-- what went out where the source failed has each packet that it gave whole
+pub adds-unread : {R K : Type 0} (given : R → List ℕ) (at_end : R → Bool) (start bytes : List ℕ) (reader : CaptureReader R) (taken : K → Taken) (broken : K → Bool) (old new : K) (before after : CaptureLog) (link : List ℕ) (lines : ℕ) (listing : Listing) (cs : List Carrier)
+    → AllByRecursion IsCarrier cs → given (source_of reader) ≡ start ++ bytes → EndsSo given at_end start lines cs reader listing Unread → (result : Result Status RunError) → ClosesSo taken broken old new before after link (packet_lines link cs) Unread result
+    → result ≡ Err Read → AddsUnread taken old new link bytes
+adds-unread given at_end start bytes reader taken broken old new before after link lines listing cs carry gave (error, stops, failed) result (ends, same) e =
+    let is : bytes ≡ stops.front ++ stops.rest = append_cancel_left start bytes (stops.front ++ stops.rest) (sym gave ∙ stops.gave ∙ append_assoc start stops.front stops.rest) in
+    record {
+      carriers = cs;
+      begins = begins-read cs bytes stops.front stops.rest carry stops.read is;
+      all = elim (stops.all failed) [
+        | inl no_more ↦ inl (subst (λ (l : List ℕ). HasNoMore l (map (λ (c : Carrier). c.frame) cs)) (sym is) no_more)
+        | inr far ↦ inr (omega (arith, far, stops.position, ap length is, length-append stops.front stops.rest))
+      ];
+      text = (ends.out (λ f. cc (e, f))).1;
+    }
 
 -- ---- a log that goes on
 

@@ -7,10 +7,10 @@ use Rattle.std.proofs.lemmas.Grind.{flat_map-append}
 use Rattle.std.proofs.lemmas.List.{length-append, map-append}
 use Rattle.std.proofs.lemmas.List.Sums.{count_by-le-length, sum_by-append, sum_by-cons}
 use Rattle.hex.specs.Hex.{encode_lower, encode_with, lower_digits}
-use Rattle.rip_capture.specs.Captures.{IsCapture}
-use Rattle.rip_capture.specs.Captures.IsCapture.{pcap as pcap_capture}
+use Rattle.rip_capture.specs.Captures.{IsCapture, IsRead}
+use Rattle.rip_capture.specs.Captures.IsRead.{none as nothing_read, capture as capture_read}
 use Rattle.rip_capture.specs.Codes.{is_read}
-use Rattle.rip_capture.specs.NextCall.{EndsHere, HasRead, IsFar, StopsAt, position_of}
+use Rattle.rip_capture.specs.NextCall.{EndsHere, IsFar, Stands, StopsAt, held_by, position_of}
 use Rattle.rip_capture.specs.Passwords.{has_password}
 use Rattle.rip_capture.specs.Pcap.{Frame}
 use Rattle.rip_capture.specs.Spans.{slice_of}
@@ -19,8 +19,6 @@ use Rattle.rip_capture.specs.declared.packet.Carried.TheVariants.{Cut as CutOff,
 use Rattle.rip_capture.specs.declared.error.CaptureCode.{CaptureCode}
 use Rattle.rip_capture.specs.declared.error.CaptureCode.TheVariants.{Magic, Cut, Version, LinkType as NoLinkType, Length, Interface, OldPacket, Read}
 use Rattle.rip_capture.specs.declared.reader.CaptureReader.{CaptureReader}
-use Rattle.rip_capture.specs.declared.reader.Format.{Format}
-use Rattle.rip_capture.specs.declared.reader.Format.TheVariants.{Unread as Unread-yet, Pcap}
 use Rattle.rip_report.specs.CapturePackets.{EndsSo, ended_at, ended_by}
 use Rattle.rip_report.specs.declared.captures.ending.Ending.TheVariants.{Refused as RefusedFile, Unread, Whole}
 use Rattle.rip_report.specs.declared.captures.ending.RefusalCode.TheVariants.{TooManyLines}
@@ -114,7 +112,7 @@ module _ {R : Type 0} (given : R → List ℕ) (at_end : R → Bool) (before : L
   ends-by Length at h = (h, refl)
   ends-by Interface at h = (h, refl)
   ends-by OldPacket at h = (h, refl)
-  ends-by Read at h = (h.taken, h.stands)
+  ends-by Read at h = (record { code = Read; at = at }, h, refl)
 
   -- at its end
   pub ends-at : (tally : Tally) → EndsHere given at_end before (map (λ c. c.frame) cs) new → tally.counts ≡ counts_of cs → tally.lines ≡ lines + line_count cs → tally.lines ≤ 1000000
@@ -150,17 +148,25 @@ read-is_unread Interface at h = refl
 read-is_unread OldPacket at h = refl
 read-is_unread Read at h = absurd (h refl)
 
--- behind 2^64 - 1 packets a reader is far
+-- behind 2^64 - 1 packets a reader is far, and stops there
 pub far : {R : Type 0} (reader : CaptureReader R) (taken : List ℕ) (fs : List Frame) → ((b : List ℕ) (gs : List Frame) → IsCapture b gs → 16 * length gs ≤ length b)
-    → position_of reader ≡ length taken → HasRead reader.format taken fs → 2 ^ 64 - 1 ≤ length fs → IsFar reader
-far reader taken fs long position read many = far-by reader.format read where
-  far-by : (f : Format) → HasRead f taken fs → IsFar reader
-  far-by Unread-yet h =
-      let none = ap length h.1 in
-      absurd (omega (arith, none, many))
-  far-by (Pcap h) is =
-      let size = long taken fs (pcap_capture h.order h.link_type is) in
-      omega (arith, size, position, many)
+    → position_of reader ≡ length taken → IsRead taken fs → 2 ^ 64 - 1 ≤ length fs → IsFar reader
+far reader taken fs long position (nothing_read none none_of) many = absurd (omega (arith, ap length none_of, many))
+far reader taken fs long position (capture_read is) many = omega (arith, long taken fs is, position, many)
+
+pub stops-far : {R : Type 0} (given : R → List ℕ) (at_end : R → Bool) (before taken : List ℕ) (fs : List Frame) (reader : CaptureReader R) → Stands given before reader taken fs → IsRead taken fs → IsFar reader
+    → StopsAt given at_end before fs (record { code = Read; at = position_of reader }) reader
+stops-far given at_end before taken fs reader s read is_far = record {
+  front = taken;
+  rest = held_by reader;
+  gave = s.gave;
+  read = read;
+  place = s.position;
+  position = s.position;
+  fault = λ calm. cc calm;
+  all = λ failed. inr is_far;
+  ended = λ cut. cc cut;
+}
 
 -- ---- each packet is of one kind
 

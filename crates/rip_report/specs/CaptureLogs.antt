@@ -1,11 +1,11 @@
 -- What a log of capture files is, and what a run leaves that adds a file to one.
-use Rattle.std.specs.Prelude.{◌≡◌, ◌≢◌, ◌⊎◌, ℕ, ◌+◌, ◌<◌, ◌≤◌, Bool, true, false, List, [], ◌∷◌, ◌++◌, length, map, flat_map, codes, Result, Ok, Err, is_err}
+use Rattle.std.specs.Prelude.{◌≡◌, ◌≢◌, ◌⊎◌, ℕ, ◌+◌, ◌^◌, ◌<◌, ◌≤◌, Bool, true, false, List, [], ◌∷◌, ◌++◌, length, map, flat_map, codes, Result, Ok, Err, is_err}
 use Rattle.std.specs.List.{AllByRecursion}
 use Rattle.rip_wire.specs.Name.{IsName}
 use Rattle.rip_log.specs.Lines.{Capture as Captured}
 use Rattle.rip_log.specs.Taken.{Taken, Took}
 use Rattle.rip_log.specs.declared.limits.TheConstants.{MOST_LINES}
-use Rattle.rip_capture.specs.Captures.{CaptureFault}
+use Rattle.rip_capture.specs.Captures.{CaptureFault, HasNoMore}
 use Rattle.rip_capture.specs.Passwords.{without_password}
 use Rattle.rip_capture.specs.Spans.{slice_of}
 use Rattle.rip_capture.specs.declared.error.CaptureCode.{CaptureCode}
@@ -123,6 +123,14 @@ pub record AddsFile
   pub sink : answer ≢ Err Write → broken new ≡ broken old
   -- an error leaves the log as it was
   pub kept : (e : RunError) → answer ≡ Err e → after ≡ before
+
+-- what a run leaves where the source failed, which had given these bytes: the line of each packet that is
+-- whole in them went out, unless they are too long for their offsets, and that the source failed
+pub record AddsUnread {K : Type 0} (taken : K → Taken) (old new : K) (link b : List ℕ) : Type 0 where
+  pub carriers : List Carrier
+  pub begins : BeginsWith b carriers
+  pub all : HasNoMore b (map (λ c. c.frame) carriers) ⊎ (2 ^ 64 ≤ length b + 2 ^ 32)
+  pub text : Took (taken old) (taken new) (packet_lines link carriers ++ line (codes "failed: read"))
 
 -- ---- a log of files
 

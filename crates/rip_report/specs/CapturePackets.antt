@@ -87,7 +87,8 @@ EndsSo given at_end before lines carriers new listing (Refused TooManyLines at) 
     × (has_line next.carried ≡ true))
     ⊎ (EndsHere given at_end before (map (λ c. c.frame) carriers) new × (at ≡ position_of new)))
 EndsSo given at_end before lines carriers new listing Unread =
-    (taken : List ℕ) × Stands given before new taken (map (λ c. c.frame) carriers)
+    (error : CaptureError) × StopsAt given at_end before (map (λ c. c.frame) carriers) error new
+    × (is_read error.code ≡ true)
 EndsSo given at_end before lines carriers new listing Unwritten =
     (is_err listing.wrote ≡ true)
     × ((taken : List ℕ) × Stands given before new taken (map (λ c. c.frame) carriers))

@@ -8,7 +8,7 @@ mod packets;
 mod tally;
 
 ghost use Rattle.std.specs.Prelude.{◌≡◌, ◌≢◌, ◌⊎◌, ◌+◌, ◌^◌, ◌<◌, ◌≤◌, ◌++◌, ◌∷◌, [], ℕ, List, Some, Err, is_err, length, true};
-ghost use Rattle.rip_report.specs.CaptureLogs.{AddsFile, File, GoesOn, IsLogOf, LogOf, worse};
+ghost use Rattle.rip_report.specs.CaptureLogs.{AddsFile, AddsUnread, File, GoesOn, IsLogOf, LogOf, worse};
 ghost use Rattle.rip_log.specs.declared.limits.TheConstants.{MOST_LINES};
 ghost use Rattle.rip_report.specs.CapturePackets.{ClosesFile, EndsWith};
 ghost use Rattle.rip_log.specs.Taken.{Took};
@@ -32,7 +32,7 @@ use crate::limits::NAME;
 use crate::listing::Listing;
 use crate::status::{RunError, Status, fault_line};
 use rip_capture::CaptureReader;
-use rip_capture::laws::{early_faults, long_captures};
+use rip_capture::laws::{early_faults, long_captures, read_captures};
 use rip_log::{Failed, MOST_LINES, Sink, Source};
 use std::alloc::Global;
 
@@ -150,6 +150,12 @@ pub fn run_log<R: Source, K: Sink>(
     // The whole text went out, or a beginning where the sink failed.
     ensures prints { (bytes : List ℕ) → IsGiven R.given R.at_end file result.0 bytes →
         AddsFile K.taken K.broken out.old out.new log.old log.new link.now bytes result.1 }
+    // Where the source failed, no packet is left out that it gave whole.
+    ensures unread { (bytes : List ℕ) → R.given result.0 ≡ R.given file ++ bytes →
+        result.1 ≡ Err RunError.Read →
+        AddsUnread K.taken out.old out.new link.now bytes }
+    // Where there is no memory, the file comes back as it was.
+    ensures untouched { result.1 ≡ Err RunError.Memory → result.0 ≡ file }
     // Behind a log of files that are captures it has the log of one more, or one that ends with it.
     ensures goes_on { (bytes : List ℕ) → IsGiven R.given R.at_end file result.0 bytes →
         (files : List File) (text : List ℕ) → IsLogOf log.old files text →
@@ -171,6 +177,7 @@ pub fn run_log<R: Source, K: Sink>(
 {
     long_captures();
     early_faults();
+    read_captures();
     match CaptureReader::new(alloc, file) {
         Err((_, file)) => (file, log_failure(RunError::Memory, out)),
         Ok(mut reader) => {

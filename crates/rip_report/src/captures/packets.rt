@@ -13,7 +13,7 @@ use crate::captures::lines::{add_line, carries_password, has_line};
 use crate::captures::tally::Tally;
 use crate::limits::NAME;
 use crate::listing::Listing;
-use rip_capture::laws::long_captures;
+use rip_capture::laws::{long_captures, read_captures};
 use rip_capture::{CaptureCode, CaptureError, CaptureReader, Packet, read_frame};
 use rip_log::{MOST_LINES, Sink, Source};
 
@@ -85,6 +85,7 @@ pub(crate) fn log_packets<R: Source, K: Sink>(
         reader.old reader.new listing.old listing.new out.old out.new result }
 {
     long_captures();
+    read_captures();
     let mut tally = Tally {
         counts: PacketCounts::new(),
         lines,

@@ -1,4 +1,4 @@
-use Rattle.std.proofs.Common.{arith, sym, refl, ◌∙◌, ◌+◌, ◌<◌, ◌≤◌, ap, length, inr}
+use Rattle.std.proofs.Common.{arith, sym, refl, ◌∙◌, ◌+◌, ◌<◌, ap, length, inr}
 use Rattle.rip_capture.specs.Frames.{is_tag}
 use Rattle.rip_capture.specs.Frames.Leads.{ipv4, other, cut, tag}
 use Rattle.rip_capture.specs.declared.frame.Network.TheVariants.{Ip, Short, Other}

@@ -45,3 +45,12 @@ returns-then-whole-clause-ready g c = λ holds.
 pub returns-else-whole-clause-ready : goal.returns-else-whole-clause-ready
 returns-else-whole-clause-ready g c = λ holds.
     ready-on c.args.order c.args.feed.now c.fill.new.self c.fill-2.new.self c.held-2.result.now c.number_in-captured.result holds (c.fill.ensures.ready holds.header) c.held-2.ensures c.number_in-captured.ensures c.fill-2.ensures.ready
+
+pub returns-in_default-fill-clause-short : goal.returns-in_default-fill-clause-short
+returns-in_default-fill-clause-short g c = λ failed holds.
+    let order = c.args.order in
+    let enough = c.in-Ok.ensures.some (ap Ok c.if-not-begun.false) in
+    let same = number-stays order 8 (held c.fill.new.self) (held c.fill-2.new.self) (omega (arith, enough)) c.fill-2.ensures.held in
+    let is = same ∙ ap (number_in order 8) (sym c.held-2.ensures) ∙ sym c.number_in-captured.ensures in
+    let packet = holds.packet in
+    omega (arith, packet, is, c.in_default-fill.ensures.short)

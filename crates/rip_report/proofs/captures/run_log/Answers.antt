@@ -1,11 +1,11 @@
-use Rattle.std.proofs.Common.{◌++◌, ◌∙◌, [], Err, ap, inl, inr, refl, subst, sym}
+use Rattle.std.proofs.Common.{◌≡◌, ◌++◌, ◌∙◌, [], Err, ap, inl, inr, refl, subst, sym}
 use Rattle.rip_log.specs.Wholes.{Begins, Went}
 use Rattle.rip_capture.specs.NextCall.{source_of}
 use Rattle.rip_report.specs.CaptureLogs.FileText.{memory}
 use Rattle.rip_report.specs.CapturePackets.{EndsSo}
 use Rattle.rip_report.specs.CaptureText.{packet_lines}
 use Rattle.rip_report.specs.declared.status.RunError.TheVariants.{Memory}
-use Rattle.rip_report.proofs.CaptureFileLemmas.{adds-file, adds-text, far-bytes, log-goes-on, not-followed, reads-unread}
+use Rattle.rip_report.proofs.CaptureFileLemmas.{adds-file, adds-text, adds-unread, far-bytes, log-goes-on, never-memory, not-followed, unread-only}
 use Rattle.rip_report.proofs.GivenLemmas.{told_given}
 use Rattle.rip_report.proofs.ListingLemmas.{writes_none}
 use Rattle.rip_report.proofs.captures.run_log.Goals as goal
@@ -23,7 +23,7 @@ returns-in-Ok-clause-prints g c = λ bytes is.
     let text : Begins (start ++ bytes) (S.given (source_of reader)) (S.at_end (source_of reader)) = subst (λ (s : g.row.R.Denot). Begins (start ++ bytes) (S.given s) (S.at_end s)) c.into_source.ensures is in
     let ends = subst (λ (s : g.row.R.Denot). EndsSo S.given S.at_end (S.given s) c.args.log.now.lines logs.carriers reader c.log_packets-ending.new.listing c.log_packets-ending.result) c.in-Ok.ensures.source logs.ends in
     let wrote = logs.adds out [] (writes_none taken broken out c.new-listing.result c.new-listing.ensures.page c.new-listing.ensures.wrote) in
-    adds-file S.given S.at_end start bytes reader text taken broken out c.close_file-answer.new.out c.args.log.now c.close_file-answer.new.log link c.log_packets-ending.new.listing c.early_faults.ensures logs.carriers logs.carry logs.few c.log_packets-ending.result c.close_file-answer.result ends
+    adds-file S.given S.at_end start bytes reader text taken broken out c.close_file-answer.new.out c.args.log.now c.close_file-answer.new.log link c.log_packets-ending.new.listing c.early_faults.ensures c.read_captures.ensures logs.carriers logs.carry logs.few c.log_packets-ending.result c.close_file-answer.result ends
     (c.close_file-answer.ensures out (packet_lines link logs.carriers) wrote)
 
 pub returns-in-Ok-clause-read : goal.returns-in-Ok-clause-read
@@ -40,10 +40,10 @@ returns-in-Ok-clause-read g c = λ bytes is e.
     let ends = subst (λ (s : g.row.R.Denot). EndsSo S.given S.at_end (S.given s) c.args.log.now.lines logs.carriers reader c.log_packets-ending.new.listing c.log_packets-ending.result) c.in-Ok.ensures.source logs.ends in
     let wrote = logs.adds out [] (writes_none taken broken out c.new-listing.result c.new-listing.ensures.page c.new-listing.ensures.wrote) in
     let closes = c.close_file-answer.ensures out (packet_lines link logs.carriers) wrote in
-    let unread = reads-unread S.given S.at_end start bytes reader text taken broken out c.close_file-answer.new.out c.args.log.now c.close_file-answer.new.log link c.args.log.now.lines c.log_packets-ending.new.listing logs.carriers c.log_packets-ending.result c.close_file-answer.result closes e in
+    let unread = unread-only taken broken out c.close_file-answer.new.out c.args.log.now c.close_file-answer.new.log link (packet_lines link logs.carriers) c.log_packets-ending.result c.close_file-answer.result closes e in
     elim (logs.unread unread) [
       | inl failed ↦ inl (ap S.broken c.into_source.ensures ∙ failed)
-      | inr far ↦ inr (far-bytes S.given S.at_end start bytes reader text taken broken out c.close_file-answer.new.out c.args.log.now c.close_file-answer.new.log link c.args.log.now.lines c.log_packets-ending.new.listing logs.carriers (rw unread at ends) far)
+      | inr far ↦ inr (far-bytes S.given S.at_end start bytes reader text c.args.log.now.lines c.log_packets-ending.new.listing logs.carriers (rw unread at ends) far)
     ]
 
 pub returns-in-Ok-clause-source : goal.returns-in-Ok-clause-source
@@ -82,3 +82,30 @@ returns-in-Ok-clause-goes_on g c = λ bytes given files text is wrote.
 pub returns-in-Err-clause-goes_on : goal.returns-in-Err-clause-goes_on
 returns-in-Err-clause-goes_on g c = λ bytes given files text is wrote.
     log-goes-on g.K.Sink.taken g.K.Sink.broken c.args.out.now c.log_failure.new.out c.args.log.now c.args.log.now c.args.link.now bytes c.log_failure.result (returns-in-Err-clause-prints g c bytes given) files text is wrote
+
+pub returns-in-Ok-clause-unread : goal.returns-in-Ok-clause-unread
+returns-in-Ok-clause-unread g c = λ bytes gave e.
+    let S = g.R.Source in
+    let taken = g.K.Sink.taken in
+    let broken = g.K.Sink.broken in
+    let start = S.given c.args.file in
+    let logs = c.log_packets-ending.ensures in
+    let reader = c.log_packets-ending.new.reader in
+    let link = c.args.link.now in
+    let out = c.args.out.now in
+    let ends = subst (λ (s : g.row.R.Denot). EndsSo S.given S.at_end (S.given s) c.args.log.now.lines logs.carriers reader c.log_packets-ending.new.listing c.log_packets-ending.result) c.in-Ok.ensures.source logs.ends in
+    let wrote = logs.adds out [] (writes_none taken broken out c.new-listing.result c.new-listing.ensures.page c.new-listing.ensures.wrote) in
+    let closes = c.close_file-answer.ensures out (packet_lines link logs.carriers) wrote in
+    let gave_so : S.given (source_of reader) ≡ start ++ bytes = ap S.given (sym c.into_source.ensures) ∙ gave in
+    let unread = unread-only taken broken out c.close_file-answer.new.out c.args.log.now c.close_file-answer.new.log link (packet_lines link logs.carriers) c.log_packets-ending.result c.close_file-answer.result closes e in
+    adds-unread S.given S.at_end start bytes reader taken broken out c.close_file-answer.new.out c.args.log.now c.close_file-answer.new.log link c.args.log.now.lines c.log_packets-ending.new.listing logs.carriers logs.carry gave_so (rw unread at ends) c.close_file-answer.result (rw unread at closes) e
+
+pub returns-in-Ok-clause-untouched : goal.returns-in-Ok-clause-untouched
+returns-in-Ok-clause-untouched g c = λ e.
+    let taken = g.K.Sink.taken in
+    let broken = g.K.Sink.broken in
+    let logs = c.log_packets-ending.ensures in
+    let link = c.args.link.now in
+    let out = c.args.out.now in
+    let wrote = logs.adds out [] (writes_none taken broken out c.new-listing.result c.new-listing.ensures.page c.new-listing.ensures.wrote) in
+    absurd (never-memory taken broken out c.close_file-answer.new.out c.args.log.now c.close_file-answer.new.log link (packet_lines link logs.carriers) c.log_packets-ending.result c.close_file-answer.result (c.close_file-answer.ensures out (packet_lines link logs.carriers) wrote) e)

@@ -1,10 +1,10 @@
-use Rattle.std.proofs.Common.{◌+◌, ◌≤◌, ◌∙◌, ℕ, List, ap, arith, drop, inl, refl, subst, sym}
+use Rattle.std.proofs.Common.{◌+◌, ◌≤◌, ◌∙◌, ℕ, List, ap, arith, drop, inl, inr, refl, subst, sym}
 use Rattle.std.proofs.lemmas.Bool.{false≢true}
 use Rattle.rip_log.specs.Wholes.{Went}
 use Rattle.rip_capture.proofs.FeedLemmas.{range-drop}
-use Rattle.rip_capture.proofs.ReaderLemmas.{EndsHere-found, StopsAt-record, TakesPacket-found}
+use Rattle.rip_capture.proofs.ReaderLemmas.{EndsHere-found, StopsAt-far, StopsAt-record, TakesPacket-found}
 use Rattle.rip_capture.specs.Feeds.{held}
-use Rattle.rip_capture.specs.NextCall.{HoldsPacket, has_begun}
+use Rattle.rip_capture.specs.NextCall.{HoldsPacket, IsFar, has_begun}
 use Rattle.rip_capture.specs.Pcap.{Frame}
 use Rattle.rip_capture.specs.declared.feed.Feed.{Feed}
 use Rattle.rip_capture.specs.declared.reader.CaptureReader.{CaptureReader}
@@ -17,7 +17,7 @@ returns-in-Err-clause-runs g c =
     let old = c.args.self.now in
     let new : CaptureReader g.row.R.Denot = record { feed = c.next_record.new.feed; format = old.format; position = old.position; refusal = old.refusal } in
     record {
-      goes = λ before taken frames s. StopsAt-record S.given S.at_end before taken frames old new c.args.header c.in-Err.code c.requires c.next_record.ensures.keeps refl refl c.in-Err.ensures.found s;
+      goes = λ before taken frames s. StopsAt-record S.given S.at_end before taken frames old new c.args.header c.in-Err.code c.requires c.next_record.ensures.keeps refl c.in-Err.ensures.found c.in-Err.ensures.short s;
       moves = record {
         went = c.next_record.ensures.went;
         failed = λ bad. inl (c.in-Err.ensures.failed bad);
@@ -43,6 +43,25 @@ returns-in-Ok-None-clause-runs g c =
       };
       over = λ h. record { begun = ap has_begun c.requires; all = found.0; ended = found.1 };
       stays_over = λ o. refl;
+      ready = λ holds. ap (λ (f : Feed g.row.R.Denot). f.source) (c.next_record.ensures.ready (subst (λ (f : Format). HoldsPacket f (held old.feed)) c.requires holds));
+    }
+
+pub returns-in_default-clause-runs : goal.returns-in_default-clause-runs
+returns-in_default-clause-runs g c =
+    let S = g.R.Source in
+    let old = c.args.self.now in
+    let new : CaptureReader g.row.R.Denot = record { feed = c.next_record.new.feed; format = old.format; position = old.position; refusal = old.refusal } in
+    let found = rw c.in-Ok-Some.field-0-is at c.in-Ok-Some.ensures.found in
+    let far : IsFar new = omega (arith, c.in_default.ensures, found.2) in
+    record {
+      goes = λ before taken frames s. StopsAt-far S.given S.at_end before taken frames old new c.args.header c.requires c.next_record.ensures.keeps refl far s;
+      moves = record {
+        went = c.next_record.ensures.went;
+        failed = λ bad. inr far;
+        marks = λ calm. cc calm;
+      };
+      over = λ h. cc h;
+      stays_over = λ o. cc (c.in-Ok-Some.ensures.over o.all o.ended);
       ready = λ holds. ap (λ (f : Feed g.row.R.Denot). f.source) (c.next_record.ensures.ready (subst (λ (f : Format). HoldsPacket f (held old.feed)) c.requires holds));
     }
 

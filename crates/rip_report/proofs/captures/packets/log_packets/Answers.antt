@@ -3,9 +3,10 @@ use Rattle.std.proofs.lemmas.List.{length-map}
 use Rattle.rip_log.proofs.WholeLemmas.{went_nowhere, went_on}
 use Rattle.rip_capture.specs.NextCall.{Stands, TakesPacket, frame_of, place_of, position_of, source_of}
 use Rattle.rip_capture.specs.Pcap.{Frame}
+use Rattle.rip_capture.specs.declared.error.CaptureCode.TheVariants.{Read}
 use Rattle.rip_report.specs.CapturePackets.{ended_at}
 use Rattle.rip_report.specs.CaptureText.{Carrier, IsCarrier, carries_password, counted}
-use Rattle.rip_report.proofs.CaptureLemmas.{adds-packet, all-snoc, counts-snoc, ends-at, ends-by, far, frames-snoc, has-room, line_count-snoc, never-unread, read-is_unread, unread-is_read}
+use Rattle.rip_report.proofs.CaptureLemmas.{adds-packet, all-snoc, counts-snoc, ends-at, ends-by, far, stops-far, frames-snoc, has-room, line_count-snoc, never-unread, read-is_unread, unread-is_read}
 use Rattle.rip_report.proofs.ListingLemmas.{adds_none}
 use Rattle.rip_report.proofs.captures.packets.log_packets.Goals as goal
 
@@ -158,13 +159,15 @@ returns g c =
     let inv = c.packets.invariant in
     let frames = map (λ (c : Carrier). c.frame) inv.carriers in
     let many : c.packets.tally.counts.packets ≡ length inv.carriers = ap (λ n. n.packets) inv.counts in
+    let read = c.read_captures.ensures c.packets.reader.format inv.taken frames inv.stands.read in
+    let is_far = far c.packets.reader inv.taken frames c.long_captures.ensures inv.stands.position read (omega (arith, many, length-map inv.carriers (λ (c : Carrier). c.frame), c.packets-test.false)) in
     record {
       carriers = inv.carriers;
       carry = inv.carry;
       few = omega (arith, inv.lines, inv.few);
       adds = inv.adds;
-      ends = (inv.taken, inv.stands);
+      ends = (record { code = Read; at = position_of c.packets.reader }, stops-far S.given S.at_end (S.given (source_of c.args.reader.now)) inv.taken frames c.packets.reader inv.stands read is_far, refl);
       went = inv.went;
-      unread = λ e. inr (far c.packets.reader inv.taken frames c.long_captures.ensures inv.stands.position inv.stands.read (omega (arith, many, length-map inv.carriers (λ (c : Carrier). c.frame), c.packets-test.false)));
+      unread = λ e. inr is_far;
       marks = λ e. absurd (e refl);
     }
