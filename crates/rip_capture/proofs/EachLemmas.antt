@@ -1,67 +1,29 @@
 -- Each file is a capture or has a fault.
-use Rattle.std.proofs.Common.{◌≡◌, ◌≢◌, ◌+◌, ◌<◌, ◌≤◌, ◌⊎◌, ◌∙◌, ℕ, zero, suc, List, [], ◌∷◌, ◌++◌, Option, Some, None, length, take, drop, ap, sym, refl, inl, inr, subst, arith, append_assoc, append-nil}
-use Rattle.std.proofs.lemmas.Bool.{cases_eq, cases_lt}
+use Rattle.std.proofs.Common.{◌≡◌, ◌≢◌, ◌+◌, ◌<◌, ◌≤◌, ◌⊎◌, ◌∙◌, ℕ, zero, suc, true, false, List, [], ◌∷◌, ◌++◌, Option, Some, None, length, take, drop, ap, sym, refl, inl, inr, subst, arith, append_assoc, append-nil}
+use Rattle.std.proofs.lemmas.Bool.{cases_eq, cases_lt, false≢true}
 use Rattle.std.proofs.lemmas.List.{length-drop, nil_from_length, take-append-drop}
 use Rattle.rip_wire.specs.Fields.{number_at}
 use Rattle.rip_capture.specs.Captures.{CaptureFault, FrontFault, HasMagic, IsCapture}
-use Rattle.rip_capture.specs.Captures.CaptureFault.{front as at_front, pcap as in_pcap}
+use Rattle.rip_capture.specs.Captures.CaptureFault.{front as at_front, pcap as in_pcap, pcapng as in_pcapng}
 use Rattle.rip_capture.specs.Captures.FrontFault.{short as too_short, magic as no_kind, pcap as pcap_front}
-use Rattle.rip_capture.specs.Captures.HasMagic.{pcap as pcap_kind}
-use Rattle.rip_capture.specs.Captures.IsCapture.{pcap as pcap_capture}
-use Rattle.rip_capture.specs.LinkTypes.{IsNoType, number_of}
+use Rattle.rip_capture.specs.Captures.HasMagic.{pcap as pcap_kind, pcapng as pcapng_kind}
+use Rattle.rip_capture.specs.Captures.IsCapture.{pcap as pcap_capture, pcapng as pcapng_capture}
 use Rattle.rip_capture.specs.Numbers.{short_in}
 use Rattle.rip_capture.specs.Pcap.{AreRecords, Frame, IsMagic, IsPcap, IsPcapHeader, IsRecord, IsVersion, RecordFault, captured_len, link_number}
 use Rattle.rip_capture.specs.Pcap.HeaderFault.{cut as cut_header, version as bad_version, link_type as bad_type}
 use Rattle.rip_capture.specs.Pcap.RecordFault.{header as short_record, long as long_record, packet as cut_record}
+use Rattle.rip_capture.specs.Pcapng.{AreBlocks, Section, begins_section}
+use Rattle.rip_capture.proofs.EachBlockLemmas.{last-section, true-or-false, walk-blocks}
+use Rattle.rip_capture.proofs.LinkLemmas.{type-cases}
+use Rattle.rip_capture.proofs.PcapngLemmas.{StopsAtBlock}
 use Rattle.rip_capture.proofs.PcapLemmas.{header-front, record-of}
 use Rattle.rip_capture.specs.declared.error.CaptureCode.{CaptureCode}
 use Rattle.rip_capture.specs.declared.error.CaptureCode.TheVariants as codes
 use Rattle.rip_capture.specs.declared.link.LinkType.{LinkType}
-use Rattle.rip_capture.specs.declared.link.LinkType.TheVariants.{Null, Ethernet, Raw, Loop, LinuxSll, Ipv4, LinuxSll2}
 use Rattle.rip_capture.specs.declared.numbers.Order.{Order}
 use Rattle.rip_capture.specs.declared.numbers.Order.TheVariants.{Big, Little}
 
--- ---- a link type, a version, a beginning, or none
-
-pub no_type : (n : ℕ) → 0 ≢ n → 1 ≢ n → 101 ≢ n → 108 ≢ n → 113 ≢ n → 228 ≢ n → 276 ≢ n → IsNoType n
-no_type n a b c d e f g Null is = a is
-no_type n a b c d e f g Ethernet is = b is
-no_type n a b c d e f g Raw is = c is
-no_type n a b c d e f g Loop is = d is
-no_type n a b c d e f g LinuxSll is = e is
-no_type n a b c d e f g Ipv4 is = f is
-no_type n a b c d e f g LinuxSll2 is = g is
-
-abbrev HasType : ℕ → Type 0
-HasType n = (t : LinkType) × (number_of t ≡ n)
-
-type-cases : (n : ℕ) → HasType n ⊎ IsNoType n
-type-cases n =
-    elim (cases_eq 0 n) [
-      | inl is ↦ inl (Null, is)
-      | inr a ↦
-          elim (cases_eq 1 n) [
-            | inl is ↦ inl (Ethernet, is)
-            | inr b ↦
-                elim (cases_eq 101 n) [
-                  | inl is ↦ inl (Raw, is)
-                  | inr c ↦
-                      elim (cases_eq 108 n) [
-                        | inl is ↦ inl (Loop, is)
-                        | inr d ↦
-                            elim (cases_eq 113 n) [
-                              | inl is ↦ inl (LinuxSll, is)
-                              | inr e ↦
-                                  elim (cases_eq 228 n) [
-                                    | inl is ↦ inl (Ipv4, is)
-                                    | inr f ↦
-                                        elim (cases_eq 276 n) [ inl is ↦ inl (LinuxSll2, is) | inr g ↦ inr (no_type n a b c d e f g) ]
-                                  ]
-                            ]
-                      ]
-                ]
-          ]
-    ]
+-- ---- a version, a beginning, or none
 
 version-cases : (o : Order) (b : List ℕ) → IsVersion o b ⊎ ¬ IsVersion o b
 version-cases o b =
@@ -71,17 +33,18 @@ version-cases o b =
           elim (cases_eq (short_in o 6 b) 4) [ inr none ↦ inr (λ v. none v.minor) | inl minor ↦ inl (record { major = major; minor = minor }) ]
     ]
 
-no_magic : (b : List ℕ) → number_at 4 0 b ≢ 0xA1B2C3D4 → number_at 4 0 b ≢ 0xA1B23C4D → number_at 4 0 b ≢ 0xD4C3B2A1 → number_at 4 0 b ≢ 0x4D3CB2A1 → HasMagic b → ⊥
-no_magic b a c d e (pcap_kind Big (inl is)) = a is
-no_magic b a c d e (pcap_kind Big (inr is)) = c is
-no_magic b a c d e (pcap_kind Little (inl is)) = d is
-no_magic b a c d e (pcap_kind Little (inr is)) = e is
+no_magic : (b : List ℕ) → number_at 4 0 b ≢ 0xA1B2C3D4 → number_at 4 0 b ≢ 0xA1B23C4D → number_at 4 0 b ≢ 0xD4C3B2A1 → number_at 4 0 b ≢ 0x4D3CB2A1 → begins_section b ≡ false → HasMagic b → ⊥
+no_magic b a c d e f (pcap_kind Big (inl is)) = a is
+no_magic b a c d e f (pcap_kind Big (inr is)) = c is
+no_magic b a c d e f (pcap_kind Little (inl is)) = d is
+no_magic b a c d e f (pcap_kind Little (inr is)) = e is
+no_magic b a c d e f (pcapng_kind is) = false≢true (sym f ∙ is)
 
 abbrev HasOrder : List ℕ → Type 0
 HasOrder b = (o : Order) × IsMagic o b
 
-magic-cases : (b : List ℕ) → HasOrder b ⊎ ¬ HasMagic b
-magic-cases b =
+magic-cases : (b : List ℕ) → begins_section b ≡ false → HasOrder b ⊎ ¬ HasMagic b
+magic-cases b other =
     elim (cases_eq (number_at 4 0 b) 0xA1B2C3D4) [
       | inl is ↦ inl (Big, inl is)
       | inr a ↦
@@ -91,7 +54,7 @@ magic-cases b =
                 elim (cases_eq (number_at 4 0 b) 0xD4C3B2A1) [
                   | inl is ↦ inl (Little, inl is)
                   | inr d ↦
-                      elim (cases_eq (number_at 4 0 b) 0x4D3CB2A1) [ inl is ↦ inl (Little, inr is) | inr e ↦ inr (no_magic b a c d e) ]
+                      elim (cases_eq (number_at 4 0 b) 0x4D3CB2A1) [ inl is ↦ inl (Little, inr is) | inr e ↦ inr (no_magic b a c d e other) ]
                 ]
           ]
     ]
@@ -196,14 +159,33 @@ behind-magic o b begun magic =
           ]
     ]
 
+-- behind the front of a section
+blocks-end : (b : List ℕ) (frames : List Frame) (right rest : List ℕ) (last : Option Section) (ends : Option CaptureCode) → 4 ≤ length b → begins_section b ≡ true → AreBlocks None right frames last → StopsAtBlock last rest ends → b ≡ right ++ rest → HasFrames b ⊎ HasFault b
+blocks-end b frames right rest last (Some code) room begins are stops whole =
+    inr (record { frames = frames; code = code; at = length right; is = in_pcapng last right rest room begins whole are refl stops })
+blocks-end b frames right rest last None room begins are stops whole =
+    let all : b ≡ right = whole ∙ ap (λ (l : List ℕ). right ++ l) stops ∙ append-nil right in
+    by (last-section None last right frames are) all where
+      by : ((right ≡ []) × (last ≡ None)) ⊎ ((now : Section) × (last ≡ Some now)) → b ≡ right → HasFrames b ⊎ HasFault b
+      by (inl none) all = absurd (omega (arith, room, ap length all, ap length none.0))
+      by (inr has) all = inl (frames, pcapng_capture has.0 (subst (λ (l : Option Section). AreBlocks None b frames l) has.1 (subst (λ (l : List ℕ). AreBlocks None l frames last) (sym all) are)))
+
+behind-section : (b : List ℕ) → 4 ≤ length b → begins_section b ≡ true → HasFrames b ⊎ HasFault b
+behind-section b room begins =
+    let w = walk-blocks (suc (length b)) None b (λ e. begins) (omega arith) in
+    blocks-end b w.frames w.blocks w.rest w.last w.ends room begins w.are w.stops w.whole
+
 pub each : (b : List ℕ) → HasFrames b ⊎ HasFault b
 each b =
     elim (cases_lt (length b) 4) [
       | inl less ↦ inr (front-faulty b codes.Cut (too_short less refl))
       | inr begun ↦
-          elim (magic-cases b) [
-            | inr none ↦ inr (front-faulty b codes.Magic (no_kind begun none refl))
-            | inl has ↦
-                behind-magic has.0 b begun has.1
+          elim (true-or-false (begins_section b)) [
+            | inl begins ↦ behind-section b (omega (arith, begun)) begins
+            | inr other ↦
+                elim (magic-cases b other) [
+                  | inr none ↦ inr (front-faulty b codes.Magic (no_kind begun none refl))
+                  | inl has ↦ behind-magic has.0 b begun has.1
+                ]
           ]
     ]

@@ -1,38 +1,29 @@
 -- A file is one capture, or has one fault.
-use Rattle.std.proofs.Common.{◌≡◌, ◌≢◌, ◌+◌, ◌*◌, ◌%◌, ◌^◌, ◌<◌, ◌≤◌, ◌∙◌, ℕ, cond, eqb, List, [], ◌∷◌, ◌++◌, Option, Some, None, length, take, drop, ap, sym, refl, inl, inr, subst, arith, append_assoc, append-nil}
-use Rattle.std.proofs.lemmas.List.{drop_at, length-append, length-drop, take_at}
+use Rattle.std.proofs.Common.{◌≡◌, ◌≢◌, ◌+◌, ◌*◌, ◌%◌, ◌^◌, ◌<◌, ◌≤◌, ◌∙◌, ℕ, true, List, [], ◌∷◌, ◌++◌, Option, Some, None, length, drop, ap, sym, refl, inl, inr, subst, arith, append_assoc, append-nil}
+use Rattle.std.proofs.lemmas.Bool.{eqb-true}
+use Rattle.std.proofs.lemmas.List.{length-append, length-drop}
 use Rattle.rip_wire.specs.Fields.{number_at}
 use Rattle.rip_capture.specs.Captures.{CaptureFault, FrontFault, HasMagic, HasNoMore, IsCapture}
-use Rattle.rip_capture.specs.Captures.CaptureFault.{front as at_front, pcap as in_pcap}
+use Rattle.rip_capture.specs.Captures.CaptureFault.{front as at_front, pcap as in_pcap, pcapng as in_pcapng}
 use Rattle.rip_capture.specs.Captures.FrontFault.{short as too_short, magic as no_kind, pcap as pcap_front}
-use Rattle.rip_capture.specs.Captures.HasMagic.{pcap as pcap_kind}
-use Rattle.rip_capture.specs.Captures.IsCapture.{pcap as pcap_capture}
+use Rattle.rip_capture.specs.Captures.HasMagic.{pcap as pcap_kind, pcapng as pcapng_kind}
+use Rattle.rip_capture.specs.Captures.IsCapture.{pcap as pcap_capture, pcapng as pcapng_capture}
 use Rattle.rip_capture.specs.Feeds.{Extends}
-use Rattle.rip_capture.specs.LinkTypes.{number_of}
 use Rattle.rip_capture.specs.Pcap.{AreRecords, Frame, HeaderFault, HoldsRecord, IsMagic, IsMagicNumber, IsPcap, IsPcapHeader, IsRecord, RecordFault, captured_len, link_number}
 use Rattle.rip_capture.specs.Pcap.HeaderFault.{cut as cut_header, version as bad_version, link_type as bad_type}
 use Rattle.rip_capture.specs.Pcap.RecordFault.{header as short_record, long as long_record, packet as cut_record}
+use Rattle.rip_capture.specs.Pcapng.{AreBlocks, Section, begins_section, order_of}
+use Rattle.rip_capture.proofs.BlockLemmas.{section-stays}
+use Rattle.rip_capture.proofs.LinkLemmas.{one_type}
+use Rattle.rip_capture.proofs.PcapngLemmas.{NoBlock, block-fault-on, blocks-long, blocks-most, blocks-one, blocks-start, front-of, parts}
 use Rattle.rip_capture.proofs.NumberLemmas.{magic-front, magic-stays, number-stays, version-front, version-stays}
 use Rattle.rip_capture.specs.declared.error.CaptureCode.{CaptureCode}
 use Rattle.rip_capture.specs.declared.error.CaptureCode.TheVariants as codes
 use Rattle.rip_capture.specs.declared.link.LinkType.{LinkType}
-use Rattle.rip_capture.specs.declared.link.LinkType.TheVariants.{Null, Ethernet, Raw, Loop, LinuxSll, Ipv4, LinuxSll2}
 use Rattle.rip_capture.specs.declared.numbers.Order.{Order}
 use Rattle.rip_capture.specs.declared.numbers.Order.TheVariants.{Big, Little}
 
--- ---- parts of lists
-
--- two lists with fronts of one length
-parts : (a b c d : List ℕ) → length a ≡ length c → a ++ b ≡ c ++ d → (a ≡ c) × (b ≡ d)
-parts a b c d size e = (
-  sym (take_at a b (length a) refl) ∙ ap (take (length a)) e ∙ take_at c d (length a) (sym size),
-  sym (drop_at a b (length a) refl) ∙ ap (drop (length a)) e ∙ drop_at c d (length a) (sym size),
-)
-
-front-of : (xs rest : List ℕ) → Extends xs (xs ++ rest)
-front-of xs rest = record { more = rest; whole = refl }
-
--- ---- one byte order, one link type
+-- ---- one byte order
 
 no_order : (n : ℕ) → IsMagicNumber Big n → IsMagicNumber Little n → ⊥
 no_order n (inl a) (inl b) = omega arith
@@ -45,31 +36,6 @@ one_order Big Big n a b = refl
 one_order Big Little n a b = absurd (no_order n a b)
 one_order Little Big n a b = absurd (no_order n b a)
 one_order Little Little n a b = refl
-
-type_of : ℕ → Option LinkType
-type_of n =
-    cond (eqb n 0) (Some Null)
-    (cond (eqb n 1) (Some Ethernet)
-    (cond (eqb n 101) (Some Raw)
-    (cond (eqb n 108) (Some Loop)
-    (cond (eqb n 113) (Some LinuxSll)
-    (cond (eqb n 228) (Some Ipv4)
-    (cond (eqb n 276) (Some LinuxSll2) None))))))
-
-type_of-number : (t : LinkType) → type_of (number_of t) ≡ Some t
-unfolding type_of
-type_of-number Null = refl
-type_of-number Ethernet = refl
-type_of-number Raw = refl
-type_of-number Loop = refl
-type_of-number LinuxSll = refl
-type_of-number Ipv4 = refl
-type_of-number LinuxSll2 = refl
-
-one_type : (t u : LinkType) → number_of t ≡ number_of u → t ≡ u
-one_type t u e =
-    let same : Some t ≡ Some u = sym (type_of-number t) ∙ ap type_of e ∙ type_of-number u in
-    cc same
 
 -- ---- one fault of a header, and of a record
 
@@ -225,21 +191,50 @@ pcap-most o p t u a b fs gs rest last h none k e =
 header-size : (b : List ℕ) (o : Order) (t : LinkType) (fs : List Frame) → IsPcap b o t fs → 24 ≤ length b
 header-size b o t fs h = omega (arith, ap length h.whole, length-append h.header h.records, h.is_header.size)
 
--- behind records of which no whole one follows, and in front of a header, there are no more packets
-pub record-most : (o : Order) (t : LinkType) (taken rest : List ℕ) (frames : List Frame) → IsPcap taken o t frames → ¬ HoldsRecord o rest → HasNoMore (taken ++ rest) frames
-record-most o t taken rest frames h none front last others e (pcap_capture p u k) = pcap-most o p t u taken front frames others rest last h none k e
-
-pub front-most : (b : List ℕ) (frames : List Frame) → length b < 24 → HasNoMore b frames
-front-most b frames less front rest others e (pcap_capture p u k) =
-    absurd (omega (arith, less, ap length e, length-append front rest, header-size front p u others k))
-
--- a front that is right has no fault
- 
 header-on : (b : List ℕ) (o : Order) (t : LinkType) (fs : List Frame) (rest : List ℕ) (h : IsPcap b o t fs) → Extends h.header (b ++ rest)
 header-on b o t fs rest h = record {
   more = h.records ++ rest;
   whole = ap (λ (l : List ℕ). l ++ rest) h.whole ∙ append_assoc h.header h.records rest;
 }
+
+-- a pcap file begins with its magic, a pcapng file with a section, and none with both
+pcap-begins : (b rest : List ℕ) (o : Order) (t : LinkType) (fs : List Frame) → IsPcap b o t fs → IsMagic o (b ++ rest)
+pcap-begins b rest o t fs h = magic-stays o h.header (b ++ rest) (omega (arith, h.is_header.size)) (header-on b o t fs rest h) h.is_header.magic
+
+section-begins : (b rest : List ℕ) (fs : List Frame) (now : Section) → AreBlocks None b fs (Some now) → begins_section (b ++ rest) ≡ true
+section-begins b rest fs now are =
+    let starts = blocks-start b fs now are in
+    section-stays b (b ++ rest) (omega (arith, starts.long)) (front-of b rest) ∙ starts.begins
+
+no-number : (o : Order) (n : ℕ) → IsMagicNumber o n → n ≡ 0x0A0D0D0A → ⊥
+no-number Big n (inl a) e = omega (arith, a, e)
+no-number Big n (inr a) e = omega (arith, a, e)
+no-number Little n (inl a) e = omega (arith, a, e)
+no-number Little n (inr a) e = omega (arith, a, e)
+
+no-both : (o : Order) (b : List ℕ) → IsMagic o b → begins_section b ≡ true → ⊥
+no-both o b magic begins = no-number o (number_at 4 0 b) magic (eqb-true (number_at 4 0 b) 0x0A0D0D0A begins)
+
+-- behind records of which no whole one follows, and in front of a header, there are no more packets
+pub record-most : (o : Order) (t : LinkType) (taken rest : List ℕ) (frames : List Frame) → IsPcap taken o t frames → ¬ HoldsRecord o rest → HasNoMore (taken ++ rest) frames
+record-most o t taken rest frames h none front last others e (pcap_capture p u k) = pcap-most o p t u taken front frames others rest last h none k e
+record-most o t taken rest frames h none front last others e (pcapng_capture now k) =
+    absurd (no-both o (taken ++ rest) (pcap-begins taken rest o t frames h) (subst (λ (l : List ℕ). begins_section l ≡ true) (sym e) (section-begins front last others now k)))
+
+pub front-most : (b : List ℕ) (frames : List Frame) → length b < 24 → HasNoMore b frames
+front-most b frames less front rest others e (pcap_capture p u k) =
+    absurd (omega (arith, less, ap length e, length-append front rest, header-size front p u others k))
+front-most b frames less front rest others e (pcapng_capture now k) =
+    absurd (omega (arith, less, ap length e, length-append front rest, (blocks-start front others now k).long))
+
+-- behind blocks of which no whole one follows, there are no more packets
+pub block-most : (s : Option Section) (taken rest : List ℕ) (frames : List Frame) → 4 ≤ length (taken ++ rest) → begins_section (taken ++ rest) ≡ true → AreBlocks None taken frames s → NoBlock (order_of s) rest → HasNoMore (taken ++ rest) frames
+block-most s taken rest frames room begins are none front last others e (pcap_capture p u k) =
+    absurd (no-both p (taken ++ rest) (subst (IsMagic p) (sym e) (pcap-begins front last p u others k)) begins)
+block-most s taken rest frames room begins are none front last others e (pcapng_capture now k) =
+    blocks-most None s (Some now) frames others taken front rest last are none k e
+
+-- a front that is right has no fault
 
 no_header_fault : (b : List ℕ) (o : Order) (t : LinkType) (fs : List Frame) (rest : List ℕ) (code : CaptureCode) → IsPcap b o t fs → HeaderFault o (b ++ rest) code → ⊥
 no_header_fault b o t fs rest code h (cut_header less e) = omega (arith, length-append b rest, header-size b o t fs h)
@@ -274,12 +269,38 @@ FrontFault-one b c d (pcap_front p room magic f) (pcap_front q room' magic' g) =
 pub captures-one : (b : List ℕ) (fs gs : List Frame) → IsCapture b fs → IsCapture b gs → fs ≡ gs
 captures-one b fs gs (pcap_capture o t h) (pcap_capture p u k) =
     (pcap-one o p t u b b fs gs [] [] None None h refl k refl refl).frames
+captures-one b fs gs (pcap_capture o t h) (pcapng_capture now k) =
+    absurd (no-both o (b ++ []) (pcap-begins b [] o t fs h) (section-begins b [] gs now k))
+captures-one b fs gs (pcapng_capture now h) (pcap_capture p u k) =
+    absurd (no-both p (b ++ []) (pcap-begins b [] p u gs k) (section-begins b [] fs now h))
+captures-one b fs gs (pcapng_capture now h) (pcapng_capture now' k) =
+    (blocks-one None (Some now) (Some now') fs gs b b [] [] None None h refl k refl refl).frames
+
+magic-whole : (b : List ℕ) (o : Order) (t : LinkType) (fs : List Frame) → IsPcap b o t fs → IsMagic o b
+magic-whole b o t fs h = subst (IsMagic o) (append-nil b) (pcap-begins b [] o t fs h)
+
+section-whole : (b : List ℕ) (fs : List Frame) (now : Section) → AreBlocks None b fs (Some now) → begins_section b ≡ true
+section-whole b fs now h = (blocks-start b fs now h).begins
+
+no-section-fault : (b : List ℕ) (code : CaptureCode) → 4 ≤ length b → begins_section b ≡ true → FrontFault b code → ⊥
+no-section-fault b code room begins (too_short less e) = omega (arith, room, less)
+no-section-fault b code room begins (no_kind more none e) = none (pcapng_kind begins)
+no-section-fault b code room begins (pcap_front p more magic f) = no-both p b magic begins
 
 pub capture-right : (b : List ℕ) (fs gs : List Frame) (code : CaptureCode) (at : ℕ) → IsCapture b fs → CaptureFault b gs code at → ⊥
 capture-right b fs gs code at (pcap_capture o t h) (at_front none start f) =
     no_front_fault b o t fs [] code h (subst (λ (l : List ℕ). FrontFault l code) (sym (append-nil b)) f)
 capture-right b fs gs code at (pcap_capture o t h) (in_pcap p u right rest whole k place f) =
     cc ((pcap-one o p t u b right fs gs [] rest None (Some code) h refl k f (append-nil b ∙ whole)).ends)
+capture-right b fs gs code at (pcap_capture o t h) (in_pcapng s right rest room begins whole k place f) =
+    no-both o b (magic-whole b o t fs h) begins
+capture-right b fs gs code at (pcapng_capture now h) (at_front none start f) =
+    let starts = blocks-start b fs now h in
+    no-section-fault b code (omega (arith, starts.long)) starts.begins f
+capture-right b fs gs code at (pcapng_capture now h) (in_pcap p u right rest whole k place f) =
+    no-both p b (subst (IsMagic p) (sym whole) (pcap-begins right rest p u gs k)) (section-whole b fs now h)
+capture-right b fs gs code at (pcapng_capture now h) (in_pcapng s right rest room begins whole k place f) =
+    cc ((blocks-one None (Some now) s fs gs b right [] rest None (Some code) h refl k f (append-nil b ∙ whole)).ends)
 
 same_code : (c d : CaptureCode) → Some c ≡ Some d → c ≡ d
 same_code c d e = cc e
@@ -289,10 +310,21 @@ faults-one b fs gs c d at there (at_front none start f) (at_front none' start' g
     (none ∙ sym none', FrontFault-one b c d f g, start ∙ sym start')
 faults-one b fs gs c d at there (at_front none start f) (in_pcap p u right rest whole k place g) =
     absurd (no_front_fault right p u gs rest c k (subst (λ (l : List ℕ). FrontFault l c) whole f))
+faults-one b fs gs c d at there (at_front none start f) (in_pcapng s right rest room begins whole k place g) =
+    absurd (no-section-fault b c room begins f)
 faults-one b fs gs c d at there (in_pcap o t right rest whole h place f) (at_front none start g) =
     absurd (no_front_fault right o t fs rest d h (subst (λ (l : List ℕ). FrontFault l d) whole g))
 faults-one b fs gs c d at there (in_pcap o t right rest whole h place f) (in_pcap p u right' rest' whole' k place' g) =
     let one = pcap-one o p t u right right' fs gs rest rest' (Some c) (Some d) h f k g (sym whole ∙ whole') in
+    (one.frames, same_code c d one.ends, place ∙ one.size ∙ sym place')
+faults-one b fs gs c d at there (in_pcap o t right rest whole h place f) (in_pcapng s right' rest' room begins whole' k place' g) =
+    absurd (no-both o b (subst (IsMagic o) (sym whole) (pcap-begins right rest o t fs h)) begins)
+faults-one b fs gs c d at there (in_pcapng s right rest room begins whole h place f) (at_front none start g) =
+    absurd (no-section-fault b d room begins g)
+faults-one b fs gs c d at there (in_pcapng s right rest room begins whole h place f) (in_pcap p u right' rest' whole' k place' g) =
+    absurd (no-both p b (subst (IsMagic p) (sym whole') (pcap-begins right' rest' p u gs k)) begins)
+faults-one b fs gs c d at there (in_pcapng s right rest room begins whole h place f) (in_pcapng s' right' rest' room' begins' whole' k place' g) =
+    let one = blocks-one None s s' fs gs right right' rest rest' (Some c) (Some d) h f k g (sym whole ∙ whole') in
     (one.frames, same_code c d one.ends, place ∙ one.size ∙ sym place')
 
 -- ---- what follows a fault
@@ -307,6 +339,7 @@ header-fault-on o b more code uncut (bad_type room v none e) =
 
 magic-back : (b more : List ℕ) → 4 ≤ length b → HasMagic (b ++ more) → HasMagic b
 magic-back b more room (pcap_kind o m) = pcap_kind o (magic-front o b (b ++ more) room (front-of b more) m)
+magic-back b more room (pcapng_kind begins) = pcapng_kind (sym (section-stays b (b ++ more) room (front-of b more)) ∙ begins)
 
 front-fault-on : (b more : List ℕ) (code : CaptureCode) → code ≢ codes.Cut → FrontFault b code → FrontFault (b ++ more) code
 front-fault-on b more code uncut (too_short less e) = absurd (uncut e)
@@ -325,6 +358,9 @@ pub fault-on : (b more : List ℕ) (fs : List Frame) (code : CaptureCode) (at : 
 fault-on b more fs code at uncut (at_front none start f) = at_front none start (front-fault-on b more code uncut f)
 fault-on b more fs code at uncut (in_pcap o t right rest whole h place f) =
     in_pcap o t right (rest ++ more) (ap (λ (l : List ℕ). l ++ more) whole ∙ append_assoc right rest more) h place (record-fault-on o rest more code uncut f)
+fault-on b more fs code at uncut (in_pcapng s right rest room begins whole h place f) =
+    in_pcapng s right (rest ++ more) (omega (arith, room, length-append b more)) (section-stays b (b ++ more) room (front-of b more) ∙ begins)
+    (ap (λ (l : List ℕ). l ++ more) whole ∙ append_assoc right rest more) h place (block-fault-on rest more code uncut s f)
 
 -- ---- a capture has a header in front of each packet
 
@@ -341,3 +377,4 @@ capture-long b fs (pcap_capture order t h) =
     let few = records-long order t h.records fs h.are_records in
     let size : length b ≡ length h.header + length h.records = ap length h.whole ∙ length-append h.header h.records in
     omega (arith, few, size)
+capture-long b fs (pcapng_capture now h) = blocks-long None (Some now) b fs h

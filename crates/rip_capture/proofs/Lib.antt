@@ -2,8 +2,14 @@ pub mod NumberLemmas
 pub mod FeedLemmas
 pub mod FrameLemmas
 pub mod CarriedLemmas
+pub mod LinkLemmas
 pub mod PcapLemmas
+pub mod PcapngLemmas
+pub mod StepLemmas
 pub mod ReaderLemmas
 pub mod FileLemmas
+pub mod EachBlockLemmas
 pub mod EachLemmas
+pub mod BlockLemmas
+pub mod BodyLemmas
 pub mod ByteLemmas

@@ -1,20 +1,23 @@
 -- Where a reader stands after a step.
-use Rattle.std.proofs.Common.{◌≡◌, ◌+◌, ◌⊎◌, ◌<◌, ◌∙◌, ℕ, Bool, true, false, List, [], ◌∷◌, ◌++◌, Result, Ok, Err, Option, Some, None, length, take, drop, ap, sym, refl, inl, inr, subst, arith, append_assoc}
+use Rattle.std.proofs.Common.{◌≡◌, ◌+◌, ◌⊎◌, ◌<◌, ◌∙◌, ℕ, Bool, true, false, is_some, List, [], ◌∷◌, ◌++◌, Result, Ok, Err, Option, Some, None, length, take, drop, ap, sym, refl, inl, inr, subst, arith, append_assoc, append-nil}
 use Rattle.std.proofs.lemmas.Bool.{false≢true}
 use Rattle.std.proofs.lemmas.List.{length-append, length-take}
 use Rattle.rip_capture.specs.Captures.{CaptureFault, FrontFault, HasNoMore, IsRead}
 use Rattle.rip_capture.specs.Captures.CaptureFault.{front as at_front, pcap as in_pcap}
-use Rattle.rip_capture.specs.Captures.IsCapture.{pcap as pcap_capture}
+use Rattle.rip_capture.specs.Captures.IsCapture.{pcap as pcap_capture, pcapng as pcapng_capture}
 use Rattle.rip_capture.specs.Captures.IsRead.{none as nothing_read, capture as capture_read}
 use Rattle.rip_capture.specs.Codes.{EndsFor, is_read}
-use Rattle.rip_capture.specs.Feeds.{Keeps, Takes, held}
-use Rattle.rip_capture.specs.Finds.{FindsHeader, FindsRecord}
+use Rattle.rip_capture.specs.Feeds.{Keeps, Skips, Takes, held}
+use Rattle.rip_capture.specs.Finds.{FindsHeader, FindsRecord, IsFound}
 use Rattle.rip_log.proofs.WholeLemmas.{went_on}
-use Rattle.rip_capture.specs.NextCall.{EndsHere, HasRead, HoldsPacket, IsFar, IsOver, Runs, Stands, StopsAt, TakesPacket, has_begun, held_by, source_of}
+use Rattle.rip_log.specs.Wholes.{Went}
+use Rattle.rip_capture.specs.NextCall.{EndsHere, HasRead, HoldsPacket, IsFar, IsOver, Runs, Stands, StopsAt, TakesPacket, held_by, section_by, source_of}
 use Rattle.rip_capture.specs.Pcap.{Frame, HoldsRecord, IsPcap, RecordFault}
-use Rattle.rip_capture.specs.Steps.{Begins, frame_at, place_at}
+use Rattle.rip_capture.specs.Pcapng.{Section}
+use Rattle.rip_capture.specs.Steps.{Begins, StandsAt, TakesBlock, frame_at, place_at}
 use Rattle.rip_capture.proofs.FileLemmas.{front-most, record-most}
 use Rattle.rip_capture.proofs.PcapLemmas.{IsPcap-none, IsPcap-snoc, record-of}
+use Rattle.rip_capture.specs.declared.blocks.Block.{Block}
 use Rattle.rip_capture.specs.declared.error.CaptureCode.{CaptureCode}
 use Rattle.rip_capture.specs.declared.error.CaptureCode.TheVariants.{Read}
 use Rattle.rip_capture.specs.declared.error.CaptureError.{CaptureError}
@@ -23,18 +26,20 @@ use Rattle.rip_capture.specs.declared.pcap.PcapHeader.{PcapHeader}
 use Rattle.rip_capture.specs.declared.reader.CaptureReader.{CaptureReader}
 use Rattle.rip_capture.specs.declared.reader.Found.{Found}
 use Rattle.rip_capture.specs.declared.reader.Format.{Format}
-use Rattle.rip_capture.specs.declared.reader.Format.TheVariants.{Unread, Pcap}
+use Rattle.rip_capture.specs.declared.reader.Step.TheVariants.{Packet}
+use Rattle.rip_capture.specs.declared.reader.Format.TheVariants.{Pcap, Pcapng}
 
-pub read-capture : (f : Format) (taken : List ℕ) (frames : List Frame) → HasRead f taken frames → IsRead taken frames
-read-capture Unread taken frames h = nothing_read h.0 h.1
-read-capture (Pcap h) taken frames is = capture_read (pcap_capture h.order h.link_type is)
+pub read-capture : (f : Option Format) (now : Section) (taken : List ℕ) (frames : List Frame) → HasRead f now taken frames → IsRead taken frames
+read-capture None now taken frames h = nothing_read h.0 h.1
+read-capture (Some (Pcap h)) now taken frames is = capture_read (pcap_capture h.order h.link_type is)
+read-capture (Some Pcapng) now taken frames are = capture_read (pcapng_capture now are)
 
 -- where nothing was taken
-pub Stands-kept : {R : Type 0} (given : R → List ℕ) (before taken : List ℕ) (frames : List Frame) (old new : CaptureReader R) → Keeps given old.feed new.feed → new.position ≡ old.position → new.format ≡ old.format → Stands given before old taken frames → Stands given before new taken frames
-Stands-kept given before taken frames old new keeps position format s = record {
+pub Stands-kept : {R : Type 0} (given : R → List ℕ) (before taken : List ℕ) (frames : List Frame) (old new : CaptureReader R) → Keeps given old.feed new.feed → new.position ≡ old.position → new.format ≡ old.format → section_by new ≡ section_by old → Stands given before old taken frames → Stands given before new taken frames
+Stands-kept given before taken frames old new keeps position format section s = record {
   gave = keeps (before ++ taken) s.gave;
   position = position ∙ s.position;
-  read = subst (λ (f : Format). HasRead f taken frames) (sym format) s.read;
+  read = subst (λ (n : Section). HasRead new.format n taken frames) (sym section) (subst (λ (f : Option Format). HasRead f (section_by old) taken frames) (sym format) s.read);
 }
 
 -- some bytes more were taken
@@ -44,12 +49,12 @@ more-taken given before taken more old mid new keeps takes gave =
 
 -- the record of a packet
 pub TakesPacket-found : {R : Type 0} (given : R → List ℕ) (before taken : List ℕ) (frames : List Frame) (frame : Frame) (old new : CaptureReader R) (mid : Feed R) (h : PcapHeader) (n : ℕ) (at_end : Bool)
-    → old.format ≡ Pcap h → new.format ≡ Pcap h → Keeps given old.feed mid → FindsRecord h.order (held mid) at_end (Ok (Some n)) → Takes given mid new.feed (take (16 + n) (held mid))
+    → old.format ≡ Some (Pcap h) → new.format ≡ Some (Pcap h) → Keeps given old.feed mid → FindsRecord h.order (held mid) at_end (Ok (Some n)) → Takes given mid new.feed (take (16 + n) (held mid))
     → new.position ≡ old.position + (16 + n) → frame ≡ record { link_type = h.link_type; bytes = drop 16 (take (16 + n) (held mid)) }
     → Stands given before old taken frames → TakesPacket given before frames frame old.position new
 TakesPacket-found given before taken frames frame old new mid h n at_end was is keeps finds takes position frame_is s =
     let more = take (16 + n) (held mid) in
-    let right : IsPcap taken h.order h.link_type frames = subst (λ (f : Format). HasRead f taken frames) was s.read in
+    let right : IsPcap taken h.order h.link_type frames = subst (λ (f : Option Format). HasRead f (section_by old) taken frames) was s.read in
     let one = subst (λ (f : Frame). IsPcap (taken ++ more) h.order h.link_type (frames ++ f ∷ [])) (sym frame_is)
     (IsPcap-snoc h.order h.link_type taken more (record { link_type = h.link_type; bytes = drop 16 more }) frames right (record-of h.order h.link_type (held mid) n finds.0 finds.1 finds.2)) in
     record {
@@ -61,20 +66,20 @@ TakesPacket-found given before taken frames frame old new mid h n at_end was is 
       stands = record {
         gave = more-taken given before taken more old.feed mid new.feed keeps takes s.gave;
         position = omega (arith, position, s.position, length-append taken more, length-take (16 + n) (held mid), finds.0);
-        read = subst (λ (f : Format). HasRead f (taken ++ more) (frames ++ frame ∷ [])) (sym is) one;
+        read = subst (λ (f : Option Format). HasRead f (section_by new) (taken ++ more) (frames ++ frame ∷ [])) (sym is) one;
       };
     }
 
 -- the end of the file
 pub EndsHere-found : {R : Type 0} (given : R → List ℕ) (at_end : R → Bool) (before taken : List ℕ) (frames : List Frame) (old new : CaptureReader R) (h : PcapHeader)
-    → old.format ≡ Pcap h → Keeps given old.feed new.feed → new.position ≡ old.position → new.format ≡ old.format → FindsRecord h.order (held new.feed) (at_end new.feed.source) (Ok None)
+    → old.format ≡ Some (Pcap h) → Keeps given old.feed new.feed → new.position ≡ old.position → new.format ≡ old.format → section_by new ≡ section_by old → FindsRecord h.order (held new.feed) (at_end new.feed.source) (Ok None)
     → Stands given before old taken frames → EndsHere given at_end before frames new
-EndsHere-found given at_end before taken frames old new h was keeps position format finds s = record {
+EndsHere-found given at_end before taken frames old new h was keeps position format section finds s = record {
   file = taken;
-  right = pcap_capture h.order h.link_type (subst (λ (f : Format). HasRead f taken frames) was s.read);
+  right = pcap_capture h.order h.link_type (subst (λ (f : Option Format). HasRead f (section_by old) taken frames) was s.read);
   all = finds.0;
   ended = finds.1;
-  stands = Stands-kept given before taken frames old new keeps position format s;
+  stands = Stands-kept given before taken frames old new keeps position format section s;
 }
 
 -- a fault that is told of a record, of the whole file
@@ -95,10 +100,10 @@ fault-ends code at_end (inr f) cut = f.1 cut
 
 -- a fault of a record, or a failure there
 pub StopsAt-record : {R : Type 0} (given : R → List ℕ) (at_end : R → Bool) (before taken : List ℕ) (frames : List Frame) (old new : CaptureReader R) (h : PcapHeader) (code : CaptureCode)
-    → old.format ≡ Pcap h → Keeps given old.feed new.feed → new.position ≡ old.position → (code ≡ Read) ⊎ (RecordFault h.order (held new.feed) code × EndsFor code (at_end new.feed.source)) → (is_read code ≡ true → ¬ HoldsRecord h.order (held new.feed))
+    → old.format ≡ Some (Pcap h) → Keeps given old.feed new.feed → new.position ≡ old.position → (code ≡ Read) ⊎ (RecordFault h.order (held new.feed) code × EndsFor code (at_end new.feed.source)) → (is_read code ≡ true → ¬ HoldsRecord h.order (held new.feed))
     → Stands given before old taken frames → StopsAt given at_end before frames (record { code = code; at = old.position }) new
 StopsAt-record given at_end before taken frames old new h code was keeps position finds short s =
-    let right : IsPcap taken h.order h.link_type frames = subst (λ (f : Format). HasRead f taken frames) was s.read in
+    let right : IsPcap taken h.order h.link_type frames = subst (λ (f : Option Format). HasRead f (section_by old) taken frames) was s.read in
     record {
       front = taken;
       rest = held new.feed;
@@ -113,13 +118,13 @@ StopsAt-record given at_end before taken frames old new h code was keeps positio
 
 -- where the next record may end past the greatest offset
 pub StopsAt-far : {R : Type 0} (given : R → List ℕ) (at_end : R → Bool) (before taken : List ℕ) (frames : List Frame) (old new : CaptureReader R) (h : PcapHeader)
-    → old.format ≡ Pcap h → Keeps given old.feed new.feed → new.position ≡ old.position → IsFar new
+    → old.format ≡ Some (Pcap h) → Keeps given old.feed new.feed → new.position ≡ old.position → IsFar new
     → Stands given before old taken frames → StopsAt given at_end before frames (record { code = Read; at = old.position }) new
 StopsAt-far given at_end before taken frames old new h was keeps position far s = record {
   front = taken;
   rest = held new.feed;
   gave = keeps (before ++ taken) s.gave;
-  read = capture_read (pcap_capture h.order h.link_type (subst (λ (f : Format). HasRead f taken frames) was s.read));
+  read = capture_read (pcap_capture h.order h.link_type (subst (λ (f : Option Format). HasRead f (section_by old) taken frames) was s.read));
   place = s.position;
   position = position ∙ s.position;
   fault = λ calm. cc calm;
@@ -129,10 +134,10 @@ StopsAt-far given at_end before taken frames old new h was keeps position far s 
 
 -- a fault of the front, or a failure there
 pub StopsAt-front : {R : Type 0} (given : R → List ℕ) (at_end : R → Bool) (before taken : List ℕ) (frames : List Frame) (old new : CaptureReader R) (code : CaptureCode)
-    → old.format ≡ Unread → Keeps given old.feed new.feed → new.position ≡ old.position → FindsHeader (held new.feed) (at_end new.feed.source) (Err code) → (is_read code ≡ true → length (held new.feed) < 24)
+    → old.format ≡ None → Keeps given old.feed new.feed → new.position ≡ old.position → FindsHeader (held new.feed) (at_end new.feed.source) (Err code) → (is_read code ≡ true → length (held new.feed) < 24)
     → Stands given before old taken frames → StopsAt given at_end before frames (record { code = code; at = 0 }) new
 StopsAt-front given at_end before taken frames old new code was keeps position finds short s =
-    let none : HasRead Unread taken frames = subst (λ (f : Format). HasRead f taken frames) was s.read in
+    let none : HasRead None (section_by old) taken frames = subst (λ (f : Option Format). HasRead f (section_by old) taken frames) was s.read in
     record {
       front = taken;
       rest = held new.feed;
@@ -147,18 +152,18 @@ StopsAt-front given at_end before taken frames old new code was keeps position f
 
 -- the header
 pub Stands-begun : {R : Type 0} (given : R → List ℕ) (before taken : List ℕ) (frames : List Frame) (old new : CaptureReader R) (mid : Feed R) (h : PcapHeader) (at_end : Bool)
-    → old.format ≡ Unread → new.format ≡ Pcap h → Keeps given old.feed mid → FindsHeader (held mid) at_end (Ok h) → Takes given mid new.feed (take 24 (held mid)) → new.position ≡ 24
+    → old.format ≡ None → new.format ≡ Some (Pcap h) → Keeps given old.feed mid → FindsHeader (held mid) at_end (Ok h) → Takes given mid new.feed (take 24 (held mid)) → new.position ≡ 24
     → Stands given before old taken frames → Stands given before new (taken ++ take 24 (held mid)) frames
 Stands-begun given before taken frames old new mid h at_end was is keeps finds takes position s =
     let more = take 24 (held mid) in
-    let none : HasRead Unread taken frames = subst (λ (f : Format). HasRead f taken frames) was s.read in
+    let none : HasRead None (section_by old) taken frames = subst (λ (f : Option Format). HasRead f (section_by old) taken frames) was s.read in
     let alone : more ≡ taken ++ more = ap (λ (l : List ℕ). l ++ more) (sym none.0) in
     let header = IsPcap-none h.order h.link_type more finds.1 in
     let whole : IsPcap (taken ++ more) h.order h.link_type frames = subst (λ (l : List ℕ). IsPcap l h.order h.link_type frames) alone (subst (λ (l : List Frame). IsPcap more h.order h.link_type l) (sym none.1) header) in
     record {
       gave = more-taken given before taken more old.feed mid new.feed keeps takes s.gave;
       position = position ∙ sym finds.1.size ∙ ap length alone;
-      read = subst (λ (f : Format). HasRead f (taken ++ more) frames) (sym is) whole;
+      read = subst (λ (f : Option Format). HasRead f (section_by new) (taken ++ more) frames) (sym is) whole;
     }
 
 -- an error that is kept, to be answered again
@@ -183,16 +188,16 @@ Runs-refused {R = R} given coming broken at_end old mid new e is r =
       ready = r.ready;
     })
 
-begun-is : (f : Format) → has_begun f ≡ true → (h : PcapHeader) × (f ≡ Pcap h)
-begun-is Unread b = cc b
-begun-is (Pcap h) b = (h, refl)
+begun-is : (f : Option Format) → is_some f ≡ true → (h : Format) × (f ≡ Some h)
+begun-is None b = cc b
+begun-is (Some h) b = (h, refl)
 
-packet-begun : (f : Format) (b : List ℕ) → HoldsPacket f b → has_begun f ≡ true
-packet-begun Unread b holds = absurd holds
-packet-begun (Pcap h) b holds = refl
+packet-begun : (f : Option Format) (now : Section) (b : List ℕ) → HoldsPacket f now b → is_some f ≡ true
+packet-begun None now b holds = absurd holds
+packet-begun (Some f) now b holds = refl
 
 -- behind a header that was read now or before
-pub Runs-on : {R : Type 0} (given : R → List ℕ) (coming : R → Option (List ℕ)) (broken at_end : R → Bool) (old mid new : CaptureReader R) (h : PcapHeader) (result : Result (Option Found) CaptureError)
+pub Runs-on : {R : Type 0} (given : R → List ℕ) (coming : R → Option (List ℕ)) (broken at_end : R → Bool) (old mid new : CaptureReader R) (h : Format) (result : Result (Option Found) CaptureError)
     → Begins given coming broken at_end old mid (Ok h) → Runs given coming broken at_end (frame_at new) place_at mid new result → Runs given coming broken at_end (frame_at new) place_at old new result
 Runs-on {R = R} given coming broken at_end old mid new h result b r = record {
   goes = λ before taken frames s. let m = b.goes before taken frames s in r.goes before m.0 frames m.1;
@@ -204,9 +209,9 @@ Runs-on {R = R} given coming broken at_end old mid new h result b r = record {
   over = r.over;
   stays_over = λ o. let is = begun-is old.format o.begun in r.stays_over (subst (λ (n : CaptureReader R). IsOver at_end n) (sym (b.kept is.0 is.1).1) o);
   ready = λ holds.
-      let is = begun-is old.format (packet-begun old.format (held_by old) holds) in
+      let is = begun-is old.format (packet-begun old.format (section_by old) (held_by old) holds) in
       let same = (b.kept is.0 is.1).1 in
-      r.ready (subst (λ (n : CaptureReader R). HoldsPacket n.format (held_by n)) (sym same) holds) ∙ ap (λ (n : CaptureReader R). source_of n) same;
+      r.ready (subst (λ (n : CaptureReader R). HoldsPacket n.format (section_by n) (held_by n)) (sym same) holds) ∙ ap (λ (n : CaptureReader R). source_of n) same;
 }
 
 -- where it could not be read
@@ -217,5 +222,66 @@ Runs-stopped given coming broken at_end old new e b = record {
   moves = record { went = b.moves.went; failed = b.moves.failed; marks = b.moves.marks };
   over = λ h. cc h;
   stays_over = λ o. let is = begun-is old.format o.begun in cc (b.kept is.0 is.1).0;
-  ready = λ holds. let is = begun-is old.format (packet-begun old.format (held_by old) holds) in cc (b.kept is.0 is.1).0;
+  ready = λ holds. let is = begun-is old.format (packet-begun old.format (section_by old) (held_by old) holds) in cc (b.kept is.0 is.1).0;
+}
+
+-- where only the first bytes of the front were filled in
+pub Begins-behind : {R : Type 0} (given : R → List ℕ) (coming : R → Option (List ℕ)) (broken at_end : R → Bool) (old mid new : CaptureReader R) (result : Result Format CaptureError)
+    → old.format ≡ None → mid.format ≡ old.format → section_by mid ≡ section_by old → mid.position ≡ old.position → mid.refusal ≡ old.refusal → Keeps given old.feed mid.feed → Went given coming at_end (source_of old) (source_of mid) → broken (source_of mid) ≡ broken (source_of old)
+    → Begins given coming broken at_end mid new result → Begins given coming broken at_end old new result
+Begins-behind given coming broken at_end old mid new result was format section position refusal keeps went marks b = record {
+  goes = λ before taken frames s. b.goes before taken frames (Stands-kept given before taken frames old mid keeps position format section s);
+  moves = record {
+    went = went_on given coming at_end (source_of old) (source_of mid) (source_of new) went b.moves.went;
+    failed = b.moves.failed;
+    marks = λ calm. b.moves.marks calm ∙ marks;
+  };
+  format = b.format;
+  kept = λ f is. let wrong : None ≡ Some f = sym was ∙ is in absurd (cc wrong);
+  refusal = b.refusal ∙ refusal;
+}
+
+-- ---- blocks
+
+pub block-stands : {R : Type 0} (given : R → List ℕ) (before taken : List ℕ) (frames : List Frame) (old mid : CaptureReader R) (passed : List ℕ) (block : Block)
+    → old.format ≡ Some Pcapng → mid.position ≡ old.position → section_by mid ≡ section_by old → Skips given old.feed mid.feed passed → IsFound (Some (section_by old).order) passed (held_by mid) block
+    → Stands given before old taken frames → StandsAt given before mid taken passed frames (Some (section_by old)) block
+block-stands given before taken frames old mid passed block was position section skips found s = record {
+  gave = skips.takes (before ++ taken) s.gave ∙ append_assoc (before ++ taken) passed (held_by mid);
+  position = position ∙ s.position;
+  read = subst (λ (f : Option Format). HasRead f (section_by old) taken frames) was s.read;
+  stands = λ now e. let same : section_by old ≡ now = cc e in sym same ∙ sym section;
+  found = found;
+}
+
+pub block-ends : {R : Type 0} (given : R → List ℕ) (at_end : R → Bool) (before taken : List ℕ) (frames : List Frame) (old new : CaptureReader R) (passed : List ℕ)
+    → old.format ≡ Some Pcapng → new.position ≡ old.position → new.format ≡ old.format → section_by new ≡ section_by old → passed ≡ [] → held_by new ≡ [] → at_end (source_of new) ≡ true → Skips given old.feed new.feed passed
+    → Stands given before old taken frames → EndsHere given at_end before frames new
+block-ends given at_end before taken frames old new passed was position format section none all ended skips s =
+    let are : HasRead (Some Pcapng) (section_by old) taken frames = subst (λ (f : Option Format). HasRead f (section_by old) taken frames) was s.read in
+    record {
+      file = taken;
+      right = pcapng_capture (section_by old) are;
+      all = all;
+      ended = ended;
+      stands = record {
+        gave = skips.takes (before ++ taken) s.gave ∙ ap (λ (l : List ℕ). ((before ++ taken) ++ l) ++ held_by new) none ∙ ap (λ (l : List ℕ). l ++ held_by new) (append-nil (before ++ taken));
+        position = position ∙ s.position;
+        read = subst (λ (n : Section). HasRead new.format n taken frames) (sym section) (subst (λ (f : Option Format). HasRead f (section_by old) taken frames) (sym format) s.read);
+      };
+    }
+
+pub TakesPacket-block : {R : Type 0} (given : R → List ℕ) (before taken : List ℕ) (frames : List Frame) (mid new : CaptureReader R) (found : Found)
+    → mid.format ≡ Some Pcapng → new.format ≡ Some Pcapng → Stands given before mid taken frames → TakesBlock given before taken frames new (Packet found) → TakesPacket given before frames (frame_at new found) (place_at found) new
+TakesPacket-block given before taken frames mid new found was is s b = record {
+  front = taken;
+  bytes = b.more;
+  right = pcapng_capture (section_by mid) (subst (λ (f : Option Format). HasRead f (section_by mid) taken frames) was s.read);
+  place_is = b.brings;
+  longer = pcapng_capture (section_by new) b.read;
+  stands = record {
+    gave = b.gave;
+    position = b.position;
+    read = subst (λ (f : Option Format). HasRead f (section_by new) (taken ++ b.more) (frames ++ frame_at new found ∷ [])) (sym is) b.read;
+  };
 }

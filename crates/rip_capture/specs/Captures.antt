@@ -1,6 +1,7 @@
 -- What a capture file is, and the first fault of what is none.
-use Rattle.std.specs.Prelude.{◌≡◌, ◌<◌, ◌≤◌, ◌++◌, ℕ, List, [], length}
+use Rattle.std.specs.Prelude.{◌≡◌, ◌<◌, ◌≤◌, ◌++◌, ℕ, List, [], Option, Some, None, true, length}
 use Rattle.rip_capture.specs.Pcap.{Frame, HeaderFault, IsMagic, IsPcap, RecordFault}
+use Rattle.rip_capture.specs.Pcapng.{AreBlocks, BlockFault, Section, begins_section}
 use Rattle.rip_capture.specs.declared.error.CaptureCode.{CaptureCode}
 use Rattle.rip_capture.specs.declared.error.CaptureCode.TheVariants.{Cut, Magic}
 use Rattle.rip_capture.specs.declared.limits.TheConstants.{MAGIC_LEN}
@@ -10,10 +11,12 @@ use Rattle.rip_capture.specs.declared.numbers.Order.{Order}
 -- a file begins as one of a kind that is read
 pub data HasMagic (b : List ℕ) : Type 0 where
   pcap : (order : Order) → IsMagic order b → HasMagic b
+  pcapng : begins_section b ≡ true → HasMagic b
 
 -- these bytes are a capture, up to here, with these frames
 pub data IsCapture (b : List ℕ) (frames : List Frame) : Type 0 where
   pcap : (order : Order) (link_type : LinkType) → IsPcap b order link_type frames → IsCapture b frames
+  pcapng : (now : Section) → AreBlocks None b frames (Some now) → IsCapture b frames
 
 -- what was read of a file: a capture of these frames, or nothing yet
 pub data IsRead (b : List ℕ) (frames : List Frame) : Type 0 where
@@ -38,4 +41,7 @@ pub data CaptureFault (b : List ℕ) (frames : List Frame) (code : CaptureCode) 
   front : frames ≡ [] → at ≡ 0 → FrontFault b code → CaptureFault b frames code at
   pcap : (order : Order) (link_type : LinkType) (right rest : List ℕ) → b ≡ right ++ rest →
       IsPcap right order link_type frames → at ≡ length right → RecordFault order rest code →
+      CaptureFault b frames code at
+  pcapng : (s : Option Section) (right rest : List ℕ) → MAGIC_LEN ≤ length b → begins_section b ≡ true →
+      b ≡ right ++ rest → AreBlocks None right frames s → at ≡ length right → BlockFault s rest code →
       CaptureFault b frames code at

@@ -1,5 +1,6 @@
 -- Where a feed stands in what its source has given.
-use Rattle.std.specs.Prelude.{◌≡◌, ℕ, List, ◌++◌, slice_range}
+use Rattle.std.specs.Prelude.{◌≡◌, ◌<◌, ◌+◌, ℕ, Bool, true, List, ◌++◌, length, Result, Ok, slice_range}
+use Rattle.rip_log.specs.declared.device.Failed.{Failed}
 use Rattle.rip_capture.specs.declared.feed.Feed.{Feed}
 
 -- the bytes that were given and nobody has taken
@@ -23,3 +24,13 @@ Takes given old new bytes =
 pub record Extends (bytes longer : List ℕ) : Type 0 where
   pub more : List ℕ
   pub whole : longer ≡ bytes ++ more
+
+-- these bytes were passed over, of those that were held and of those behind them
+pub record Skips {R : Type 0} (given : R → List ℕ) (old new : Feed R) (bytes : List ℕ) : Type 0 where
+  pub takes : Takes given old new bytes
+  pub begins : Extends (held old) (bytes ++ held new)
+
+-- so many bytes were passed over, or fewer, where b are held and there were not as many
+abbrev pub SkipsSo : ℕ → List ℕ → List ℕ → Result Bool Failed → Type 0
+SkipsSo count bytes b (Ok true) = length bytes ≡ count
+SkipsSo count bytes b _ = length bytes + length b < count

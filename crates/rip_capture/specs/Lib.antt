@@ -1,3 +1,4 @@
+pub mod Bodies
 pub mod Captures
 pub mod Carries
 pub mod Codes
@@ -10,5 +11,6 @@ pub mod Numbers
 pub mod Packets
 pub mod Passwords
 pub mod Pcap
+pub mod Pcapng
 pub mod Spans
 pub mod Steps

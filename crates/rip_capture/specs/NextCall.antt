@@ -1,14 +1,17 @@
 -- What a reader stands for, and what a call of `next` answers and leaves.
-use Rattle.std.specs.Prelude.{◌≡◌, ◌⊎◌, ◌≤◌, ◌+◌, ◌^◌, ◌++◌, ℕ, Bool, true, false, List, [], ◌∷◌, Option, Some, None, Result, Ok, Err, length}
+use Rattle.std.specs.Prelude.{◌≡◌, ◌⊎◌, ◌≤◌, ◌+◌, ◌^◌, ◌++◌, ℕ, Bool, true, false, List, [], ◌∷◌, Option, Some, None, is_some, Result, Ok, Err, length}
 use Rattle.rip_log.specs.Wholes.{Went}
+use Rattle.rip_capture.specs.Bodies.{section_of}
 use Rattle.rip_capture.specs.Captures.{CaptureFault, HasNoMore, IsCapture, IsRead}
 use Rattle.rip_capture.specs.Codes.{EndsFor, is_read}
 use Rattle.rip_capture.specs.Feeds.{held}
+use Rattle.rip_capture.specs.Finds.{HoldsPacketBlock}
 use Rattle.rip_capture.specs.Pcap.{Frame, HoldsRecord, IsPcap}
+use Rattle.rip_capture.specs.Pcapng.{AreBlocks, Section}
 use Rattle.rip_capture.specs.declared.error.CaptureError.{CaptureError}
 use Rattle.rip_capture.specs.declared.reader.CaptureReader.{CaptureReader}
 use Rattle.rip_capture.specs.declared.reader.Format.{Format}
-use Rattle.rip_capture.specs.declared.reader.Format.TheVariants.{Unread, Pcap}
+use Rattle.rip_capture.specs.declared.reader.Format.TheVariants.{Pcap, Pcapng}
 use Rattle.rip_capture.specs.declared.reader.Packet.{Packet}
 
 -- the source beneath
@@ -35,15 +38,15 @@ frame_of p = record { link_type = p.link_type; bytes = p.bytes.now }
 abbrev pub place_of : Packet → ℕ
 place_of p = p.at
 
--- the front of the file was read
-abbrev pub has_begun : Format → Bool
-has_begun Unread = false
-has_begun (Pcap h) = true
+-- in what the next block of a pcapng file stands
+abbrev pub section_by : {R : Type 0} → CaptureReader R → Section
+section_by reader = section_of reader.section
 
--- these bytes of a file of this kind were read, and have these frames
-abbrev pub HasRead : Format → List ℕ → List Frame → Type 0
-HasRead Unread taken frames = (taken ≡ []) × (frames ≡ [])
-HasRead (Pcap h) taken frames = IsPcap taken h.order h.link_type frames
+-- these bytes of a file of this kind were read, and have these frames; blocks then stand in this section
+abbrev pub HasRead : Option Format → Section → List ℕ → List Frame → Type 0
+HasRead None now taken frames = (taken ≡ []) × (frames ≡ [])
+HasRead (Some (Pcap h)) now taken frames = IsPcap taken h.order h.link_type frames
+HasRead (Some Pcapng) now taken frames = AreBlocks None taken frames (Some now)
 
 -- a reader stands behind these bytes of its file, which have these frames; before is what the source
 -- had given when the reader was made
@@ -51,7 +54,7 @@ pub record Stands {R : Type 0} (given : R → List ℕ) (before : List ℕ) (rea
     (taken : List ℕ) (frames : List Frame) : Type 0 where
   pub gave : given (source_of reader) ≡ before ++ taken ++ held_by reader
   pub position : position_of reader ≡ length taken
-  pub read : HasRead reader.format taken frames
+  pub read : HasRead reader.format (section_by reader) taken frames
 
 -- the next packet was taken: its record begins at this place, behind a capture of the frames before it
 pub record TakesPacket {R : Type 0} (given : R → List ℕ) (before : List ℕ) (frames : List Frame)
@@ -101,14 +104,15 @@ Goes given at_end frame place before frames new (Err e) = StopsAt given at_end b
 
 -- the reader is at the end of its file
 pub record IsOver {R : Type 0} (at_end : R → Bool) (reader : CaptureReader R) : Type 0 where
-  pub begun : has_begun reader.format ≡ true
+  pub begun : is_some reader.format ≡ true
   pub all : held_by reader ≡ []
   pub ended : at_end (source_of reader) ≡ true
 
--- bytes of a file of this kind, behind its front, begin with a whole record
-abbrev pub HoldsPacket : Format → List ℕ → Type 0
-HoldsPacket Unread b = ⊥
-HoldsPacket (Pcap h) b = HoldsRecord h.order b
+-- bytes of a file of this kind, behind its front, begin with a whole record, or a whole block of a packet
+abbrev pub HoldsPacket : Option Format → Section → List ℕ → Type 0
+HoldsPacket None now b = ⊥
+HoldsPacket (Some (Pcap h)) now b = HoldsRecord h.order b
+HoldsPacket (Some Pcapng) now b = HoldsPacketBlock (Some now.order) b
 
 -- the call failed since the source did
 abbrev pub is_unreadable : {A : Type 0} → Result A CaptureError → Bool
@@ -133,7 +137,7 @@ pub record Runs {R X : Type 0} (given : R → List ℕ) (coming : R → Option (
   pub over : result ≡ Ok None → IsOver at_end new
   pub stays_over : IsOver at_end old → result ≡ Ok None
   -- nothing is pulled where the next record is held
-  pub ready : HoldsPacket old.format (held_by old) → source_of new ≡ source_of old
+  pub ready : HoldsPacket old.format (section_by old) (held_by old) → source_of new ≡ source_of old
 
 -- the error of an answer
 abbrev pub error_of : {A : Type 0} → Result A CaptureError → Option CaptureError

@@ -41,7 +41,7 @@ fn pull_behind<R: Source>(source: &mut R, buffer: &mut Vec<u8>, len: usize) -> R
 }
 
 impl<R: Source> Feed<R> {
-    ghost use Rattle.rip_capture.specs.Feeds.{Extends, held, Keeps, Takes};
+    ghost use Rattle.rip_capture.specs.Feeds.{Extends, held, Keeps, Skips, SkipsSo, Takes};
     ghost use Rattle.rip_capture.specs.Spans.{IsWithin, slice_of};
 
     /// A feed that holds nothing yet.
@@ -148,6 +148,27 @@ impl<R: Source> Feed<R> {
         let to = from + count;
         self.start = to;
         Span { from, to }
+    }
+
+    /// Takes so many bytes, whether they are held or come, and answers whether there were as many.
+    pub fn skip(&mut self, count: usize) -> Result<bool, Failed>
+        ensures skips { (bytes : List ℕ) × Skips R.given self.old self.new bytes
+            × SkipsSo count bytes (held self.new) result }
+        ensures went { Went R.given R.coming R.at_end self.old.source self.new.source }
+        ensures none { result ≡ Ok false → R.at_end self.new.source ≡ true }
+        ensures ok { OnOk result (R.broken self.new.source ≡ R.broken self.old.source) }
+        ensures err { OnErr result (R.broken self.new.source ≡ true) }
+    {
+        let mut left = count;
+        'parts: while left > 0 {
+            if !self.fill(1)? {
+                return Ok(false);
+            }
+            let part = left.min(self.held().len());
+            self.take(part);
+            left -= part;
+        }
+        Ok(true)
     }
 
     /// A part of the buffer.

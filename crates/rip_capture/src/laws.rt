@@ -1,20 +1,21 @@
 //! Laws of the definitions alone: functions that do nothing, whose contracts hold of all frames and all
 //! files.
 
-ghost use Rattle.std.specs.Prelude.{◌≡◌, ◌≢◌, ◌⊎◌, ◌*◌, ◌<◌, ◌≤◌, ◌++◌, ℕ, List, length};
+ghost use Rattle.std.specs.Prelude.{◌≡◌, ◌≢◌, ◌⊎◌, ◌*◌, ◌<◌, ◌≤◌, ◌++◌, ℕ, List, Option, length};
 ghost use Rattle.std.specs.List.{AllByRecursion};
 ghost use Rattle.rip_capture.specs.Captures.{CaptureFault, IsCapture, IsRead};
 ghost use Rattle.rip_capture.specs.Carries.{Carries};
 ghost use Rattle.rip_capture.specs.NextCall.{HasRead};
 ghost use Rattle.rip_capture.specs.Pcap.{Frame};
+ghost use Rattle.rip_capture.specs.Pcapng.{Section};
 ghost use Rattle.rip_capture.specs.declared.error.CaptureCode.{CaptureCode};
 ghost use Rattle.rip_capture.specs.declared.link.LinkType.{LinkType};
 ghost use Rattle.rip_capture.specs.declared.packet.Carried.{Carried};
 ghost use Rattle.rip_capture.specs.declared.reader.Format.{Format};
 
 use crate::limits::{
-    FILE_HEADER, GROUP, IP_HEADER, MAGIC_LEN, MOST_CAPTURED, MOST_PAYLOAD, PORT, RECORD_HEADER,
-    UDP, UDP_HEADER,
+    BLOCK_FRONT, FILE_HEADER, GROUP, IP_HEADER, MAGIC_LEN, MOST_BLOCK, MOST_CAPTURED,
+    MOST_INTERFACES, MOST_PAYLOAD, PORT, RECORD_HEADER, SECTION, SECTION_FRONT, UDP, UDP_HEADER,
 };
 
 /// The numbers of RIP over IPv4, and the most bytes of a datagram.
@@ -33,6 +34,15 @@ pub fn file_limits()
     ensures file_header { FILE_HEADER ≡ 24 }
     ensures record_header { RECORD_HEADER ≡ 16 }
     ensures captured { MOST_CAPTURED ≡ 262144 }
+{}
+
+/// The numbers and the sizes of the blocks of a pcapng file, and the most interfaces of a section.
+pub fn block_limits()
+    ensures section { SECTION ≡ 0x0A0D0D0A }
+    ensures front { BLOCK_FRONT ≡ 8 }
+    ensures section_front { SECTION_FRONT ≡ 12 }
+    ensures most { MOST_BLOCK ≡ 524288 }
+    ensures interfaces { MOST_INTERFACES ≡ 256 }
 {}
 
 /// A frame of a link type carries one thing alone.
@@ -54,8 +64,8 @@ pub fn one_reading()
 
 /// What a reader has read of a file is a capture of the packets that it answered, or nothing yet.
 pub fn read_captures()
-    ensures { (format : Format) (taken : List ℕ) (frames : List Frame) →
-        HasRead format taken frames → IsRead taken frames }
+    ensures { (format : Option Format) (now : Section) (taken : List ℕ) (frames : List Frame) →
+        HasRead format now taken frames → IsRead taken frames }
 {}
 
 /// A capture has at least sixteen bytes for each packet.

@@ -1,12 +1,15 @@
 //! Captures: the packets of a capture file, and the RIP datagram that a packet carries.
 #![tactic(auto)]
 
+mod blocks;
+mod bodies;
 mod error;
 mod feed;
 mod frame;
 pub mod laws;
 mod limits;
 mod link;
+mod magic;
 mod numbers;
 mod packet;
 mod password;

@@ -30,3 +30,19 @@ pub(crate) const RECORD_HEADER: usize = 16;
 
 /// The most bytes of a packet that a file may have.
 pub const MOST_CAPTURED: usize = 262_144;
+
+/// The number in front of a block that begins a section, the same in either byte order
+/// (draft-ietf-opsawg-pcapng, section 4.1).
+pub(crate) const SECTION: u32 = 0x0A0D_0D0A;
+
+/// The bytes of a block that tell its kind and its length.
+pub(crate) const BLOCK_FRONT: usize = 8;
+
+/// The bytes of a section's block that tell its length, and the byte order.
+pub(crate) const SECTION_FRONT: usize = 12;
+
+/// The most bytes of a block that is read.
+pub(crate) const MOST_BLOCK: usize = 524_288;
+
+/// The most interfaces of a section.
+pub(crate) const MOST_INTERFACES: usize = 256;

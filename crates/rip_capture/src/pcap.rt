@@ -1,8 +1,7 @@
 //! The header and the records of a pcap file (draft-ietf-opsawg-pcap).
 
-ghost use Rattle.std.specs.Prelude.{◌≡◌, ◌<◌, ◌≤◌, [], Ok, None, true, false, length, MatchOption};
+ghost use Rattle.std.specs.Prelude.{◌≡◌, ◌<◌, ◌≤◌, [], Ok, None, true, false, length};
 ghost use Rattle.rip_log.specs.Wholes.{Went};
-ghost use Rattle.rip_capture.specs.Captures.{HasMagic};
 ghost use Rattle.rip_capture.specs.Codes.{is_unread};
 ghost use Rattle.rip_capture.specs.Feeds.{held, Keeps};
 ghost use Rattle.rip_capture.specs.Finds.{FindsHeader, FindsRecord, ReadsHeader};
@@ -12,7 +11,7 @@ use crate::error::CaptureCode;
 use crate::feed::Feed;
 use crate::limits::{FILE_HEADER, MAGIC_LEN, MOST_CAPTURED, RECORD_HEADER};
 use crate::link::LinkType;
-use crate::numbers::{Order, number_in, short_in, u32_at};
+use crate::numbers::{Order, number_in, short_in};
 use rip_log::Source;
 
 /// What the header of a file says of its records.
@@ -20,22 +19,6 @@ use rip_log::Source;
 pub struct PcapHeader {
     pub order: Order,
     pub link_type: LinkType,
-}
-
-/// The byte order of a file that begins so, if it is one of the four beginnings: of either order, with
-/// times in microseconds or nanoseconds.
-fn order_of(bytes: &[u8]) -> Option<Order>
-    requires { MAGIC_LEN ≤ length bytes.now }
-    ensures { MatchOption result (¬ HasMagic bytes.now) (λ order. IsMagic order bytes.now) }
-{
-    let number = u32_at(bytes, 0);
-    if number == 0xA1B2_C3D4 || number == 0xA1B2_3C4D {
-        return Some(Order::Big);
-    }
-    if number == 0xD4C3_B2A1 || number == 0x4D3C_B2A1 {
-        return Some(Order::Little);
-    }
-    None
 }
 
 /// The header behind these four bytes.
@@ -52,8 +35,13 @@ fn read_header(order: Order, bytes: &[u8]) -> Result<PcapHeader, CaptureCode>
     }
 }
 
-/// The header at the front of a file, which is then held whole.
-pub(crate) fn next_header<R: Source>(feed: &mut Feed<R>) -> Result<PcapHeader, CaptureCode>
+/// The header at the front of a file of this order, which is then held whole.
+pub(crate) fn next_header<R: Source>(
+    feed: &mut Feed<R>,
+    order: Order,
+) -> Result<PcapHeader, CaptureCode>
+    requires begun { MAGIC_LEN ≤ length (held feed.old) }
+    requires magic { IsMagic order (held feed.old) }
     ensures keeps { Keeps R.given feed.old feed.new }
     ensures went { Went R.given R.coming R.at_end feed.old.source feed.new.source }
     ensures found { FindsHeader (held feed.new) (R.at_end feed.new.source) result }
@@ -62,15 +50,6 @@ pub(crate) fn next_header<R: Source>(feed: &mut Feed<R>) -> Result<PcapHeader, C
     ensures marks { is_unread result ≡ false →
         R.broken feed.new.source ≡ R.broken feed.old.source }
 {
-    let Ok(begun) = feed.fill(MAGIC_LEN) else {
-        return Err(CaptureCode::Read);
-    };
-    if !begun {
-        return Err(CaptureCode::Cut);
-    }
-    let Some(order) = order_of(feed.held()) else {
-        return Err(CaptureCode::Magic);
-    };
     let Ok(whole) = feed.fill(FILE_HEADER) else {
         return Err(CaptureCode::Read);
     };

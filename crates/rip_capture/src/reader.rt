@@ -1,13 +1,17 @@
 //! The packets of a capture file, one after the other.
 
-ghost use Rattle.std.specs.Prelude.{◌≡◌, [], None, IfErr, IfOk, IfSome};
+ghost use Rattle.std.specs.Prelude.{◌≡◌, ◌≢◌, ◌<◌, ◌≤◌, ◌^◌, [], ℕ, List, Ok, Option, None, Some, true, length, IfErr, IfOk, IfSome};
 ghost use Rattle.std.specs.Borrow.{sem};
 ghost use Rattle.std.specs.Io.BufRead.{Rests};
 
+use crate::blocks::{Block, BlockKind, PacketForm, first_block, next_block};
+use crate::bodies::{Body, OpenSection, read_body};
 use crate::error::{CaptureCode, CaptureError};
 use crate::feed::Feed;
-use crate::limits::{FILE_HEADER, RECORD_HEADER};
+use crate::limits::{FILE_HEADER, MAGIC_LEN, RECORD_HEADER};
 use crate::link::LinkType;
+use crate::magic::{Magic, next_magic};
+use crate::numbers::Order;
 use crate::pcap::{PcapHeader, next_header, next_record};
 use crate::span::Span;
 use rip_log::Source;
@@ -32,27 +36,41 @@ struct Found {
     at: u64,
 }
 
-/// What kind of file it is, where its front was read.
+/// What kind of file it is.
 #[derive(Clone, Copy)]
 enum Format {
-    Unread,
     Pcap(PcapHeader),
+    Pcapng,
 }
 
-/// A reader of a capture file's packets, of at most 262,144 bytes each. It reads pcap files of either byte
-/// order (draft-ietf-opsawg-pcap). After an error there are no more packets.
+/// What a block of a pcapng file brings.
+#[derive(Clone, Copy)]
+enum Step {
+    Packet(Found),
+    /// No packet.
+    Passed,
+}
+
+/// A reader of a capture file's packets, of at most 262,144 bytes each. It reads pcap and pcapng files of
+/// either byte order (draft-ietf-opsawg-pcap, draft-ietf-opsawg-pcapng). After an error there are no more
+/// packets.
 #[derive(Drop)]
 pub struct CaptureReader<R> {
     feed: Feed<R>,
-    format: Format,
+    /// None where the front of the file was not read yet.
+    format: Option<Format>,
+    /// Where the next block of a pcapng file stands.
+    section: OpenSection,
     position: u64,
     refusal: Option<CaptureError>,
 }
 
 impl<R: Source> CaptureReader<R> {
     ghost use Rattle.rip_capture.specs.contracts.reader.CaptureReader.{the_row};
-    ghost use Rattle.rip_capture.specs.NextCall.{NextCall, Runs, Stands, frame_of, place_of, position_of, refusal_of, source_of};
-    ghost use Rattle.rip_capture.specs.Steps.{Begins, IsGood, frame_at, place_at};
+    ghost use Rattle.rip_capture.specs.NextCall.{IsFar, NextCall, Runs, Stands, is_unreadable, frame_of, held_by, place_of, position_of, refusal_of, source_of};
+    ghost use Rattle.rip_capture.specs.Pcap.{Frame, IsMagic};
+    ghost use Rattle.rip_capture.specs.Pcapng.{Section, begins_section, is_read_whole, least_len};
+    ghost use Rattle.rip_capture.specs.Steps.{Begins, GoesOn, IsGood, IsGoodStep, StandsAt, Steps, TakesSo, frame_at, place_at};
 
     /// A reader at the front of a file: of what the source gives from here on. It allocates its buffer, and
     /// pulls nothing yet. Where memory is refused, the source comes back.
@@ -65,7 +83,8 @@ impl<R: Source> CaptureReader<R> {
         match Feed::new(alloc, source) {
             Ok(feed) => Ok(CaptureReader {
                 feed,
-                format: Format::Unread,
+                format: None,
+                section: OpenSection::new(),
                 position: 0,
                 refusal: None,
             }),
@@ -73,35 +92,118 @@ impl<R: Source> CaptureReader<R> {
         }
     }
 
-    /// The header of a pcap file, where it was not read yet.
-    fn read_front(&mut self) -> Result<PcapHeader, CaptureError>
-        requires { self.old.format ≡ Format.Unread }
+    /// The header of a pcap file, of which the first four bytes are held.
+    fn read_header(&mut self, order: Order) -> Result<Format, CaptureError>
+        requires format { self.old.format ≡ None }
+        requires begun { MAGIC_LEN ≤ length (held_by self.old) }
+        requires magic { IsMagic order (held_by self.old) }
         ensures { Begins R.given R.coming R.broken R.at_end self.old self.new result }
     {
-        match next_header(&mut self.feed) {
+        match next_header(&mut self.feed, order) {
             Err(code) => Err(CaptureError { code, at: 0 }),
             Ok(header) => {
                 self.feed.take(FILE_HEADER);
                 self.position = FILE_HEADER as u64;
-                self.format = Format::Pcap(header);
-                Ok(header)
+                let format = Format::Pcap(header);
+                self.format = Some(format);
+                Ok(format)
             }
         }
     }
 
-    /// The header of a pcap file.
-    fn begin(&mut self) -> Result<PcapHeader, CaptureError>
+    /// Takes a block that was found, and says what it brings.
+    fn take_block(&mut self, block: Block) -> Result<Step, CaptureError>
+        requires held { block.held ≤ length (held_by self.old) }
+        requires read { is_read_whole block.kind ≡ true → least_len block.kind ≤ block.held }
+        requires some { 0 < block.len }
+        requires short { block.len < 2 ^ 32 }
+        ensures took { (before taken passed : List ℕ) (frames : List Frame) (s : Option Section) →
+            StandsAt R.given before self.old taken passed frames s block →
+            TakesSo R.given before taken passed frames s self.new result }
+        ensures packet { (form : PacketForm) → block.kind ≡ BlockKind.Packet form →
+            result ≢ Ok Step.Passed }
+        ensures section { block.kind ≡ BlockKind.Section → IfOk result (λ step. step ≡ Step.Passed) }
+        ensures on { IfOk result (λ step. GoesOn self.old self.new) }
+        ensures far { is_unreadable result ≡ true → IsFar self.new }
+        ensures source { source_of self.new ≡ source_of self.old }
+        ensures format { self.new.format ≡ self.old.format }
+        ensures refusal { refusal_of self.new ≡ refusal_of self.old }
+        ensures good { IfOk result (IsGoodStep self.new) }
+    {
+        let at = self.position;
+        let Some(position) = at.checked_add(block.len as u64) else {
+            let code = CaptureCode::Read;
+            return Err(CaptureError { code, at });
+        };
+        let interfaces = self.section.interfaces.as_slice();
+        let body = match read_body(block, interfaces, &self.feed.held()[..block.held]) {
+            Err(code) => return Err(CaptureError { code, at }),
+            Ok(body) => body,
+        };
+        let taken = self.feed.take(block.held);
+        self.position = position;
+        self.section.enter(block.order, body);
+        match body {
+            Body::Packet(link_type, span) => {
+                let bytes = Span {
+                    from: taken.from + span.from,
+                    to: taken.from + span.to,
+                };
+                Ok(Step::Packet(Found {
+                    link_type,
+                    bytes,
+                    at,
+                }))
+            }
+            Body::Section | Body::Interface(_) | Body::Other => Ok(Step::Passed),
+        }
+    }
+
+    /// The section at the front of a pcapng file, of which the first four bytes are held.
+    fn read_section(&mut self) -> Result<Format, CaptureError>
+        requires format { self.old.format ≡ None }
+        requires begun { MAGIC_LEN ≤ length (held_by self.old) }
+        requires section { begins_section (held_by self.old) ≡ true }
+        ensures { Begins R.given R.coming R.broken R.at_end self.old self.new result }
+    {
+        let block = match first_block(&mut self.feed) {
+            Err(code) => return Err(CaptureError { code, at: 0 }),
+            Ok(block) => block,
+        };
+        match self.take_block(block) {
+            Err(error) => Err(error),
+            Ok(_) => {
+                self.format = Some(Format::Pcapng);
+                Ok(Format::Pcapng)
+            }
+        }
+    }
+
+    /// The front of a file, where it was not read yet.
+    fn read_front(&mut self) -> Result<Format, CaptureError>
+        requires { self.old.format ≡ None }
+        ensures { Begins R.given R.coming R.broken R.at_end self.old self.new result }
+    {
+        match next_magic(&mut self.feed) {
+            Err(code) => Err(CaptureError { code, at: 0 }),
+            Ok(Magic::Pcap(order)) => self.read_header(order),
+            Ok(Magic::Pcapng) => self.read_section(),
+        }
+    }
+
+    /// The kind of the file, of which the front is then read.
+    fn begin(&mut self) -> Result<Format, CaptureError>
         ensures { Begins R.given R.coming R.broken R.at_end self.old self.new result }
     {
         match self.format {
-            Format::Unread => self.read_front(),
-            Format::Pcap(header) => Ok(header),
+            None => self.read_front(),
+            Some(format) => Ok(format),
         }
     }
 
     /// The next record of a pcap file, and where its packet lies.
     fn read_record(&mut self, header: PcapHeader) -> Result<Option<Found>, CaptureError>
-        requires { self.old.format ≡ Format.Pcap header }
+        requires { self.old.format ≡ Some (Format.Pcap header) }
         ensures runs { Runs R.given R.coming R.broken R.at_end (frame_at self.new) place_at
             self.old self.new result }
         ensures refusal { refusal_of self.new ≡ refusal_of self.old }
@@ -130,6 +232,41 @@ impl<R: Source> CaptureReader<R> {
         }))
     }
 
+    /// The next block of a pcapng file, or None at the end.
+    fn read_block(&mut self) -> Result<Option<Step>, CaptureError>
+        requires { self.old.format ≡ Some Format.Pcapng }
+        ensures steps { Steps R.given R.coming R.broken R.at_end self.old self.new result }
+        ensures good { IfOk result (λ step. IfSome step (IsGoodStep self.new)) }
+    {
+        let at = self.position;
+        match next_block(&mut self.feed, self.section.order) {
+            Err(code) => Err(CaptureError { code, at }),
+            Ok(None) => Ok(None),
+            Ok(Some(block)) => match self.take_block(block) {
+                Err(error) => Err(error),
+                Ok(step) => Ok(Some(step)),
+            },
+        }
+    }
+
+    /// The next packet of a pcapng file, and where it lies.
+    fn read_blocks(&mut self) -> Result<Option<Found>, CaptureError>
+        requires { self.old.format ≡ Some Format.Pcapng }
+        ensures runs { Runs R.given R.coming R.broken R.at_end (frame_at self.new) place_at
+            self.old self.new result }
+        ensures refusal { refusal_of self.new ≡ refusal_of self.old }
+        ensures good { IfOk result (λ found. IfSome found (IsGood self.new)) }
+    {
+        'next_blocks: loop {
+            match self.read_block() {
+                Err(error) => return Err(error),
+                Ok(None) => return Ok(None),
+                Ok(Some(Step::Packet(found))) => return Ok(Some(found)),
+                Ok(Some(Step::Passed)) => {}
+            }
+        }
+    }
+
     /// Reads up to the next packet, and says where it lies.
     fn step(&mut self) -> Result<Option<Found>, CaptureError>
         ensures runs { Runs R.given R.coming R.broken R.at_end (frame_at self.new) place_at
@@ -139,7 +276,8 @@ impl<R: Source> CaptureReader<R> {
     {
         match self.begin() {
             Err(error) => Err(error),
-            Ok(header) => self.read_record(header),
+            Ok(Format::Pcap(header)) => self.read_record(header),
+            Ok(Format::Pcapng) => self.read_blocks(),
         }
     }
 

@@ -1,5 +1,5 @@
 -- From the parts of a run to what it adds of a file to a log.
-use Rattle.std.proofs.Common.{◌≡◌, ◌≢◌, ◌⊎◌, ◌+◌, ◌^◌, ◌≤◌, ◌∙◌, ℕ, Bool, true, List, [], ◌∷◌, ◌++◌, Result, Ok, Err, length, map, ap, sym, refl, inl, inr, is_err, subst, arith, append_assoc, append-nil}
+use Rattle.std.proofs.Common.{◌≡◌, ◌≢◌, ◌⊎◌, ◌+◌, ◌^◌, ◌≤◌, ◌∙◌, ℕ, Bool, true, Option, List, [], ◌∷◌, ◌++◌, Result, Ok, Err, length, map, ap, sym, refl, inl, inr, is_err, subst, arith, append_assoc, append-nil}
 use Rattle.std.specs.List.{AllByRecursion}
 use Rattle.std.proofs.lemmas.Bool.{false≢true}
 use Rattle.std.proofs.lemmas.List.{append_cancel_left, length-append}
@@ -7,8 +7,9 @@ use Rattle.rip_log.specs.Taken.{Taken, Took}
 use Rattle.rip_log.specs.Wholes.{Begins}
 use Rattle.rip_capture.specs.Captures.{CaptureFault, HasNoMore, IsCapture, IsRead}
 use Rattle.rip_capture.specs.Captures.IsRead.{none as nothing_read, capture as capture_read}
-use Rattle.rip_capture.specs.NextCall.{EndsHere, HasRead, IsFar, Stands, held_by, source_of}
+use Rattle.rip_capture.specs.NextCall.{EndsHere, HasRead, IsFar, Stands, held_by, section_by, source_of}
 use Rattle.rip_capture.specs.Pcap.{Frame}
+use Rattle.rip_capture.specs.Pcapng.{Section}
 use Rattle.rip_capture.specs.declared.error.CaptureCode.{CaptureCode}
 use Rattle.rip_capture.specs.declared.error.CaptureCode.TheVariants.{Magic, Cut, Version, LinkType as NoLinkType, Length, Interface, OldPacket, Read as NoRead}
 use Rattle.rip_capture.specs.declared.reader.CaptureReader.{CaptureReader}
@@ -41,7 +42,7 @@ Early = (file more : List ℕ) (frames : List Frame) (code : CaptureCode) (at : 
 
 -- what a reader has read is a capture
 abbrev ReadCaptures : Type 0
-ReadCaptures = (format : Format) (taken : List ℕ) (frames : List Frame) → HasRead format taken frames → IsRead taken frames
+ReadCaptures = (format : Option Format) (now : Section) (taken : List ℕ) (frames : List Frame) → HasRead format now taken frames → IsRead taken frames
 
 -- the text of a file is what was taken, what is held, and what is left
 text-split : (before taken held gave left bytes : List ℕ) → gave ≡ before ++ taken ++ held → before ++ bytes ≡ gave ++ left → bytes ≡ (taken ++ held) ++ left
@@ -150,7 +151,7 @@ module _ {R K : Type 0} (given : R → List ℕ) (at_end : R → Bool) (start by
       (unread cs (begins-by given at_end start bytes reader text cs stops.front stops.rest carry stops.read stops.gave) few refl refl) (not-followed taken broken old new before after link bytes _ 0 _ result (inr refl) ends same)
   adds-file Unwritten result (failed, (so_far, stands)) (is, sink, began, same) = record {
     text = λ h. absurd (h is);
-    write = λ e. (sink, (packet_lines link cs, some_packets cs (begins-by given at_end start bytes reader text cs so_far (held_by reader) carry (captures reader.format so_far (map (λ c. c.frame) cs) stands.read) stands.gave) few refl, began));
+    write = λ e. (sink, (packet_lines link cs, some_packets cs (begins-by given at_end start bytes reader text cs so_far (held_by reader) carry (captures reader.format (section_by reader) so_far (map (λ c. c.frame) cs) stands.read) stands.gave) few refl, began));
     sink = λ h. absurd (h is);
     kept = λ e is_error. same;
   }

@@ -1,10 +1,10 @@
-use Rattle.std.proofs.Common.{◌+◌, ◌≤◌, ◌∙◌, ℕ, List, ap, arith, drop, inl, inr, refl, subst, sym}
+use Rattle.std.proofs.Common.{◌+◌, ◌≤◌, ◌∙◌, ℕ, List, ap, arith, drop, inl, inr, is_some, Option, refl, subst, sym}
 use Rattle.std.proofs.lemmas.Bool.{false≢true}
 use Rattle.rip_log.specs.Wholes.{Went}
 use Rattle.rip_capture.proofs.FeedLemmas.{range-drop}
 use Rattle.rip_capture.proofs.ReaderLemmas.{EndsHere-found, StopsAt-far, StopsAt-record, TakesPacket-found}
 use Rattle.rip_capture.specs.Feeds.{held}
-use Rattle.rip_capture.specs.NextCall.{HoldsPacket, IsFar, has_begun}
+use Rattle.rip_capture.specs.NextCall.{HoldsPacket, IsFar, section_by}
 use Rattle.rip_capture.specs.Pcap.{Frame}
 use Rattle.rip_capture.specs.declared.feed.Feed.{Feed}
 use Rattle.rip_capture.specs.declared.reader.CaptureReader.{CaptureReader}
@@ -15,7 +15,7 @@ pub returns-in-Err-clause-runs : goal.returns-in-Err-clause-runs
 returns-in-Err-clause-runs g c =
     let S = g.R.Source in
     let old = c.args.self.now in
-    let new : CaptureReader g.row.R.Denot = record { feed = c.next_record.new.feed; format = old.format; position = old.position; refusal = old.refusal } in
+    let new : CaptureReader g.row.R.Denot = record { feed = c.next_record.new.feed; format = old.format; section = old.section; position = old.position; refusal = old.refusal } in
     record {
       goes = λ before taken frames s. StopsAt-record S.given S.at_end before taken frames old new c.args.header c.in-Err.code c.requires c.next_record.ensures.keeps refl c.in-Err.ensures.found c.in-Err.ensures.short s;
       moves = record {
@@ -25,32 +25,32 @@ returns-in-Err-clause-runs g c =
       };
       over = λ h. cc h;
       stays_over = λ o. cc (c.in-Err.ensures.over o.all o.ended);
-      ready = λ holds. ap (λ (f : Feed g.row.R.Denot). f.source) (c.next_record.ensures.ready (subst (λ (f : Format). HoldsPacket f (held old.feed)) c.requires holds));
+      ready = λ holds. ap (λ (f : Feed g.row.R.Denot). f.source) (c.next_record.ensures.ready (subst (λ (f : Option Format). HoldsPacket f (section_by old) (held old.feed)) c.requires holds));
     }
 
 pub returns-in-Ok-None-clause-runs : goal.returns-in-Ok-None-clause-runs
 returns-in-Ok-None-clause-runs g c =
     let S = g.R.Source in
     let old = c.args.self.now in
-    let new : CaptureReader g.row.R.Denot = record { feed = c.next_record.new.feed; format = old.format; position = old.position; refusal = old.refusal } in
+    let new : CaptureReader g.row.R.Denot = record { feed = c.next_record.new.feed; format = old.format; section = old.section; position = old.position; refusal = old.refusal } in
     let found = rw c.in-Ok-None.field-0-is at c.in-Ok-None.ensures.found in
     record {
-      goes = λ before taken frames s. EndsHere-found S.given S.at_end before taken frames old new c.args.header c.requires c.next_record.ensures.keeps refl refl found s;
+      goes = λ before taken frames s. EndsHere-found S.given S.at_end before taken frames old new c.args.header c.requires c.next_record.ensures.keeps refl refl refl found s;
       moves = record {
         went = c.next_record.ensures.went;
         failed = λ bad. absurd (false≢true bad);
         marks = λ calm. c.in-Ok-None.ensures.marks refl;
       };
-      over = λ h. record { begun = ap has_begun c.requires; all = found.0; ended = found.1 };
+      over = λ h. record { begun = ap is_some c.requires; all = found.0; ended = found.1 };
       stays_over = λ o. refl;
-      ready = λ holds. ap (λ (f : Feed g.row.R.Denot). f.source) (c.next_record.ensures.ready (subst (λ (f : Format). HoldsPacket f (held old.feed)) c.requires holds));
+      ready = λ holds. ap (λ (f : Feed g.row.R.Denot). f.source) (c.next_record.ensures.ready (subst (λ (f : Option Format). HoldsPacket f (section_by old) (held old.feed)) c.requires holds));
     }
 
 pub returns-in_default-clause-runs : goal.returns-in_default-clause-runs
 returns-in_default-clause-runs g c =
     let S = g.R.Source in
     let old = c.args.self.now in
-    let new : CaptureReader g.row.R.Denot = record { feed = c.next_record.new.feed; format = old.format; position = old.position; refusal = old.refusal } in
+    let new : CaptureReader g.row.R.Denot = record { feed = c.next_record.new.feed; format = old.format; section = old.section; position = old.position; refusal = old.refusal } in
     let found = rw c.in-Ok-Some.field-0-is at c.in-Ok-Some.ensures.found in
     let far : IsFar new = omega (arith, c.in_default.ensures, found.2) in
     record {
@@ -62,7 +62,7 @@ returns-in_default-clause-runs g c =
       };
       over = λ h. cc h;
       stays_over = λ o. cc (c.in-Ok-Some.ensures.over o.all o.ended);
-      ready = λ holds. ap (λ (f : Feed g.row.R.Denot). f.source) (c.next_record.ensures.ready (subst (λ (f : Format). HoldsPacket f (held old.feed)) c.requires holds));
+      ready = λ holds. ap (λ (f : Feed g.row.R.Denot). f.source) (c.next_record.ensures.ready (subst (λ (f : Option Format). HoldsPacket f (section_by old) (held old.feed)) c.requires holds));
     }
 
 pub returns-clause-runs : goal.returns-clause-runs
@@ -74,7 +74,7 @@ returns-clause-runs g c =
     let n = c.in-Ok-Some.captured in
     let took = c.take-taken in
     let span = took.result in
-    let new : CaptureReader g.row.R.Denot = record { feed = took.new.self; format = old.format; position = c.in-Some.position; refusal = old.refusal } in
+    let new : CaptureReader g.row.R.Denot = record { feed = took.new.self; format = old.format; section = old.section; position = c.in-Some.position; refusal = old.refusal } in
     let found = rw c.in-Ok-Some.field-0-is at c.in-Ok-Some.ensures.found in
     let made : List ℕ → Frame = λ b. record { link_type = h.link_type; bytes = b } in
     let inside : span.from + 16 ≤ span.to = omega (arith, took.ensures.size) in
@@ -88,5 +88,5 @@ returns-clause-runs g c =
       };
       over = λ e. cc e;
       stays_over = λ o. cc (c.in-Ok-Some.ensures.over o.all o.ended);
-      ready = λ holds. took.ensures.source ∙ ap (λ (f : Feed g.row.R.Denot). f.source) (c.next_record.ensures.ready (subst (λ (f : Format). HoldsPacket f (held old.feed)) c.requires holds));
+      ready = λ holds. took.ensures.source ∙ ap (λ (f : Feed g.row.R.Denot). f.source) (c.next_record.ensures.ready (subst (λ (f : Option Format). HoldsPacket f (section_by old) (held old.feed)) c.requires holds));
     }

@@ -1,7 +1,7 @@
 use Rattle.std.proofs.Common.{◌≡◌, ◌∙◌, ◌+◌, ◌++◌, ◌∷◌, [], List, ap, arith, inl, inr, length, map, refl, sym, subst}
 use Rattle.std.proofs.lemmas.List.{length-map}
 use Rattle.rip_log.proofs.WholeLemmas.{went_nowhere, went_on}
-use Rattle.rip_capture.specs.NextCall.{Stands, TakesPacket, frame_of, place_of, position_of, source_of}
+use Rattle.rip_capture.specs.NextCall.{Stands, TakesPacket, frame_of, place_of, position_of, section_by, source_of}
 use Rattle.rip_capture.specs.Pcap.{Frame}
 use Rattle.rip_capture.specs.declared.error.CaptureCode.TheVariants.{Read}
 use Rattle.rip_report.specs.CapturePackets.{ended_at}
@@ -159,7 +159,7 @@ returns g c =
     let inv = c.packets.invariant in
     let frames = map (λ (c : Carrier). c.frame) inv.carriers in
     let many : c.packets.tally.counts.packets ≡ length inv.carriers = ap (λ n. n.packets) inv.counts in
-    let read = c.read_captures.ensures c.packets.reader.format inv.taken frames inv.stands.read in
+    let read = c.read_captures.ensures c.packets.reader.format (section_by c.packets.reader) inv.taken frames inv.stands.read in
     let is_far = far c.packets.reader inv.taken frames c.long_captures.ensures inv.stands.position read (omega (arith, many, length-map inv.carriers (λ (c : Carrier). c.frame), c.packets-test.false)) in
     record {
       carriers = inv.carriers;

@@ -1,0 +1,343 @@
+//! The blocks of a pcapng file (draft-ietf-opsawg-pcapng, section 3.1).
+
+ghost use Rattle.std.specs.Prelude.{◌≡◌, ◌≢◌, ◌+◌, ◌≤◌, ◌++◌, [], List, ℕ, Ok, None, Some, IfOk, IfSome, MatchOption, Option, true, false, length};
+ghost use Rattle.rip_log.specs.Wholes.{Went};
+ghost use Rattle.rip_wire.specs.Fields.{number_at};
+ghost use Rattle.rip_capture.specs.Codes.{is_unread};
+ghost use Rattle.rip_capture.specs.Feeds.{Extends, held, Keeps, Skips};
+ghost use Rattle.rip_capture.specs.Finds.{FindsBlock, FindsNextBlock, FindsNextOrder, FindsOrder, HoldsBlock, HoldsWhole, SaysFront};
+ghost use Rattle.rip_capture.specs.Pcapng.{HasLength, HasOrder, begins_section, block_len, front_len, is_read_whole, kind_numbered, kind_of, least_len, order_number};
+
+use crate::error::CaptureCode;
+use crate::feed::Feed;
+use crate::limits::{BLOCK_FRONT, MOST_BLOCK, SECTION, SECTION_FRONT};
+use crate::numbers::{Order, number_in, u32_at};
+use rip_log::Source;
+
+/// How a packet stands in its block.
+#[derive(Clone, Copy)]
+pub enum PacketForm {
+    /// With the number of its interface, its time and its length (section 4.3).
+    Enhanced,
+    /// Of the section's first interface, and without a time (section 4.4).
+    Simple,
+}
+
+/// The kind of a block.
+#[derive(Clone, Copy)]
+pub enum BlockKind {
+    /// It begins a section (section 4.1).
+    Section,
+    /// It describes an interface (section 4.2).
+    Interface,
+    /// A packet in a form that is out of use (appendix A).
+    OldPacket,
+    /// A packet.
+    Packet(PacketForm),
+    /// It is passed over.
+    Other,
+}
+
+/// An interface of a section.
+#[derive(Clone, Copy, Default)]
+pub struct Interface {
+    /// The number of its link type.
+    pub link_number: u32,
+    /// The most bytes of a packet that it captures, or 0.
+    pub most: u32,
+}
+
+/// A block, of which the last bytes are held, those that nobody has taken.
+#[derive(Clone, Copy)]
+pub struct Block {
+    pub order: Order,
+    pub kind: BlockKind,
+    pub len: usize,
+    pub held: usize,
+}
+
+/// Whether a block begins a section.
+fn begins_section(bytes: &[u8]) -> bool
+    requires { 4 ≤ length bytes.now }
+    ensures { result ≡ begins_section bytes.now }
+{
+    u32_at(bytes, 0) == SECTION
+}
+
+/// The byte order that a section says.
+fn order_in(bytes: &[u8]) -> Option<Order>
+    requires { SECTION_FRONT ≤ length bytes.now }
+    ensures { MatchOption result ((order : Order) → number_at 4 8 bytes.now ≢ order_number order)
+        (λ order. number_at 4 8 bytes.now ≡ order_number order) }
+{
+    match u32_at(bytes, 8) {
+        0x1A2B_3C4D => Some(Order::Big),
+        0x4D3C_2B1A => Some(Order::Little),
+        _ => None,
+    }
+}
+
+/// The kind of a block that does not begin a section.
+fn kind_numbered(number: u32) -> BlockKind
+    ensures { result ≡ kind_numbered number }
+{
+    match number {
+        1 => BlockKind::Interface,
+        2 => BlockKind::OldPacket,
+        3 => BlockKind::Packet(PacketForm::Simple),
+        6 => BlockKind::Packet(PacketForm::Enhanced),
+        _ => BlockKind::Other,
+    }
+}
+
+/// The kind of a block.
+fn kind_of(order: Order, bytes: &[u8]) -> BlockKind
+    requires { 4 ≤ length bytes.now }
+    ensures { result ≡ kind_of order bytes.now }
+{
+    if begins_section(bytes) {
+        BlockKind::Section
+    } else {
+        kind_numbered(number_in(order, bytes, 0))
+    }
+}
+
+/// The fewest bytes of a block of a kind.
+fn least_len(kind: BlockKind) -> usize
+    ensures { result ≡ least_len kind }
+{
+    match kind {
+        BlockKind::Section => 28,
+        BlockKind::Interface => 20,
+        BlockKind::Packet(PacketForm::Simple) => 16,
+        BlockKind::Packet(PacketForm::Enhanced) => 32,
+        BlockKind::OldPacket | BlockKind::Other => 12,
+    }
+}
+
+/// Whether blocks of a kind are read, and not passed over.
+fn is_read_whole(kind: BlockKind) -> bool
+    ensures { result ≡ is_read_whole kind }
+{
+    matches!(
+        kind,
+        BlockKind::Section | BlockKind::Interface | BlockKind::Packet(_)
+    )
+}
+
+/// The kind and the length that the front of a block says.
+fn read_front(order: Order, bytes: &[u8]) -> Result<(BlockKind, usize), CaptureCode>
+    requires { BLOCK_FRONT ≤ length bytes.now }
+    ensures { SaysFront order bytes.now result }
+{
+    let kind = kind_of(order, bytes);
+    let len = number_in(order, bytes, 4) as usize;
+    if len % 4 != 0 || len < least_len(kind) {
+        return Err(CaptureCode::Length);
+    }
+    if is_read_whole(kind) && len > MOST_BLOCK {
+        return Err(CaptureCode::Length);
+    }
+    if matches!(kind, BlockKind::OldPacket) {
+        return Err(CaptureCode::OldPacket);
+    }
+    Ok((kind, len))
+}
+
+/// The byte order of a block that begins a section, whose front is then held.
+fn section_order<R: Source>(feed: &mut Feed<R>) -> Result<Order, CaptureCode>
+    requires begun { 4 ≤ length (held feed.old) }
+    requires section { begins_section (held feed.old) ≡ true }
+    ensures keeps { Keeps R.given feed.old feed.new }
+    ensures held { Extends (held feed.old) (held feed.new) }
+    ensures went { Went R.given R.coming R.at_end feed.old.source feed.new.source }
+    ensures found { (within : Option Order) →
+        FindsOrder within (held feed.new) (R.at_end feed.new.source) result }
+    ensures failed { is_unread result ≡ true → R.broken feed.new.source ≡ true }
+    ensures marks { is_unread result ≡ false →
+        R.broken feed.new.source ≡ R.broken feed.old.source }
+    ensures ready { SECTION_FRONT ≤ length (held feed.old) → feed.new ≡ feed.old }
+{
+    let Ok(whole) = feed.fill(SECTION_FRONT) else {
+        return Err(CaptureCode::Read);
+    };
+    if !whole {
+        return Err(CaptureCode::Cut);
+    }
+    order_in(feed.held()).ok_or(CaptureCode::Version)
+}
+
+/// The byte order of the next block in a section of this order, whose front is then held; or that there
+/// is none.
+fn next_order<R: Source>(feed: &mut Feed<R>, within: Order) -> Result<Option<Order>, CaptureCode>
+    ensures keeps { Keeps R.given feed.old feed.new }
+    ensures held { Extends (held feed.old) (held feed.new) }
+    ensures went { Went R.given R.coming R.at_end feed.old.source feed.new.source }
+    ensures found { FindsNextOrder (Some within) (held feed.new) (R.at_end feed.new.source) result }
+    ensures failed { is_unread result ≡ true → R.broken feed.new.source ≡ true }
+    ensures marks { is_unread result ≡ false →
+        R.broken feed.new.source ≡ R.broken feed.old.source }
+    ensures over { held feed.old ≡ [] → R.at_end feed.old.source ≡ true → result ≡ Ok None }
+    ensures ready { front_len (held feed.old) ≤ length (held feed.old) → feed.new ≡ feed.old }
+{
+    let Ok(begun) = feed.fill(BLOCK_FRONT) else {
+        return Err(CaptureCode::Read);
+    };
+    if !begun {
+        return if feed.held().is_empty() {
+            Ok(None)
+        } else {
+            Err(CaptureCode::Cut)
+        };
+    }
+    if !begins_section(feed.held()) {
+        return Ok(Some(within));
+    }
+    match section_order(feed) {
+        Ok(order) => Ok(Some(order)),
+        Err(code) => Err(code),
+    }
+}
+
+/// Fills the buffer with a block that is read.
+fn hold_block<R: Source>(
+    feed: &mut Feed<R>,
+    order: Order,
+    kind: BlockKind,
+    len: usize,
+) -> Result<Block, CaptureCode>
+    requires front { front_len (held feed.old) ≤ length (held feed.old) }
+    requires says { SaysFront order (held feed.old) (Ok (kind, len)) }
+    requires read { is_read_whole kind ≡ true }
+    ensures keeps { Keeps R.given feed.old feed.new }
+    ensures held { Extends (held feed.old) (held feed.new) }
+    ensures went { Went R.given R.coming R.at_end feed.old.source feed.new.source }
+    ensures found { (within : Option Order) → HasOrder within (held feed.old) order →
+        FindsBlock within [] (held feed.new) (R.at_end feed.new.source) result }
+    ensures failed { is_unread result ≡ true → R.broken feed.new.source ≡ true }
+    ensures marks { is_unread result ≡ false →
+        R.broken feed.new.source ≡ R.broken feed.old.source }
+    ensures ready { len ≤ length (held feed.old) → feed.new ≡ feed.old }
+{
+    let Ok(whole) = feed.fill(len) else {
+        return Err(CaptureCode::Read);
+    };
+    if !whole {
+        return Err(CaptureCode::Cut);
+    }
+    if number_in(order, feed.held(), len - 4) as usize != len {
+        return Err(CaptureCode::Length);
+    }
+    Ok(Block {
+        order,
+        kind,
+        len,
+        held: len,
+    })
+}
+
+/// Passes over a block that is not read, but for its length at its end.
+fn pass_block<R: Source>(
+    feed: &mut Feed<R>,
+    order: Order,
+    kind: BlockKind,
+    len: usize,
+) -> Result<Block, CaptureCode>
+    requires front { front_len (held feed.old) ≤ length (held feed.old) }
+    requires says { SaysFront order (held feed.old) (Ok (kind, len)) }
+    requires read { is_read_whole kind ≡ false }
+    ensures went { Went R.given R.coming R.at_end feed.old.source feed.new.source }
+    ensures found { (passed : List ℕ) × Skips R.given feed.old feed.new passed
+        × ((within : Option Order) → HasOrder within (held feed.old) order →
+        FindsBlock within passed (held feed.new) (R.at_end feed.new.source) result) }
+    ensures failed { is_unread result ≡ true → R.broken feed.new.source ≡ true }
+    ensures marks { is_unread result ≡ false →
+        R.broken feed.new.source ≡ R.broken feed.old.source }
+{
+    let Ok(passed) = feed.skip(len - 4) else {
+        return Err(CaptureCode::Read);
+    };
+    if !passed {
+        return Err(CaptureCode::Cut);
+    }
+    let Ok(whole) = feed.fill(4) else {
+        return Err(CaptureCode::Read);
+    };
+    if !whole {
+        return Err(CaptureCode::Cut);
+    }
+    if number_in(order, feed.held(), 0) as usize != len {
+        return Err(CaptureCode::Length);
+    }
+    Ok(Block {
+        order,
+        kind,
+        len,
+        held: 4,
+    })
+}
+
+/// A block of which the front is held: fills the buffer with it, or passes over it.
+fn rest_of_block<R: Source>(feed: &mut Feed<R>, order: Order) -> Result<Block, CaptureCode>
+    requires front { front_len (held feed.old) ≤ length (held feed.old) }
+    ensures went { Went R.given R.coming R.at_end feed.old.source feed.new.source }
+    ensures found { (passed : List ℕ) × Skips R.given feed.old feed.new passed
+        × ((within : Option Order) → HasOrder within (held feed.old) order →
+        FindsBlock within passed (held feed.new) (R.at_end feed.new.source) result) }
+    ensures failed { is_unread result ≡ true → R.broken feed.new.source ≡ true }
+    ensures marks { is_unread result ≡ false →
+        R.broken feed.new.source ≡ R.broken feed.old.source }
+    ensures ready { HoldsWhole order (held feed.old) → feed.new ≡ feed.old }
+{
+    let (kind, len) = match read_front(order, feed.held()) {
+        Ok(says) => says,
+        Err(code) => return Err(code),
+    };
+    if is_read_whole(kind) {
+        hold_block(feed, order, kind, len)
+    } else {
+        pass_block(feed, order, kind, len)
+    }
+}
+
+/// The block at the front of a file, of which its first four bytes say that it begins a section.
+pub(crate) fn first_block<R: Source>(feed: &mut Feed<R>) -> Result<Block, CaptureCode>
+    requires begun { 4 ≤ length (held feed.old) }
+    requires section { begins_section (held feed.old) ≡ true }
+    ensures went { Went R.given R.coming R.at_end feed.old.source feed.new.source }
+    ensures found { (passed : List ℕ) × Skips R.given feed.old feed.new passed
+        × FindsBlock None passed (held feed.new) (R.at_end feed.new.source) result }
+    ensures failed { is_unread result ≡ true → R.broken feed.new.source ≡ true }
+    ensures marks { is_unread result ≡ false →
+        R.broken feed.new.source ≡ R.broken feed.old.source }
+{
+    match section_order(feed) {
+        Ok(order) => rest_of_block(feed, order),
+        Err(code) => Err(code),
+    }
+}
+
+/// The next block in a section of this byte order, which is then held, or all but its length at its end
+/// passed over; or that there is none.
+pub(crate) fn next_block<R: Source>(
+    feed: &mut Feed<R>,
+    within: Order,
+) -> Result<Option<Block>, CaptureCode>
+    ensures went { Went R.given R.coming R.at_end feed.old.source feed.new.source }
+    ensures found { (passed : List ℕ) × Skips R.given feed.old feed.new passed
+        × FindsNextBlock (Some within) passed (held feed.new) (R.at_end feed.new.source) result }
+    ensures failed { is_unread result ≡ true → R.broken feed.new.source ≡ true }
+    ensures marks { is_unread result ≡ false →
+        R.broken feed.new.source ≡ R.broken feed.old.source }
+    ensures over { held feed.old ≡ [] → R.at_end feed.old.source ≡ true → result ≡ Ok None }
+    ensures ready { HoldsBlock (Some within) (held feed.old) → feed.new ≡ feed.old }
+{
+    match next_order(feed, within) {
+        Err(code) => Err(code),
+        Ok(None) => Ok(None),
+        Ok(Some(order)) => match rest_of_block(feed, order) {
+            Ok(block) => Ok(Some(block)),
+            Err(code) => Err(code),
+        },
+    }
+}

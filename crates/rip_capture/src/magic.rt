@@ -1,0 +1,58 @@
+//! What kind of capture a file is.
+
+ghost use Rattle.std.specs.Prelude.{◌≡◌, ◌<◌, ◌≤◌, true, false, length, MatchOption};
+ghost use Rattle.rip_log.specs.Wholes.{Went};
+ghost use Rattle.rip_capture.specs.Captures.{HasMagic};
+ghost use Rattle.rip_capture.specs.Codes.{is_unread};
+ghost use Rattle.rip_capture.specs.Feeds.{held, Keeps};
+ghost use Rattle.rip_capture.specs.Finds.{FindsMagic, IsMagicOf};
+
+use crate::error::CaptureCode;
+use crate::feed::Feed;
+use crate::limits::{MAGIC_LEN, SECTION};
+use crate::numbers::{Order, u32_at};
+use rip_log::Source;
+
+/// What the first four bytes of a file say.
+#[derive(Clone, Copy)]
+pub enum Magic {
+    /// A pcap file of a byte order, with times in microseconds or nanoseconds.
+    Pcap(Order),
+    /// A pcapng file.
+    Pcapng,
+}
+
+/// The kind of a file that begins so, if it is one of the five beginnings.
+fn magic_of(bytes: &[u8]) -> Option<Magic>
+    requires { MAGIC_LEN ≤ length bytes.now }
+    ensures { MatchOption result (¬ HasMagic bytes.now) (λ magic. IsMagicOf bytes.now magic) }
+{
+    match u32_at(bytes, 0) {
+        0xA1B2_C3D4 | 0xA1B2_3C4D => Some(Magic::Pcap(Order::Big)),
+        0xD4C3_B2A1 | 0x4D3C_B2A1 => Some(Magic::Pcap(Order::Little)),
+        SECTION => Some(Magic::Pcapng),
+        _ => None,
+    }
+}
+
+/// The kind of a file, of which the first four bytes are then held.
+pub(crate) fn next_magic<R: Source>(feed: &mut Feed<R>) -> Result<Magic, CaptureCode>
+    ensures keeps { Keeps R.given feed.old feed.new }
+    ensures went { Went R.given R.coming R.at_end feed.old.source feed.new.source }
+    ensures found { FindsMagic (held feed.new) (R.at_end feed.new.source) result }
+    ensures failed { is_unread result ≡ true → R.broken feed.new.source ≡ true }
+    ensures short { is_unread result ≡ true → length (held feed.new) < MAGIC_LEN }
+    ensures marks { is_unread result ≡ false →
+        R.broken feed.new.source ≡ R.broken feed.old.source }
+{
+    let Ok(begun) = feed.fill(MAGIC_LEN) else {
+        return Err(CaptureCode::Read);
+    };
+    if !begun {
+        return Err(CaptureCode::Cut);
+    }
+    match magic_of(feed.held()) {
+        Some(magic) => Ok(magic),
+        None => Err(CaptureCode::Magic),
+    }
+}
