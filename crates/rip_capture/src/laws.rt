@@ -1,19 +1,25 @@
 //! Laws of the definitions alone: functions that do nothing, whose contracts hold of all frames and all
 //! files.
 
-ghost use Rattle.std.specs.Prelude.{◌≡◌, ◌≢◌, ◌⊎◌, ◌*◌, ◌<◌, ◌≤◌, ◌++◌, ℕ, List, length};
+ghost use Rattle.std.specs.Prelude.{◌≡◌, ◌≢◌, ◌⊎◌, ◌↔◌, ◌*◌, ◌<◌, ◌≤◌, ◌++◌, ℕ, true, List, length, take};
 ghost use Rattle.std.specs.List.{AllByRecursion};
+ghost use Rattle.rip_capture.specs.Authentication.{AreEntries, IsAuthenticated, has_authentication, without_authentication};
 ghost use Rattle.rip_capture.specs.Captures.{CaptureFault, IsCapture};
 ghost use Rattle.rip_capture.specs.Carries.{Carries};
 ghost use Rattle.rip_capture.specs.Pcap.{Frame};
+ghost use Rattle.rip_capture.specs.Spans.{slice_of};
 ghost use Rattle.rip_capture.specs.declared.error.CaptureCode.{CaptureCode};
 ghost use Rattle.rip_capture.specs.declared.link.LinkType.{LinkType};
 ghost use Rattle.rip_capture.specs.declared.packet.Carried.{Carried};
+ghost use Rattle.rip_capture.specs.declared.span.Span.{Span};
+ghost use Rattle.rip_wire.specs.declared.limits.TheConstants.{HEADER_LEN};
 
+use crate::authentication::{DATA_LEN_AT, DIGEST, ENTRIES_FROM, TRAILER, TRAILER_HEADER};
 use crate::limits::{
     FILE_HEADER, GROUP, IP_HEADER, MAGIC_LEN, MOST_CAPTURED, MOST_PAYLOAD, PORT, RECORD_HEADER,
     UDP, UDP_HEADER,
 };
+use crate::password::{AUTHENTICATION, PASSWORD};
 
 /// The numbers of RIP over IPv4, and the most bytes of a datagram.
 pub fn datagram_limits()
@@ -31,6 +37,25 @@ pub fn file_limits()
     ensures file_header { FILE_HEADER ≡ 24 }
     ensures record_header { RECORD_HEADER ≡ 16 }
     ensures captured { MOST_CAPTURED ≡ 262144 }
+{}
+
+/// The numbers of an authentication, and the sizes of what has it.
+pub fn authentication_numbers()
+    ensures family { AUTHENTICATION ≡ 0xFFFF }
+    ensures password { PASSWORD ≡ 2 }
+    ensures digest { DIGEST ≡ 3 }
+    ensures trailer { TRAILER ≡ 1 }
+    ensures data_len { DATA_LEN_AT ≡ 11 }
+    ensures entries { ENTRIES_FROM ≡ 24 }
+    ensures trailer_header { TRAILER_HEADER ≡ 4 }
+{}
+
+/// The test of an authentication is true of just the datagrams that have one in the words of the standard,
+/// and what is left of such a datagram is its header and its other entries.
+pub fn authentications()
+    ensures tested { (d : List ℕ) → (has_authentication d ≡ true) ↔ IsAuthenticated d }
+    ensures left { (d : List ℕ) (span : Span) → AreEntries d span →
+        without_authentication d ≡ take HEADER_LEN d ++ slice_of d span }
 {}
 
 /// A frame of a link type carries one thing alone.
