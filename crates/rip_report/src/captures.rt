@@ -1,5 +1,6 @@
 //! The command `log`: a log of the datagrams in capture files.
 
+mod authentication;
 mod counts;
 mod ending;
 mod lines;
@@ -8,7 +9,7 @@ mod packets;
 mod tally;
 
 ghost use Rattle.std.specs.Prelude.{◌≡◌, ◌≢◌, ◌⊎◌, ◌+◌, ◌^◌, ◌<◌, ◌≤◌, ◌++◌, ◌∷◌, [], ℕ, List, Some, Err, is_err, length, true};
-ghost use Rattle.rip_report.specs.CaptureLogs.{AddsFile, File, GoesOn, IsLogOf, LogOf, worse};
+ghost use Rattle.rip_report.specs.CaptureLogs.{AddsFile, File, GoesOn, IsLogOf, LogOf, authentication_of, worse};
 ghost use Rattle.rip_log.specs.declared.limits.TheConstants.{MOST_LINES};
 ghost use Rattle.rip_report.specs.CapturePackets.{ClosesFile, EndsWith};
 ghost use Rattle.rip_log.specs.Taken.{Took};
@@ -23,6 +24,7 @@ ghost use Rattle.rip_report.specs.declared.captures.log.CaptureLog.{CaptureLog};
 ghost use Rattle.rip_report.specs.declared.captures.tally.Tally.{Tally};
 ghost use Rattle.rip_report.specs.declared.limits.TheConstants.{NAME};
 
+pub use crate::captures::authentication::Authentication;
 use crate::captures::ending::Ending;
 use crate::captures::lines::{add_comment, file_refusal_text};
 pub use crate::captures::log::CaptureLog;
@@ -81,6 +83,7 @@ fn close_whole<K: Sink>(
     add_comment(&mut listing, number, link, &tally.counts, out);
     let status = end_listing(listing, Ok(tally.counts.status()), out)?;
     *log = CaptureLog {
+        authentication: log.authentication,
         files: number,
         lines: tally.lines + 1,
         status: worse(log.status, status),
@@ -127,7 +130,7 @@ pub fn log_failure<K: Sink>(error: RunError, out: &mut K) -> Result<Status, RunE
     ensures goes_on { (log : CaptureLog) (files : List File) (text : List ℕ) (file : File) →
         IsLogOf log files text → result ≢ Err RunError.Write → (part : List ℕ)
         × Took (K.taken out.old) (K.taken out.new) part
-        × LogOf (files ++ file ∷ []) (text ++ part) result }
+        × LogOf (authentication_of log) (files ++ file ∷ []) (text ++ part) result }
 {
     let mut listing = Listing::new();
     listing.add_text(fault_line(&error), out);
@@ -175,7 +178,9 @@ pub fn run_log<R: Source, K: Sink>(
         Err((_, file)) => (file, log_failure(RunError::Memory, out)),
         Ok(mut reader) => {
             let mut listing = Listing::new();
-            let ending = log_packets(&mut reader, link, log.lines, &mut listing, out);
+            let authentication = log.authentication;
+            let lines = log.lines;
+            let ending = log_packets(&mut reader, link, authentication, lines, &mut listing, out);
             let answer = close_file(log, link, ending, listing, out);
             (reader.into_source(), answer)
         }
