@@ -76,8 +76,9 @@ fn close_whole<K: Sink>(
     requires link { length link.now ≤ NAME }
     requires later { log.old.lines ≤ tally.lines }
     requires room { tally.lines < MOST_LINES }
-    ensures { ClosesFile K.taken K.broken out.old out.new log.old log.new link.now listing
+    ensures closes { ClosesFile K.taken K.broken out.old out.new log.old log.new link.now listing
         (Ending.Whole tally) result }
+    ensures authentication { authentication_of log.new ≡ authentication_of log.old }
 {
     let number = log.files + 1;
     add_comment(&mut listing, number, link, &tally.counts, out);
@@ -103,8 +104,9 @@ fn close_file<K: Sink>(
     requires whole { (tally : Tally) → ending ≡ Ending.Whole tally →
         (log.old.lines ≤ tally.lines) × (tally.lines < MOST_LINES) }
     requires unwritten { ending ≡ Ending.Unwritten → is_err listing.wrote ≡ true }
-    ensures { ClosesFile K.taken K.broken out.old out.new log.old log.new link.now listing
+    ensures closes { ClosesFile K.taken K.broken out.old out.new log.old log.new link.now listing
         ending result }
+    ensures authentication { authentication_of log.new ≡ authentication_of log.old }
 {
     match ending {
         Ending::Whole(tally) => close_whole(log, link, tally, listing, out),
@@ -160,6 +162,8 @@ pub fn run_log<R: Source, K: Sink>(
         × Took (K.taken out.old) (K.taken out.new) part
         × GoesOn log.new (files ++ record { link = link.now; bytes = bytes } ∷ [])
         (text ++ part) result.1 }
+    // What becomes of the authentication of datagrams stays.
+    ensures authentication { authentication_of log.new ≡ authentication_of log.old }
     // The bytes given are the first of those to come, where these are modelled.
     ensures went { Went R.given R.coming R.at_end file result.0 }
     ensures to_come { (bytes : List ℕ) → R.coming file ≡ Some bytes →

@@ -1,7 +1,8 @@
 //! The words of the command line, and what they ask for.
 
-ghost use Rattle.std.specs.Prelude.{◌≢◌, map};
+ghost use Rattle.std.specs.Prelude.{◌≡◌, ◌≢◌, map};
 ghost use Rattle.rip_wire.specs.Name.{IsName};
+ghost use Rattle.rip_report.specs.CaptureLogs.{authentication_of};
 ghost use Rattle.rip_report.specs.declared.status.RunError.{RunError};
 ghost use Rattle.ripaudit.specs.CaptureWords.{AreFineWords};
 
@@ -286,6 +287,7 @@ fn log_file<R: Files + AllocGlobal + Input + Eprint, K: Sink>(
 where
     R::Reader: IsTerminal,
     requires { IsName word.link.now }
+    ensures { authentication_of log.new ≡ authentication_of log.old }
 {
     let alloc = rt.alloc();
     if word.is_input() {

@@ -274,8 +274,12 @@ fn other_text(counts: &PacketCounts) -> Line
 {
     let mut text = Line::new();
     push_count(&mut text, ", ", counts.passwords, " passwords");
-    let bare = counts.without_authentication;
-    push_count(&mut text, ", ", bare, " without authentication");
+    push_count(
+        &mut text,
+        ", ",
+        counts.without_authentication,
+        " without authentication",
+    );
     push_count(&mut text, ", ", counts.elsewhere, " elsewhere");
     push_count(&mut text, ", ", counts.others, " others");
     text.end();
