@@ -42,7 +42,7 @@ wrong-bodies-apart:
 install: $(PROGRAM)
 	install -D $(PROGRAM) $(DESTDIR)$(PREFIX)/bin/ripaudit
 	install -D -m 644 docs/ripaudit.1 $(SHARE)/man/man1/ripaudit.1
-	install -D -m 644 docs/tcpdump-to-log.awk $(SHARE)/ripaudit/tcpdump-to-log.awk
+	install -d $(SHARE)/ripaudit
 	install -m 755 share/plan-from-routers share/plan-to-dot $(SHARE)/ripaudit
 	install -m 644 share/*.awk $(SHARE)/ripaudit
 	install -D -m 644 completions/ripaudit.bash $(SHARE)/bash-completion/completions/ripaudit

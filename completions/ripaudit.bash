@@ -16,6 +16,7 @@ _ripaudit() {
     :0:-*) _ripaudit_words --help --version ;;
     audit:*:-* | explain:*:-* | whatif:*:-*) _ripaudit_words --all --help ;;
     routes:*:-* | table:*:-*) _ripaudit_words --anyway --help ;;
+    log:*:-*) _ripaudit_words --without-authentication --help ;;
     *:-*) _ripaudit_words --help ;;
     :0:* | help:0:*) _ripaudit_words audit explain heard routes table expect whatif plan log decode help ;;
     audit:0:* | explain:0:* | heard:0:* | routes:0:* | table:0:* | expect:0:* | whatif:0:* | plan:0:*) _ripaudit_files '*.toml' ;;

@@ -1,3 +1,4 @@
+pub mod AuthenticationRelations
 pub mod NumberLemmas
 pub mod FeedLemmas
 pub mod FrameLemmas

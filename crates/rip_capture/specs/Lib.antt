@@ -10,6 +10,7 @@ pub mod NextCall
 pub mod Numbers
 pub mod Packets
 pub mod Passwords
+pub mod Authentication
 pub mod Pcap
 pub mod Pcapng
 pub mod Spans

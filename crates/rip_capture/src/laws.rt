@@ -1,22 +1,28 @@
 //! Laws of the definitions alone: functions that do nothing, whose contracts hold of all frames and all
 //! files.
 
-ghost use Rattle.std.specs.Prelude.{◌≡◌, ◌≢◌, ◌⊎◌, ◌*◌, ◌<◌, ◌≤◌, ◌++◌, ℕ, List, Option, length};
+ghost use Rattle.std.specs.Prelude.{◌≡◌, ◌≢◌, ◌⊎◌, ◌↔◌, ◌*◌, ◌<◌, ◌≤◌, ◌++◌, ℕ, true, List, Option, length, take};
 ghost use Rattle.std.specs.List.{AllByRecursion};
+ghost use Rattle.rip_capture.specs.Authentication.{AreEntries, IsAuthenticated, has_authentication, without_authentication};
 ghost use Rattle.rip_capture.specs.Captures.{CaptureFault, IsCapture, IsRead};
 ghost use Rattle.rip_capture.specs.Carries.{Carries};
 ghost use Rattle.rip_capture.specs.NextCall.{HasRead};
 ghost use Rattle.rip_capture.specs.Pcap.{Frame};
 ghost use Rattle.rip_capture.specs.Pcapng.{Section};
+ghost use Rattle.rip_capture.specs.Spans.{slice_of};
 ghost use Rattle.rip_capture.specs.declared.error.CaptureCode.{CaptureCode};
 ghost use Rattle.rip_capture.specs.declared.link.LinkType.{LinkType};
 ghost use Rattle.rip_capture.specs.declared.packet.Carried.{Carried};
 ghost use Rattle.rip_capture.specs.declared.reader.Format.{Format};
+ghost use Rattle.rip_capture.specs.declared.span.Span.{Span};
+ghost use Rattle.rip_wire.specs.declared.limits.TheConstants.{HEADER_LEN};
 
+use crate::authentication::{DATA_LEN_AT, DIGEST, ENTRIES_FROM, TRAILER, TRAILER_HEADER};
 use crate::limits::{
     BLOCK_FRONT, FILE_HEADER, GROUP, IP_HEADER, MAGIC_LEN, MOST_BLOCK, MOST_CAPTURED,
     MOST_INTERFACES, MOST_PAYLOAD, PORT, RECORD_HEADER, SECTION, SECTION_FRONT, UDP, UDP_HEADER,
 };
+use crate::password::{AUTHENTICATION, PASSWORD};
 
 /// The numbers of RIP over IPv4, and the most bytes of a datagram.
 pub fn datagram_limits()
@@ -43,6 +49,25 @@ pub fn block_limits()
     ensures section_front { SECTION_FRONT ≡ 12 }
     ensures most { MOST_BLOCK ≡ 524288 }
     ensures interfaces { MOST_INTERFACES ≡ 256 }
+{}
+
+/// The numbers of an authentication, and the sizes of what has it.
+pub fn authentication_numbers()
+    ensures family { AUTHENTICATION ≡ 0xFFFF }
+    ensures password { PASSWORD ≡ 2 }
+    ensures digest { DIGEST ≡ 3 }
+    ensures trailer { TRAILER ≡ 1 }
+    ensures data_len { DATA_LEN_AT ≡ 11 }
+    ensures entries { ENTRIES_FROM ≡ 24 }
+    ensures trailer_header { TRAILER_HEADER ≡ 4 }
+{}
+
+/// The test of an authentication is true of just the datagrams that have one in the words of the standard,
+/// and what is left of such a datagram is its header and its other entries.
+pub fn authentications()
+    ensures tested { (d : List ℕ) → (has_authentication d ≡ true) ↔ IsAuthenticated d }
+    ensures left { (d : List ℕ) (span : Span) → AreEntries d span →
+        without_authentication d ≡ take HEADER_LEN d ++ slice_of d span }
 {}
 
 /// A frame of a link type carries one thing alone.

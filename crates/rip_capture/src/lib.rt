@@ -1,6 +1,7 @@
 //! Captures: the packets of a capture file, and the RIP datagram that a packet carries.
 #![tactic(auto)]
 
+mod authentication;
 mod blocks;
 mod bodies;
 mod error;
@@ -17,6 +18,7 @@ mod pcap;
 mod reader;
 mod span;
 
+pub use authentication::entries_in;
 pub use error::{CaptureCode, CaptureError};
 pub use limits::{GROUP, MOST_CAPTURED, MOST_PAYLOAD, PORT};
 pub use link::LinkType;

@@ -25,6 +25,7 @@ use Rattle.rip_report.specs.CapturePackets.{ClosesSo, EndsSo, EndsWith}
 use Rattle.rip_report.specs.CaptureText.{Carrier, IsCarrier, comment_line, counted_status, line_count, packet_lines}
 use Rattle.rip_report.specs.Statuses.{fault_line_of}
 use Rattle.rip_report.specs.Written.{line}
+use Rattle.rip_report.specs.declared.captures.authentication.Authentication.{Authentication}
 use Rattle.rip_report.specs.declared.captures.ending.Ending.{Ending}
 use Rattle.rip_report.specs.declared.captures.ending.Ending.TheVariants.{Whole, Refused, Unread, Unwritten}
 use Rattle.rip_report.specs.declared.captures.ending.RefusalCode.TheVariants.{Capture, TooManyLines}
@@ -98,14 +99,14 @@ module _ {R : Type 0} (given : R → List ℕ) (at_end : R → Bool) (before byt
     by_code NoRead found ended = later NoRead (λ e. cc e) found
 
   -- a file that is refused since the log has no room
-  many-by : (lines : ℕ) (cs : List Carrier) (at : ℕ) (listing : Listing) → AllByRecursion IsCarrier cs → EndsSo given at_end before lines cs reader listing (Refused TooManyLines at)
+  many-by : (how : Authentication) (lines : ℕ) (cs : List Carrier) (at : ℕ) (listing : Listing) → AllByRecursion IsCarrier cs → EndsSo given at_end how before lines cs reader listing (Refused TooManyLines at)
       → IsRefusedAt lines bytes cs TooManyLines at
-  many-by lines cs at listing carry (count, inl (next, is, takes, has)) =
+  many-by how lines cs at listing carry (count, inl (next, is, takes, has)) =
       packet takes.front takes.bytes (held_by reader ++ text.left) next (record { capture = takes.right; carry = carry })
       (record { capture = subst (λ (fs : List Frame). IsCapture (takes.front ++ takes.bytes) fs) (sym (frames-snoc cs next)) takes.longer; carry = all-snoc IsCarrier cs next carry is })
       (split-at (takes.front ++ takes.bytes) (map (λ c. c.frame) cs ++ next.frame ∷ []) takes.stands ∙ append_assoc (takes.front ++ takes.bytes) (held_by reader) text.left)
       has count takes.place_is refl
-  many-by lines cs at listing carry (count, inr (here, place)) =
+  many-by how lines cs at listing carry (count, inr (here, place)) =
       let is = whole-is (map (λ c. c.frame) cs) here in
       comment (record { capture = subst (λ l. IsCapture l (map (λ c. c.frame) cs)) (sym is) here.right; carry = carry })
       count (place ∙ here.stands.position ∙ ap length (sym is)) refl
@@ -113,10 +114,10 @@ module _ {R : Type 0} (given : R → List ℕ) (at_end : R → Bool) (before byt
 -- a run that wrote the text of a file, and then ends, has added it
 module _ {K : Type 0} (taken : K → Taken) (broken : K → Bool) (old new : K) (before after : CaptureLog) (link bytes : List ℕ) where
   pub adds-text : (text : List ℕ) (lines : ℕ) (answer result : Result Status RunError) → EndsWith taken broken old new text answer result
-      → FileText (before.files + 1) before.lines link bytes text lines answer → Follows before after lines result → AddsFile taken broken old new before after link bytes result
+      → FileText before.authentication (before.files + 1) before.lines link bytes text lines answer → Follows before after lines result → AddsFile taken broken old new before after link bytes result
   adds-text text lines answer result ends is follows = record {
     kept = λ e is_error. subst (Follows before after lines) is_error follows;
-    text = λ h. let out = ends.out h in (text, lines, subst (λ r. FileText (before.files + 1) before.lines link bytes text lines r) (sym out.0) is, out.1, follows);
+    text = λ h. let out = ends.out h in (text, lines, subst (λ r. FileText before.authentication (before.files + 1) before.lines link bytes text lines r) (sym out.0) is, out.1, follows);
     write = λ e. let h = ends.write e in (h.0, (text, whole_front lines answer is, h.1));
     sink = ends.sink;
   }
@@ -132,26 +133,26 @@ module _ {R K : Type 0} (given : R → List ℕ) (at_end : R → Bool) (start by
     (text : Begins (start ++ bytes) (given (source_of reader)) (at_end (source_of reader)))
     (taken : K → Taken) (broken : K → Bool) (old new : K) (before after : CaptureLog) (link : List ℕ) (listing : Listing) (early : Early) (captures : ReadCaptures)
     (cs : List Carrier) (carry : AllByRecursion IsCarrier cs) (few : before.lines + line_count cs ≤ 1000000) where
-  pub adds-file : (ending : Ending) (result : Result Status RunError) → EndsSo given at_end start before.lines cs reader listing ending
-      → ClosesSo taken broken old new before after link (packet_lines link cs) ending result → AddsFile taken broken old new before after link bytes result
+  pub adds-file : (ending : Ending) (result : Result Status RunError) → EndsSo given at_end before.authentication start before.lines cs reader listing ending
+      → ClosesSo taken broken old new before after link (packet_lines before.authentication link cs) ending result → AddsFile taken broken old new before after link bytes result
   adds-file (Whole tally) result (here, counts, count, room) (ends, follows) =
       let is = whole-is given at_end start bytes reader text (map (λ c. c.frame) cs) here in
       adds-text taken broken old new before after link bytes _ (tally.lines + 1) _ result ends
       (whole cs (record { capture = subst (λ l. IsCapture l (map (λ c. c.frame) cs)) (sym is) here.right; carry = carry }) (omega (arith, count)) (omega (arith, room))
-      (ap (λ n. packet_lines link cs ++ comment_line (before.files + 1) link n) counts) (ap (λ n. Ok (counted_status n)) counts)) follows
+      (ap (λ n. packet_lines before.authentication link cs ++ comment_line (before.files + 1) link n) counts) (ap (λ n. Ok (counted_status n)) counts)) follows
   adds-file (Refused (Capture code) at) result (stops, calm) (ends, same) =
       let found = fault-by given at_end start bytes reader text early (map (λ c. c.frame) cs) stops.front stops.rest code at stops.gave (stops.fault calm) stops.ended in
       adds-text taken broken old new before after link bytes _ 0 _ result ends
       (refused cs (Capture code) at (fault code found carry few refl) refl refl) (not-followed taken broken old new before after link bytes _ 0 _ result (inl refl) ends same)
   adds-file (Refused TooManyLines at) result ends_so (ends, same) =
       adds-text taken broken old new before after link bytes _ 0 _ result ends
-      (refused cs TooManyLines at (many-by given at_end start bytes reader text before.lines cs at listing carry ends_so) refl refl) (not-followed taken broken old new before after link bytes _ 0 _ result (inl refl) ends same)
+      (refused cs TooManyLines at (many-by given at_end start bytes reader text before.authentication before.lines cs at listing carry ends_so) refl refl) (not-followed taken broken old new before after link bytes _ 0 _ result (inl refl) ends same)
   adds-file Unread result (error, stops, failed) (ends, same) =
       adds-text taken broken old new before after link bytes _ 0 _ result ends
       (unread cs (begins-by given at_end start bytes reader text cs stops.front stops.rest carry stops.read stops.gave) few refl refl) (not-followed taken broken old new before after link bytes _ 0 _ result (inr refl) ends same)
   adds-file Unwritten result (failed, (so_far, stands)) (is, sink, began, same) = record {
     text = λ h. absurd (h is);
-    write = λ e. (sink, (packet_lines link cs, some_packets cs (begins-by given at_end start bytes reader text cs so_far (held_by reader) carry (captures reader.format (section_by reader) so_far (map (λ c. c.frame) cs) stands.read) stands.gave) few refl, began));
+    write = λ e. (sink, (packet_lines before.authentication link cs, some_packets cs (begins-by given at_end start bytes reader text cs so_far (held_by reader) carry (captures reader.format (section_by reader) so_far (map (λ c. c.frame) cs) stands.read) stands.gave) few refl, began));
     sink = λ h. absurd (h is);
     kept = λ e is_error. same;
   }
@@ -175,9 +176,9 @@ never-memory taken broken old new before after link text Unread result (ends, sa
 never-memory taken broken old new before after link text Unwritten result (is, sink, began, same) e = cc (is, e)
 
 module _ {R : Type 0} (given : R → List ℕ) (at_end : R → Bool) (start bytes : List ℕ) (reader : CaptureReader R)
-    (text : Begins (start ++ bytes) (given (source_of reader)) (at_end (source_of reader))) (lines : ℕ) (listing : Listing) (cs : List Carrier) where
+    (text : Begins (start ++ bytes) (given (source_of reader)) (at_end (source_of reader))) (how : Authentication) (lines : ℕ) (listing : Listing) (cs : List Carrier) where
   -- or the file is longer than offsets go
-  pub far-bytes : EndsSo given at_end start lines cs reader listing Unread → IsFar reader → 2 ^ 64 ≤ length bytes + 2 ^ 32
+  pub far-bytes : EndsSo given at_end how start lines cs reader listing Unread → IsFar reader → 2 ^ 64 ≤ length bytes + 2 ^ 32
   far-bytes (error, stops, failed) far =
       let is = split-by given at_end start bytes reader text stops.front stops.rest stops.gave in
       let size : length bytes ≡ length stops.front + length (stops.rest ++ text.left) = ap length (is ∙ append_assoc stops.front stops.rest text.left) ∙ length-append stops.front (stops.rest ++ text.left) in
@@ -185,8 +186,8 @@ module _ {R : Type 0} (given : R → List ℕ) (at_end : R → Bool) (start byte
 
 -- what went out where the source failed has each packet that it gave whole
 pub adds-unread : {R K : Type 0} (given : R → List ℕ) (at_end : R → Bool) (start bytes : List ℕ) (reader : CaptureReader R) (taken : K → Taken) (broken : K → Bool) (old new : K) (before after : CaptureLog) (link : List ℕ) (lines : ℕ) (listing : Listing) (cs : List Carrier)
-    → AllByRecursion IsCarrier cs → given (source_of reader) ≡ start ++ bytes → EndsSo given at_end start lines cs reader listing Unread → (result : Result Status RunError) → ClosesSo taken broken old new before after link (packet_lines link cs) Unread result
-    → result ≡ Err Read → AddsUnread taken old new link bytes
+    → AllByRecursion IsCarrier cs → given (source_of reader) ≡ start ++ bytes → EndsSo given at_end before.authentication start lines cs reader listing Unread → (result : Result Status RunError) → ClosesSo taken broken old new before after link (packet_lines before.authentication link cs) Unread result
+    → result ≡ Err Read → AddsUnread taken old new before.authentication link bytes
 adds-unread given at_end start bytes reader taken broken old new before after link lines listing cs carry gave (error, stops, failed) result (ends, same) e =
     let is : bytes ≡ stops.front ++ stops.rest = append_cancel_left start bytes (stops.front ++ stops.rest) (sym gave ∙ stops.gave ∙ append_assoc start stops.front stops.rest) in
     record {
@@ -202,30 +203,35 @@ adds-unread given at_end start bytes reader taken broken old new before after li
 -- ---- a log that goes on
 
 module _ (before after : CaptureLog) (link bytes part : List ℕ) (lines : ℕ) (files : List File) (text : List ℕ) (is : IsLogOf before files text) where
-  stops : (answer : Result Status RunError) → FileText (before.files + 1) before.lines link bytes part lines answer → (answer ≡ Ok RefusedFile) ⊎ (is_err answer ≡ true)
-      → LogOf (files ++ record { link = link; bytes = bytes } ∷ []) (text ++ part) answer
+  stops : (answer : Result Status RunError) → FileText before.authentication (before.files + 1) before.lines link bytes part lines answer → (answer ≡ Ok RefusedFile) ⊎ (is_err answer ≡ true)
+      → LogOf before.authentication (files ++ record { link = link; bytes = bytes } ∷ []) (text ++ part) answer
   stops answer file stop = stopped files [] (record { link = link; bytes = bytes }) text part before.lines lines before.status is.so_far
-      (subst (λ n. FileText (n + 1) before.lines link bytes part lines answer) is.count file) stop refl refl
+      (subst (λ n. FileText before.authentication (n + 1) before.lines link bytes part lines answer) is.count file) stop refl refl
 
-  one-more : (status : Status) → status ≢ RefusedFile → FileText (before.files + 1) before.lines link bytes part lines (Ok status)
-      → (after.files ≡ before.files + 1) × (after.lines ≡ lines) × (after.status ≡ worse before.status status)
+  one-more : (status : Status) → status ≢ RefusedFile → FileText before.authentication (before.files + 1) before.lines link bytes part lines (Ok status)
+      → (after.authentication ≡ before.authentication) × (after.files ≡ before.files + 1) × (after.lines ≡ lines) × (after.status ≡ worse before.status status)
       → IsLogOf after (files ++ record { link = link; bytes = bytes } ∷ []) (text ++ part)
-  one-more status good file (count, ends, answers) = record {
+  one-more status good file (same, count, ends, answers) = record {
     count = count ∙ ap (λ n. n + 1) is.count ∙ sym (length-snoc files (record { link = link; bytes = bytes }));
-    so_far = subst (λ n. SoFar (files ++ record { link = link; bytes = bytes } ∷ []) (text ++ part) n after.status) (sym ends)
-        (subst (λ s. SoFar (files ++ record { link = link; bytes = bytes } ∷ []) (text ++ part) lines s) (sym answers)
+    so_far = subst (λ h. SoFar h (files ++ record { link = link; bytes = bytes } ∷ []) (text ++ part) after.lines after.status) (sym same)
+        (subst (λ n. SoFar before.authentication (files ++ record { link = link; bytes = bytes } ∷ []) (text ++ part) n after.status) (sym ends)
+        (subst (λ s. SoFar before.authentication (files ++ record { link = link; bytes = bytes } ∷ []) (text ++ part) lines s) (sym answers)
         (more files (record { link = link; bytes = bytes }) text part before.lines lines before.status status is.so_far good
-        (subst (λ n. FileText (n + 1) before.lines link bytes part lines (Ok status)) is.count file)));
+        (subst (λ n. FileText before.authentication (n + 1) before.lines link bytes part lines (Ok status)) is.count file))));
   }
 
-  pub goes-on : (answer : Result Status RunError) → FileText (before.files + 1) before.lines link bytes part lines answer → Follows before after lines answer
+  still : (answer : Result Status RunError) → after ≡ before → LogOf before.authentication (files ++ record { link = link; bytes = bytes } ∷ []) (text ++ part) answer
+      → LogOf after.authentication (files ++ record { link = link; bytes = bytes } ∷ []) (text ++ part) answer
+  still answer same log = subst (λ (l : CaptureLog). LogOf l.authentication (files ++ record { link = link; bytes = bytes } ∷ []) (text ++ part) answer) (sym same) log
+
+  pub goes-on : (answer : Result Status RunError) → FileText before.authentication (before.files + 1) before.lines link bytes part lines answer → Follows before after lines answer
       → GoesOn after (files ++ record { link = link; bytes = bytes } ∷ []) (text ++ part) answer
-  goes-on (Ok RefusedFile) file follows = stops (Ok RefusedFile) file (inl refl)
+  goes-on (Ok RefusedFile) file follows = still (Ok RefusedFile) follows (stops (Ok RefusedFile) file (inl refl))
   goes-on (Ok Done) file follows = one-more Done (λ e. cc e) file follows
   goes-on (Ok Unclear) file follows = one-more Unclear (λ e. cc e) file follows
   goes-on (Ok Settled) file follows = one-more Settled (λ e. cc e) file follows
   goes-on (Ok Unsettled) file follows = one-more Unsettled (λ e. cc e) file follows
-  goes-on (Err e) file follows = stops (Err e) file (inr refl)
+  goes-on (Err e) file follows = still (Err e) follows (stops (Err e) file (inr refl))
 
 pub log-goes-on : {K : Type 0} (taken : K → Taken) (broken : K → Bool) (old new : K) (before after : CaptureLog) (link bytes : List ℕ) (answer : Result Status RunError) → AddsFile taken broken old new before after link bytes answer
     → (files : List File) (text : List ℕ) → IsLogOf before files text → answer ≢ Err Write
@@ -235,15 +241,15 @@ log-goes-on taken broken old new before after link bytes answer adds files text 
     (out.0, out.3, goes-on before after link bytes out.0 out.1 files text is answer out.2 out.4)
 
 -- a failure before a file is begun, of which nothing was read
-failed-text : (error : RunError) → error ≢ Write → (n : ℕ) (log : CaptureLog) (link bytes : List ℕ) → FileText n log.lines link bytes (line (fault_line_of error)) log.lines (Err error)
+failed-text : (error : RunError) → error ≢ Write → (n : ℕ) (log : CaptureLog) (link bytes : List ℕ) → FileText log.authentication n log.lines link bytes (line (fault_line_of error)) log.lines (Err error)
 failed-text Read h n log link bytes = unread [] (none refl) (omega (arith, log.few)) refl refl
 failed-text Write h n log link bytes = absurd (h refl)
 failed-text Memory h n log link bytes = memory refl refl
 
 pub failure-goes-on : {K : Type 0} (taken : K → Taken) (broken : K → Bool) (old new : K) (error : RunError) (result : Result Status RunError) → error ≢ Write
     → EndsWith taken broken old new (line (fault_line_of error)) (Err error) result → (log : CaptureLog) (files : List File) (text : List ℕ) (file : File) → IsLogOf log files text → result ≢ Err Write
-    → (part : List ℕ) × Took (taken old) (taken new) part × LogOf (files ++ file ∷ []) (text ++ part) result
+    → (part : List ℕ) × Took (taken old) (taken new) part × LogOf log.authentication (files ++ file ∷ []) (text ++ part) result
 failure-goes-on taken broken old new error result good ends log files text file is wrote =
     let out = ends.out wrote in
     let log_of = stopped files [] file text (line (fault_line_of error)) log.lines log.lines log.status is.so_far (failed-text error good (length files + 1) log file.link file.bytes) (inr refl) refl refl in
-    (line (fault_line_of error), out.1, subst (λ r. LogOf (files ++ file ∷ []) (text ++ line (fault_line_of error)) r) (sym out.0) log_of)
+    (line (fault_line_of error), out.1, subst (λ r. LogOf log.authentication (files ++ file ∷ []) (text ++ line (fault_line_of error)) r) (sym out.0) log_of)

@@ -11,19 +11,19 @@ use Rattle.rip_capture.specs.Captures.{IsCapture, IsRead}
 use Rattle.rip_capture.specs.Captures.IsRead.{none as nothing_read, capture as capture_read}
 use Rattle.rip_capture.specs.Codes.{is_read}
 use Rattle.rip_capture.specs.NextCall.{EndsHere, IsFar, Stands, StopsAt, held_by, position_of}
-use Rattle.rip_capture.specs.Passwords.{has_password}
 use Rattle.rip_capture.specs.Pcap.{Frame}
-use Rattle.rip_capture.specs.Spans.{slice_of}
 use Rattle.rip_capture.specs.declared.packet.Carried.{Carried}
 use Rattle.rip_capture.specs.declared.packet.Carried.TheVariants.{Cut as CutOff, Datagram, Elsewhere, Fragment, Long, Malformed, Others, Unknown}
 use Rattle.rip_capture.specs.declared.error.CaptureCode.{CaptureCode}
 use Rattle.rip_capture.specs.declared.error.CaptureCode.TheVariants.{Magic, Cut, Version, LinkType as NoLinkType, Length, Interface, OldPacket, Read}
 use Rattle.rip_capture.specs.declared.reader.CaptureReader.{CaptureReader}
 use Rattle.rip_report.specs.CapturePackets.{EndsSo, ended_at, ended_by}
+use Rattle.rip_report.specs.declared.captures.authentication.Authentication.{Authentication}
+use Rattle.rip_report.specs.declared.captures.authentication.Authentication.TheVariants.{AsSent}
 use Rattle.rip_report.specs.declared.captures.ending.Ending.TheVariants.{Refused as RefusedFile, Unread, Whole}
 use Rattle.rip_report.specs.declared.captures.ending.RefusalCode.TheVariants.{TooManyLines}
 use Rattle.rip_report.specs.declared.captures.tally.Tally.{Tally}
-use Rattle.rip_report.specs.CaptureText.{Carrier, HasRoom, carried_line, carries_password, count_of, counted, counts_of, has_line, is_cut, is_datagram, is_elsewhere, is_fragment, is_long, is_malformed, is_other, line_count, one, packet_lines}
+use Rattle.rip_report.specs.CaptureText.{Carrier, HasRoom, carried_line, count_of, counted, counts_of, has_line, is_cut, is_datagram, is_elsewhere, is_fragment, is_long, is_malformed, is_other, line_count, omitted_of, one, packet_lines}
 use Rattle.rip_log.specs.Taken.{Taken}
 use Rattle.rip_report.proofs.ListingLemmas.{adds_same, adds_then}
 use Rattle.rip_report.specs.Listings.{Adds}
@@ -57,28 +57,29 @@ module _ {X : Type 0} where
 pub frames-snoc : (cs : List Carrier) (c : Carrier) → map (λ d. d.frame) (cs ++ c ∷ []) ≡ map (λ d. d.frame) cs ++ c.frame ∷ []
 frames-snoc cs c = map-append (λ d. d.frame) cs (c ∷ [])
 
-pub lines-snoc : (link : List ℕ) (cs : List Carrier) (c : Carrier) → packet_lines link (cs ++ c ∷ []) ≡ packet_lines link cs ++ carried_line link c.frame.bytes c.carried
-lines-snoc link cs c = flat_map-append (λ d. carried_line link d.frame.bytes d.carried) cs (c ∷ []) ∙ ap (λ l. packet_lines link cs ++ l) (append-nil (carried_line link c.frame.bytes c.carried))
+pub lines-snoc : (how : Authentication) (link : List ℕ) (cs : List Carrier) (c : Carrier) → packet_lines how link (cs ++ c ∷ []) ≡ packet_lines how link cs ++ carried_line how link c.frame.bytes c.carried
+lines-snoc how link cs c = flat_map-append (λ d. carried_line how link d.frame.bytes d.carried) cs (c ∷ []) ∙ ap (λ l. packet_lines how link cs ++ l) (append-nil (carried_line how link c.frame.bytes c.carried))
 
 pub line_count-snoc : (cs : List Carrier) (c : Carrier) → line_count (cs ++ c ∷ []) ≡ line_count cs + one (has_line c.carried)
 line_count-snoc cs c = count-snoc (λ d. has_line d.carried) cs c
 
-pub counts-snoc : (cs : List Carrier) (c : Carrier) → counts_of (cs ++ c ∷ []) ≡ counted (counts_of cs) c.carried (carries_password c.frame.bytes c.carried)
-counts-snoc cs c = rw (
+pub counts-snoc : (how : Authentication) (cs : List Carrier) (c : Carrier) → counts_of how (cs ++ c ∷ []) ≡ counted (counts_of how cs) c.carried (omitted_of how c.frame.bytes c.carried)
+counts-snoc how cs c = rw (
   length-snoc cs c,
   count-snoc (λ d. is_datagram d.carried) cs c,
   count-snoc (λ d. is_cut d.carried) cs c,
   count-snoc (λ d. is_fragment d.carried) cs c,
   count-snoc (λ d. is_malformed d.carried) cs c,
   count-snoc (λ d. is_long d.carried) cs c,
-  count-snoc (λ d. carries_password d.frame.bytes d.carried) cs c,
+  count-snoc (λ d. (omitted_of how d.frame.bytes d.carried).password) cs c,
+  count-snoc (λ d. (omitted_of how d.frame.bytes d.carried).authentication) cs c,
   count-snoc (λ d. is_elsewhere d.carried) cs c,
   count-snoc (λ d. is_other d.carried) cs c,
 ) refl
 
 -- there is room for a packet more while there are fewer than the greatest number
-pub has-room : (n : PacketCounts) (cs : List Carrier) → n ≡ counts_of cs → n.packets < 2 ^ 64 - 1 → HasRoom n
-has-room n cs is few =
+pub has-room : (how : Authentication) (n : PacketCounts) (cs : List Carrier) → n ≡ counts_of how cs → n.packets < 2 ^ 64 - 1 → HasRoom n
+has-room how n cs is few =
     let at : (p : Carrier → Bool) → count_by p cs ≤ length cs = λ p. count_by-le-length p cs in
     let packets : length cs < 2 ^ 64 - 1 = rw is at few in
     rw is (record {
@@ -89,22 +90,23 @@ has-room n cs is few =
       malformed = at _;
       long = at _;
       passwords = at _;
+      without_authentication = at _;
       elsewhere = at _;
       others = at _;
     })
 
 -- what a packet more does to all that was logged before
 module _ {K : Type 0} (taken : K → Taken) (failed : K → Bool) where
-  pub adds-packet : (a b c : K) (old mid new : Listing) (link : List ℕ) (cs : List Carrier) (p : Carrier) → Adds taken failed a b old mid (packet_lines link cs)
-      → Adds taken failed b c mid new (carried_line link p.frame.bytes p.carried) → Adds taken failed a c old new (packet_lines link (cs ++ p ∷ []))
-  adds-packet a b c old mid new link cs p f g = adds_same taken failed a c old new _ (packet_lines link (cs ++ p ∷ [])) (sym (lines-snoc link cs p))
-      (adds_then taken failed a b c old mid new (packet_lines link cs) (carried_line link p.frame.bytes p.carried) f g)
+  pub adds-packet : (a b c : K) (old mid new : Listing) (how : Authentication) (link : List ℕ) (cs : List Carrier) (p : Carrier) → Adds taken failed a b old mid (packet_lines how link cs)
+      → Adds taken failed b c mid new (carried_line how link p.frame.bytes p.carried) → Adds taken failed a c old new (packet_lines how link (cs ++ p ∷ []))
+  adds-packet a b c old mid new how link cs p f g = adds_same taken failed a c old new _ (packet_lines how link (cs ++ p ∷ [])) (sym (lines-snoc how link cs p))
+      (adds_then taken failed a b c old mid new (packet_lines how link cs) (carried_line how link p.frame.bytes p.carried) f g)
 
 -- ---- how a file ends
 
-module _ {R : Type 0} (given : R → List ℕ) (at_end : R → Bool) (before : List ℕ) (lines : ℕ) (cs : List Carrier) (new : CaptureReader R) (listing : Listing) where
+module _ {R : Type 0} (given : R → List ℕ) (at_end : R → Bool) (how : Authentication) (before : List ℕ) (lines : ℕ) (cs : List Carrier) (new : CaptureReader R) (listing : Listing) where
   -- at an error
-  pub ends-by : (code : CaptureCode) (at : ℕ) → StopsAt given at_end before (map (λ c. c.frame) cs) (record { code = code; at = at }) new → EndsSo given at_end before lines cs new listing (ended_by (record { code = code; at = at }))
+  pub ends-by : (code : CaptureCode) (at : ℕ) → StopsAt given at_end before (map (λ c. c.frame) cs) (record { code = code; at = at }) new → EndsSo given at_end how before lines cs new listing (ended_by (record { code = code; at = at }))
   ends-by Magic at h = (h, refl)
   ends-by Cut at h = (h, refl)
   ends-by Version at h = (h, refl)
@@ -115,9 +117,9 @@ module _ {R : Type 0} (given : R → List ℕ) (at_end : R → Bool) (before : L
   ends-by Read at h = (record { code = Read; at = at }, h, refl)
 
   -- at its end
-  pub ends-at : (tally : Tally) → EndsHere given at_end before (map (λ c. c.frame) cs) new → tally.counts ≡ counts_of cs → tally.lines ≡ lines + line_count cs → tally.lines ≤ 1000000
-      → EndsSo given at_end before lines cs new listing (ended_at tally (position_of new))
-  ends-at tally here counts count few = elim (tally.lines == 1000000) as (λ b. (tally.lines == 1000000) ≡ b → EndsSo given at_end before lines cs new listing (if b then RefusedFile TooManyLines (position_of new) else Whole tally)) [
+  pub ends-at : (tally : Tally) → EndsHere given at_end before (map (λ c. c.frame) cs) new → tally.counts ≡ counts_of how cs → tally.lines ≡ lines + line_count cs → tally.lines ≤ 1000000
+      → EndsSo given at_end how before lines cs new listing (ended_at tally (position_of new))
+  ends-at tally here counts count few = elim (tally.lines == 1000000) as (λ b. (tally.lines == 1000000) ≡ b → EndsSo given at_end how before lines cs new listing (if b then RefusedFile TooManyLines (position_of new) else Whole tally)) [
     | true ↦ λ e. (sym count ∙ eqb-true tally.lines 1000000 e, inr (here, refl))
     | false ↦ λ e. (here, counts, count, omega (arith, few, eqb-false tally.lines 1000000 e))
   ] refl
@@ -180,18 +182,39 @@ one-kind Unknown = refl
 one-kind Elsewhere = refl
 one-kind Others = refl
 
-of-datagram : (frame : List ℕ) (c : Carried) → one (carries_password frame c) ≤ one (is_datagram c)
-of-datagram frame (Datagram a span) = at-most (has_password (slice_of frame span)) where
-  at-most : (b : Bool) → one b ≤ 1
-  at-most true = omega arith
-  at-most false = omega arith
-of-datagram frame (CutOff a) = omega arith
-of-datagram frame (Fragment a) = omega arith
-of-datagram frame (Malformed a) = omega arith
-of-datagram frame (Long a) = omega arith
-of-datagram frame Unknown = omega arith
-of-datagram frame Elsewhere = omega arith
-of-datagram frame Others = omega arith
+at-most : (b : Bool) → one b ≤ 1
+at-most true = omega arith
+at-most false = omega arith
+
+password-of-datagram : (how : Authentication) (frame : List ℕ) (c : Carried) → one (omitted_of how frame c).password ≤ one (is_datagram c)
+password-of-datagram how frame (Datagram a span) = at-most (omitted_of how frame (Datagram a span)).password
+password-of-datagram how frame (CutOff a) = omega arith
+password-of-datagram how frame (Fragment a) = omega arith
+password-of-datagram how frame (Malformed a) = omega arith
+password-of-datagram how frame (Long a) = omega arith
+password-of-datagram how frame Unknown = omega arith
+password-of-datagram how frame Elsewhere = omega arith
+password-of-datagram how frame Others = omega arith
+
+authentication-of-datagram : (how : Authentication) (frame : List ℕ) (c : Carried) → one (omitted_of how frame c).authentication ≤ one (is_datagram c)
+authentication-of-datagram how frame (Datagram a span) = at-most (omitted_of how frame (Datagram a span)).authentication
+authentication-of-datagram how frame (CutOff a) = omega arith
+authentication-of-datagram how frame (Fragment a) = omega arith
+authentication-of-datagram how frame (Malformed a) = omega arith
+authentication-of-datagram how frame (Long a) = omega arith
+authentication-of-datagram how frame Unknown = omega arith
+authentication-of-datagram how frame Elsewhere = omega arith
+authentication-of-datagram how frame Others = omega arith
+
+none-as-sent : (frame : List ℕ) (c : Carried) → one (omitted_of AsSent frame c).authentication ≡ 0
+none-as-sent frame (Datagram a span) = refl
+none-as-sent frame (CutOff a) = refl
+none-as-sent frame (Fragment a) = refl
+none-as-sent frame (Malformed a) = refl
+none-as-sent frame (Long a) = refl
+none-as-sent frame Unknown = refl
+none-as-sent frame Elsewhere = refl
+none-as-sent frame Others = refl
 
 counted-more : (p : Carrier → Bool) (c : Carrier) (cs : List Carrier) → count_by p (c ∷ cs) ≡ one (p c) + count_by p cs
 counted-more p c cs = sum_by-cons (λ d. cond (p d) 1 0) c cs
@@ -211,6 +234,31 @@ kinds-sum (c ∷ cs) = omega (
   counted-more (λ d. is_other d.carried) c cs,
 )
 
-pub passwords-few : (cs : List Carrier) → count_by (λ c. carries_password c.frame.bytes c.carried) cs ≤ count_of is_datagram cs
-passwords-few [] = omega arith
-passwords-few (c ∷ cs) = omega (arith, passwords-few cs, of-datagram c.frame.bytes c.carried, counted-more (λ d. carries_password d.frame.bytes d.carried) c cs, counted-more (λ d. is_datagram d.carried) c cs)
+pub passwords-few : (how : Authentication) (cs : List Carrier) → (counts_of how cs).passwords ≤ count_of is_datagram cs
+passwords-few how [] = omega arith
+passwords-few how (c ∷ cs) = omega (
+  arith,
+  passwords-few how cs,
+  password-of-datagram how c.frame.bytes c.carried,
+  counted-more (λ d. (omitted_of how d.frame.bytes d.carried).password) c cs,
+  counted-more (λ d. is_datagram d.carried) c cs,
+)
+
+pub authentication-few : (how : Authentication) (cs : List Carrier) → (counts_of how cs).without_authentication ≤ count_of is_datagram cs
+authentication-few how [] = omega arith
+authentication-few how (c ∷ cs) = omega (
+  arith,
+  authentication-few how cs,
+  authentication-of-datagram how c.frame.bytes c.carried,
+  counted-more (λ d. (omitted_of how d.frame.bytes d.carried).authentication) c cs,
+  counted-more (λ d. is_datagram d.carried) c cs,
+)
+
+pub authentication-as-sent : (cs : List Carrier) → (counts_of AsSent cs).without_authentication ≡ 0
+authentication-as-sent [] = refl
+authentication-as-sent (c ∷ cs) = omega (
+  arith,
+  authentication-as-sent cs,
+  none-as-sent c.frame.bytes c.carried,
+  counted-more (λ d. (omitted_of AsSent d.frame.bytes d.carried).authentication) c cs,
+)

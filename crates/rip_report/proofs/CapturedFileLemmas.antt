@@ -22,6 +22,7 @@ use Rattle.rip_report.specs.CaptureLogs.SoFar.{none, more}
 use Rattle.rip_report.specs.CaptureText.{Carrier, IsCarrier, comment_front, comment_line, count_of, counted_status, counts_of, file_part, file_refusal_line, is_cut, is_fragment, is_long, is_malformed, lacking_part, other_part, packet_lines, refusal_code_text}
 use Rattle.rip_report.specs.LeftOut.{count_part}
 use Rattle.rip_report.specs.Written.{line}
+use Rattle.rip_report.specs.declared.captures.authentication.Authentication.{Authentication}
 use Rattle.rip_report.specs.declared.captures.counts.PacketCounts.{PacketCounts}
 use Rattle.rip_report.specs.declared.captures.ending.RefusalCode.{RefusalCode}
 use Rattle.rip_report.specs.declared.captures.ending.RefusalCode.TheVariants.{Capture, TooManyLines}
@@ -83,10 +84,12 @@ other-spaced : (n : PacketCounts) → Spaced (other_part n)
 unfolding other_part
 other-spaced n =
     let passwords = counted (codes " passwords") n.passwords (tested 32 (codes " passwords") refl) in
+    let bare = counted (codes " without authentication") n.without_authentication (tested 32 (codes " without authentication") refl) in
     let elsewhere = counted (codes " elsewhere") n.elsewhere (tested 32 (codes " elsewhere") refl) in
     let others = counted (codes " others") n.others (tested 32 (codes " others") refl) in
-    both (count_part (codes ", ") n.passwords (codes " passwords") ++ count_part (codes ", ") n.elsewhere (codes " elsewhere")) (count_part (codes ", ") n.others (codes " others"))
-    (both (count_part (codes ", ") n.passwords (codes " passwords")) (count_part (codes ", ") n.elsewhere (codes " elsewhere")) passwords elsewhere) others
+    both (count_part (codes ", ") n.passwords (codes " passwords") ++ count_part (codes ", ") n.without_authentication (codes " without authentication") ++ count_part (codes ", ") n.elsewhere (codes " elsewhere")) (count_part (codes ", ") n.others (codes " others"))
+    (both (count_part (codes ", ") n.passwords (codes " passwords") ++ count_part (codes ", ") n.without_authentication (codes " without authentication")) (count_part (codes ", ") n.elsewhere (codes " elsewhere"))
+    (both (count_part (codes ", ") n.passwords (codes " passwords")) (count_part (codes ", ") n.without_authentication (codes " without authentication")) passwords bare) elsewhere) others
 
 -- a comment begins with a field of # alone
 hash-first : (k : ℕ) (link : List ℕ) (n : PacketCounts) → comment_front k link n ≡ 35 ∷ (32 ∷ drop 2 (comment_front k link n))
@@ -199,8 +202,8 @@ not-long Unknown h = refl
 not-long Elsewhere h = refl
 not-long Others h = refl
 
-pub whole-status : (cs : List Carrier) → AllByRecursion (λ c. is_whole c.carried ≡ true) cs → counted_status (counts_of cs) ≡ Done
-whole-status cs h = rw (none-of is_cut not-cut cs h, none-of is_fragment not-fragment cs h, none-of is_malformed not-malformed cs h, none-of is_long not-long cs h) refl
+pub whole-status : (how : Authentication) (cs : List Carrier) → AllByRecursion (λ c. is_whole c.carried ≡ true) cs → counted_status (counts_of how cs) ≡ Done
+whole-status how cs h = rw (none-of is_cut not-cut cs h, none-of is_fragment not-fragment cs h, none-of is_malformed not-malformed cs h, none-of is_long not-long cs h) refl
 
 -- ---- files
 
@@ -238,23 +241,23 @@ module _ (packet_bytes : PacketBytes) where
 
   module _ (names : (t : List ℕ) → (is_name t ≡ true) ↔ IsName t) (addresses : (t : List ℕ) (a : ℕ) → (address_in t ≡ Some a) ↔ ((a < 2 ^ 32) × (t ≡ address_text a))) where
     -- a file is whole, and says its datagrams
-    pub record FileSays (file : File) (answer : Result Status RunError) (rest : List ℕ) (records : List Numbered) : Type 0 where
+    pub record FileSays (how : Authentication) (file : File) (answer : Result Status RunError) (rest : List ℕ) (records : List Numbered) : Type 0 where
       pub done : answer ≡ Ok Done
       pub captures : List Captured
-      pub has : HasDatagrams file captures
+      pub has : HasDatagrams how file captures
       pub says : Says rest records captures
 
-    pub file-says : (n k lines : ℕ) (file : File) (text : List ℕ) (after : ℕ) (answer : Result Status RunError) (rest : List ℕ) (records : List Numbered) → IsFile file
-        → FileText k lines file.link file.bytes text after answer → Reads n (text ++ rest) records → FileSays file answer rest records
-    file-says n k lines file text after answer rest records is (whole cs right count few e f) reads =
+    pub file-says : (how : Authentication) (n k lines : ℕ) (file : File) (text : List ℕ) (after : ℕ) (answer : Result Status RunError) (rest : List ℕ) (records : List Numbered) → IsFile file
+        → FileText how k lines file.link file.bytes text after answer → Reads n (text ++ rest) records → FileSays how file answer rest records
+    file-says how n k lines file text after answer rest records is (whole cs right count few e f) reads =
         let link = file.link in
-        let c = comment_line k link (counts_of cs) in
-        let say = packets-say names addresses n link cs (c ++ rest) records is.name right.carry (of-frames cs (packet_bytes.right file.bytes (map (λ c. c.frame) cs) right.capture is.bytes))
-        (subst (λ l. Reads n l records) (ap (λ l. l ++ rest) e ∙ append_assoc (packet_lines link cs) c rest) reads) in
+        let c = comment_line k link (counts_of how cs) in
+        let say = packets-say names addresses how n link cs (c ++ rest) records is.name right.carry (of-frames cs (packet_bytes.right file.bytes (map (λ c. c.frame) cs) right.capture is.bytes))
+        (subst (λ l. Reads n l records) (ap (λ l. l ++ rest) e ∙ append_assoc (packet_lines how link cs) c rest) reads) in
         let says = say.says in
         record {
-          done = f ∙ ap Ok (whole-status cs say.whole);
-          captures = flat_map (λ c. datagram_in link c.frame.bytes c.carried) cs;
+          done = f ∙ ap Ok (whole-status how cs say.whole);
+          captures = flat_map (λ c. datagram_in how link c.frame.bytes c.carried) cs;
           has = record { carriers = cs; capture = right; whole = say.whole; datagrams = refl };
           says = record {
             lines = says.lines + 1;
@@ -262,22 +265,22 @@ module _ (packet_bytes : PacketBytes) where
             later = says.later;
             whole = says.whole;
             said = says.said;
-            reads = comment-skipped says.lines k link (counts_of cs) rest says.later is.name says.reads;
+            reads = comment-skipped says.lines k link (counts_of how cs) rest says.later is.name says.reads;
           };
         }
-    file-says n k lines file text after answer rest records is (refused cs code at found e f) reads =
+    file-says how n k lines file text after answer rest records is (refused cs code at found e f) reads =
         let link = file.link in
         let bad = file_refusal_line k link code at in
-        let say = packets-say names addresses n link cs (bad ++ rest) records is.name (refused-carry lines file.bytes cs code at found) (refused-bytes lines file.bytes cs code at found is.bytes)
-        (subst (λ l. Reads n l records) (ap (λ l. l ++ rest) e ∙ append_assoc (packet_lines link cs) bad rest) reads) in
+        let say = packets-say names addresses how n link cs (bad ++ rest) records is.name (refused-carry lines file.bytes cs code at found) (refused-bytes lines file.bytes cs code at found is.bytes)
+        (subst (λ l. Reads n l records) (ap (λ l. l ++ rest) e ∙ append_assoc (packet_lines how link cs) bad rest) reads) in
         absurd (refusal-bad say.says.lines k link code at rest say.says.later is.name say.says.reads)
-    file-says n k lines file text after answer rest records is (unread cs begun few e f) reads =
+    file-says how n k lines file text after answer rest records is (unread cs begun few e f) reads =
         let link = file.link in
         let bad = line (codes "failed: read") in
-        let say = packets-say names addresses n link cs (bad ++ rest) records is.name (begun-carry file.bytes cs begun) (begun-bytes file.bytes cs begun is.bytes)
-        (subst (λ l. Reads n l records) (ap (λ l. l ++ rest) e ∙ append_assoc (packet_lines link cs) bad rest) reads) in
+        let say = packets-say names addresses how n link cs (bad ++ rest) records is.name (begun-carry file.bytes cs begun) (begun-bytes file.bytes cs begun is.bytes)
+        (subst (λ l. Reads n l records) (ap (λ l. l ++ rest) e ∙ append_assoc (packet_lines how link cs) bad rest) reads) in
         absurd (failed-bad say.says.lines (codes "failed: read") rest say.says.later (tested 32 (codes "failed: read") refl) refl say.says.reads)
-    file-says n k lines file text after answer rest records is (memory e f) reads =
+    file-says how n k lines file text after answer rest records is (memory e f) reads =
         absurd (failed-bad n (codes "failed: memory") rest records (tested 32 (codes "failed: memory") refl) refl (subst (λ l. Reads n (l ++ rest) records) e reads))
 
     -- ---- logs
@@ -285,27 +288,27 @@ module _ (packet_bytes : PacketBytes) where
     ok-of : {s t : Status} → ◌≡◌ {A = Result Status RunError} (Ok s) (Ok t) → s ≡ t
     ok-of e = cc e
 
-    have-more : (files : List File) (file : File) (xs ys : List Captured) → HaveDatagrams files xs → HasDatagrams file ys → HaveDatagrams (files ++ file ∷ []) (xs ++ ys)
-    have-more [] file xs ys e h = (ys, [], h, refl, ap (λ l. l ++ ys) e ∙ sym (append-nil ys))
-    have-more (f ∷ files) file xs ys (first, rest, has, have, e) h = (first, rest ++ ys, has, have-more files file rest ys have h, ap (λ l. l ++ ys) e ∙ append_assoc first rest ys)
+    have-more : (how : Authentication) (files : List File) (file : File) (xs ys : List Captured) → HaveDatagrams how files xs → HasDatagrams how file ys → HaveDatagrams how (files ++ file ∷ []) (xs ++ ys)
+    have-more how [] file xs ys e h = (ys, [], h, refl, ap (λ l. l ++ ys) e ∙ sym (append-nil ys))
+    have-more how (f ∷ files) file xs ys (first, rest, has, have, e) h = (first, rest ++ ys, has, have-more how files file rest ys have h, ap (λ l. l ++ ys) e ∙ append_assoc first rest ys)
 
-    pub record FilesSay (files : List File) (status : Status) (rest : List ℕ) (records : List Numbered) : Type 0 where
+    pub record FilesSay (how : Authentication) (files : List File) (status : Status) (rest : List ℕ) (records : List Numbered) : Type 0 where
       pub done : status ≡ Done
       pub captures : List Captured
-      pub have : HaveDatagrams files captures
+      pub have : HaveDatagrams how files captures
       pub says : Says rest records captures
 
-    pub files-say : (files : List File) (text : List ℕ) (lines : ℕ) (status : Status) (rest : List ℕ) (records : List Numbered) → AllByRecursion IsFile files
-        → SoFar files text lines status → Reads 0 (text ++ rest) records → FilesSay files status rest records
-    files-say files text lines status rest records are none reads = record { done = refl; captures = []; have = refl; says = says-none 0 rest records reads }
-    files-say _ _ _ _ rest records are (more files file text part lines after before status so_far go_on is) reads =
+    pub files-say : (how : Authentication) (files : List File) (text : List ℕ) (lines : ℕ) (status : Status) (rest : List ℕ) (records : List Numbered) → AllByRecursion IsFile files
+        → SoFar how files text lines status → Reads 0 (text ++ rest) records → FilesSay how files status rest records
+    files-say how files text lines status rest records are none reads = record { done = refl; captures = []; have = refl; says = says-none 0 rest records reads }
+    files-say how _ _ _ _ rest records are (more files file text part lines after before status so_far go_on is) reads =
         let behind = part ++ rest in
-        let front = files-say files text lines before behind records (all-left IsFile files (file ∷ []) are) so_far (subst (λ l. Reads 0 l records) (append_assoc text part rest) reads) in
-        let last = file-says front.says.lines (length files + 1) lines file part after (Ok status) rest front.says.later (all-right IsFile files (file ∷ []) are).0 is front.says.reads in
+        let front = files-say how files text lines before behind records (all-left IsFile files (file ∷ []) are) so_far (subst (λ l. Reads 0 l records) (append_assoc text part rest) reads) in
+        let last = file-says how front.says.lines (length files + 1) lines file part after (Ok status) rest front.says.later (all-right IsFile files (file ∷ []) are).0 is front.says.reads in
         record {
           done = ap (λ s. worse s status) front.done ∙ ok-of last.done;
           captures = front.captures ++ last.captures;
-          have = have-more files file front.captures last.captures front.have last.has;
+          have = have-more how files file front.captures last.captures front.have last.has;
           says = says-more behind rest records front.captures last.captures front.says last.says;
         }
 
@@ -313,17 +316,17 @@ module _ (packet_bytes : PacketBytes) where
     at-end : (n : ℕ) (records : List Numbered) → Reads n [] records → records ≡ []
     at-end n records e = sym (ap (λ (l : Log). l.records) e)
 
-    pub log-says : (files : List File) (text : List ℕ) (answer : Result Status RunError) (records : List Numbered) → AllByRecursion IsFile files → LogOf files text answer → Reads 0 text records
-        → (answer ≡ Ok Done) × HaveDatagrams files (map (λ r. r.capture) records)
-    log-says files text answer records are (all lines status so_far f) reads =
-        let say = files-say files text lines status [] records are so_far (subst (λ l. Reads 0 l records) (sym (append-nil text)) reads) in
+    pub log-says : (how : Authentication) (files : List File) (text : List ℕ) (answer : Result Status RunError) (records : List Numbered) → AllByRecursion IsFile files → LogOf how files text answer → Reads 0 text records
+        → (answer ≡ Ok Done) × HaveDatagrams how files (map (λ r. r.capture) records)
+    log-says how files text answer records are (all lines status so_far f) reads =
+        let say = files-say how files text lines status [] records are so_far (subst (λ l. Reads 0 l records) (sym (append-nil text)) reads) in
         let says = say.says in
         let whole = says.whole ∙ ap (λ l. says.front ++ l) (at-end says.lines says.later says.reads) ∙ append-nil says.front in
-        (f ∙ ap Ok say.done, subst (HaveDatagrams files) (sym (ap (map (λ (r : Numbered). r.capture)) whole ∙ says.said)) say.have)
-    log-says files text answer records are (stopped before after file front part lines more_lines status so_far is stop e f) reads =
+        (f ∙ ap Ok say.done, subst (HaveDatagrams how files) (sym (ap (map (λ (r : Numbered). r.capture)) whole ∙ says.said)) say.have)
+    log-says how files text answer records are (stopped before after file front part lines more_lines status so_far is stop e f) reads =
         let good = subst (AllByRecursion IsFile) e are in
-        let say = files-say before front lines status part records (all-left IsFile before (file ∷ after) good) so_far (subst (λ l. Reads 0 l records) f reads) in
-        let last = file-says say.says.lines (length before + 1) lines file part more_lines answer [] say.says.later (all-right IsFile before (file ∷ after) good).0 is (subst (λ l. Reads say.says.lines l say.says.later) (sym (append-nil part)) say.says.reads) in
+        let say = files-say how before front lines status part records (all-left IsFile before (file ∷ after) good) so_far (subst (λ l. Reads 0 l records) f reads) in
+        let last = file-says how say.says.lines (length before + 1) lines file part more_lines answer [] say.says.later (all-right IsFile before (file ∷ after) good).0 is (subst (λ l. Reads say.says.lines l say.says.later) (sym (append-nil part)) say.says.reads) in
         absurd (not-done stop last.done) where
           not-done : (answer ≡ Ok Refused) ⊎ (is_err answer ≡ true) → answer ≡ Ok Done → ⊥
           not-done (inl e) f = cc (e, f)

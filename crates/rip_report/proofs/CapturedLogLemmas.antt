@@ -16,6 +16,7 @@ use Rattle.rip_log.specs.Lines.{Capture, bytes_of, capture_in, checked, sized, u
 use Rattle.rip_log.specs.Logs.{Numbered}
 use Rattle.rip_log.specs.declared.error.LogCode.{LogCode}
 use Rattle.rip_log.specs.declared.error.LogCode.TheVariants.{Fields, Hex, LongDatagram, Sender, Wire}
+use Rattle.rip_capture.specs.Authentication.{entries_end, has_authentication, without_authentication}
 use Rattle.rip_capture.specs.Carries.{Carries}
 use Rattle.rip_capture.specs.Packets.{source}
 use Rattle.rip_capture.specs.Passwords.{has_password, password_end, without_password}
@@ -27,7 +28,10 @@ use Rattle.rip_capture.specs.declared.span.Span.{Span}
 use Rattle.rip_capture.proofs.ByteLemmas.{all-drop}
 use Rattle.rip_report.specs.CaptureLogs.{datagram_in, is_whole}
 use Rattle.rip_report.specs.CaptureText.{Carrier, IsCarrier, carried_line, packet_lines, sender_part}
+use Rattle.rip_report.specs.LoggedDatagrams.{as_asked, logged_datagram}
 use Rattle.rip_report.specs.Written.{line}
+use Rattle.rip_report.specs.declared.captures.authentication.Authentication.{Authentication}
+use Rattle.rip_report.specs.declared.captures.authentication.Authentication.TheVariants.{AsSent, Removed}
 use Rattle.rip_report.proofs.LogLineLemmas.{Bytes, ComesTo, HasFirst, High, Reads, Spaced, address-high, address-some, all-both, all-same, all-take, bad-line, bytes-at, comes-to, digits-high, field-first, field-last, if-no, if-yes, name-high, record-line, spaced, tested}
 
 -- ---- bytes of datagrams
@@ -52,6 +56,20 @@ shown-bytes d h = by (has_password d) where
       (all-both IsByte (take 8 d) (replicate (password_end d - 8) 0) (all-take IsByte 8 d h) (all-same IsByte (password_end d - 8) 0 (omega arith)))
       (all-drop IsByte (password_end d) d h)
   by false = h
+
+bare-bytes : (d : List ℕ) → Bytes d → Bytes (without_authentication d)
+unfolding without_authentication
+bare-bytes d h = all-both IsByte (take 4 d) (take (entries_end d - 24) (drop 24 d)) (all-take IsByte 4 d h) (all-take IsByte (entries_end d - 24) (drop 24 d) (all-drop IsByte 24 d h))
+
+asked-bytes : (how : Authentication) (d : List ℕ) → Bytes d → Bytes (as_asked how d)
+asked-bytes AsSent d h = h
+asked-bytes Removed d h = by (has_authentication d) where
+  by : (b : Bool) → Bytes (if b then without_authentication d else d)
+  by true = bare-bytes d h
+  by false = h
+
+logged-bytes : (how : Authentication) (d : List ℕ) → Bytes d → Bytes (logged_datagram how d)
+logged-bytes how d h = shown-bytes (as_asked how d) (asked-bytes how d h)
 
 slice-bytes : (frame : List ℕ) (span : Span) → Bytes frame → Bytes (slice_of frame span)
 slice-bytes frame span h = all-take IsByte (span.to - span.from) (drop span.from frame) (all-drop IsByte span.from frame h)
@@ -186,9 +204,9 @@ sender-of t frame a span h (inr (inl (holds, e))) = cc e
 sender-of t frame a span h (inr (inr (holds, e))) = cc e
 
 -- a packet is whole, and says its datagram
-pub record PacketSays (link frame : List ℕ) (carried : Carried) (rest : List ℕ) (records : List Numbered) : Type 0 where
+pub record PacketSays (how : Authentication) (link frame : List ℕ) (carried : Carried) (rest : List ℕ) (records : List Numbered) : Type 0 where
   pub whole : is_whole carried ≡ true
-  pub says : Says rest records (datagram_in link frame carried)
+  pub says : Says rest records (datagram_in how link frame carried)
 
 module _ (names : (t : List ℕ) → (is_name t ≡ true) ↔ IsName t) (addresses : (t : List ℕ) (a : ℕ) → (address_in t ≡ Some a) ↔ ((a < 2 ^ 32) × (t ≡ address_text a))) where
   lacking : (n : ℕ) (link : List ℕ) (a : ℕ) (word rest : List ℕ) (records : List Numbered) (code : LogCode) → IsName link → High word → 0 < length word → bytes_of word ≡ Err code
@@ -196,38 +214,38 @@ module _ (names : (t : List ℕ) → (is_name t ≡ true) ↔ IsName t) (address
   lacking n link a word rest records code name high some bad reads =
       word-bad names n link (address_text a) word rest records code name (address-high a) (address-some a) high some bad (ended n (sender_part link a ++ word) (link ++ 32 ∷ (address_text a ++ 32 ∷ word)) rest records (sender-line link a word) reads)
 
-  pub packet-says : (n : ℕ) (link : List ℕ) (t : LinkType) (frame : List ℕ) (carried : Carried) (rest : List ℕ) (records : List Numbered) → IsName link → Bytes frame → Carries t frame carried
-      → Reads n (carried_line link frame carried ++ rest) records → PacketSays link frame carried rest records
+  pub packet-says : (how : Authentication) (n : ℕ) (link : List ℕ) (t : LinkType) (frame : List ℕ) (carried : Carried) (rest : List ℕ) (records : List Numbered) → IsName link → Bytes frame → Carries t frame carried
+      → Reads n (carried_line how link frame carried ++ rest) records → PacketSays how link frame carried rest records
   unfolding carried_line
-  packet-says n link t frame (Datagram a span) rest records name h carries reads =
-      let d = without_password (slice_of frame span) in
-      let first = datagram-said names addresses n link a d rest records name (sender-of t frame a span h carries) (shown-bytes (slice_of frame span) (slice-bytes frame span h))
+  packet-says how n link t frame (Datagram a span) rest records name h carries reads =
+      let d = logged_datagram how (slice_of frame span) in
+      let first = datagram-said names addresses n link a d rest records name (sender-of t frame a span h carries) (logged-bytes how (slice_of frame span) (slice-bytes frame span h))
       (ended n (sender_part link a ++ encode_lower d) (link ++ 32 ∷ (address_text a ++ 32 ∷ encode_lower d)) rest records (sender-line link a (encode_lower d)) reads) in
       record { whole = refl; says = says-first n rest records (record { link = link; sender = a; datagram = d }) first }
-  packet-says n link t frame (Cut a) rest records name h carries reads = absurd (lacking n link a (codes "cut") rest records Hex name (tested 33 (codes "cut") refl) (omega arith) refl reads)
-  packet-says n link t frame (Fragment a) rest records name h carries reads = absurd (lacking n link a (codes "fragment") rest records Hex name (tested 33 (codes "fragment") refl) (omega arith) fragment-bad reads)
-  packet-says n link t frame (Malformed a) rest records name h carries reads = absurd (lacking n link a (codes "malformed") rest records Hex name (tested 33 (codes "malformed") refl) (omega arith) refl reads)
-  packet-says n link t frame (Long a) rest records name h carries reads = absurd (lacking n link a (codes "long") rest records Hex name (tested 33 (codes "long") refl) (omega arith) long-bad reads)
-  packet-says n link t frame Unknown rest records name h carries reads =
+  packet-says how n link t frame (Cut a) rest records name h carries reads = absurd (lacking n link a (codes "cut") rest records Hex name (tested 33 (codes "cut") refl) (omega arith) refl reads)
+  packet-says how n link t frame (Fragment a) rest records name h carries reads = absurd (lacking n link a (codes "fragment") rest records Hex name (tested 33 (codes "fragment") refl) (omega arith) fragment-bad reads)
+  packet-says how n link t frame (Malformed a) rest records name h carries reads = absurd (lacking n link a (codes "malformed") rest records Hex name (tested 33 (codes "malformed") refl) (omega arith) refl reads)
+  packet-says how n link t frame (Long a) rest records name h carries reads = absurd (lacking n link a (codes "long") rest records Hex name (tested 33 (codes "long") refl) (omega arith) long-bad reads)
+  packet-says how n link t frame Unknown rest records name h carries reads =
       absurd (word-bad names n link (codes "unknown") (codes "cut") rest records Hex name (tested 33 (codes "unknown") refl) (omega arith) (tested 33 (codes "cut") refl) (omega arith) refl
       (ended n (link ++ codes " unknown cut") (link ++ 32 ∷ (codes "unknown" ++ 32 ∷ codes "cut")) rest records refl reads))
-  packet-says n link t frame Elsewhere rest records name h carries reads = record { whole = refl; says = says-none n rest records reads }
-  packet-says n link t frame Others rest records name h carries reads = record { whole = refl; says = says-none n rest records reads }
+  packet-says how n link t frame Elsewhere rest records name h carries reads = record { whole = refl; says = says-none n rest records reads }
+  packet-says how n link t frame Others rest records name h carries reads = record { whole = refl; says = says-none n rest records reads }
 
   -- packets are whole, and say their datagrams
-  pub record PacketsSay (link : List ℕ) (cs : List Carrier) (rest : List ℕ) (records : List Numbered) : Type 0 where
+  pub record PacketsSay (how : Authentication) (link : List ℕ) (cs : List Carrier) (rest : List ℕ) (records : List Numbered) : Type 0 where
     pub whole : AllByRecursion (λ c. is_whole c.carried ≡ true) cs
-    pub says : Says rest records (flat_map (λ c. datagram_in link c.frame.bytes c.carried) cs)
+    pub says : Says rest records (flat_map (λ c. datagram_in how link c.frame.bytes c.carried) cs)
 
-  pub packets-say : (n : ℕ) (link : List ℕ) (cs : List Carrier) (rest : List ℕ) (records : List Numbered) → IsName link → AllByRecursion IsCarrier cs → AllByRecursion (λ c. Bytes c.frame.bytes) cs
-      → Reads n (packet_lines link cs ++ rest) records → PacketsSay link cs rest records
-  packets-say n link [] rest records name carry h reads = record { whole = tt; says = says-none n rest records reads }
-  packets-say n link (c ∷ cs) rest records name carry h reads =
-      let after = packet_lines link cs ++ rest in
-      let one = packet-says n link c.frame.link_type c.frame.bytes c.carried after records name h.0 carry.0
-      (subst (λ l. Reads n l records) (append_assoc (carried_line link c.frame.bytes c.carried) (packet_lines link cs) rest) reads) in
-      let more = packets-say one.says.lines link cs rest one.says.later name carry.1 h.1 one.says.reads in
+  pub packets-say : (how : Authentication) (n : ℕ) (link : List ℕ) (cs : List Carrier) (rest : List ℕ) (records : List Numbered) → IsName link → AllByRecursion IsCarrier cs → AllByRecursion (λ c. Bytes c.frame.bytes) cs
+      → Reads n (packet_lines how link cs ++ rest) records → PacketsSay how link cs rest records
+  packets-say how n link [] rest records name carry h reads = record { whole = tt; says = says-none n rest records reads }
+  packets-say how n link (c ∷ cs) rest records name carry h reads =
+      let after = packet_lines how link cs ++ rest in
+      let one = packet-says how n link c.frame.link_type c.frame.bytes c.carried after records name h.0 carry.0
+      (subst (λ l. Reads n l records) (append_assoc (carried_line how link c.frame.bytes c.carried) (packet_lines how link cs) rest) reads) in
+      let more = packets-say how one.says.lines link cs rest one.says.later name carry.1 h.1 one.says.reads in
       record {
         whole = (one.whole, more.whole);
-        says = says-more after rest records (datagram_in link c.frame.bytes c.carried) (flat_map (λ d. datagram_in link d.frame.bytes d.carried) cs) one.says more.says;
+        says = says-more after rest records (datagram_in how link c.frame.bytes c.carried) (flat_map (λ d. datagram_in how link d.frame.bytes d.carried) cs) one.says more.says;
       }

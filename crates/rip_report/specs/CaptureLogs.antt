@@ -6,14 +6,15 @@ use Rattle.rip_log.specs.Lines.{Capture as Captured}
 use Rattle.rip_log.specs.Taken.{Taken, Took}
 use Rattle.rip_log.specs.declared.limits.TheConstants.{MOST_LINES}
 use Rattle.rip_capture.specs.Captures.{CaptureFault, HasNoMore}
-use Rattle.rip_capture.specs.Passwords.{without_password}
 use Rattle.rip_capture.specs.Spans.{slice_of}
 use Rattle.rip_capture.specs.declared.error.CaptureCode.{CaptureCode}
 use Rattle.rip_capture.specs.declared.packet.Carried.{Carried}
 use Rattle.rip_capture.specs.declared.packet.Carried.TheVariants.{Datagram, Elsewhere, Others}
 use Rattle.rip_report.specs.CaptureText.{Carrier, IsCaptureOf, IsCarrier, comment_line, counted_status, counts_of, file_refusal_line, has_line, line_count, packet_lines}
+use Rattle.rip_report.specs.LoggedDatagrams.{logged_datagram}
 use Rattle.rip_report.specs.Sent.{Began}
 use Rattle.rip_report.specs.Written.{line}
+use Rattle.rip_report.specs.declared.captures.authentication.Authentication.{Authentication}
 use Rattle.rip_report.specs.declared.captures.log.CaptureLog.{CaptureLog}
 use Rattle.rip_report.specs.declared.captures.ending.RefusalCode.{RefusalCode}
 use Rattle.rip_report.specs.declared.captures.ending.RefusalCode.TheVariants.{Capture, TooManyLines}
@@ -23,6 +24,10 @@ use Rattle.rip_report.specs.declared.status.Status.{Status}
 use Rattle.rip_report.specs.declared.status.Status.TheVariants.{Done, Refused}
 
 -- ---- what was written so far
+
+-- what becomes of the authentication of datagrams
+abbrev pub authentication_of : CaptureLog → Authentication
+authentication_of log = log.authentication
 
 -- how many files
 abbrev pub files_of : CaptureLog → ℕ
@@ -60,31 +65,32 @@ pub data IsRefusedAt (lines : ℕ) (b : List ℕ) (carriers : List Carrier) (cod
 
 -- what a log has of the file of this number, behind so many lines, and, where the file is whole, how many
 -- lines it then has
-pub data FileText (number lines : ℕ) (link b text : List ℕ) (after : ℕ)
+pub data FileText (how : Authentication) (number lines : ℕ) (link b text : List ℕ) (after : ℕ)
     (answer : Result Status RunError) : Type 0 where
   whole : (carriers : List Carrier) → IsCaptureOf b carriers →
       after ≡ lines + line_count carriers + 1 → after ≤ MOST_LINES →
-      text ≡ packet_lines link carriers ++ comment_line number link (counts_of carriers) →
-      answer ≡ Ok (counted_status (counts_of carriers)) →
-      FileText number lines link b text after answer
+      text ≡ packet_lines how link carriers ++ comment_line number link (counts_of how carriers) →
+      answer ≡ Ok (counted_status (counts_of how carriers)) →
+      FileText how number lines link b text after answer
   refused : (carriers : List Carrier) (code : RefusalCode) (at : ℕ) →
       IsRefusedAt lines b carriers code at →
-      text ≡ packet_lines link carriers ++ file_refusal_line number link code at →
-      answer ≡ Ok Refused → FileText number lines link b text after answer
+      text ≡ packet_lines how link carriers ++ file_refusal_line number link code at →
+      answer ≡ Ok Refused → FileText how number lines link b text after answer
   unread : (carriers : List Carrier) → BeginsWith b carriers →
       lines + line_count carriers ≤ MOST_LINES →
-      text ≡ packet_lines link carriers ++ line (codes "failed: read") →
-      answer ≡ Err Read → FileText number lines link b text after answer
+      text ≡ packet_lines how link carriers ++ line (codes "failed: read") →
+      answer ≡ Err Read → FileText how number lines link b text after answer
   memory : text ≡ line (codes "failed: memory") → answer ≡ Err Memory →
-      FileText number lines link b text after answer
+      FileText how number lines link b text after answer
 
 -- what was to go out of a file where the sink failed: its text, or the lines of its first packets
-pub data FileFront (number lines : ℕ) (link b text : List ℕ) : Type 0 where
+pub data FileFront (how : Authentication) (number lines : ℕ) (link b text : List ℕ)
+    : Type 0 where
   text : (after : ℕ) (answer : Result Status RunError) →
-      FileText number lines link b text after answer → FileFront number lines link b text
+      FileText how number lines link b text after answer → FileFront how number lines link b text
   packets : (carriers : List Carrier) → BeginsWith b carriers →
-      lines + line_count carriers ≤ MOST_LINES → text ≡ packet_lines link carriers →
-      FileFront number lines link b text
+      lines + line_count carriers ≤ MOST_LINES → text ≡ packet_lines how link carriers →
+      FileFront how number lines link b text
 
 -- Done where both are Done
 abbrev pub worse : Status → Status → Status
@@ -95,7 +101,8 @@ worse other status = other
 abbrev pub Follows : CaptureLog → CaptureLog → ℕ → Result Status RunError → Type 0
 Follows before after lines (Ok Refused) = after ≡ before
 Follows before after lines (Ok status) =
-    (files_of after ≡ files_of before + 1) × (lines_of after ≡ lines)
+    (authentication_of after ≡ authentication_of before)
+    × (files_of after ≡ files_of before + 1) × (lines_of after ≡ lines)
     × (status_of after ≡ worse (status_of before) status)
 Follows before after lines (Err e) = after ≡ before
 
@@ -112,12 +119,14 @@ pub record AddsFile
   -- the text of the file went out, and nothing else
   pub text : answer ≢ Err Write →
       (text : List ℕ) × (lines : ℕ)
-      × FileText (files_of before + 1) (lines_of before) link b text lines answer
+      × FileText (authentication_of before) (files_of before + 1) (lines_of before) link b text
+      lines answer
       × Took (taken old) (taken new) text × Follows before after lines answer
   -- the sink has failed, and a beginning went out
   pub write : answer ≡ Err Write →
       (broken new ≡ true)
-      × ((text : List ℕ) × FileFront (files_of before + 1) (lines_of before) link b text
+      × ((text : List ℕ)
+      × FileFront (authentication_of before) (files_of before + 1) (lines_of before) link b text
       × Began (taken old) (taken new) text)
   -- every other answer leaves the sink's mark as it was
   pub sink : answer ≢ Err Write → broken new ≡ broken old
@@ -126,11 +135,13 @@ pub record AddsFile
 
 -- what a run leaves where the source failed, which had given these bytes: the line of each packet that is
 -- whole in them went out, unless they are too long for their offsets, and that the source failed
-pub record AddsUnread {K : Type 0} (taken : K → Taken) (old new : K) (link b : List ℕ) : Type 0 where
+pub record AddsUnread {K : Type 0} (taken : K → Taken) (old new : K) (how : Authentication)
+    (link b : List ℕ) : Type 0 where
   pub carriers : List Carrier
   pub begins : BeginsWith b carriers
   pub all : HasNoMore b (map (λ c. c.frame) carriers) ⊎ (2 ^ 64 ≤ length b + 2 ^ 32)
-  pub text : Took (taken old) (taken new) (packet_lines link carriers ++ line (codes "failed: read"))
+  pub text : Took (taken old) (taken new)
+      (packet_lines how link carriers ++ line (codes "failed: read"))
 
 -- ---- a log of files
 
@@ -140,33 +151,34 @@ pub record File : Type 0 where
   pub bytes : List ℕ
 
 -- the log of these files, each of which is a capture: its text, how many lines it has, and its status
-pub data SoFar : List File → List ℕ → ℕ → Status → Type 0 where
-  none : SoFar [] [] 0 Done
+pub data SoFar (how : Authentication) : List File → List ℕ → ℕ → Status → Type 0 where
+  none : SoFar how [] [] 0 Done
   more : (files : List File) (file : File) (text part : List ℕ) (lines after : ℕ)
-      (before status : Status) → SoFar files text lines before → status ≢ Refused →
-      FileText (length files + 1) lines file.link file.bytes part after (Ok status) →
-      SoFar (files ++ file ∷ []) (text ++ part) after (worse before status)
+      (before status : Status) → SoFar how files text lines before → status ≢ Refused →
+      FileText how (length files + 1) lines file.link file.bytes part after (Ok status) →
+      SoFar how (files ++ file ∷ []) (text ++ part) after (worse before status)
 
 -- the log of these files: of all, or up to one that is refused or could not be read
-pub data LogOf (files : List File) (text : List ℕ) (answer : Result Status RunError) : Type 0 where
-  all : (lines : ℕ) (status : Status) → SoFar files text lines status → answer ≡ Ok status →
-      LogOf files text answer
+pub data LogOf (how : Authentication) (files : List File) (text : List ℕ)
+    (answer : Result Status RunError) : Type 0 where
+  all : (lines : ℕ) (status : Status) → SoFar how files text lines status → answer ≡ Ok status →
+      LogOf how files text answer
   stopped : (before after : List File) (file : File) (front part : List ℕ) (lines more : ℕ)
-      (status : Status) → SoFar before front lines status →
-      FileText (length before + 1) lines file.link file.bytes part more answer →
+      (status : Status) → SoFar how before front lines status →
+      FileText how (length before + 1) lines file.link file.bytes part more answer →
       (answer ≡ Ok Refused) ⊎ (is_err answer ≡ true) →
-      files ≡ before ++ file ∷ after → text ≡ front ++ part → LogOf files text answer
+      files ≡ before ++ file ∷ after → text ≡ front ++ part → LogOf how files text answer
 
 -- a log has these files, each a capture, and this text
 pub record IsLogOf (log : CaptureLog) (files : List File) (text : List ℕ) : Type 0 where
   pub count : files_of log ≡ length files
-  pub so_far : SoFar files text (lines_of log) (status_of log)
+  pub so_far : SoFar (authentication_of log) files text (lines_of log) (status_of log)
 
 -- what became of a log by the last of these files: it has that one too, or ends with it
 abbrev pub GoesOn : CaptureLog → List File → List ℕ → Result Status RunError → Type 0
-GoesOn log files out (Ok Refused) = LogOf files out (Ok Refused)
+GoesOn log files out (Ok Refused) = LogOf (authentication_of log) files out (Ok Refused)
 GoesOn log files out (Ok status) = IsLogOf log files out
-GoesOn log files out (Err e) = LogOf files out (Err e)
+GoesOn log files out (Err e) = LogOf (authentication_of log) files out (Err e)
 
 -- ---- the datagrams of files
 
@@ -177,14 +189,15 @@ is_whole Elsewhere = true
 is_whole Others = true
 is_whole _ = false
 
--- the datagram that a frame carries, with zeros for a password, as a record of a log has it
-abbrev pub datagram_in : List ℕ → List ℕ → Carried → List Captured
-datagram_in link frame (Datagram sender span) = (record {
+-- the datagram that a frame carries, with zeros for a password, and without its authentication where
+-- that was asked for, as a record of a log has it
+abbrev pub datagram_in : Authentication → List ℕ → List ℕ → Carried → List Captured
+datagram_in how link frame (Datagram sender span) = (record {
   link = link;
   sender = sender;
-  datagram = without_password (slice_of frame span);
+  datagram = logged_datagram how (slice_of frame span);
 }) ∷ []
-datagram_in link frame _ = []
+datagram_in how link frame _ = []
 
 -- the name of its link is one, and its bytes are bytes
 pub record IsFile (file : File) : Type 0 where
@@ -192,16 +205,17 @@ pub record IsFile (file : File) : Type 0 where
   pub bytes : AllByRecursion (λ b. b < 256) file.bytes
 
 -- a file is a capture, each datagram to 224.0.0.9 is there whole, and these are they, in order
-pub record HasDatagrams (file : File) (captures : List Captured) : Type 0 where
+pub record HasDatagrams (how : Authentication) (file : File) (captures : List Captured)
+    : Type 0 where
   pub carriers : List Carrier
   pub capture : IsCaptureOf file.bytes carriers
   pub whole : AllByRecursion (λ c. is_whole c.carried ≡ true) carriers
   pub datagrams : captures
-      ≡ flat_map (λ c. datagram_in file.link c.frame.bytes c.carried) carriers
+      ≡ flat_map (λ c. datagram_in how file.link c.frame.bytes c.carried) carriers
 
 -- the same of files, one after the other
-abbrev pub HaveDatagrams : List File → List Captured → Type 0
-HaveDatagrams [] captures = captures ≡ []
-HaveDatagrams (file ∷ files) captures =
-    (first rest : List Captured) × HasDatagrams file first × HaveDatagrams files rest
+abbrev pub HaveDatagrams : Authentication → List File → List Captured → Type 0
+HaveDatagrams how [] captures = captures ≡ []
+HaveDatagrams how (file ∷ files) captures =
+    (first rest : List Captured) × HasDatagrams how file first × HaveDatagrams how files rest
     × (captures ≡ first ++ rest)

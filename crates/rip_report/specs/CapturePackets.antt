@@ -11,12 +11,13 @@ use Rattle.rip_capture.specs.Pcap.{Frame}
 use Rattle.rip_capture.specs.declared.error.CaptureError.{CaptureError}
 use Rattle.rip_capture.specs.declared.packet.Carried.{Carried}
 use Rattle.rip_capture.specs.declared.reader.CaptureReader.{CaptureReader}
-use Rattle.rip_report.specs.CaptureText.{Carrier, IsCarrier, carried_line, carries_password, comment_line, counted, counted_status, counts_of, file_refusal_line, has_line, line_count, one, packet_lines}
+use Rattle.rip_report.specs.CaptureText.{Carrier, IsCarrier, carried_line, comment_line, counted, counted_status, counts_of, file_refusal_line, has_line, line_count, omitted_of, one, packet_lines}
 use Rattle.rip_report.specs.CaptureLogs.{Follows}
 use Rattle.rip_report.specs.Held.{held}
 use Rattle.rip_report.specs.Listings.{Adds}
 use Rattle.rip_report.specs.Sent.{Began, Writes}
 use Rattle.rip_report.specs.Written.{line}
+use Rattle.rip_report.specs.declared.captures.authentication.Authentication.{Authentication}
 use Rattle.rip_report.specs.declared.captures.ending.Ending.{Ending}
 use Rattle.rip_report.specs.declared.captures.ending.Ending.TheVariants.{Whole, Refused, Unread, Unwritten}
 use Rattle.rip_report.specs.declared.captures.ending.RefusalCode.TheVariants.{Capture, TooManyLines}
@@ -29,13 +30,13 @@ use Rattle.rip_report.specs.declared.status.Status.{Status}
 use Rattle.rip_report.specs.declared.status.Status.TheVariants.{Refused as RefusedFile}
 
 -- a packet was counted, which carries this, and its line added
-pub record CountsPacket {K : Type 0} (taken : K → Taken) (broken : K → Bool) (link : List ℕ)
-    (frame : Frame) (carried : Carried) (old new : Tally) (before after : Listing) (a b : K)
-    : Type 0 where
-  pub counts : new.counts ≡ counted old.counts carried (carries_password frame.bytes carried)
+pub record CountsPacket {K : Type 0} (taken : K → Taken) (broken : K → Bool) (how : Authentication)
+    (link : List ℕ) (frame : Frame) (carried : Carried) (old new : Tally) (before after : Listing)
+    (a b : K) : Type 0 where
+  pub counts : new.counts ≡ counted old.counts carried (omitted_of how frame.bytes carried)
   pub lines : new.lines ≡ old.lines + one (has_line carried)
   pub few : new.lines ≤ MOST_LINES
-  pub adds : Adds taken broken a b before after (carried_line link frame.bytes carried)
+  pub adds : Adds taken broken a b before after (carried_line how link frame.bytes carried)
 
 -- there was no room for the line of a packet, and nothing was added
 pub record LacksRoom {K : Type 0} (carried : Carried) (old new : Tally) (before after : Listing)
@@ -47,20 +48,20 @@ pub record LacksRoom {K : Type 0} (carried : Carried) (old new : Tally) (before 
   pub out : b ≡ a
 
 -- what logging a packet leaves: where it answers true, the packet was counted
-abbrev pub LogsSo : {K : Type 0} → (K → Taken) → (K → Bool) → List ℕ → Frame → Carried → Tally → Tally →
-    Listing → Listing → K → K → Bool → Type 0
-LogsSo taken broken link frame carried old new before after a b true =
-    CountsPacket taken broken link frame carried old new before after a b
-LogsSo taken broken link frame carried old new before after a b false =
+abbrev pub LogsSo : {K : Type 0} → (K → Taken) → (K → Bool) → Authentication → List ℕ → Frame →
+    Carried → Tally → Tally → Listing → Listing → K → K → Bool → Type 0
+LogsSo taken broken how link frame carried old new before after a b true =
+    CountsPacket taken broken how link frame carried old new before after a b
+LogsSo taken broken how link frame carried old new before after a b false =
     LacksRoom carried old new before after a b
 
 -- what logging a packet leaves, and answers
-pub record LogsPacket {K : Type 0} (taken : K → Taken) (broken : K → Bool) (link : List ℕ)
-    (frame : Frame) (old new : Tally) (before after : Listing) (a b : K) (result : Bool)
-    : Type 0 where
+pub record LogsPacket {K : Type 0} (taken : K → Taken) (broken : K → Bool) (how : Authentication)
+    (link : List ℕ) (frame : Frame) (old new : Tally) (before after : Listing) (a b : K)
+    (result : Bool) : Type 0 where
   pub carried : Carried
   pub carries : Carries frame.link_type frame.bytes carried
-  pub logs : LogsSo taken broken link frame carried old new before after a b result
+  pub logs : LogsSo taken broken how link frame carried old new before after a b result
 
 -- how the reading of a file ends at an error
 abbrev pub ended_by : CaptureError → Ending
@@ -71,37 +72,38 @@ abbrev pub ended_at : Tally → ℕ → Ending
 ended_at tally at = if tally.lines == MOST_LINES then Refused TooManyLines at else Whole tally
 
 -- how the reading of a file ends, behind these packets
-abbrev pub EndsSo : {R : Type 0} → (R → List ℕ) → (R → Bool) → List ℕ → ℕ → List Carrier →
-    CaptureReader R → Listing → Ending → Type 0
-EndsSo given at_end before lines carriers new listing (Whole tally) =
+abbrev pub EndsSo : {R : Type 0} → (R → List ℕ) → (R → Bool) → Authentication → List ℕ → ℕ →
+    List Carrier → CaptureReader R → Listing → Ending → Type 0
+EndsSo given at_end how before lines carriers new listing (Whole tally) =
     EndsHere given at_end before (map (λ c. c.frame) carriers) new
-    × (tally.counts ≡ counts_of carriers) × (tally.lines ≡ lines + line_count carriers)
+    × (tally.counts ≡ counts_of how carriers) × (tally.lines ≡ lines + line_count carriers)
     × (tally.lines < MOST_LINES)
-EndsSo given at_end before lines carriers new listing (Refused (Capture code) at) =
+EndsSo given at_end how before lines carriers new listing (Refused (Capture code) at) =
     StopsAt given at_end before (map (λ c. c.frame) carriers) (record { code = code; at = at }) new
     × (is_read code ≡ false)
-EndsSo given at_end before lines carriers new listing (Refused TooManyLines at) =
+EndsSo given at_end how before lines carriers new listing (Refused TooManyLines at) =
     (lines + line_count carriers ≡ MOST_LINES)
     × (((next : Carrier) × IsCarrier next
     × TakesPacket given before (map (λ c. c.frame) carriers) next.frame at new
     × (has_line next.carried ≡ true))
     ⊎ (EndsHere given at_end before (map (λ c. c.frame) carriers) new × (at ≡ position_of new)))
-EndsSo given at_end before lines carriers new listing Unread =
+EndsSo given at_end how before lines carriers new listing Unread =
     (error : CaptureError) × StopsAt given at_end before (map (λ c. c.frame) carriers) error new
     × (is_read error.code ≡ true)
-EndsSo given at_end before lines carriers new listing Unwritten =
+EndsSo given at_end how before lines carriers new listing Unwritten =
     (is_err listing.wrote ≡ true)
     × ((taken : List ℕ) × Stands given before new taken (map (λ c. c.frame) carriers))
 
 -- what logging the packets of a file leaves, and answers
 pub record LogsPackets {R K : Type 0} (given : R → List ℕ) (coming : R → Option (List ℕ))
-    (broken at_end : R → Bool) (taken : K → Taken) (failed : K → Bool) (link : List ℕ) (lines : ℕ)
-    (old new : CaptureReader R) (before after : Listing) (a b : K) (ending : Ending) : Type 0 where
+    (broken at_end : R → Bool) (taken : K → Taken) (failed : K → Bool) (how : Authentication)
+    (link : List ℕ) (lines : ℕ) (old new : CaptureReader R) (before after : Listing) (a b : K)
+    (ending : Ending) : Type 0 where
   pub carriers : List Carrier
   pub carry : AllByRecursion IsCarrier carriers
   pub few : lines + line_count carriers ≤ MOST_LINES
-  pub adds : Adds taken failed a b before after (packet_lines link carriers)
-  pub ends : EndsSo given at_end (given (source_of old)) lines carriers new after ending
+  pub adds : Adds taken failed a b before after (packet_lines how link carriers)
+  pub ends : EndsSo given at_end how (given (source_of old)) lines carriers new after ending
   pub went : Went given coming at_end (source_of old) (source_of new)
   pub unread : ending ≡ Unread → (broken (source_of new) ≡ true) ⊎ IsFar new
   pub marks : ending ≢ Unread → broken (source_of new) ≡ broken (source_of old)

@@ -5,14 +5,16 @@ use Rattle.hex.specs.Hex.{encode_lower}
 use Rattle.rip_wire.specs.Address.{address_text}
 use Rattle.rip_capture.specs.Captures.{IsCapture}
 use Rattle.rip_capture.specs.Carries.{Carries}
-use Rattle.rip_capture.specs.Passwords.{has_password, without_password}
 use Rattle.rip_capture.specs.Pcap.{Frame}
 use Rattle.rip_capture.specs.Spans.{slice_of}
 use Rattle.rip_capture.specs.declared.error.CaptureCode.TheVariants as capture
 use Rattle.rip_capture.specs.declared.packet.Carried.{Carried}
 use Rattle.rip_capture.specs.declared.packet.Carried.TheVariants.{Datagram, Cut, Fragment, Malformed, Long, Unknown, Elsewhere, Others}
 use Rattle.rip_report.specs.LeftOut.{count_part}
+use Rattle.rip_report.specs.LoggedDatagrams.{logged_datagram, nothing_omitted, omitted_from}
 use Rattle.rip_report.specs.Written.{line}
+use Rattle.rip_report.specs.declared.captures.authentication.Authentication.{Authentication}
+use Rattle.rip_report.specs.declared.captures.authentication.Omitted.{Omitted}
 use Rattle.rip_report.specs.declared.captures.counts.PacketCounts.{PacketCounts}
 use Rattle.rip_report.specs.declared.captures.ending.RefusalCode.{RefusalCode}
 use Rattle.rip_report.specs.declared.captures.ending.RefusalCode.TheVariants.{Capture, TooManyLines}
@@ -40,20 +42,21 @@ abbrev pub sender_part : List ℕ → ℕ → List ℕ
 sender_part link sender = link ++ codes " " ++ address_text sender ++ codes " "
 
 -- the line of what a frame carries, or nothing
-unfoldable pub carried_line : List ℕ → List ℕ → Carried → List ℕ
-carried_line link frame (Datagram sender span) =
-    line (sender_part link sender ++ encode_lower (without_password (slice_of frame span)))
-carried_line link frame (Cut sender) = line (sender_part link sender ++ codes "cut")
-carried_line link frame (Fragment sender) = line (sender_part link sender ++ codes "fragment")
-carried_line link frame (Malformed sender) = line (sender_part link sender ++ codes "malformed")
-carried_line link frame (Long sender) = line (sender_part link sender ++ codes "long")
-carried_line link frame Unknown = line (link ++ codes " unknown cut")
-carried_line link frame Elsewhere = []
-carried_line link frame Others = []
+unfoldable pub carried_line : Authentication → List ℕ → List ℕ → Carried → List ℕ
+carried_line how link frame (Datagram sender span) =
+    line (sender_part link sender ++ encode_lower (logged_datagram how (slice_of frame span)))
+carried_line how link frame (Cut sender) = line (sender_part link sender ++ codes "cut")
+carried_line how link frame (Fragment sender) = line (sender_part link sender ++ codes "fragment")
+carried_line how link frame (Malformed sender) = line (sender_part link sender ++ codes "malformed")
+carried_line how link frame (Long sender) = line (sender_part link sender ++ codes "long")
+carried_line how link frame Unknown = line (link ++ codes " unknown cut")
+carried_line how link frame Elsewhere = []
+carried_line how link frame Others = []
 
 -- the lines of packets, in order
-abbrev pub packet_lines : List ℕ → List Carrier → List ℕ
-packet_lines link carriers = flat_map (λ c. carried_line link c.frame.bytes c.carried) carriers
+abbrev pub packet_lines : Authentication → List ℕ → List Carrier → List ℕ
+packet_lines how link carriers =
+    flat_map (λ c. carried_line how link c.frame.bytes c.carried) carriers
 
 -- ---- how many packets there are of each kind
 
@@ -89,10 +92,10 @@ abbrev pub is_other : Carried → Bool
 is_other Others = true
 is_other _ = false
 
--- a datagram with a password
-abbrev pub carries_password : List ℕ → Carried → Bool
-carries_password frame (Datagram sender span) = has_password (slice_of frame span)
-carries_password frame _ = false
+-- what is left out of the datagram that a frame carries
+abbrev pub omitted_of : Authentication → List ℕ → Carried → Omitted
+omitted_of how frame (Datagram sender span) = omitted_from how (slice_of frame span)
+omitted_of how frame _ = nothing_omitted
 
 -- the packet has a line
 abbrev pub has_line : Carried → Bool
@@ -109,15 +112,17 @@ abbrev pub line_count : List Carrier → ℕ
 line_count carriers = count_of has_line carriers
 
 -- the packets, counted by what they carry
-abbrev pub counts_of : List Carrier → PacketCounts
-counts_of carriers = record {
+abbrev pub counts_of : Authentication → List Carrier → PacketCounts
+counts_of how carriers = record {
   packets = length carriers;
   datagrams = count_of is_datagram carriers;
   cut = count_of is_cut carriers;
   fragments = count_of is_fragment carriers;
   malformed = count_of is_malformed carriers;
   long = count_of is_long carriers;
-  passwords = count_by (λ c. carries_password c.frame.bytes c.carried) carriers;
+  passwords = count_by (λ c. (omitted_of how c.frame.bytes c.carried).password) carriers;
+  without_authentication =
+      count_by (λ c. (omitted_of how c.frame.bytes c.carried).authentication) carriers;
   elsewhere = count_of is_elsewhere carriers;
   others = count_of is_other carriers;
 }
@@ -126,16 +131,17 @@ counts_of carriers = record {
 abbrev pub one : Bool → ℕ
 one b = if b then 1 else 0
 
--- a packet more was counted, which carries this, and perhaps a password
-abbrev pub counted : PacketCounts → Carried → Bool → PacketCounts
-counted n carried is_password = record {
+-- a packet more was counted, which carries this, and of whose datagram this is left out
+abbrev pub counted : PacketCounts → Carried → Omitted → PacketCounts
+counted n carried omitted = record {
   packets = n.packets + 1;
   datagrams = n.datagrams + one (is_datagram carried);
   cut = n.cut + one (is_cut carried);
   fragments = n.fragments + one (is_fragment carried);
   malformed = n.malformed + one (is_malformed carried);
   long = n.long + one (is_long carried);
-  passwords = n.passwords + one is_password;
+  passwords = n.passwords + one omitted.password;
+  without_authentication = n.without_authentication + one omitted.authentication;
   elsewhere = n.elsewhere + one (is_elsewhere carried);
   others = n.others + one (is_other carried);
 }
@@ -149,6 +155,7 @@ pub record HasRoom (n : PacketCounts) : Type 0 where
   pub malformed : n.malformed ≤ n.packets
   pub long : n.long ≤ n.packets
   pub passwords : n.passwords ≤ n.packets
+  pub without_authentication : n.without_authentication ≤ n.packets
   pub elsewhere : n.elsewhere ≤ n.packets
   pub others : n.others ≤ n.packets
 
@@ -181,6 +188,7 @@ lacking_part n =
 unfoldable pub other_part : PacketCounts → List ℕ
 other_part n =
     count_part (codes ", ") n.passwords (codes " passwords")
+    ++ count_part (codes ", ") n.without_authentication (codes " without authentication")
     ++ count_part (codes ", ") n.elsewhere (codes " elsewhere")
     ++ count_part (codes ", ") n.others (codes " others")
 

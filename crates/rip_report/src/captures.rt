@@ -1,5 +1,6 @@
 //! The command `log`: a log of the datagrams in capture files.
 
+mod authentication;
 mod counts;
 mod ending;
 mod lines;
@@ -8,7 +9,7 @@ mod packets;
 mod tally;
 
 ghost use Rattle.std.specs.Prelude.{◌≡◌, ◌≢◌, ◌⊎◌, ◌+◌, ◌^◌, ◌<◌, ◌≤◌, ◌++◌, ◌∷◌, [], ℕ, List, Some, Err, is_err, length, true};
-ghost use Rattle.rip_report.specs.CaptureLogs.{AddsFile, AddsUnread, File, GoesOn, IsLogOf, LogOf, worse};
+ghost use Rattle.rip_report.specs.CaptureLogs.{AddsFile, AddsUnread, File, GoesOn, IsLogOf, LogOf, authentication_of, worse};
 ghost use Rattle.rip_log.specs.declared.limits.TheConstants.{MOST_LINES};
 ghost use Rattle.rip_report.specs.CapturePackets.{ClosesFile, EndsWith};
 ghost use Rattle.rip_log.specs.Taken.{Took};
@@ -23,6 +24,7 @@ ghost use Rattle.rip_report.specs.declared.captures.log.CaptureLog.{CaptureLog};
 ghost use Rattle.rip_report.specs.declared.captures.tally.Tally.{Tally};
 ghost use Rattle.rip_report.specs.declared.limits.TheConstants.{NAME};
 
+pub use crate::captures::authentication::Authentication;
 use crate::captures::ending::Ending;
 use crate::captures::lines::{add_comment, file_refusal_text};
 pub use crate::captures::log::CaptureLog;
@@ -74,13 +76,15 @@ fn close_whole<K: Sink>(
     requires link { length link.now ≤ NAME }
     requires later { log.old.lines ≤ tally.lines }
     requires room { tally.lines < MOST_LINES }
-    ensures { ClosesFile K.taken K.broken out.old out.new log.old log.new link.now listing
+    ensures closes { ClosesFile K.taken K.broken out.old out.new log.old log.new link.now listing
         (Ending.Whole tally) result }
+    ensures authentication { authentication_of log.new ≡ authentication_of log.old }
 {
     let number = log.files + 1;
     add_comment(&mut listing, number, link, &tally.counts, out);
     let status = end_listing(listing, Ok(tally.counts.status()), out)?;
     *log = CaptureLog {
+        authentication: log.authentication,
         files: number,
         lines: tally.lines + 1,
         status: worse(log.status, status),
@@ -100,8 +104,9 @@ fn close_file<K: Sink>(
     requires whole { (tally : Tally) → ending ≡ Ending.Whole tally →
         (log.old.lines ≤ tally.lines) × (tally.lines < MOST_LINES) }
     requires unwritten { ending ≡ Ending.Unwritten → is_err listing.wrote ≡ true }
-    ensures { ClosesFile K.taken K.broken out.old out.new log.old log.new link.now listing
+    ensures closes { ClosesFile K.taken K.broken out.old out.new log.old log.new link.now listing
         ending result }
+    ensures authentication { authentication_of log.new ≡ authentication_of log.old }
 {
     match ending {
         Ending::Whole(tally) => close_whole(log, link, tally, listing, out),
@@ -127,7 +132,7 @@ pub fn log_failure<K: Sink>(error: RunError, out: &mut K) -> Result<Status, RunE
     ensures goes_on { (log : CaptureLog) (files : List File) (text : List ℕ) (file : File) →
         IsLogOf log files text → result ≢ Err RunError.Write → (part : List ℕ)
         × Took (K.taken out.old) (K.taken out.new) part
-        × LogOf (files ++ file ∷ []) (text ++ part) result }
+        × LogOf (authentication_of log) (files ++ file ∷ []) (text ++ part) result }
 {
     let mut listing = Listing::new();
     listing.add_text(fault_line(&error), out);
@@ -153,7 +158,7 @@ pub fn run_log<R: Source, K: Sink>(
     // Where the source failed, no packet is left out that it gave whole.
     ensures unread { (bytes : List ℕ) → R.given result.0 ≡ R.given file ++ bytes →
         result.1 ≡ Err RunError.Read →
-        AddsUnread K.taken out.old out.new link.now bytes }
+        AddsUnread K.taken out.old out.new (authentication_of log.old) link.now bytes }
     // Where there is no memory, the file comes back as it was.
     ensures untouched { result.1 ≡ Err RunError.Memory → result.0 ≡ file }
     // Behind a log of files that are captures it has the log of one more, or one that ends with it.
@@ -163,6 +168,8 @@ pub fn run_log<R: Source, K: Sink>(
         × Took (K.taken out.old) (K.taken out.new) part
         × GoesOn log.new (files ++ record { link = link.now; bytes = bytes } ∷ [])
         (text ++ part) result.1 }
+    // What becomes of the authentication of datagrams stays.
+    ensures authentication { authentication_of log.new ≡ authentication_of log.old }
     // The bytes given are the first of those to come, where these are modelled.
     ensures went { Went R.given R.coming R.at_end file result.0 }
     ensures to_come { (bytes : List ℕ) → R.coming file ≡ Some bytes →
@@ -182,7 +189,9 @@ pub fn run_log<R: Source, K: Sink>(
         Err((_, file)) => (file, log_failure(RunError::Memory, out)),
         Ok(mut reader) => {
             let mut listing = Listing::new();
-            let ending = log_packets(&mut reader, link, log.lines, &mut listing, out);
+            let authentication = log.authentication;
+            let lines = log.lines;
+            let ending = log_packets(&mut reader, link, authentication, lines, &mut listing, out);
             let answer = close_file(log, link, ending, listing, out);
             (reader.into_source(), answer)
         }

@@ -1,10 +1,11 @@
 //! Logs of capture files: the line and the count of each kind of packet, several files, refused ones.
 
+mod authentication;
 mod devices;
 mod texts;
 
 use rip_log::{FromRead, IntoWrite};
-use rip_report::{CaptureLog, RunError, Status, run_log};
+use rip_report::{Authentication, CaptureLog, RunError, Status, run_log};
 use rip_wire::is_name;
 use std::alloc::{AllocError, Global};
 use std::io::{Read, Write};
@@ -146,9 +147,22 @@ pub(crate) fn add<R: Read + Drop, W: Write>(
     run_log(alloc, log, link, FromRead::new(file), out)
 }
 
-/// Expects the status and the text of a log of one file, of the link a.
+/// Expects the status and the text of a log of one file, of the link a, with the authentication of its
+/// datagrams as it was sent.
 pub(crate) fn expect_log(rt: &impl Abort, alloc: Global, file: &[u8], status: Status, text: &str) {
-    let mut log = CaptureLog::new();
+    expect_log_with(rt, alloc, Authentication::AsSent, file, status, text);
+}
+
+/// Expects the status and the text of a log of one file, of the link a.
+pub(crate) fn expect_log_with(
+    rt: &impl Abort,
+    alloc: Global,
+    authentication: Authentication,
+    file: &[u8],
+    status: Status,
+    text: &str,
+) {
+    let mut log = CaptureLog::new(authentication);
     let mut out = IntoWrite::new(Vec::new(alloc));
     let (_, answer) = add(rt, alloc, &mut log, "a", file, &mut out);
     assert_eq!(rt; answer, Ok(status));

@@ -3,8 +3,8 @@
 use crate::devices::Pieces;
 use crate::examples::LITTLE;
 use rip_capture::{
-    CaptureCode, CaptureError, CaptureReader, Carried, LinkType, Packet, Span, password_in,
-    read_frame,
+    CaptureCode, CaptureError, CaptureReader, Carried, LinkType, Packet, Span, entries_in,
+    password_in, read_frame,
 };
 use rip_log::{FromRead, Source};
 use rip_wire::Address;
@@ -184,4 +184,54 @@ fn passwords(rt: HostRuntime) {
     assert!(rt; password_in(&datagram) == Some(Span { from: 8, to: 24 }));
     assert!(rt; password_in(&datagram[..20]) == Some(Span { from: 8, to: 20 }));
     assert!(rt; LinkType::of(113) == Some(LinkType::LinuxSll) && LinkType::of(2).is_none());
+}
+
+/// An MD5 digest (RFC 2082) behind an entry.
+const DIGEST: &[u8] =
+    b"\x02\x02\0\0\xFF\xFF\0\x03\0\x2C\x01\x10\0\0\0\x07\0\0\0\0\0\0\0\0\0\x02\0\0\x0A\x02\0\0\xFF\xFF\0\0\0\0\0\0\0\0\0\x03\xFF\xFF\0\x01dddddddddddddddd";
+
+/// A password in front of an entry.
+const PASSWORD: &[u8] =
+    b"\x02\x02\0\0\xFF\xFF\0\x02secret-for-rip!!\0\x02\0\0\x0A\x02\0\0\xFF\xFF\0\0\0\0\0\0\0\0\0\x03";
+
+#[test]
+fn entries_behind_a_password(rt: HostRuntime) {
+    assert!(rt; entries_in(PASSWORD) == Some(Span { from: 24, to: 44 }));
+    assert!(rt; entries_in(&PASSWORD[..24]) == Some(Span { from: 24, to: 24 }));
+    for len in [0, 4, 8, 23, 25, 43] {
+        assert!(rt; entries_in(&PASSWORD[..len]).is_none());
+    }
+    assert!(rt; entries_in(&DATAGRAM).is_none());
+}
+
+#[test]
+fn entries_before_a_digest(rt: HostRuntime) {
+    assert!(rt; entries_in(DIGEST) == Some(Span { from: 24, to: 44 }));
+    for len in [0, 12, 24, 44, 47, 63] {
+        assert!(rt; entries_in(&DIGEST[..len]).is_none());
+    }
+    let mut digest = [0; 64];
+    for i in 0..64 {
+        digest[i] = DIGEST[i];
+    }
+    // With its header the trailer has 20 bytes.
+    digest[11] = 20;
+    assert!(rt; entries_in(&digest) == Some(Span { from: 24, to: 44 }));
+    for (at, byte) in [
+        (4, 0),
+        (7, 1),
+        (7, 4),
+        (9, 4),
+        (9, 24),
+        (9, 43),
+        (8, 255),
+        (11, 15),
+        (11, 21),
+        (45, 0),
+        (47, 3),
+    ] {
+        let mut other = digest;
+        other[at] = byte;
+        assert!(rt; entries_in(&other).is_none());
+    }
 }

@@ -1,13 +1,14 @@
 //! The words of the command line, and what they ask for.
 
-ghost use Rattle.std.specs.Prelude.{◌≢◌, map};
+ghost use Rattle.std.specs.Prelude.{◌≡◌, ◌≢◌, map};
 ghost use Rattle.rip_wire.specs.Name.{IsName};
+ghost use Rattle.rip_report.specs.CaptureLogs.{authentication_of};
 ghost use Rattle.rip_report.specs.declared.status.RunError.{RunError};
 ghost use Rattle.ripaudit.specs.CaptureWords.{AreFineWords};
 
 use crate::commands::{
-    PlanCommand, ReadCommand, plan_command, read_command, read_plan, run_anyway, run_on_log,
-    run_on_plan,
+    PlanCommand, ReadCommand, new_log, plan_command, read_command, read_plan, run_anyway,
+    run_on_log, run_on_plan,
 };
 use crate::words::{CaptureWord, capture_word, first_bad_word};
 use clap::error::ErrorKind;
@@ -94,13 +95,16 @@ fn on_log_with_anyway<'a>(
 /// The command that reads captures.
 fn log_command<'a>(alloc: Global) -> Result<Command<'a>, AllocError> {
     let files = "The capture files, each named after its link or LINK=FILE; - is standard input";
+    let without =
+        "Print datagrams as they would be without their authentication, where it fits them";
     Command::new(alloc, "log")
         .about("Makes a log of the RIP datagrams in capture files")
         .arg(
             word(alloc, "FILE", files, true)
                 .value_name("[LINK=]FILE")
                 .num_args(1..),
-        )
+        )?
+        .arg(flag(alloc, "without-authentication", without))
 }
 
 /// The command that reads a datagram.
@@ -283,6 +287,7 @@ fn log_file<R: Files + AllocGlobal + Input + Eprint, K: Sink>(
 where
     R::Reader: IsTerminal,
     requires { IsName word.link.now }
+    ensures { authentication_of log.new ≡ authentication_of log.old }
 {
     let alloc = rt.alloc();
     if word.is_input() {
@@ -299,9 +304,10 @@ where
     }
 }
 
-/// Makes a log of capture files, up to one that is refused or that cannot be read.
+/// Adds capture files to a log, up to one that is refused or that cannot be read.
 fn log_files<R: Files + AllocGlobal + Input + Print + Eprint>(
     rt: &R,
+    mut log: CaptureLog,
     words: &[&str],
 ) -> Result<Status, RunError>
 where
@@ -309,7 +315,6 @@ where
     requires { AreFineWords (map (λ w. w.now) words.now) }
 {
     let mut out = IntoWrite::new(io::writer(rt));
-    let mut log = CaptureLog::new();
     for i in 0..words.len() {
         let Some(word) = capture_word(words[i]) else {
             unreachable!();
@@ -336,13 +341,14 @@ fn refuse_word(rt: &impl Eprint, word: &str, number: usize) -> Result<Status, Ru
 /// Makes a log of capture files, if all words name some.
 fn run_log_command<R: Files + AllocGlobal + Input + Print + Eprint>(
     rt: &R,
+    log: CaptureLog,
     words: &[&str],
 ) -> Result<Status, RunError>
 where
     R::Reader: IsTerminal,
 {
     match first_bad_word(words) {
-        None => log_files(rt, words),
+        None => log_files(rt, log, words),
         Some(at) => refuse_word(rt, words[at], at + 1),
     }
 }
@@ -361,7 +367,8 @@ where
         return Some(run_decode(hex, &mut IntoWrite::new(io::writer(rt))));
     }
     if word == "log" {
-        return Some(run_log_command(rt, words.get_strs("FILE")?));
+        let log = new_log(words.get_flag("without-authentication"));
+        return Some(run_log_command(rt, log, words.get_strs("FILE")?));
     }
     let path = words.get_str("PLAN")?;
     let all = words.get_flag("all");

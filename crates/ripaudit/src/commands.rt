@@ -1,6 +1,6 @@
 //! The commands that the words may ask for, and what each of them runs.
 
-ghost use Rattle.std.specs.Prelude.{◌≡◌, ◌≢◌, ◌⊎◌, ◌+◌, ◌≤◌, ◌<◌, ◌↔◌, ◌++◌, ℕ, List, Bool, Option, Some, None, Ok, Err, false, true, codes, length, IfOk};
+ghost use Rattle.std.specs.Prelude.{◌≡◌, ◌≢◌, ◌⊎◌, ◌+◌, ◌≤◌, ◌<◌, ◌↔◌, ◌++◌, ℕ, List, [], Bool, Option, Some, None, Ok, Err, false, true, codes, length, IfOk};
 ghost use Rattle.rip_plan.specs.Network.{Network};
 ghost use Rattle.rip_plan.specs.PlanFaults.{PlanFault};
 ghost use Rattle.rip_plan.specs.Relations.{IsPlain};
@@ -10,11 +10,13 @@ ghost use Rattle.rip_table.specs.State.{State};
 ghost use Rattle.rip_check.specs.Laws.{OneIsShown};
 ghost use Rattle.rip_check.specs.Told.{told};
 ghost use Rattle.rip_report.specs.AuditText.{AnswersRightly, IsJudged, ShowsPlainRightTables, VerdictText};
+ghost use Rattle.rip_report.specs.CaptureLogs.{IsLogOf, authentication_of};
 ghost use Rattle.rip_report.specs.Given.{IsGiven};
 ghost use Rattle.rip_report.specs.Hearings.{IsUnread};
 ghost use Rattle.rip_report.specs.PlanText.{IsNoText};
 ghost use Rattle.rip_report.specs.ReportText.{IsAccepted};
 ghost use Rattle.rip_report.specs.Sent.{Prints, Reads};
+ghost use Rattle.rip_report.specs.declared.captures.authentication.Authentication.{Authentication};
 ghost use Rattle.ripaudit.specs.declared.commands.TheConstants.{PIECE_LEN};
 ghost use Rattle.ripaudit.specs.CommandText.{AnywayCommandText, LogCommandText, PlanCommandText};
 
@@ -22,8 +24,8 @@ use rip_check::laws::one_set_of_tables;
 use rip_log::{Failed, Sink, Source};
 use rip_plan::MOST_PLAN_BYTES;
 use rip_report::{
-    RunError, Status, run_audit, run_expect, run_explain, run_heard, run_plan, run_routes,
-    run_routes_anyway, run_table, run_table_anyway, run_whatif,
+    Authentication, CaptureLog, RunError, Status, run_audit, run_expect, run_explain, run_heard,
+    run_plan, run_routes, run_routes_anyway, run_table, run_table_anyway, run_whatif,
 };
 use std::alloc::Global;
 use std::hash::BuildHasher;
@@ -122,6 +124,21 @@ pub(crate) fn read_command(word: &str, all: bool, anyway: bool) -> Option<ReadCo
         "table" => ReadCommand::Judged(LogCommand::Table),
         "heard" => ReadCommand::Anyway(AnywayCommand::Heard),
         _ => return None,
+    })
+}
+
+/// A log of no capture file, without the authentication of datagrams where that is asked for.
+pub(crate) fn new_log(without_authentication: bool) -> CaptureLog
+    ensures empty { IsLogOf result [] [] }
+    ensures removed { without_authentication ≡ true →
+        authentication_of result ≡ Authentication.Removed }
+    ensures as_sent { without_authentication ≡ false →
+        authentication_of result ≡ Authentication.AsSent }
+{
+    CaptureLog::new(if without_authentication {
+        Authentication::Removed
+    } else {
+        Authentication::AsSent
     })
 }
 

@@ -2,7 +2,9 @@
 
 ghost use Rattle.std.specs.Prelude.{◌≡◌, []};
 ghost use Rattle.rip_report.specs.CaptureText.{HasRoom, counted, counted_status, counts_of};
+ghost use Rattle.rip_report.specs.declared.captures.authentication.Authentication.{Authentication};
 
+use crate::captures::authentication::Omitted;
 use crate::status::Status;
 use rip_capture::Carried;
 
@@ -18,6 +20,8 @@ pub(crate) struct PacketCounts {
     pub(crate) long: u64,
     /// Datagrams with a password.
     pub(crate) passwords: u64,
+    /// Datagrams of which the authentication was taken off.
+    pub(crate) without_authentication: u64,
     /// Datagrams to other addresses.
     pub(crate) elsewhere: u64,
     pub(crate) others: u64,
@@ -26,7 +30,7 @@ pub(crate) struct PacketCounts {
 impl PacketCounts {
     /// No packets.
     pub(crate) fn new() -> PacketCounts
-        ensures { result ≡ counts_of [] }
+        ensures { (how : Authentication) → result ≡ counts_of how [] }
     {
         PacketCounts {
             packets: 0,
@@ -36,15 +40,16 @@ impl PacketCounts {
             malformed: 0,
             long: 0,
             passwords: 0,
+            without_authentication: 0,
             elsewhere: 0,
             others: 0,
         }
     }
 
-    /// Counts a packet that carries this, and perhaps a password.
-    pub(crate) fn add(&mut self, carried: &Carried, has_password: bool)
+    /// Counts a packet that carries this, and of whose datagram this was left out.
+    pub(crate) fn add(&mut self, carried: &Carried, omitted: Omitted)
         requires { HasRoom self.old }
-        ensures { self.new ≡ counted self.old carried.now has_password }
+        ensures { self.new ≡ counted self.old carried.now omitted }
     {
         self.packets += 1;
         match carried {
@@ -56,8 +61,11 @@ impl PacketCounts {
             Carried::Elsewhere => self.elsewhere += 1,
             Carried::Others => self.others += 1,
         }
-        if has_password {
+        if omitted.password {
             self.passwords += 1;
+        }
+        if omitted.authentication {
+            self.without_authentication += 1;
         }
     }
 

@@ -1,15 +1,19 @@
 //! The lines of a log of capture files.
 
-ghost use Rattle.std.specs.Prelude.{◌≡◌, ◌+◌, ◌*◌, ◌≤◌, ◌++◌, codes, length};
+ghost use Rattle.std.specs.Prelude.{◌≡◌, ◌+◌, ◌*◌, ◌≤◌, ◌++◌, codes, length, take};
 ghost use Rattle.hex.specs.Hex.{encode_lower};
 ghost use Rattle.rip_capture.specs.Carries.{LiesWithin};
 ghost use Rattle.rip_capture.specs.Passwords.{has_password, without_password};
+ghost use Rattle.rip_capture.specs.Spans.{IsWithin, slice_of};
 ghost use Rattle.rip_capture.specs.declared.limits.TheConstants.{MOST_PAYLOAD};
-ghost use Rattle.rip_report.specs.CaptureText.{carried_line, carries_password, comment_front, comment_line, file_part, file_refusal_line, has_line, lacking_part, other_part, refusal_code_text, sender_part};
+ghost use Rattle.rip_report.specs.CaptureText.{carried_line, comment_front, comment_line, file_part, file_refusal_line, has_line, lacking_part, omitted_of, other_part, refusal_code_text, sender_part};
 ghost use Rattle.rip_report.specs.Listings.{Adds};
+ghost use Rattle.rip_report.specs.LoggedDatagrams.{as_asked, logged_datagram, omitted_from};
 ghost use Rattle.rip_report.specs.Written.{line};
 ghost use Rattle.rip_report.specs.declared.limits.TheConstants.{FILE_PART, LINE_BYTES, NAME, WORDS};
+ghost use Rattle.rip_wire.specs.declared.limits.TheConstants.{HEADER_LEN};
 
+use crate::captures::authentication::{Authentication, Omitted};
 use crate::captures::counts::PacketCounts;
 use crate::captures::ending::RefusalCode;
 use crate::left_out::push_count;
@@ -17,9 +21,9 @@ use crate::limits::{FILE_PART, LINE_BYTES, NAME, WORDS};
 use crate::line::Line;
 use crate::listing::Listing;
 use hex::encode_to_slice;
-use rip_capture::{CaptureCode, Carried, MOST_PAYLOAD, password_in};
+use rip_capture::{CaptureCode, Carried, MOST_PAYLOAD, Span, entries_in, password_in};
 use rip_log::Sink;
-use rip_wire::Address;
+use rip_wire::{Address, HEADER_LEN};
 
 /// The most digits of a datagram.
 const DIGITS: usize = 2 * MOST_PAYLOAD;
@@ -86,57 +90,129 @@ fn add_digits<K: Sink>(listing: &mut Listing, bytes: &[u8], out: &mut K)
     }
 }
 
-/// Adds the digits of a datagram, with zeros for its password if it has one.
-fn add_datagram<K: Sink>(listing: &mut Listing, datagram: &[u8], out: &mut K)
+/// Adds the digits of a datagram, with zeros for its password if it has one, and tells whether it has.
+fn add_blanked<K: Sink>(listing: &mut Listing, datagram: &[u8], out: &mut K) -> bool
     requires { length datagram.now ≤ MOST_PAYLOAD }
-    ensures { Adds K.taken K.broken out.old out.new listing.old listing.new
+    ensures adds { Adds K.taken K.broken out.old out.new listing.old listing.new
         (encode_lower (without_password datagram.now)) }
+    ensures password { result ≡ has_password datagram.now }
 {
     match password_in(datagram) {
-        None => add_digits(listing, datagram, out),
+        None => {
+            add_digits(listing, datagram, out);
+            false
+        }
         Some(span) => {
             add_digits(listing, &datagram[..span.from], out);
             add_digits(listing, &[0; MOST_PASSWORD][..span.to - span.from], out);
             add_digits(listing, &datagram[span.to..], out);
+            true
         }
     }
 }
 
-/// Adds the line of a datagram, with zeros for its password if it has one.
+/// Writes bytes behind so many of a buffer.
+fn write_at(buffer: &mut [u8], at: usize, bytes: &[u8])
+    requires { at + length bytes.now ≤ length buffer.old }
+    ensures bytes { take (at + length bytes.now) buffer.new ≡ take at buffer.old ++ bytes.now }
+    ensures len { length buffer.new ≡ length buffer.old }
+{
+    buffer[at..at + bytes.len()].copy_from_slice(bytes);
+}
+
+/// Adds the digits of a datagram of which nothing is left but its header and these entries, in the same
+/// way.
+fn add_stripped<K: Sink>(listing: &mut Listing, datagram: &[u8], entries: Span, out: &mut K) -> bool
+    requires few { length datagram.now ≤ MOST_PAYLOAD }
+    requires header { HEADER_LEN ≤ entries.from }
+    requires within { IsWithin (length datagram.now) entries }
+    ensures adds { Adds K.taken K.broken out.old out.new listing.old listing.new
+        (encode_lower (without_password
+        (take HEADER_LEN datagram.now ++ slice_of datagram.now entries))) }
+    ensures password { result
+        ≡ has_password (take HEADER_LEN datagram.now ++ slice_of datagram.now entries) }
+{
+    let mut stripped = [0; MOST_PAYLOAD];
+    let len = HEADER_LEN + (entries.to - entries.from);
+    write_at(&mut stripped, 0, &datagram[..HEADER_LEN]);
+    write_at(
+        &mut stripped,
+        HEADER_LEN,
+        &datagram[entries.from..entries.to],
+    );
+    add_blanked(listing, &stripped[..len], out)
+}
+
+/// Adds the digits of a datagram as a log has it, and tells what was left out.
+fn add_datagram<K: Sink>(
+    listing: &mut Listing,
+    authentication: Authentication,
+    datagram: &[u8],
+    out: &mut K,
+) -> Omitted
+    requires { length datagram.now ≤ MOST_PAYLOAD }
+    ensures adds { Adds K.taken K.broken out.old out.new listing.old listing.new
+        (encode_lower (logged_datagram authentication datagram.now)) }
+    ensures omitted { result ≡ omitted_from authentication datagram.now }
+{
+    let entries = match authentication {
+        Authentication::AsSent => None,
+        Authentication::Removed => entries_in(datagram),
+    };
+    match entries {
+        None => Omitted {
+            password: add_blanked(listing, datagram, out),
+            authentication: false,
+        },
+        Some(entries) => Omitted {
+            password: add_stripped(listing, datagram, entries, out),
+            authentication: true,
+        },
+    }
+}
+
+/// Adds the line of a datagram, and tells what was left out of it.
 fn add_datagram_line<K: Sink>(
     listing: &mut Listing,
     link: &str,
     sender: Address,
+    authentication: Authentication,
     datagram: &[u8],
     out: &mut K,
-)
+) -> Omitted
     requires link { length link.now ≤ NAME }
     requires few { length datagram.now ≤ MOST_PAYLOAD }
-    ensures { Adds K.taken K.broken out.old out.new listing.old listing.new
-        (line (sender_part link.now sender ++ encode_lower (without_password datagram.now))) }
+    ensures adds { Adds K.taken K.broken out.old out.new listing.old listing.new
+        (line (sender_part link.now sender
+        ++ encode_lower (logged_datagram authentication datagram.now))) }
+    ensures omitted { result ≡ omitted_from authentication datagram.now }
 {
     listing.add(&sender_text(link, sender), out);
-    add_datagram(listing, datagram, out);
+    let omitted = add_datagram(listing, authentication, datagram, out);
     listing.add_text("\n", out);
+    omitted
 }
 
-/// Adds the line of what a frame carries, if it has one.
+/// Adds the line of what a frame carries, if it has one, and tells what was left out of its datagram.
 #[tactic(auto, unfolding(crate::specs::CaptureText::carried_line))]
 pub(crate) fn add_line<K: Sink>(
     listing: &mut Listing,
     link: &str,
+    authentication: Authentication,
     frame: &[u8],
     carried: &Carried,
     out: &mut K,
-)
+) -> Omitted
     requires link { length link.now ≤ NAME }
     requires lies { LiesWithin (length frame.now) carried.now }
-    ensures { Adds K.taken K.broken out.old out.new listing.old listing.new
-        (carried_line link.now frame.now carried.now) }
+    ensures adds { Adds K.taken K.broken out.old out.new listing.old listing.new
+        (carried_line authentication link.now frame.now carried.now) }
+    ensures omitted { result ≡ omitted_of authentication frame.now carried.now }
 {
     match carried {
         Carried::Datagram(sender, span) => {
-            add_datagram_line(listing, link, *sender, &frame[span.from..span.to], out)
+            let datagram = &frame[span.from..span.to];
+            return add_datagram_line(listing, link, *sender, authentication, datagram, out);
         }
         Carried::Cut(sender) => listing.add(&word_text(link, *sender, "cut"), out),
         Carried::Fragment(sender) => listing.add(&word_text(link, *sender, "fragment"), out),
@@ -145,17 +221,7 @@ pub(crate) fn add_line<K: Sink>(
         Carried::Unknown => listing.add(&unknown_text(link), out),
         Carried::Elsewhere | Carried::Others => {}
     }
-}
-
-/// Whether a frame carries a datagram with a password.
-pub(crate) fn carries_password(frame: &[u8], carried: &Carried) -> bool
-    requires { LiesWithin (length frame.now) carried.now }
-    ensures { result ≡ carries_password frame.now carried.now }
-{
-    match carried {
-        Carried::Datagram(_, span) => password_in(&frame[span.from..span.to]).is_some(),
-        _ => false,
-    }
+    Omitted::nothing()
 }
 
 /// Adds the number of a file and its link.
@@ -208,6 +274,12 @@ fn other_text(counts: &PacketCounts) -> Line
 {
     let mut text = Line::new();
     push_count(&mut text, ", ", counts.passwords, " passwords");
+    push_count(
+        &mut text,
+        ", ",
+        counts.without_authentication,
+        " without authentication",
+    );
     push_count(&mut text, ", ", counts.elsewhere, " elsewhere");
     push_count(&mut text, ", ", counts.others, " others");
     text.end();

@@ -3,12 +3,14 @@
 ghost use Rattle.std.specs.Prelude.{◌≡◌, ◌≤◌, []};
 ghost use Rattle.rip_log.specs.declared.limits.TheConstants.{MOST_LINES};
 
+use crate::captures::authentication::Authentication;
 use crate::status::Status;
 
-/// A log of capture files, as far as it was written: how many files and lines it has, and its status,
-/// Unclear where a datagram is not there whole.
+/// A log of capture files, as far as it was written: what becomes of the authentication of datagrams, how
+/// many files and lines it has, and its status, Unclear where a datagram is not there whole.
 #[derive(Clone, Copy, Debug)]
 pub struct CaptureLog {
+    pub(super) authentication: Authentication,
     pub(super) files: u32,
     pub(super) lines: u32,
     pub(super) status: Status,
@@ -17,13 +19,15 @@ pub struct CaptureLog {
 }
 
 impl CaptureLog {
-    ghost use Rattle.rip_report.specs.CaptureLogs.{IsLogOf, status_of};
+    ghost use Rattle.rip_report.specs.CaptureLogs.{IsLogOf, authentication_of, status_of};
 
     /// A log of no file.
-    pub fn new() -> CaptureLog
-        ensures { IsLogOf result [] [] }
+    pub fn new(authentication: Authentication) -> CaptureLog
+        ensures empty { IsLogOf result [] [] }
+        ensures authentication { authentication_of result ≡ authentication }
     {
         CaptureLog {
+            authentication,
             files: 0,
             lines: 0,
             status: Status::Done,

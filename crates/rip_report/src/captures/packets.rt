@@ -7,9 +7,10 @@ ghost use Rattle.rip_report.specs.CapturePackets.{LogsPacket, LogsPackets, ended
 ghost use Rattle.rip_report.specs.CaptureText.{HasRoom};
 ghost use Rattle.rip_report.specs.declared.limits.TheConstants.{NAME};
 
+use crate::captures::authentication::Authentication;
 use crate::captures::counts::PacketCounts;
 use crate::captures::ending::{Ending, RefusalCode};
-use crate::captures::lines::{add_line, carries_password, has_line};
+use crate::captures::lines::{add_line, has_line};
 use crate::captures::tally::Tally;
 use crate::limits::NAME;
 use crate::listing::Listing;
@@ -21,6 +22,7 @@ use rip_log::{MOST_LINES, Sink, Source};
 fn log_packet<K: Sink>(
     packet: &Packet<'_>,
     link: &str,
+    authentication: Authentication,
     tally: &mut Tally,
     listing: &mut Listing,
     out: &mut K,
@@ -28,8 +30,8 @@ fn log_packet<K: Sink>(
     requires link { length link.now ≤ NAME }
     requires room { HasRoom tally.old.counts }
     requires lines { tally.old.lines ≤ MOST_LINES }
-    ensures { LogsPacket K.taken K.broken link.now (frame_of packet.now) tally.old tally.new
-        listing.old listing.new out.old out.new result }
+    ensures { LogsPacket K.taken K.broken authentication link.now (frame_of packet.now)
+        tally.old tally.new listing.old listing.new out.old out.new result }
 {
     let carried = read_frame(packet.link_type, packet.bytes);
     if has_line(&carried) {
@@ -38,9 +40,8 @@ fn log_packet<K: Sink>(
         }
         tally.lines += 1;
     }
-    add_line(listing, link, packet.bytes, &carried, out);
-    let has_password = carries_password(packet.bytes, &carried);
-    tally.counts.add(&carried, has_password);
+    let omitted = add_line(listing, link, authentication, packet.bytes, &carried, out);
+    tally.counts.add(&carried, omitted);
     true
 }
 
@@ -73,6 +74,7 @@ fn ended_at(tally: Tally, at: u64) -> Ending
 pub(crate) fn log_packets<R: Source, K: Sink>(
     reader: &mut CaptureReader<R>,
     link: &str,
+    authentication: Authentication,
     lines: u32,
     listing: &mut Listing,
     out: &mut K,
@@ -81,8 +83,8 @@ pub(crate) fn log_packets<R: Source, K: Sink>(
     requires running { refusal_of reader.old ≡ None }
     requires link { length link.now ≤ NAME }
     requires lines { lines ≤ MOST_LINES }
-    ensures { LogsPackets R.given R.coming R.broken R.at_end K.taken K.broken link.now lines
-        reader.old reader.new listing.old listing.new out.old out.new result }
+    ensures { LogsPackets R.given R.coming R.broken R.at_end K.taken K.broken authentication
+        link.now lines reader.old reader.new listing.old listing.new out.old out.new result }
 {
     long_captures();
     read_captures();
@@ -94,7 +96,7 @@ pub(crate) fn log_packets<R: Source, K: Sink>(
         match reader.next() {
             Ok(Some(packet)) => {
                 let at = packet.at;
-                if !log_packet(&packet, link, &mut tally, listing, out) {
+                if !log_packet(&packet, link, authentication, &mut tally, listing, out) {
                     let code = RefusalCode::TooManyLines;
                     return Ending::Refused { code, at };
                 }

@@ -9,9 +9,10 @@ ghost use Rattle.rip_report.specs.AuditText.{AuditText, IsJudged};
 ghost use Rattle.rip_report.specs.CaptureLogs.{LogOf};
 ghost use Rattle.rip_report.specs.Given.{IsGiven};
 ghost use Rattle.rip_report.specs.ReportText.{IsAccepted};
+ghost use Rattle.rip_report.specs.declared.captures.authentication.Authentication.{Authentication};
 
 use rip_log::{FromRead, IntoWrite, Sink, Source};
-use rip_report::{CaptureLog, RunError, Status, run_audit, run_log};
+use rip_report::{Authentication, CaptureLog, RunError, Status, run_audit, run_log};
 use rip_tests::examples::{LITTLE, PHANTOM, SETTLED, TRIANGLE};
 use rip_wire::is_name;
 use std::alloc::Global;
@@ -43,10 +44,10 @@ fn log_of<R: Source, K: Sink>(
     requires { IsName link.now }
     ensures { (bytes : List ℕ) → IsGiven R.given R.at_end file result.0 bytes →
         result.1 ≢ Err RunError.Write → (text : List ℕ)
-        × LogOf (record { link = link.now; bytes = bytes } ∷ []) text result.1
+        × LogOf Authentication.AsSent (record { link = link.now; bytes = bytes } ∷ []) text result.1
         × Took (K.taken out.old) (K.taken out.new) text }
 {
-    let mut log = CaptureLog::new();
+    let mut log = CaptureLog::new(Authentication::AsSent);
     run_log(alloc, &mut log, link, file, out)
 }
 

@@ -2,7 +2,7 @@
 
 use super::{CUT, DATAGRAM, add, file_of};
 use rip_log::{FromRead, IntoWrite, Sink, Source};
-use rip_report::{CaptureLog, RunError, Status};
+use rip_report::{Authentication, CaptureLog, RunError, Status};
 use rip_tests::devices::{Pieces, Slow};
 use std::alloc::Global;
 use std::process::Abort;
@@ -29,7 +29,7 @@ fn expect_answer<'a>(
     due: Result<Status, RunError>,
     text: &str,
 ) -> FromRead<Pieces<'a>> {
-    let mut log = CaptureLog::new();
+    let mut log = CaptureLog::new(Authentication::AsSent);
     let mut out = IntoWrite::new(Vec::new(alloc));
     let (source, answer) = add(rt, alloc, &mut log, "a", file, &mut out);
     assert!(rt; answer == due && !out.failed());
@@ -69,7 +69,7 @@ fn a_source_that_fails(rt: HostRuntime) -> Result<(), Fail> {
 
 /// Expects the beginning of the text where the sink fails after so many bytes of it.
 fn expect_write_failure(rt: &impl Abort, alloc: Global, file: &[u8], most: usize) {
-    let mut log = CaptureLog::new();
+    let mut log = CaptureLog::new(Authentication::AsSent);
     let mut out = IntoWrite::new(Slow::new(alloc, most));
     let (source, answer) = add(rt, alloc, &mut log, "a", file, &mut out);
     assert!(rt; answer == Err(RunError::Write) && out.failed() && !source.failed());

@@ -5,7 +5,7 @@ use Rattle.rip_capture.specs.NextCall.{Stands, TakesPacket, frame_of, place_of, 
 use Rattle.rip_capture.specs.Pcap.{Frame}
 use Rattle.rip_capture.specs.declared.error.CaptureCode.TheVariants.{Read}
 use Rattle.rip_report.specs.CapturePackets.{ended_at}
-use Rattle.rip_report.specs.CaptureText.{Carrier, IsCarrier, carries_password, counted}
+use Rattle.rip_report.specs.CaptureText.{Carrier, IsCarrier, counted, omitted_of}
 use Rattle.rip_report.proofs.CaptureLemmas.{adds-packet, all-snoc, counts-snoc, ends-at, ends-by, far, stops-far, frames-snoc, has-room, line_count-snoc, never-unread, read-is_unread, unread-is_read}
 use Rattle.rip_report.proofs.ListingLemmas.{adds_none}
 use Rattle.rip_report.proofs.captures.packets.log_packets.Goals as goal
@@ -18,7 +18,7 @@ packets-init g c =
       carry = tt;
       taken = [];
       stands = c.requires.front;
-      counts = c.new.ensures;
+      counts = c.new.ensures c.args.authentication;
       lines = omega arith;
       few = c.requires.lines;
       adds = adds_none g.K.Sink.taken g.K.Sink.broken c.args.out.now c.args.listing.now;
@@ -28,7 +28,7 @@ packets-init g c =
     }
 
 pub log_packet-requires-clause-room : goal.log_packet-requires-clause-room
-log_packet-requires-clause-room g c = has-room c.packets.tally.counts c.packets.invariant.carriers c.packets.invariant.counts c.packets-test.true
+log_packet-requires-clause-room g c = has-room c.args.authentication c.packets.tally.counts c.packets.invariant.carriers c.packets.invariant.counts c.packets-test.true
 
 pub packets-preserved : goal.packets-preserved
 packets-preserved g c =
@@ -48,10 +48,10 @@ packets-preserved g c =
       carry = all-snoc IsCarrier cs p inv.carry c.log_packet.ensures.carries;
       taken = goes.front ++ goes.bytes;
       stands = subst (λ (fs : List Frame). Stands S.given before now (goes.front ++ goes.bytes) fs) (sym (frames-snoc cs p)) goes.stands;
-      counts = logs.counts ∙ ap (λ n. counted n p.carried (carries_password p.frame.bytes p.carried)) inv.counts ∙ sym (counts-snoc cs p);
+      counts = logs.counts ∙ ap (λ n. counted n p.carried (omitted_of c.args.authentication p.frame.bytes p.carried)) inv.counts ∙ sym (counts-snoc c.args.authentication cs p);
       lines = omega (arith, logs.lines, inv.lines, line_count-snoc cs p);
       few = logs.few;
-      adds = adds-packet g.K.Sink.taken g.K.Sink.broken c.args.out.now c.packets.out c.log_packet.new.out c.args.listing.now c.packets.listing c.log_packet.new.listing c.args.link.now cs p inv.adds logs.adds;
+      adds = adds-packet g.K.Sink.taken g.K.Sink.broken c.args.out.now c.packets.out c.log_packet.new.out c.args.listing.now c.packets.listing c.log_packet.new.listing c.args.authentication c.args.link.now cs p inv.adds logs.adds;
       went = went_on S.given S.coming S.at_end (source_of c.args.reader.now) (source_of c.packets.reader) (source_of now) inv.went runs.moves.went;
       running = h.refused;
       marks = runs.moves.marks refl ∙ inv.marks;
@@ -103,7 +103,7 @@ returns-then-has_failed g c =
       carriers = cs ++ p ∷ [];
       carry = all-snoc IsCarrier cs p inv.carry c.log_packet.ensures.carries;
       few = omega (arith, logs.lines, inv.lines, line_count-snoc cs p, logs.few);
-      adds = adds-packet g.K.Sink.taken g.K.Sink.broken c.args.out.now c.packets.out c.log_packet.new.out c.args.listing.now c.packets.listing c.log_packet.new.listing c.args.link.now cs p inv.adds logs.adds;
+      adds = adds-packet g.K.Sink.taken g.K.Sink.broken c.args.out.now c.packets.out c.log_packet.new.out c.args.listing.now c.packets.listing c.log_packet.new.listing c.args.authentication c.args.link.now cs p inv.adds logs.adds;
       ends = (sym c.has_failed.ensures ∙ c.if-has_failed.true, (goes.front ++ goes.bytes, subst (λ (fs : List Frame). Stands S.given before now (goes.front ++ goes.bytes) fs) (sym (frames-snoc cs p)) goes.stands));
       went = went_on S.given S.coming S.at_end (source_of c.args.reader.now) (source_of c.packets.reader) (source_of now) inv.went runs.moves.went;
       unread = λ e. cc e;
@@ -126,7 +126,7 @@ returns-in-Ok-None g c =
       carry = inv.carry;
       few = omega (arith, inv.lines, inv.few);
       adds = inv.adds;
-      ends = ends-at S.given S.at_end before c.args.lines inv.carriers now c.packets.listing tally here inv.counts inv.lines inv.few;
+      ends = ends-at S.given S.at_end c.args.authentication before c.args.lines inv.carriers now c.packets.listing tally here inv.counts inv.lines inv.few;
       went = went_on S.given S.coming S.at_end (source_of c.args.reader.now) (source_of c.packets.reader) (source_of now) inv.went runs.moves.went;
       unread = λ e. absurd (never-unread tally (position_of now) e);
       marks = λ e. runs.moves.marks refl ∙ inv.marks;
@@ -141,7 +141,7 @@ returns-in-Err g c =
     let runs = h.runs inv.running in
     let before = S.given (source_of c.args.reader.now) in
     let goes = runs.goes before inv.taken (map (λ c. c.frame) inv.carriers) inv.stands in
-    let ends = ends-by S.given S.at_end before c.args.lines inv.carriers now c.packets.listing c.in-Err.error.code c.in-Err.error.at goes in
+    let ends = ends-by S.given S.at_end c.args.authentication before c.args.lines inv.carriers now c.packets.listing c.in-Err.error.code c.in-Err.error.at goes in
     rw c.ended_by.ensures (record {
       carriers = inv.carriers;
       carry = inv.carry;

@@ -16,10 +16,10 @@ invariant-packets g l =
       carry : AllByRecursion IsCarrier carriers;
       taken : List ℕ;
       stands : Stands S.given (S.given (source_of l.fn.reader)) l.reader taken (map (λ c. c.frame) carriers);
-      counts : l.tally.counts ≡ counts_of carriers;
+      counts : l.tally.counts ≡ counts_of l.authentication carriers;
       lines : l.tally.lines ≡ l.lines + line_count carriers;
       few : l.tally.lines ≤ MOST_LINES;
-      adds : Adds K.taken K.broken l.fn.out l.out l.fn.listing l.listing (packet_lines l.link carriers);
+      adds : Adds K.taken K.broken l.fn.out l.out l.fn.listing l.listing (packet_lines l.authentication l.link carriers);
       went : Went S.given S.coming S.at_end (source_of l.fn.reader) (source_of l.reader);
       running : refusal_of l.reader ≡ None;
       marks : S.broken (source_of l.reader) ≡ S.broken (source_of l.fn.reader);

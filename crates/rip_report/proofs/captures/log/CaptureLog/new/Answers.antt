@@ -2,5 +2,5 @@ use Rattle.std.proofs.Common.{refl}
 use Rattle.rip_report.specs.CaptureLogs.SoFar.{none}
 use Rattle.rip_report.proofs.captures.log.CaptureLog.new.Goals as goal
 
-pub returns : goal.returns
-returns c = record { count = refl; so_far = none }
+pub returns-clause-empty : goal.returns-clause-empty
+returns-clause-empty c = record { count = refl; so_far = none }

@@ -4,10 +4,10 @@ use Rattle.hex.specs.Hex.{encode_lower}
 use Rattle.rip_capture.specs.Passwords.{without_password}
 use Rattle.rip_report.proofs.CaptureLemmas.{digits-parts}
 use Rattle.rip_report.proofs.ListingLemmas.{adds_same, adds_then}
-use Rattle.rip_report.proofs.captures.lines.add_datagram.Goals as goal
+use Rattle.rip_report.proofs.captures.lines.add_blanked.Goals as goal
 
-pub returns-in-Some : goal.returns-in-Some
-returns-in-Some g c =
+pub returns-in-Some-clause-adds : goal.returns-in-Some-clause-adds
+returns-in-Some-clause-adds g c =
     let taken = g.K.Sink.taken in
     let broken = g.K.Sink.broken in
     let d = c.args.datagram.now in
