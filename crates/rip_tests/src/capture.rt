@@ -231,6 +231,7 @@ fn entries_before_a_digest(rt: HostRuntime) {
         (47, 3),
     ] {
         let mut other = digest;
+        assert!(rt; at < other.len());
         other[at] = byte;
         assert!(rt; entries_in(&other).is_none());
     }
