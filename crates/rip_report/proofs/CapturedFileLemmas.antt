@@ -19,7 +19,7 @@ use Rattle.rip_report.specs.CaptureLogs.IsRefusedAt.{fault, packet, comment}
 use Rattle.rip_report.specs.CaptureLogs.FileText.{whole, refused, unread, memory}
 use Rattle.rip_report.specs.CaptureLogs.LogOf.{all, stopped}
 use Rattle.rip_report.specs.CaptureLogs.SoFar.{none, more}
-use Rattle.rip_report.specs.CaptureText.{Carrier, IsCarrier, comment_front, comment_line, count_of, counted_status, counts_of, file_part, file_refusal_line, is_cut, is_fragment, is_long, is_malformed, lacking_part, other_part, packet_lines, refusal_code_text}
+use Rattle.rip_report.specs.CaptureText.{Carrier, IsCarrier, comment_front, comment_line, count_of, counted_status, counts_of, file_part, file_refusal_line, is_cut, is_fragment, is_long, is_malformed, lacking_part, one, other_part, packet_lines, refusal_code_text}
 use Rattle.rip_report.specs.LeftOut.{count_part}
 use Rattle.rip_report.specs.Written.{line}
 use Rattle.rip_report.specs.declared.captures.authentication.Authentication.{Authentication}
@@ -153,13 +153,10 @@ failed-bad n text rest records safe bad reads = bad-line n text rest records Fie
 
 -- ---- counts
 
-abbrev one-or-none : Bool → ℕ
-one-or-none b = cond b 1 0
-
 none-of : (p : Carried → Bool) → ((c : Carried) → is_whole c ≡ true → p c ≡ false) → (cs : List Carrier) → AllByRecursion (λ c. is_whole c.carried ≡ true) cs → count_of p cs ≡ 0
 none-of p never [] h = refl
 none-of p never (c ∷ cs) h =
-    let here : one-or-none (p c.carried) ≡ 0 = ap one-or-none (never c.carried h.0) in
+    let here : one (p c.carried) ≡ 0 = ap one (never c.carried h.0) in
     omega (arith, sum_by-cons (λ (d : Carrier). cond (p d.carried) 1 0) c cs, here, none-of p never cs h.1)
 
 not-cut : (c : Carried) → is_whole c ≡ true → is_cut c ≡ false
