@@ -7,12 +7,12 @@ use Rattle.byteorder.specs.Numbers.{big_from-append}
 use Rattle.rip_wire.specs.Fields.{number_at}
 use Rattle.std.specs.Prelude.{MatchOption, ok_or}
 use Rattle.rip_capture.specs.Feeds.{Extends}
-use Rattle.rip_capture.specs.Finds.{FindsOrder, MissesBlock, SaysFront}
+use Rattle.rip_capture.specs.Finds.{FindsOrder, NoNextBlock, SaysFront}
 use Rattle.rip_capture.specs.Finds.LacksBlock.{front as lacks_front, rest as lacks_rest}
 use Rattle.rip_capture.specs.Numbers.{number_in}
 use Rattle.rip_capture.specs.Pcapng.{HasLength, HasOrder, IsBlock, OrderedFault, Section, begins_section, block_len, front_len, is_read_whole, kind_numbered, kind_of, least_len, order_number}
 use Rattle.rip_capture.specs.Pcapng.BlockFault.{front as short_front, order as no_order, ordered}
-use Rattle.rip_capture.specs.Pcapng.HasOrder.{own, section}
+use Rattle.rip_capture.specs.Pcapng.HasOrder.{own, inherited}
 use Rattle.rip_capture.specs.Pcapng.OrderedFault.{cut as cut_block, end as bad_end, old as old_packet, size as bad_size}
 use Rattle.rip_capture.proofs.FeedLemmas.{Extends-length, Extends-take}
 use Rattle.rip_capture.proofs.NumberLemmas.{number-stays}
@@ -60,16 +60,16 @@ pub order-stays : (within : Option Order) (order : Order) (xs ys : List ℕ) →
 order-stays within order xs ys room e (own begins is) =
     let room : 12 ≤ length xs = omega (arith, room, front-of-section xs begins) in
     own (section-stays xs ys (omega (arith, room)) e ∙ begins) (place-stays 8 xs ys (omega (arith, room)) e ∙ is)
-order-stays within order xs ys room e (section other is) =
-    section (section-stays xs ys (omega (arith, room, front-least xs)) e ∙ other) is
+order-stays within order xs ys room e (inherited other is) =
+    inherited (section-stays xs ys (omega (arith, room, front-least xs)) e ∙ other) is
 
 pub order-front : (within : Option Order) (order : Order) (xs ys : List ℕ) → front_len xs ≤ length xs → Extends xs ys → HasOrder within ys order → HasOrder within xs order
 order-front within order xs ys room e (own begins is) =
     let first : begins_section xs ≡ true = sym (section-stays xs ys (omega (arith, room, front-least xs)) e) ∙ begins in
     let room : 12 ≤ length xs = omega (arith, room, front-of-section xs first) in
     own first (sym (place-stays 8 xs ys (omega (arith, room)) e) ∙ is)
-order-front within order xs ys room e (section other is) =
-    section (sym (section-stays xs ys (omega (arith, room, front-least xs)) e) ∙ other) is
+order-front within order xs ys room e (inherited other is) =
+    inherited (sym (section-stays xs ys (omega (arith, room, front-least xs)) e) ∙ other) is
 
 pub length-stays : (order : Order) (xs ys : List ℕ) → 8 ≤ length xs → Extends xs ys → HasLength order xs → HasLength order ys
 length-stays order xs ys room e h =
@@ -104,9 +104,9 @@ numbers-one Little Little n a b = refl
 
 pub order-one : (within : Option Order) (b : List ℕ) (o p : Order) → HasOrder within b o → HasOrder within b p → o ≡ p
 order-one within b o p (own begins is) (own begins' is') = numbers-one o p (number_at 4 8 b) is is'
-order-one within b o p (own begins is) (section other is') = absurd (false≢true (sym other ∙ begins))
-order-one within b o p (section other is) (own begins is') = absurd (false≢true (sym other ∙ begins))
-order-one within b o p (section other is) (section other' is') = cc (is, is')
+order-one within b o p (own begins is) (inherited other is') = absurd (false≢true (sym other ∙ begins))
+order-one within b o p (inherited other is) (own begins is') = absurd (false≢true (sym other ∙ begins))
+order-one within b o p (inherited other is) (inherited other' is') = cc (is, is')
 
 -- ---- a block has at least twelve bytes
 
@@ -148,16 +148,16 @@ fronted-on within order kind len xs ys room has says e =
     }
 
 module _ (within : Option Order) (order : Order) (kind : BlockKind) (len : ℕ) (b : List ℕ) (at_end : Bool) (f : Fronted within order kind len b) where
-  pub misses-rest : length b < len → MissesBlock within b at_end codes.Read
+  pub misses-rest : length b < len → NoNextBlock within b at_end codes.Read
   misses-rest less = inl (refl, lacks_rest order f.room f.order_is (omega (arith, less, f.len_is)))
 
-  fault-of : (code : CaptureCode) → ((s : Option Section) → OrderedFault s order b code) → (code ≡ codes.Cut → at_end ≡ true) → MissesBlock within b at_end code
+  fault-of : (code : CaptureCode) → ((s : Option Section) → OrderedFault s order b code) → (code ≡ codes.Cut → at_end ≡ true) → NoNextBlock within b at_end code
   fault-of code fault ends = inr (λ s e. ordered order f.room (subst (λ (o : Option Order). HasOrder o b order) (sym e) f.order_is) (fault s), ends)
 
-  pub misses-cut : length b < len → at_end ≡ true → MissesBlock within b at_end codes.Cut
+  pub misses-cut : length b < len → at_end ≡ true → NoNextBlock within b at_end codes.Cut
   misses-cut less ended = fault-of codes.Cut (λ s. cut_block f.can f.young (omega (arith, less, f.len_is)) refl) (λ e. ended)
 
-  pub misses-end : len ≤ length b → number_in order (len - 4) b ≢ len → MissesBlock within b at_end codes.Length
+  pub misses-end : len ≤ length b → number_in order (len - 4) b ≢ len → NoNextBlock within b at_end codes.Length
   misses-end room other =
       fault-of codes.Length (λ s. bad_end f.can f.young (omega (arith, room, f.len_is)) (λ same. other (subst (λ (n : ℕ). number_in order (n - 4) b ≡ n) (sym f.len_is) same)) refl) (λ e. cc e)
 
@@ -185,10 +185,10 @@ number-behind Little bytes b n is = ap (number_in Little 0) (drop_at bytes b n i
 -- ---- the front of a section
 
 module _ (within : Option Order) (b : List ℕ) (at_end : Bool) (begins : begins_section b ≡ true) where
-  pub misses-front : length b < 12 → MissesBlock within b at_end codes.Read
+  pub misses-front : length b < 12 → NoNextBlock within b at_end codes.Read
   misses-front less = inl (refl, lacks_front (omega (arith, less, front-of-section b begins)))
 
-  pub misses-section : 0 < length b → length b < 12 → at_end ≡ true → MissesBlock within b at_end codes.Cut
+  pub misses-section : 0 < length b → length b < 12 → at_end ≡ true → NoNextBlock within b at_end codes.Cut
   misses-section some less ended = inr (λ s e. short_front some (omega (arith, less, front-of-section b begins)) refl, λ e. ended)
 
   pub section-order : (r : Option Order) → 12 ≤ length b → MatchOption r ((order : Order) → number_at 4 8 b ≢ order_number order) (λ order. number_at 4 8 b ≡ order_number order) → FindsOrder within b at_end (ok_or r codes.Version)
@@ -199,7 +199,7 @@ pub least-len : (order : Order) (b : List ℕ) (kind : BlockKind) (len : ℕ) �
 least-len order b kind len says = omega (arith, says.3, says.0.least, least-of (kind_of order b))
 
 -- what is wrong with a front
-pub front-fault : (within : Option Order) (order : Order) (b : List ℕ) (at_end : Bool) (code : CaptureCode) → front_len b ≤ length b → HasOrder within b order → SaysFront order b (Err code) → MissesBlock within b at_end code
+pub front-fault : (within : Option Order) (order : Order) (b : List ℕ) (at_end : Bool) (code : CaptureCode) → front_len b ≤ length b → HasOrder within b order → SaysFront order b (Err code) → NoNextBlock within b at_end code
 front-fault within order b at_end codes.Length room has says =
     inr (λ s e. ordered order room (subst (λ (o : Option Order). HasOrder o b order) (sym e) has) (bad_size says refl), λ e. cc e)
 front-fault within order b at_end codes.OldPacket room has says =

@@ -13,7 +13,7 @@ use Rattle.rip_capture.specs.Pcapng.AreBlocks.{none as no_blocks, more as more_b
 use Rattle.rip_capture.specs.Pcapng.BlockFault.{front as short_front, order as no_order, ordered}
 use Rattle.rip_capture.specs.Pcapng.BodyFault.{version as bad_version, full as too_many, packet as bad_packet}
 use Rattle.rip_capture.specs.Pcapng.Does.{section as does_section, interface as does_interface, packet as does_packet, other as does_nothing}
-use Rattle.rip_capture.specs.Pcapng.HasOrder.{own, section as of_section}
+use Rattle.rip_capture.specs.Pcapng.HasOrder.{own, inherited as of_section}
 use Rattle.rip_capture.specs.Pcapng.OrderedFault.{size as bad_size, old as old_packet, cut as cut_block, end as bad_end, body as bad_body}
 use Rattle.rip_capture.specs.Pcapng.PacketFault.{interface as no_interface, size as bad_length, link_type as bad_type}
 use Rattle.rip_capture.proofs.BlockLemmas.{block-found}

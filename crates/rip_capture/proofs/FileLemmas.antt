@@ -1,9 +1,9 @@
 -- A file is one capture, or has one fault.
 use Rattle.std.proofs.Common.{◌≡◌, ◌≢◌, ◌+◌, ◌*◌, ◌%◌, ◌^◌, ◌<◌, ◌≤◌, ◌∙◌, ℕ, true, List, [], ◌∷◌, ◌++◌, Option, Some, None, length, drop, ap, sym, refl, inl, inr, subst, arith, append_assoc, append-nil}
 use Rattle.std.proofs.lemmas.Bool.{eqb-true}
-use Rattle.std.proofs.lemmas.List.{length-append, length-drop}
+use Rattle.std.proofs.lemmas.List.{append_cancel_left, length-append, length-drop}
 use Rattle.rip_wire.specs.Fields.{number_at}
-use Rattle.rip_capture.specs.Captures.{CaptureFault, FrontFault, HasMagic, HasNoMore, IsCapture}
+use Rattle.rip_capture.specs.Captures.{CaptureFault, FrontFault, HasMagic, HasNoMore, IsCapture, IsNext}
 use Rattle.rip_capture.specs.Captures.CaptureFault.{front as at_front, pcap as in_pcap, pcapng as in_pcapng}
 use Rattle.rip_capture.specs.Captures.FrontFault.{short as too_short, magic as no_kind, pcap as pcap_front}
 use Rattle.rip_capture.specs.Captures.HasMagic.{pcap as pcap_kind, pcapng as pcapng_kind}
@@ -12,10 +12,12 @@ use Rattle.rip_capture.specs.Feeds.{Extends}
 use Rattle.rip_capture.specs.Pcap.{AreRecords, Frame, HeaderFault, HoldsRecord, IsMagic, IsMagicNumber, IsPcap, IsPcapHeader, IsRecord, RecordFault, captured_len, link_number}
 use Rattle.rip_capture.specs.Pcap.HeaderFault.{cut as cut_header, version as bad_version, link_type as bad_type}
 use Rattle.rip_capture.specs.Pcap.RecordFault.{header as short_record, long as long_record, packet as cut_record}
-use Rattle.rip_capture.specs.Pcapng.{AreBlocks, Section, begins_section, order_of}
+use Rattle.rip_capture.specs.Pcapng.{AreBlocks, Does, IsBlock, Section, begins_section, kind_of, order_of}
+use Rattle.rip_capture.specs.Pcapng.Does.{section as does_section, interface as does_interface, packet as does_packet, other as does_nothing}
+use Rattle.rip_capture.specs.declared.blocks.BlockKind.{BlockKind}
 use Rattle.rip_capture.proofs.BlockLemmas.{section-stays}
 use Rattle.rip_capture.proofs.LinkLemmas.{one_type}
-use Rattle.rip_capture.proofs.PcapngLemmas.{NoBlock, block-fault-on, blocks-long, blocks-most, blocks-one, blocks-start, front-of, parts}
+use Rattle.rip_capture.proofs.PcapngLemmas.{NoBlock, block-fault-on, block-next, blocks-long, blocks-most, blocks-one, blocks-start, front-of, parts}
 use Rattle.rip_capture.proofs.NumberLemmas.{magic-front, magic-stays, number-stays, version-front, version-stays}
 use Rattle.rip_capture.specs.declared.error.CaptureCode.{CaptureCode}
 use Rattle.rip_capture.specs.declared.error.CaptureCode.TheVariants as codes
@@ -378,3 +380,52 @@ capture-long b fs (pcap_capture order t h) =
     let size : length b ≡ length h.header + length h.records = ap length h.whole ∙ length-append h.header h.records in
     omega (arith, few, size)
 capture-long b fs (pcapng_capture now h) = blocks-long None (Some now) b fs h
+
+-- ---- a record or a block with a packet is the next
+
+same-records : (order : Order) (t : LinkType) (fs gs : List Frame) (xs ys rest last : List ℕ) → AreRecords order t xs fs → AreRecords order t ys gs → fs ≡ gs → xs ++ rest ≡ ys ++ last → xs ≡ ys
+same-records order t [] [] xs ys rest last h k same e = h ∙ sym k
+same-records order t [] (g ∷ gs) xs ys rest last h k same e = cc same
+same-records order t (f ∷ fs) [] xs ys rest last h k same e = cc same
+same-records order t (f ∷ fs) (g ∷ gs) xs ys rest last h k same e =
+    let both : h.0 ++ (h.1 ++ rest) ≡ k.0 ++ (k.1 ++ last) =
+    sym (ap (λ (l : List ℕ). l ++ rest) h.4 ∙ append_assoc h.0 h.1 rest) ∙ e ∙ ap (λ (l : List ℕ). l ++ last) k.4 ∙ append_assoc k.0 k.1 last in
+    let first = first-one order t h.0 (h.1 ++ rest) k.0 (k.1 ++ last) f g h.2 k.2 both in
+    let tails : fs ≡ gs = cc same in
+    let on = same-records order t fs gs h.1 k.1 rest last h.3 k.3 tails first.1 in
+    h.4 ∙ ap (λ (l : List ℕ). l ++ h.1) first.0 ∙ ap (λ (l : List ℕ). k.0 ++ l) on ∙ sym k.4
+
+same-pcap : (o p : Order) (t u : LinkType) (a b : List ℕ) (fs : List Frame) (rest last : List ℕ) → IsPcap a o t fs → IsPcap b p u fs → a ++ rest ≡ b ++ last → a ≡ b
+same-pcap o p t u a b fs rest last h k e =
+    let both : h.header ++ (h.records ++ rest) ≡ k.header ++ (k.records ++ last) =
+    sym (ap (λ (l : List ℕ). l ++ rest) h.whole ∙ append_assoc h.header h.records rest) ∙ e ∙ ap (λ (l : List ℕ). l ++ last) k.whole ∙ append_assoc k.header k.records last in
+    let split = parts h.header (h.records ++ rest) k.header (k.records ++ last) (h.is_header.size ∙ sym k.is_header.size) both in
+    let same = header-order o p t u h.header k.header h.is_header k.is_header split.0 in
+    let records : AreRecords p u h.records fs = subst (λ (z : LinkType). AreRecords p z h.records fs) same.1 (subst (λ (z : Order). AreRecords z t h.records fs) same.0 h.are_records) in
+    let on = same-records p u fs fs h.records k.records rest last records k.are_records refl split.1 in
+    h.whole ∙ ap (λ (l : List ℕ). l ++ h.records) split.0 ∙ ap (λ (l : List ℕ). k.header ++ l) on ∙ sym k.whole
+
+append-self : (xs ys : List ℕ) → xs ≡ xs ++ ys → ys ≡ []
+append-self xs ys e = append_cancel_left xs ys [] (sym e ∙ sym (append-nil xs))
+
+pub record-next : (o : Order) (t : LinkType) (front bytes : List ℕ) (frames : List Frame) → IsPcap front o t frames → IsNext front bytes frames
+record-next o t front bytes frames h part rest e (pcap_capture p u k) =
+    append-self front part (same-pcap o p t u front (front ++ part) frames part [] h k (sym (append-nil (front ++ part))))
+record-next o t front bytes frames h part rest e (pcapng_capture now k) =
+    absurd (no-both o (front ++ part) (pcap-begins front part o t frames h) (section-whole (front ++ part) frames now k))
+
+next-block : (now next : Section) (front more : List ℕ) (frames : List Frame) (frame : Frame) (order : Order) → AreBlocks None front frames (Some now) → IsBlock (order_of (Some now)) order more → Does (Some now) order more (kind_of order more) (frame ∷ []) next → IsNext front more frames
+next-block now next front more frames frame order h is does part rest e (pcap_capture p u k) =
+    absurd (no-both p (front ++ part) (magic-whole (front ++ part) p u frames k) (section-begins front part frames now h))
+next-block now next front more frames frame order h is does part rest e (pcapng_capture m k) =
+    block-next None (Some now) (Some m) frames frames front (front ++ part) part rest more frame order next h is does k refl refl e
+
+no-first : (order : Order) (more : List ℕ) (kind : BlockKind) (frame : Frame) (next : Section) → Does None order more kind (frame ∷ []) next → ⊥
+no-first order more kind frame next (does_section k version none is) = cc none
+no-first order more kind frame next (does_interface now k at few none is) = cc at
+no-first order more kind frame next (does_packet now form f k at js one is) = cc at
+no-first order more kind frame next (does_nothing now k at none is) = cc at
+
+pub packet-next : (s : Option Section) (next : Section) (front more : List ℕ) (frames : List Frame) (frame : Frame) (order : Order) → AreBlocks None front frames s → IsBlock (order_of s) order more → Does s order more (kind_of order more) (frame ∷ []) next → IsNext front more frames
+packet-next None next front more frames frame order h is does = absurd (no-first order more (kind_of order more) frame next does)
+packet-next (Some now) next front more frames frame order h is does = next-block now next front more frames frame order h is does

@@ -1,7 +1,7 @@
 -- Blocks, one after the other, are one list of packets, or end at one fault.
 use Rattle.std.proofs.Common.{◌≡◌, ◌≢◌, ◌+◌, ◌-◌, ◌*◌, ◌<◌, ◌≤◌, ◌∙◌, if◌then◌else◌, ℕ, Bool, true, List, [], ◌∷◌, ◌++◌, Option, Some, None, length, take, drop, ap, sym, refl, subst, arith, append_assoc, append-nil}
 use Rattle.std.proofs.lemmas.Bool.{false≢true}
-use Rattle.std.proofs.lemmas.List.{drop_at, length-append, take_at}
+use Rattle.std.proofs.lemmas.List.{append_cancel_left, drop_at, length-append, take_at}
 use Rattle.std.specs.Prelude.{slice_range}
 use Rattle.rip_wire.specs.Fields.{number_at}
 use Rattle.rip_capture.specs.Feeds.{Extends}
@@ -14,7 +14,7 @@ use Rattle.rip_capture.specs.Pcapng.AreBlocks.{none as no_blocks, more as more_b
 use Rattle.rip_capture.specs.Pcapng.BlockFault.{front as short_front, order as no_order, ordered}
 use Rattle.rip_capture.specs.Pcapng.BodyFault.{version as bad_version, full as too_many, packet as bad_packet}
 use Rattle.rip_capture.specs.Pcapng.Does.{section as does_section, interface as does_interface, packet as does_packet, other as does_nothing}
-use Rattle.rip_capture.specs.Pcapng.HasOrder.{own, section as of_section}
+use Rattle.rip_capture.specs.Pcapng.HasOrder.{own, inherited as of_section}
 use Rattle.rip_capture.specs.Pcapng.OrderedFault.{size as bad_size, old as old_packet, cut as cut_block, end as bad_end, body as bad_body}
 use Rattle.rip_capture.specs.Pcapng.PacketFault.{interface as no_interface, size as bad_length, link_type as bad_type}
 use Rattle.rip_capture.proofs.BlockLemmas.{front-least, front-most, front-of-section, front-stays, kind-stays, least-of, len-stays, length-front, length-stays, order-one, order-stays, place-stays, section-stays}
@@ -443,3 +443,28 @@ pub blocks-long : (s l : Option Section) (b : List ℕ) (fs : List Frame) → Ar
 blocks-long s l b fs (no_blocks _ _ _ _ empty none is) = omega (arith, ap length none)
 blocks-long s l b fs (more_blocks _ _ _ _ q first rest hers theirs mid js goes are whole split) =
     omega (arith, ap length split, length-append hers theirs, ap length whole, length-append first rest, does-long s q first hers mid js goes, blocks-long (Some mid) l rest theirs are)
+
+-- ---- a block with a packet is the next
+
+append-none : (xs ys : List ℕ) → xs ++ ys ≡ [] → ys ≡ []
+append-none [] ys e = e
+append-none (x ∷ xs) ys e = cc e
+
+frame-some : (f : Frame) (xs ys : List Frame) → xs ≡ f ∷ [] → [] ≡ xs ++ ys → ⊥
+frame-some f xs ys is e = cc (e ∙ ap (λ (l : List Frame). l ++ ys) is)
+
+pub block-next : (s l m : Option Section) (fs gs : List Frame) (xs ys part rest more : List ℕ) (frame : Frame) (order : Order) (next : Section) → AreBlocks s xs fs l → IsBlock (order_of l) order more → Does l order more (kind_of order more) (frame ∷ []) next → AreBlocks s ys gs m → ys ≡ xs ++ part → gs ≡ fs → more ≡ part ++ rest → part ≡ []
+block-next s l m fs gs xs ys part rest more frame order next (no_blocks _ _ _ _ empty none is) js does (no_blocks _ _ _ _ empty' none' is') e same parted = append-none xs part (sym e ∙ empty')
+block-next s l m fs gs xs ys part rest more frame order next (no_blocks _ _ _ _ empty none is) js does (more_blocks _ _ _ _ q first others mine theirs mid ks goes are whole split) e same parted =
+    let alone : part ≡ first ++ others = ap (λ (z : List ℕ). z ++ part) (sym empty) ∙ sym e ∙ whole in
+    let both : more ++ [] ≡ first ++ (others ++ rest) = append-nil more ∙ parted ∙ ap (λ (z : List ℕ). z ++ rest) alone ∙ append_assoc first others rest in
+    let here : IsBlock (order_of s) order more = subst (λ (z : Option Section). IsBlock (order_of z) order more) is js in
+    let one = one-block s order q more [] first (others ++ rest) (frame ∷ []) mine next mid here (subst (λ (z : Option Section). Does z order more (kind_of order more) (frame ∷ []) next) is does) ks goes both in
+    absurd (frame-some frame mine theirs (sym one.frames) (sym none ∙ sym same ∙ split))
+block-next s l m fs gs xs ys part rest more frame order next (more_blocks _ _ _ _ q first others mine theirs mid ks goes are whole split) js does (no_blocks _ _ _ _ empty none is) e same parted =
+    append-none xs part (sym e ∙ empty)
+block-next s l m fs gs xs ys part rest more frame order next (more_blocks _ _ _ _ q first others mine theirs mid ks goes are whole split) js does (more_blocks _ _ _ _ q' first' others' mine' theirs' mid' ks' goes' are' whole' split') e same parted =
+    let both : first ++ (others ++ part) ≡ first' ++ others' = sym (append_assoc first others part) ∙ ap (λ (z : List ℕ). z ++ part) (sym whole) ∙ sym e ∙ whole' in
+    let one = one-block s q q' first (others ++ part) first' others' mine mine' mid mid' ks goes ks' goes' both in
+    let frames : mine ++ theirs' ≡ mine ++ theirs = ap (λ (z : List Frame). z ++ theirs') one.frames ∙ sym split' ∙ same ∙ split in
+    block-next (Some mid) l m theirs theirs' others others' part rest more frame order next are js does (subst (λ (n : Section). AreBlocks (Some n) others' theirs' m) (sym one.next) are') (sym one.rest) (append_cancel_left mine theirs' theirs frames) parted

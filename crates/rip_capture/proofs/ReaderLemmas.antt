@@ -15,7 +15,7 @@ use Rattle.rip_capture.specs.NextCall.{EndsHere, HasRead, HoldsPacket, IsFar, Is
 use Rattle.rip_capture.specs.Pcap.{Frame, HoldsRecord, IsPcap, RecordFault}
 use Rattle.rip_capture.specs.Pcapng.{Section}
 use Rattle.rip_capture.specs.Steps.{Begins, StandsAt, TakesBlock, frame_at, place_at}
-use Rattle.rip_capture.proofs.FileLemmas.{front-most, record-most}
+use Rattle.rip_capture.proofs.FileLemmas.{front-most, record-most, record-next}
 use Rattle.rip_capture.proofs.PcapLemmas.{IsPcap-none, IsPcap-snoc, record-of}
 use Rattle.rip_capture.specs.declared.blocks.Block.{Block}
 use Rattle.rip_capture.specs.declared.error.CaptureCode.{CaptureCode}
@@ -63,6 +63,7 @@ TakesPacket-found given before taken frames frame old new mid h n at_end was is 
       right = pcap_capture h.order h.link_type right;
       place_is = s.position;
       longer = pcap_capture h.order h.link_type one;
+      next = record-next h.order h.link_type taken more frames right;
       stands = record {
         gave = more-taken given before taken more old.feed mid new.feed keeps takes s.gave;
         position = omega (arith, position, s.position, length-append taken more, length-take (16 + n) (held mid), finds.0);
@@ -279,6 +280,7 @@ TakesPacket-block given before taken frames mid new found was is s b = record {
   right = pcapng_capture (section_by mid) (subst (λ (f : Option Format). HasRead f (section_by mid) taken frames) was s.read);
   place_is = b.brings;
   longer = pcapng_capture (section_by new) b.read;
+  next = b.next (frame_at new found) refl;
   stands = record {
     gave = b.gave;
     position = b.position;

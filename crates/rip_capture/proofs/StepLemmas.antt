@@ -11,7 +11,7 @@ use Rattle.rip_capture.specs.Captures.IsCapture.{pcapng as pcapng_capture}
 use Rattle.rip_capture.specs.Captures.IsRead.{none as nothing_read, capture as capture_read}
 use Rattle.rip_capture.specs.Codes.{is_read}
 use Rattle.rip_capture.specs.Feeds.{Extends, Skips, Takes}
-use Rattle.rip_capture.specs.Finds.{HoldsBlock, IsFound, MissesBlock}
+use Rattle.rip_capture.specs.Finds.{HoldsBlock, IsFound, NoNextBlock}
 use Rattle.rip_capture.specs.NextCall.{IsFar, StopsAt, held_by, position_of, section_by, source_of}
 use Rattle.rip_capture.specs.Pcap.{Frame}
 use Rattle.rip_capture.specs.Pcapng.{AreBlocks, BlockFault, Does, IsBlock, Section, begins_section, front_len, is_read_whole, kind_of, order_of}
@@ -24,7 +24,7 @@ use Rattle.rip_capture.proofs.BlockLemmas.{front-least, front-most, front-stays,
 use Rattle.rip_capture.proofs.BodyLemmas.{block-unread, body-fault-in, does-of, frames-in, range-range, reads-whole}
 use Rattle.rip_capture.proofs.EachBlockLemmas.{last-section}
 use Rattle.rip_capture.proofs.FeedLemmas.{Extends-length, Extends-take}
-use Rattle.rip_capture.proofs.FileLemmas.{block-most}
+use Rattle.rip_capture.proofs.FileLemmas.{block-most, packet-next}
 use Rattle.rip_capture.proofs.PcapngLemmas.{block-least, blocks-snoc, blocks-start, first-begins, front-of, no-block, section-kind}
 use Rattle.rip_capture.specs.declared.blocks.Block.{Block}
 use Rattle.rip_capture.specs.declared.blocks.BlockKind.{BlockKind}
@@ -112,6 +112,8 @@ module _ {R : Type 0} (given : R → List ℕ) (before taken passed : List ℕ) 
         some = omega (arith, block-least (order_of s) order first st.found.is_block);
         read = subst (λ (n : Section). AreBlocks None (taken ++ first) (frames ++ frames_of new step) (Some n)) (sym section) (subst (λ (fs : List Frame). AreBlocks None (taken ++ first) (frames ++ fs) (Some (entered (section_by old) order body))) (sym framed) read);
         brings = brings;
+        next = λ frame one. packet-next s (entered (section_by old) order body) taken first frames frame order st.read st.found.is_block
+            (subst (λ (fs : List Frame). Does s order first (kind_of order first) fs (entered (section_by old) order body)) (sym framed ∙ one) goes);
       }
 
   pub first-kind : s ≡ None → block.kind ≡ kinds.Section
@@ -155,7 +157,7 @@ module _ {R : Type 0} (given : R → List ℕ) (at_end : R → Bool) (before tak
   fault-here code at place f = in_pcapng s taken b room begins refl are place f
 
   -- where no block is there
-  pub stops-missing : (code : CaptureCode) (at : ℕ) → at ≡ length taken → MissesBlock (order_of s) b (at_end (source_of new)) code → StopsAt given at_end before frames (record { code = code; at = at }) new
+  pub stops-missing : (code : CaptureCode) (at : ℕ) → at ≡ length taken → NoNextBlock (order_of s) b (at_end (source_of new)) code → StopsAt given at_end before frames (record { code = code; at = at }) new
   stops-missing code at place (inl lacks) = record {
     front = taken;
     rest = b;
@@ -233,7 +235,7 @@ module _ {R : Type 0} (given : R → List ℕ) (at_end : R → Bool) (before tak
   start : position_of mid ≡ 0
   start = position ∙ ap length none.0
 
-  pub front-missing : (code : CaptureCode) → MissesBlock None behind (at_end (source_of mid)) code → StopsAt given at_end before frames (record { code = code; at = 0 }) mid
+  pub front-missing : (code : CaptureCode) → NoNextBlock None behind (at_end (source_of mid)) code → StopsAt given at_end before frames (record { code = code; at = 0 }) mid
   front-missing code misses =
       subst (λ (fs : List Frame). StopsAt given at_end before fs (record { code = code; at = 0 }) mid) (sym none.1)
       (stops-missing given at_end before [] behind [] None mid room-behind begins-behind nothing gave-behind start code 0 refl misses)

@@ -29,6 +29,11 @@ HasNoMore b frames =
     (front rest : List ℕ) (others : List Frame) → b ≡ front ++ rest → IsCapture front others →
     length others ≤ length frames
 
+-- these bytes are the next record or block behind a capture of these frames: no front of them is passed over
+abbrev pub IsNext : List ℕ → List ℕ → List Frame → Type 0
+IsNext front bytes frames =
+    (part rest : List ℕ) → bytes ≡ part ++ rest → IsCapture (front ++ part) frames → part ≡ []
+
 -- what is wrong with the front of a file, the first of these
 pub data FrontFault (b : List ℕ) (code : CaptureCode) : Type 0 where
   short : length b < MAGIC_LEN → code ≡ Cut → FrontFault b code

@@ -60,21 +60,21 @@ pub data LacksBlock (within : Option Order) (b : List ℕ) : Type 0 where
       length b < block_len order b → LacksBlock within b
 
 -- why there is no next block in b, where at_end says that no bytes come after these
-abbrev pub MissesBlock : Option Order → List ℕ → Bool → CaptureCode → Type 0
-MissesBlock within b at_end code =
+abbrev pub NoNextBlock : Option Order → List ℕ → Bool → CaptureCode → Type 0
+NoNextBlock within b at_end code =
     ((code ≡ Read) × LacksBlock within b)
     ⊎ (((s : Option Section) → order_of s ≡ within → BlockFault s b code) × EndsFor code at_end)
 
 -- the byte order of the next block, where at_end says that no bytes come after these
 abbrev pub FindsOrder : Option Order → List ℕ → Bool → Result Order CaptureCode → Type 0
 FindsOrder within b at_end (Ok order) = (front_len b ≤ length b) × HasOrder within b order
-FindsOrder within b at_end (Err code) = MissesBlock within b at_end code
+FindsOrder within b at_end (Err code) = NoNextBlock within b at_end code
 
 -- the same, or that there is no next block
 abbrev pub FindsNextOrder : Option Order → List ℕ → Bool → Result (Option Order) CaptureCode → Type 0
 FindsNextOrder within b at_end (Ok (Some order)) = FindsOrder within b at_end (Ok order)
 FindsNextOrder within b at_end (Ok None) = (b ≡ []) × (at_end ≡ true)
-FindsNextOrder within b at_end (Err code) = MissesBlock within b at_end code
+FindsNextOrder within b at_end (Err code) = NoNextBlock within b at_end code
 
 -- what the front of a block says
 abbrev pub SaysFront : Order → List ℕ → Result (BlockKind × ℕ) CaptureCode → Type 0
@@ -103,14 +103,14 @@ pub record IsFound (within : Option Order) (passed b : List ℕ) (block : Block)
 -- the next block, of which these bytes were passed over and b are held
 abbrev pub FindsBlock : Option Order → List ℕ → List ℕ → Bool → Result Block CaptureCode → Type 0
 FindsBlock within passed b at_end (Ok block) = IsFound within passed b block
-FindsBlock within passed b at_end (Err code) = MissesBlock within (passed ++ b) at_end code
+FindsBlock within passed b at_end (Err code) = NoNextBlock within (passed ++ b) at_end code
 
 -- the same, or that there is no next block
 abbrev pub FindsNextBlock :
     Option Order → List ℕ → List ℕ → Bool → Result (Option Block) CaptureCode → Type 0
 FindsNextBlock within passed b at_end (Ok (Some block)) = FindsBlock within passed b at_end (Ok block)
 FindsNextBlock within passed b at_end (Ok None) = (passed ++ b ≡ []) × (at_end ≡ true)
-FindsNextBlock within passed b at_end (Err code) = MissesBlock within (passed ++ b) at_end code
+FindsNextBlock within passed b at_end (Err code) = NoNextBlock within (passed ++ b) at_end code
 
 -- bytes begin with a whole block of this byte order that is read
 pub record HoldsWhole (order : Order) (b : List ℕ) : Type 0 where

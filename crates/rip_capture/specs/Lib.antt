@@ -1,3 +1,4 @@
+pub mod Authentication
 pub mod Bodies
 pub mod Captures
 pub mod Carries
@@ -10,7 +11,6 @@ pub mod NextCall
 pub mod Numbers
 pub mod Packets
 pub mod Passwords
-pub mod Authentication
 pub mod Pcap
 pub mod Pcapng
 pub mod Spans

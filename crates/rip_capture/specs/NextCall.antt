@@ -2,7 +2,7 @@
 use Rattle.std.specs.Prelude.{◌≡◌, ◌⊎◌, ◌≤◌, ◌+◌, ◌^◌, ◌++◌, ℕ, Bool, true, false, List, [], ◌∷◌, Option, Some, None, is_some, Result, Ok, Err, length}
 use Rattle.rip_log.specs.Wholes.{Went}
 use Rattle.rip_capture.specs.Bodies.{section_of}
-use Rattle.rip_capture.specs.Captures.{CaptureFault, HasNoMore, IsCapture, IsRead}
+use Rattle.rip_capture.specs.Captures.{CaptureFault, HasNoMore, IsCapture, IsNext, IsRead}
 use Rattle.rip_capture.specs.Codes.{EndsFor, is_read}
 use Rattle.rip_capture.specs.Feeds.{held}
 use Rattle.rip_capture.specs.Finds.{HoldsPacketBlock}
@@ -34,7 +34,7 @@ refusal_of reader = reader.refusal
 abbrev pub frame_of : Packet → Frame
 frame_of p = record { link_type = p.link_type; bytes = p.bytes.now }
 
--- the offset of its record
+-- the offset of its record or block
 abbrev pub place_of : Packet → ℕ
 place_of p = p.at
 
@@ -56,7 +56,7 @@ pub record Stands {R : Type 0} (given : R → List ℕ) (before : List ℕ) (rea
   pub position : position_of reader ≡ length taken
   pub read : HasRead reader.format (section_by reader) taken frames
 
--- the next packet was taken: its record begins at this place, behind a capture of the frames before it
+-- the next packet was taken: its record or block begins at this place, behind a capture of the frames before it
 pub record TakesPacket {R : Type 0} (given : R → List ℕ) (before : List ℕ) (frames : List Frame)
     (frame : Frame) (place : ℕ) (new : CaptureReader R) : Type 0 where
   pub front : List ℕ
@@ -64,6 +64,7 @@ pub record TakesPacket {R : Type 0} (given : R → List ℕ) (before : List ℕ)
   pub right : IsCapture front frames
   pub place_is : place ≡ length front
   pub longer : IsCapture (front ++ bytes) (frames ++ frame ∷ [])
+  pub next : IsNext front bytes frames
   pub stands : Stands given before new (front ++ bytes) (frames ++ frame ∷ [])
 
 -- the file has ended: it is a capture of these frames, and all that the source gives
@@ -136,7 +137,7 @@ pub record Runs {R X : Type 0} (given : R → List ℕ) (coming : R → Option (
   pub moves : Moves given coming broken at_end old new result
   pub over : result ≡ Ok None → IsOver at_end new
   pub stays_over : IsOver at_end old → result ≡ Ok None
-  -- nothing is pulled where the next record is held
+  -- nothing is pulled where the next record, or block of a packet, is held
   pub ready : HoldsPacket old.format (section_by old) (held_by old) → source_of new ≡ source_of old
 
 -- the error of an answer

@@ -39,7 +39,7 @@ order_number Little = 0x4D3C2B1A
 -- the byte order of a block: a section says its own, and the blocks in it have that
 pub data HasOrder (within : Option Order) (b : List ℕ) (order : Order) : Type 0 where
   own : begins_section b ≡ true → number_at 4 8 b ≡ order_number order → HasOrder within b order
-  section : begins_section b ≡ false → within ≡ Some order → HasOrder within b order
+  inherited : begins_section b ≡ false → within ≡ Some order → HasOrder within b order
 
 -- the kinds of blocks that do not begin a section
 abbrev pub kind_numbered : ℕ → BlockKind

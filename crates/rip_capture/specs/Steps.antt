@@ -1,5 +1,6 @@
 -- What the parts of a call of `next` do.
 use Rattle.std.specs.Prelude.{◌≡◌, ◌≢◌, ◌⊎◌, ◌<◌, ◌^◌, ◌++◌, ℕ, Bool, false, List, [], ◌∷◌, Option, Some, None, Result, Ok, Err, IfOk, IfSome, length, vec_len}
+use Rattle.rip_capture.specs.Captures.{IsNext}
 use Rattle.rip_capture.specs.Codes.{is_read}
 use Rattle.rip_capture.specs.Finds.{IsFound}
 use Rattle.rip_capture.specs.NextCall.{EndsHere, HoldsPacket, IsFar, IsOver, Moves, Stands, StopsAt, held_by, position_of, refusal_of, section_by, source_of}
@@ -21,7 +22,7 @@ abbrev pub frame_at : {R : Type 0} → CaptureReader R → Found → Frame
 frame_at reader found =
     record { link_type = found.link_type; bytes = slice_of reader.feed.buffer.items found.bytes }
 
--- the offset of its record
+-- the offset of its record or block
 abbrev pub place_at : Found → ℕ
 place_at found = found.at
 
@@ -82,6 +83,7 @@ pub record TakesBlock {R : Type 0} (given : R → List ℕ) (before taken : List
   pub some : 0 < length more
   pub read : AreBlocks None (taken ++ more) (frames ++ frames_of new step) (Some (section_by new))
   pub brings : BringsAt (length taken) step
+  pub next : (frame : Frame) → frames_of new step ≡ frame ∷ [] → IsNext taken more frames
 
 -- a reader is further behind the front of its file than before
 abbrev pub GoesOn : {R : Type 0} → CaptureReader R → CaptureReader R → Type 0

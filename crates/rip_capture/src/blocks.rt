@@ -47,12 +47,14 @@ pub struct Interface {
     pub most: u32,
 }
 
-/// A block, of which the last bytes are held, those that nobody has taken.
+/// A block of which the front was read.
 #[derive(Clone, Copy)]
 pub struct Block {
     pub order: Order,
     pub kind: BlockKind,
+    /// How many bytes it has.
     pub len: usize,
+    /// How many of them, the last ones, are held; those before them were passed over.
     pub held: usize,
 }
 
@@ -126,7 +128,7 @@ fn is_read_whole(kind: BlockKind) -> bool
 }
 
 /// The kind and the length that the front of a block says.
-fn read_front(order: Order, bytes: &[u8]) -> Result<(BlockKind, usize), CaptureCode>
+fn block_front(order: Order, bytes: &[u8]) -> Result<(BlockKind, usize), CaptureCode>
     requires { BLOCK_FRONT ≤ length bytes.now }
     ensures { SaysFront order bytes.now result }
 {
@@ -289,7 +291,7 @@ fn rest_of_block<R: Source>(feed: &mut Feed<R>, order: Order) -> Result<Block, C
         R.broken feed.new.source ≡ R.broken feed.old.source }
     ensures ready { HoldsWhole order (held feed.old) → feed.new ≡ feed.old }
 {
-    let (kind, len) = match read_front(order, feed.held()) {
+    let (kind, len) = match block_front(order, feed.held()) {
         Ok(says) => says,
         Err(code) => return Err(code),
     };

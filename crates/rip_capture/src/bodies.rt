@@ -138,7 +138,8 @@ fn is_section_version(order: Order, bytes: &[u8]) -> bool
     short_in(order, bytes, 12) == 1 && (minor == 0 || minor == 2)
 }
 
-/// What a block says that stands among these interfaces; of one that is passed over any bytes may be given.
+/// What a block says, where its section has described these interfaces so far. Of a block that is passed
+/// over the bytes are not looked at.
 pub(crate) fn read_body(
     block: Block,
     interfaces: &[Interface],

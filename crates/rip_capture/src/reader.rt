@@ -24,7 +24,7 @@ pub struct Packet<'a> {
     pub link_type: LinkType,
     /// The bytes that were captured.
     pub bytes: &'a [u8],
-    /// The offset of its record in the file.
+    /// The offset of its record, or its block, in the file.
     pub at: u64,
 }
 
@@ -130,14 +130,14 @@ impl<R: Source> CaptureReader<R> {
         ensures refusal { refusal_of self.new ≡ refusal_of self.old }
         ensures good { IfOk result (IsGoodStep self.new) }
     {
-        let at = self.position;
-        let Some(position) = at.checked_add(block.len as u64) else {
+        let begin = self.position;
+        let Some(position) = begin.checked_add(block.len as u64) else {
             let code = CaptureCode::Read;
-            return Err(CaptureError { code, at });
+            return Err(CaptureError { code, at: begin });
         };
         let interfaces = self.section.interfaces.as_slice();
         let body = match read_body(block, interfaces, &self.feed.held()[..block.held]) {
-            Err(code) => return Err(CaptureError { code, at }),
+            Err(code) => return Err(CaptureError { code, at: begin }),
             Ok(body) => body,
         };
         let taken = self.feed.take(block.held);
@@ -152,7 +152,7 @@ impl<R: Source> CaptureReader<R> {
                 Ok(Step::Packet(Found {
                     link_type,
                     bytes,
-                    at,
+                    at: begin,
                 }))
             }
             Body::Section | Body::Interface(_) | Body::Other => Ok(Step::Passed),
@@ -313,7 +313,7 @@ impl<R: Source> CaptureReader<R> {
     }
 
     /// The next packet, which borrows the reader's buffer, or None at the end of the file. It allocates
-    /// nothing, and pulls nothing for a record that it holds. An error is the first fault of the file, or
+    /// nothing, and pulls nothing where it holds the next record, or block of a packet. An error is the first fault of the file, or
     /// Read where the source failed (or a part of the file may end past the offset 2 ^ 64 - 1). After an
     /// error each call answers the same error, and pulls nothing; after the end each call answers None.
     pub fn next(&mut self) -> Result<Option<Packet<'_>>, CaptureError>

@@ -104,6 +104,7 @@ module _ {R : Type 0} (given : R → List ℕ) (at_end : R → Bool) (before byt
   many-by how lines cs at listing carry (count, inl (next, is, takes, has)) =
       packet takes.front takes.bytes (held_by reader ++ text.left) next (record { capture = takes.right; carry = carry })
       (record { capture = subst (λ (fs : List Frame). IsCapture (takes.front ++ takes.bytes) fs) (sym (frames-snoc cs next)) takes.longer; carry = all-snoc IsCarrier cs next carry is })
+      takes.next
       (split-at (takes.front ++ takes.bytes) (map (λ c. c.frame) cs ++ next.frame ∷ []) takes.stands ∙ append_assoc (takes.front ++ takes.bytes) (held_by reader) text.left)
       has count takes.place_is refl
   many-by how lines cs at listing carry (count, inr (here, place)) =

@@ -219,13 +219,13 @@ IsByte b = b < 256
 module _ (packet_bytes : PacketBytes) where
   refused-bytes : (lines : ℕ) (b : List ℕ) (cs : List Carrier) (code : RefusalCode) (at : ℕ) → IsRefusedAt lines b cs code at → Bytes b → AllByRecursion (λ c. Bytes c.frame.bytes) cs
   refused-bytes lines b cs code at (fault c found carry few is) h = of-frames cs (packet_bytes.fault b (map (λ c. c.frame) cs) c at found h)
-  refused-bytes lines b cs code at (packet front bytes rest next right longer split has count place is) h =
+  refused-bytes lines b cs code at (packet front bytes rest next right longer behind split has count place is) h =
       of-frames cs (packet_bytes.right front (map (λ c. c.frame) cs) right.capture (all-left IsByte front bytes (all-left IsByte (front ++ bytes) rest (subst Bytes split h))))
   refused-bytes lines b cs code at (comment right count place is) h = of-frames cs (packet_bytes.right b (map (λ c. c.frame) cs) right.capture h)
 
   refused-carry : (lines : ℕ) (b : List ℕ) (cs : List Carrier) (code : RefusalCode) (at : ℕ) → IsRefusedAt lines b cs code at → AllByRecursion IsCarrier cs
   refused-carry lines b cs code at (fault c found carry few is) = carry
-  refused-carry lines b cs code at (packet front bytes rest next right longer split has count place is) = right.carry
+  refused-carry lines b cs code at (packet front bytes rest next right longer behind split has count place is) = right.carry
   refused-carry lines b cs code at (comment right count place is) = right.carry
 
   begun-bytes : (b : List ℕ) (cs : List Carrier) → BeginsWith b cs → Bytes b → AllByRecursion (λ c. Bytes c.frame.bytes) cs

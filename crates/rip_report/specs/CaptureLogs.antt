@@ -5,7 +5,7 @@ use Rattle.rip_wire.specs.Name.{IsName}
 use Rattle.rip_log.specs.Lines.{Capture as Captured}
 use Rattle.rip_log.specs.Taken.{Taken, Took}
 use Rattle.rip_log.specs.declared.limits.TheConstants.{MOST_LINES}
-use Rattle.rip_capture.specs.Captures.{CaptureFault, HasNoMore}
+use Rattle.rip_capture.specs.Captures.{CaptureFault, HasNoMore, IsNext}
 use Rattle.rip_capture.specs.Spans.{slice_of}
 use Rattle.rip_capture.specs.declared.error.CaptureCode.{CaptureCode}
 use Rattle.rip_capture.specs.declared.packet.Carried.{Carried}
@@ -57,7 +57,8 @@ pub data IsRefusedAt (lines : ℕ) (b : List ℕ) (carriers : List Carrier) (cod
       AllByRecursion IsCarrier carriers → lines + line_count carriers ≤ MOST_LINES →
       code ≡ Capture fault → IsRefusedAt lines b carriers code at
   packet : (front more rest : List ℕ) (next : Carrier) → IsCaptureOf front carriers →
-      IsCaptureOf (front ++ more) (carriers ++ next ∷ []) → b ≡ (front ++ more) ++ rest →
+      IsCaptureOf (front ++ more) (carriers ++ next ∷ []) → IsNext front more (map (λ c. c.frame) carriers) →
+      b ≡ (front ++ more) ++ rest →
       has_line next.carried ≡ true → lines + line_count carriers ≡ MOST_LINES → at ≡ length front →
       code ≡ TooManyLines → IsRefusedAt lines b carriers code at
   comment : IsCaptureOf b carriers → lines + line_count carriers ≡ MOST_LINES → at ≡ length b →

@@ -120,8 +120,8 @@ fn write_at(buffer: &mut [u8], at: usize, bytes: &[u8])
     buffer[at..at + bytes.len()].copy_from_slice(bytes);
 }
 
-/// Adds the digits of a datagram of which nothing is left but its header and these entries, in the same
-/// way.
+/// Adds the digits of a datagram of which nothing is left but its header and these entries, with zeros for
+/// a password if it still has one.
 fn add_stripped<K: Sink>(listing: &mut Listing, datagram: &[u8], entries: Span, out: &mut K) -> bool
     requires few { length datagram.now ≤ MOST_PAYLOAD }
     requires header { HEADER_LEN ≤ entries.from }
