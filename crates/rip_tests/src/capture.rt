@@ -1,7 +1,7 @@
 //! Captures: files of both byte orders, in pieces, cut, and from readers that fail.
 
 use crate::devices::Pieces;
-use crate::examples::LITTLE;
+use crate::examples::{BLOCKS, LITTLE};
 use rip_capture::{
     CaptureCode, CaptureError, CaptureReader, Carried, LinkType, Packet, Span, entries_in,
     password_in, read_frame,
@@ -43,6 +43,22 @@ const COOKED: [u8; 112] = [
     0x00, 0x00, 0x00, 0x00, 0x01, 0x11, 0x00, 0x00, 0x0A, 0x01, 0x00, 0x01, 0xE0, 0x00, 0x00, 0x09,
     0x02, 0x08, 0x02, 0x08, 0x00, 0x20, 0x00, 0x00, 0x02, 0x02, 0x00, 0x00, 0x00, 0x02, 0x00, 0x00,
     0x0A, 0x02, 0x00, 0x00, 0xFF, 0xFF, 0x00, 0x00, 0x00, 0x00, 0x00, 0x00, 0x00, 0x00, 0x00, 0x03,
+];
+
+/// The same as `BLOCKS`, big endian.
+const BIG_BLOCKS: [u8; 184] = [
+    0x0A, 0x0D, 0x0D, 0x0A, 0x00, 0x00, 0x00, 0x1C, 0x1A, 0x2B, 0x3C, 0x4D, 0x00, 0x01, 0x00, 0x00,
+    0xFF, 0xFF, 0xFF, 0xFF, 0xFF, 0xFF, 0xFF, 0xFF, 0x00, 0x00, 0x00, 0x1C, 0x00, 0x00, 0x00, 0x01,
+    0x00, 0x00, 0x00, 0x14, 0x00, 0x71, 0x00, 0x00, 0x00, 0x00, 0x00, 0x03, 0x00, 0x00, 0x00, 0x14,
+    0x00, 0x00, 0x00, 0x01, 0x00, 0x00, 0x00, 0x14, 0x00, 0x65, 0x00, 0x00, 0x00, 0x00, 0x00, 0x00,
+    0x00, 0x00, 0x00, 0x14, 0x00, 0x00, 0x00, 0x06, 0x00, 0x00, 0x00, 0x54, 0x00, 0x00, 0x00, 0x01,
+    0x00, 0x00, 0x00, 0x00, 0x00, 0x00, 0x00, 0x00, 0x00, 0x00, 0x00, 0x34, 0x00, 0x00, 0x00, 0x34,
+    0x45, 0x00, 0x00, 0x34, 0x00, 0x00, 0x00, 0x00, 0x01, 0x11, 0x00, 0x00, 0x0A, 0x01, 0x00, 0x01,
+    0xE0, 0x00, 0x00, 0x09, 0x02, 0x08, 0x02, 0x08, 0x00, 0x20, 0x00, 0x00, 0x02, 0x02, 0x00, 0x00,
+    0x00, 0x02, 0x00, 0x00, 0x0A, 0x02, 0x00, 0x00, 0xFF, 0xFF, 0x00, 0x00, 0x00, 0x00, 0x00, 0x00,
+    0x00, 0x00, 0x00, 0x03, 0x00, 0x00, 0x00, 0x54, 0x00, 0x00, 0x00, 0x63, 0x00, 0x00, 0x00, 0x0C,
+    0x00, 0x00, 0x00, 0x0C, 0x00, 0x00, 0x00, 0x03, 0x00, 0x00, 0x00, 0x14, 0x00, 0x00, 0x00, 0x04,
+    0x61, 0x62, 0x63, 0x64, 0x00, 0x00, 0x00, 0x14,
 ];
 
 /// The datagram that each of them has.
@@ -149,8 +165,17 @@ fn failing_reads(rt: HostRuntime) {
 
 #[test]
 fn reads_what_a_record_needs(rt: HostRuntime) {
-    for (calls, reads) in [(0, 0), (1, 106), (2, 107), (3, 107)] {
-        let mut reader = reader_of(&rt, rt.alloc(), Pieces::new(&LITTLE, 1));
+    for (file, calls, reads) in [
+        (&LITTLE[..], 0, 0),
+        (&LITTLE[..], 1, 106),
+        (&LITTLE[..], 2, 107),
+        (&LITTLE[..], 3, 107),
+        (&BLOCKS[..], 1, 152),
+        (&BLOCKS[..], 2, 184),
+        (&BLOCKS[..], 3, 185),
+        (&BLOCKS[..], 4, 185),
+    ] {
+        let mut reader = reader_of(&rt, rt.alloc(), Pieces::new(file, 1));
         for _ in 0..calls {
             assert!(rt; reader.next().is_ok());
         }
@@ -171,6 +196,51 @@ fn faults_of_files(rt: HostRuntime) {
         *file.get_mut(place).expect(&rt, "a byte") = byte;
         let mut reader = reader_of(&rt, rt.alloc(), Pieces::new(&file, 106));
         expect_file(&rt, &mut reader, 0, Some(CaptureError { code, at }));
+    }
+}
+
+#[test]
+fn packets_of_blocks(rt: HostRuntime) {
+    for file in [&BLOCKS[..], &BIG_BLOCKS[..]] {
+        for piece in [1, 4096] {
+            let mut reader = reader_of(&rt, rt.alloc(), Pieces::new(file, piece));
+            for (link_type, bytes, at) in [
+                (LinkType::Raw, &BLOCKS[96..148], 68),
+                (LinkType::LinuxSll, &b"abc"[..], 164),
+            ] {
+                match reader.next() {
+                    Ok(Some(packet)) => {
+                        assert!(rt; packet.link_type == link_type && packet.at == at);
+                        assert!(rt; packet.bytes == bytes);
+                    }
+                    _ => panic!(rt; "no packet"),
+                }
+            }
+            expect_file(&rt, &mut reader, 0, None);
+            assert!(rt; reader.position() == 184);
+        }
+    }
+}
+
+/// `BLOCKS` whose byte at a place is another has so many packets, and then a fault.
+#[test]
+fn faults_of_blocks(rt: HostRuntime) {
+    for (place, byte, packets, code, at) in [
+        (8, 0x4C, 0, CaptureCode::Version, 0),
+        (14, 1, 0, CaptureCode::Version, 0),
+        (32, 0x15, 0, CaptureCode::Length, 28),
+        (56, 2, 0, CaptureCode::LinkType, 68),
+        (68, 2, 0, CaptureCode::OldPacket, 68),
+        (76, 2, 0, CaptureCode::Interface, 68),
+        (88, 0x35, 0, CaptureCode::Length, 68),
+        (148, 0x50, 0, CaptureCode::Length, 68),
+        (156, 0x2C, 1, CaptureCode::Cut, 152),
+        (160, 0x10, 1, CaptureCode::Length, 152),
+    ] {
+        let mut file = BLOCKS;
+        *file.get_mut(place).expect(&rt, "a byte") = byte;
+        let mut reader = reader_of(&rt, rt.alloc(), Pieces::new(&file, 184));
+        expect_file(&rt, &mut reader, packets, Some(CaptureError { code, at }));
     }
 }
 

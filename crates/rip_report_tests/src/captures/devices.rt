@@ -4,6 +4,7 @@ use super::{CUT, DATAGRAM, add, file_of};
 use rip_log::{FromRead, IntoWrite, Sink, Source};
 use rip_report::{Authentication, CaptureLog, RunError, Status};
 use rip_tests::devices::{Pieces, Slow};
+use rip_tests::examples::BLOCKS;
 use std::alloc::Global;
 use std::process::Abort;
 use std::test::Fail;
@@ -20,6 +21,13 @@ const NO_LINES: &str = "failed: read\n";
 const ONE_LINE: &str = "a 10.1.0.2 01020000\nfailed: read\n";
 
 const TWO_LINES: &str = "a 10.1.0.2 01020000\na 10.1.0.2 cut\nfailed: read\n";
+
+/// The same of `BLOCKS`, behind its first packet, and at the end.
+const FIRST_LINE: &str =
+    "a 10.1.0.1 02020000000200000a020000ffff00000000000000000003\nfailed: read\n";
+
+const BOTH_LINES: &str =
+    "a 10.1.0.1 02020000000200000a020000ffff00000000000000000003\na unknown cut\nfailed: read\n";
 
 /// Expects this answer and this text of a file from a reader. The source comes back.
 fn expect_answer<'a>(
@@ -48,18 +56,21 @@ fn files_in_pieces(rt: HostRuntime) -> Result<(), Fail> {
     Ok(())
 }
 
-/// Each pull fails in turn. The one after all 115 bytes finds the end.
+/// Each pull fails in turn. The one after all 115 or 184 bytes finds the end.
 #[test]
 fn a_source_that_fails(rt: HostRuntime) -> Result<(), Fail> {
     let file = file_of(rt.alloc(), &[DATAGRAM, CUT])?;
     assert!(rt; file.len() == 115);
-    for (from, to, text) in [
-        (0usize, 72, NO_LINES),
-        (72, 115, ONE_LINE),
-        (115, 116, TWO_LINES),
+    for (file, from, to, text) in [
+        (file.as_slice(), 0usize, 72, NO_LINES),
+        (file.as_slice(), 72, 115, ONE_LINE),
+        (file.as_slice(), 115, 116, TWO_LINES),
+        (&BLOCKS[..], 0, 152, NO_LINES),
+        (&BLOCKS[..], 152, 184, FIRST_LINE),
+        (&BLOCKS[..], 184, 185, BOTH_LINES),
     ] {
         for given in from..to {
-            let file = Pieces::failing(file.as_slice(), given.wrapping_add(1));
+            let file = Pieces::failing(file, given.wrapping_add(1));
             let source = expect_answer(&rt, rt.alloc(), file, Err(RunError::Read), text);
             assert!(rt; source.failed());
         }
