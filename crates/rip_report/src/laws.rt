@@ -62,7 +62,7 @@ pub fn counted_packets()
 
 /// Where a log of capture files has no bad line, each file is a capture, all its datagrams to 224.0.0.9
 /// are there whole, and they are the records of the log, in order, and nothing else is: with zeros for a
-/// password, and without their authentication where that was asked for.
+/// password, and without their authentication where that was asked for and it fits.
 pub fn captured_logs()
     ensures says { (how : Authentication) (files : List File) (text : List ℕ)
         (answer : Result Status RunError) (records : List Numbered) → LogOf how files text answer →
