@@ -1,12 +1,12 @@
 -- Blocks at the front of bytes of which more follow.
-use Rattle.std.proofs.Common.{◌≡◌, ◌≢◌, ◌+◌, ◌-◌, ◌%◌, ◌<◌, ◌≤◌, ◌∙◌, ◌==◌, if◌then◌else◌, ℕ, Bool, true, false, List, ◌++◌, Option, Some, None, Ok, Err, length, take, drop, ap, sym, subst, refl, inl, inr, arith}
+use Rattle.std.proofs.Common.{◌≡◌, ◌≢◌, ◌⊎◌, ◌+◌, ◌-◌, ◌%◌, ◌<◌, ◌≤◌, ◌∙◌, ◌==◌, if◌then◌else◌, ℕ, Bool, true, false, List, ◌++◌, Option, Some, None, Ok, Err, length, take, drop, ap, sym, subst, refl, inl, inr, arith}
 use Rattle.std.proofs.lemmas.Bool.{false≢true}
 use Rattle.std.proofs.lemmas.List.{drop-append-le, drop_at, length-drop, length-take}
 use Rattle.byteorder.specs.Endian.{big_number}
 use Rattle.byteorder.specs.Numbers.{big_from-append}
 use Rattle.rip_wire.specs.Fields.{number_at}
 use Rattle.std.specs.Prelude.{MatchOption, ok_or}
-use Rattle.rip_capture.specs.Feeds.{Extends}
+use Rattle.rip_capture.specs.Feeds.{Extends, IsShort}
 use Rattle.rip_capture.specs.Finds.{FindsOrder, NoNextBlock, SaysFront}
 use Rattle.rip_capture.specs.Finds.LacksBlock.{front as lacks_front, rest as lacks_rest}
 use Rattle.rip_capture.specs.Numbers.{number_in}
@@ -148,14 +148,13 @@ fronted-on within order kind len xs ys room has says e =
     }
 
 module _ (within : Option Order) (order : Order) (kind : BlockKind) (len : ℕ) (b : List ℕ) (at_end : Bool) (f : Fronted within order kind len b) where
-  pub misses-rest : length b < len → NoNextBlock within b at_end codes.Read
-  misses-rest less = inl (refl, lacks_rest order f.room f.order_is (omega (arith, less, f.len_is)))
-
   fault-of : (code : CaptureCode) → ((s : Option Section) → OrderedFault s order b code) → (code ≡ codes.Cut → at_end ≡ true) → NoNextBlock within b at_end code
   fault-of code fault ends = inr (λ s e. ordered order f.room (subst (λ (o : Option Order). HasOrder o b order) (sym e) f.order_is) (fault s), ends)
 
-  pub misses-cut : length b < len → at_end ≡ true → NoNextBlock within b at_end codes.Cut
-  misses-cut less ended = fault-of codes.Cut (λ s. cut_block f.can f.young (omega (arith, less, f.len_is)) refl) (λ e. ended)
+  -- the source failed, or it ended
+  pub misses-rest : (code : CaptureCode) → length b < len → (code ≡ codes.Read) ⊎ ((code ≡ codes.Cut) × (at_end ≡ true)) → NoNextBlock within b at_end code
+  misses-rest code less (inl read) = inl (read, lacks_rest order f.room f.order_is (omega (arith, less, f.len_is)))
+  misses-rest code less (inr cut) = fault-of code (λ s. cut_block f.can f.young (omega (arith, less, f.len_is)) cut.0) (λ e. cut.1)
 
   pub misses-end : len ≤ length b → number_in order (len - 4) b ≢ len → NoNextBlock within b at_end codes.Length
   misses-end room other =
@@ -185,11 +184,9 @@ number-behind Little bytes b n is = ap (number_in Little 0) (drop_at bytes b n i
 -- ---- the front of a section
 
 module _ (within : Option Order) (b : List ℕ) (at_end : Bool) (begins : begins_section b ≡ true) where
-  pub misses-front : length b < 12 → NoNextBlock within b at_end codes.Read
-  misses-front less = inl (refl, lacks_front (omega (arith, less, front-of-section b begins)))
-
-  pub misses-section : 0 < length b → length b < 12 → at_end ≡ true → NoNextBlock within b at_end codes.Cut
-  misses-section some less ended = inr (λ s e. short_front some (omega (arith, less, front-of-section b begins)) refl, λ e. ended)
+  pub misses-section : (code : CaptureCode) → 0 < length b → IsShort 12 b at_end code → NoNextBlock within b at_end code
+  misses-section code some (less, inl read) = inl (read, lacks_front (omega (arith, less, front-of-section b begins)))
+  misses-section code some (less, inr cut) = inr (λ s e. short_front some (omega (arith, less, front-of-section b begins)) cut.0, λ e. cut.1)
 
   pub section-order : (r : Option Order) → 12 ≤ length b → MatchOption r ((order : Order) → number_at 4 8 b ≢ order_number order) (λ order. number_at 4 8 b ≡ order_number order) → FindsOrder within b at_end (ok_or r codes.Version)
   section-order (Some order) room is = (omega (arith, room, front-most b), own begins is)
@@ -197,6 +194,11 @@ module _ (within : Option Order) (b : List ℕ) (at_end : Bool) (begins : begins
 
 pub least-len : (order : Order) (b : List ℕ) (kind : BlockKind) (len : ℕ) → SaysFront order b (Ok (kind, len)) → 12 ≤ len
 least-len order b kind len says = omega (arith, says.3, says.0.least, least-of (kind_of order b))
+
+-- no next block, or only a part of its front
+pub misses-next : (within : Option Order) (b : List ℕ) (at_end : Bool) (code : CaptureCode) → (code ≡ codes.Cut → 0 < length b) → IsShort 8 b at_end code → NoNextBlock within b at_end code
+misses-next within b at_end code begun (less, inl read) = inl (read, lacks_front (omega (arith, less, front-least b)))
+misses-next within b at_end code begun (less, inr cut) = inr (λ s e. short_front (begun cut.0) (omega (arith, less, front-least b)) cut.0, λ e. cut.1)
 
 -- what is wrong with a front
 pub front-fault : (within : Option Order) (order : Order) (b : List ℕ) (at_end : Bool) (code : CaptureCode) → front_len b ≤ length b → HasOrder within b order → SaysFront order b (Err code) → NoNextBlock within b at_end code

@@ -1,19 +1,23 @@
 -- Headers and records at the front of bytes.
-use Rattle.std.proofs.Common.{◌≡◌, ◌+◌, ◌%◌, ◌^◌, ◌≤◌, ◌∙◌, ℕ, Bool, List, [], ◌∷◌, ◌++◌, Result, Ok, Err, length, take, drop, ap, sym, refl, inr, subst, arith, append_assoc, append-nil}
+use Rattle.std.proofs.Common.{◌≡◌, ◌⊎◌, ◌+◌, ◌%◌, ◌^◌, ◌<◌, ◌≤◌, ◌∙◌, ℕ, Bool, true, List, [], ◌∷◌, ◌++◌, Option, Some, None, Result, Ok, Err, inl, length, take, drop, ap, sym, refl, inr, subst, arith, append_assoc, append-nil}
 use Rattle.std.proofs.lemmas.List.{length-drop, length-take}
-use Rattle.rip_capture.specs.Captures.FrontFault.{pcap}
-use Rattle.rip_capture.specs.Feeds.{held}
-use Rattle.rip_capture.specs.Finds.{FindsHeader, ReadsHeader}
+use Rattle.std.specs.Prelude.{MatchOption, ok_or}
+use Rattle.rip_capture.specs.Captures.{HasMagic}
+use Rattle.rip_capture.specs.Captures.FrontFault.{magic as no_magic, pcap, short as too_short}
+use Rattle.rip_capture.specs.Feeds.{IsShort, held}
+use Rattle.rip_capture.specs.Finds.{FindsHeader, FindsMagic, FindsRecord, IsMagicOf, ReadsHeader}
 use Rattle.rip_capture.specs.LinkTypes.{number_of}
 use Rattle.rip_capture.specs.Numbers.{number_in}
 use Rattle.rip_capture.specs.Pcap.{AreRecords, Frame, HoldsRecord, IsMagic, IsPcap, IsPcapHeader, IsRecord, IsVersion, captured_len, link_number}
-use Rattle.rip_capture.specs.Pcap.HeaderFault.{version, link_type}
+use Rattle.rip_capture.specs.Pcap.HeaderFault.{cut as cut_header, version, link_type}
+use Rattle.rip_capture.specs.Pcap.RecordFault.{header as cut_record, packet as cut_packet}
 use Rattle.rip_capture.proofs.FeedLemmas.{Extends-take}
 use Rattle.rip_capture.proofs.NumberLemmas.{magic-front, number-stays, version-front}
 use Rattle.rip_capture.specs.declared.error.CaptureCode.{CaptureCode}
 use Rattle.rip_capture.specs.declared.error.CaptureCode.TheVariants.{Magic, Cut, Version, LinkType as NoLinkType, Length, Interface, OldPacket, Read}
 use Rattle.rip_capture.specs.declared.feed.Feed.{Feed}
 use Rattle.rip_capture.specs.declared.link.LinkType.{LinkType}
+use Rattle.rip_capture.specs.declared.magic.Magic.{Magic as Magic'}
 use Rattle.rip_capture.specs.declared.numbers.Order.{Order}
 use Rattle.rip_capture.specs.declared.pcap.PcapHeader.{PcapHeader}
 
@@ -29,6 +33,33 @@ header-front order t b room magic v link =
       version = version-front order front b (omega (arith, size)) on v;
       link = link ∙ ap (λ (n : ℕ). n % 2 ^ 26) (number-stays order 20 front b (omega (arith, size)) on);
     }
+
+-- ---- where a source has failed, or has ended, before enough was held
+
+pub FindsMagic-short : (b : List ℕ) (at_end : Bool) (code : CaptureCode) → IsShort 4 b at_end code → FindsMagic b at_end (Err code)
+FindsMagic-short b at_end code (less, inl read) = inl read
+FindsMagic-short b at_end code (less, inr cut) = inr (too_short less cut.0, λ e. cut.1)
+
+pub FindsHeader-short : (order : Order) (b : List ℕ) (at_end : Bool) (code : CaptureCode) → 4 ≤ length b → IsMagic order b → IsShort 24 b at_end code → FindsHeader b at_end (Err code)
+FindsHeader-short order b at_end code begun magic (less, inl read) = inl read
+FindsHeader-short order b at_end code begun magic (less, inr e) = inr (pcap order begun magic (cut_header less e.0), λ _. e.1)
+
+-- within a record's header, and within its packet
+pub FindsRecord-begun : (order : Order) (b : List ℕ) (at_end : Bool) (code : CaptureCode) → (code ≡ Cut → 0 < length b) → IsShort 16 b at_end code → FindsRecord order b at_end (Err code)
+FindsRecord-begun order b at_end code begun (less, inl read) = inl read
+FindsRecord-begun order b at_end code begun (less, inr e) = inr (cut_record (begun e.0) less e.0, λ _. e.1)
+
+pub FindsRecord-short : (order : Order) (b : List ℕ) (at_end : Bool) (code : CaptureCode) → 16 ≤ length b → captured_len order b ≤ 262144 → length b < 16 + captured_len order b
+    → (code ≡ Read) ⊎ ((code ≡ Cut) × (at_end ≡ true)) → FindsRecord order b at_end (Err code)
+FindsRecord-short order b at_end code room few less (inl read) = inl read
+FindsRecord-short order b at_end code room few less (inr e) = inr (cut_packet room few less e.0, λ _. e.1)
+
+-- ---- what is said behind the first four bytes
+
+-- the first four bytes tell what kind of file it is
+pub FindsMagic-of : (b : List ℕ) (at_end : Bool) (r : Option Magic') → 4 ≤ length b → MatchOption r (¬ HasMagic b) (λ magic. IsMagicOf b magic) → FindsMagic b at_end (ok_or r Magic)
+FindsMagic-of b at_end (Some m) room is = (room, is)
+FindsMagic-of b at_end None room is = inr (no_magic room is refl, λ e. cc e)
 
 -- what a header says behind its first four bytes is what is found
 pub FindsHeader-read : (order : Order) (b : List ℕ) (at_end : Bool) (r : Result PcapHeader CaptureCode) → 24 ≤ length b → IsMagic order b → ReadsHeader order b r → FindsHeader b at_end r

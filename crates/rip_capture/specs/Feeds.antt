@@ -1,6 +1,7 @@
 -- Where a feed stands in what its source has given.
-use Rattle.std.specs.Prelude.{◌≡◌, ◌<◌, ◌+◌, ℕ, Bool, true, List, ◌++◌, length, Result, Ok, slice_range}
-use Rattle.rip_log.specs.declared.device.Failed.{Failed}
+use Rattle.std.specs.Prelude.{◌≡◌, ◌⊎◌, ◌<◌, ◌+◌, ℕ, Bool, true, List, ◌++◌, length, Result, Ok, Err, slice_range}
+use Rattle.rip_capture.specs.declared.error.CaptureCode.{CaptureCode}
+use Rattle.rip_capture.specs.declared.error.CaptureCode.TheVariants.{Cut, Read}
 use Rattle.rip_capture.specs.declared.feed.Feed.{Feed}
 
 -- the bytes that were given and nobody has taken
@@ -30,7 +31,12 @@ pub record Skips {R : Type 0} (given : R → List ℕ) (old new : Feed R) (bytes
   pub takes : Takes given old new bytes
   pub begins : Extends (held old) (bytes ++ held new)
 
+-- fewer bytes than so many are held, since the source failed, or since it ended
+abbrev pub IsShort : ℕ → List ℕ → Bool → CaptureCode → Type 0
+IsShort count b at_end code =
+    (length b < count) × ((code ≡ Read) ⊎ ((code ≡ Cut) × (at_end ≡ true)))
+
 -- so many bytes were passed over, or fewer, where b are held and there were not as many
-abbrev pub SkipsSo : ℕ → List ℕ → List ℕ → Result Bool Failed → Type 0
-SkipsSo count bytes b (Ok true) = length bytes ≡ count
-SkipsSo count bytes b _ = length bytes + length b < count
+abbrev pub SkipsSo : ℕ → List ℕ → List ℕ → Bool → Result (Unit {0}) CaptureCode → Type 0
+SkipsSo count bytes b at_end (Ok done) = length bytes ≡ count
+SkipsSo count bytes b at_end (Err code) = IsShort count (bytes ++ b) at_end code

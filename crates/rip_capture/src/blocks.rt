@@ -160,12 +160,7 @@ fn section_order<R: Source>(feed: &mut Feed<R>) -> Result<Order, CaptureCode>
         R.broken feed.new.source ≡ R.broken feed.old.source }
     ensures ready { SECTION_FRONT ≤ length (held feed.old) → feed.new ≡ feed.old }
 {
-    let Ok(whole) = feed.fill(SECTION_FRONT) else {
-        return Err(CaptureCode::Read);
-    };
-    if !whole {
-        return Err(CaptureCode::Cut);
-    }
+    feed.hold(SECTION_FRONT)?;
     order_in(feed.held()).ok_or(CaptureCode::Version)
 }
 
@@ -182,22 +177,13 @@ fn next_order<R: Source>(feed: &mut Feed<R>, within: Order) -> Result<Option<Ord
     ensures over { held feed.old ≡ [] → R.at_end feed.old.source ≡ true → result ≡ Ok None }
     ensures ready { front_len (held feed.old) ≤ length (held feed.old) → feed.new ≡ feed.old }
 {
-    let Ok(begun) = feed.fill(BLOCK_FRONT) else {
-        return Err(CaptureCode::Read);
-    };
-    if !begun {
-        return if feed.held().is_empty() {
-            Ok(None)
-        } else {
-            Err(CaptureCode::Cut)
-        };
+    if !feed.hold_next(BLOCK_FRONT)? {
+        return Ok(None);
     }
-    if !begins_section(feed.held()) {
-        return Ok(Some(within));
-    }
-    match section_order(feed) {
-        Ok(order) => Ok(Some(order)),
-        Err(code) => Err(code),
+    if begins_section(feed.held()) {
+        Ok(Some(section_order(feed)?))
+    } else {
+        Ok(Some(within))
     }
 }
 
@@ -221,12 +207,7 @@ fn hold_block<R: Source>(
         R.broken feed.new.source ≡ R.broken feed.old.source }
     ensures ready { len ≤ length (held feed.old) → feed.new ≡ feed.old }
 {
-    let Ok(whole) = feed.fill(len) else {
-        return Err(CaptureCode::Read);
-    };
-    if !whole {
-        return Err(CaptureCode::Cut);
-    }
+    feed.hold(len)?;
     if number_in(order, feed.held(), len - 4) as usize != len {
         return Err(CaptureCode::Length);
     }
@@ -256,18 +237,8 @@ fn pass_block<R: Source>(
     ensures marks { is_unread result ≡ false →
         R.broken feed.new.source ≡ R.broken feed.old.source }
 {
-    let Ok(passed) = feed.skip(len - 4) else {
-        return Err(CaptureCode::Read);
-    };
-    if !passed {
-        return Err(CaptureCode::Cut);
-    }
-    let Ok(whole) = feed.fill(4) else {
-        return Err(CaptureCode::Read);
-    };
-    if !whole {
-        return Err(CaptureCode::Cut);
-    }
+    feed.skip(len - 4)?;
+    feed.hold(4)?;
     if number_in(order, feed.held(), 0) as usize != len {
         return Err(CaptureCode::Length);
     }

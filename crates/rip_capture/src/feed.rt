@@ -2,8 +2,10 @@
 
 ghost use Rattle.std.specs.Prelude.{◌≡◌, ◌<◌, ◌≤◌, ◌+◌, ◌++◌, ◌↔◌, ℕ, List, [], Ok, true, false, take, drop, length, vec_len, is_err, IfOk, IfErr, OnOk, OnErr};
 ghost use Rattle.rip_log.specs.Wholes.{Went};
+ghost use Rattle.rip_capture.specs.declared.error.CaptureCode.TheVariants.{Cut, Read};
 ghost use Rattle.rip_capture.specs.declared.feed.TheConstants.{BUFFER_LEN};
 
+use crate::error::CaptureCode;
 use crate::span::Span;
 use rip_log::{Failed, Source};
 use std::alloc::{AllocError, Global};
@@ -41,7 +43,8 @@ fn pull_behind<R: Source>(source: &mut R, buffer: &mut Vec<u8>, len: usize) -> R
 }
 
 impl<R: Source> Feed<R> {
-    ghost use Rattle.rip_capture.specs.Feeds.{Extends, held, Keeps, Skips, SkipsSo, Takes};
+    ghost use Rattle.rip_capture.specs.Codes.{is_unread};
+    ghost use Rattle.rip_capture.specs.Feeds.{Extends, held, IsShort, Keeps, Skips, SkipsSo, Takes};
     ghost use Rattle.rip_capture.specs.Spans.{IsWithin, slice_of};
 
     /// A feed that holds nothing yet.
@@ -81,13 +84,13 @@ impl<R: Source> Feed<R> {
         }
     }
 
-    /// Pulls once behind what is held, and answers how many bytes came.
-    fn refill(&mut self) -> Result<usize, Failed>
+    /// Pulls once behind what is held, and answers how many bytes came, or Read.
+    fn refill(&mut self) -> Result<usize, CaptureCode>
         requires { length (held self.old) < BUFFER_LEN }
         ensures keeps { Keeps R.given self.old self.new }
         ensures held { Extends (held self.old) (held self.new) }
         ensures more { IfOk result (λ n. length (held self.new) ≡ length (held self.old) + n) }
-        ensures err { OnErr result (held self.new ≡ held self.old) }
+        ensures err { IfErr result (λ code. (code ≡ Read) × (held self.new ≡ held self.old)) }
         ensures went { Went R.given R.coming R.at_end self.old.source self.new.source }
         ensures failed { is_err result ≡ R.broken self.new.source }
         ensures fails_on { R.broken self.old.source ≡ true → R.broken self.new.source ≡ true }
@@ -95,7 +98,9 @@ impl<R: Source> Feed<R> {
     {
         self.compact();
         let len = self.end;
-        let count = pull_behind(&mut self.source, &mut self.buffer, len)?;
+        let Ok(count) = pull_behind(&mut self.source, &mut self.buffer, len) else {
+            return Err(CaptureCode::Read);
+        };
         self.end = len + count;
         Ok(count)
     }
@@ -107,31 +112,57 @@ impl<R: Source> Feed<R> {
         &self.buffer.as_slice()[self.start..self.end]
     }
 
-    /// Pulls until so many bytes are held, or the source has ended; answers which.
-    pub fn fill(&mut self, count: usize) -> Result<bool, Failed>
+    /// Holds so many bytes: Cut where the source ends before them, and Read where it fails.
+    pub fn hold(&mut self, count: usize) -> Result<(), CaptureCode>
+        requires { count ≤ BUFFER_LEN }
+        ensures keeps { Keeps R.given self.old self.new }
+        ensures went { Went R.given R.coming R.at_end self.old.source self.new.source }
+        ensures held { Extends (held self.old) (held self.new) }
+        ensures some { IfOk result (λ done. count ≤ length (held self.new)) }
+        ensures short { IfErr result
+            (IsShort count (held self.new) (R.at_end self.new.source)) }
+        ensures stays { R.at_end self.old.source ≡ true →
+            (held self.new ≡ held self.old) × (is_unread result ≡ false) }
+        ensures failed { is_unread result ≡ true → R.broken self.new.source ≡ true }
+        ensures marks { is_unread result ≡ false →
+            R.broken self.new.source ≡ R.broken self.old.source }
+        ensures ready { count ≤ length (held self.old) → self.new ≡ self.old }
+    {
+        'pulls: while self.end - self.start < count {
+            if self.source.ended() {
+                return Err(CaptureCode::Cut);
+            }
+            if self.refill()? == 0 {
+                return Err(CaptureCode::Cut);
+            }
+        }
+        Ok(())
+    }
+
+    /// Holds so many bytes of the next part, or answers false where the source ends before it.
+    pub fn hold_next(&mut self, count: usize) -> Result<bool, CaptureCode>
         requires { count ≤ BUFFER_LEN }
         ensures keeps { Keeps R.given self.old self.new }
         ensures went { Went R.given R.coming R.at_end self.old.source self.new.source }
         ensures held { Extends (held self.old) (held self.new) }
         ensures some { result ≡ Ok true → count ≤ length (held self.new) }
         ensures none { result ≡ Ok false →
-            (length (held self.new) < count) × (R.at_end self.new.source ≡ true) }
-        ensures ok { OnOk result (R.broken self.new.source ≡ R.broken self.old.source) }
-        ensures err { OnErr result (R.broken self.new.source ≡ true) }
-        ensures short { OnErr result (length (held self.new) < count) }
-        ensures stays { R.at_end self.old.source ≡ true →
-            (held self.new ≡ held self.old) × (is_err result ≡ false) }
+            (held self.new ≡ []) × (R.at_end self.new.source ≡ true) }
+        ensures short { IfErr result
+            (IsShort count (held self.new) (R.at_end self.new.source)) }
+        ensures begun { IfErr result (λ code. code ≡ Cut → 0 < length (held self.new)) }
+        ensures failed { is_unread result ≡ true → R.broken self.new.source ≡ true }
+        ensures marks { is_unread result ≡ false →
+            R.broken self.new.source ≡ R.broken self.old.source }
+        ensures over { held self.old ≡ [] → R.at_end self.old.source ≡ true → 0 < count →
+            result ≡ Ok false }
         ensures ready { count ≤ length (held self.old) → self.new ≡ self.old }
     {
-        'pulls: while self.end - self.start < count {
-            if self.source.ended() {
-                return Ok(false);
-            }
-            if self.refill()? == 0 {
-                return Ok(false);
-            }
+        match self.hold(count) {
+            Ok(()) => Ok(true),
+            Err(CaptureCode::Cut) if self.held().is_empty() => Ok(false),
+            Err(code) => Err(code),
         }
-        Ok(true)
     }
 
     /// Takes bytes that are held, and answers where they lie in the buffer.
@@ -150,25 +181,24 @@ impl<R: Source> Feed<R> {
         Span { from, to }
     }
 
-    /// Takes so many bytes, whether they are held or come, and answers whether there were as many.
-    pub fn skip(&mut self, count: usize) -> Result<bool, Failed>
+    /// Takes so many bytes, whether they are held or come: Cut where the source ends before them, and Read
+    /// where it fails.
+    pub fn skip(&mut self, count: usize) -> Result<(), CaptureCode>
         ensures skips { (bytes : List ℕ) × Skips R.given self.old self.new bytes
-            × SkipsSo count bytes (held self.new) result }
+            × SkipsSo count bytes (held self.new) (R.at_end self.new.source) result }
         ensures went { Went R.given R.coming R.at_end self.old.source self.new.source }
-        ensures none { result ≡ Ok false → R.at_end self.new.source ≡ true }
-        ensures ok { OnOk result (R.broken self.new.source ≡ R.broken self.old.source) }
-        ensures err { OnErr result (R.broken self.new.source ≡ true) }
+        ensures failed { is_unread result ≡ true → R.broken self.new.source ≡ true }
+        ensures marks { is_unread result ≡ false →
+            R.broken self.new.source ≡ R.broken self.old.source }
     {
         let mut left = count;
         'parts: while left > 0 {
-            if !self.fill(1)? {
-                return Ok(false);
-            }
+            self.hold(1)?;
             let part = left.min(self.held().len());
             self.take(part);
             left -= part;
         }
-        Ok(true)
+        Ok(())
     }
 
     /// A part of the buffer.

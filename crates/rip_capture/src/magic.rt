@@ -45,14 +45,6 @@ pub(crate) fn next_magic<R: Source>(feed: &mut Feed<R>) -> Result<Magic, Capture
     ensures marks { is_unread result ≡ false →
         R.broken feed.new.source ≡ R.broken feed.old.source }
 {
-    let Ok(begun) = feed.fill(MAGIC_LEN) else {
-        return Err(CaptureCode::Read);
-    };
-    if !begun {
-        return Err(CaptureCode::Cut);
-    }
-    match magic_of(feed.held()) {
-        Some(magic) => Ok(magic),
-        None => Err(CaptureCode::Magic),
-    }
+    feed.hold(MAGIC_LEN)?;
+    magic_of(feed.held()).ok_or(CaptureCode::Magic)
 }

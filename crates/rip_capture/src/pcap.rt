@@ -50,12 +50,7 @@ pub(crate) fn next_header<R: Source>(
     ensures marks { is_unread result ≡ false →
         R.broken feed.new.source ≡ R.broken feed.old.source }
 {
-    let Ok(whole) = feed.fill(FILE_HEADER) else {
-        return Err(CaptureCode::Read);
-    };
-    if !whole {
-        return Err(CaptureCode::Cut);
-    }
+    feed.hold(FILE_HEADER)?;
     read_header(order, feed.held())
 }
 
@@ -74,26 +69,13 @@ pub(crate) fn next_record<R: Source>(
     ensures over { held feed.old ≡ [] → R.at_end feed.old.source ≡ true → result ≡ Ok None }
     ensures ready { HoldsRecord order (held feed.old) → feed.new ≡ feed.old }
 {
-    let Ok(begun) = feed.fill(RECORD_HEADER) else {
-        return Err(CaptureCode::Read);
-    };
-    if !begun {
-        return if feed.held().is_empty() {
-            Ok(None)
-        } else {
-            Err(CaptureCode::Cut)
-        };
+    if !feed.hold_next(RECORD_HEADER)? {
+        return Ok(None);
     }
     let captured = number_in(order, feed.held(), 8) as usize;
     if captured > MOST_CAPTURED {
         return Err(CaptureCode::Length);
     }
-    let Ok(whole) = feed.fill(RECORD_HEADER + captured) else {
-        return Err(CaptureCode::Read);
-    };
-    if whole {
-        Ok(Some(captured))
-    } else {
-        Err(CaptureCode::Cut)
-    }
+    feed.hold(RECORD_HEADER + captured)?;
+    Ok(Some(captured))
 }

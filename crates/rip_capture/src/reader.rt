@@ -122,7 +122,8 @@ impl<R: Source> CaptureReader<R> {
             TakesSo R.given before taken passed frames s self.new result }
         ensures packet { (form : PacketForm) → block.kind ≡ BlockKind.Packet form →
             result ≢ Ok Step.Passed }
-        ensures section { block.kind ≡ BlockKind.Section → IfOk result (λ step. step ≡ Step.Passed) }
+        ensures section { block.kind ≡ BlockKind.Section →
+            IfOk result (λ step. step ≡ Step.Passed) }
         ensures on { IfOk result (λ step. GoesOn self.old self.new) }
         ensures far { is_unreadable result ≡ true → IsFar self.new }
         ensures source { source_of self.new ≡ source_of self.old }
@@ -268,7 +269,7 @@ impl<R: Source> CaptureReader<R> {
     }
 
     /// Reads up to the next packet, and says where it lies.
-    fn step(&mut self) -> Result<Option<Found>, CaptureError>
+    fn find_packet(&mut self) -> Result<Option<Found>, CaptureError>
         ensures runs { Runs R.given R.coming R.broken R.at_end (frame_at self.new) place_at
             self.old self.new result }
         ensures refusal { refusal_of self.new ≡ refusal_of self.old }
@@ -290,7 +291,7 @@ impl<R: Source> CaptureReader<R> {
         if let Some(error) = self.refusal {
             return Err(error);
         }
-        match self.step() {
+        match self.find_packet() {
             Err(error) => {
                 self.refusal = Some(error);
                 Err(error)
@@ -313,9 +314,10 @@ impl<R: Source> CaptureReader<R> {
     }
 
     /// The next packet, which borrows the reader's buffer, or None at the end of the file. It allocates
-    /// nothing, and pulls nothing where it holds the next record, or block of a packet. An error is the first fault of the file, or
-    /// Read where the source failed (or a part of the file may end past the offset 2 ^ 64 - 1). After an
-    /// error each call answers the same error, and pulls nothing; after the end each call answers None.
+    /// nothing, and pulls nothing where it holds the next record, or block of a packet. An error is the
+    /// first fault of the file, or Read where the source failed (or a part of the file may end past the
+    /// offset 2 ^ 64 - 1). After an error each call answers the same error, and pulls nothing; after the
+    /// end each call answers None.
     pub fn next(&mut self) -> Result<Option<Packet<'_>>, CaptureError>
         // Once the packet that it lends is let go, the reader is as `NextCall` says.
         ensures* leaves { sem 𝓛 (Rests (the_row R.row) self.entry (λ new.

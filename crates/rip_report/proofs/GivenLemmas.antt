@@ -1,9 +1,13 @@
 -- The text that a run has been given.
-use Rattle.std.proofs.Common.{◌≡◌, ℕ, Bool, true, List, [], ◌++◌, Option, None, Some, refl, sym, ap, ◌∙◌, append_assoc}
+use Rattle.std.proofs.Common.{◌≡◌, ◌≢◌, ℕ, Bool, true, List, [], ◌++◌, Option, None, Some, Result, Err, refl, sym, ap, ◌∙◌, append_assoc}
 use Rattle.std.specs.Io.KnownBytes.{Consumes, IsAtEnd}
 use Rattle.rip_log.specs.Wholes.{Went, rest_of}
-use Rattle.rip_log.proofs.WholeLemmas.{rest-is}
+use Rattle.rip_log.proofs.WholeLemmas.{rest-is, went_nowhere}
 use Rattle.rip_report.specs.Given.{IsGiven}
+use Rattle.rip_report.specs.Runs.{Draws}
+use Rattle.rip_report.specs.declared.status.Status.{Status}
+use Rattle.rip_report.specs.declared.status.RunError.{RunError}
+use Rattle.rip_report.specs.declared.status.RunError.TheVariants.{Read}
 
 pub rest_given : {R : Type 0} (given : R → List ℕ) (s : R) (text : List ℕ) → rest_of given (given s ++ text) s ≡ Some text
 unfolding rest_of
@@ -28,3 +32,19 @@ told_given given coming at_end old new w law text is =
       split = ap (λ l. given old ++ l) found.1 ∙ sym (append_assoc (given old) w.more found.0) ∙ ap (λ l. l ++ found.0) (sym w.gave);
       ended = found.2;
     }
+
+-- so a run leaves a source that went on, and that has failed only where it says so
+pub drawn : {R : Type 0} (given : R → List ℕ) (coming : R → Option (List ℕ)) (broken at_end : R → Bool) (old new : R) (result : Result Status RunError)
+    → Went given coming at_end old new → (at_end new ≡ true → IsAtEnd (coming new)) → (result ≢ Err Read → broken new ≡ broken old)
+    → Draws given coming broken at_end old new result
+drawn given coming broken at_end old new result went law source = record {
+  source = source;
+  went = went;
+  to_come = told_given given coming at_end old new went law;
+}
+
+-- and one that was not touched
+pub undrawn : {R : Type 0} (given : R → List ℕ) (coming : R → Option (List ℕ)) (broken at_end : R → Bool) (s : R) (result : Result Status RunError)
+    → (at_end s ≡ true → IsAtEnd (coming s)) → Draws given coming broken at_end s s result
+undrawn given coming broken at_end s result law =
+    drawn given coming broken at_end s s result (went_nowhere given coming at_end s) law (λ other. refl)

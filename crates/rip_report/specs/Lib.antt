@@ -23,6 +23,7 @@ pub mod LeftOut
 pub mod HeardText
 pub mod AnywayText
 pub mod Hearings
+pub mod Runs
 pub mod LoggedDatagrams
 pub mod CaptureText
 pub mod CaptureLogs

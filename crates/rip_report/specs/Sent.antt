@@ -1,5 +1,4 @@
--- What has gone out of a text, by what a sink has taken before and after, and what a run leaves of its
--- source.
+-- What has gone out of a text, by what a sink has taken before and after.
 use Rattle.std.specs.Prelude.{◌≡◌, ◌≢◌, ℕ, Bool, true, false, List, ◌++◌, Result, Err, IfOk, OnErr, OnOk, is_err}
 use Rattle.rip_log.specs.Taken.{Taken, Took}
 use Rattle.rip_log.specs.declared.device.Failed.{Failed}
@@ -67,17 +66,3 @@ pub record Prints
   pub memory : result ≡ Err Memory → Keeps (taken old) (taken new)
   -- every other answer leaves the sink's mark as it was
   pub sink : result ≢ Err Write → broken new ≡ broken old
-
--- what a run leaves that reads a log
-pub record Reads
-    {R : Type 0}
-    (broken at_end : R → Bool)
-    (old new : R)
-    (result : Result Status RunError)
-    : Type 0 where
-  -- the source has failed
-  pub read : result ≡ Err Read → broken new ≡ true
-  -- every other answer leaves the source's mark as it was
-  pub source : result ≢ Err Read → broken new ≡ broken old
-  -- what is printed of a log's table comes only where the source has come to its end
-  pub ended : IfOk result (λ status. status ≢ Refused → at_end new ≡ true)

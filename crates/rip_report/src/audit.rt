@@ -2,18 +2,15 @@
 
 ghost use Rattle.std.specs.Prelude.{◌≡◌, ◌≢◌, ◌↔◌, ◌++◌, ℕ, List, [], Err, IfOk, IfSome, None, false, is_err, is_some, true, length, Some};
 ghost use Rattle.rip_plan.specs.Network.{Network};
-ghost use Rattle.rip_plan.specs.PlanFaults.{PlanFault};
 ghost use Rattle.rip_plan.specs.Relations.{IsPlain};
-ghost use Rattle.rip_plan.specs.declared.error.PlanError.{PlanError};
-ghost use Rattle.rip_log.specs.Wholes.{Went};
 ghost use Rattle.rip_table.specs.State.{Fits, State};
 ghost use Rattle.rip_check.specs.Marks.{AreUnsettled};
 ghost use Rattle.rip_check.specs.Verdicts.{IsVerdict, IsNextUnsettled};
 ghost use Rattle.rip_report.specs.AuditText.{AllFailing, AnswersRightly, AuditText, FailingText, IsJudged, ShowsPlainRightTables, UnsettledLine, UnsettledLines, VerdictText, unsettled_line, verdict_status};
 ghost use Rattle.rip_report.specs.Given.{IsGiven};
-ghost use Rattle.rip_report.specs.PlanText.{IsNoText};
 ghost use Rattle.rip_report.specs.ReportText.{IsAccepted};
-ghost use Rattle.rip_report.specs.Sent.{Prints, Reads, WentOut, Writes};
+ghost use Rattle.rip_report.specs.Runs.{Reads, RefusesPlan};
+ghost use Rattle.rip_report.specs.Sent.{Prints, WentOut, Writes};
 ghost use Rattle.rip_check.specs.Laws.{OneIsShown};
 ghost use Rattle.rip_check.specs.Told.{told};
 
@@ -258,16 +255,9 @@ pub fn run_audit<R: Source, K: Sink, S: BuildHasher + Drop>(
     ensures prints { (text : List ℕ) → IsGiven R.given R.at_end log result.0 text →
         Prints K.taken K.broken out.old out.new result.1 (AuditText plan.now text all) }
     // What is printed of a table comes only at the source's end, and Read only where it has failed.
-    ensures reads { Reads R.broken R.at_end log result.0 result.1 }
-    // The bytes given, perhaps none, are the first of those to come, where these are modelled.
-    ensures went { Went R.given R.coming R.at_end log result.0 }
-    ensures to_come { (text : List ℕ) → R.coming log ≡ Some text →
-        IsGiven R.given R.at_end log result.0 text }
+    ensures reads { Reads R.given R.coming R.broken R.at_end log result.0 result.1 }
     // If the plan is refused, the log is not touched, and the error is not Read.
-    ensures untouched { (e : PlanError) → PlanFault plan.now e →
-        (result.0 ≡ log) × (result.1 ≢ Err RunError.Read) }
-    // Too many bytes, or bytes that are not UTF-8, never give Memory.
-    ensures no_text { IsNoText plan.now → result.1 ≢ Err RunError.Memory }
+    ensures refuses { RefusesPlan plan.now log result.0 result.1 }
 {
     one_set_of_tables();
     plain_paths();

@@ -1,16 +1,13 @@
 //! Reports on a log that is read to its end: what `heard` and the commands with `--anyway` share.
 
-ghost use Rattle.std.specs.Prelude.{◌≡◌, ◌≢◌, [], ℕ, Err, IfOk, List, Some};
+ghost use Rattle.std.specs.Prelude.{◌≡◌, ◌≢◌, [], ℕ, Err, IfOk, List};
 ghost use Rattle.rip_plan.specs.Network.{Network};
-ghost use Rattle.rip_plan.specs.PlanFaults.{PlanFault};
-ghost use Rattle.rip_plan.specs.declared.error.PlanError.{PlanError};
-ghost use Rattle.rip_log.specs.Wholes.{Went};
 ghost use Rattle.rip_table.specs.Events.{EventAt};
 ghost use Rattle.rip_table.specs.State.{Fits, State, new_state};
 ghost use Rattle.rip_report.specs.Given.{IsGiven};
-ghost use Rattle.rip_report.specs.Hearings.{EventsOf, EventsText, IsUnread, OfAccepted};
-ghost use Rattle.rip_report.specs.PlanText.{IsNoText};
+ghost use Rattle.rip_report.specs.Hearings.{EventsOf, EventsText, OfAccepted};
 ghost use Rattle.rip_report.specs.ReportText.{IsAccepted};
+ghost use Rattle.rip_report.specs.Runs.{ReadsOn, RefusesPlan};
 ghost use Rattle.rip_report.specs.Sent.{Prints, WentOut};
 ghost use Rattle.rip_report.specs.Written.{Written};
 
@@ -64,10 +61,7 @@ fn report_to<C: EventReport<L>, L: Listener, R: Source, K: Sink, T: MetricTable>
     ensures prints { (text : List ℕ) → IsGiven R.given R.at_end log result.0 text →
         Prints K.taken K.broken out.old out.new result.1
         (EventsOf (C.is_text command.now plan.now) plan.now text) }
-    ensures read { (text : List ℕ) → IsGiven R.given R.at_end log result.0 text →
-        result.1 ≡ Err RunError.Read → IsUnread (R.broken result.0) text }
-    ensures source { result.1 ≢ Err RunError.Read → R.broken result.0 ≡ R.broken log }
-    ensures went { Went R.given R.coming R.at_end log result.0 }
+    ensures reads { ReadsOn R.given R.coming R.broken R.at_end log result.0 result.1 }
 {
     let (source, heard) = hear_log(alloc, plan, log, table, listener);
     match heard {
@@ -98,10 +92,7 @@ pub(crate) fn report_events<
     ensures prints { (text : List ℕ) → IsGiven R.given R.at_end log result.0 text →
         Prints K.taken K.broken out.old out.new result.1
         (EventsOf (C.is_text command.now plan.now) plan.now text) }
-    ensures read { (text : List ℕ) → IsGiven R.given R.at_end log result.0 text →
-        result.1 ≡ Err RunError.Read → IsUnread (R.broken result.0) text }
-    ensures source { result.1 ≢ Err RunError.Read → R.broken result.0 ≡ R.broken log }
-    ensures went { Went R.given R.coming R.at_end log result.0 }
+    ensures reads { ReadsOn R.given R.coming R.broken R.at_end log result.0 result.1 }
 {
     match GridTable::with_hasher(alloc, plan, hasher) {
         Ok(mut table) => report_to(alloc, command, plan, log, &mut table, listener, out),
@@ -122,19 +113,12 @@ pub(crate) fn run_counted<C: EventReport<Counts>, R: Source, K: Sink, S: BuildHa
     ensures prints { (text : List ℕ) → IsGiven R.given R.at_end log result.0 text →
         Prints K.taken K.broken out.old out.new result.1
         (EventsText (C.is_text command.now) plan.now text) }
-    ensures read { (text : List ℕ) → IsGiven R.given R.at_end log result.0 text →
-        result.1 ≡ Err RunError.Read → IsUnread (R.broken result.0) text }
-    ensures source { result.1 ≢ Err RunError.Read → R.broken result.0 ≡ R.broken log }
-    ensures went { Went R.given R.coming R.at_end log result.0 }
-    ensures to_come { (text : List ℕ) → R.coming log ≡ Some text →
-        IsGiven R.given R.at_end log result.0 text }
+    ensures reads { ReadsOn R.given R.coming R.broken R.at_end log result.0 result.1 }
     // Of a log that is accepted nothing is left out.
     ensures accepted { (text : List ℕ) → IsGiven R.given R.at_end log result.0 text →
         (n : Network) (s : State) → IsAccepted plan.now text n s → IfOk result.1
         (WentOut (OfAccepted (C.is_text command.now) n s) (K.taken out.old) (K.taken out.new)) }
-    ensures untouched { (e : PlanError) → PlanFault plan.now e →
-        (result.0 ≡ log) × (result.1 ≢ Err RunError.Read) }
-    ensures no_text { IsNoText plan.now → result.1 ≢ Err RunError.Memory }
+    ensures refuses { RefusesPlan plan.now log result.0 result.1 }
 {
     one_plan();
     well_formed_texts();

@@ -6,11 +6,8 @@ mod troubles;
 
 ghost use Rattle.std.specs.Prelude.{◌≡◌, ◌≢◌, ◌↔◌, ◌++◌, ℕ, Bool, List, [], Err, IfOk, IsTrue, None, false, true, length, Some};
 ghost use Rattle.rip_plan.specs.Network.{Network};
-ghost use Rattle.rip_plan.specs.PlanFaults.{PlanFault};
 ghost use Rattle.rip_plan.specs.Relations.{IsPlain};
-ghost use Rattle.rip_plan.specs.declared.error.PlanError.{PlanError};
 ghost use Rattle.rip_report.specs.Given.{IsGiven};
-ghost use Rattle.rip_log.specs.Wholes.{Went};
 ghost use Rattle.rip_table.specs.State.{Fits, State};
 ghost use Rattle.rip_check.specs.Expected.{AreExpected};
 ghost use Rattle.rip_check.specs.Firsts.{IsFirstTrouble};
@@ -19,9 +16,9 @@ ghost use Rattle.rip_check.specs.Verdicts.{IsNextUnsettled, ShowsTables};
 ghost use Rattle.rip_check.specs.Told.{told};
 ghost use Rattle.rip_report.specs.AuditText.{AnswersRightly, IsJudged, ShowsPlainRightTables};
 ghost use Rattle.rip_report.specs.ExplainText.{BeginsWithVerdict, ExplainText, ExplainsAll, UnreachableLine};
-ghost use Rattle.rip_report.specs.PlanText.{IsNoText};
 ghost use Rattle.rip_report.specs.ReportText.{IsAccepted, ReportText};
-ghost use Rattle.rip_report.specs.Sent.{Prints, Reads, WentOut};
+ghost use Rattle.rip_report.specs.Runs.{Reads, RefusesPlan};
+ghost use Rattle.rip_report.specs.Sent.{Prints, WentOut};
 
 use crate::lines::verdicts::settled_text;
 use crate::listing::Listing;
@@ -272,16 +269,9 @@ pub fn run_explain<R: Source, K: Sink, S: BuildHasher + Drop>(
         Prints K.taken K.broken out.old out.new result.1
         (ReportText (λ n s. ExplainText n s all) plan.now text) }
     // What is printed of a table comes only at the source's end, and Read only where it has failed.
-    ensures reads { Reads R.broken R.at_end log result.0 result.1 }
-    // The bytes given, perhaps none, are the first of those to come, where these are modelled.
-    ensures went { Went R.given R.coming R.at_end log result.0 }
-    ensures to_come { (text : List ℕ) → R.coming log ≡ Some text →
-        IsGiven R.given R.at_end log result.0 text }
+    ensures reads { Reads R.given R.coming R.broken R.at_end log result.0 result.1 }
     // If the plan is refused, the log is not touched, and the error is not Read.
-    ensures untouched { (e : PlanError) → PlanFault plan.now e →
-        (result.0 ≡ log) × (result.1 ≢ Err RunError.Read) }
-    // Too many bytes, or bytes that are not UTF-8, never give Memory.
-    ensures no_text { IsNoText plan.now → result.1 ≢ Err RunError.Memory }
+    ensures refuses { RefusesPlan plan.now log result.0 result.1 }
 {
     one_set_of_tables();
     plain_paths();

@@ -7,17 +7,14 @@ mod nobody;
 mod strangers;
 mod who;
 
-ghost use Rattle.std.specs.Prelude.{◌≡◌, ◌≢◌, ℕ, List, [], Err, length, Some, IfOk, IfErr};
-ghost use Rattle.rip_plan.specs.PlanFaults.{PlanFault};
-ghost use Rattle.rip_plan.specs.declared.error.PlanError.{PlanError};
-ghost use Rattle.rip_log.specs.Wholes.{Went};
+ghost use Rattle.std.specs.Prelude.{◌≡◌, ◌≢◌, ℕ, List, [], Err, length, IfOk, IfErr};
 ghost use Rattle.rip_table.specs.State.{new_state};
 ghost use Rattle.rip_report.specs.Given.{IsGiven};
-ghost use Rattle.rip_report.specs.Hearings.{HeardOf, IsUnread};
-ghost use Rattle.rip_report.specs.PlanText.{IsNoText};
+ghost use Rattle.rip_report.specs.Hearings.{HeardOf};
 ghost use Rattle.rip_table.specs.Events.{EventAt};
 ghost use Rattle.rip_table.specs.Tallies.{HasHeard, interfaces_of};
 ghost use Rattle.rip_report.specs.HeardText.{HeardLines, HeardText, heard_of, heard_status};
+ghost use Rattle.rip_report.specs.Runs.{ReadsOn, RefusesPlan};
 ghost use Rattle.rip_report.specs.Sent.{Prints, Writes};
 
 use crate::events::{EventReport, report_events};
@@ -147,17 +144,9 @@ pub fn run_heard<R: Source, K: Sink, S: BuildHasher + Drop>(
     ensures prints { (text : List ℕ) → IsGiven R.given R.at_end log result.0 text →
         Prints K.taken K.broken out.old out.new result.1 (HeardOf plan.now text) }
     // Read only where the source has failed, or a line has more than 2^64 - 1 bytes.
-    ensures read { (text : List ℕ) → IsGiven R.given R.at_end log result.0 text →
-        result.1 ≡ Err RunError.Read → IsUnread (R.broken result.0) text }
-    ensures source { result.1 ≢ Err RunError.Read → R.broken result.0 ≡ R.broken log }
-    ensures went { Went R.given R.coming R.at_end log result.0 }
-    ensures to_come { (text : List ℕ) → R.coming log ≡ Some text →
-        IsGiven R.given R.at_end log result.0 text }
+    ensures reads { ReadsOn R.given R.coming R.broken R.at_end log result.0 result.1 }
     // If the plan is refused, the log is not touched, and the error is not Read.
-    ensures untouched { (e : PlanError) → PlanFault plan.now e →
-        (result.0 ≡ log) × (result.1 ≢ Err RunError.Read) }
-    // Too many bytes, or bytes that are not UTF-8, never give Memory.
-    ensures no_text { IsNoText plan.now → result.1 ≢ Err RunError.Memory }
+    ensures refuses { RefusesPlan plan.now log result.0 result.1 }
 {
     let plan = match Plan::read(alloc, plan) {
         Ok(plan) => plan,

@@ -2,14 +2,11 @@
 
 ghost use Rattle.std.specs.Prelude.{◌≡◌, ◌≢◌, Err, IfOk, ℕ, List, Some};
 ghost use Rattle.rip_plan.specs.Network.{Network};
-ghost use Rattle.rip_plan.specs.PlanFaults.{PlanFault};
-ghost use Rattle.rip_plan.specs.declared.error.PlanError.{PlanError};
 ghost use Rattle.rip_report.specs.Given.{IsGiven};
-ghost use Rattle.rip_log.specs.Wholes.{Went};
 ghost use Rattle.rip_table.specs.State.{Fits, State, new_state};
-ghost use Rattle.rip_report.specs.PlanText.{IsNoText};
 ghost use Rattle.rip_report.specs.ReportText.{IsAccepted, IsTable, ReportOf, ReportText};
-ghost use Rattle.rip_report.specs.Sent.{Prints, Reads, WentOut};
+ghost use Rattle.rip_report.specs.Runs.{Reads, RefusesPlan};
+ghost use Rattle.rip_report.specs.Sent.{Prints, WentOut};
 ghost use Rattle.rip_report.specs.Written.{Written};
 
 use crate::log::read_log;
@@ -63,8 +60,7 @@ fn report_log<C: Report, R: Source, K: Sink, T: MetricTable>(
     ensures prints { (text : List ℕ) → IsGiven R.given R.at_end log result.0 text →
         Prints K.taken K.broken out.old out.new result.1
         (ReportOf (C.is_text command.now plan.now) plan.now text) }
-    ensures reads { Reads R.broken R.at_end log result.0 result.1 }
-    ensures went { Went R.given R.coming R.at_end log result.0 }
+    ensures reads { Reads R.given R.coming R.broken R.at_end log result.0 result.1 }
     ensures told { (text : List ℕ) → IsGiven R.given R.at_end log result.0 text →
         (s : State) → IsTable plan.now text s → IfOk result.1
         (WentOut (C.is_text command.now plan.now s) (K.taken out.old) (K.taken out.new)) }
@@ -103,11 +99,7 @@ pub(crate) fn run_report<C: Report, R: Source, K: Sink, S: BuildHasher + Drop>(
         Prints K.taken K.broken out.old out.new result.1
         (ReportText (C.is_text command.now) plan.now text) }
     // What is printed of a table comes only at the source's end, and Read only where it has failed.
-    ensures reads { Reads R.broken R.at_end log result.0 result.1 }
-    // The bytes given, perhaps none, are the first of those to come, where these are modelled.
-    ensures went { Went R.given R.coming R.at_end log result.0 }
-    ensures to_come { (text : List ℕ) → R.coming log ≡ Some text →
-        IsGiven R.given R.at_end log result.0 text }
+    ensures reads { Reads R.given R.coming R.broken R.at_end log result.0 result.1 }
     // Where plan and log are accepted, the text is that of the table that the log shows.
     ensures told { (text : List ℕ) → IsGiven R.given R.at_end log result.0 text →
         (n : Network) (s : State) → IsAccepted plan.now text n s →
@@ -116,10 +108,7 @@ pub(crate) fn run_report<C: Report, R: Source, K: Sink, S: BuildHasher + Drop>(
         (n : Network) (s : State) → IsAccepted plan.now text n s →
         IfOk result.1 (C.means command.now n s) }
     // If the plan is refused, the log is not touched, and the error is not Read.
-    ensures untouched { (e : PlanError) → PlanFault plan.now e →
-        (result.0 ≡ log) × (result.1 ≢ Err RunError.Read) }
-    // Too many bytes, or bytes that are not UTF-8, never give Memory.
-    ensures no_text { IsNoText plan.now → result.1 ≢ Err RunError.Memory }
+    ensures refuses { RefusesPlan plan.now log result.0 result.1 }
 {
     one_plan();
     well_formed_texts();

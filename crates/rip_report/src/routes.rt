@@ -1,24 +1,21 @@
 //! The command `routes`: the routes that a log shows, beside the least metrics of the plan.
 
-ghost use Rattle.std.specs.Prelude.{◌≡◌, ◌≢◌, Err, ◌+◌, ◌≤◌, ◌<◌, ◌⊎◌, ◌++◌, ◌==◌, [], IfOk, IsTrue, List, ℕ, false, if◌then◌else◌, length, Some};
+ghost use Rattle.std.specs.Prelude.{◌≡◌, ◌≢◌, Err, ◌+◌, ◌≤◌, ◌<◌, ◌⊎◌, ◌++◌, ◌==◌, [], IfOk, IsTrue, List, ℕ, false, if◌then◌else◌, length};
 ghost use Rattle.rip_plan.specs.Network.{Network};
-ghost use Rattle.rip_plan.specs.PlanFaults.{PlanFault};
-ghost use Rattle.rip_plan.specs.declared.error.PlanError.{PlanError};
 ghost use Rattle.rip_report.specs.AnywayText.{AnywayRoutes};
 ghost use Rattle.rip_report.specs.Given.{IsGiven};
-ghost use Rattle.rip_report.specs.Hearings.{IsUnread, RoutesAnyway};
+ghost use Rattle.rip_report.specs.Hearings.{RoutesAnyway};
 ghost use Rattle.rip_table.specs.Tallies.{counts_of};
-ghost use Rattle.rip_log.specs.Wholes.{Went};
 ghost use Rattle.rip_table.specs.State.{Fits, State};
 ghost use Rattle.rip_check.specs.Expected.{AreExpected};
 ghost use Rattle.rip_report.specs.declared.limits.TheConstants.{LINE_BYTES, NUMBERED, PLACE, TWO_NUMBERS, WORDS};
 ghost use Rattle.rip_report.specs.Lines.{IsKnownReason, read_part, unheard_line};
 ghost use Rattle.rip_report.specs.Listings.{TextsBelow, TextsOfPairs};
 ghost use Rattle.rip_report.specs.Names.{IsKnownWay};
-ghost use Rattle.rip_report.specs.PlanText.{IsNoText};
 ghost use Rattle.rip_report.specs.ReportText.{IsAccepted, ReportText};
 ghost use Rattle.rip_report.specs.RoutesText.{RouteLine, RoutesText, UnheardLine, least_part, pair_part, read_line, routes_line, unread_line};
-ghost use Rattle.rip_report.specs.Sent.{Prints, Reads, WentOut, Writes};
+ghost use Rattle.rip_report.specs.Runs.{Reads, ReadsOn, RefusesPlan};
+ghost use Rattle.rip_report.specs.Sent.{Prints, WentOut, Writes};
 
 use crate::events::{EventReport, run_counted};
 use crate::left_out::{anyway_status, push_left_out_line};
@@ -304,20 +301,13 @@ pub fn run_routes<R: Source, K: Sink, S: BuildHasher + Drop>(
         Prints K.taken K.broken out.old out.new result.1
         (ReportText RoutesText plan.now text) }
     // What is printed of a table comes only at the source's end, and Read only where it has failed.
-    ensures reads { Reads R.broken R.at_end log result.0 result.1 }
-    // The bytes given, perhaps none, are the first of those to come, where these are modelled.
-    ensures went { Went R.given R.coming R.at_end log result.0 }
-    ensures to_come { (text : List ℕ) → R.coming log ≡ Some text →
-        IsGiven R.given R.at_end log result.0 text }
+    ensures reads { Reads R.given R.coming R.broken R.at_end log result.0 result.1 }
     // Where plan and log are accepted, they are the routes of the table that the log shows.
     ensures told { (text : List ℕ) → IsGiven R.given R.at_end log result.0 text →
         (n : Network) (s : State) → IsAccepted plan.now text n s →
         IfOk result.1 (WentOut (RoutesText n s) (K.taken out.old) (K.taken out.new)) }
     // If the plan is refused, the log is not touched, and the error is not Read.
-    ensures untouched { (e : PlanError) → PlanFault plan.now e →
-        (result.0 ≡ log) × (result.1 ≢ Err RunError.Read) }
-    // Too many bytes, or bytes that are not UTF-8, never give Memory.
-    ensures no_text { IsNoText plan.now → result.1 ≢ Err RunError.Memory }
+    ensures refuses { RefusesPlan plan.now log result.0 result.1 }
 {
     run_report(alloc, &Routes, plan, log, out, hasher)
 }
@@ -337,22 +327,14 @@ pub fn run_routes_anyway<R: Source, K: Sink, S: BuildHasher + Drop>(
     ensures prints { (text : List ℕ) → IsGiven R.given R.at_end log result.0 text →
         Prints K.taken K.broken out.old out.new result.1 (RoutesAnyway plan.now text) }
     // Read only where the source has failed, or a line has more than 2^64 - 1 bytes.
-    ensures read { (text : List ℕ) → IsGiven R.given R.at_end log result.0 text →
-        result.1 ≡ Err RunError.Read → IsUnread (R.broken result.0) text }
-    ensures source { result.1 ≢ Err RunError.Read → R.broken result.0 ≡ R.broken log }
-    ensures went { Went R.given R.coming R.at_end log result.0 }
-    ensures to_come { (text : List ℕ) → R.coming log ≡ Some text →
-        IsGiven R.given R.at_end log result.0 text }
+    ensures reads { ReadsOn R.given R.coming R.broken R.at_end log result.0 result.1 }
     // Of a log that is accepted it is what `routes` prints.
     ensures accepted { (text : List ℕ) → IsGiven R.given R.at_end log result.0 text →
         (n : Network) (s : State) → IsAccepted plan.now text n s →
         IfOk result.1
         (WentOut (RoutesText n s) (K.taken out.old) (K.taken out.new)) }
     // If the plan is refused, the log is not touched, and the error is not Read.
-    ensures untouched { (e : PlanError) → PlanFault plan.now e →
-        (result.0 ≡ log) × (result.1 ≢ Err RunError.Read) }
-    // Too many bytes, or bytes that are not UTF-8, never give Memory.
-    ensures no_text { IsNoText plan.now → result.1 ≢ Err RunError.Memory }
+    ensures refuses { RefusesPlan plan.now log result.0 result.1 }
 {
     run_counted(alloc, &Routes, plan, log, out, hasher)
 }

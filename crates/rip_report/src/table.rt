@@ -2,23 +2,20 @@
 
 ghost use Rattle.std.specs.Prelude.{◌≡◌, ◌≢◌, Err, ◌+◌, ◌≤◌, ◌<◌, ◌++◌, [], IfOk, length, codes, ℕ, List, Some};
 ghost use Rattle.std.specs.List.{enumerate_from, flat_map};
-ghost use Rattle.rip_plan.specs.declared.error.PlanError.{PlanError};
 ghost use Rattle.rip_report.specs.AnywayText.{AnywayTable};
 ghost use Rattle.rip_report.specs.Given.{IsGiven};
-ghost use Rattle.rip_report.specs.Hearings.{IsUnread, TableAnyway};
+ghost use Rattle.rip_report.specs.Hearings.{TableAnyway};
 ghost use Rattle.rip_table.specs.Tallies.{counts_of};
-ghost use Rattle.rip_log.specs.Wholes.{Went};
 ghost use Rattle.rip_table.specs.State.{Fits, State};
 ghost use Rattle.rip_report.specs.declared.limits.TheConstants.{INTERFACE, LINE_BYTES, TWO_NUMBERS, WORDS};
 ghost use Rattle.rip_report.specs.Lines.{interface_name, unheard_line};
 ghost use Rattle.rip_report.specs.TableText.{TableText, interface_lines, prefix_lines, shown_lines, shown_table, table_line};
 ghost use Rattle.rip_report.specs.Held.{held};
-ghost use Rattle.rip_report.specs.PlanText.{IsNoText};
 ghost use Rattle.rip_report.specs.ReportText.{IsAccepted};
-ghost use Rattle.rip_report.specs.Sent.{Prints, Reads, WentOut, Writes};
+ghost use Rattle.rip_report.specs.Runs.{Reads, ReadsOn, RefusesPlan};
+ghost use Rattle.rip_report.specs.Sent.{Prints, WentOut, Writes};
 ghost use Rattle.rip_report.specs.Texts.{AreOfMetrics, AreTexts, text_of};
 ghost use Rattle.rip_plan.specs.Network.{Network};
-ghost use Rattle.rip_plan.specs.PlanFaults.{PlanFault};
 ghost use Rattle.rip_plan.specs.declared.parts.Interface.{Interface};
 ghost use Rattle.rip_wire.specs.Prefix.{Block, prefix_text};
 
@@ -267,21 +264,14 @@ pub fn run_table<R: Source, K: Sink, S: BuildHasher + Drop>(
         Prints K.taken K.broken out.old out.new result.1
         (TableText plan.now text) }
     // What is printed of a table comes only at the source's end, and Read only where it has failed.
-    ensures reads { Reads R.broken R.at_end log result.0 result.1 }
-    // The bytes given, perhaps none, are the first of those to come, where these are modelled.
-    ensures went { Went R.given R.coming R.at_end log result.0 }
-    ensures to_come { (text : List ℕ) → R.coming log ≡ Some text →
-        IsGiven R.given R.at_end log result.0 text }
+    ensures reads { Reads R.given R.coming R.broken R.at_end log result.0 result.1 }
     // Where plan and log are accepted, it is the table that the log shows.
     ensures told { (text : List ℕ) → IsGiven R.given R.at_end log result.0 text →
         (n : Network) (s : State) → IsAccepted plan.now text n s →
         IfOk result.1
         (WentOut (λ w. w ≡ shown_table n s) (K.taken out.old) (K.taken out.new)) }
     // If the plan is refused, the log is not touched, and the error is not Read.
-    ensures untouched { (e : PlanError) → PlanFault plan.now e →
-        (result.0 ≡ log) × (result.1 ≢ Err RunError.Read) }
-    // Too many bytes, or bytes that are not UTF-8, never give Memory.
-    ensures no_text { IsNoText plan.now → result.1 ≢ Err RunError.Memory }
+    ensures refuses { RefusesPlan plan.now log result.0 result.1 }
 {
     run_report(alloc, &Table, plan, log, out, hasher)
 }
@@ -301,22 +291,14 @@ pub fn run_table_anyway<R: Source, K: Sink, S: BuildHasher + Drop>(
     ensures prints { (text : List ℕ) → IsGiven R.given R.at_end log result.0 text →
         Prints K.taken K.broken out.old out.new result.1 (TableAnyway plan.now text) }
     // Read only where the source has failed, or a line has more than 2^64 - 1 bytes.
-    ensures read { (text : List ℕ) → IsGiven R.given R.at_end log result.0 text →
-        result.1 ≡ Err RunError.Read → IsUnread (R.broken result.0) text }
-    ensures source { result.1 ≢ Err RunError.Read → R.broken result.0 ≡ R.broken log }
-    ensures went { Went R.given R.coming R.at_end log result.0 }
-    ensures to_come { (text : List ℕ) → R.coming log ≡ Some text →
-        IsGiven R.given R.at_end log result.0 text }
+    ensures reads { ReadsOn R.given R.coming R.broken R.at_end log result.0 result.1 }
     // Of a log that is accepted it is what `table` prints.
     ensures accepted { (text : List ℕ) → IsGiven R.given R.at_end log result.0 text →
         (n : Network) (s : State) → IsAccepted plan.now text n s →
         IfOk result.1
         (WentOut (λ w. w ≡ shown_table n s) (K.taken out.old) (K.taken out.new)) }
     // If the plan is refused, the log is not touched, and the error is not Read.
-    ensures untouched { (e : PlanError) → PlanFault plan.now e →
-        (result.0 ≡ log) × (result.1 ≢ Err RunError.Read) }
-    // Too many bytes, or bytes that are not UTF-8, never give Memory.
-    ensures no_text { IsNoText plan.now → result.1 ≢ Err RunError.Memory }
+    ensures refuses { RefusesPlan plan.now log result.0 result.1 }
 {
     run_counted(alloc, &Table, plan, log, out, hasher)
 }

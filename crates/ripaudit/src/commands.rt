@@ -2,20 +2,16 @@
 
 ghost use Rattle.std.specs.Prelude.{◌≡◌, ◌≢◌, ◌⊎◌, ◌+◌, ◌≤◌, ◌<◌, ◌↔◌, ◌++◌, ℕ, List, [], Bool, Option, Some, None, Ok, Err, false, true, codes, length, IfOk};
 ghost use Rattle.rip_plan.specs.Network.{Network};
-ghost use Rattle.rip_plan.specs.PlanFaults.{PlanFault};
 ghost use Rattle.rip_plan.specs.Relations.{IsPlain};
-ghost use Rattle.rip_plan.specs.declared.error.PlanError.{PlanError};
-ghost use Rattle.rip_log.specs.Wholes.{Went};
 ghost use Rattle.rip_table.specs.State.{State};
 ghost use Rattle.rip_check.specs.Laws.{OneIsShown};
 ghost use Rattle.rip_check.specs.Told.{told};
 ghost use Rattle.rip_report.specs.AuditText.{AnswersRightly, IsJudged, ShowsPlainRightTables, VerdictText};
 ghost use Rattle.rip_report.specs.CaptureLogs.{IsLogOf, authentication_of};
 ghost use Rattle.rip_report.specs.Given.{IsGiven};
-ghost use Rattle.rip_report.specs.Hearings.{IsUnread};
-ghost use Rattle.rip_report.specs.PlanText.{IsNoText};
 ghost use Rattle.rip_report.specs.ReportText.{IsAccepted};
-ghost use Rattle.rip_report.specs.Sent.{Prints, Reads};
+ghost use Rattle.rip_report.specs.Runs.{Reads, ReadsOn, RefusesPlan};
+ghost use Rattle.rip_report.specs.Sent.{Prints};
 ghost use Rattle.rip_report.specs.declared.captures.authentication.Authentication.{Authentication};
 ghost use Rattle.ripaudit.specs.declared.commands.TheConstants.{PIECE_LEN};
 ghost use Rattle.ripaudit.specs.CommandText.{AnywayCommandText, LogCommandText, PlanCommandText};
@@ -201,11 +197,9 @@ pub(crate) fn run_on_log<R: Source, K: Sink, S: BuildHasher + Drop>(
 ) -> (R, Result<Status, RunError>)
     ensures prints { (text : List ℕ) → IsGiven R.given R.at_end log result.0 text →
         Prints K.taken K.broken out.old out.new result.1 (LogCommandText command plan.now text) }
-    ensures reads { Reads R.broken R.at_end log result.0 result.1 }
-    ensures went { Went R.given R.coming R.at_end log result.0 }
+    ensures reads { Reads R.given R.coming R.broken R.at_end log result.0 result.1 }
     // If the plan is refused, the log is not touched, and the error is not Read.
-    ensures untouched { (e : PlanError) → PlanFault plan.now e →
-        (result.0 ≡ log) × (result.1 ≢ Err RunError.Read) }
+    ensures refuses { RefusesPlan plan.now log result.0 result.1 }
     // `audit` answers Settled exactly where the log shows right tables, and then packets arrive.
     ensures headline { (all : Bool) → command ≡ LogCommand.Audit all →
         (text : List ℕ) → IsGiven R.given R.at_end log result.0 text →
@@ -255,17 +249,9 @@ pub(crate) fn run_anyway<R: Source, K: Sink, S: BuildHasher + Drop>(
     ensures prints { (text : List ℕ) → IsGiven R.given R.at_end log result.0 text →
         Prints K.taken K.broken out.old out.new result.1 (AnywayCommandText command plan.now text) }
     // Read only where the source has failed, or a line has more than 2^64 - 1 bytes.
-    ensures read { (text : List ℕ) → IsGiven R.given R.at_end log result.0 text →
-        result.1 ≡ Err RunError.Read → IsUnread (R.broken result.0) text }
-    ensures source { result.1 ≢ Err RunError.Read → R.broken result.0 ≡ R.broken log }
-    ensures went { Went R.given R.coming R.at_end log result.0 }
-    ensures to_come { (text : List ℕ) → R.coming log ≡ Some text →
-        IsGiven R.given R.at_end log result.0 text }
+    ensures reads { ReadsOn R.given R.coming R.broken R.at_end log result.0 result.1 }
     // If the plan is refused, the log is not touched, and the error is not Read.
-    ensures untouched { (e : PlanError) → PlanFault plan.now e →
-        (result.0 ≡ log) × (result.1 ≢ Err RunError.Read) }
-    // Too many bytes, or bytes that are not UTF-8, never give Memory.
-    ensures no_text { IsNoText plan.now → result.1 ≢ Err RunError.Memory }
+    ensures refuses { RefusesPlan plan.now log result.0 result.1 }
 {
     match command {
         AnywayCommand::Heard => run_heard(alloc, plan, log, out, prefixes, strangers),

@@ -1,25 +1,22 @@
-use Rattle.std.proofs.Common.{◌∙◌, Ok, ap, arith}
-use Rattle.rip_capture.proofs.BlockLemmas.{misses-front, misses-section, section-order, section-stays}
+use Rattle.std.proofs.Common.{◌≡◌, ◌∙◌, ◌<◌, Err, length, arith, rules, subst, sym}
+use Rattle.rip_capture.proofs.BlockLemmas.{misses-section, section-order, section-stays}
 use Rattle.rip_capture.proofs.FeedLemmas.{Extends-length}
 use Rattle.rip_capture.specs.Feeds.{held}
+use Rattle.rip_capture.specs.Finds.{FindsOrder}
 use Rattle.rip_capture.proofs.blocks.section_order.Goals as goal
 
-pub returns-in_default-clause-found : goal.returns-in_default-clause-found
-returns-in_default-clause-found g c = λ within.
-    let now = held c.fill.new.self in
-    let begins = section-stays (held c.args.feed.now) now c.requires.begun c.fill.ensures.held ∙ c.requires.section in
-    misses-front within now (g.R.Source.at_end c.fill.new.self.source) begins c.in_default.ensures.short
-
-pub returns-then-not-whole-clause-found : goal.returns-then-not-whole-clause-found
-returns-then-not-whole-clause-found g c = λ within.
-    let now = held c.fill.new.self in
-    let begins = section-stays (held c.args.feed.now) now c.requires.begun c.fill.ensures.held ∙ c.requires.section in
-    let short = c.in-Ok.ensures.none (ap Ok c.if-not-whole.true) in
-    misses-section within now (g.R.Source.at_end c.fill.new.self.source) begins (omega (arith, c.requires.begun, Extends-length (held c.args.feed.now) now c.fill.ensures.held)) short.0 short.1
+pub returns-in_err-hold-clause-found : goal.returns-in_err-hold-clause-found
+returns-in_err-hold-clause-found g c = λ within.
+    let now = held c.hold.new.self in
+    let at_end = g.R.Source.at_end c.hold.new.self.source in
+    let code = c.in_err-hold.field-0.0 in
+    let is : c.from_residual.result ≡ Err code = search rules in
+    let begins = section-stays (held c.args.feed.now) now c.requires.begun c.hold.ensures.held ∙ c.requires.section in
+    let some : 0 < length now = omega (arith, c.requires.begun, Extends-length (held c.args.feed.now) now c.hold.ensures.held) in
+    subst (λ r. FindsOrder within now at_end r) (sym is) (misses-section within now at_end begins code some c.in_err-hold.ensures.short)
 
 pub returns-clause-found : goal.returns-clause-found
 returns-clause-found g c = λ within.
-    let now = held c.fill.new.self in
-    let begins = section-stays (held c.args.feed.now) now c.requires.begun c.fill.ensures.held ∙ c.requires.section in
-    let room = c.in-Ok.ensures.some (ap Ok c.if-not-whole.false) in
-    rw c.ok_or.ensures.value (section-order within now (g.R.Source.at_end c.fill.new.self.source) begins c.order_in.result room (rw c.held.ensures at c.order_in.ensures))
+    let now = held c.hold.new.self in
+    let begins = section-stays (held c.args.feed.now) now c.requires.begun c.hold.ensures.held ∙ c.requires.section in
+    rw c.ok_or.ensures.value (section-order within now (g.R.Source.at_end c.hold.new.self.source) begins c.order_in.result c.in_ok-hold.ensures.some (rw c.held.ensures at c.order_in.ensures))

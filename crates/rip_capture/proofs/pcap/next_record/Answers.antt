@@ -1,56 +1,64 @@
-use Rattle.std.proofs.Common.{arith, ◌∙◌, Ok, sym, ap, inr, refl}
+use Rattle.std.proofs.Common.{◌≡◌, ◌≤◌, arith, ◌∙◌, Ok, Err, length, rules, subst, sym, ap}
 use Rattle.rip_log.proofs.WholeLemmas.{went_on}
-use Rattle.rip_capture.proofs.FeedLemmas.{Extends-length}
 use Rattle.rip_capture.proofs.NumberLemmas.{number-stays}
-use Rattle.rip_capture.proofs.PcapLemmas.{ready-on}
+use Rattle.rip_capture.proofs.FeedLemmas.{Extends-length}
+use Rattle.rip_capture.proofs.PcapLemmas.{FindsRecord-begun, FindsRecord-short, ready-on}
 use Rattle.rip_capture.specs.Feeds.{held}
+use Rattle.rip_capture.specs.Finds.{FindsRecord}
 use Rattle.rip_capture.specs.Numbers.{number_in}
-use Rattle.rip_capture.specs.Pcap.RecordFault.{packet}
+use Rattle.rip_capture.specs.Pcap.{captured_len}
 use Rattle.rip_capture.proofs.pcap.next_record.Goals as goal
 
-pub returns-in_default-fill-clause-went : goal.returns-in_default-fill-clause-went
-returns-in_default-fill-clause-went g c = let S = g.R.Source in went_on S.given S.coming S.at_end _ _ _ c.fill.ensures.went c.fill-2.ensures.went
-
-pub returns-then-whole-clause-went : goal.returns-then-whole-clause-went
-returns-then-whole-clause-went g c = let S = g.R.Source in went_on S.given S.coming S.at_end _ _ _ c.fill.ensures.went c.fill-2.ensures.went
-
-pub returns-else-whole-clause-went : goal.returns-else-whole-clause-went
-returns-else-whole-clause-went g c = let S = g.R.Source in went_on S.given S.coming S.at_end _ _ _ c.fill.ensures.went c.fill-2.ensures.went
-
-pub returns-then-whole-clause-found : goal.returns-then-whole-clause-found
-returns-then-whole-clause-found g c =
+pub returns-in_err-hold_next-clause-found : goal.returns-in_err-hold_next-clause-found
+returns-in_err-hold_next-clause-found g c =
     let order = c.args.order in
-    let enough = c.in-Ok.ensures.some (ap Ok c.if-not-begun.false) in
-    let same = number-stays order 8 (held c.fill.new.self) (held c.fill-2.new.self) (omega (arith, enough)) c.fill-2.ensures.held in
-    (c.in-Ok-fill.ensures.some (ap Ok c.if-whole.true), same ∙ ap (number_in order 8) (sym c.held-2.ensures) ∙ sym c.number_in-captured.ensures, c.if-captured-gt-MOST_CAPTURED.false)
+    let now = held c.hold_next.new.self in
+    let at_end = g.R.Source.at_end c.hold_next.new.self.source in
+    let code = c.in_err-hold_next.field-0.0 in
+    let is : c.from_residual.result ≡ Err code = search rules in
+    subst (λ r. FindsRecord order now at_end r) (sym is)
+    (FindsRecord-begun order now at_end code c.in_err-hold_next.ensures.begun c.in_err-hold_next.ensures.short)
 
-pub returns-else-whole-clause-found : goal.returns-else-whole-clause-found
-returns-else-whole-clause-found g c =
+pub returns-in_err-hold-clause-went : goal.returns-in_err-hold-clause-went
+returns-in_err-hold-clause-went g c = let S = g.R.Source in went_on S.given S.coming S.at_end _ _ _ c.hold_next.ensures.went c.hold.ensures.went
+
+pub returns-clause-went : goal.returns-clause-went
+returns-clause-went g c = let S = g.R.Source in went_on S.given S.coming S.at_end _ _ _ c.hold_next.ensures.went c.hold.ensures.went
+
+pub returns-in_err-hold-clause-found : goal.returns-in_err-hold-clause-found
+returns-in_err-hold-clause-found g c =
     let order = c.args.order in
-    let enough = c.in-Ok.ensures.some (ap Ok c.if-not-begun.false) in
-    let same = number-stays order 8 (held c.fill.new.self) (held c.fill-2.new.self) (omega (arith, enough)) c.fill-2.ensures.held in
-    let is = same ∙ ap (number_in order 8) (sym c.held-2.ensures) ∙ sym c.number_in-captured.ensures in
-    let short = c.in-Ok-fill.ensures.none (ap Ok c.if-whole.false) in
-    let longer = Extends-length (held c.fill.new.self) (held c.fill-2.new.self) c.fill-2.ensures.held in
-    inr (packet (omega (arith, enough, longer)) (omega (arith, is, c.if-captured-gt-MOST_CAPTURED.false)) (omega (arith, is, short.0)) refl, λ e. short.1)
+    let first = held c.hold_next.new.self in
+    let now = held c.hold.new.self in
+    let at_end = g.R.Source.at_end c.hold.new.self.source in
+    let code = c.in_err-hold.field-0.0 in
+    let is : c.from_residual-in_err-hold.result ≡ Err code = search rules in
+    let enough = c.in_ok-hold_next.ensures.some (ap Ok c.if-not-branch.false) in
+    let same = number-stays order 8 first now (omega (arith, enough)) c.hold.ensures.held ∙ ap (number_in order 8) (sym c.held.ensures) ∙ sym c.number_in-captured.ensures in
+    let few : captured_len order now ≤ 262144 = omega (arith, same, c.if-captured-gt-MOST_CAPTURED.false) in
+    let header : 16 ≤ length now = omega (arith, enough, Extends-length first now c.hold.ensures.held) in
+    let short = c.in_err-hold.ensures.short in
+    subst (λ r. FindsRecord order now at_end r) (sym is) (FindsRecord-short order now at_end code header few (omega (arith, same, short.0)) short.1)
 
-pub returns-in_default-fill-clause-ready : goal.returns-in_default-fill-clause-ready
-returns-in_default-fill-clause-ready g c = λ holds.
-    ready-on c.args.order c.args.feed.now c.fill.new.self c.fill-2.new.self c.held-2.result.now c.number_in-captured.result holds (c.fill.ensures.ready holds.header) c.held-2.ensures c.number_in-captured.ensures c.fill-2.ensures.ready
-
-pub returns-then-whole-clause-ready : goal.returns-then-whole-clause-ready
-returns-then-whole-clause-ready g c = λ holds.
-    ready-on c.args.order c.args.feed.now c.fill.new.self c.fill-2.new.self c.held-2.result.now c.number_in-captured.result holds (c.fill.ensures.ready holds.header) c.held-2.ensures c.number_in-captured.ensures c.fill-2.ensures.ready
-
-pub returns-else-whole-clause-ready : goal.returns-else-whole-clause-ready
-returns-else-whole-clause-ready g c = λ holds.
-    ready-on c.args.order c.args.feed.now c.fill.new.self c.fill-2.new.self c.held-2.result.now c.number_in-captured.result holds (c.fill.ensures.ready holds.header) c.held-2.ensures c.number_in-captured.ensures c.fill-2.ensures.ready
-
-pub returns-in_default-fill-clause-short : goal.returns-in_default-fill-clause-short
-returns-in_default-fill-clause-short g c = λ failed holds.
+pub returns-clause-found : goal.returns-clause-found
+returns-clause-found g c =
     let order = c.args.order in
-    let enough = c.in-Ok.ensures.some (ap Ok c.if-not-begun.false) in
-    let same = number-stays order 8 (held c.fill.new.self) (held c.fill-2.new.self) (omega (arith, enough)) c.fill-2.ensures.held in
-    let is = same ∙ ap (number_in order 8) (sym c.held-2.ensures) ∙ sym c.number_in-captured.ensures in
-    let packet = holds.packet in
-    omega (arith, packet, is, c.in_default-fill.ensures.short)
+    let enough = c.in_ok-hold_next.ensures.some (ap Ok c.if-not-branch.false) in
+    let same = number-stays order 8 (held c.hold_next.new.self) (held c.hold.new.self) (omega (arith, enough)) c.hold.ensures.held in
+    (c.in_ok-hold.ensures.some, same ∙ ap (number_in order 8) (sym c.held.ensures) ∙ sym c.number_in-captured.ensures, c.if-captured-gt-MOST_CAPTURED.false)
+
+pub returns-in_err-hold-clause-ready : goal.returns-in_err-hold-clause-ready
+returns-in_err-hold-clause-ready g c = λ holds.
+    ready-on c.args.order c.args.feed.now c.hold_next.new.self c.hold.new.self c.held.result.now c.number_in-captured.result holds (c.hold_next.ensures.ready holds.header) c.held.ensures c.number_in-captured.ensures c.hold.ensures.ready
+
+pub returns-clause-ready : goal.returns-clause-ready
+returns-clause-ready g c = λ holds.
+    ready-on c.args.order c.args.feed.now c.hold_next.new.self c.hold.new.self c.held.result.now c.number_in-captured.result holds (c.hold_next.ensures.ready holds.header) c.held.ensures c.number_in-captured.ensures c.hold.ensures.ready
+
+pub returns-in_err-hold-clause-short : goal.returns-in_err-hold-clause-short
+returns-in_err-hold-clause-short g c = λ failed holds.
+    let order = c.args.order in
+    let first = held c.hold_next.new.self in
+    let enough = c.in_ok-hold_next.ensures.some (ap Ok c.if-not-branch.false) in
+    let same = number-stays order 8 first (held c.hold.new.self) (omega (arith, enough)) c.hold.ensures.held ∙ ap (number_in order 8) (sym c.held.ensures) ∙ sym c.number_in-captured.ensures in
+    omega (arith, holds.packet, same, c.in_err-hold.ensures.short.0)

@@ -1,11 +1,11 @@
+use Rattle.std.proofs.Common.{rules}
 use Rattle.rip_report.specs.Hearings.{EventsOf, EventsText, OfAccepted}
 use Rattle.rip_report.specs.PlanText.{a_fault, of_plan}
 use Rattle.rip_report.specs.Sent.{WentOut}
 use Rattle.rip_report.proofs.AcceptedLemmas.{of_accepted, went_also}
 use Rattle.rip_report.proofs.FinishLemmas.{first_told, prints_also, refused_prints}
-use Rattle.rip_report.proofs.GivenLemmas.{told_given}
+use Rattle.rip_report.proofs.GivenLemmas.{undrawn}
 use Rattle.rip_report.proofs.ReportLemmas.{of_refused}
-use Rattle.rip_log.proofs.WholeLemmas.{went_nowhere}
 use Rattle.rip_report.proofs.events.run_counted.Goals as goal
 
 pub returns-in-Ok-clause-prints : goal.returns-in-Ok-clause-prints
@@ -23,20 +23,6 @@ returns-in-Ok-clause-accepted g c = λ log given n s accepted.
     (λ w told. of_accepted says bytes log n s w (λ n m q. c.one_plan.ensures q.document n m) (c.well_formed_texts.ensures bytes) (λ events. e.accepted n log events s) (λ events t. e.table n log events t s) accepted told)
     (went_also (EventsOf (says c.in-Ok.plan) c.in-Ok.plan log) (EventsText says bytes log) (taken c.args.out.now) (taken c.report_events.new.out) c.report_events.result.1 (λ w h. of_plan c.in-Ok.plan w c.in-Ok.ensures.no_fault c.in-Ok.ensures.plan h) (c.report_events.ensures.prints log given).text)
 
-pub returns-in-Ok-clause-to_come : goal.returns-in-Ok-clause-to_come
-returns-in-Ok-clause-to_come g c =
-    let S = g.R.Source in
-    let after = c.report_events.result.0 in
-    told_given S.given S.coming S.at_end c.args.log after c.report_events.ensures.went (g.met.R.Source.nothing_left after)
-
-pub returns-in-Ok-clause-untouched : goal.returns-in-Ok-clause-untouched
-returns-in-Ok-clause-untouched g c = λ e fault. absurd (c.in-Ok.ensures.no_fault e (fault.pass, fault.found))
-
-pub returns-in-Err-clause-to_come : goal.returns-in-Err-clause-to_come
-returns-in-Err-clause-to_come g c =
-    let S = g.R.Source in
-    told_given S.given S.coming S.at_end c.args.log c.args.log (went_nowhere S.given S.coming S.at_end c.args.log) (g.met.R.Source.nothing_left c.args.log)
-
 pub returns-in-Err-clause-prints : goal.returns-in-Err-clause-prints
 returns-in-Err-clause-prints g c = λ log given.
     refused_prints (EventsText (g.C.EventReport.is_text c.args.command.now) c.args.plan.now log) c.in-Err.error g.K.Sink.taken g.K.Sink.broken c.args.out.now c.refuse_plan.new.out c.refuse_plan.result (λ other. a_fault c.in-Err.error (first_told c.args.plan.now c.in-Err.error c.in-Err.ensures.told other)) c.refuse_plan.ensures.memory c.refuse_plan.ensures.prints
@@ -45,3 +31,17 @@ pub returns-in-Err-clause-accepted : goal.returns-in-Err-clause-accepted
 returns-in-Err-clause-accepted g c =
     let e = c.in-Err.error in
     λ text given n s accepted. of_refused (WentOut (OfAccepted (g.C.EventReport.is_text c.args.command.now) n s) (g.K.Sink.taken c.args.out.now) (g.K.Sink.taken c.refuse_plan.new.out)) c.args.plan.now text n s e c.refuse_plan.result (first_told c.args.plan.now e c.in-Err.ensures.told) c.refuse_plan.ensures.memory (c.well_formed_texts.ensures c.args.plan.now) accepted
+
+pub returns-in-Err-clause-reads : goal.returns-in-Err-clause-reads
+returns-in-Err-clause-reads g c =
+    let S = g.R.Source in
+    record {
+      draws = undrawn S.given S.coming S.broken S.at_end c.args.log _ (g.met.R.Source.nothing_left c.args.log);
+      read = search rules;
+    }
+
+pub returns-in-Ok-clause-refuses : goal.returns-in-Ok-clause-refuses
+returns-in-Ok-clause-refuses g c = record {
+  untouched = λ e fault. absurd (c.in-Ok.ensures.no_fault e (fault.pass, fault.found));
+  no_text = search rules;
+}

@@ -1,10 +1,11 @@
-use Rattle.std.proofs.Common.{◌∙◌, [], None, subst}
+use Rattle.std.proofs.Common.{◌∙◌, [], None, rules, subst}
 use Rattle.std.specs.Prelude.{IfOk}
 use Rattle.rip_table.specs.State.{State}
 use Rattle.rip_report.specs.RefusalText.{refused_log}
 use Rattle.rip_report.specs.ReportText.{ReportOf, a_refusal, of_table}
 use Rattle.rip_report.specs.Sent.{WentOut}
 use Rattle.rip_report.proofs.FinishLemmas.{finished_prints, prints_also}
+use Rattle.rip_report.proofs.GivenLemmas.{drawn}
 use Rattle.rip_report.proofs.ReportLemmas.{no_table, same_table}
 use Rattle.rip_report.proofs.SentLemmas.{Writes-same}
 use Rattle.rip_report.proofs.report.report_log.Goals as goal
@@ -57,3 +58,33 @@ returns-in-Ok-Some-clause-meaning g c = λ text begins.
     let told_of = rw (c.in-Ok-Some.is, c.in-Ok-Some.field-0-is) at c.read_log-source.ensures.told in
     let told = told_of text begins in
     λ t table. no_table _ (record { text = c.log_texts.ensures.text; fault = c.log_texts.ensures.fault }) c.one_join.ensures c.args.plan.now text (g.T.MetricTable.state c.read_log-source.new.table) t c.in-Ok-Some.error told table
+
+pub returns-in-Ok-None-clause-reads : goal.returns-in-Ok-None-clause-reads
+returns-in-Ok-None-clause-reads g c =
+    let S = g.R.Source in
+    let after = c.read_log-source.result.0 in
+    record {
+      draws = drawn S.given S.coming S.broken S.at_end c.args.log after _ c.read_log-source.ensures.went (g.met.R.Source.nothing_left after) (search rules);
+      read = search rules;
+      ended = search rules;
+    }
+
+pub returns-in-Ok-Some-clause-reads : goal.returns-in-Ok-Some-clause-reads
+returns-in-Ok-Some-clause-reads g c =
+    let S = g.R.Source in
+    let after = c.read_log-source.result.0 in
+    record {
+      draws = drawn S.given S.coming S.broken S.at_end c.args.log after _ c.read_log-source.ensures.went (g.met.R.Source.nothing_left after) (search rules);
+      read = search rules;
+      ended = search rules;
+    }
+
+pub returns-in-Err-clause-reads : goal.returns-in-Err-clause-reads
+returns-in-Err-clause-reads g c =
+    let S = g.R.Source in
+    let after = c.read_log-source.result.0 in
+    record {
+      draws = drawn S.given S.coming S.broken S.at_end c.args.log after _ c.read_log-source.ensures.went (g.met.R.Source.nothing_left after) (search rules);
+      read = search rules;
+      ended = search rules;
+    }

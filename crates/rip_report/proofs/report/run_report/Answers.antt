@@ -1,11 +1,11 @@
+use Rattle.std.proofs.Common.{rules}
 use Rattle.std.specs.Prelude.{IfOk}
 use Rattle.rip_report.specs.PlanText.{a_fault, of_plan}
 use Rattle.rip_report.specs.ReportText.{ReportOf, ReportText}
 use Rattle.rip_report.specs.Sent.{WentOut}
 use Rattle.rip_report.proofs.FinishLemmas.{first_told, prints_also, refused_prints}
-use Rattle.rip_report.proofs.GivenLemmas.{told_given}
+use Rattle.rip_report.proofs.GivenLemmas.{undrawn}
 use Rattle.rip_report.proofs.ReportLemmas.{of_read, of_refused}
-use Rattle.rip_log.proofs.WholeLemmas.{went_nowhere}
 use Rattle.rip_report.proofs.report.run_report.Goals as goal
 
 pub returns-in-Ok-with_hasher-clause-prints : goal.returns-in-Ok-with_hasher-clause-prints
@@ -23,17 +23,6 @@ pub returns-in-Ok-with_hasher-clause-meaning : goal.returns-in-Ok-with_hasher-cl
 returns-in-Ok-with_hasher-clause-meaning g c =
     λ text given n s accepted. of_read (λ m t. IfOk c.report_log.result.1 (g.C.Report.means c.args.command.now m t)) c.args.plan.now text n c.in-Ok.plan s (λ n m q. c.one_plan.ensures q.document n m) c.in-Ok.ensures.plan (c.report_log.ensures.meaning text given) accepted
 
-pub returns-in-Ok-with_hasher-clause-to_come : goal.returns-in-Ok-with_hasher-clause-to_come
-returns-in-Ok-with_hasher-clause-to_come g c =
-    let S = g.R.Source in
-    let after = c.report_log.result.0 in
-    told_given S.given S.coming S.at_end c.args.log after c.report_log.ensures.went (g.met.R.Source.nothing_left after)
-
-pub returns-in-Err-clause-to_come : goal.returns-in-Err-clause-to_come
-returns-in-Err-clause-to_come g c =
-    let S = g.R.Source in
-    told_given S.given S.coming S.at_end c.args.log c.args.log (went_nowhere S.given S.coming S.at_end c.args.log) (g.met.R.Source.nothing_left c.args.log)
-
 pub returns-in-Err-clause-prints : goal.returns-in-Err-clause-prints
 returns-in-Err-clause-prints g c = λ log given.
     refused_prints (ReportText (g.C.Report.is_text c.args.command.now) c.args.plan.now log) c.in-Err.error g.K.Sink.taken g.K.Sink.broken c.args.out.now c.refuse_plan.new.out c.refuse_plan.result (λ other. a_fault c.in-Err.error (first_told c.args.plan.now c.in-Err.error c.in-Err.ensures.told other)) c.refuse_plan.ensures.memory c.refuse_plan.ensures.prints
@@ -48,5 +37,26 @@ returns-in-Err-clause-meaning g c =
     let e = c.in-Err.error in
     λ text given n s accepted. of_refused (g.C.Report.means c.args.command.now n s) c.args.plan.now text n s e c.refuse_plan.result (first_told c.args.plan.now e c.in-Err.ensures.told) c.refuse_plan.ensures.memory (c.well_formed_texts.ensures c.args.plan.now) accepted
 
-pub returns-in-Ok-with_hasher-clause-untouched : goal.returns-in-Ok-with_hasher-clause-untouched
-returns-in-Ok-with_hasher-clause-untouched g c = λ e fault. absurd (c.in-Ok.ensures.no_fault e (fault.pass, fault.found))
+pub returns-in-Err-clause-reads : goal.returns-in-Err-clause-reads
+returns-in-Err-clause-reads g c =
+    let S = g.R.Source in
+    record {
+      draws = undrawn S.given S.coming S.broken S.at_end c.args.log _ (g.met.R.Source.nothing_left c.args.log);
+      read = search rules;
+      ended = search rules;
+    }
+
+pub returns-in-Err-with_hasher-clause-reads : goal.returns-in-Err-with_hasher-clause-reads
+returns-in-Err-with_hasher-clause-reads g c =
+    let S = g.R.Source in
+    record {
+      draws = undrawn S.given S.coming S.broken S.at_end c.args.log _ (g.met.R.Source.nothing_left c.args.log);
+      read = search rules;
+      ended = search rules;
+    }
+
+pub returns-in-Ok-with_hasher-clause-refuses : goal.returns-in-Ok-with_hasher-clause-refuses
+returns-in-Ok-with_hasher-clause-refuses g c = record {
+  untouched = λ e fault. absurd (c.in-Ok.ensures.no_fault e (fault.pass, fault.found));
+  no_text = search rules;
+}

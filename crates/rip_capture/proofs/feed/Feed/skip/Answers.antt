@@ -11,15 +11,15 @@ parts-preserved g c =
     let S = g.R.Source in
     let before = c.parts.invariant.skipped in
     let part = c.min-part.result in
-    let more = take part (held c.fill.new.self) in
-    let size = length-take part (held c.fill.new.self) in
+    let more = take part (held c.hold.new.self) in
+    let size = length-take part (held c.hold.new.self) in
     let now = ap length c.held.ensures in
     record {
       skipped = (
         before.0 ++ more,
         omega (arith, before.1, length-append before.0 more, size, now, c.min-part.ensures),
-        skips-more S.given c.args.self.now c.parts.self c.fill.new.self c.take.new.self before.0 part before.2 c.fill.ensures.keeps c.fill.ensures.held c.take.ensures.takes c.take.ensures.left,
+        skips-more S.given c.args.self.now c.parts.self c.hold.new.self c.take.new.self before.0 part before.2 c.hold.ensures.keeps c.hold.ensures.held c.take.ensures.takes c.take.ensures.left,
       );
-      went = subst (λ s. Went S.given S.coming S.at_end c.args.self.now.source s) (sym c.take.ensures.source) (went_on S.given S.coming S.at_end _ _ _ c.parts.invariant.went c.fill.ensures.went);
+      went = subst (λ s. Went S.given S.coming S.at_end c.args.self.now.source s) (sym c.take.ensures.source) (went_on S.given S.coming S.at_end _ _ _ c.parts.invariant.went c.hold.ensures.went);
       marks = ap S.broken c.take.ensures.source ∙ search rules;
     }

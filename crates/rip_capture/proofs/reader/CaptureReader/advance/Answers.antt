@@ -6,7 +6,7 @@ use Rattle.rip_capture.proofs.reader.CaptureReader.advance.Goals as goal
 pub returns-in-Err-clause-leaves : goal.returns-in-Err-clause-leaves
 returns-in-Err-clause-leaves g c =
     let S = g.R.Source in
-    let mid = c.step.new.self in
+    let mid = c.find_packet.new.self in
     let error = c.in-Err.error in
     let new : CaptureReader g.row.R.Denot = record { feed = mid.feed; format = mid.format; section = mid.section; position = mid.position; refusal = Some error } in
     record {

@@ -1,7 +1,7 @@
 use Rattle.std.proofs.Common.{◌≡◌, ◌-◌, ◌≤◌, length, true}
 use Rattle.rip_log.specs.Wholes.{Went}
 use Rattle.rip_capture.specs.Feeds.{Extends, held, Keeps}
-use Rattle.rip_capture.proofs.feed.Feed.fill.Given as goal
+use Rattle.rip_capture.proofs.feed.Feed.hold.Given as goal
 
 abbrev pub invariant-pulls : goal.invariant-pulls
 invariant-pulls g l = record {

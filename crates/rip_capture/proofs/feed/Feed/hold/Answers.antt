@@ -3,7 +3,7 @@ use Rattle.std.proofs.lemmas.Bool.{false≢true}
 use Rattle.rip_log.proofs.WholeLemmas.{went_on}
 use Rattle.rip_capture.proofs.FeedLemmas.{Extends-on, too_few}
 use Rattle.rip_capture.specs.Feeds.{held}
-use Rattle.rip_capture.proofs.feed.Feed.fill.Goals as goal
+use Rattle.rip_capture.proofs.feed.Feed.hold.Goals as goal
 
 pub pulls-preserved : goal.pulls-preserved
 pulls-preserved g c = let S = g.R.Source in record {

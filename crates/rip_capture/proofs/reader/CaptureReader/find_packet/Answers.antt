@@ -1,6 +1,6 @@
 use Rattle.rip_capture.proofs.ReaderLemmas.{Runs-on, Runs-stopped}
 use Rattle.rip_capture.specs.declared.reader.Format.TheVariants.{Pcap, Pcapng}
-use Rattle.rip_capture.proofs.reader.CaptureReader.step.Goals as goal
+use Rattle.rip_capture.proofs.reader.CaptureReader.find_packet.Goals as goal
 
 pub returns-in-Ok-Pcap-clause-runs : goal.returns-in-Ok-Pcap-clause-runs
 returns-in-Ok-Pcap-clause-runs g c =
