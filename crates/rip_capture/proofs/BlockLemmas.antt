@@ -6,8 +6,8 @@ use Rattle.byteorder.specs.Endian.{big_number}
 use Rattle.byteorder.specs.Numbers.{big_from-append}
 use Rattle.rip_wire.specs.Fields.{number_at}
 use Rattle.std.specs.Prelude.{MatchOption, ok_or}
-use Rattle.rip_capture.specs.Feeds.{Extends, IsShort}
-use Rattle.rip_capture.specs.Finds.{FindsOrder, NoNextBlock, SaysFront}
+use Rattle.rip_capture.specs.Feeds.{Extends, IsShort, held}
+use Rattle.rip_capture.specs.Finds.{FindsOrder, HoldsBlock, HoldsWhole, NoNextBlock, SaysFront}
 use Rattle.rip_capture.specs.Finds.LacksBlock.{front as lacks_front, rest as lacks_rest}
 use Rattle.rip_capture.specs.Numbers.{number_in}
 use Rattle.rip_capture.specs.Pcapng.{HasLength, HasOrder, IsBlock, OrderedFault, Section, begins_section, block_len, front_len, is_read_whole, kind_numbered, kind_of, least_len, order_number}
@@ -22,6 +22,7 @@ use Rattle.rip_capture.specs.declared.blocks.PacketForm.{PacketForm}
 use Rattle.rip_capture.specs.declared.blocks.PacketForm.TheVariants.{Simple, Enhanced}
 use Rattle.rip_capture.specs.declared.error.CaptureCode.{CaptureCode}
 use Rattle.rip_capture.specs.declared.error.CaptureCode.TheVariants as codes
+use Rattle.rip_capture.specs.declared.feed.Feed.{Feed}
 use Rattle.rip_capture.specs.declared.numbers.Order.{Order}
 use Rattle.rip_capture.specs.declared.numbers.Order.TheVariants.{Big, Little}
 
@@ -212,3 +213,12 @@ front-fault within order b at_end codes.Version room has says = absurd says
 front-fault within order b at_end codes.LinkType room has says = absurd says
 front-fault within order b at_end codes.Interface room has says = absurd says
 front-fault within order b at_end codes.Read room has says = absurd says
+
+-- where a whole block is held whose order was found without a pull, its rest needs none either
+pub whole-ready : {R : Type 0} (within : Option Order) (order : Order) (old mid new : Feed R) → HoldsBlock within (held old) → mid ≡ old → HasOrder within (held mid) order
+    → (HoldsWhole order (held mid) → new ≡ mid) → new ≡ old
+whole-ready {R = R} within order old mid new h first has rest =
+    let here : HasOrder within (held old) order = subst (λ (f : Feed R). HasOrder within (held f) order) first has in
+    let same : h.order ≡ order = order-one within (held old) h.order order h.order_is here in
+    let whole : HoldsWhole order (held old) = subst (λ (o : Order). HoldsWhole o (held old)) same h.holds in
+    rest (subst (λ (f : Feed R). HoldsWhole order (held f)) (sym first) whole) ∙ first

@@ -62,3 +62,9 @@ returns-in_err-hold-clause-short g c = λ failed holds.
     let enough = c.in_ok-hold_next.ensures.some (ap Ok c.if-not-branch.false) in
     let same = number-stays order 8 first (held c.hold.new.self) (omega (arith, enough)) c.hold.ensures.held ∙ ap (number_in order 8) (sym c.held.ensures) ∙ sym c.number_in-captured.ensures in
     omega (arith, holds.packet, same, c.in_err-hold.ensures.short.0)
+
+pub returns-in_err-hold-clause-keeps : goal.returns-in_err-hold-clause-keeps
+returns-in_err-hold-clause-keeps g c = λ taken behind. c.hold.ensures.keeps taken (c.hold_next.ensures.keeps taken behind)
+
+pub returns-clause-keeps : goal.returns-clause-keeps
+returns-clause-keeps g c = λ taken behind. c.hold.ensures.keeps taken (c.hold_next.ensures.keeps taken behind)

@@ -46,15 +46,6 @@ returns-in-Err-clause-reads g c =
       ended = search rules;
     }
 
-pub returns-in-Err-with_hasher-clause-reads : goal.returns-in-Err-with_hasher-clause-reads
-returns-in-Err-with_hasher-clause-reads g c =
-    let S = g.R.Source in
-    record {
-      draws = undrawn S.given S.coming S.broken S.at_end c.args.log _ (g.met.R.Source.nothing_left c.args.log);
-      read = search rules;
-      ended = search rules;
-    }
-
 pub returns-in-Ok-with_hasher-clause-refuses : goal.returns-in-Ok-with_hasher-clause-refuses
 returns-in-Ok-with_hasher-clause-refuses g c = record {
   untouched = λ e fault. absurd (c.in-Ok.ensures.no_fault e (fault.pass, fault.found));
