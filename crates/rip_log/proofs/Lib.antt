@@ -7,7 +7,7 @@ pub mod SkipLemmas
 pub mod CutLemmas
 pub mod DigitLemmas
 pub mod JudgeLemmas
-pub mod StepLemmas
+pub mod CodeLemmas
 pub mod LineRelations
 pub mod FieldRelations
 pub mod JudgeRelations
@@ -22,3 +22,5 @@ pub mod SaidLemmas
 pub mod SaidRelations
 pub mod OutcomeLemmas
 pub mod TakenLemmas
+pub mod LogSaidLemmas
+pub mod AdvanceLemmas

@@ -5,7 +5,7 @@ use Rattle.std.proofs.lemmas.Bool.{le-leb}
 use Rattle.std.specs.Io.KnownBytes.{Keeps}
 use Rattle.rip_log.specs.Codes.{is_read}
 use Rattle.rip_log.specs.Cuts.{DropsFirst, FirstLine, HasLine, IsEndless, LongFirst, PassesLines}
-use Rattle.rip_log.specs.Said.{AllSaid, Said, bad, all_of, many_lines, onto_said, said_at, said_in, with_said}
+use Rattle.rip_log.specs.Said.{AllSaid, Said, SameSaid, bad, all_of, many_lines, onto_said, said_at, said_in, with_said}
 use Rattle.rip_log.specs.NextLineCall.{BeginsEndless, GivesLine, IsUnread}
 use Rattle.rip_log.specs.Lines.{Capture, lines_of, judge}
 use Rattle.rip_log.specs.Logs.{IfElse}
@@ -15,7 +15,7 @@ use Rattle.rip_log.specs.declared.error.LogCode.TheVariants.{LongLine}
 use Rattle.rip_log.specs.declared.error.LogError.{LogError}
 use Rattle.rip_log.proofs.CarryLemmas.{first-kept}
 use Rattle.rip_log.proofs.JudgeLemmas.{judge-long}
-use Rattle.rip_log.proofs.StepLemmas.{else-holds, then-holds}
+use Rattle.rip_log.proofs.CodeLemmas.{else-holds, then-holds}
 
 lt-leb_false : (a b : ℕ) → b < a → leb a b ≡ false
 lt-leb_false a b h = grind arith
@@ -28,11 +28,6 @@ first-said n line rest judged few e = rw (lt-leb_false 1000000 n few) (ap (λ j.
 pub many-said : (n : ℕ) (line : List ℕ) (rest : List (List ℕ)) → 1000000 ≤ n → all_of n (line ∷ rest) ≡ many_lines
 many-said n line rest many = rw (le-leb 1000000 n many)
 
--- nothing was taken off what is to be said, where it is modelled
-abbrev pub SameSaid : Option AllSaid → Option AllSaid → Type 0
-SameSaid None new = Unit {0}
-SameSaid (Some all) new = new ≡ Some all
-
 pub SameSaid-here : (a : Option AllSaid) → SameSaid a a
 SameSaid-here None = tt
 SameSaid-here (Some all) = refl
@@ -41,6 +36,11 @@ pub SameSaid-trans : (a b c : Option AllSaid) → SameSaid a b → SameSaid b c 
 SameSaid-trans None b c first second = tt
 SameSaid-trans (Some all) None c first second = cc first
 SameSaid-trans (Some all) (Some other) c first second = second ∙ first
+
+pub SameSaid-kept : (t mid : Option (List ℕ)) (n after : ℕ) → Keeps t mid → after ≡ n → SameSaid (said_at n t) (said_at after mid)
+SameSaid-kept None mid n after keeps same = tt
+SameSaid-kept (Some t) None n after keeps same = absurd keeps
+SameSaid-kept (Some t) (Some m) n after keeps same = ap (λ (k : ℕ). Some (all_of k (lines_of m))) same ∙ ap (λ (l : List ℕ). Some (all_of n (lines_of l))) keeps
 
 -- a line that says nothing
 pub SameSaid-skip : (t new : Option (List ℕ)) (n after : ℕ) → n < 1000000 → TakesLine t new (Ok None) → after ≡ n + 1 → SameSaid (said_at n t) (said_at after new)
@@ -66,10 +66,12 @@ module _ {X : Type 0} (view : X → Said) (number : X → ℕ) where
   pub GivesLine-end : (t mid : Option (List ℕ)) (n after : ℕ) → Keeps t mid → HasLine mid false → after ≡ n → GivesLine view number (said_at n t) (said_at after mid) (Ok None)
   GivesLine-end None mid n after keeps none same = tt
   GivesLine-end (Some t) None n after keeps none same = absurd keeps
-  GivesLine-end (Some t) (Some m) n after keeps none same = (ap (λ (l : List ℕ). all_of n (lines_of l)) (sym keeps ∙ none), ap (λ (l : List ℕ). Some (all_of after (lines_of l))) none)
+  GivesLine-end (Some t) (Some m) n after keeps none same =
+      (ap (λ (l : List ℕ). all_of n (lines_of l)) (sym keeps ∙ none), ap (λ (l : List ℕ). Some (all_of after (lines_of l))) none)
 
   -- a line says something
-  pub GivesLine-found : (t new : Option (List ℕ)) (n after : ℕ) (line : List ℕ) (judged : Result (Option Capture) LogCode) (x : X) → n < 1000000 → judge line ≡ judged → said_in line judged ≡ Some (view x)
+  pub GivesLine-found : (t new : Option (List ℕ)) (n after : ℕ) (line : List ℕ) (judged : Result (Option Capture) LogCode) (x : X) → n < 1000000
+      → judge line ≡ judged → said_in line judged ≡ Some (view x)
       → FirstLine t new line → after ≡ n + 1 → number x ≡ after → GivesLine view number (said_at n t) (said_at after new) (Ok (Some x))
   GivesLine-found None new n after line judged x few e says cut count num = tt
   GivesLine-found (Some t) None n after line judged x few e says cut count num = absurd cut
@@ -100,12 +102,14 @@ module _ {X : Type 0} (view : X → Said) (number : X → ℕ) where
   GivesLine-unread None left e read = tt
   GivesLine-unread (Some all) left e read = then-holds _ _ (is_read e.code) read tt
 
-  failed-by : (t m : Option (List ℕ)) (left : Option AllSaid) (n : ℕ) (e : LogError) (x : Bool) → is_read e.code ≡ x → IfElse x (Keeps t m) (IsPastLast t m n e.code) → GivesLine view number (said_at n t) left (Err e)
+  failed-by : (t m : Option (List ℕ)) (left : Option AllSaid) (n : ℕ) (e : LogError) (x : Bool) → is_read e.code ≡ x
+      → IfElse x (Keeps t m) (IsPastLast t m n e.code) → GivesLine view number (said_at n t) left (Err e)
   failed-by t m left n e true read says = GivesLine-unread (said_at n t) left e read
   failed-by t m left n e false read says = many t m left n e read says
 
   -- the source failed, or there is a line too many
-  pub GivesLine-failed : (t m : Option (List ℕ)) (left : Option AllSaid) (n : ℕ) (e : LogError) → IfElse (is_read e.code) (Keeps t m) (IsPastLast t m n e.code) → GivesLine view number (said_at n t) left (Err e)
+  pub GivesLine-failed : (t m : Option (List ℕ)) (left : Option AllSaid) (n : ℕ) (e : LogError)
+      → IfElse (is_read e.code) (Keeps t m) (IsPastLast t m n e.code) → GivesLine view number (said_at n t) left (Err e)
   GivesLine-failed t m left n e says = failed-by t m left n e (is_read e.code) refl says
 
 endless-first : (t m : List ℕ) → Keeps (Some t) (Some m) → IsEndless (Some m) → BeginsEndless (lines_of t)
@@ -116,7 +120,8 @@ why t m failed keeps (inl e) = inl e
 why t m failed keeps (inr is) = inr (endless-first t m keeps is)
 
 -- a line could not be read
-pub unread : (t mid now : Option (List ℕ)) (n between after : ℕ) (failed : Bool) → PassesLines t n mid between → SameSaid (said_at n t) (said_at between mid) → Keeps mid now → after ≡ between
+pub unread : (t mid now : Option (List ℕ)) (n between after : ℕ) (failed : Bool) → PassesLines t n mid between
+    → SameSaid (said_at n t) (said_at between mid) → Keeps mid now → after ≡ between
     → (failed ≡ true) ⊎ IsEndless now → IsUnread t n after failed
 unread None mid now n between after failed passes same keeps count how = tt
 unread (Some t) None now n between after failed passes same keeps count how = absurd passes

@@ -1,11 +1,11 @@
--- The line that `next_line` found, good or bad.
+-- The line that was found, good or bad.
 use Rattle.std.specs.Prelude.{None}
 use Rattle.rip_log.specs.Said.{Said, captured, bad}
 use Rattle.rip_log.specs.Steps.{IsGood, IsGoodFault, capture_at, origin_found}
 use Rattle.rip_log.specs.declared.error.LogCode.TheVariants.{LongLine}
 use Rattle.rip_log.specs.declared.reader.LogReader.{LogReader}
-use Rattle.rip_log.specs.declared.reader.lines.FoundLine.{FoundLine}
-use Rattle.rip_log.specs.declared.reader.lines.FoundLine.TheVariants.{Record, Bad, Long}
+use Rattle.rip_log.specs.declared.reader.FoundLine.{FoundLine}
+use Rattle.rip_log.specs.declared.reader.FoundLine.TheVariants.{Record, Bad, Long}
 
 -- what the line says
 abbrev pub said_found : {R : Type 0} → LogReader R → FoundLine → Said

@@ -1,3 +1,4 @@
+pub mod Advances
 pub mod Codes
 pub mod Cuts
 pub mod Ends

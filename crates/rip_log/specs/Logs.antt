@@ -53,8 +53,8 @@ abbrev pub IfElse : Bool → Type 0 → Type 0 → Type 0
 IfElse true p q = p
 IfElse false p q = q
 
--- what a call takes off a log, where it is modelled: its first record, or its end or fault, or nothing
--- where the source failed
+-- what a call takes off a log, where it is modelled: its first record, or its end or fault, or
+-- nothing where the source failed
 abbrev pub Gives : {X : Type 0} → (X → Capture) → (X → ℕ) → Option Log → Option Log →
     Result (Option X) LogError → Type 0
 Gives view number None new result = Unit {0}
@@ -64,8 +64,3 @@ Gives view number (Some log) new (Ok (Some x)) =
     × (log ≡ onto_log (record { line = number x; capture = view x }) rest)
 Gives view number (Some log) new (Err e) =
     IfElse (is_read e.code) (new ≡ Some log) (log ≡ faulty_log e)
-
--- nothing was taken off a log, where it is modelled
-abbrev pub SameLog : Option Log → Option Log → Type 0
-SameLog None new = Unit {0}
-SameLog (Some log) new = new ≡ Some log

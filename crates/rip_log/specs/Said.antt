@@ -6,10 +6,10 @@ use Rattle.std.specs.Io.BufRead.{strip_last}
 use Rattle.rip_wire.specs.Address.{address_in}
 use Rattle.rip_log.specs.Fields.{fields_of}
 use Rattle.rip_log.specs.Lines.{Capture, lines_of, judge}
-use Rattle.rip_log.specs.Logs.{Numbered}
+use Rattle.rip_log.specs.Logs.{Log, Numbered, ended_log, faulty_log, onto_log}
 use Rattle.rip_log.specs.LogText.{AreLines, HasSender, IsBad, IsRecord, IsSkipped}
 use Rattle.rip_log.specs.declared.error.LogCode.{LogCode}
-use Rattle.rip_log.specs.declared.error.LogCode.TheVariants.{LongDatagram, Wire}
+use Rattle.rip_log.specs.declared.error.LogCode.TheVariants.{LongDatagram, TooManyLines, Wire}
 use Rattle.rip_log.specs.declared.limits.TheConstants.{MOST_LINES}
 
 -- where a datagram came from: the link's name and the number of the sender's address
@@ -28,7 +28,7 @@ pub record SaidAt : Type 0 where
   pub line : ℕ
   pub said : Said
 
--- what the lines of a text say, in order, skipped ones left out, and whether there are too many lines
+-- what the lines of a text say, in order, skipped ones left out, and whether there are too many
 pub record AllSaid : Type 0 where
   pub said : List SaidAt
   pub too_many : Bool
@@ -141,3 +141,23 @@ abbrev pub captured_all : List Numbered → List SaidAt
 captured_all [] = []
 captured_all (r ∷ records) =
     (record { line = r.line; said = captured r.capture }) ∷ captured_all records
+
+-- nothing was taken off what is to be said, where it is modelled
+abbrev pub SameSaid : Option AllSaid → Option AllSaid → Type 0
+SameSaid None new = Unit {0}
+SameSaid (Some all) new = new ≡ Some all
+
+-- what a line says, in front of the log of those after it
+abbrev pub log_from : ℕ → Said → Log → Log
+log_from line (captured capture) later = onto_log (record { line = line; capture = capture }) later
+log_from line (bad code origin) later = faulty_log (record { line = line; code = code })
+
+-- the log of lines that say this: the records up to the first bad line, or to one line too many
+abbrev pub log_up_to : List SaidAt → Bool → Log
+log_up_to [] false = ended_log
+log_up_to [] true = faulty_log (record { line = MOST_LINES + 1; code = TooManyLines })
+log_up_to (s ∷ said) too_many = log_from s.line s.said (log_up_to said too_many)
+
+-- the log of all that is said
+abbrev pub log_said : AllSaid → Log
+log_said all = log_up_to all.said all.too_many

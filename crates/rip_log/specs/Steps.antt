@@ -17,10 +17,12 @@ use Rattle.rip_log.specs.declared.error.LogCode.TheVariants.{Read, TooManyLines}
 use Rattle.rip_log.specs.declared.error.LogError.{LogError}
 use Rattle.rip_log.specs.declared.limits.TheConstants.{MOST_LINES}
 use Rattle.rip_log.specs.declared.reader.FoundFault.{FoundFault}
+use Rattle.rip_log.specs.declared.reader.FoundLine.{FoundLine}
+use Rattle.rip_log.specs.declared.reader.FoundLine.TheVariants.{Record, Bad, Long}
 use Rattle.rip_log.specs.declared.reader.FoundRecord.{FoundRecord}
 use Rattle.rip_log.specs.declared.reader.LogReader.{LogReader}
 use Rattle.rip_log.specs.declared.reader.Step.{Step}
-use Rattle.rip_log.specs.declared.reader.Step.TheVariants.{Skipped, Found, Bad, Long, End}
+use Rattle.rip_log.specs.declared.reader.Step.TheVariants.{Skipped, Next}
 
 -- the line of the record
 abbrev pub line_at : {R : Type 0} → LogReader R → FoundRecord → List ℕ
@@ -64,32 +66,43 @@ abbrev pub IsPastLast : Option (List ℕ) → Option (List ℕ) → ℕ → LogC
 IsPastLast old new n code =
     Keeps old new × HasLine new true × (MOST_LINES ≤ n) × (code ≡ TooManyLines)
 
--- what a step does to the text to come: a line was taken off it, or is too long and still there; or
--- there is none, or the source failed, or there are too many
+-- the next line of known text, of which n others come before: a record or a bad line was taken off
+-- it, or one that is too long is still there; or there is none, the source failed, or there are too
+-- many
+abbrev pub NextSays : {R : Type 0} → Option (List ℕ) → ℕ → Option (List ℕ) → LogReader R →
+    Result (Option FoundLine) LogError → Type 0
+NextSays old n left new (Ok (Some (Record found))) =
+    TakesLine old left (Ok (Some (capture_at new found)))
+NextSays old n left new (Ok (Some (Bad found))) =
+    TakesBad old left found.fault.code (origin_found new found)
+NextSays old n left new (Ok (Some Long)) = LongFirst old × Keeps old left
+NextSays old n left new (Ok None) = Keeps old left × HasLine left false
+NextSays old n left new (Err e) =
+    IfElse (is_read e.code) (Keeps old left) (IsPastLast old left n e.code)
+
+-- a line that was found lies in the reader, and an error is one of these
+abbrev pub NextIsGood : {R : Type 0} → LogReader R → Result (Option FoundLine) LogError → Type 0
+NextIsGood new (Ok (Some (Record found))) = IsGood new found
+NextIsGood new (Ok (Some (Bad found))) = IsGoodFault new found
+NextIsGood new (Ok (Some Long)) = 0 < length (held new.window)
+NextIsGood new (Ok None) = Unit {0}
+NextIsGood new (Err e) =
+    (e.code ≡ Read) ⊎ ((e.code ≡ TooManyLines) × (e.line ≡ MOST_LINES + 1))
+
+-- what a step does to the text to come: it takes off a line that says nothing, or comes to the next
 abbrev pub LineSays : {R : Type 0} → (R → Option (List ℕ)) →
     LogReader R → LogReader R → Result Step LogError → Type 0
 LineSays coming old new (Ok Skipped) = TakesLine (text coming old) (text coming new) (Ok None)
-LineSays coming old new (Ok (Found found)) =
-    TakesLine (text coming old) (text coming new) (Ok (Some (capture_at new found)))
-LineSays coming old new (Ok (Bad found)) =
-    TakesBad (text coming old) (text coming new) found.fault.code (origin_found new found)
-LineSays coming old new (Ok Long) =
-    LongFirst (text coming old) × Keeps (text coming old) (text coming new)
-LineSays coming old new (Ok End) =
-    Keeps (text coming old) (text coming new) × HasLine (text coming new) false
+LineSays coming old new (Ok (Next next)) =
+    NextSays (text coming old) (lines_behind old) (text coming new) new (Ok next)
 LineSays coming old new (Err e) =
-    IfElse (is_read e.code) (Keeps (text coming old) (text coming new))
-    (IsPastLast (text coming old) (text coming new) (lines_behind old) e.code)
+    NextSays (text coming old) (lines_behind old) (text coming new) new (Err e)
 
--- a line that was found lies in the reader, and an error is one of these
+-- what a step found lies in the reader
 abbrev pub FoundIsGood : {R : Type 0} → LogReader R → Result Step LogError → Type 0
 FoundIsGood new (Ok Skipped) = Unit {0}
-FoundIsGood new (Ok (Found found)) = IsGood new found
-FoundIsGood new (Ok (Bad found)) = IsGoodFault new found
-FoundIsGood new (Ok Long) = 0 < length (held new.window)
-FoundIsGood new (Ok End) = Unit {0}
-FoundIsGood new (Err e) =
-    (e.code ≡ Read) ⊎ ((e.code ≡ TooManyLines) × (e.line ≡ MOST_LINES + 1))
+FoundIsGood new (Ok (Next next)) = NextIsGood new (Ok next)
+FoundIsGood new (Err e) = NextIsGood new (Err e)
 
 -- how a line moves a reader on
 pub record Moves {R A : Type 0} (given : R → List ℕ) (coming : R → Option (List ℕ))
@@ -105,44 +118,67 @@ pub record Moves {R A : Type 0} (given : R → List ℕ) (coming : R → Option 
   -- past its end the source stays as it is
   pub unpulled : at_end (source_of old) ≡ true → source_of new ≡ source_of old
 
+-- how many lines are counted with what was found: one that is bad or too long not yet
+abbrev pub lines_counted : Result (Option FoundLine) LogError → ℕ
+lines_counted (Ok (Some (Record found))) = 1
+lines_counted (Ok (Some (Bad found))) = 0
+lines_counted (Ok (Some Long)) = 0
+lines_counted (Ok None) = 0
+lines_counted (Err e) = 0
+
 -- how many lines a step counts
 abbrev pub lines_taken : Result Step LogError → ℕ
 lines_taken (Ok Skipped) = 1
-lines_taken (Ok (Found found)) = 1
-lines_taken (Ok (Bad found)) = 0
-lines_taken (Ok Long) = 0
-lines_taken (Ok End) = 0
+lines_taken (Ok (Next next)) = lines_counted (Ok next)
 lines_taken (Err e) = 0
+
+-- there is a line that says something
+abbrev pub is_found : Result (Option FoundLine) LogError → Bool
+is_found (Ok (Some found)) = true
+is_found (Ok None) = false
+is_found (Err e) = false
 
 -- a step came to a line that is read
 abbrev pub is_line : Result Step LogError → Bool
 is_line (Ok Skipped) = true
-is_line (Ok (Found found)) = true
-is_line (Ok (Bad found)) = true
-is_line (Ok Long) = true
-is_line (Ok End) = false
+is_line (Ok (Next next)) = is_found (Ok next)
 is_line (Err e) = false
 
--- where a line was ready it was taken, or it is bad, and the others are ready still
+-- where the next line was ready it was taken, or it is bad, and the others are ready still
+abbrev pub TakesNext : {R : Type 0} → LogReader R → LogReader R →
+    Result (Option FoundLine) LogError → Type 0
+TakesNext old new (Ok (Some (Record found))) = last_ready new ≡ last_ready old
+TakesNext old new (Ok (Some (Bad found))) = Unit {0}
+TakesNext old new (Ok (Some Long)) = Unit {0}
+TakesNext old new (Ok None) = ⊥
+TakesNext old new (Err e) = Unit {0}
+
+-- the same of the line that a step takes
 abbrev pub TakesOne : {R : Type 0} → LogReader R → LogReader R → Result Step LogError → Type 0
 TakesOne old new (Ok Skipped) = last_ready new ≡ last_ready old
-TakesOne old new (Ok (Found found)) = last_ready new ≡ last_ready old
-TakesOne old new (Ok (Bad found)) = Unit {0}
-TakesOne old new (Ok Long) = Unit {0}
-TakesOne old new (Ok End) = ⊥
+TakesOne old new (Ok (Next next)) = TakesNext old new (Ok next)
 TakesOne old new (Err e) = Unit {0}
 
--- where a line feed ends a line it was taken, or it is too long, and the others are there still
+-- where a line feed ends the next line it was taken, or it is too long, and the others are there
+-- still
+abbrev pub TakesNextEnded : {R : Type 0} → LogReader R → LogReader R →
+    Result (Option FoundLine) LogError → Type 0
+TakesNextEnded old new (Ok (Some (Record found))) = last_ended new ≡ last_ended old
+TakesNextEnded old new (Ok (Some (Bad found))) = last_ended new + 1 ≡ last_ended old
+TakesNextEnded old new (Ok (Some Long)) =
+    (last_ended new ≡ last_ended old) × (0 < ended_lines (held new.window))
+TakesNextEnded old new (Ok None) = ⊥
+TakesNextEnded old new (Err e) = Unit {0}
+
+-- the same of the line that a step takes
 abbrev pub TakesOneEnded : {R : Type 0} → LogReader R → LogReader R → Result Step LogError → Type 0
 TakesOneEnded old new (Ok Skipped) = last_ended new ≡ last_ended old
-TakesOneEnded old new (Ok (Found found)) = last_ended new ≡ last_ended old
-TakesOneEnded old new (Ok (Bad found)) = last_ended new + 1 ≡ last_ended old
-TakesOneEnded old new (Ok Long) = held new.window ≡ held old.window
-TakesOneEnded old new (Ok End) = ⊥
+TakesOneEnded old new (Ok (Next next)) = TakesNextEnded old new (Ok next)
 TakesOneEnded old new (Err e) = Unit {0}
 
 -- how a step moves on, and that it leaves the source as it is where a line is ready
-pub record StepsOn {R : Type 0} (old new : LogReader R) (result : Result Step LogError) : Type 0 where
+pub record StepsOn {R : Type 0} (old new : LogReader R)
+    (result : Result Step LogError) : Type 0 where
   pub behind : lines_behind new ≡ lines_behind old + lines_taken result
   pub few : is_line result ≡ true → lines_behind old < MOST_LINES
   pub unpulled : 0 < ready_lines (held old.window) → source_of new ≡ source_of old

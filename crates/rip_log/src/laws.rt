@@ -2,9 +2,10 @@
 //! every log.
 
 ghost use Rattle.std.specs.Prelude.{◌≡◌, ◌⊎◌, ◌↔◌, ◌+◌, ◌^◌, ◌≤◌, ℕ, List, [], ◌∷◌, ◌++◌, length, Option, Some, None, Result, Ok, Err, false, true};
+ghost use Rattle.std.specs.Option.{option_map};
 ghost use Rattle.rip_log.specs.Codes.{is_read};
 ghost use Rattle.rip_log.specs.Cuts.{PassesLines};
-ghost use Rattle.rip_log.specs.Said.{AllSaid, AreAllSaid, HasNoFault, all_said, captured_all, said_at};
+ghost use Rattle.rip_log.specs.Said.{AllSaid, AreAllSaid, HasNoFault, all_said, captured_all, log_said, said_at};
 ghost use Rattle.rip_log.specs.NextCall.{capture_of, line_of};
 ghost use Rattle.rip_log.specs.Lines.{Capture, judge};
 ghost use Rattle.rip_log.specs.Logs.{Gives, Log, Numbered, log_at, log_in};
@@ -56,6 +57,12 @@ pub fn said_lines()
     judged_lines();
     laws::address_texts();
 }
+
+/// A log is what its lines say, up to the first that is bad.
+pub fn logs_said()
+    ensures { (n : ℕ) (text : Option (List ℕ)) → n ≤ MOST_LINES →
+        log_at n text ≡ option_map log_said (said_at n text) }
+{}
 
 /// Lines say records alone, and are not too many, exactly where they are a log without a fault, and
 /// then its records.

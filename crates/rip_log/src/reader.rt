@@ -1,6 +1,6 @@
 //! The records of a log, one after the other.
 
-ghost use Rattle.std.specs.Prelude.{◌≡◌, ◌≢◌, ◌+◌, ◌≤◌, ◌<◌, ℕ, List, Option, true, false, length, IfErr, IfOk, IfSome};
+ghost use Rattle.std.specs.Prelude.{◌≡◌, ◌≢◌, ◌+◌, ◌≤◌, ◌<◌, ℕ, List, Option, None, true, false, length, IfErr, IfOk, IfSome};
 ghost use Rattle.std.specs.Borrow.{sem};
 ghost use Rattle.std.specs.Io.BufRead.{Rests};
 ghost use Rattle.rip_wire.specs.Name.{is_name};
@@ -57,15 +57,20 @@ struct FoundFault {
     fault: Fault,
 }
 
-/// What a line says: nothing, a record, that it is bad, or that it is too long and not yet skipped; or
-/// that there is none.
+/// Where a line that says something lies in the window's buffer; of one that is too long nothing is
+/// held.
+#[derive(Clone, Copy)]
+enum FoundLine {
+    Record(FoundRecord),
+    Bad(FoundFault),
+    Long,
+}
+
+/// What a step comes to: a line that says nothing, or the next that says something, or the end.
 #[derive(Clone, Copy)]
 enum Step {
     Skipped,
-    Found(FoundRecord),
-    Bad(FoundFault),
-    Long,
-    End,
+    Next(Option<FoundLine>),
 }
 
 /// How many lines are behind, and whether an error was answered.
@@ -97,8 +102,9 @@ pub struct LogReader<R> {
 
 impl<R: Source> LogReader<R> {
     ghost use Rattle.rip_log.specs.contracts.reader.LogReader.{the_row};
-    ghost use Rattle.rip_log.specs.NextCall.{IsOver, NextCall, capture_of, has_stopped, line_of, lines_behind, log_to_come, source_of, text};
+    ghost use Rattle.rip_log.specs.NextCall.{Answers, IsOver, KeepsMarks, NextCall, Pulls, capture_of, has_stopped, line_of, lines_behind, log_to_come, source_of, text};
     ghost use Rattle.rip_log.specs.Logs.{log_in};
+    ghost use Rattle.rip_log.specs.Advances.{Advances};
     ghost use Rattle.rip_log.specs.Steps.{FoundIsGood, IsGood, LineSays, Moves, StepsOn, capture_at};
     ghost use Rattle.rip_log.specs.Held.{held};
     ghost use Rattle.rip_log.specs.Wholes.{OfWhole};
@@ -128,22 +134,22 @@ impl<R: Source> LogReader<R> {
         ensures good { FoundIsGood self.new result }
         ensures moves { Moves R.given R.coming R.broken R.at_end self.old self.new result }
         ensures steps { StepsOn self.old self.new result }
-        ensures some { result ≢ Ok Step.End }
+        ensures some { result ≢ Ok (Step.Next None) }
     {
         let line = match self.window.take_line() {
             Err(Failed) => return Err(self.stop(LogCode::Read)),
-            Ok(RawLine::Long) => return Ok(Step::Long),
+            Ok(RawLine::Long) => return Ok(Step::Next(Some(FoundLine::Long))),
             Ok(RawLine::Line(line)) => line,
         };
         match judge_line(self.window.range(line), &mut self.room) {
-            Err(fault) => Ok(Step::Bad(FoundFault { line, fault })),
+            Err(fault) => Ok(Step::Next(Some(FoundLine::Bad(FoundFault { line, fault })))),
             Ok(None) => {
                 self.progress.lines += 1;
                 Ok(Step::Skipped)
             }
             Ok(Some(parts)) => {
                 self.progress.lines += 1;
-                Ok(Step::Found(FoundRecord { line, parts }))
+                Ok(Step::Next(Some(FoundLine::Record(FoundRecord { line, parts }))))
             }
         }
     }
@@ -156,12 +162,12 @@ impl<R: Source> LogReader<R> {
         ensures good { FoundIsGood self.new result }
         ensures moves { Moves R.given R.coming R.broken R.at_end self.old self.new result }
         ensures steps { StepsOn self.old self.new result }
-        ensures over { result ≡ Ok Step.End → IsOver R.at_end self.new }
-        ensures stays_over { IsOver R.at_end self.old → result ≡ Ok Step.End }
+        ensures over { result ≡ Ok (Step.Next None) → IsOver R.at_end self.new }
+        ensures stays_over { IsOver R.at_end self.old → result ≡ Ok (Step.Next None) }
     {
         match self.window.has_line() {
             Err(Failed) => return Err(self.stop(LogCode::Read)),
-            Ok(false) => return Ok(Step::End),
+            Ok(false) => return Ok(Step::Next(None)),
             Ok(true) => {}
         }
         if self.progress.lines >= MOST_LINES {
@@ -170,25 +176,39 @@ impl<R: Source> LogReader<R> {
         self.read_line()
     }
 
-    /// Reads up to the next record, and says where it lies.
-    #[tactic(auto, using(crate::proofs::PassLemmas::passes_trans))]
-    fn advance(&mut self) -> Result<Option<FoundRecord>, LogError>
-        ensures leaves { NextCall R.given R.coming R.broken R.at_end
-            (capture_at self.new) (λ _. lines_behind self.new) self.old self.new result }
+    /// Reads up to the next line that says something, and says where it lies. A bad line is not yet
+    /// behind, and one that is too long not yet skipped.
+    fn advance(&mut self) -> Result<Option<FoundLine>, LogError>
+        requires { has_stopped self.old ≡ false }
+        ensures comes { Advances R.given R.coming R.broken R.at_end self.old self.new result }
+    {
+        'lines: loop {
+            match self.step() {
+                Ok(Step::Skipped) => {}
+                Ok(Step::Next(next)) => return Ok(next),
+                Err(error) => return Err(error),
+            }
+        }
+    }
+
+    /// Reads up to the next record, and says where it lies. A bad line ends the reading.
+    fn advance_record(&mut self) -> Result<Option<FoundRecord>, LogError>
+        ensures answers { Answers R.given R.at_end (capture_at self.new)
+            (λ _. lines_behind self.new) self.old self.new result }
+        ensures marks { KeepsMarks R.broken R.at_end self.old self.new result }
+        ensures pulls { Pulls R.given R.coming R.at_end (λ _. lines_behind self.new)
+            self.old self.new result }
         ensures good { IfOk result (λ found. IfSome found (IsGood self.new)) }
     {
         if self.progress.is_stopped {
             return Err(self.stop(LogCode::Ended));
         }
-        'lines: loop {
-            match self.step() {
-                Ok(Step::Skipped) => {}
-                Ok(Step::Found(found)) => return Ok(Some(found)),
-                Ok(Step::Bad(found)) => return Err(self.stop(found.fault.code)),
-                Ok(Step::Long) => return Err(self.stop(LogCode::LongLine)),
-                Ok(Step::End) => return Ok(None),
-                Err(error) => return Err(error),
-            }
+        match self.advance() {
+            Ok(Some(FoundLine::Record(found))) => Ok(Some(found)),
+            Ok(Some(FoundLine::Bad(found))) => Err(self.stop(found.fault.code)),
+            Ok(Some(FoundLine::Long)) => Err(self.stop(LogCode::LongLine)),
+            Ok(None) => Ok(None),
+            Err(error) => Err(error),
         }
     }
 
@@ -247,7 +267,7 @@ impl<R: Source> LogReader<R> {
         ensures* leaves { sem 𝓛 (Rests (the_row R.row) self.entry (λ new.
             NextCall R.given R.coming R.broken R.at_end capture_of line_of self.old new result)) }
     {
-        match self.advance() {
+        match self.advance_record() {
             Err(error) => Err(error),
             Ok(None) => Ok(None),
             Ok(Some(found)) => Ok(Some(self.record(found))),

@@ -29,3 +29,4 @@ mod CountLemmas
 pub mod TallyLemmas
 pub mod StrangerLemmas
 pub mod TalliedLemmas
+pub mod FirstLemmas

@@ -10,3 +10,4 @@ pub mod Events
 pub mod CollectsAll
 pub mod Examples
 pub mod Tallies
+pub mod Firsts

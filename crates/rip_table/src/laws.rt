@@ -1,7 +1,7 @@
 //! Laws of the definitions alone: functions that do nothing, whose contracts hold of every plan and
 //! every log.
 
-ghost use Rattle.std.specs.Prelude.{◌≡◌, ◌≢◌, ◌↔◌, ℕ, true, List, [], ◌∷◌, ◌++◌, Option, None, Some, Ok, Err, slice_get};
+ghost use Rattle.std.specs.Prelude.{◌≡◌, ◌≢◌, ◌≤◌, ◌↔◌, ℕ, true, List, [], ◌∷◌, ◌++◌, Option, None, Some, Ok, Err, slice_get};
 ghost use Rattle.rip_wire.specs.Message.{request, response, message_in};
 ghost use Rattle.rip_wire.specs.declared.entry.Entry.{Entry};
 ghost use Rattle.rip_plan.specs.Network.{Network, found_at};
@@ -9,9 +9,11 @@ ghost use Rattle.rip_plan.specs.Relations.{IsAt, IsLawful};
 ghost use Rattle.rip_log.specs.Lines.{Capture};
 ghost use Rattle.rip_log.specs.Said.{AllSaid, SaidAt, said_at};
 ghost use Rattle.rip_log.specs.Logs.{Log, Numbered, log_at};
+ghost use Rattle.rip_log.specs.declared.limits.TheConstants.{MOST_LINES};
 ghost use Rattle.rip_table.specs.State.{Fits, IsState, State, new_state};
 ghost use Rattle.rip_table.specs.Joined.{brings_pair, joined_capture, joined_entries, joined_message, joined_records, outcome, refused_at};
 ghost use Rattle.rip_table.specs.Events.{AreCalm, ComeTo, EventAt, all_events, events_of, state_after};
+ghost use Rattle.rip_table.specs.Firsts.{IsUpToRefusal};
 ghost use Rattle.rip_table.specs.Tallies.{counts_of};
 ghost use Rattle.rip_table.specs.LogJoin.{AreJoined, HasBadEntry, IsFirstRefused, IsJoin, IsJoined, IsListed, IsOutcome, IsResponse};
 ghost use Rattle.rip_table.specs.declared.error.CollectCause.{CollectCause};
@@ -112,6 +114,16 @@ pub fn calm_counts()
         ↔ (((counts_of events).refused ≡ 0) × ((counts_of events).strangers ≡ 0)
         × ((counts_of events).bad ≡ 0)) }
 {}
+
+/// A log is refused by the first event of its lines that refuses, and the table is then the one that
+/// the lines before it leave. So the reading that ends there and the one that goes on agree up to it.
+pub fn first_refusals()
+    ensures { (n : Network) (old : State) (k : ℕ) (text : List ℕ) (log : Log) (all : AllSaid) →
+        k ≤ MOST_LINES → log_at k (Some text) ≡ Some log → said_at k (Some text) ≡ Some all →
+        IsUpToRefusal n old all (outcome n old log).state (outcome n old log).fault }
+{
+    rip_log::laws::logs_said();
+}
 
 /// A response of an interface is refused exactly by its first bad entry.
 pub fn refused_responses()

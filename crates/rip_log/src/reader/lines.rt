@@ -6,7 +6,7 @@ ghost use Rattle.std.specs.Borrow.{sem};
 ghost use Rattle.std.specs.Io.BufRead.{Rests};
 ghost use Rattle.rip_log.specs.declared.limits.TheConstants.{MOST_LINES};
 
-use super::{FoundFault, FoundRecord, LogReader, Record, Step, name_text};
+use super::{FoundFault, FoundLine, LogReader, Record, name_text};
 use crate::device::Failed;
 use crate::error::{LogCode, LogError};
 use crate::source::Source;
@@ -52,20 +52,12 @@ pub enum Line<'a> {
     Bad(BadLine<'a>),
 }
 
-/// Where a line lies in the window's buffer; of one that is too long nothing is held.
-#[derive(Clone, Copy)]
-enum FoundLine {
-    Record(FoundRecord),
-    Bad(FoundFault),
-    Long,
-}
-
 impl<R: Source> LogReader<R> {
     ghost use Rattle.rip_log.specs.contracts.reader.LogReader.{the_row};
     ghost use Rattle.rip_log.specs.Cuts.{DropsFirst, IsEndless};
     ghost use Rattle.rip_log.specs.Held.{ended_lines, held};
     ghost use Rattle.rip_log.specs.NextCall.{has_stopped, lines_behind, source_of, text};
-    ghost use Rattle.rip_log.specs.NextLineCall.{NextLineCall, last_ended, number_of, origin_lent, said_of};
+    ghost use Rattle.rip_log.specs.NextLineCall.{AnswersLine, KeepsLineMarks, NextLineCall, PullsLine, last_ended, number_of, origin_lent, said_of};
     ghost use Rattle.rip_log.specs.FoundLines.{IsGoodLine, said_found};
     ghost use Rattle.rip_log.specs.Steps.{IsGoodFault, origin_found};
     ghost use Rattle.rip_log.specs.Wholes.{OfWhole, Went};
@@ -104,28 +96,28 @@ impl<R: Source> LogReader<R> {
 
     /// Reads up to the next line that says something, good or bad, and says where it lies.
     fn advance_line(&mut self) -> Result<Option<FoundLine>, LogError>
-        ensures leaves { NextLineCall R.given R.coming R.broken R.at_end
-            (said_found self.new) (λ _. lines_behind self.new) self.old self.new result }
+        ensures answers { AnswersLine R.given R.broken R.at_end (said_found self.new)
+            (λ _. lines_behind self.new) self.old self.new result }
+        ensures marks { KeepsLineMarks R.broken R.at_end self.old self.new result }
+        ensures pulls { PullsLine R.given R.coming R.at_end (λ _. lines_behind self.new)
+            self.old self.new result }
         ensures good { IfOk result (λ found. IfSome found (IsGoodLine self.new)) }
     {
         if self.progress.is_stopped {
             return Err(self.stop(LogCode::Ended));
         }
-        'lines: loop {
-            match self.step() {
-                Ok(Step::Skipped) => {}
-                Ok(Step::Found(found)) => return Ok(Some(FoundLine::Record(found))),
-                Ok(Step::Bad(found)) => {
-                    self.progress.lines += 1;
-                    return Ok(Some(FoundLine::Bad(found)));
-                }
-                Ok(Step::Long) => match self.pass_long() {
-                    Ok(()) => return Ok(Some(FoundLine::Long)),
-                    Err(error) => return Err(error),
-                },
-                Ok(Step::End) => return Ok(None),
-                Err(error) => return Err(error),
+        match self.advance() {
+            Ok(Some(FoundLine::Record(found))) => Ok(Some(FoundLine::Record(found))),
+            Ok(Some(FoundLine::Bad(found))) => {
+                self.progress.lines += 1;
+                Ok(Some(FoundLine::Bad(found)))
             }
+            Ok(Some(FoundLine::Long)) => match self.pass_long() {
+                Ok(()) => Ok(Some(FoundLine::Long)),
+                Err(error) => Err(error),
+            },
+            Ok(None) => Ok(None),
+            Err(error) => Err(error),
         }
     }
 

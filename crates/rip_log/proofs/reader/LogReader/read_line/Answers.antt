@@ -3,7 +3,7 @@ use Rattle.rip_log.specs.Said.{origin_of}
 use Rattle.rip_log.specs.Lines.{judge}
 use Rattle.rip_log.specs.Parts.{capture_of_parts, origin_at}
 use Rattle.rip_log.specs.Spans.{slice_of}
-use Rattle.rip_log.proofs.StepLemmas.{not-read}
+use Rattle.rip_log.proofs.CodeLemmas.{not-read}
 use Rattle.rip_log.proofs.reader.LogReader.read_line.Goals as goal
 
 pub returns-in-Ok-Long-clause-says : goal.returns-in-Ok-Long-clause-says
