@@ -1,6 +1,6 @@
 -- Bytes begin with a block, or have a fault there, or are none.
 use Rattle.std.proofs.Common.{◌≡◌, ◌≢◌, ◌+◌, ◌-◌, ◌%◌, ◌<◌, ◌≤◌, ◌⊎◌, ◌∙◌, ℕ, zero, suc, Bool, true, false, List, [], ◌∷◌, ◌++◌, Option, Some, None, length, take, drop, ap, sym, refl, inl, inr, arith, append_assoc}
-use Rattle.std.proofs.lemmas.Bool.{cases_eq, cases_lt, false≢true}
+use Rattle.std.proofs.lemmas.Bool.{cases_Bool, cases_eq, cases_lt, false≢true}
 use Rattle.std.proofs.lemmas.List.{length-append, nil_from_length, take-append-drop}
 use Rattle.std.specs.List.{slice_get}
 use Rattle.std.specs.Prelude.{slice_range}
@@ -31,10 +31,6 @@ use Rattle.rip_capture.specs.declared.numbers.Order.TheVariants.{Big, Little}
 
 -- ---- one or the other
 
-pub true-or-false : (b : Bool) → (b ≡ true) ⊎ (b ≡ false)
-true-or-false true = inl refl
-true-or-false false = inr refl
-
 some-or-none : {A : Type 0} (o : Option A) → ((x : A) × (o ≡ Some x)) ⊎ (o ≡ None)
 some-or-none (Some x) = inl (x, refl)
 some-or-none None = inr refl
@@ -48,7 +44,7 @@ old-or-not kinds.Other = inr (λ e. cc e)
 
 most-cases : (order : Order) (b : List ℕ) → block_len order b % 4 ≡ 0 → least_len (kind_of order b) ≤ block_len order b → HasLength order b ⊎ ¬ HasLength order b
 most-cases order b fours least =
-    elim (true-or-false (is_read_whole (kind_of order b))) [
+    elim (cases_Bool (is_read_whole (kind_of order b))) [
       | inr other ↦ inl (record { fours = fours; least = least; most = λ read. absurd (false≢true (sym other ∙ read)) })
       | inl read ↦
           elim (cases_lt 524288 (block_len order b)) [
@@ -214,7 +210,7 @@ module _ (s : Option Section) (b : List ℕ) (begins : s ≡ None → begins_sec
       elim (cases_lt (length b) (front_len b)) [
         | inl less ↦ inr (codes.Cut, short_front some less refl)
         | inr room ↦
-            elim (true-or-false (begins_section b)) [ inl is ↦ section-cases (omega (arith, room)) is | inr other ↦ other-cases s refl (omega (arith, room)) other ]
+            elim (cases_Bool (begins_section b)) [ inl is ↦ section-cases (omega (arith, room)) is | inr other ↦ other-cases s refl (omega (arith, room)) other ]
       ]
 
 -- ---- blocks, up to their end

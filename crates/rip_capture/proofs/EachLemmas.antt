@@ -1,6 +1,6 @@
 -- Each file is a capture or has a fault.
 use Rattle.std.proofs.Common.{◌≡◌, ◌≢◌, ◌+◌, ◌<◌, ◌≤◌, ◌⊎◌, ◌∙◌, ℕ, zero, suc, true, false, List, [], ◌∷◌, ◌++◌, Option, Some, None, length, take, drop, ap, sym, refl, inl, inr, subst, arith, append_assoc, append-nil}
-use Rattle.std.proofs.lemmas.Bool.{cases_eq, cases_lt, false≢true}
+use Rattle.std.proofs.lemmas.Bool.{cases_Bool, cases_eq, cases_lt, false≢true}
 use Rattle.std.proofs.lemmas.List.{length-drop, nil_from_length, take-append-drop}
 use Rattle.rip_wire.specs.Fields.{number_at}
 use Rattle.rip_capture.specs.Captures.{CaptureFault, FrontFault, HasMagic, IsCapture}
@@ -13,7 +13,7 @@ use Rattle.rip_capture.specs.Pcap.{AreRecords, Frame, IsMagic, IsPcap, IsPcapHea
 use Rattle.rip_capture.specs.Pcap.HeaderFault.{cut as cut_header, version as bad_version, link_type as bad_type}
 use Rattle.rip_capture.specs.Pcap.RecordFault.{header as short_record, long as long_record, packet as cut_record}
 use Rattle.rip_capture.specs.Pcapng.{AreBlocks, Section, begins_section}
-use Rattle.rip_capture.proofs.EachBlockLemmas.{last-section, true-or-false, walk-blocks}
+use Rattle.rip_capture.proofs.EachBlockLemmas.{last-section, walk-blocks}
 use Rattle.rip_capture.proofs.LinkLemmas.{type-cases}
 use Rattle.rip_capture.proofs.PcapngLemmas.{StopsAtBlock}
 use Rattle.rip_capture.proofs.PcapLemmas.{header-front, record-of}
@@ -180,7 +180,7 @@ each b =
     elim (cases_lt (length b) 4) [
       | inl less ↦ inr (front-faulty b codes.Cut (too_short less refl))
       | inr begun ↦
-          elim (true-or-false (begins_section b)) [
+          elim (cases_Bool (begins_section b)) [
             | inl begins ↦ behind-section b (omega (arith, begun)) begins
             | inr other ↦
                 elim (magic-cases b other) [

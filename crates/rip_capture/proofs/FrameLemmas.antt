@@ -1,6 +1,6 @@
 -- A frame holds one thing alone.
 use Rattle.std.proofs.Common.{◌≡◌, ◌≢◌, ◌+◌, ◌⊎◌, ◌∙◌, ℕ, Bool, true, false, List, ap, arith, inl, inr, refl, sym}
-use Rattle.std.proofs.lemmas.Bool.{false≢true}
+use Rattle.std.proofs.lemmas.Bool.{both_ways, false≢true}
 use Rattle.rip_wire.specs.Fields.{number_at}
 use Rattle.rip_capture.specs.Frames.{Holds, HoldsLoop, HoldsTyped, Leads, is_tag}
 use Rattle.rip_capture.specs.Frames.Leads.{ipv4, other, cut, tag}
@@ -13,9 +13,6 @@ use Rattle.rip_capture.specs.declared.link.LinkType.TheVariants.{Null, Ethernet,
 no_tag : (kind : ℕ) → kind ≡ 2048 → is_tag kind ≡ true → ⊥
 no_tag kind is on = false≢true (sym (ap is_tag is) ∙ on)
 
-both : (x : Bool) → x ≡ false → x ≡ true → ⊥
-both x off on = false≢true (sym off ∙ on)
-
 -- a type leads to one thing
 Leads-one : (frame : List ℕ) (at from : ℕ) (n m : Network) → Leads frame at from n → Leads frame at from m → n ≡ m
 Leads-one frame at from n m (ipv4 a f h e is) (ipv4 a' f' h' e' is') = is ∙ sym is'
@@ -24,14 +21,14 @@ Leads-one frame at from n m (ipv4 a f h e is) (cut a' f' h' on less is') = absur
 Leads-one frame at from n m (ipv4 a f h e is) (tag a' f' h' on room next) = absurd (no_tag (number_at 2 at frame) e on)
 Leads-one frame at from n m (other a f h off ne is) (ipv4 a' f' h' e' is') = absurd (ne e')
 Leads-one frame at from n m (other a f h off ne is) (other a' f' h' off' ne' is') = is ∙ sym is'
-Leads-one frame at from n m (other a f h off ne is) (cut a' f' h' on less is') = absurd (both (is_tag (number_at 2 at frame)) off on)
-Leads-one frame at from n m (other a f h off ne is) (tag a' f' h' on room next) = absurd (both (is_tag (number_at 2 at frame)) off on)
+Leads-one frame at from n m (other a f h off ne is) (cut a' f' h' on less is') = absurd (both_ways (is_tag (number_at 2 at frame)) off on)
+Leads-one frame at from n m (other a f h off ne is) (tag a' f' h' on room next) = absurd (both_ways (is_tag (number_at 2 at frame)) off on)
 Leads-one frame at from n m (cut a f h on less is) (ipv4 a' f' h' e' is') = absurd (no_tag (number_at 2 at frame) e' on)
-Leads-one frame at from n m (cut a f h on less is) (other a' f' h' off ne is') = absurd (both (is_tag (number_at 2 at frame)) off on)
+Leads-one frame at from n m (cut a f h on less is) (other a' f' h' off ne is') = absurd (both_ways (is_tag (number_at 2 at frame)) off on)
 Leads-one frame at from n m (cut a f h on less is) (cut a' f' h' on' less' is') = is ∙ sym is'
 Leads-one frame at from n m (cut a f h on less is) (tag a' f' h' on' room next) = absurd (omega arith)
 Leads-one frame at from n m (tag a f h on room next) (ipv4 a' f' h' e' is') = absurd (no_tag (number_at 2 at frame) e' on)
-Leads-one frame at from n m (tag a f h on room next) (other a' f' h' off ne is') = absurd (both (is_tag (number_at 2 at frame)) off on)
+Leads-one frame at from n m (tag a f h on room next) (other a' f' h' off ne is') = absurd (both_ways (is_tag (number_at 2 at frame)) off on)
 Leads-one frame at from n m (tag a f h on room next) (cut a' f' h' on' less is') = absurd (omega arith)
 Leads-one frame at from n m (tag a f h on room next) (tag a' f' h' on' room' next') =
     Leads-one frame (from + 2) (from + 4) n m next next'

@@ -1,6 +1,6 @@
 -- A run of bytes that are no blanks is a field.
 use Rattle.std.proofs.Common.{◌≡◌, ◌+◌, ◌-◌, ◌≤◌, ◌<◌, ℕ, zero, suc, Bool, true, false, List, [], ◌∷◌, length, take, drop, get_or, refl, sym, ap, ◌∙◌, arith, inl, inr, slice_range, ◌==◌, eq-eqb}
-use Rattle.std.proofs.lemmas.Bool.{cases_lt}
+use Rattle.std.proofs.lemmas.Bool.{cases_lt, false_from_ne_true}
 use Rattle.std.proofs.lemmas.List.{get_or-drop, get_or-take, drop-drop, length-drop, length-take, take_all}
 use Rattle.std.proofs.Math.Seq.{drop-length}
 use Rattle.memchr.specs.Find.{Nowhere, NoneBefore, Passes, is_byte2}
@@ -45,17 +45,13 @@ fields_of-at line from at some within run stops =
     ∙ ap (λ k. take k (drop from line) ∷ fields_of (drop (suc n) (drop from line))) count
     ∙ ap (λ l. slice_range line from at ∷ fields_of l) rest
 
-no-true : (b : Bool) → (b ≡ true → ⊥) → b ≡ false
-no-true true h = absurd (h refl)
-no-true false h = refl
-
 -- what follows a byte that is no blank, as far as a search finds none
 run-on : (line hay : List ℕ) (from at : ℕ) → hay ≡ drop (from + 1) line → is_blank (get_or line from 0) ≡ false → Nowhere (Passes (is_byte2 32 9) hay) 0 (at - (from + 1))
     → (k : ℕ) → from ≤ k → k < at → is_blank (get_or line k 0) ≡ false
 run-on line hay from at is here nowhere k low high =
     elim (cases_lt from k) [
       | inl h ↦
-          no-true (is_blank (get_or line k 0))
+          false_from_ne_true (is_blank (get_or line k 0))
           (λ e. nowhere (k - (from + 1)) (omega arith) (omega arith) (ap is_blank (at-drop line hay (from + 1) k is (omega arith)) ∙ e))
       | inr h ↦ ap (λ i. is_blank (get_or line i 0)) {x = k} {y = from} (omega arith) ∙ here
     ]

@@ -1,7 +1,7 @@
 -- What taking a line does to what is to be said.
 use Rattle.std.proofs.Common.{◌≡◌, ◌⊎◌, ◌+◌, ◌≤◌, ◌<◌, ℕ, Bool, true, false, List, ◌∷◌, length, Option, Some, None, Result, Ok, Err, refl, sym, ap, ◌∙◌, subst, arith, inl, inr}
 use Rattle.std.proofs.Math.Dec.{leb}
-use Rattle.std.proofs.lemmas.Bool.{le-leb}
+use Rattle.std.proofs.lemmas.Bool.{le-leb, lt-leb}
 use Rattle.std.specs.Io.KnownBytes.{Keeps}
 use Rattle.rip_log.specs.Codes.{is_read}
 use Rattle.rip_log.specs.Cuts.{DropsFirst, FirstLine, HasLine, IsEndless, LongFirst, PassesLines}
@@ -17,13 +17,10 @@ use Rattle.rip_log.proofs.CarryLemmas.{first-kept}
 use Rattle.rip_log.proofs.JudgeLemmas.{judge-long}
 use Rattle.rip_log.proofs.CodeLemmas.{else-holds, then-holds}
 
-lt-leb_false : (a b : ℕ) → b < a → leb a b ≡ false
-lt-leb_false a b h = grind arith
-
 -- what the first of several lines says, and then the others
 pub first-said : (n : ℕ) (line : List ℕ) (rest : List (List ℕ)) (judged : Result (Option Capture) LogCode) → n < 1000000 → judge line ≡ judged
     → all_of n (line ∷ rest) ≡ with_said (n + 1) (said_in line judged) (all_of (n + 1) rest)
-first-said n line rest judged few e = rw (lt-leb_false 1000000 n few) (ap (λ j. with_said (n + 1) (said_in line j) (all_of (n + 1) rest)) e)
+first-said n line rest judged few e = rw (lt-leb 1000000 n few) (ap (λ j. with_said (n + 1) (said_in line j) (all_of (n + 1) rest)) e)
 
 pub many-said : (n : ℕ) (line : List ℕ) (rest : List (List ℕ)) → 1000000 ≤ n → all_of n (line ∷ rest) ≡ many_lines
 many-said n line rest many = rw (le-leb 1000000 n many)

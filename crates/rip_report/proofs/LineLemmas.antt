@@ -1,11 +1,12 @@
 -- Lines of the items of a list, one after the other.
 use Rattle.std.proofs.Common.{◌≡◌, ℕ, zero, suc, ◌+◌, ◌≤◌, Bool, List, [], ◌∷◌, ◌++◌, Some, Result, Ok, length, drop, refl, sym, ap, subst, ◌∙◌, append_assoc, append-nil, arith}
+use Rattle.std.proofs.lemmas.Result.{on_err_weaker, on_ok_weaker}
 use Rattle.std.specs.List.{slice_get, enumerate_from, flat_map}
 use Rattle.std.proofs.lemmas.List.{drop_all}
 use Rattle.rip_log.specs.Taken.{Taken}
 use Rattle.rip_log.specs.declared.device.Failed.{Failed}
 use Rattle.rip_report.specs.Sent.{Sent, Began, Writes}
-use Rattle.rip_report.proofs.SentLemmas.{Sent-on, Began-on, onerr-map, onok-map}
+use Rattle.rip_report.proofs.SentLemmas.{Sent-on, Began-on}
 
 -- the first line, by what an empty page was given
 pub first_line : (page text line : List ℕ) → page ≡ [] → text ≡ line → page ++ text ≡ line
@@ -60,8 +61,8 @@ Sent-lines line a b text held xs i le s =
 pub Writes-line : {A K : Type 0} (line : A → List ℕ) (taken : K → Taken) (broken : K → Bool) (a b c : K) (done : Unit {0}) (r : Result (Unit {0}) Failed) (text held left : List ℕ) (xs : List A) (i : ℕ) (x : A) → slice_get xs i ≡ Some x
     → Writes taken broken a b (Ok done) text (held ++ flat_map line (drop i xs)) → Writes taken broken b c r (held ++ line x) left → Writes taken broken a c r text (left ++ flat_map line (drop (i + 1) xs))
 Writes-line line taken broken a b c done r text held left xs i x h w v = record {
-  ok = onok-map r (Sent-line line (taken a) (taken b) (taken c) text held left xs i x h w.ok) v.ok;
-  err = onerr-map r (Began-line line (taken a) (taken b) (taken c) text held xs i x h w.ok) v.err;
+  ok = on_ok_weaker r (Sent-line line (taken a) (taken b) (taken c) text held left xs i x h w.ok) v.ok;
+  err = on_err_weaker r (Began-line line (taken a) (taken b) (taken c) text held xs i x h w.ok) v.err;
   failed = v.failed;
   marks = λ e. v.marks e ∙ w.marks refl;
 }

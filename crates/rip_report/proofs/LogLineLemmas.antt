@@ -5,7 +5,7 @@ use Rattle.std.proofs.lemmas.List.Elements.{recursion_from_All}
 use Rattle.std.specs.Fmt.{digit_glyph, digits, digits_onto}
 use Rattle.std.specs.Io.BufRead.{strip_last}
 use Rattle.std.specs.Prelude.{◌⊎◌, if◌then◌else◌}
-use Rattle.std.proofs.lemmas.Bool.{leb-true}
+use Rattle.std.proofs.lemmas.Bool.{and_parts, leb-true}
 use Rattle.hex.specs.Hex.{IsBytes, encode_lower, encode_with, lower_digits}
 use Rattle.rip_wire.specs.Address.{address_text}
 use Rattle.rip_wire.specs.Name.{IsName, IsNameByte}
@@ -18,7 +18,6 @@ use Rattle.rip_log.specs.declared.error.LogCode.TheVariants.{LongLine, TooManyLi
 use Rattle.rip_log.specs.declared.error.LogError.{LogError}
 use Rattle.rip_log.proofs.FieldRelations.{strip_last-IsBare}
 use Rattle.rip_log.proofs.LineLemmas.{lines_of-other}
-use Rattle.rip_table.proofs.TruthLemmas.{both-true}
 use Rattle.rip_capture.proofs.ByteLemmas.{all-right}
 
 -- ---- lists of bytes
@@ -65,7 +64,7 @@ all_from n (b ∷ bytes) = nat_le n b && all_from n bytes
 pub tested : (n : ℕ) (xs : List ℕ) → all_from n xs ≡ true → AllByRecursion (λ b. n ≤ b) xs
 tested n [] h = tt
 tested n (b ∷ bytes) h =
-    let both = both-true (nat_le n b) (all_from n bytes) h in
+    let both = and_parts (nat_le n b) (all_from n bytes) h in
     (leb-true n b both.0, tested n bytes both.1)
 
 pub bytes-at : (xs : List ℕ) → Bytes xs → IsBytes xs

@@ -1,5 +1,6 @@
 -- Texts that go out in parts.
 use Rattle.std.proofs.Common.{◌≡◌, ℕ, List, [], ◌++◌, take, drop, Result, Ok, Err, Bool, true, false, is_err, refl, sym, ap, subst, ◌∙◌, append_assoc, append-nil}
+use Rattle.std.proofs.lemmas.Result.{on_err_weaker, on_ok_weaker}
 use Rattle.std.specs.Prelude.{OnErr, OnOk}
 use Rattle.std.proofs.lemmas.List.{take-append-drop}
 use Rattle.rip_log.specs.Taken.{Taken, Took}
@@ -55,10 +56,6 @@ pub onerr : {A E P : Type 0} (r : Result A E) → P → OnErr r P
 onerr (Ok x) p = tt
 onerr (Err e) p = p
 
-pub onerr-map : {A E P Q : Type 0} (r : Result A E) → (P → Q) → OnErr r P → OnErr r Q
-onerr-map (Ok x) f p = tt
-onerr-map (Err e) f p = f p
-
 -- what succeeds had not failed
 pub unbroken : (a b : Bool) → false ≡ b → (a ≡ true → b ≡ true) → b ≡ a
 unbroken true b e h = h refl
@@ -74,10 +71,6 @@ Began-front a b x y s = Began-on a a b (x ++ y) x y (Sent-none a (x ++ y)) s
 -- the text is out, and nothing else
 pub Sent-whole : (old new : Taken) (text : List ℕ) → Sent old new text [] → Took old new text
 Sent-whole old new text s = subst (Took old new) (sym (s.whole ∙ append-nil s.front)) s.sent
-
-pub onok-map : {A E P Q : Type 0} (r : Result A E) → (P → Q) → OnOk r P → OnOk r Q
-onok-map (Ok x) f p = f p
-onok-map (Err e) f p = tt
 
 -- more text was held, and what no longer is went out
 pub Sent-more : (a b c : Taken) (text held more left : List ℕ) → Sent a b text held → Sent b c (held ++ more) left → Sent a c (text ++ more) left
@@ -114,8 +107,8 @@ Writes-same taken broken a b r text line left same w = subst (λ (l : List ℕ).
 pub Writes-more : {K : Type 0} (taken : K → Taken) (broken : K → Bool) (a b c : K) (done : Unit {0}) (r : Result (Unit {0}) Failed) (text held more left : List ℕ) → Writes taken broken a b (Ok done) text held
     → Writes taken broken b c r (held ++ more) left → Writes taken broken a c r (text ++ more) left
 Writes-more taken broken a b c done r text held more left w v = record {
-  ok = onok-map r (Sent-more (taken a) (taken b) (taken c) text held more left w.ok) v.ok;
-  err = onerr-map r (Began-more (taken a) (taken b) (taken c) text held more w.ok) v.err;
+  ok = on_ok_weaker r (Sent-more (taken a) (taken b) (taken c) text held more left w.ok) v.ok;
+  err = on_err_weaker r (Began-more (taken a) (taken b) (taken c) text held more w.ok) v.err;
   failed = v.failed;
   marks = λ h. v.marks h ∙ w.marks refl;
 }
@@ -124,8 +117,8 @@ Writes-more taken broken a b c done r text held more left w v = record {
 pub Writes-held : {K : Type 0} (taken : K → Taken) (broken : K → Bool) (a b c : K) (done : Unit {0}) (r : Result (Unit {0}) Failed) (text held left : List ℕ) → Writes taken broken a b (Ok done) text held
     → Writes taken broken b c r held left → Writes taken broken a c r text left
 Writes-held taken broken a b c done r text held left w v = record {
-  ok = onok-map r (Sent-then (taken a) (taken b) (taken c) text held left w.ok) v.ok;
-  err = onerr-map r (Began-all (taken a) (taken b) (taken c) text held w.ok) v.err;
+  ok = on_ok_weaker r (Sent-then (taken a) (taken b) (taken c) text held left w.ok) v.ok;
+  err = on_err_weaker r (Began-all (taken a) (taken b) (taken c) text held w.ok) v.err;
   failed = v.failed;
   marks = λ h. v.marks h ∙ w.marks refl;
 }

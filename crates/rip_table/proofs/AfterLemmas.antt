@@ -1,7 +1,7 @@
 -- What the join of a response's entries is, part by part.
 use Rattle.std.proofs.Common.{◌≡◌, ℕ, ◌==◌, ◌<◌, Bool, true, false, cond, ◌&&◌, ◌||◌, not, List, [], ◌∷◌, ◌++◌, length, replicate, Option, Some, None, Ok, Err, refl, sym, ap, subst, ◌∙◌, set}
 use Rattle.std.proofs.Math.ListN.{length-set}
-use Rattle.std.proofs.lemmas.Bool.{eqb-true}
+use Rattle.std.proofs.lemmas.Bool.{and_parts, eqb-true}
 use mathlib.Core.Path.{fun_ext}
 use Rattle.rip_wire.specs.Prefix.{Block}
 use Rattle.rip_wire.specs.declared.entry.Entry.{Entry}
@@ -11,7 +11,7 @@ use Rattle.rip_table.specs.Joined.{is_foreign, is_past, joined_at, joined_entrie
 use Rattle.rip_table.specs.Numbers.{AreFaultless}
 use Rattle.rip_table.specs.Rows.{AreWritten, Rows, cell, grid_state, heads, shown_after, with_row, with_rows}
 use Rattle.rip_table.specs.declared.error.TableError.TheVariants.{Changed, NextHop, TooManyPrefixes}
-use Rattle.rip_table.proofs.TruthLemmas.{both-true, or-true, then-split}
+use Rattle.rip_table.proofs.TruthLemmas.{or-true, then-split}
 use Rattle.rip_table.proofs.PrefixListLemmas.{is_among-append, same-is, same-self}
 use Rattle.rip_table.proofs.RowLemmas.{heads-append}
 use Rattle.rip_table.proofs.CheckLemmas.{heard_valid}
@@ -49,7 +49,7 @@ listed_with : (s : State) (i m : ℕ) (p : Block) → Listed s i → Listed (wit
 listed_with s i m p listed q v h = by ((i == i) && same_prefix q p) refl h
   where
     by : (b : Bool) → ((i == i) && same_prefix q p) ≡ b → cond b (Some m) (s.shows i q) ≡ Some v → is_among q (with_prefix p s.prefixes) ≡ true
-    by true t e = ap (λ (r : Block). is_among r (with_prefix p s.prefixes)) (same-is q p (both-true (i == i) (same_prefix q p) t).1) ∙ new_among s.prefixes p
+    by true t e = ap (λ (r : Block). is_among r (with_prefix p s.prefixes)) (same-is q p (and_parts (i == i) (same_prefix q p) t).1) ∙ new_among s.prefixes p
     by false t e = kept_among s.prefixes p q (listed q v e)
 
 -- a metric that stands already adds nothing
@@ -60,7 +60,7 @@ same_with s i m p listed here =
   where
     at : (j : ℕ) (q : Block) (b : Bool) → ((j == i) && same_prefix q p) ≡ b → s.shows j q ≡ cond b (Some m) (s.shows j q)
     at j q true t =
-        let parts = both-true (j == i) (same_prefix q p) t in
+        let parts = and_parts (j == i) (same_prefix q p) t in
         ap (λ (k : ℕ). s.shows k q) (eqb-true j i parts.0) ∙ ap (s.shows i) (same-is q p parts.1) ∙ here
     at j q false t = refl
 

@@ -1,5 +1,6 @@
 -- A table that fits a plan fits it when records have been joined.
 use Rattle.std.proofs.Common.{◌≡◌, ◌==◌, ℕ, Bool, true, false, not, cond, ◌||◌, List, [], ◌∷◌, ◌++◌, Option, Some, None, Result, Ok, Err, refl, sym, ap, ◌∙◌, subst, append_assoc, append-nil}
+use Rattle.std.proofs.lemmas.Bool.{or_from}
 use Rattle.rip_wire.specs.Prefix.{Block}
 use Rattle.rip_wire.specs.Message.{Message, request, response}
 use Rattle.rip_wire.specs.declared.entry.Entry.{Entry}
@@ -26,9 +27,6 @@ Kept s (Err e) = Unit {0}
 pub GoesOn-same : (s t : State) → t.interfaces ≡ s.interfaces → t.prefixes ≡ s.prefixes → GoesOn s t
 GoesOn-same s t interfaces prefixes = record { interfaces = interfaces; more = []; prefixes = prefixes ∙ sym (append-nil s.prefixes); new = λ p h. refl }
 
-neither : (a b : Bool) → a ≡ false → b ≡ false → (a || b) ≡ false
-neither a b h k = rw (h, k) refl
-
 pub GoesOn-trans : (s t u : State) → GoesOn s t → GoesOn t u → GoesOn s u
 GoesOn-trans s t u g h = record {
   interfaces = h.interfaces ∙ g.interfaces;
@@ -36,7 +34,7 @@ GoesOn-trans s t u g h = record {
   prefixes = h.prefixes ∙ ap (λ (l : List Block). l ++ h.more) g.prefixes ∙ append_assoc s.prefixes g.more h.more;
   new = λ p among.
       let there : is_among p t.prefixes ≡ true = ap (is_among p) g.prefixes ∙ is_among-append p s.prefixes g.more ∙ ap (λ (b : Bool). b || is_among p g.more) among in
-      is_among-append p g.more h.more ∙ neither (is_among p g.more) (is_among p h.more) (g.new p among) (h.new p there);
+      is_among-append p g.more h.more ∙ or_from (is_among p g.more) (is_among p h.more) (g.new p among) (h.new p there);
 }
 
 -- a prefix that is new is none of the list
@@ -105,7 +103,7 @@ fits_on n s t fits g = record {
   prefixes = g.prefixes ∙ ap (λ (l : List Block). l ++ g.more) fits.prefixes ∙ append_assoc n.prefixes fits.others g.more;
   unplanned = λ k p is.
       let planned : is_among p s.prefixes ≡ true = ap (is_among p) fits.prefixes ∙ is_among-append p n.prefixes fits.others ∙ ap (λ (b : Bool). b || is_among p fits.others) (is_among-item n.prefixes k p is) in
-      is_among-append p fits.others g.more ∙ neither (is_among p fits.others) (is_among p g.more) (fits.unplanned k p is) (g.new p planned);
+      is_among-append p fits.others g.more ∙ or_from (is_among p fits.others) (is_among p g.more) (fits.unplanned k p is) (g.new p planned);
 }
 
 pub Fits-joined : (n : Network) (s t : State) (c : Capture) → Fits n s → joined_capture n s c ≡ Ok t → Fits n t

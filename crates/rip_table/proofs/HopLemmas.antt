@@ -1,9 +1,10 @@
 -- The next hops that an interface may tell: its own addresses, and gateways of its router.
 use Rattle.std.proofs.Common.{◌≡◌, ℕ, zero, suc, ◌==◌, Bool, true, false, ◌&&◌, ◌||◌, List, [], ◌∷◌, Option, Some, None, refl, sym, ap, subst, ◌∙◌, arith}
+use Rattle.std.proofs.lemmas.Map.Keys.{any_passes_from_place}
 use Rattle.std.specs.Prelude.{Contains, Decides}
 use Rattle.std.specs.List.{list_any, slice_get}
 use Rattle.std.specs.Option.{option_map_or}
-use Rattle.std.proofs.lemmas.Bool.{eqb-true, eq-eqb}
+use Rattle.std.proofs.lemmas.Bool.{and_parts, eq-eqb, eqb-true}
 use Rattle.std.proofs.lemmas.Option.{slice_get-get_or}
 use Rattle.rip_wire.specs.Prefix.{Block}
 use Rattle.rip_plan.specs.Network.{Network}
@@ -16,15 +17,6 @@ use Rattle.rip_table.proofs.PrefixListLemmas.{same-is, same-self}
 use Rattle.rip_table.specs.Joined.{has_gateway, holds_address, is_gateway, knows_gateway}
 use Rattle.rip_table.specs.LogJoin.{KnowsGateway}
 
-some_any : {A : Type 0} (test : A → Bool) (xs : List A) (k : ℕ) (x : A) → slice_get xs k ≡ Some x → test x ≡ true → list_any test xs ≡ true
-some_any test [] k x at h = absurd (cc at)
-some_any test (y ∷ ys) zero x at h = let same : y ≡ x = cc at in ap (λ z. test z || list_any test ys) same ∙ ap (λ b. b || list_any test ys) h
-some_any test (y ∷ ys) (suc k) x at h = by (test y) (some_any test ys k x at h)
-  where
-    by : (b : Bool) → list_any test ys ≡ true → (b || list_any test ys) ≡ true
-    by true t = refl
-    by false t = t
-
 any_some : {A : Type 0} (test : A → Bool) (xs : List A) → list_any test xs ≡ true → (k : ℕ) × (x : A) × (slice_get xs k ≡ Some x) × (test x ≡ true)
 any_some test [] h = absurd (cc h)
 any_some {A} test (y ∷ ys) h = by (test y) refl h (λ t. any_some test ys t)
@@ -32,10 +24,6 @@ any_some {A} test (y ∷ ys) h = by (test y) refl h (λ t. any_some test ys t)
     by : (b : Bool) → test y ≡ b → (b || list_any test ys) ≡ true → (list_any test ys ≡ true → (k : ℕ) × (x : A) × (slice_get ys k ≡ Some x) × (test x ≡ true)) → (k : ℕ) × (x : A) × (slice_get (y ∷ ys) k ≡ Some x) × (test x ≡ true)
     by true t k later = (zero, y, refl, t)
     by false t k later = let (m, x, at, passes) = later k in (suc m, x, at, passes)
-
-both : (a b : Bool) → (a && b) ≡ true → (a ≡ true) × (b ≡ true)
-both true b h = (refl, h)
-both false b h = absurd (cc h)
 
 -- ---- addresses
 
@@ -48,7 +36,7 @@ pub address_held : (n : Network) (i l a : ℕ) → HasAddress n i l a → holds_
 address_held n i l a (all, has, (k, lt, is)) =
     let at : slice_get all k ≡ Some a = slice_get-get_or all k a lt ∙ ap (λ (b : ℕ). Some b) is in
     let here : slice_get (has.interface.address ∷ has.also) k ≡ Some a = ap (λ (xs : List ℕ). slice_get xs k) (sym has.all) ∙ at in
-    let test = some_any (λ b. b == a) (has.interface.address ∷ has.also) k a here (eq-eqb a a refl) in
+    let test = any_passes_from_place (λ b. b == a) (has.interface.address ∷ has.also) k a here (eq-eqb a a refl) in
     ap (λ (o : Option Interface). option_map_or (λ x. option_map_or (λ also. list_any (λ b. b == a) (x.address ∷ also)) (slice_get n.also i) false) o false) has.listed
     ∙ ap (λ (o : Option (List ℕ)). option_map_or (λ also. list_any (λ b. b == a) (has.interface.address ∷ also)) o false) has.further
     ∙ test
@@ -69,9 +57,9 @@ held_address n i a h = by (slice_get n.interfaces i) refl (slice_get n.also i) r
 
 gateway_seat : (r a : ℕ) (seat : Seat) → has_gateway r a seat ≡ true → (c : ℕ) × (kept : Bool) × (link : Option ℕ) × (seat ≡ Own r c kept link (Some a))
 gateway_seat r a (Link l) h = absurd (cc h)
-gateway_seat r a (Own owner c kept link None) h = absurd (cc (both (owner == r) false h).1)
+gateway_seat r a (Own owner c kept link None) h = absurd (cc (and_parts (owner == r) false h).1)
 gateway_seat r a (Own owner c kept link (Some b)) h =
-    let parts = both (owner == r) (b == a) h in
+    let parts = and_parts (owner == r) (b == a) h in
     (c, kept, link, ap (λ (m : ℕ). Own m c kept link (Some b)) (eqb-true owner r parts.0) ∙ ap (λ (m : ℕ). Own r c kept link (Some m)) (eqb-true b a parts.1))
 
 prefix_is : (p : Block) (o : Option Block) → option_map_or (same_prefix p) o false ≡ true → o ≡ Some p
@@ -84,7 +72,7 @@ gateway_known n i p a (r, l, c, k, is, prefix, (j, has)) =
     let its : option_map_or (same_prefix p) (slice_get n.prefixes k) false ≡ true = ap (λ (o : Option Block). option_map_or (same_prefix p) o false) prefix ∙ same-self p in
     let test : is_gateway n r p a (record { prefix = k; seat = Own r has.cost has.kept has.link (Some a) }) ≡ true = rw (seat, its) refl in
     ap (λ (o : Option Interface). option_map_or (λ x. list_any (is_gateway n x.router p a) n.places) o false) is.listed
-    ∙ some_any (is_gateway n r p a) n.places j _ has.place.listed test
+    ∙ any_passes_from_place (is_gateway n r p a) n.places j _ has.place.listed test
 
 pub known_gateway : (n : Network) (i : ℕ) (p : Block) (a : ℕ) → knows_gateway n i p a ≡ true → KnowsGateway n i p a
 known_gateway n i p a h = by (slice_get n.interfaces i) refl h
@@ -93,7 +81,7 @@ known_gateway n i p a h = by (slice_get n.interfaces i) refl h
     by None e t = absurd (cc t)
     by (Some x) e t =
         let (j, q, at, test) = any_some (is_gateway n x.router p a) n.places t in
-        let parts = both (has_gateway x.router a q.seat) (option_map_or (same_prefix p) (slice_get n.prefixes q.prefix) false) test in
+        let parts = and_parts (has_gateway x.router a q.seat) (option_map_or (same_prefix p) (slice_get n.prefixes q.prefix) false) test in
         let (c, kept, link, seat) = gateway_seat x.router a q.seat parts.0 in
         let placed = at ∙ ap (λ (s : Seat). Some (record { prefix = q.prefix; seat = s })) seat in (
           x.router,
@@ -144,5 +132,5 @@ gateway_decided n i r l c p a b is planned unplanned = decided b (knows_gateway 
             let prefix : IsPrefix n k p = at ∙ ap (λ (d : Block). Some d) (sym (same-is p q same)) in
             gateway_known n i p a (r, l, c, k, is, prefix, (planned k prefix).0 h)
         by false t =
-            let none : b ≡ false = unplanned (λ k at. let there = some_any (same_prefix p) n.prefixes k p at (same-self p) in let clash : true ≡ false = sym there ∙ t in cc clash) in
+            let none : b ≡ false = unplanned (λ k at. let there = any_passes_from_place (same_prefix p) n.prefixes k p at (same-self p) in let clash : true ≡ false = sym there ∙ t in cc clash) in
             let clash : true ≡ false = sym h ∙ none in absurd (cc clash)

@@ -12,10 +12,10 @@ use Rattle.rip_table.specs.Joined.{is_foreign, is_past, joined_at, joined_entrie
 use Rattle.rip_table.specs.ListState.{IsAdded, list_state, metric_in}
 use Rattle.rip_table.specs.declared.error.TableError.TheVariants.{Changed, NextHop, TooManyPrefixes}
 use Rattle.rip_table.specs.declared.list.shown.Shown.{Shown}
-use Rattle.rip_table.proofs.TruthLemmas.{both-true, neither-true, or-none, then-split}
+use Rattle.rip_table.proofs.TruthLemmas.{or-none, then-split}
 use Rattle.rip_table.proofs.PrefixListLemmas.{same-is}
 use Rattle.rip_table.proofs.TakingLemmas.{heard-with}
-use Rattle.std.proofs.lemmas.Bool.{eqb-true}
+use Rattle.std.proofs.lemmas.Bool.{and_parts, eqb-true, or_parts}
 use Rattle.rip_plan.specs.Network.{Network}
 
 -- with one more item at the end
@@ -39,7 +39,7 @@ shown_with i m p shown none j q = by ((j == i) && same_prefix q p) refl ∙ sym 
   where
     by : (b : Bool) → ((j == i) && same_prefix q p) ≡ b → cond b (Some m) (metric_in j q shown) ≡ option_or (metric_in j q shown) (cond b (Some m) None)
     by true h =
-        let parts = both-true (j == i) (same_prefix q p) h in
+        let parts = and_parts (j == i) (same_prefix q p) h in
         let here : j ≡ i = eqb-true j i parts.0 in
         let same : q ≡ p = same-is q p parts.1 in
         sym (ap (λ (o : Option ℕ). option_or o (Some m)) (ap (λ (k : ℕ). metric_in k q shown) here ∙ ap (λ (r : Block). metric_in i r shown) same ∙ none))
@@ -91,7 +91,7 @@ pub nothing-joins : (net : Network) (i : ℕ) (s : State) (es : List Entry) (t :
 nothing-joins net i s [] t none h = cc h
 nothing-joins net i s (e ∷ es) t none h =
     let split = then-split (joined_at net i s e (s.shows i e.prefix)) (λ u. joined_entries net i u es) t h in
-    let parts = neither-true (is_none (s.shows i e.prefix)) (list_any (λ d. is_none (s.shows i d.prefix)) es) none in
+    let parts = or_parts (is_none (s.shows i e.prefix)) (list_any (λ d. is_none (s.shows i d.prefix)) es) none in
     let same = here (s.shows i e.prefix) parts.0 split.0 split.1 in
     nothing-joins net i s es t parts.1 (ap (λ (u : State). joined_entries net i u es) same ∙ split.2)
   where

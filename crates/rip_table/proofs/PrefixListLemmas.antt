@@ -1,11 +1,11 @@
 -- Prefixes in a list.
 use Rattle.std.proofs.Common.{◌≡◌, ℕ, zero, suc, ◌+◌, ◌≤◌, ◌==◌, take, drop, length, arith, Bool, true, ◌||◌, List, [], ◌∷◌, ◌++◌, Some, refl, ap, ◌∙◌}
 use Rattle.std.specs.List.{slice_get}
-use Rattle.std.proofs.lemmas.Bool.{eqb-true, eq-eqb}
+use Rattle.std.proofs.lemmas.Bool.{and_parts, eq-eqb, eqb-true}
 use Rattle.std.proofs.lemmas.List.Folds.{list_any-append}
 use Rattle.rip_wire.specs.Prefix.{Block}
 use Rattle.rip_plan.specs.Passes.{same_prefix}
-use Rattle.rip_table.proofs.TruthLemmas.{both-true, or-true}
+use Rattle.rip_table.proofs.TruthLemmas.{or-true}
 use Rattle.rip_table.specs.State.{is_among}
 
 -- a prefix is itself
@@ -15,7 +15,7 @@ same-self p = rw (eq-eqb p.network p.network refl, eq-eqb p.prefix_len p.prefix_
 -- prefixes that pass the test are equal
 pub same-is : (p q : Block) → same_prefix p q ≡ true → p ≡ q
 same-is p q h =
-    let parts = both-true (p.network == q.network) (p.prefix_len == q.prefix_len) h in
+    let parts = and_parts (p.network == q.network) (p.prefix_len == q.prefix_len) h in
     let network = eqb-true p.network q.network parts.0 in
     let prefix_len = eqb-true p.prefix_len q.prefix_len parts.1 in
     block_eq p q network prefix_len

@@ -1,6 +1,6 @@
 -- What refuses a log.
 use Rattle.std.proofs.Common.{◌↔◌, inl, inr, ◌≡◌, ◌≢◌, ℕ, ◌<◌, ◌≤◌, ◌==◌, Bool, true, false, cond, ◌&&◌, ◌||◌, not, nat_le, nat_lt, List, [], ◌∷◌, ◌++◌, length, Option, Some, None, Result, Ok, Err, refl, sym, ap, ◌∙◌, arith, subst, append-nil}
-use Rattle.std.proofs.lemmas.Bool.{eqb-true, eq-eqb}
+use Rattle.std.proofs.lemmas.Bool.{and_parts, eq-eqb, eqb-true, false_from_ne_true}
 use Rattle.std.proofs.lemmas.Bool.Decides.{nat_tests}
 use Rattle.rip_wire.specs.Prefix.{Block}
 use Rattle.rip_wire.specs.Message.{Message, request, response, message_in}
@@ -33,10 +33,6 @@ use Rattle.rip_table.proofs.SaidLemmas.{fits_log, interface_below, item-is_among
 
 -- ---- a route by another router
 
-both : (a b : Bool) → (a && b) ≡ true → (a ≡ true) × (b ≡ true)
-both true b h = (refl, h)
-both false b h = absurd (cc h)
-
 neither : (a b : Bool) → not (a || b) ≡ true → (a ≡ false) × (b ≡ false)
 neither true b h = absurd (cc h)
 neither false true h = absurd (cc h)
@@ -54,7 +50,7 @@ differs m n h = by (m == n) refl
 
 foreign-IsElsewhere : (net : Network) (i : ℕ) (e : Entry) → is_foreign net i e ≡ true → IsElsewhere net i e
 foreign-IsElsewhere net i e h =
-    let parts = both (nat_lt e.metric 16) (not (may_tell net i e.prefix e.next_hop)) h in
+    let parts = and_parts (nat_lt e.metric 16) (not (may_tell net i e.prefix e.next_hop)) h in
     let low = parts.0 in
     let hops = neither (e.next_hop == 0) (holds_address net i e.next_hop || knows_gateway net i e.prefix e.next_hop) parts.1 in
     let others = neither (holds_address net i e.next_hop) (knows_gateway net i e.prefix e.next_hop) (ap not hops.1) in
@@ -69,19 +65,16 @@ pub IsElsewhere-foreign : (net : Network) (i : ℕ) (e : Entry) → IsElsewhere 
 IsElsewhere-foreign net i e h =
     let lt = h.reachable in
     let low : nat_lt e.metric 16 ≡ true = grind (arith, nat_tests) in
-    let held : holds_address net i e.next_hop ≡ false = not_true (holds_address net i e.next_hop) (λ t. let (l, has) = held_address net i e.next_hop t in h.other l has) in
-    let known : knows_gateway net i e.prefix e.next_hop ≡ false = not_true (knows_gateway net i e.prefix e.next_hop) (λ t. h.no_gateway (known_gateway net i e.prefix e.next_hop t)) in
+    let held : holds_address net i e.next_hop ≡ false = false_from_ne_true (holds_address net i e.next_hop) (λ t. let (l, has) = held_address net i e.next_hop t in h.other l has) in
+    let known : knows_gateway net i e.prefix e.next_hop ≡ false = false_from_ne_true (knows_gateway net i e.prefix e.next_hop) (λ t. h.no_gateway (known_gateway net i e.prefix e.next_hop t)) in
     rw (low, differs e.next_hop 0 h.unspecified, held, known) refl
   where
-    not_true : (b : Bool) → (b ≡ true → ⊥) → b ≡ false
-    not_true true k = absurd (k refl)
-    not_true false k = refl
 
 -- ---- an entry
 
 full_of : (among : Bool) (n : ℕ) → (nat_le 2048 n && not among) ≡ true → (2048 ≤ n) × (among ≡ false)
-full_of true n h = let parts = both (nat_le 2048 n) false h in absurd (cc parts.1)
-full_of false n h = let low = (both (nat_le 2048 n) true h).0 in (grind (arith, nat_tests), refl)
+full_of true n h = let parts = and_parts (nat_le 2048 n) false h in absurd (cc parts.1)
+full_of false n h = let low = (and_parts (nat_le 2048 n) true h).0 in (grind (arith, nat_tests), refl)
 
 full-past : (among : Bool) (n : ℕ) → 2048 ≤ n → among ≡ false → (nat_le 2048 n && not among) ≡ true
 full-past true n low h = absurd (cc h)

@@ -1,5 +1,6 @@
 -- Rows of cells: finding them, adding them and writing to them.
 use Rattle.std.proofs.Common.{◌≡◌, ℕ, zero, suc, ◌+◌, ◌<◌, ◌≤◌, Bool, true, false, cond, List, [], ◌∷◌, ◌++◌, length, take, set, get_or, replicate, Option, Some, None, is_some, Result, Ok, Err, refl, sym, ap, ◌∙◌, arith, length-append}
+use Rattle.std.proofs.lemmas.List.{get_or_default}
 use Rattle.std.proofs.Math.ListN.{length-set}
 use Rattle.std.specs.List.{slice_get, position, position_from}
 use Rattle.std.specs.Map.{values_of, keys_of}
@@ -260,7 +261,3 @@ planned-more w ps k p differ at =
 pub grid-planned : (w : ℕ) (ps : List Block) → IsGrid w (planned_rows w ps)
 grid-planned w [] = λ k d lt. absurd (omega (arith, lt))
 grid-planned w (p ∷ ps) = grid_cons w (p, replicate w None) (planned_rows w ps) (length-empty w) (grid-planned w ps)
-
--- an item that is there is the same by any default
-pub get_or-any : {A : Type 0} (xs : List A) (i : ℕ) (d e : A) → i < length xs → get_or xs i d ≡ get_or xs i e
-get_or-any xs i d e lt = same_Some _ _ (sym (slice_get-get_or xs i d lt) ∙ slice_get-get_or xs i e lt)

@@ -2,7 +2,7 @@
 use Rattle.std.proofs.Common.{inl, inr, ◌⊎◌, ◌≡◌, ℕ, zero, suc, ◌<◌, ◌≤◌, ◌==◌, Bool, true, false, cond, ◌&&◌, not, nat_le, List, [], ◌∷◌, ◌++◌, length, Option, Some, None, Result, Ok, Err, refl, sym, ap, ◌∙◌, arith, subst, append-nil}
 use Rattle.std.specs.List.{slice_get}
 use Rattle.std.proofs.lemmas.Option.{slice_get_within}
-use Rattle.std.proofs.lemmas.Bool.{eqb-true, eq-eqb}
+use Rattle.std.proofs.lemmas.Bool.{and_parts, eq-eqb, eqb-true}
 use Rattle.std.proofs.lemmas.Bool.Decides.{nat_tests}
 use Rattle.rip_wire.specs.Prefix.{Block}
 use Rattle.rip_wire.specs.Message.{Message, request, response, message_in}
@@ -30,10 +30,6 @@ use Rattle.rip_table.proofs.CheckLemmas.{heard_valid, valid_with}
 use Rattle.rip_table.proofs.MetricLemmas.{AreMetrics, LowerLaws, response_metrics, same_entries}
 use Rattle.rip_table.proofs.MakesLemmas.{Joining, Makes, either_list, front_at, makes_as, makes_both, makes_nothing}
 
-both : (a b : Bool) → (a && b) ≡ true → (a ≡ true) × (b ≡ true)
-both true b h = (refl, h)
-both false b h = absurd (cc h)
-
 -- ---- one metric
 
 abbrev says_one : ℕ → Block → ℕ → ℕ → ℕ → Block → ℕ → Type 0
@@ -51,7 +47,7 @@ test_of i j p q here same = ap (λ (k : ℕ). (k == i) && same_prefix q p) here 
 shown_one : (s : State) (i m : ℕ) (p : Block) (j : ℕ) (q : Block) (x : ℕ) → (b : Bool) → ((j == i) && same_prefix q p) ≡ b → cond b (Some m) (s.shows j q) ≡ Some x
     → (s.shows j q ≡ Some x) ⊎ ((k : ℕ) × says_one i p m k j q x)
 shown_one s i m p j q x true t h =
-    let parts = both (j == i) (same_prefix q p) t in
+    let parts = and_parts (j == i) (same_prefix q p) t in
     let metric : m ≡ x = cc h in
     inr (0, (eqb-true j i parts.0, sym (same-is q p parts.1), metric))
 shown_one s i m p j q x false t h = inl h
@@ -59,7 +55,7 @@ shown_one s i m p j q x false t h = inl h
 kept_one : (s : State) (i m : ℕ) (p : Block) → ((y : ℕ) → s.shows i p ≡ Some y → y ≡ m) → (j : ℕ) (q : Block) (x : ℕ) → (b : Bool) → ((j == i) && same_prefix q p) ≡ b
     → s.shows j q ≡ Some x → cond b (Some m) (s.shows j q) ≡ Some x
 kept_one s i m p keeps j q x true t h =
-    let parts = both (j == i) (same_prefix q p) t in
+    let parts = and_parts (j == i) (same_prefix q p) t in
     let here : j ≡ i = eqb-true j i parts.0 in
     let same : q ≡ p = same-is q p parts.1 in
     ap (λ (y : ℕ). Some y) (sym (keeps x (ap (λ (k : ℕ). s.shows k p) (sym here) ∙ ap (s.shows j) (sym same) ∙ h)))

@@ -4,7 +4,7 @@ use Rattle.std.specs.List.{slice_get, position_from}
 use Rattle.std.specs.Map.{values_of, keys_of, lookup}
 use Rattle.std.specs.Option.{option_or}
 use Rattle.std.specs.Prelude.{⊤, bytes_eq, string_bytes, string_eq, position}
-use Rattle.std.proofs.lemmas.Bool.{false≢true}
+use Rattle.std.proofs.lemmas.Bool.{and_parts, cases_Bool, false≢true, or_parts}
 use Rattle.std.proofs.lemmas.Bool.Decides.{Decides-and, Decides-eqb}
 use Rattle.std.proofs.lemmas.Slice.Eq.{bytes_eq-Decides}
 use Rattle.std.proofs.lemmas.Iterator.Adapters.{position_from-zero}
@@ -19,13 +19,13 @@ use Rattle.rip_table.specs.declared.tallies.strangers.Stranger.{Stranger}
 use Rattle.rip_table.specs.declared.tallies.strangers.StrangerTally.{StrangerTally}
 use Rattle.rip_table.specs.declared.tallies.strangers.TheConstants.{MOST_STRANGERS}
 use Rattle.rip_table.proofs.TallyLemmas.{kind-more, first-more}
-use Rattle.rip_table.proofs.TruthLemmas.{both-true, neither-true, or-true}
+use Rattle.rip_table.proofs.TruthLemmas.{or-true}
 
 -- ---- origins that are the same
 
 pub same-is : (o p : Origin) → same_origin o p ≡ true → o ≡ p
 same-is o p h =
-    let parts = both-true (bytes_eq o.link p.link) (o.sender == p.sender) h in
+    let parts = and_parts (bytes_eq o.link p.link) (o.sender == p.sender) h in
     let link : o.link ≡ p.link = (bytes_eq-Decides o.link p.link).0 parts.0 in
     let sender : o.sender ≡ p.sender = (Decides-eqb o.sender p.sender).0 parts.1 in
     made o p link sender
@@ -64,7 +64,7 @@ set-row (e ∷ es) (suc k) line code was t h made = ap (λ (rows : StrangerRows)
 pub none-found : (key : Stranger) (es : List (Stranger × StrangerTally)) → is_origin_of (strangers_of (rows_of_strangers es)) (key_origin key) ≡ false → lookup (λ (s : Stranger). string_eq key.link s.link && (key.address == s.address)) es ≡ None
 none-found key [] h = refl
 none-found key (e ∷ es) h =
-    let parts = neither-true (same_origin (key_origin key) (key_origin e.0)) (is_origin_of (strangers_of (rows_of_strangers es)) (key_origin key)) h in
+    let parts = or_parts (same_origin (key_origin key) (key_origin e.0)) (is_origin_of (strangers_of (rows_of_strangers es)) (key_origin key)) h in
     rw (parts.0) (none-found key es parts.1)
 
 rows-more : (es : List (Stranger × StrangerTally)) (e : Stranger × StrangerTally) → rows_of_strangers (es ++ e ∷ []) ≡ rows_of_strangers es ++ (key_origin e.0, e.1) ∷ []
@@ -106,13 +106,8 @@ rows-new es new o key t was line code link address is none made =
     let sent : t ≡ stranger_tally o (stranger_line o line code ∷ []) = made o ∙ ap (λ (w : StrangerTally). with_stranger_event o w (stranger_line o line code)) none ∙ sym (stranger-more o [] (stranger_line o line code)) in
     ap rows_of_strangers is ∙ rows-more es (key, t) ∙ ap (λ (p : Origin). rows_of_strangers es ++ (p, t) ∷ []) key-is ∙ ap (λ (x : StrangerTally). rows_of_strangers es ++ (o, x) ∷ []) sent
 
--- which of two truth values
-by-truth : (b : Bool) → (b ≡ true) ⊎ (b ≡ false)
-by-truth true = inl refl
-by-truth false = inr refl
-
 not-same : (o p : Origin) → (o ≡ p → ⊥) → same_origin o p ≡ false
-not-same o p apart = elim (by-truth (same_origin o p)) [ inl h ↦ absurd (apart (same-is o p h)) | inr h ↦ h ]
+not-same o p apart = elim (cases_Bool (same_origin o p)) [ inl h ↦ absurd (apart (same-is o p h)) | inr h ↦ h ]
 
 same-other : (o p : Origin) → same_origin o p ≡ false → same_origin p o ≡ false
 same-other o p h = not-same p o (λ e. absurd (cc (h, same-self o, ap (same_origin o) e)))
@@ -130,8 +125,8 @@ among-at : (told : List Origin) (k : ℕ) (o p : Origin) → is_origin_of told p
 among-at [] k o p none h = absurd (cc h)
 among-at (q ∷ told) zero o p none h =
     let is : q ≡ o = cc h in
-    ap (same_origin p) (sym is) ∙ (neither-true (same_origin p q) (is_origin_of told p) none).0
-among-at (q ∷ told) (suc k) o p none h = among-at told k o p (neither-true (same_origin p q) (is_origin_of told p) none).1 h
+    ap (same_origin p) (sym is) ∙ (or_parts (same_origin p q) (is_origin_of told p) none).0
+among-at (q ∷ told) (suc k) o p none h = among-at told k o p (or_parts (same_origin p q) (is_origin_of told p) none).1 h
 
 -- ---- one event more
 
@@ -175,7 +170,7 @@ rows-kept (o ∷ told) events e h =
 rows-other : (told : List Origin) (events : List EventAt) (o : Origin) (line : ℕ) (code : Option LogCode) → is_origin_of told o ≡ false → stranger_rows told (events ++ stranger_line o line code ∷ []) ≡ stranger_rows told events
 rows-other [] events o line code none = refl
 rows-other (p ∷ told) events o line code none =
-    let parts = neither-true (same_origin o p) (is_origin_of told o) none in
+    let parts = or_parts (same_origin o p) (is_origin_of told o) none in
     let here = stranger-more p events (stranger_line o line code) ∙ other-stranger p o (stranger_tally p events) line code (same-other o p parts.0) in
     rw (here, rows-other told events o line code parts.1) refl
 
@@ -197,12 +192,12 @@ row-step (p ∷ told) events (suc k) o line code differ h =
 differ-more : (told : List Origin) (o : Origin) → AllDiffer told → is_origin_of told o ≡ false → AllDiffer (told ++ o ∷ [])
 differ-more [] o differ none = (refl, tt)
 differ-more (p ∷ told) o differ none =
-    let parts = neither-true (same_origin o p) (is_origin_of told o) none in
+    let parts = or_parts (same_origin o p) (is_origin_of told o) none in
     (among-more told p o ∙ rw (differ.0, same-other o p parts.0) refl, differ-more told o differ.1 parts.1)
 
 differ-with : (e : Option Origin) (told : List Origin) → AllDiffer told → AllDiffer (with_told e told)
 differ-with None told differ = differ
-differ-with (Some o) told differ = elim (by-truth (is_origin_of told o || nat_le MOST_STRANGERS (length told))) [ inl h ↦ rw h differ | inr h ↦ rw h (differ-more told o differ (neither-true (is_origin_of told o) (nat_le MOST_STRANGERS (length told)) h).0) ]
+differ-with (Some o) told differ = elim (cases_Bool (is_origin_of told o || nat_le MOST_STRANGERS (length told))) [ inl h ↦ rw h differ | inr h ↦ rw h (differ-more told o differ (or_parts (is_origin_of told o) (nat_le MOST_STRANGERS (length told)) h).0) ]
 
 pub all-differ : (told : List Origin) (events : List EventAt) → AllDiffer told → AllDiffer (told_after told events)
 all-differ told [] differ = differ
@@ -216,7 +211,7 @@ HasRoom told = nat_le MOST_STRANGERS (length told) ≡ false
 
 room-before : (e : Option Origin) (told : List Origin) → HasRoom (with_told e told) → HasRoom told
 room-before None told h = h
-room-before (Some o) told h = elim (by-truth (nat_le MOST_STRANGERS (length told))) [ inl full ↦ absurd (full-stays full) | inr room ↦ room ]
+room-before (Some o) told h = elim (cases_Bool (nat_le MOST_STRANGERS (length told))) [ inl full ↦ absurd (full-stays full) | inr room ↦ room ]
   where
     full-stays : nat_le MOST_STRANGERS (length told) ≡ true → ⊥
     full-stays full =
@@ -230,7 +225,7 @@ room-first told (e ∷ events) h = room-before (stranger_of e.event) told (room-
 -- one that is told stays so
 told-with : (e : Option Origin) (told : List Origin) (o : Origin) → is_origin_of told o ≡ true → is_origin_of (with_told e told) o ≡ true
 told-with None told o h = h
-told-with (Some p) told o h = elim (by-truth (is_origin_of told p || nat_le MOST_STRANGERS (length told))) [ inl same ↦ rw same h | inr more ↦ rw more (among-more told o p ∙ rw h refl) ]
+told-with (Some p) told o h = elim (cases_Bool (is_origin_of told p || nat_le MOST_STRANGERS (length told))) [ inl same ↦ rw same h | inr more ↦ rw more (among-more told o p ∙ rw h refl) ]
 
 told-stays : (told : List Origin) (events : List EventAt) (o : Origin) → is_origin_of told o ≡ true → is_origin_of (told_after told events) o ≡ true
 told-stays told [] o h = h
@@ -238,7 +233,7 @@ told-stays told (e ∷ events) o h = told-stays (with_told (stranger_of e.event)
 
 -- one that comes while there is room is told
 told-then : (o : Origin) (told : List Origin) → HasRoom told → is_origin_of (with_told (Some o) told) o ≡ true
-told-then o told room = elim (by-truth (is_origin_of told o)) [ inl h ↦ rw h h | inr h ↦ rw (h, room) (among-more told o o ∙ rw (h, same-self o) refl) ]
+told-then o told room = elim (cases_Bool (is_origin_of told o)) [ inl h ↦ rw h h | inr h ↦ rw (h, room) (among-more told o o ∙ rw (h, same-self o) refl) ]
 
 -- what no one sends that is not told, where an event of this kind is of a stranger that is this one
 abbrev IsOf : Origin → (Event → Bool) → Type 0
@@ -246,7 +241,7 @@ IsOf o is = (e : Event) → is e ≡ true → (p : Origin) × (stranger_of e ≡
 
 none-sent : (o : Origin) (is : Event → Bool) → IsOf o is → (told : List Origin) (events : List EventAt) → HasRoom (told_after told events) → is_origin_of (told_after told events) o ≡ false → lines_where is events ≡ []
 none-sent o is of told [] room none = refl
-none-sent o is of told (e ∷ events) room none = elim (by-truth (is e.event)) [ inl h ↦ absurd (told-anyway (of e.event h)) | inr h ↦ rw h (none-sent o is of (with_told (stranger_of e.event) told) events room none) ]
+none-sent o is of told (e ∷ events) room none = elim (cases_Bool (is e.event)) [ inl h ↦ absurd (told-anyway (of e.event h)) | inr h ↦ rw h (none-sent o is of (with_told (stranger_of e.event) told) events room none) ]
   where
     told-anyway : (p : Origin) × (stranger_of e.event ≡ Some p) × (same_origin o p ≡ true) → ⊥
     told-anyway found =

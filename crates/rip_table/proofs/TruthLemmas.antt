@@ -1,17 +1,10 @@
 -- Truth values, options and results: small facts that several proofs use.
 use Rattle.std.proofs.Common.{◌≡◌, ℕ, Bool, true, false, ◌&&◌, ◌||◌, Option, Some, None, Result, Ok, Err, refl}
+use Rattle.std.proofs.lemmas.Bool.{and_parts, or_parts}
 use Rattle.std.specs.Option.{option_or}
 use Rattle.rip_table.specs.State.{State}
 use Rattle.rip_table.specs.Joined.{and_then}
 use Rattle.rip_table.specs.declared.error.TableError.{TableError}
-
-pub both-true : (a b : Bool) → (a && b) ≡ true → (a ≡ true) × (b ≡ true)
-both-true true b h = (refl, h)
-both-true false b h = absurd (cc h)
-
-pub neither-true : (a b : Bool) → (a || b) ≡ false → (a ≡ false) × (b ≡ false)
-neither-true true b h = absurd (cc h)
-neither-true false b h = (refl, h)
 
 pub or-true : (b : Bool) → (b || true) ≡ true
 or-true true = refl

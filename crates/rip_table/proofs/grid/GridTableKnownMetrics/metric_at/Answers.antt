@@ -1,6 +1,7 @@
 use Rattle.std.proofs.Common.{◌≡◌, ◌∙◌, sym, arith, length, None}
+use Rattle.std.proofs.lemmas.List.{get_or_default}
 use Rattle.rip_table.specs.Rows.{heads, rows_of}
-use Rattle.rip_table.proofs.RowLemmas.{get_or-any, number-listed, row-at, row-width}
+use Rattle.rip_table.proofs.RowLemmas.{number-listed, row-at, row-width}
 use Rattle.rip_table.proofs.CellLemmas.{cell-at}
 use Rattle.rip_table.proofs.grid.GridTableKnownMetrics.metric_at.Goals as goal
 
@@ -17,4 +18,4 @@ returns g c p at =
     let row = c.index.result.now in
     let number = number-listed (heads (rows_of es)) c.args.k p c.args.self.now.valid.differ at in
     let wide : length row.items ≡ length c.args.self.now.heard.items = row-width es c.args.k (length c.args.self.now.heard.items) row c.args.self.now.grid c.index.ensures in
-    c.metric.ensures ∙ c.index-2.ensures ∙ get_or-any row.items c.args.interface c.index-2.result.now None (omega (arith, wide, c.requires.interface)) ∙ sym (cell-at (rows_of es) p c.args.k c.args.interface row.items number (row-at es c.args.k row p c.index.ensures at))
+    c.metric.ensures ∙ c.index-2.ensures ∙ get_or_default row.items c.args.interface c.index-2.result.now None (omega (arith, wide, c.requires.interface)) ∙ sym (cell-at (rows_of es) p c.args.k c.args.interface row.items number (row-at es c.args.k row p c.index.ensures at))
