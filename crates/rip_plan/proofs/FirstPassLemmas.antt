@@ -14,6 +14,7 @@ use Rattle.rip_wire.specs.Name.{IsName, is_name}
 use Rattle.rip_wire.specs.Prefix.{Block, IsBlock}
 use Rattle.rip_plan.specs.declared.draft.DraftInterface.{DraftInterface}
 use Rattle.rip_plan.specs.declared.draft.DraftPlace.{DraftPlace}
+use Rattle.rip_plan.specs.declared.parts.OwnPrefix.{OwnPrefix}
 use Rattle.rip_plan.specs.declared.parts.Seat.{Seat}
 use Rattle.rip_plan.specs.declared.parts.Seat.TheVariants as seats
 use Rattle.rip_plan.specs.declared.error.At.{At}
@@ -44,7 +45,7 @@ IsFitGateway (Some a) = a < 2 ^ 32
 
 abbrev pub IsFitSeat : ℕ → ℕ → Seat → Type 0
 IsFitSeat links routers (seats.Link l) = l < links
-IsFitSeat links routers (seats.Own r c kept link via) = (r < routers) × (1 ≤ c) × (c ≤ 15) × IsFitGateway via
+IsFitSeat links routers (seats.Own own) = (own.router < routers) × (1 ≤ own.cost) × (own.cost ≤ 15) × IsFitGateway own.via
 
 -- each is an address
 abbrev pub AreAddresses : List ℕ → Type 0
@@ -109,10 +110,10 @@ addresses_fit laws (d ∷ ds) [] m = absurd m
 addresses_fit laws (d ∷ ds) (a ∷ also) (of, m) = ((address_is laws of.0 a of.2).0, addresses_fit laws ds also m)
 
 -- an own prefix is on no link
-outside_same : (l a : ℕ) (ps : List DraftPlace) (prefix : Block) (r c : ℕ) (kept : Bool) (link via : Option ℕ) (place : At) → is_outside l a ps ≡ false
-    → is_outside l a (ps ++ record { prefix = prefix; seat = seats.Own r c kept link via; at = place } ∷ []) ≡ false
-outside_same l a ps prefix r c kept link via place h =
-    let p : DraftPlace = record { prefix = prefix; seat = seats.Own r c kept link via; at = place } in
+outside_same : (l a : ℕ) (ps : List DraftPlace) (prefix : Block) (own : OwnPrefix) (place : At) → is_outside l a ps ≡ false
+    → is_outside l a (ps ++ record { prefix = prefix; seat = seats.Own own; at = place } ∷ []) ≡ false
+outside_same l a ps prefix own place h =
+    let p : DraftPlace = record { prefix = prefix; seat = seats.Own own; at = place } in
     let on = any_same (λ q. is_on l q.seat) ps p refl in
     let holds = any_same (λ q. is_on l q.seat && has_address q.prefix a) ps p refl in
     rw (on, holds) h
@@ -137,7 +138,7 @@ fit_place_more links routers more others le le' p f = record { prefix = f.prefix
   where
     wider : (seat : Seat) → IsFitSeat links routers seat → IsFitSeat more others seat
     wider (seats.Link l) h = omega arith
-    wider (seats.Own r c kept link via) h = (omega (arith, h.0), h.1, h.2, h.3)
+    wider (seats.Own own) h = (omega (arith, h.0), h.1, h.2, h.3)
 
 -- while the prefixes of link i are read
 record WhileLink (i : ℕ) (s : Sketch) : Type 0 where
@@ -260,8 +261,8 @@ own_keeps laws links r j d s t some while h =
     let kept = while.kept in
     let number : length s.routers ≡ r = while.number in
     let room : length s.places + 1 ≤ 1024 = room_left (length s.places) taken.added.room in
-    let added : DraftPlace = record { prefix = taken.prefix; seat = seats.Own (r - 1) taken.cost taken.given.kept taken.link taken.via; at = _ } in
-    let costs = cost_within taken.given.cost taken.cost taken.costs in
+    let added : DraftPlace = record { prefix = taken.prefix; seat = seats.Own taken.own; at = _ } in
+    let costs = cost_within taken.given.cost taken.own.cost taken.costs in
     rw taken.added.made (record {
       kept = record {
         link_names = kept.link_names;
@@ -270,9 +271,9 @@ own_keeps laws links r j d s t some while h =
         routers_differ = kept.routers_differ;
         interfaces = kept.interfaces;
         inside = all_weaker (IsInsideOf s.places) (IsInsideOf (s.places ++ added ∷ []))
-            (λ i e. outside_same i.interface.link i.interface.address s.places taken.prefix (r - 1) taken.cost taken.given.kept taken.link taken.via added.at e) s.interfaces kept.inside;
+            (λ i e. outside_same i.interface.link i.interface.address s.places taken.prefix taken.own added.at e) s.interfaces kept.inside;
         places = all_push (IsFitPlace (length s.links) (length s.routers)) s.places added kept.places
-            (record { prefix = (prefix_is laws taken.given.prefix taken.prefix taken.parsed).0; seat = (omega arith, costs.0, costs.1, gateway_fits laws taken.given.via taken.via taken.gateway) });
+            (record { prefix = (prefix_is laws taken.given.prefix taken.prefix taken.parsed).0; seat = (omega (arith, taken.router), costs.0, costs.1, gateway_fits laws taken.given.via taken.own.via taken.gateway) });
         also = kept.also;
         also_listed = kept.also_listed;
         few_interfaces = kept.few_interfaces;

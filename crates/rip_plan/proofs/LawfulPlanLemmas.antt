@@ -174,7 +174,7 @@ module _ (s : Sketch) (good : Good s) where
   touch k p r c (inl (l, place, (i, is))) =
       let (x, at, same) = interface_in s i _ is.listed in
       (seats.Link l, place, on_touched s.interfaces l r i x at (ap (λ (v : Interface). v.link) same) (ap (λ (v : Interface). v.router) same))
-  touch k p r c (inr own) = (seats.Own r c own.kept own.link own.via, own.place, own_touched s.interfaces r c own.kept own.link own.via)
+  touch k p r c (inr h) = (seats.Own h.own, h.place, own_touched s.interfaces r h.own h.router)
 
   touched_once : (k j p r c d : ℕ) → Touches (network_of_sketch s) k p r c → Touches (network_of_sketch s) j p r d → k ≡ j
   touched_once k j p r c d h h' =
@@ -191,9 +191,9 @@ module _ (s : Sketch) (good : Good s) where
   -- the router of an attached prefix is on its link
   attached_there : (r p l : ℕ) → IsAttached (network_of_sketch s) r p l → IsOn (network_of_sketch s) r l
   attached_there r p l (k, h) =
-      let (d, at, prefix, same) = place_in s k p (seats.Own r h.cost h.kept (Some l) h.via) h.place in
+      let (d, at, prefix, same) = place_in s k p (seats.Own h.own) h.place in
       let off : is_astray s.interfaces d.seat ≡ false = none_found_at (λ (q : DraftPlace). is_astray s.interfaces q.seat) s.places k d good.clear.astray at in
-      let there : is_there s.interfaces r l ≡ true = not_false (is_there s.interfaces r l) (ap (is_astray s.interfaces) same ∙ off) in
+      let there : is_there s.interfaces r l ≡ true = not_false (is_there s.interfaces r l) (rw (h.says, h.router) at (ap (is_astray s.interfaces) same ∙ off)) in
       let (i, x, listed, test) = any_finds (λ (y : DraftInterface). y.interface.router == r && y.interface.link == l) s.interfaces there in
       let (routers, links) = both (x.interface.router == r) (x.interface.link == l) test in
       let router : x.interface.router ≡ r = grind (arith, nat_tests) in
@@ -268,11 +268,11 @@ module _ (s : Sketch) (good : Good s) where
     one_place = λ p h. let (k, seat, place) = (numbers s.places).used p h in (k, seat, record { listed = place });
     prefix_known = λ k p seat h. let (d, at, prefix, same) = place_in s k p seat h in slice_get_within (network_of_sketch s).prefixes p d.prefix prefix;
     seat_known = λ k p l h. seat_at k p (seats.Link l) h;
-    owner_known = λ k p r c h. (seat_at k p (seats.Own r c h.kept h.link h.via) h.place).0;
-    own_cost_least = λ k p r c h. (seat_at k p (seats.Own r c h.kept h.link h.via) h.place).1;
-    own_cost_most = λ k p r c h. (seat_at k p (seats.Own r c h.kept h.link h.via) h.place).2;
+    owner_known = λ k p r c h. rw h.router at (seat_at k p (seats.Own h.own) h.place).0;
+    own_cost_least = λ k p r c h. rw h.says at (seat_at k p (seats.Own h.own) h.place).1;
+    own_cost_most = λ k p r c h. rw h.says at (seat_at k p (seats.Own h.own) h.place).2;
     attached_there = attached_there;
-    gateway_known = λ r p a h. (seat_at h.0 p (seats.Own r h.1.cost h.1.kept h.1.link (Some a)) h.1.place).3;
+    gateway_known = λ r p a h. rw h.1.says at (seat_at h.0 p (seats.Own h.1.own) h.1.place).3;
     carried_once = carried_once;
     touched_once = touched_once;
   }

@@ -97,12 +97,15 @@ on_link_same laws x y at h k =
 owned_same : (laws : TextLaws) (names others : List (List ℕ)) → names ≡ others → (x y : Placement) (at : ℕ × Data) → IsOwned names x at → IsOwned others y at → x ≡ y
 owned_same laws names others same x y at h k =
     let text : h.text ≡ k.text = text_same (codes_of "prefix") at.1 h.text k.text h.has_prefix k.has_prefix in
-    let cost : h.cost ≡ k.cost = cost_same at.1 h.cost k.cost h.is_cost k.is_cost in
-    let kept : h.kept ≡ k.kept = flag_same (codes_of "kept") at.1 false false refl h.kept k.kept h.is_kept k.is_kept in
-    let link : h.link ≡ k.link = link_same names others same at.1 h.link k.link h.is_link k.is_link in
-    let via : h.via ≡ k.via = gateway_same laws at.1 h.via k.via h.is_via k.is_via in
-    let seat : seats.Own at.0 h.cost h.kept h.link h.via ≡ seats.Own at.0 k.cost k.kept k.link k.via = rw (cost, kept, link, via) refl in
-    placement_same x y (one_prefix laws h.text k.text x.prefix y.prefix text h.prefix k.prefix) (h.seat ∙ seat ∙ sym k.seat)
+    let a = h.own in
+    let b = k.own in
+    let router : a.router ≡ b.router = h.router ∙ sym k.router in
+    let cost : a.cost ≡ b.cost = cost_same at.1 a.cost b.cost h.cost k.cost in
+    let kept : a.kept ≡ b.kept = flag_same (codes_of "kept") at.1 false false refl a.kept b.kept h.kept k.kept in
+    let link : a.link ≡ b.link = link_same names others same at.1 a.link b.link h.link k.link in
+    let via : a.via ≡ b.via = gateway_same laws at.1 a.via b.via h.via k.via in
+    let own : a ≡ record { router = b.router; cost = b.cost; kept = b.kept; link = b.link; via = b.via } = rw (← router, ← cost, ← kept, ← link, ← via) refl in
+    placement_same x y (one_prefix laws h.text k.text x.prefix y.prefix text h.prefix k.prefix) (h.seat ∙ ap seats.Own own ∙ sym k.seat)
 
 place_same : (n m : Network) (bs : List Block) → n.prefixes ≡ each_once bs → n.prefixes ≡ m.prefixes → (x y : Place) (p : Placement) → IsPlaceOf n x p → IsPlaceOf m y p → x ≡ y
 place_same n m bs once same x y p h k =

@@ -2,6 +2,7 @@
 use Rattle.std.proofs.Common.{◌≡◌, ℕ, zero, suc, ◌+◌, ◌<◌, ◌≤◌, ◌⊎◌, inl, inr, List, [], ◌∷◌, ◌++◌, length, Bool, true, false, cond, not, ◌||◌, ◌&&◌, Option, Some, None, Result, refl, sym, ap, subst, ◌∙◌, arith, length-append, append_assoc}
 use Rattle.std.specs.Prelude.{slice_get, find, option_map, unwrap_or, map, filter, ◌==◌, codes as codes_of}
 use Rattle.std.specs.List.{list_any}
+use Rattle.std.specs.Option.{option_map_or}
 use Rattle.std.proofs.lemmas.Option.{none-some, same_Some, slice_get_within}
 use Rattle.std.proofs.lemmas.List.{append-nil}
 use Rattle.std.proofs.lemmas.Bool.{cases_lt}
@@ -16,6 +17,7 @@ use Rattle.rip_plan.specs.declared.addresses.Held.{Held}
 use Rattle.rip_plan.specs.declared.draft.DraftPlace.{DraftPlace}
 use Rattle.rip_plan.specs.declared.draft.DraftInterface.{DraftInterface}
 use Rattle.rip_plan.specs.declared.parts.Interface.{Interface}
+use Rattle.rip_plan.specs.declared.parts.OwnPrefix.{OwnPrefix}
 use Rattle.rip_plan.specs.declared.parts.Seat.{Seat}
 use Rattle.rip_plan.specs.declared.parts.Seat.TheVariants as seats
 use Rattle.rip_plan.specs.Codes.{number_of_code}
@@ -230,7 +232,7 @@ module _ (s : Sketch) where
   touch k p r c (inl (l, place, (i, is))) =
       let (x, at, same) = interface_in i _ is.listed in
       (seats.Link l, place, on_touched s.interfaces l r i x at (ap (λ (v : Interface). v.link) same) (ap (λ (v : Interface). v.router) same))
-  touch k p r c (inr own) = (seats.Own r c own.kept own.link own.via, own.place, own_touched s.interfaces r c own.kept own.link own.via)
+  touch k p r c (inr h) = (seats.Own h.own, h.place, own_touched s.interfaces r h.own h.router)
 
   -- a router that a seat touches
   touched_on : (is : List DraftInterface) (l r : ℕ) → list_any (λ m. m == r) (touched is (seats.Link l)) ≡ true → (i : ℕ) × (x : DraftInterface) × (slice_get is i ≡ Some x) × (x.interface.link ≡ l) × (x.interface.router ≡ r)
@@ -255,10 +257,9 @@ module _ (s : Sketch) where
   touches k p r (seats.Link l) place h =
       let (i, x, at, link, router) = touched_on s.interfaces l r h in
       (x.interface.direct, inl (l, place, (i, record { address = x.interface.address; cost = x.interface.cost; poison = x.interface.poison; listed = listed_as i x r l at router link })))
-  touches k p r (seats.Own owner c kept link via) place h =
-      let one : (owner == r) ≡ true = only (owner == r) h in
-      let same : owner ≡ r = grind (arith, nat_tests) in
-      (c, inr (record { kept = kept; link = link; via = via; place = subst (λ (m : ℕ). IsPlace (network_of_sketch s) k p (seats.Own m c kept link via)) same place }))
+  touches k p r (seats.Own own) place h =
+      let one : (own.router == r) ≡ true = only (own.router == r) h in
+      (own.cost, inr (record { own = own; place = place; router = grind (arith, nat_tests); says = refl }))
     where
       only : (b : Bool) → (b || false) ≡ true → b ≡ true
       only true e = refl
@@ -270,8 +271,8 @@ module _ (s : Sketch) where
 
   on_one : (seat other : Seat) → is_same_link seat other ≡ true → (l : ℕ) × (seat ≡ seats.Link l) × (other ≡ seats.Link l)
   on_one (seats.Link l) (seats.Link m) h = let same : l ≡ m = grind (arith, nat_tests) in (l, refl, ap seats.Link (sym same))
-  on_one (seats.Link l) (seats.Own r c kept link via) h = absurd cc
-  on_one (seats.Own r c kept link via) other h = absurd cc
+  on_one (seats.Link l) (seats.Own own) h = absurd cc
+  on_one (seats.Own own) other h = absurd cc
 
   meet_gives : (j k : ℕ) (y x : DraftPlace) → slice_get s.places j ≡ Some y → slice_get s.places k ≡ Some x → do_meet (touching s.interfaces y) (touching s.interfaces x) ≡ true → DoMeet (network_of_sketch s) j k
   meet_gives j k y x at there h =
@@ -420,23 +421,26 @@ module _ (s : Sketch) where
 
       by_seat : (seat : Seat) (p : ℕ) → IsPlace (network_of_sketch s) k p seat → is_astray s.interfaces seat ≡ true → IsAstray (network_of_sketch s) k
       by_seat (seats.Link l) p place e = absurd cc
-      by_seat (seats.Own r c kept None via) p place e = absurd cc
-      by_seat (seats.Own r c kept (Some l) via) p place e = (p, r, l, record { cost = c; kept = kept; via = via; place = place }, off)
+      by_seat (seats.Own own) p place e = by_link own.link refl e
         where
-          off : IsOn (network_of_sketch s) r l → ⊥
-          off (b, (i, is)) =
+          off : (r l : ℕ) → not (is_there s.interfaces r l) ≡ true → IsOn (network_of_sketch s) r l → ⊥
+          off r l f (b, (i, is)) =
               let (x, listed, same) = interface_in i _ is.listed in
               let router : x.interface.router ≡ r = ap (λ (v : Interface). v.router) same in
               let link : x.interface.link ≡ l = ap (λ (v : Interface). v.link) same in
               let there : is_there s.interfaces r l ≡ true = any_at (λ (y : DraftInterface). y.interface.router == r && y.interface.link == l) s.interfaces i x listed (grind (arith, nat_tests)) in
-              let none : is_there s.interfaces r l ≡ false = not_true (is_there s.interfaces r l) e in
+              let none : is_there s.interfaces r l ≡ false = not_true (is_there s.interfaces r l) f in
               absurd cc
+
+          by_link : (link : Option ℕ) → own.link ≡ link → option_map_or (λ l. not (is_there s.interfaces own.router l)) link false ≡ true → IsAstray (network_of_sketch s) k
+          by_link None is f = absurd cc
+          by_link (Some l) is f = (p, own.router, l, record { own = own; place = place; router = refl; says = is }, off own.router l f)
 
   astray_takes : (k : ℕ) → IsAstray (network_of_sketch s) k → (d : DraftPlace) × (slice_get s.places k ≡ Some d) × (is_astray s.interfaces d.seat ≡ true)
   astray_takes k (p, r, l, h, none) =
-      let (d, at, prefix, same) = place_in k p (seats.Own r h.cost h.kept (Some l) h.via) h.place in
+      let (d, at, prefix, same) = place_in k p (seats.Own h.own) h.place in
       let off : is_there s.interfaces r l ≡ false = by_test (is_there s.interfaces r l) refl in
-      (d, at, ap (is_astray s.interfaces) (sym same) ∙ ap not off)
+      (d, at, ap (is_astray s.interfaces) (sym same) ∙ rw (h.says, h.router, off) refl)
     where
       on : is_there s.interfaces r l ≡ true → ⊥
       on e =
@@ -642,8 +646,8 @@ module _ (laws : TextLaws) (document : Members) (links routers : List Data) (s :
           record { k = k; x = x; at = at; so = clashes; stands = seen ∙ ap (λ (y : DraftInterface). y.at) same ∙ stands }
 
   -- own prefixes
-  own_spot : (k i j p r c : ℕ) (kept : Bool) (link via : Option ℕ) → IsPlace (network_of_sketch s) k p (seats.Own r c kept link via) → slice_get (place_spots links routers) k ≡ Some (LinkPrefix i j) → ⊥
-  own_spot k i j p r c kept link via place spot =
+  own_spot : (k i j p : ℕ) (own : OwnPrefix) → IsPlace (network_of_sketch s) k p (seats.Own own) → slice_get (place_spots links routers) k ≡ Some (LinkPrefix i j) → ⊥
+  own_spot k i j p own place spot =
       let n = network_of_sketch s in
       let on_links = spots_under (codes_of "prefixes") LinkPrefix 1 links in
       let count : length on_links ≡ length plan.on_links =
@@ -654,7 +658,7 @@ module _ (laws : TextLaws) (document : Members) (links routers : List Data) (s :
       elim (get_split plan.on_links plan.owned k q at) [
         | inl here ↦
             let (x, is, on) = matched_left IsOnLink plan.on_links (items_under (codes_of "prefixes") 0 plan.links) k q plan.link_prefixes here.0 in
-            let seat : seats.Own r c kept link via ≡ seats.Link x.0 = of.seat ∙ on.seat in
+            let seat : seats.Own own ≡ seats.Link x.0 = of.seat ∙ on.seat in
             absurd cc
         | inr there ↦
             let past : k ≡ length plan.on_links + there.0 = there.1 in
@@ -671,7 +675,7 @@ module _ (laws : TextLaws) (document : Members) (links routers : List Data) (s :
   astray_told place c =
       let (k, at, (p, r, l, h, none)) = c in
       elim (place_spot links routers k place at) [
-        | inl (i, j, is) ↦ absurd (own_spot k i j p r h.cost h.kept (Some l) h.via h.place (at ∙ ap (λ (x : At). Some x) is))
+        | inl (i, j, is) ↦ absurd (own_spot k i j p h.own h.place (at ∙ ap (λ (x : At). Some x) is))
         | inr (i, j, is) ↦ subst (IsAstrayAt document links routers) (sym is) (network_of_sketch s, plan, subst (IsSo (IsAstray (network_of_sketch s)) (place_spots links routers)) is c)
       ]
 

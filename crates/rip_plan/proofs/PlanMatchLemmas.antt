@@ -15,7 +15,7 @@ use Rattle.rip_plan.specs.Fields.{◌&>◌, flag_if, items_at, root_keys, has_on
 use Rattle.rip_plan.specs.Draft.{Sketch, prefix_step, link_step, interface_step, own_step, router_step}
 use Rattle.rip_plan.specs.PlanText.{empty, sketch_of}
 use Rattle.rip_plan.specs.Network.{Network, network_in, network_of_sketch}
-use Rattle.rip_plan.specs.PlanOf.{Matched, HasItems, IsAddressOf, AreAlsoOf, IsNameOf, items_under, IsInterfaceOf, Placement, IsOnLink, IsOwned, IsPlaceOf, IsPoisonOf, each_once, PlanOf, IsPlanOfText}
+use Rattle.rip_plan.specs.PlanOf.{Matched, HasItems, IsAddressOf, AreAlsoOf, IsNameOf, items_under, IsInterfaceOf, IsKeptOf, Placement, IsOnLink, IsOwned, IsPlaceOf, IsPoisonOf, each_once, PlanOf, IsPlanOfText}
 use Rattle.rip_plan.proofs.BindLemmas.{bind_ok, ok_same}
 use Rattle.rip_plan.proofs.TakenStepLemmas.{with_link, with_router, prefix_taken, link_taken, interface_taken, own_taken, router_taken, text_taken}
 use Rattle.rip_plan.proofs.NumberingLemmas.{numbers}
@@ -141,9 +141,9 @@ owns_added laws r j [] s t h = record { added = []; made = sym (ok_same s t h) �
 owns_added laws r j (x ∷ xs) s t h =
     let (u, first, others) = bind_ok (own_step (r + 1) j x s) (steps (own_step (r + 1)) (j + 1) xs) t h in
     let taken = own_taken (r + 1) j x s u first in
-    let fields = own_table laws x s.links taken.given taken.cost taken.link taken.via taken.fields taken.costs taken.known taken.gateway in
+    let fields = own_table laws x s.links taken.given taken.own taken.fields taken.costs taken.known taken.gateway in
     let rest = owns_added laws r (j + 1) xs u t others in
-    let new : DraftPlace = record { prefix = taken.prefix; seat = seats.Own (r + 1 - 1) taken.cost taken.given.kept taken.link taken.via; at = RouterOwn (r + 1) j } in
+    let new : DraftPlace = record { prefix = taken.prefix; seat = seats.Own taken.own; at = RouterOwn (r + 1) j } in
     record {
       added = new ∷ rest.added;
       made = rest.made ∙ ap (λ (v : Sketch). record v { places = v.places ++ rest.added }) taken.added.made ∙ ap (λ (ps : List DraftPlace). record s { places = ps }) (append_assoc s.places (new ∷ []) rest.added);
@@ -152,15 +152,13 @@ owns_added laws r j (x ∷ xs) s t h =
           text = taken.given.prefix;
           has_prefix = fields.has.has_prefix;
           prefix = prefix_is laws taken.given.prefix taken.prefix taken.parsed;
-          cost = taken.cost;
-          is_cost = fields.cost;
-          kept = taken.given.kept;
-          is_kept = fields.has.kept;
-          link = taken.link;
-          is_link = fields.link;
-          via = taken.via;
-          is_via = fields.via;
-          seat = ap (λ (n : ℕ). seats.Own n taken.cost taken.given.kept taken.link taken.via) (back r);
+          own = taken.own;
+          seat = refl;
+          router = taken.router ∙ back r;
+          cost = fields.cost;
+          kept = subst (IsKeptOf x) (sym taken.kept) fields.has.kept;
+          link = fields.link;
+          via = fields.via;
         },
         subst (λ (names : List (List ℕ)). Matched (IsOwned names) (map placement rest.added) (map (with_number r) xs)) (ap (λ (v : Sketch). v.links) taken.added.made) rest.match,
       );

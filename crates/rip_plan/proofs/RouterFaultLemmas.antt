@@ -213,7 +213,7 @@ has_prefix links v linked l k q h on =
           (k, of.text, is ∙ ap (λ (x : ℕ × Data). Some x) (ap (λ (m : ℕ). (m, item)) same ∙ ap (λ (y : Data). (l, y)) of.is_text), of.prefix)
       | inr there ↦
           let (y, is, of) = matched_left (IsOwned linked.names) (map placement linked.owned) linked.owns there.0 (placement q) linked.own (see_got placement linked.owned there.0 q there.2) in
-          let wrong : seats.Link l ≡ seats.Own y.0 of.cost of.kept of.link of.via = sym seat ∙ of.seat in
+          let wrong : seats.Link l ≡ seats.Own of.own = sym seat ∙ of.seat in
           absurd cc
     ]
 

@@ -12,6 +12,7 @@ use Rattle.rip_plan.specs.declared.error.At.TheVariants.{Router, Text}
 use Rattle.rip_plan.specs.declared.addresses.Held.{Held}
 use Rattle.rip_plan.specs.declared.draft.DraftInterface.{DraftInterface}
 use Rattle.rip_plan.specs.declared.draft.DraftPlace.{DraftPlace}
+use Rattle.rip_plan.specs.declared.parts.OwnPrefix.{OwnPrefix}
 use Rattle.rip_plan.specs.declared.parts.Seat.TheVariants as seats
 use Rattle.rip_plan.specs.Draft.{Sketch}
 use Rattle.rip_plan.specs.Passes.{Touching, first_clash, touched, touching, do_meet, have_common, are_twice, is_astray, is_bare, first_bare, none_found, second_passes, spot_of, taken_address_in}
@@ -135,8 +136,8 @@ on_touched (y ∷ ys) l r (suc i) x h on of = by_test (y.interface.link == l) re
     by_test true e later = rw e (either (y.interface.router == r) (list_any (λ s. s == r) (touched ys (seats.Link l))) later)
     by_test false e later = rw e later
 
-pub own_touched : (is : List DraftInterface) (r c : ℕ) (kept : Bool) (link via : Option ℕ) → list_any (λ s. s == r) (touched is (seats.Own r c kept link via)) ≡ true
-own_touched is r c kept link via = let same : (r == r) ≡ true = grind (arith, nat_tests) in rw same refl
+pub own_touched : (is : List DraftInterface) (r : ℕ) (own : OwnPrefix) → own.router ≡ r → list_any (λ s. s == r) (touched is (seats.Own own)) ≡ true
+own_touched is r own h = let same : (own.router == r) ≡ true = grind (arith, nat_tests) in rw same refl
 
 pub common : (rs ss : List ℕ) (r : ℕ) → list_any (λ s. s == r) rs ≡ true → list_any (λ s. s == r) ss ≡ true → have_common rs ss ≡ true
 common rs ss r h k =

@@ -6,6 +6,7 @@ use Rattle.std.proofs.lemmas.Option.{none-some, same_Some, cond_some}
 use Rattle.std.proofs.lemmas.Bool.Decides.{nat_tests}
 use Rattle.toml.specs.Data.{Data, Items, Members, string, integer, float, boolean, datetime, array, table, get, get_member, as_bool, as_str, as_integer, as_array, as_table}
 use Rattle.rip_wire.specs.Address.{address_in}
+use Rattle.rip_plan.specs.declared.parts.OwnPrefix.{OwnPrefix}
 use Rattle.rip_plan.specs.Fields.{InterfaceFields, OwnFields, ◌&>◌, has_only, list_of, text_at, items_at, items_if, integer_if, texts_of, flag_if, text_if, address_if, link_if, addresses_in, link_keys, interface_keys, own_keys, router_keys, is_between, link_fields, interface_fields, own_fields, router_fields, cost_of, direct_of}
 use Rattle.rip_plan.specs.Names.{number_of_name}
 use Rattle.rip_plan.specs.PlanOf.{HasText, IsAddressOf, IsCostOf, IsDirectOf, IsGatewayOf, IsKeptOf, IsLinkOf, IsNameOf, IsPoisonOf, Matched, items_in}
@@ -238,11 +239,11 @@ own_texts d f h =
       via = text_if_is (get_member (codes_of "via") ms) g fifth;
     }))
 
-pub record IsOwnTable (d : Data) (links : List (List ℕ)) (f : OwnFields) (c : ℕ) (l a : Option ℕ) : Type 0 where
+pub record IsOwnTable (d : Data) (links : List (List ℕ)) (f : OwnFields) (own : OwnPrefix) : Type 0 where
   pub has : HasOwnFields d f
-  pub cost : IsCostOf d c
-  pub link : IsLinkOf links d l
-  pub via : IsGatewayOf d a
+  pub cost : IsCostOf d own.cost
+  pub link : IsLinkOf links d own.link
+  pub via : IsGatewayOf d own.via
 
 link_is : (links : List (List ℕ)) (d : Data) (name : Option (List ℕ)) (link : Option ℕ) → IsTextIf (get (codes_of "link") d) name → link_if name links ≡ Some link → IsLinkOf links d link
 link_is links d None link has h = let same : None ≡ link = same_Some None link h in subst (IsLinkOf links d) same has
@@ -260,14 +261,15 @@ gateway_is laws d (Some text) via has h = by_address (address_in text) refl h
     by_address None e g = absurd (none-some via g)
     by_address (Some a) e g = subst (IsGatewayOf d) (same_Some (Some a) via g) (text, has, address_is laws text a e)
 
-pub own_table : (laws : TextLaws) (d : Data) (links : List (List ℕ)) (f : OwnFields) (c : ℕ) (link via : Option ℕ) → (as_table d &> own_fields) ≡ Some f → cost_of f.cost ≡ Some c → link_if f.link links ≡ Some link → address_if f.via ≡ Some via → IsOwnTable d links f c link via
-own_table laws d links f c link via h costs known gateway =
+pub own_table : (laws : TextLaws) (d : Data) (links : List (List ℕ)) (f : OwnFields) (own : OwnPrefix)
+    → (as_table d &> own_fields) ≡ Some f → cost_of f.cost ≡ Some own.cost → link_if f.link links ≡ Some own.link → address_if f.via ≡ Some own.via → IsOwnTable d links f own
+own_table laws d links f own h costs known gateway =
     let has = own_texts d f h in
     record {
       has = has;
-      cost = cost_is (get (codes_of "cost") d) f.cost c has.cost costs;
-      link = link_is links d f.link link has.link known;
-      via = gateway_is laws d f.via via has.via gateway;
+      cost = cost_is (get (codes_of "cost") d) f.cost own.cost has.cost costs;
+      link = link_is links d f.link own.link has.link known;
+      via = gateway_is laws d f.via own.via has.via gateway;
     }
 
 pub record IsRouterTable (d : Data) (name : List ℕ) (interfaces owns : List Data) : Type 0 where

@@ -226,7 +226,7 @@ module _ (laws : TextLaws) (document : Members) (n : Network) (plan : PlanOf doc
             (k, on.text, is ∙ ap (λ (y : ℕ × Data). Some y) (ap (λ (v : ℕ). (v, item)) number ∙ ap (λ (y : Data). (l, y)) on.is_text), subst (IsPrefixText on.text) (sym same) on.prefix)
         | inr there ↦
             let ((m, item), is, own) = matched_left (IsOwned n.links) plan.owned (items_under (codes_of "own") 0 plan.routers) there.0 q plan.own_prefixes there.2 in
-            let seat : seats.Link l ≡ seats.Own m own.cost own.kept own.link own.via = of.seat ∙ own.seat in
+            let seat : seats.Link l ≡ seats.Own own.own = of.seat ∙ own.seat in
             absurd cc
       ]
 
@@ -333,8 +333,8 @@ module _ (laws : TextLaws) (document : Members) (n : Network) (plan : PlanOf doc
   own_cost x h wrong =
       let k = length plan.on_links + h.k in
       let (p, place, prefix) = its_place k h.q (get_past plan.on_links plan.owned h.k k refl ∙ h.listed) in
-      let own : IsOwnAt n k p h.m h.of.cost = record { kept = h.of.kept; link = h.of.link; via = h.of.via; place = subst (IsPlace n k p) h.of.seat place } in
-      costs x h.of.cost h.of.is_cost (lawful.own_cost_least k p h.m h.of.cost own) (lawful.own_cost_most k p h.m h.of.cost own) wrong
+      let own : IsOwnAt n k p h.m h.of.own.cost = record { own = h.of.own; place = subst (IsPlace n k p) h.of.seat place; router = h.of.router; says = refl } in
+      costs x h.of.own.cost h.of.cost (lawful.own_cost_least k p h.m h.of.own.cost own) (lawful.own_cost_most k p h.m h.of.own.cost own) wrong
 
 -- ---- bytes that are well formed
 
@@ -409,8 +409,8 @@ module _ (laws : TextLaws) (bytes : List ℕ) (w : IsWellFormed bytes) where
   table_not codes.OutsidePrefix (RouterInterface r j) f = outside_not laws w.document w.network w.plan w.lawful f.0 (its_interface laws w.document w.network w.plan w.lawful r j f.0 f.1) f.2
   table_not codes.Limit (RouterInterface r j) f = interface_limit laws w.document w.network w.plan w.lawful r j f
   table_not codes.Key (RouterOwn r j) f = item_fields IsOwnTable (codes_of "own") w.plan.routers r j f.0 w.own_tables f.1 f.2
-  table_not codes.Address (RouterOwn r j) f = let h = its_own laws w.document w.network w.plan w.lawful r j f.0 f.1 in gateways f.0 h.of.via h.of.is_via f.2
-  table_not codes.UnknownLink (RouterOwn r j) f = let h = its_own laws w.document w.network w.plan w.lawful r j f.0 f.1 in attached_not laws w.document w.network w.plan w.lawful f.0 h.of.link h.of.is_link f.2
+  table_not codes.Address (RouterOwn r j) f = let h = its_own laws w.document w.network w.plan w.lawful r j f.0 f.1 in gateways f.0 h.of.own.via h.of.via f.2
+  table_not codes.UnknownLink (RouterOwn r j) f = let h = its_own laws w.document w.network w.plan w.lawful r j f.0 f.1 in attached_not laws w.document w.network w.plan w.lawful f.0 h.of.own.link h.of.link f.2
   table_not codes.Prefix (RouterOwn r j) f = own_prefix_told r j f.0 f.1 f.2 f.3 f.4
   table_not codes.Cost (RouterOwn r j) f = own_cost laws w.document w.network w.plan w.lawful f.0 (its_own laws w.document w.network w.plan w.lawful r j f.0 f.1) f.2
   table_not codes.Limit (RouterOwn r j) f = past_not laws w.document w.network w.plan w.lawful (place_spots w.plan.links w.plan.routers) (RouterOwn r j) f.0 (few_places laws w.document w.network w.plan w.lawful) f.1 f.2

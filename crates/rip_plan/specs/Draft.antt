@@ -124,7 +124,13 @@ own_step r j d s =
     wanted (fault codes.Prefix (RouterOwn r j)) (prefix_in f.prefix) >>= (λ prefix.
     wanted (fault codes.Cost (RouterOwn r j)) (cost_of f.cost) >>= (λ cost.
     wanted (fault codes.UnknownLink (RouterOwn r j)) (link_if f.link s.links) >>= (λ link.
-    with_place (RouterOwn r j) prefix (seats.Own (r - 1) cost f.kept link via) s)))))
+    with_place (RouterOwn r j) prefix (seats.Own (record {
+      router = r - 1;
+      cost = cost;
+      kept = f.kept;
+      link = link;
+      via = via;
+    })) s)))))
 
 -- router r
 unfoldable pub router_step : ℕ → Data → Sketch → Result Sketch PlanError

@@ -29,6 +29,7 @@ returns-in-Link c r k h =
 
 pub returns-in-Own : goal.returns-in-Own
 returns-in-Own c r k h =
-    let within : IsOwnerWithin c.args.prefixes c.args.place.prefix (length c.args.costs.now) (Own c.in-Own.router c.in-Own.cost c.in-Own.kept c.in-Own.link c.in-Own.via) = rw c.in-Own.is at c.requires.owner in
-    cell_set c.args.costs.now c.args.prefixes c.in-Own.router c.args.place.prefix r k c.in-Own.cost 0 within c.requires.column h
-    ∙ rw c.in-Own.is (own_written (c.in-Own.router == r) (c.args.place.prefix == k) c.in-Own.cost (cell c.args.prefixes c.args.costs.now r k))
+    let own = c.in-Own.own in
+    let within : IsOwnerWithin c.args.prefixes c.args.place.prefix (length c.args.costs.now) (Own own) = rw c.in-Own.is at c.requires.owner in
+    cell_set c.args.costs.now c.args.prefixes own.router c.args.place.prefix r k own.cost 0 within c.requires.column h
+    ∙ rw c.in-Own.is (own_written (own.router == r) (c.args.place.prefix == k) own.cost (cell c.args.prefixes c.args.costs.now r k))

@@ -25,7 +25,7 @@ met interfaces by same front p seats h =
 
 touched_same : {S G : Type 0} (on_links : HashMap ℕ (Vec ℕ G) S) (interfaces : List DraftInterface) → ((l : ℕ) → listed nat_eq on_links l ≡ touched interfaces (Link l)) → (seat : Seat) → touched_by on_links seat ≡ touched interfaces seat
 touched_same on_links interfaces h (Link l) = h l
-touched_same on_links interfaces h (Own r c kept link via) = refl
+touched_same on_links interfaces h (Own own) = refl
 
 pub returns-then-meets_earlier : goal.returns-then-meets_earlier
 returns-then-meets_earlier c =
@@ -48,7 +48,7 @@ loop-k-preserved c =
     let before = met is (touched_by c.in_ok-on_links.on_links) (touched_same c.in_ok-on_links.on_links is c.in_ok-on_links.ensures) (take k places) p (listed same_prefix c.loop-k.earlier p.prefix) (c.loop-k.invariant.1 p.prefix) in
     let more : take (k + 1) places ≡ take k places ++ p ∷ [] = take_more places k p c.loop-k-test.true ∙ ap (λ q. take k places ++ q ∷ []) (sym c.index-places-k.is) in (
       clash_later clash places k p c.loop-k-test.true c.index-places-k.is _ (sym before ∙ sym c.meets_earlier.ensures ∙ c.if-meets_earlier.false) c.loop-k.invariant.0,
-      λ b. c.in_ok-add_seat.ensures b
+      λ b. c.in_ok-add_at.ensures b
           ∙ rw (c.loop-k.invariant.1 b) (sym (ap (λ ps. map (λ q. q.seat) (filter (λ q. same_prefix q.prefix b) ps)) more ∙ listed_push (λ (q : DraftPlace). q.seat) (λ q. same_prefix q.prefix b) (take k places) p)),
     )
 
