@@ -4,6 +4,7 @@ use Rattle.std.proofs.lemmas.Bool.{cases_lt, cases_eq}
 use Rattle.std.proofs.lemmas.Option.{slice_get_within}
 use Rattle.rip_check.proofs.PlanLemmas.{find_below, held_back_once, holds_back_or_not, its_cost, one_seat}
 use Rattle.rip_plan.specs.declared.parts.Interface.{Interface}
+use Rattle.rip_plan.specs.declared.parts.OwnPrefix.{OwnPrefix}
 use Rattle.rip_plan.specs.declared.parts.Seat.TheVariants.{Link, Own}
 use Rattle.rip_plan.specs.Network.{Network}
 use Rattle.rip_plan.specs.Relations.{IsConnected, IsDirect, IsInterface, IsLawful, IsLeaf, Touches}
@@ -182,14 +183,15 @@ module _ (n : Network) (plan : IsLawful n) (shown : State) where
           let x'' : IsConnected n y.2.0 r y.0 c = rw number at x' in
           one_direct n y.2.0 r y.0 c d x'' y.2.1
       go k (inl x) (inr y) =
-          let seats : Link x.0 ≡ Own r d y.kept y.link y.via = one_seat n k p _ _ x.1 y.place in
+          let seats : Link x.0 ≡ Own y.own = one_seat n k p _ _ x.1 y.place in
           cc seats
       go k (inr x) (inl y) =
-          let seats : Own r c x.kept x.link x.via ≡ Link y.0 = one_seat n k p _ _ x.place y.1 in
+          let seats : Own x.own ≡ Link y.0 = one_seat n k p _ _ x.place y.1 in
           cc seats
       go k (inr x) (inr y) =
-          let seats : Own r c x.kept x.link x.via ≡ Own r d y.kept y.link y.via = one_seat n k p _ _ x.place y.place in
-          cc seats
+          let seats : Own x.own ≡ Own y.own = one_seat n k p _ _ x.place y.place in
+          let one : x.own ≡ y.own = cc seats in
+          sym x.says ∙ ap (λ (o : OwnPrefix). o.cost) one ∙ y.says
 
   -- what is not below 16 is silence
   silent_from : (l p m : ℕ) (r : ℕ) (w : Way) (x : Option ℕ) → FitsWay n r p m w → MayShow n r l p m w x → 16 ≤ unwrap_or x 16 → IsSilent x
