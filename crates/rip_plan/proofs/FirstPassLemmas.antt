@@ -1,5 +1,6 @@
 -- What the first pass over a plan's places keeps.
-use Rattle.std.proofs.Common.{◌≡◌, ℕ, ◌+◌, ◌-◌, ◌<◌, ◌≤◌, ◌^◌, List, [], ◌∷◌, ◌++◌, length, length-append, Bool, true, false, not, ◌&&◌, ◌||◌, Option, Some, None, Ok, refl, ◌∙◌, ap, subst, arith}
+use Rattle.std.proofs.Common.{◌≡◌, ℕ, ◌+◌, ◌-◌, ◌<◌, ◌≤◌, ◌^◌, List, [], ◌∷◌, ◌++◌, length, length-append, Bool, true, false, ◌&&◌, ◌||◌, Option, Some, None, Ok, refl, ◌∙◌, ap, subst, arith}
+use Rattle.std.proofs.lemmas.Bool.{or_parts, not-false}
 use Rattle.std.proofs.lemmas.Iterator.Adapters.{position_from-zero}
 use Rattle.std.specs.Prelude.{nat_le, nat_lt, option_map, unwrap_or}
 use Rattle.std.specs.List.{AllByRecursion, IsDistinct, list_any, position_or_len}
@@ -24,7 +25,7 @@ use Rattle.rip_plan.specs.Draft.{Sketch, prefix_step, link_step, interface_step,
 use Rattle.rip_plan.specs.Names.{number_of_name}
 use Rattle.rip_plan.specs.PlanOf.{Matched}
 use Rattle.rip_plan.proofs.BindLemmas.{steps_keep}
-use Rattle.rip_plan.proofs.ItemLemmas.{or_false, all_none, all_push, all_weaker, distinct_push}
+use Rattle.rip_plan.proofs.ItemLemmas.{all_none, all_push, all_weaker, distinct_push}
 use Rattle.rip_plan.proofs.TakenStepLemmas.{with_link, with_router, prefix_taken, link_taken, interface_taken, own_taken, router_taken}
 use Rattle.rip_plan.proofs.TakenSpotLemmas.{further}
 use Rattle.rip_plan.proofs.TableLemmas.{IsReadOf, addresses_read, cost_within, direct_within}
@@ -76,20 +77,18 @@ pub record Kept (s : Sketch) : Type 0 where
 
 number_below : (name : List ℕ) (names : List (List ℕ)) (l : ℕ) → number_of_name name names ≡ Some l → l < length names
 number_below name names l h =
-    let (below, same) = cond_some (nat_lt (position_or_len (λ other. bytes_eq other name) names) (length names)) (position_or_len (λ other. bytes_eq other name) names) l (position_from-zero (λ other. bytes_eq other name) names ∙ h) in
+    let (below, same) =
+    cond_some (nat_lt (position_or_len (λ other. bytes_eq other name) names) (length names)) (position_or_len (λ other. bytes_eq other name) names) l
+    (position_from-zero (λ other. bytes_eq other name) names ∙ h) in
     grind (arith, nat_tests)
 
 room_left : (n : ℕ) → nat_le 1024 n ≡ false → n + 1 ≤ 1024
 room_left n h = grind (arith, nat_tests)
 
-is_named : (b : Bool) → not b ≡ false → b ≡ true
-is_named true h = refl
-is_named false h = absurd cc
-
 -- there is room for one more interface with these addresses
 pub room_for : (s : Sketch) (also : List ℕ) → is_full s also ≡ false → (length s.interfaces + 1 ≤ 1024) × (further s + length also ≤ 1024)
 room_for s also h =
-    let parts = or_false (nat_le 1024 (length s.interfaces)) (nat_lt 1024 (further s + length also)) h in
+    let parts = or_parts (nat_le 1024 (length s.interfaces)) (nat_lt 1024 (further s + length also)) h in
     (room_left (length s.interfaces) parts.0, few_left (further s + length also) parts.1)
   where
     few_left : (n : ℕ) → nat_lt 1024 n ≡ false → n ≤ 1024
@@ -184,7 +183,7 @@ link_keeps laws n d s t now h =
     let more : length u.links ≡ length s.links + 1 = omega (arith, length-append s.links (taken.name ∷ [])) in
     let start : WhileLink n u = record {
       kept = record {
-        link_names = all_push IsName s.links taken.name kept.link_names ((laws.name taken.name).0 (is_named (is_name taken.name) taken.named));
+        link_names = all_push IsName s.links taken.name kept.link_names ((laws.name taken.name).0 (not-false (is_name taken.name) taken.named));
         links_differ = distinct_push bytes_eq s.links taken.name kept.links_differ taken.fresh;
         router_names = kept.router_names;
         routers_differ = kept.routers_differ;
@@ -202,7 +201,8 @@ link_keeps laws n d s t now h =
       routers = now.routers;
       number = more ∙ next;
     } in
-    let end = steps_keep (prefix_step n) (λ _ v. WhileLink n v) (λ j x v w k e. prefix_keeps laws n j x v w (omega arith) k e) 1 taken.prefixes u t start taken.others (1 + length taken.prefixes) refl in
+    let end = steps_keep (prefix_step n) (λ _ v. WhileLink n v) (λ j x v w k e. prefix_keeps laws n j x v w (omega arith) k e) 1 taken.prefixes u t start taken.others
+    (1 + length taken.prefixes) refl in
     record { kept = end.kept; interfaces = end.interfaces; routers = end.routers; next = ap (λ k. k + 1) end.number }
 
 -- ---- routers
@@ -224,7 +224,8 @@ interface_keeps laws links r j d s t some while h =
     let kept = while.kept in
     let number : length s.routers ≡ r = while.number in
     let room = room_for s taken.also taken.room in
-    let added : DraftInterface = record { interface = record { router = r - 1; link = taken.link; address = taken.address; cost = taken.cost; direct = taken.direct; poison = unwrap_or taken.given.poison s.poison }; at = _ } in
+    let added : DraftInterface =
+    record { interface = record { router = r - 1; link = taken.link; address = taken.address; cost = taken.cost; direct = taken.direct; poison = unwrap_or taken.given.poison s.poison }; at = _ } in
     let costs = cost_within taken.given.cost taken.cost taken.costs in
     let directs = direct_within taken.cost taken.given.direct taken.direct costs.0 taken.directs in
     rw taken.made (record {
@@ -273,7 +274,10 @@ own_keeps laws links r j d s t some while h =
         inside = all_weaker (IsInsideOf s.places) (IsInsideOf (s.places ++ added ∷ []))
             (λ i e. outside_same i.interface.link i.interface.address s.places taken.prefix taken.own added.at e) s.interfaces kept.inside;
         places = all_push (IsFitPlace (length s.links) (length s.routers)) s.places added kept.places
-            (record { prefix = (prefix_is laws taken.given.prefix taken.prefix taken.parsed).0; seat = (omega (arith, taken.router), costs.0, costs.1, gateway_fits laws taken.given.via taken.own.via taken.gateway) });
+            (record {
+              prefix = (prefix_is laws taken.given.prefix taken.prefix taken.parsed).0;
+              seat = (omega (arith, taken.router), costs.0, costs.1, gateway_fits laws taken.given.via taken.own.via taken.gateway);
+            });
         also = kept.also;
         also_listed = kept.also_listed;
         few_interfaces = kept.few_interfaces;
@@ -295,10 +299,18 @@ router_keeps laws links n d s t now h =
       kept = record {
         link_names = kept.link_names;
         links_differ = kept.links_differ;
-        router_names = all_push IsName s.routers taken.name kept.router_names ((laws.name taken.name).0 (is_named (is_name taken.name) taken.named));
+        router_names = all_push IsName s.routers taken.name kept.router_names ((laws.name taken.name).0 (not-false (is_name taken.name) taken.named));
         routers_differ = distinct_push bytes_eq s.routers taken.name kept.routers_differ taken.fresh;
         interfaces = all_weaker (IsFit (length s.links) (length s.routers)) (IsFit (length s.links) (length u.routers))
-            (λ i p. record { least = p.least; most = p.most; link = p.link; router = omega (arith, p.router, more); address = p.address; direct_least = p.direct_least; direct_most = p.direct_most }) s.interfaces kept.interfaces;
+            (λ i p. record {
+              least = p.least;
+              most = p.most;
+              link = p.link;
+              router = omega (arith, p.router, more);
+              address = p.address;
+              direct_least = p.direct_least;
+              direct_most = p.direct_most;
+            }) s.interfaces kept.interfaces;
         inside = kept.inside;
         places = all_weaker (IsFitPlace (length s.links) (length s.routers)) (IsFitPlace (length s.links) (length u.routers))
             (fit_place_more (length s.links) (length s.routers) (length s.links) (length u.routers) (omega arith) (omega arith)) s.places kept.places;
@@ -312,6 +324,9 @@ router_keeps laws links n d s t now h =
       number = more ∙ next;
     } in
     let some : 1 ≤ n = omega arith in
-    let between = steps_keep (interface_step n) (λ _ v. WhileRouter links n v) (λ j x v w k e. interface_keeps laws links n j x v w some k e) 1 taken.interfaces u taken.between start taken.first (1 + length taken.interfaces) refl in
-    let end = steps_keep (own_step n) (λ _ v. WhileRouter links n v) (λ j x v w k e. own_keeps laws links n j x v w some k e) 1 taken.owns taken.between t between taken.second (1 + length taken.owns) refl in
+    let between =
+    steps_keep (interface_step n) (λ _ v. WhileRouter links n v) (λ j x v w k e. interface_keeps laws links n j x v w some k e) 1 taken.interfaces u taken.between start taken.first
+    (1 + length taken.interfaces) refl in
+    let end = steps_keep (own_step n) (λ _ v. WhileRouter links n v) (λ j x v w k e. own_keeps laws links n j x v w some k e) 1 taken.owns taken.between t between taken.second
+    (1 + length taken.owns) refl in
     record { kept = end.kept; links = end.links; next = ap (λ k. k + 1) end.number }

@@ -1,5 +1,7 @@
 -- What the look-ups of a lawful plan find, in the words of its relations.
 use Rattle.std.proofs.Common.{◌≡◌, ℕ, zero, suc, ◌+◌, ◌⊎◌, inl, inr, List, [], ◌∷◌, Bool, true, false, cond, ◌&&◌, Option, Some, None, refl, sym, ◌∙◌, ap, subst, arith}
+use Rattle.rip_plan.proofs.FirstFoundLemmas.{find_gives, find_none}
+use Rattle.std.proofs.lemmas.Bool.{and_parts}
 use Rattle.std.specs.Prelude.{slice_get, ◌==◌, find, option_and_then, option_map}
 use Rattle.std.specs.Option.{option_or}
 use Rattle.std.specs.List.{Contains, position_from}
@@ -20,12 +22,13 @@ use Rattle.rip_plan.specs.Addresses.{holder_at}
 use Rattle.rip_plan.specs.Network.{Network, addresses_of, number_of_prefix, found_at, is_on, is_of, numbers_where, is_carrying, first_carrying, is_owned, own_seat, cost_on, cost_at, direct_at}
 use Rattle.rip_plan.specs.Relations.{IsPrefix, IsInterface, IsConnected, HasAddress, IsAt, IsPlace, IsOwnWith, Carries, Touches, IsDirect, IsLawful}
 use Rattle.rip_plan.proofs.HeldAddressLemmas.{holder_gives, holder_none}
-use Rattle.rip_plan.proofs.ItemLemmas.{both, position_finds, position_none, none_at}
+use Rattle.rip_plan.proofs.ItemLemmas.{position_finds, position_none, none_at}
 use Rattle.rip_plan.proofs.NumberingLemmas.{same_is, same_self}
 use Rattle.rip_plan.proofs.NumbersWhereLemmas.{contains_at, at_contains, number_passes, passing_number}
 
 -- where an item passes, the first that passes is found
-found : {A : Type 0} (test : A → Bool) (xs : List A) (i : ℕ) (x : A) → slice_get xs i ≡ Some x → test x ≡ true → (k : ℕ) × (y : A) × (position_from test 0 xs ≡ Some k) × (slice_get xs k ≡ Some y) × (test y ≡ true)
+found : {A : Type 0} (test : A → Bool) (xs : List A) (i : ℕ) (x : A) → slice_get xs i ≡ Some x → test x ≡ true
+    → (k : ℕ) × (y : A) × (position_from test 0 xs ≡ Some k) × (slice_get xs k ≡ Some y) × (test y ≡ true)
 found {A} test xs i x h t = by_option (position_from test 0 xs) refl
   where
     by_option : (o : Option ℕ) → position_from test 0 xs ≡ o → (k : ℕ) × (y : A) × (position_from test 0 xs ≡ Some k) × (slice_get xs k ≡ Some y) × (test y ≡ true)
@@ -70,7 +73,7 @@ cost_found r l d (x ∷ xs) h = by_test (x.router == r && x.link == l) refl h (�
     by_test : (b : Bool) → (x.router == r && x.link == l) ≡ b → cond b (Some x.direct) (cost_on r l xs) ≡ Some d
         → (cost_on r l xs ≡ Some d → (i : ℕ) × IsConnectedIn xs i r l d) → (i : ℕ) × IsConnectedIn (x ∷ xs) i r l d
     by_test true e f later =
-        let tests = both (x.router == r) (x.link == l) e in
+        let tests = and_parts (x.router == r) (x.link == l) e in
         let router : x.router ≡ r = grind (arith, nat_tests) in
         let link : x.link ≡ l = grind (arith, nat_tests) in
         let direct : x.direct ≡ d = same_Some x.direct d f in
@@ -99,7 +102,8 @@ or_none : {A : Type 0} (o p : Option A) → option_or o p ≡ None → (o ≡ No
 or_none None p h = (refl, h)
 or_none (Some y) p h = absurd cc
 
-direct_found : (r k c : ℕ) (is : List Interface) (qs : List Place) → direct_at r k is qs ≡ Some c → (j : ℕ) × (seat : Seat) × (slice_get qs j ≡ Some (record { prefix = k; seat = seat })) × (cost_at r is seat ≡ Some c)
+direct_found : (r k c : ℕ) (is : List Interface) (qs : List Place) → direct_at r k is qs ≡ Some c
+    → (j : ℕ) × (seat : Seat) × (slice_get qs j ≡ Some (record { prefix = k; seat = seat })) × (cost_at r is seat ≡ Some c)
 direct_found r k c is [] h = absurd (none-some c h)
 direct_found r k c is (q ∷ qs) h = by_test (q.prefix == k) refl h (λ e. direct_found r k c is qs e)
   where
@@ -122,7 +126,8 @@ direct_there r k zero seat is (q ∷ qs) h e =
     ap (λ (p : Place). cost_at r is p.seat) (sym same) ∙ parts.0
 direct_there r k (suc j) seat is (q ∷ qs) h e = by_test (q.prefix == k) e (λ f. direct_there r k j seat is qs h f)
   where
-    by_test : (b : Bool) → cond b (option_or (cost_at r is q.seat) (direct_at r k is qs)) (direct_at r k is qs) ≡ None → (direct_at r k is qs ≡ None → cost_at r is seat ≡ None) → cost_at r is seat ≡ None
+    by_test : (b : Bool) → cond b (option_or (cost_at r is q.seat) (direct_at r k is qs)) (direct_at r k is qs) ≡ None → (direct_at r k is qs ≡ None → cost_at r is seat ≡ None)
+        → cost_at r is seat ≡ None
     by_test true f later = later (or_none (cost_at r is q.seat) (direct_at r k is qs) f).1
     by_test false f later = later f
 
@@ -191,7 +196,7 @@ on_seat l (seats.Own own) e = absurd cc
 pub carrier_gives : (n : Network) (l k j : ℕ) → first_carrying l k 0 n.places ≡ Some j → Carries n l k
 carrier_gives n l k j h =
     let (q, at, passes) = at_first (is_carrying l k) n.places j h in
-    let tests = both (seated.is_on l q.seat) (q.prefix == k) passes in
+    let tests = and_parts (seated.is_on l q.seat) (q.prefix == k) passes in
     let seat : q.seat ≡ seats.Link l = on_seat l q.seat tests.0 in
     let prefix : q.prefix ≡ k = grind (arith, nat_tests) in
     (j, record { listed = at ∙ ap (λ (m : Seat). Some (record q { seat = m })) seat ∙ ap (λ (m : ℕ). Some (record { prefix = m; seat = seats.Link l })) prefix })
@@ -208,24 +213,6 @@ carrier_finds n l k (j, place) e =
 own_owner : (r : ℕ) (seat : Seat) → seated.is_with r seat ≡ true → (own : OwnPrefix) × (seat ≡ seats.Own own) × (own.router ≡ r)
 own_owner r (seats.Link l) e = absurd cc
 own_owner r (seats.Own own) e = (own, refl, grind (arith, nat_tests))
-
--- the first item that passes
-find_gives : {A : Type 0} (test : A → Bool) (xs : List A) (x : A) → find test xs ≡ Some x → (k : ℕ) × (slice_get xs k ≡ Some x) × (test x ≡ true)
-find_gives test [] x h = absurd (none-some x h)
-find_gives {A} test (y ∷ ys) x h = by_test (test y) refl h (λ e. find_gives test ys x e)
-  where
-    by_test : (b : Bool) → test y ≡ b → cond b (Some y) (find test ys) ≡ Some x → (find test ys ≡ Some x → (k : ℕ) × (slice_get ys k ≡ Some x) × (test x ≡ true)) → (k : ℕ) × (slice_get (y ∷ ys) k ≡ Some x) × (test x ≡ true)
-    by_test true e f later = let same : y ≡ x = same_Some y x f in (zero, f, ap test (sym same) ∙ e)
-    by_test false e f later = let (k, at, t) = later f in (suc k, at, t)
-
-find_none : {A : Type 0} (test : A → Bool) (xs : List A) (k : ℕ) (x : A) → slice_get xs k ≡ Some x → test x ≡ true → find test xs ≡ None → ⊥
-find_none test [] k x h t e = absurd (none-some x h)
-find_none {A} test (y ∷ ys) k x h t e = by_test (test y) refl e k h (λ j at f. find_none test ys j x at t f)
-  where
-    by_test : (b : Bool) → test y ≡ b → cond b (Some y) (find test ys) ≡ None → (j : ℕ) → slice_get (y ∷ ys) j ≡ Some x → ((m : ℕ) → slice_get ys m ≡ Some x → find test ys ≡ None → ⊥) → ⊥
-    by_test true f g j at later = absurd cc
-    by_test false f g zero at later = let same : y ≡ x = same_Some y x at in let off : test x ≡ false = ap test (sym same) ∙ f in absurd cc
-    by_test false f g (suc j) at later = later j at g
 
 -- the first item that passes stands at the first number that passes
 pub find_at : {A : Type 0} (test : A → Bool) (n : ℕ) (xs : List A) (k i : ℕ) → position_from test n xs ≡ Some k → k ≡ n + i → find test xs ≡ slice_get xs i
@@ -264,7 +251,7 @@ own_gives n r p seat h = by_find (find (is_owned r p) n.places) refl h
     by_find None e f = absurd cc
     by_find (Some q) e f =
         let (k, at, test) = find_gives (is_owned r p) n.places q e in
-        let tests = both (seated.is_with r q.seat) (q.prefix == p) test in
+        let tests = and_parts (seated.is_with r q.seat) (q.prefix == p) test in
         let (own, is, router) = own_owner r q.seat tests.0 in
         let prefix : q.prefix ≡ p = grind (arith, nat_tests) in (
           k,

@@ -63,7 +63,8 @@ pub none_kept : (r k : ℕ) (places : List Place) → list_any (λ (q : Place). 
 none_kept r k [] h = refl
 none_kept r k (q ∷ qs) h = by_tests (is_owned r k q) refl (is_kept q.seat) refl (none_kept r k qs)
   where
-    by_tests : (b : Bool) → is_owned r k q ≡ b → (m : Bool) → is_kept q.seat ≡ m → (list_any (λ (p : Place). is_kept p.seat) qs ≡ false → option_map_or is_kept (own_seat r k qs) false ≡ false) → option_map_or is_kept (own_seat r k (q ∷ qs)) false ≡ false
+    by_tests : (b : Bool) → is_owned r k q ≡ b → (m : Bool) → is_kept q.seat ≡ m → (list_any (λ (p : Place). is_kept p.seat) qs ≡ false → option_map_or is_kept (own_seat r k qs) false ≡ false)
+        → option_map_or is_kept (own_seat r k (q ∷ qs)) false ≡ false
     by_tests b e true f later = let clash : true ≡ false = rw f at h in absurd cc
     by_tests true e false f later = rw e f
     by_tests false e false f later = rw e (later (rw f at h))

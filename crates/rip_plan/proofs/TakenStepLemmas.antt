@@ -83,7 +83,10 @@ pub record InterfaceTaken (r j : ℕ) (d : Data) (s t : Sketch) : Type 0 where
   pub known : number_of_name given.link s.links ≡ Some link
   pub inside : is_outside link address s.places ≡ false
   pub room : is_full s also ≡ false
-  pub made : t ≡ with_interface (record { interface = record { router = r - 1; link = link; address = address; cost = cost; direct = direct; poison = unwrap_or given.poison s.poison }; at = RouterInterface r j }) also s
+  pub made : t ≡ with_interface (record {
+    interface = record { router = r - 1; link = link; address = address; cost = cost; direct = direct; poison = unwrap_or given.poison s.poison };
+    at = RouterInterface r j;
+  }) also s
 
 pub interface_taken : (r j : ℕ) (d : Data) (s t : Sketch) → interface_step r j d s ≡ Ok t → InterfaceTaken r j d s t
 unfolding interface_step
@@ -191,7 +194,19 @@ document_taken doc t h =
     let (u, first, second) = bind_ok (steps link_step 1 root.0 (empty root.2)) (steps router_step 1 root.1) v both in
     let (done, passed, h5) = bind_ok (second_passes v) (λ _. Ok v) t h4 in
     let same : v ≡ t = ok_same v t h5 in
-    record { version = version; links = root.0; routers = root.1; poison = root.2; root = is; room = room; between = u; first = first; second = second ∙ ap (λ (x : Sketch). Ok x) same; passed = ap second_passes (sym same) ∙ passed }
+    record {
+      version = version;
+      links = root.0;
+      routers = root.1;
+      poison = root.2;
+      root = is;
+      room = room;
+      between = u;
+      first = first;
+      second = second
+          ∙ ap (λ (x : Sketch). Ok x) same;
+      passed = ap second_passes (sym same) ∙ passed;
+    }
 
 pub record TextTaken (bytes : List ℕ) (t : Sketch) : Type 0 where
   pub room : nat_lt 1048576 (length bytes) ≡ false

@@ -22,7 +22,8 @@ use Rattle.rip_plan.specs.Fault.{fault, ◌>>=◌, wanted, steps, Fails}
 use Rattle.rip_plan.specs.Fields.{◌&>◌, link_fields, interface_fields, own_fields, router_fields, cost_of, direct_of, addresses_in, address_if, link_if}
 
 -- what was read: names, whether interfaces poison that do not say it, interfaces with the further
--- addresses of each, and places of prefixes; interfaces and places with where they stand in the text
+-- addresses of each, and places of prefixes; interfaces and places with where they stand in the
+-- text
 pub record Sketch : Type 0 where
   pub links : List (List ℕ)
   pub routers : List (List ℕ)

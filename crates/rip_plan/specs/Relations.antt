@@ -146,8 +146,8 @@ IsKeptAt n k p r = IsOwnWith n k p r (λ own. own.kept ≡ true)
 abbrev pub HasGatewayAt : Network → ℕ → ℕ → ℕ → ℕ → Type 0
 HasGatewayAt n k p r a = IsOwnWith n k p r (λ own. own.via ≡ Some a)
 
--- place k of prefix p touches router r, which has the prefix there at metric c: the router is on the
--- link, or owns the prefix
+-- place k of prefix p touches router r, which has the prefix there at metric c: the router is on
+-- the link, or owns the prefix
 abbrev pub Touches : Network → ℕ → ℕ → ℕ → ℕ → Type 0
 Touches n k p r c =
     ((l : ℕ) × IsPlace n k p (Link l) × ((i : ℕ) × IsConnected n i r l c))

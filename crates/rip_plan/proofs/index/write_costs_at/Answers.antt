@@ -14,7 +14,8 @@ write_costs_on-requires-clause-numbers c =
     let lists = c.args.on_link.now in
     let link : IsLinkBelow (length lists) (Link c.in-Link.link) = rw c.in-Link.is at c.requires.link in
     let below : c.in-Link.link < length (map items lists) = omega (arith, link, length-map lists items) in
-    let here = kept_at items lists (length (map items lists)) (λ l. numbers_where (is_on l) 0 c.args.interfaces.now) c.in-Link.link c.index-on_link-link.result c.requires.lists below c.index-on_link-link.is in
+    let here = kept_at items lists (length (map items lists)) (λ l. numbers_where
+    (is_on l) 0 c.args.interfaces.now) c.in-Link.link c.index-on_link-link.result c.requires.lists below c.index-on_link-link.is in
     rw (c.as_slice-numbers.ensures.value, here) (numbers_below (is_on c.in-Link.link) c.args.interfaces.now)
 
 pub returns-in-Link : goal.returns-in-Link
@@ -23,7 +24,8 @@ returns-in-Link c r k h =
     let lists = c.args.on_link.now in
     let link : IsLinkBelow (length lists) (Link c.in-Link.link) = rw c.in-Link.is at c.requires.link in
     let below : c.in-Link.link < length (map items lists) = omega (arith, link, length-map lists items) in
-    let here = kept_at items lists (length (map items lists)) (λ l. numbers_where (is_on l) 0 c.args.interfaces.now) c.in-Link.link c.index-on_link-link.result c.requires.lists below c.index-on_link-link.is in
+    let here = kept_at items lists (length (map items lists)) (λ l. numbers_where
+    (is_on l) 0 c.args.interfaces.now) c.in-Link.link c.index-on_link-link.result c.requires.lists below c.index-on_link-link.is in
     let numbers : c.as_slice-numbers.result.now ≡ numbers_where (is_on c.in-Link.link) 0 c.args.interfaces.now = c.as_slice-numbers.ensures.value ∙ here in
     c.write_costs_on.ensures r k h ∙ rw (c.in-Link.is, numbers, among_is_on r c.in-Link.link c.args.interfaces.now) refl
 

@@ -20,6 +20,7 @@ returns g c b =
       | in-Some w ↦ rw (w.values-is, ← w.in-Some.ensures.value) refl
       | in-None w ↦ rw (w.values-is, w.new-values.ensures.items, ← w.in-None.ensures.value) refl
     ] in
-    seat_added (λ (v : Vec g.row.V.Denot Global). v.items) (same_prefix p b) (get same_prefix c.args.all.now p) (get same_prefix c.args.all.now b) (get same_prefix c.remove.new.self b) (get same_prefix c.insert.new.self b)
+    seat_added (λ (v : Vec g.row.V.Denot Global). v.items) (same_prefix p b) (get same_prefix c.args.all.now p) (get same_prefix c.args.all.now b) (get same_prefix c.remove.new.self b)
+    (get same_prefix c.insert.new.self b)
     c.push.new.self c.args.value (c.in_ok-insert.ensures.updates.0 b) (c.remove.ensures.updates.0 b)
     (c.in_ok-push.ensures.items ∙ ap (λ s. s ++ c.args.value ∷ []) before) (λ e. ap (λ (q : Block). get same_prefix c.args.all.now q) (same_is p b e))
