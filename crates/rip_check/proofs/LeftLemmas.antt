@@ -1,8 +1,8 @@
 -- What is left of a network after a failure.
-use Rattle.std.proofs.Common.{◌≡◌, ℕ, zero, suc, ◌<◌, ◌≤◌, ◌⊎◌, ◌↔◌, inl, inr, Bool, true, false, not, ◌&&◌, cond, List, [], ◌∷◌, length, Option, None, Some, slice_get, refl, ap, ◌∙◌, arith}
+use Rattle.std.proofs.Common.{◌≡◌, ℕ, zero, suc, ◌<◌, ◌≤◌, ◌⊎◌, ◌↔◌, inl, inr, Bool, true, false, not, cond, List, [], ◌∷◌, length, Option, None, Some, slice_get, refl, ap, ◌∙◌, arith}
 use Rattle.std.specs.List.{filter}
 use Rattle.std.specs.Prelude.{eqb}
-use Rattle.std.proofs.lemmas.Bool.{eqb-true, eq-eqb}
+use Rattle.std.proofs.lemmas.Bool.{eqb-true, eq-eqb, and_parts, and_from}
 use Rattle.rip_plan.specs.declared.parts.Interface.{Interface}
 use Rattle.rip_plan.specs.declared.parts.OwnPrefix.{OwnPrefix}
 use Rattle.rip_plan.specs.declared.parts.Seat.{Seat}
@@ -42,14 +42,6 @@ filter_at {A} test (y ∷ ys) (suc j) x e t = go (test y) refl (filter_at test y
     go true is h = (suc h.0, rw is h.1)
     go false is h = (h.0, rw is h.1)
 
-both : (a b : Bool) → (a && b) ≡ true → (a ≡ true) × (b ≡ true)
-both true true e = (refl, refl)
-both true false e = cc e
-both false b e = cc e
-
-and_true : (a b : Bool) → a ≡ true → b ≡ true → (a && b) ≡ true
-and_true a b e f = rw (e, f) refl
-
 not_true : (b : Bool) → (b ≡ true → ⊥) → not b ≡ true
 not_true true h = absurd (h refl)
 not_true false h = refl
@@ -84,13 +76,13 @@ pub was_listed : (n : Network) (f : Option Failure) (j : ℕ) (x : Interface) �
 was_listed n None j x e = (j, e, refl, refl)
 was_listed n (Some f) j x e =
     let h = filter_has (is_alive (Some f)) n.interfaces j x e in
-    let up = both (is_router_up (Some f) x.router) (is_link_up (Some f) x.link) h.2 in
+    let up = and_parts (is_router_up (Some f) x.router) (is_link_up (Some f) x.link) h.2 in
     (h.0, h.1, up.0, up.1)
 
 pub still_listed : (n : Network) (f : Option Failure) (i : ℕ) (x : Interface) → slice_get n.interfaces i ≡ Some x → is_router_up f x.router ≡ true → is_link_up f x.link ≡ true →
     (j : ℕ) × (slice_get (network_left n f).interfaces j ≡ Some x)
 still_listed n None i x e r_up l_up = (i, e)
-still_listed n (Some f) i x e r_up l_up = filter_at (is_alive (Some f)) n.interfaces i x e (and_true (is_router_up (Some f) x.router) (is_link_up (Some f) x.link) r_up l_up)
+still_listed n (Some f) i x e r_up l_up = filter_at (is_alive (Some f)) n.interfaces i x e (and_from (is_router_up (Some f) x.router) (is_link_up (Some f) x.link) r_up l_up)
 
 module _ (n : Network) (f : Option Failure) where
   -- an interface that is left was one, of a router and on a link that are up
@@ -141,13 +133,13 @@ module _ (n : Network) (f : Option Failure) where
   pub was_attached : (r p l : ℕ) → IsAttached (network_left n f) r p l → IsAttached n r p l × (is_router_up f r ≡ true) × (is_link_up f l ≡ true)
   was_attached r p l at =
       let h = was_place n f at.0 p _ at.1.place in
-      let up = both (is_router_up f at.1.own.router) (is_any_up f at.1.own.link) h.2 in
+      let up = and_parts (is_router_up f at.1.own.router) (is_any_up f at.1.own.link) h.2 in
       ((h.0, own_moved at.1 h.1), rw at.1.router at up.0, rw at.1.says at up.1)
 
   pub still_attached : (r p l : ℕ) → IsAttached n r p l → is_router_up f r ≡ true → is_link_up f l ≡ true → IsAttached (network_left n f) r p l
   still_attached r p l at r_up l_up =
       let own = at.1.own in
-      let h = still_place n f at.0 p _ at.1.place (and_true (is_router_up f own.router) (is_any_up f own.link) (rw at.1.router r_up) (rw at.1.says l_up)) in
+      let h = still_place n f at.0 p _ at.1.place (and_from (is_router_up f own.router) (is_any_up f own.link) (rw at.1.router r_up) (rw at.1.says l_up)) in
       (h.0, own_moved at.1 h.1)
 
   -- what a router has after the failure it had before, and is up
@@ -158,7 +150,7 @@ module _ (n : Network) (f : Option Failure) where
       ((h.0, inl (at.0, h.1, j.0)), j.1)
   was_direct r p c (k, inr own) =
       let h = was_place n f k p _ own.place in
-      let up = both (is_router_up f own.own.router) (is_any_up f own.own.link) h.2 in
+      let up = and_parts (is_router_up f own.own.router) (is_any_up f own.own.link) h.2 in
       ((h.0, inr (own_moved own h.1)), rw own.router at up.0)
 
   pub any_up : (link : Option ℕ) → ((l : ℕ) → link ≡ Some l → is_link_up f l ≡ true) → is_any_up f link ≡ true
@@ -175,14 +167,14 @@ module _ (n : Network) (f : Option Failure) where
       (h.0, inl (at.0, h.1, still_connected n f at.2.0 r at.0 c at.2.1 r_up l_up))
   still_direct r p c r_up carried attached (k, inr own) =
       let up = any_up own.own.link (λ l is. attached l (k, own_says own is)) in
-      let h = still_place n f k p _ own.place (and_true (is_router_up f own.own.router) (is_any_up f own.own.link) (rw own.router r_up) up) in
+      let h = still_place n f k p _ own.place (and_from (is_router_up f own.own.router) (is_any_up f own.own.link) (rw own.router r_up) up) in
       (h.0, inr (own_moved own h.1))
 
   -- a router that keeps the prefix after the failure kept it, and is up
   pub was_kept : (r p : ℕ) → IsKept (network_left n f) r p → IsKept n r p × (is_router_up f r ≡ true)
   was_kept r p (inl kept) =
       let h = was_place n f kept.0 p _ kept.1.place in
-      let up = both (is_router_up f kept.1.own.router) (is_any_up f kept.1.own.link) h.2 in
+      let up = and_parts (is_router_up f kept.1.own.router) (is_any_up f kept.1.own.link) h.2 in
       (inl (h.0, own_moved kept.1 h.1), rw kept.1.router at up.0)
   was_kept r p (inr at) = let h = was_attached r p at.0 at.1 in (inr (at.0, h.0), h.1)
 
@@ -191,7 +183,7 @@ module _ (n : Network) (f : Option Failure) where
   still_kept r p r_up attached (inl kept) =
       let own = kept.1.own in
       let up = any_up own.link (λ l is. attached l (kept.0, own_says kept.1 is)) in
-      let h = still_place n f kept.0 p _ kept.1.place (and_true (is_router_up f own.router) (is_any_up f own.link) (rw kept.1.router r_up) up) in
+      let h = still_place n f kept.0 p _ kept.1.place (and_from (is_router_up f own.router) (is_any_up f own.link) (rw kept.1.router r_up) up) in
       inl (h.0, own_moved kept.1 h.1)
   still_kept r p r_up attached (inr at) = inr (at.0, still_attached r p at.0 at.1 r_up (attached at.0 at.1))
 
@@ -228,7 +220,7 @@ module _ (n : Network) (plan : IsLawful n) where
     pub kept_up : (r p l : ℕ) → IsKept (network_left n f) r p → IsAttached n r p l → is_link_up f l ≡ true
     kept_up r p l (inl kept) at =
         let h = was_place n f kept.0 p _ kept.1.place in
-        let up = both (is_router_up f kept.1.own.router) (is_any_up f kept.1.own.link) h.2 in
+        let up = and_parts (is_router_up f kept.1.own.router) (is_any_up f kept.1.own.link) h.2 in
         own_up h.0 p r l (own_moved kept.1 h.1) up.1 at
     kept_up r p l (inr still) at =
         let h = was_attached n f r p still.0 still.1 in
@@ -243,7 +235,7 @@ module _ (n : Network) (plan : IsLawful n) where
         absurd (link_clash here.0 at.1.own same)
     direct_up r p c l (k, inr own) at =
         let h = was_place n f k p _ own.place in
-        let up = both (is_router_up f own.own.router) (is_any_up f own.own.link) h.2 in
+        let up = and_parts (is_router_up f own.own.router) (is_any_up f own.own.link) h.2 in
         own_up h.0 p r l (own_moved own h.1) up.1 at
 
     -- and no link of the router that carries the prefix has failed

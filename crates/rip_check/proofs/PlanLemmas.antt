@@ -3,7 +3,7 @@ use Rattle.std.proofs.Common.{◌≡◌, ℕ, zero, suc, length, slice_get, ◌<
 use Rattle.std.specs.Option.{option_eq}
 use Rattle.std.specs.Prelude.{eqb}
 use Rattle.std.proofs.lemmas.Bool.{cases_eq, eqb-true, eq-eqb}
-use Rattle.std.proofs.lemmas.Option.{slice_get_within}
+use Rattle.std.proofs.lemmas.Option.{slice_get_within, same_Some}
 use Rattle.rip_plan.specs.declared.parts.OwnPrefix.{OwnPrefix}
 use Rattle.rip_plan.specs.declared.parts.Seat.{Seat}
 use Rattle.rip_plan.specs.declared.parts.Seat.TheVariants.{Link, Own}
@@ -11,9 +11,6 @@ use Rattle.rip_plan.specs.declared.parts.Place.{Place}
 use Rattle.rip_plan.specs.Network.{Network}
 use Rattle.rip_plan.specs.Relations.{Carries, HasCost, IsAttached, IsAttachedAt, IsConnected, IsDirect, IsInterface, IsKept, IsLawful, IsOn, IsOwnAt, IsOwnWith, IsPlace, Touches}
 use Rattle.rip_check.specs.Tables.{MayHoldBack}
-
-same_one : {A : Type 0} {x y : A} → Some x ≡ Some y → x ≡ y
-same_one e = cc e
 
 -- a search below a bound
 pub find_below : (P : ℕ → Type 0) → ((k : ℕ) → P k ⊎ (P k → ⊥)) → (bound : ℕ) → ((k : ℕ) × (k < bound) × P k) ⊎ ((k : ℕ) → k < bound → P k → ⊥)
@@ -31,7 +28,7 @@ find_below P test (suc b) = go (test b) (find_below P test b)
 
 -- a place has one seat
 pub one_seat : (n : Network) (k p : ℕ) (s t : Seat) → IsPlace n k p s → IsPlace n k p t → s ≡ t
-one_seat n k p s t a b = ap (λ (x : Place). x.seat) (same_one (sym a.listed ∙ b.listed))
+one_seat n k p s t a b = ap (λ (x : Place). x.seat) (same_Some _ _ (sym a.listed ∙ b.listed))
 
 -- of a router's own prefix something else is said
 abbrev pub own_says : {n : Network} {k p r : ℕ} {Says Other : OwnPrefix → Type 0} → (h : IsOwnWith n k p r Says) → Other h.own → IsOwnWith n k p r Other
@@ -44,16 +41,16 @@ own_moved h place = record { own = h.own; place = place; router = h.router; says
 -- whether a place has a seat on the link
 place_case : (n : Network) (l p k : ℕ) (x : Place) (s : Seat) → slice_get n.places k ≡ Some x → x.seat ≡ s → (x.prefix ≡ p) ⊎ (x.prefix ≡ p → ⊥) →
     ((m : ℕ) → s ≡ Link m → (m ≡ l) ⊎ (m ≡ l → ⊥)) → IsPlace n k p (Link l) ⊎ (IsPlace n k p (Link l) → ⊥)
-place_case n l p k x s at is (inr differs) test = inr (λ h. differs (ap (λ (y : Place). y.prefix) (same_one (sym at ∙ h.listed))))
+place_case n l p k x s at is (inr differs) test = inr (λ h. differs (ap (λ (y : Place). y.prefix) (same_Some _ _ (sym at ∙ h.listed))))
 place_case n l p k x (Own own) at is (inl same) test =
-    inr (λ h. let e : Own own ≡ Link l = sym is ∙ ap (λ (y : Place). y.seat) (same_one (sym at ∙ h.listed)) in cc e)
+    inr (λ h. let e : Own own ≡ Link l = sym is ∙ ap (λ (y : Place). y.seat) (same_Some _ _ (sym at ∙ h.listed)) in cc e)
 place_case n l p k x (Link m) at is (inl same) test =
     elim (test m refl) [
       | inl e ↦
           let whole : x ≡ record { prefix = p; seat = Link l } = λ i. record { prefix = same i; seat = (is ∙ ap Link e) i } in
           inl (record { listed = at ∙ ap Some whole })
       | inr differs ↦
-          inr (λ h. let e : Link m ≡ Link l = sym is ∙ ap (λ (y : Place). y.seat) (same_one (sym at ∙ h.listed)) in differs (cc e))
+          inr (λ h. let e : Link m ≡ Link l = sym is ∙ ap (λ (y : Place). y.seat) (same_Some _ _ (sym at ∙ h.listed)) in differs (cc e))
     ]
 
 place_or_not : (n : Network) (l p k : ℕ) → IsPlace n k p (Link l) ⊎ (IsPlace n k p (Link l) → ⊥)
@@ -73,9 +70,9 @@ carries_or_not n l p =
 -- whether a place is the prefix as the router's own, attached to the link
 attached_case : (n : Network) (r p l k : ℕ) (x : Place) (s : Seat) → slice_get n.places k ≡ Some x → x.seat ≡ s → (x.prefix ≡ p) ⊎ (x.prefix ≡ p → ⊥) →
     IsAttachedAt n k p r l ⊎ (IsAttachedAt n k p r l → ⊥)
-attached_case n r p l k x s at is (inr differs) = inr (λ h. differs (ap (λ (y : Place). y.prefix) (same_one (sym at ∙ h.place.listed))))
+attached_case n r p l k x s at is (inr differs) = inr (λ h. differs (ap (λ (y : Place). y.prefix) (same_Some _ _ (sym at ∙ h.place.listed))))
 attached_case n r p l k x (Link m) at is (inl same) =
-    inr (λ h. let e : Link m ≡ Own h.own = sym is ∙ ap (λ (y : Place). y.seat) (same_one (sym at ∙ h.place.listed)) in cc e)
+    inr (λ h. let e : Link m ≡ Own h.own = sym is ∙ ap (λ (y : Place). y.seat) (same_Some _ _ (sym at ∙ h.place.listed)) in cc e)
 attached_case n r p l k x (Own own) at is (inl same) =
     elim (cases_eq own.router r) [
       | inl router ↦ elim (names own.link) [
@@ -88,11 +85,11 @@ attached_case n r p l k x (Own own) at is (inl same) =
     ]
   where
     the_own : (h : IsAttachedAt n k p r l) → own ≡ h.own
-    the_own h = let e : Own own ≡ Own h.own = sym is ∙ ap (λ (y : Place). y.seat) (same_one (sym at ∙ h.place.listed)) in cc e
+    the_own h = let e : Own own ≡ Own h.own = sym is ∙ ap (λ (y : Place). y.seat) (same_Some _ _ (sym at ∙ h.place.listed)) in cc e
 
     names : (link : Option ℕ) → (link ≡ Some l) ⊎ (link ≡ Some l → ⊥)
     names None = inr (λ e. cc e)
-    names (Some m) = elim (cases_eq m l) [ inl e ↦ inl (ap Some e) | inr differs ↦ inr (λ e. differs (same_one e)) ]
+    names (Some m) = elim (cases_eq m l) [ inl e ↦ inl (ap Some e) | inr differs ↦ inr (λ e. differs (same_Some _ _ e)) ]
 
 attached_at_or_not : (n : Network) (r p l k : ℕ) → IsAttachedAt n k p r l ⊎ (IsAttachedAt n k p r l → ⊥)
 attached_at_or_not n r p l k = go (slice_get n.places k) refl
@@ -120,7 +117,7 @@ holds_back_or_not n r p l = go (carries_or_not n l p) (attached_or_not n r p l)
 pub attached_test : (n : Network) (r p l : ℕ) (o : Option ℕ) (b : Bool) → ((k : ℕ) → (o ≡ Some k) ↔ IsAttached n r p k) → b ≡ option_eq eqb o (Some l) → Decides b (IsAttached n r p l)
 attached_test n r p l None b exact e = (λ t. absurd (let clash : false ≡ true = sym e ∙ t in cc clash), λ at. absurd (let none : None ≡ Some l = (exact l).1 at in cc none))
 attached_test n r p l (Some m) b exact e =
-    (λ t. (exact l).0 (ap Some (eqb-true m l (sym e ∙ t))), λ at. e ∙ eq-eqb m l (same_one ((exact l).1 at)))
+    (λ t. (exact l).0 (ap Some (eqb-true m l (sym e ∙ t))), λ at. e ∙ eq-eqb m l (same_Some _ _ ((exact l).1 at)))
 
 -- and the test for any other link
 pub attached_ne : (n : Network) (r p l : ℕ) (o : Option ℕ) (b : Bool) → ((k : ℕ) → (o ≡ Some k) ↔ IsAttached n r p k) → b ≡ not (option_eq eqb o (Some l)) →
@@ -177,7 +174,7 @@ module _ (n : Network) (plan : IsLawful n) where
       let place : IsPlace n b.0 p (Own a.1.own) = rw same at a.1.place in
       let seats : Own a.1.own ≡ Own b.1.own = one_seat n b.0 p _ _ place b.1.place in
       let one : a.1.own ≡ b.1.own = cc seats in
-      same_one (sym a.1.says ∙ ap (λ (o : OwnPrefix). o.link) one ∙ b.1.says)
+      same_Some _ _ (sym a.1.says ∙ ap (λ (o : OwnPrefix). o.link) one ∙ b.1.says)
 
   -- one of a router's links at most carries a prefix
   carried_link : (r p l k : ℕ) → IsOn n r l → IsOn n r k → Carries n l p → Carries n k p → l ≡ k

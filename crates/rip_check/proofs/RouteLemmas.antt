@@ -1,7 +1,7 @@
 -- What is shown tells of the routes: never two sets of tables, and one set where each place has a route that fits.
 use Rattle.std.proofs.Common.{◌≡◌, ◌≢◌, ℕ, length, slice_get, ◌<◌, ◌≤◌, ◌⊎◌, inl, inr, Option, None, Some, unwrap_or, refl, sym, ◌∙◌, ap, arith}
 use Rattle.std.proofs.lemmas.Bool.{cases_lt, cases_eq}
-use Rattle.std.proofs.lemmas.Option.{slice_get_within}
+use Rattle.std.proofs.lemmas.Option.{slice_get_within, same_Some}
 use Rattle.rip_check.proofs.PlanLemmas.{find_below, held_back_once, holds_back_or_not, its_cost, one_seat}
 use Rattle.rip_plan.specs.declared.parts.Interface.{Interface}
 use Rattle.rip_plan.specs.declared.parts.OwnPrefix.{OwnPrefix}
@@ -14,9 +14,6 @@ use Rattle.rip_check.specs.declared.way.Way.{Way}
 use Rattle.rip_check.specs.declared.way.Way.TheVariants.{Unreachable, Here, Over}
 use Rattle.rip_check.proofs.ShownLemmas.{some_is, shown_below, metric_most}
 use Rattle.rip_check.specs.Metrics.{metric_at}
-
-same_Some' : {A : Type 0} {x y : A} → Some x ≡ Some y → x ≡ y
-same_Some' e = cc e
 
 -- router r has more than one interface
 abbrev pub TwoInterfaces : Network → ℕ → Type 0
@@ -45,7 +42,7 @@ another_or_not n r i j = go (cases_eq j i) (slice_get n.interfaces j) refl
     go (inr other) (Some x) e =
         elim (cases_eq x.router r) [
           | inl its ↦ inl (record { own = x; other = other; listed = e; its = its })
-          | inr not ↦ inr (λ h. not (ap (λ (y : Interface). y.router) (same_Some' (sym e ∙ h.listed)) ∙ h.its))
+          | inr not ↦ inr (λ h. not (ap (λ (y : Interface). y.router) (same_Some _ _ (sym e ∙ h.listed)) ∙ h.its))
         ]
 
 pub two_or_leaf : (n : Network) (r i l c : ℕ) → IsInterface n i r l c → TwoInterfaces n r ⊎ IsLeaf n r i l c

@@ -171,6 +171,10 @@ guarded : {A : Type 0} (b : Bool) (o : Option A) (x : A) → cond b o None ≡ S
 guarded true o x h = refl
 guarded false o x h = absurd (none-some x h)
 
+-- a table whose members were read was read
+not_read : {A : Type 0} (fields : Members → Option A) (d : Data) (ms : Members) → d ≡ table ms → (f : A) × (fields ms ≡ Some f) → (as_table d &> fields) ≡ None → ⊥
+not_read fields d ms is (f, read) none = none-some f (sym none ∙ ap (λ (x : Data). as_table x &> fields) is ∙ read)
+
 pub root_told : (document : Members) (f : List Data × List Data × Bool) → root_fields document ≡ Some f → IsRoot document
 unfolding root_fields
 root_told ms f h =
@@ -185,7 +189,7 @@ root_told ms f h =
       poison = flag_may (get_member (codes_of "poison") ms) c third;
     }
 
-pub root_given : (document : Members) → IsRoot document → (f : List Data × List Data × Bool) × (root_fields document ≡ Some f)
+root_given : (document : Members) → IsRoot document → (f : List Data × List Data × Bool) × (root_fields document ≡ Some f)
 unfolding root_fields
 root_given ms is =
     let (a, first) = some_given (get_member (codes_of "link") ms) is.link in
@@ -216,13 +220,8 @@ link_read ms its =
     let (b, second) = list_given (get_member (codes_of "prefixes") ms) its.prefixes in
     ((a, b), rw (only_keys link_keys ms its.keys, first, second) refl)
 
-pub link_given : (d : Data) → IsLinkTable d → (f : List ℕ × List Data) × ((as_table d &> link_fields) ≡ Some f)
-link_given d is =
-    let (f, read) = link_read is.members (subst IsLinkTable is.is_table is) in
-    (f, ap (λ (x : Data). as_table x &> link_fields) is.is_table ∙ read)
-
 pub link_not : (d : Data) → (as_table d &> link_fields) ≡ None → IsLinkTable d → ⊥
-link_not d none is = let (f, read) = link_given d is in none-some f (sym none ∙ read)
+link_not d none is = not_read link_fields d is.members is.is_table (link_read is.members (subst IsLinkTable is.is_table is)) none
 
 pub router_told : (d : Data) (f : List ℕ × List Data × List Data) → (as_table d &> router_fields) ≡ Some f → IsRouterTable d
 unfolding router_fields
@@ -250,13 +249,8 @@ router_read ms its =
     let (c, third) = list_if_given (get_member (codes_of "own") ms) its.own in
     ((a, b, c), rw (only_keys router_keys ms its.keys, first, second, third) refl)
 
-pub router_given : (d : Data) → IsRouterTable d → (f : List ℕ × List Data × List Data) × ((as_table d &> router_fields) ≡ Some f)
-router_given d is =
-    let (f, read) = router_read is.members (subst IsRouterTable is.is_table is) in
-    (f, ap (λ (x : Data). as_table x &> router_fields) is.is_table ∙ read)
-
 pub router_not : (d : Data) → (as_table d &> router_fields) ≡ None → IsRouterTable d → ⊥
-router_not d none is = let (f, read) = router_given d is in none-some f (sym none ∙ read)
+router_not d none is = not_read router_fields d is.members is.is_table (router_read is.members (subst IsRouterTable is.is_table is)) none
 
 pub interface_told : (d : Data) (f : InterfaceFields) → (as_table d &> interface_fields) ≡ Some f → IsInterfaceTable d
 unfolding interface_fields
@@ -293,13 +287,8 @@ interface_read ms its =
     let (p, sixth) = flag_given (get_member (codes_of "poison") ms) its.poison in
     (record { link = a; address = b; cost = c; direct = e; also = g; poison = p }, rw (only_keys interface_keys ms its.keys, first, second, third, fourth, fifth, sixth) refl)
 
-pub interface_given : (d : Data) → IsInterfaceTable d → (f : InterfaceFields) × ((as_table d &> interface_fields) ≡ Some f)
-interface_given d is =
-    let (f, read) = interface_read is.members (subst IsInterfaceTable is.is_table is) in
-    (f, ap (λ (x : Data). as_table x &> interface_fields) is.is_table ∙ read)
-
 pub interface_not : (d : Data) → (as_table d &> interface_fields) ≡ None → IsInterfaceTable d → ⊥
-interface_not d none is = let (f, read) = interface_given d is in none-some f (sym none ∙ read)
+interface_not d none is = not_read interface_fields d is.members is.is_table (interface_read is.members (subst IsInterfaceTable is.is_table is)) none
 
 pub own_told : (d : Data) (f : OwnFields) → (as_table d &> own_fields) ≡ Some f → IsOwnTable d
 unfolding own_fields
@@ -333,13 +322,8 @@ own_read ms its =
     let (g, fifth) = text_if_given (get_member (codes_of "via") ms) its.via in
     (record { prefix = a; cost = b; kept = unwrap_or c false; link = e; via = g }, rw (only_keys own_keys ms its.keys, first, second, third, fourth, fifth) refl)
 
-pub own_given : (d : Data) → IsOwnTable d → (f : OwnFields) × ((as_table d &> own_fields) ≡ Some f)
-own_given d is =
-    let (f, read) = own_read is.members (subst IsOwnTable is.is_table is) in
-    (f, ap (λ (x : Data). as_table x &> own_fields) is.is_table ∙ read)
-
 pub own_not : (d : Data) → (as_table d &> own_fields) ≡ None → IsOwnTable d → ⊥
-own_not d none is = let (f, read) = own_given d is in none-some f (sym none ∙ read)
+own_not d none is = not_read own_fields d is.members is.is_table (own_read is.members (subst IsOwnTable is.is_table is)) none
 
 pub string_not : (d : Data) → as_str d ≡ None → IsString d → ⊥
 string_not d none (text, is) = none-some text (sym none ∙ ap as_str is)
