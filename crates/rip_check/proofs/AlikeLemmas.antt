@@ -5,9 +5,10 @@ use Rattle.std.specs.Option.{option_map_or}
 use Rattle.std.proofs.lemmas.Option.{none-some, same_Some, slice_get-map}
 use Rattle.rip_plan.specs.Network.{Network}
 use Rattle.rip_plan.specs.declared.parts.Interface.{Interface}
+use Rattle.rip_plan.specs.declared.parts.OwnPrefix.{OwnPrefix}
 use Rattle.rip_plan.specs.declared.parts.Seat.{Seat}
 use Rattle.rip_plan.specs.declared.parts.Seat.TheVariants.{Link}
-use Rattle.rip_plan.specs.Relations.{Carries, HasCost, IsAttached, IsConnected, IsDirect, IsInterface, IsKept, IsLawful, IsLeaf, IsNeighbour, IsOn, IsOwnAt, IsPlace, Touches}
+use Rattle.rip_plan.specs.Relations.{Carries, HasCost, IsAttached, IsConnected, IsDirect, IsInterface, IsKept, IsLawful, IsLeaf, IsNeighbour, IsOn, IsOwnWith, IsPlace, Touches}
 use Rattle.rip_table.specs.State.{State}
 use Rattle.rip_check.specs.declared.way.Way.{Way}
 use Rattle.rip_check.specs.declared.way.Way.TheVariants.{Unreachable, Here, Over}
@@ -16,6 +17,7 @@ use Rattle.rip_check.specs.Paths.{Hop, IsLeast, IsPath, MayHop}
 use Rattle.rip_check.specs.Settled.{AllRight, GoesRight}
 use Rattle.rip_check.specs.Tables.{FitsShown, FitsWay, IsHiddenRoute, IsLeastOffer, MayHoldBack, MayShow, Offers, Route, Shows, Tables}
 use Rattle.rip_check.specs.Told.{AreAlike, HasLessPoison, poisoning, poisons, told}
+use Rattle.rip_check.proofs.PlanLemmas.{own_moved}
 use Rattle.rip_check.proofs.LessPoisonLemmas.{fewer_poison}
 use Rattle.rip_check.proofs.ToldTableLemmas.{its_poison, surely_poisons, told_offered}
 
@@ -102,14 +104,14 @@ leaf_to n m e r i l c is = record {
 place_to : (n m : Network) → Same n m → (k p : ℕ) (seat : Seat) → IsPlace n k p seat → IsPlace m k p seat
 place_to n m e k p seat is = record { listed = sym (ap (λ qs. slice_get qs k) e.places) ∙ is.listed }
 
-own_to : (n m : Network) → Same n m → (k p r c : ℕ) → IsOwnAt n k p r c → IsOwnAt m k p r c
-own_to n m e k p r c is = record { kept = is.kept; link = is.link; via = is.via; place = place_to n m e k p _ is.place }
+own_to : {Says : OwnPrefix → Type 0} (n m : Network) → Same n m → (k p r : ℕ) → IsOwnWith n k p r Says → IsOwnWith m k p r Says
+own_to n m e k p r is = own_moved is (place_to n m e k p _ is.place)
 
 attached_to : (n m : Network) → Same n m → (r p l : ℕ) → IsAttached n r p l → IsAttached m r p l
-attached_to n m e r p l (k, is) = (k, record { cost = is.cost; kept = is.kept; via = is.via; place = place_to n m e k p _ is.place })
+attached_to n m e r p l (k, is) = (k, own_to n m e k p r is)
 
 kept_to : (n m : Network) → Same n m → (r p : ℕ) → IsKept n r p → IsKept m r p
-kept_to n m e r p (inl (k, is)) = inl (k, record { cost = is.cost; link = is.link; via = is.via; place = place_to n m e k p _ is.place })
+kept_to n m e r p (inl (k, is)) = inl (k, own_to n m e k p r is)
 kept_to n m e r p (inr (l, is)) = inr (l, attached_to n m e r p l is)
 
 carries_to : (n m : Network) → Same n m → (l p : ℕ) → Carries n l p → Carries m l p
@@ -121,7 +123,7 @@ hold_to n m e r p l (inr is) = inr (attached_to n m e r p l is)
 
 touches_to : (n m : Network) → Same n m → (k p r c : ℕ) → Touches n k p r c → Touches m k p r c
 touches_to n m e k p r c (inl (l, at, its)) = inl (l, place_to n m e k p (Link l) at, (its.0, e.connected_to its.0 r l c its.1))
-touches_to n m e k p r c (inr is) = inr (own_to n m e k p r c is)
+touches_to n m e k p r c (inr is) = inr (own_to n m e k p r is)
 
 direct_to : (n m : Network) → Same n m → (r p c : ℕ) → IsDirect n r p c → IsDirect m r p c
 direct_to n m e r p c (k, is) = (k, touches_to n m e k p r c is)

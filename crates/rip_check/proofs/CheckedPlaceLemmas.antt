@@ -22,7 +22,7 @@ same a = eq-eqb a a refl
 
 abbrev each_cost : Network → ℕ → (ℕ → Bool) → Seat → Bool
 each_cost n r test (Link l) = each (λ i x. when ((x.router == r) && (x.link == l)) (test x.direct)) n.interfaces
-each_cost n r test (Own o c kept link via) = when (o == r) (test c)
+each_cost n r test (Own own) = when (own.router == r) (test own.cost)
 
 abbrev pub each_direct : Network → ℕ → ℕ → (ℕ → Bool) → Bool
 each_direct n r p test = each (λ k q. when (q.prefix == p) (each_cost n r test q.seat)) n.places
@@ -38,7 +38,7 @@ each_direct_gives n r p test ok v d = go d.0 d.1
         when_gives ((r == r) && (h.0 == h.0)) (test v)
         (each_gives (λ i x. when ((x.router == r) && (x.link == h.0)) (test x.direct)) n.interfaces (at k (Link h.0) h.1) h.2.0 _ h.2.1.listed)
         (and_from _ _ (same r) (same h.0))
-    go k (inr h) = when_gives (r == r) (test v) (at k (Own r v h.kept h.link h.via) h.place) (same r)
+    go k (inr h) = rw h.says at (when_gives (h.own.router == r) (test h.own.cost) (at k (Own h.own) h.place) (eq-eqb _ _ h.router))
 
 -- no place of the prefix touches the router
 pub no_direct : (n : Network) (r p : ℕ) → each_direct n r p (λ v. false) ≡ true → (v : ℕ) → IsDirect n r p v → ⊥
@@ -46,7 +46,7 @@ no_direct n r p ok v d = let e = each_direct_gives n r p (λ v. false) ok v d in
 
 abbrev some_cost : Network → ℕ → ℕ → Seat → Bool
 some_cost n r m (Link l) = some (λ i x. ((x.router == r) && (x.link == l)) && (x.direct == m)) n.interfaces
-some_cost n r m (Own o c kept link via) = (o == r) && (c == m)
+some_cost n r m (Own own) = (own.router == r) && (own.cost == m)
 
 abbrev is_direct : Network → ℕ → ℕ → ℕ → Bool
 is_direct n r p m = some (λ k q. (q.prefix == p) && some_cost n r m q.seat) n.places
@@ -84,12 +84,9 @@ is_direct_gives n r p m ok =
         let where_ = and_parts _ _ parts.0 in
         let its = its_connected n h.0 r l m h.1 h.2 (eqb-true _ _ where_.0) (eqb-true _ _ where_.1) (eqb-true _ _ parts.1) in
         (k, inl (l, place_at k q (Link l) at e is, (h.0, its)))
-    go k q (Own o c kept link via) at e is costs =
-        let parts = and_parts (o == r) (c == m) costs in
-        let there : IsPlace n k p (Own o c kept link via) = place_at k q (Own o c kept link via) at e is in
-        let there' : IsPlace n k p (Own r c kept link via) = rw (eqb-true o r parts.0) at there in
-        let there'' : IsPlace n k p (Own r m kept link via) = rw (eqb-true c m parts.1) at there' in
-        (k, inr (record { kept = kept; link = link; via = via; place = there'' }))
+    go k q (Own own) at e is costs =
+        let parts = and_parts (own.router == r) (own.cost == m) costs in
+        (k, inr (record { own = own; place = place_at k q (Own own) at e is; router = eqb-true _ _ parts.0; says = eqb-true _ _ parts.1 }))
 
 -- ---- what is kept
 
@@ -100,7 +97,7 @@ names_link l (Some m) = m == l
 
 abbrev attaches : ℕ → ℕ → Seat → Bool
 attaches r l (Link m) = false
-attaches r l (Own o c kept link via) = (o == r) && names_link l link
+attaches r l (Own own) = (own.router == r) && names_link l own.link
 
 abbrev attached : Network → ℕ → ℕ → ℕ → Bool
 attached n r p l = some (λ k q. (q.prefix == p) && attaches r l q.seat) n.places
@@ -112,17 +109,19 @@ attached_gives n r p l ok =
     let there : IsPlace n h.0 h.1.prefix h.1.seat = record { listed = h.2 } in
     (h.0, go h.0 h.1.seat (rw (eqb-true _ _ parts.0) at there) parts.1)
   where
+    named : (link : Option ℕ) → names_link l link ≡ true → link ≡ Some l
+    named None e = cc e
+    named (Some m) e = ap Some (eqb-true m l e)
+
     go : (k : ℕ) (s : Seat) → IsPlace n k p s → attaches r l s ≡ true → IsAttachedAt n k p r l
     go k (Link m) there e = cc e
-    go k (Own o c kept None via) there e = absurd (let h = (and_parts (o == r) false e).1 in cc h)
-    go k (Own o c kept (Some m) via) there e =
-        let h = and_parts (o == r) (m == l) e in
-        let there' : IsPlace n k p (Own r c kept (Some m) via) = rw (eqb-true o r h.0) at there in
-        record { cost = c; kept = kept; via = via; place = rw (eqb-true m l h.1) at there' }
+    go k (Own own) there e =
+        let h = and_parts (own.router == r) (names_link l own.link) e in
+        record { own = own; place = there; router = eqb-true _ _ h.0; says = named own.link h.1 }
 
 attached_holds : (n : Network) (r p l : ℕ) → IsAttached n r p l → attached n r p l ≡ true
 attached_holds n r p l at =
-    some_holds (λ k q. (q.prefix == p) && attaches r l q.seat) n.places at.0 _ at.1.place.listed (and_from _ _ (same p) (and_from _ _ (same r) (same l)))
+    some_holds (λ k q. (q.prefix == p) && attaches r l q.seat) n.places at.0 _ at.1.place.listed (and_from _ _ (same p) (and_from _ _ (eq-eqb _ _ at.1.router) (rw at.1.says (same l))))
 
 pub not_attached : (n : Network) (r p l : ℕ) → not (attached n r p l) ≡ true → IsAttached n r p l → ⊥
 not_attached n r p l ok at = both_ways (attached n r p l) (not-true _ ok) (attached_holds n r p l at)
@@ -134,16 +133,16 @@ is_some_link (Some l) = true
 
 abbrev keeps_seat : ℕ → Seat → Bool
 keeps_seat r (Link l) = false
-keeps_seat r (Own o c kept link via) = (o == r) && (kept || is_some_link link)
+keeps_seat r (Own own) = (own.router == r) && (own.kept || is_some_link own.link)
 
 abbrev pub keeps : Network → ℕ → ℕ → Bool
 keeps n r p = some (λ k q. (q.prefix == p) && keeps_seat r q.seat) n.places
 
 keeps_holds : (n : Network) (r p : ℕ) → IsKept n r p → keeps n r p ≡ true
-keeps_holds n r p (inl h) =
-    some_holds (λ k q. (q.prefix == p) && keeps_seat r q.seat) n.places h.0 _ h.1.place.listed (and_from _ _ (same p) (and_from _ _ (same r) refl))
-keeps_holds n r p (inr h) =
-    some_holds (λ k q. (q.prefix == p) && keeps_seat r q.seat) n.places h.1.0 _ h.1.1.place.listed (and_from _ _ (same p) (and_from _ _ (same r) (or_right h.1.1.kept true refl)))
+keeps_holds n r p (inl (k, h)) =
+    some_holds (λ k q. (q.prefix == p) && keeps_seat r q.seat) n.places k _ h.place.listed (and_from _ _ (same p) (and_from _ _ (eq-eqb _ _ h.router) (or_left _ _ h.says)))
+keeps_holds n r p (inr (l, (k, h))) =
+    some_holds (λ k q. (q.prefix == p) && keeps_seat r q.seat) n.places k _ h.place.listed (and_from _ _ (same p) (and_from _ _ (eq-eqb _ _ h.router) (or_right h.own.kept _ (rw h.says refl))))
 
 keeps_gives : (n : Network) (r p : ℕ) → keeps n r p ≡ true → IsKept n r p
 keeps_gives n r p ok =
@@ -152,15 +151,19 @@ keeps_gives n r p ok =
     let there : IsPlace n h.0 h.1.prefix h.1.seat = record { listed = h.2 } in
     go h.0 h.1.seat (rw (eqb-true _ _ parts.0) at there) parts.1
   where
+    the_link : (link : Option ℕ) → is_some_link link ≡ true → (l : ℕ) × (link ≡ Some l)
+    the_link None e = cc e
+    the_link (Some l) e = (l, refl)
+
     go : (k : ℕ) (s : Seat) → IsPlace n k p s → keeps_seat r s ≡ true → IsKept n r p
     go k (Link m) there e = cc e
-    go k (Own o c true link via) there e =
-        let there' : IsPlace n k p (Own r c true link via) = rw (eqb-true o r (and_parts (o == r) _ e).0) at there in
-        inl (k, record { cost = c; link = link; via = via; place = there' })
-    go k (Own o c false None via) there e = absurd (let h = (and_parts (o == r) false e).1 in cc h)
-    go k (Own o c false (Some l) via) there e =
-        let there' : IsPlace n k p (Own r c false (Some l) via) = rw (eqb-true o r (and_parts (o == r) true e).0) at there in
-        inr (l, (k, record { cost = c; kept = false; via = via; place = there' }))
+    go k (Own own) there e =
+        let h = and_parts (own.router == r) _ e in
+        let router = eqb-true own.router r h.0 in
+        elim (or_cases own.kept (is_some_link own.link) h.1) [
+          | inl kept ↦ inl (k, record { own = own; place = there; router = router; says = kept })
+          | inr some ↦ let (l, is) = the_link own.link some in inr (l, (k, record { own = own; place = there; router = router; says = is }))
+        ]
 
 pub takes : (n : Network) (r p : ℕ) → not (keeps n r p) ≡ true → IsKept n r p → ⊥
 takes n r p ok kept = both_ways (keeps n r p) (not-true _ ok) (keeps_holds n r p kept)

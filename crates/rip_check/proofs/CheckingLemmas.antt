@@ -9,6 +9,7 @@ use Rattle.std.proofs.lemmas.Slice.Eq.{bytes_eq-Decides}
 use Rattle.rip_wire.specs.Name.{IsName, is_name}
 use Rattle.rip_wire.specs.Prefix.{Block, IsBlock, size_of}
 use Rattle.rip_plan.specs.declared.parts.Interface.{Interface}
+use Rattle.rip_plan.specs.declared.parts.OwnPrefix.{OwnPrefix}
 use Rattle.rip_plan.specs.declared.parts.Seat.{Seat}
 use Rattle.rip_plan.specs.declared.parts.Seat.TheVariants.{Link, Own}
 use Rattle.rip_plan.specs.declared.parts.Place.{Place}
@@ -113,11 +114,11 @@ is_named_once names l name = is_name name && each (λ m other. when (bytes_eq na
 
 abbrev pub is_link : ℕ → Seat → Bool
 is_link l (Link m) = m == l
-is_link l (Own r c kept link via) = false
+is_link l (Own own) = false
 
 pub link_of : (l : ℕ) (s : Seat) → is_link l s ≡ true → s ≡ Link l
 link_of l (Link m) h = ap Link (eqb-true m l h)
-link_of l (Own r c kept link via) h = cc h
+link_of l (Own own) h = cc h
 
 abbrev contains : Block → ℕ → Bool
 contains b a = (a / size_of b.prefix_len) == (b.network / size_of b.prefix_len)
@@ -153,15 +154,15 @@ tells_none (Some a) = false
 
 abbrev is_fit_seat : Network → Seat → Bool
 is_fit_seat n (Link l) = nat_lt l (length n.links)
-is_fit_seat n (Own r c kept link via) = (nat_lt r (length n.routers) && (nat_le 1 c && nat_le c 15)) && (is_there n r link && tells_none via)
+is_fit_seat n (Own own) = (nat_lt own.router (length n.routers) && (nat_le 1 own.cost && nat_le own.cost 15)) && (is_there n own.router own.link && tells_none own.via)
 
 abbrev touches : Network → ℕ → Seat → Bool
 touches n r (Link l) = some (λ i x. (x.router == r) && (x.link == l)) n.interfaces
-touches n r (Own o c kept link via) = o == r
+touches n r (Own own) = own.router == r
 
 abbrev is_same_link : Seat → Seat → Bool
 is_same_link s (Link l) = is_link l s
-is_same_link s (Own o c kept link via) = false
+is_same_link s (Own own) = false
 
 abbrev are_apart_seats : Network → Seat → Seat → Bool
 are_apart_seats n s t = not (is_same_link s t) && below (λ r. not (touches n r s && touches n r t)) (length n.routers)
@@ -248,14 +249,14 @@ module _ (n : Network) (ok : Passes n) where
   link_same l = eq-eqb l l refl
 
   -- what is a router's own passes
-  own_fits : (k p r c : ℕ) (kept : Bool) (link via : Option ℕ) → IsPlace n k p (Own r c kept link via) →
-      (r < length n.routers) × (1 ≤ c) × (c ≤ 15) × (is_there n r link ≡ true) × (tells_none via ≡ true)
-  own_fits k p r c kept link via at =
-      let h = and_parts (nat_lt r (length n.routers) && (nat_le 1 c && nat_le c 15)) _ (seat_fits k p (Own r c kept link via) at) in
-      let h0 = and_parts (nat_lt r (length n.routers)) _ h.0 in
-      let h1 = and_parts (nat_le 1 c) _ h0.1 in
-      let h2 = and_parts (is_there n r link) _ h.1 in
-      (ltb-true r _ h0.0, leb-true 1 c h1.0, leb-true c 15 h1.1, h2.0, h2.1)
+  own_fits : (k p : ℕ) (own : OwnPrefix) → IsPlace n k p (Own own) →
+      (own.router < length n.routers) × (1 ≤ own.cost) × (own.cost ≤ 15) × (is_there n own.router own.link ≡ true) × (tells_none own.via ≡ true)
+  own_fits k p own at =
+      let h = and_parts (nat_lt own.router (length n.routers) && (nat_le 1 own.cost && nat_le own.cost 15)) _ (seat_fits k p (Own own) at) in
+      let h0 = and_parts (nat_lt own.router (length n.routers)) _ h.0 in
+      let h1 = and_parts (nat_le 1 own.cost) _ h0.1 in
+      let h2 = and_parts (is_there n own.router own.link) _ h.1 in
+      (ltb-true _ _ h0.0, leb-true _ _ h1.0, leb-true _ _ h1.1, h2.0, h2.1)
 
   -- an interface has its own address alone
   alone : (i : ℕ) (further : List ℕ) → slice_get n.also i ≡ Some further → further ≡ []
@@ -291,7 +292,7 @@ module _ (n : Network) (ok : Passes n) where
       let test = some_holds (λ i x. (x.router == r) && (x.link == h.0)) n.interfaces i _ its.listed (and_from (r == r) (h.0 == h.0) (eq-eqb r r refl) (eq-eqb h.0 h.0 refl)) in
       (Link h.0, h.1, test, (fit_parts i _ its.listed).0)
   seat_touched k p r c (inr h) =
-      (Own r c h.kept h.link h.via, h.place, eq-eqb r r refl, (own_fits k p r c h.kept h.link h.via h.place).0)
+      (Own h.own, h.place, eq-eqb _ _ h.router, rw h.router at (own_fits k p h.own h.place).0)
 
   both_false : (a b : Bool) → not (a && b) ≡ true → a ≡ true → b ≡ true → ⊥
   both_false true true h a b = cc h
@@ -377,7 +378,7 @@ module _ (n : Network) (ok : Passes n) where
 
   attached_there : (r p l : ℕ) → IsAttached n r p l → IsOn n r l
   attached_there r p l h =
-      let test : is_there n r (Some l) ≡ true = (own_fits h.0 p r h.1.cost h.1.kept (Some l) h.1.via h.1.place).3 in
+      let test : is_there n r (Some l) ≡ true = rw (h.1.router, h.1.says) at (own_fits h.0 p h.1.own h.1.place).3 in
       let found = some_gives (λ i x. (x.router == r) && (x.link == l)) n.interfaces test in
       let x = found.1 in
       let parts = and_parts (x.router == r) (x.link == l) found.3 in
@@ -433,11 +434,11 @@ module _ (n : Network) (ok : Passes n) where
         one_place = one_place;
         prefix_known = λ k p s at. ltb-true p _ (and_parts _ _ (and_parts _ _ (at_place k p s at)).0).0;
         seat_known = λ k p l at. ltb-true l _ (seat_fits k p (Link l) at);
-        owner_known = λ k p r c h. (own_fits k p r c h.kept h.link h.via h.place).0;
-        own_cost_least = λ k p r c h. (own_fits k p r c h.kept h.link h.via h.place).1;
-        own_cost_most = λ k p r c h. (own_fits k p r c h.kept h.link h.via h.place).2;
+        owner_known = λ k p r c h. rw h.router at (own_fits k p h.own h.place).0;
+        own_cost_least = λ k p r c h. rw h.says at (own_fits k p h.own h.place).1;
+        own_cost_most = λ k p r c h. rw h.says at (own_fits k p h.own h.place).2;
         attached_there = attached_there;
-        gateway_known = λ r p a h. absurd (let told : tells_none (Some a) ≡ true = (own_fits h.0 p r h.1.cost h.1.kept h.1.link (Some a) h.1.place).4 in cc told);
+        gateway_known = λ r p a h. absurd (let told : tells_none (Some a) ≡ true = rw h.1.says at (own_fits h.0 p h.1.own h.1.place).4 in cc told);
         carried_once = carried_once;
         touched_once = touched_once;
       }

@@ -1,14 +1,15 @@
 -- What is left of a network after a failure.
-use Rattle.std.proofs.Common.{◌≡◌, ℕ, zero, suc, ◌<◌, ◌≤◌, ◌⊎◌, ◌↔◌, inl, inr, Bool, true, false, not, ◌&&◌, cond, List, [], ◌∷◌, length, Option, None, Some, slice_get, refl, arith}
+use Rattle.std.proofs.Common.{◌≡◌, ℕ, zero, suc, ◌<◌, ◌≤◌, ◌⊎◌, ◌↔◌, inl, inr, Bool, true, false, not, cond, List, [], ◌∷◌, length, Option, None, Some, slice_get, refl, ap, ◌∙◌, arith}
 use Rattle.std.specs.List.{filter}
 use Rattle.std.specs.Prelude.{eqb}
-use Rattle.std.proofs.lemmas.Bool.{eqb-true, eq-eqb}
+use Rattle.std.proofs.lemmas.Bool.{eqb-true, eq-eqb, and_parts, and_from}
 use Rattle.rip_plan.specs.declared.parts.Interface.{Interface}
+use Rattle.rip_plan.specs.declared.parts.OwnPrefix.{OwnPrefix}
 use Rattle.rip_plan.specs.declared.parts.Seat.{Seat}
 use Rattle.rip_plan.specs.declared.parts.Seat.TheVariants.{Link, Own}
 use Rattle.rip_plan.specs.Network.{Network}
-use Rattle.rip_plan.specs.Relations.{Carries, HasCost, IsAttached, IsConnected, IsDirect, IsKept, IsLawful, IsOn, IsPlace, Touches}
-use Rattle.rip_check.proofs.PlanLemmas.{one_seat}
+use Rattle.rip_plan.specs.Relations.{Carries, HasCost, IsAttached, IsConnected, IsDirect, IsKept, IsLawful, IsOn, IsOwnWith, IsPlace, Touches}
+use Rattle.rip_check.proofs.PlanLemmas.{one_seat, own_moved, own_says}
 use Rattle.rip_check.proofs.TellingLemmas.{IsSound, reached_most}
 use Rattle.rip_check.specs.declared.failures.Failure.{Failure}
 use Rattle.rip_check.specs.declared.failures.Failure.TheVariants as failures
@@ -40,14 +41,6 @@ filter_at {A} test (y ∷ ys) (suc j) x e t = go (test y) refl (filter_at test y
     go : (b : Bool) → test y ≡ b → ((k : ℕ) × (slice_get (filter test ys) k ≡ Some x)) → (k : ℕ) × (slice_get (filter test (y ∷ ys)) k ≡ Some x)
     go true is h = (suc h.0, rw is h.1)
     go false is h = (h.0, rw is h.1)
-
-both : (a b : Bool) → (a && b) ≡ true → (a ≡ true) × (b ≡ true)
-both true true e = (refl, refl)
-both true false e = cc e
-both false b e = cc e
-
-and_true : (a b : Bool) → a ≡ true → b ≡ true → (a && b) ≡ true
-and_true a b e f = rw (e, f) refl
 
 not_true : (b : Bool) → (b ≡ true → ⊥) → not b ≡ true
 not_true true h = absurd (h refl)
@@ -83,13 +76,13 @@ pub was_listed : (n : Network) (f : Option Failure) (j : ℕ) (x : Interface) �
 was_listed n None j x e = (j, e, refl, refl)
 was_listed n (Some f) j x e =
     let h = filter_has (is_alive (Some f)) n.interfaces j x e in
-    let up = both (is_router_up (Some f) x.router) (is_link_up (Some f) x.link) h.2 in
+    let up = and_parts (is_router_up (Some f) x.router) (is_link_up (Some f) x.link) h.2 in
     (h.0, h.1, up.0, up.1)
 
 pub still_listed : (n : Network) (f : Option Failure) (i : ℕ) (x : Interface) → slice_get n.interfaces i ≡ Some x → is_router_up f x.router ≡ true → is_link_up f x.link ≡ true →
     (j : ℕ) × (slice_get (network_left n f).interfaces j ≡ Some x)
 still_listed n None i x e r_up l_up = (i, e)
-still_listed n (Some f) i x e r_up l_up = filter_at (is_alive (Some f)) n.interfaces i x e (and_true (is_router_up (Some f) x.router) (is_link_up (Some f) x.link) r_up l_up)
+still_listed n (Some f) i x e r_up l_up = filter_at (is_alive (Some f)) n.interfaces i x e (and_from (is_router_up (Some f) x.router) (is_link_up (Some f) x.link) r_up l_up)
 
 module _ (n : Network) (f : Option Failure) where
   -- an interface that is left was one, of a router and on a link that are up
@@ -124,7 +117,7 @@ was_place n None k p seat is = (k, is, all_alive seat)
 
     all_alive : (seat : Seat) → is_alive_seat None seat ≡ true
     all_alive (Link l) = refl
-    all_alive (Own r c kept link via) = any_alive link
+    all_alive (Own own) = any_alive own.link
 was_place n (Some f) k p seat is =
     let h = filter_has (λ q. is_alive_seat (Some f) q.seat) n.places k (record { prefix = p; seat = seat }) is.listed in
     (h.0, record { listed = h.1 }, h.2)
@@ -140,13 +133,14 @@ module _ (n : Network) (f : Option Failure) where
   pub was_attached : (r p l : ℕ) → IsAttached (network_left n f) r p l → IsAttached n r p l × (is_router_up f r ≡ true) × (is_link_up f l ≡ true)
   was_attached r p l at =
       let h = was_place n f at.0 p _ at.1.place in
-      let up = both (is_router_up f r) (is_link_up f l) h.2 in
-      ((h.0, record { cost = at.1.cost; kept = at.1.kept; via = at.1.via; place = h.1 }), up.0, up.1)
+      let up = and_parts (is_router_up f at.1.own.router) (is_any_up f at.1.own.link) h.2 in
+      ((h.0, own_moved at.1 h.1), rw at.1.router at up.0, rw at.1.says at up.1)
 
   pub still_attached : (r p l : ℕ) → IsAttached n r p l → is_router_up f r ≡ true → is_link_up f l ≡ true → IsAttached (network_left n f) r p l
   still_attached r p l at r_up l_up =
-      let h = still_place n f at.0 p _ at.1.place (and_true (is_router_up f r) (is_link_up f l) r_up l_up) in
-      (h.0, record { cost = at.1.cost; kept = at.1.kept; via = at.1.via; place = h.1 })
+      let own = at.1.own in
+      let h = still_place n f at.0 p _ at.1.place (and_from (is_router_up f own.router) (is_any_up f own.link) (rw at.1.router r_up) (rw at.1.says l_up)) in
+      (h.0, own_moved at.1 h.1)
 
   -- what a router has after the failure it had before, and is up
   pub was_direct : (r p c : ℕ) → IsDirect (network_left n f) r p c → IsDirect n r p c × (is_router_up f r ≡ true)
@@ -156,8 +150,8 @@ module _ (n : Network) (f : Option Failure) where
       ((h.0, inl (at.0, h.1, j.0)), j.1)
   was_direct r p c (k, inr own) =
       let h = was_place n f k p _ own.place in
-      let up = both (is_router_up f r) (is_any_up f own.link) h.2 in
-      ((h.0, inr (record { kept = own.kept; link = own.link; via = own.via; place = h.1 })), up.0)
+      let up = and_parts (is_router_up f own.own.router) (is_any_up f own.own.link) h.2 in
+      ((h.0, inr (own_moved own h.1)), rw own.router at up.0)
 
   pub any_up : (link : Option ℕ) → ((l : ℕ) → link ≡ Some l → is_link_up f l ≡ true) → is_any_up f link ≡ true
   any_up None up = refl
@@ -172,24 +166,25 @@ module _ (n : Network) (f : Option Failure) where
       let h = still_place n f k p _ at.1 l_up in
       (h.0, inl (at.0, h.1, still_connected n f at.2.0 r at.0 c at.2.1 r_up l_up))
   still_direct r p c r_up carried attached (k, inr own) =
-      let up = any_up own.link (λ l is. attached l (k, record { cost = c; kept = own.kept; via = own.via; place = rw is at own.place })) in
-      let h = still_place n f k p _ own.place (and_true (is_router_up f r) (is_any_up f own.link) r_up up) in
-      (h.0, inr (record { kept = own.kept; link = own.link; via = own.via; place = h.1 }))
+      let up = any_up own.own.link (λ l is. attached l (k, own_says own is)) in
+      let h = still_place n f k p _ own.place (and_from (is_router_up f own.own.router) (is_any_up f own.own.link) (rw own.router r_up) up) in
+      (h.0, inr (own_moved own h.1))
 
   -- a router that keeps the prefix after the failure kept it, and is up
   pub was_kept : (r p : ℕ) → IsKept (network_left n f) r p → IsKept n r p × (is_router_up f r ≡ true)
   was_kept r p (inl kept) =
       let h = was_place n f kept.0 p _ kept.1.place in
-      let up = both (is_router_up f r) (is_any_up f kept.1.link) h.2 in
-      (inl (h.0, record { cost = kept.1.cost; link = kept.1.link; via = kept.1.via; place = h.1 }), up.0)
+      let up = and_parts (is_router_up f kept.1.own.router) (is_any_up f kept.1.own.link) h.2 in
+      (inl (h.0, own_moved kept.1 h.1), rw kept.1.router at up.0)
   was_kept r p (inr at) = let h = was_attached r p at.0 at.1 in (inr (at.0, h.0), h.1)
 
   -- a router that is up still keeps what is not attached to a failed link
   pub still_kept : (r p : ℕ) → is_router_up f r ≡ true → ((l : ℕ) → IsAttached n r p l → is_link_up f l ≡ true) → IsKept n r p → IsKept (network_left n f) r p
   still_kept r p r_up attached (inl kept) =
-      let up = any_up kept.1.link (λ l is. attached l (kept.0, record { cost = kept.1.cost; kept = true; via = kept.1.via; place = rw is at kept.1.place })) in
-      let h = still_place n f kept.0 p _ kept.1.place (and_true (is_router_up f r) (is_any_up f kept.1.link) r_up up) in
-      inl (h.0, record { cost = kept.1.cost; link = kept.1.link; via = kept.1.via; place = h.1 })
+      let own = kept.1.own in
+      let up = any_up own.link (λ l is. attached l (kept.0, own_says kept.1 is)) in
+      let h = still_place n f kept.0 p _ kept.1.place (and_from (is_router_up f own.router) (is_any_up f own.link) (rw kept.1.router r_up) up) in
+      inl (h.0, own_moved kept.1 h.1)
   still_kept r p r_up attached (inr at) = inr (at.0, still_attached r p at.0 at.1 r_up (attached at.0 at.1))
 
 -- ---- one place has what a router has of a prefix
@@ -201,48 +196,47 @@ module _ (n : Network) (plan : IsLawful n) where
       let same : k ≡ j = plan.touched_once k j p r c d a b in
       one_seat n j p s t (rw same at at) bt
 
-  attached_touch : (r p l : ℕ) (at : IsAttached n r p l) → Touches n at.0 p r at.1.cost
-  attached_touch r p l at = inr (record { kept = at.1.kept; link = Some l; via = at.1.via; place = at.1.place })
+  attached_touch : (r p l : ℕ) (at : IsAttached n r p l) → Touches n at.0 p r at.1.own.cost
+  attached_touch r p l at = inr (own_says at.1 refl)
 
-  some_link : (link : Option ℕ) (o r c d l : ℕ) (kept kept' : Bool) (via via' : Option ℕ) → Own o c kept link via ≡ Own r d kept' (Some l) via' → link ≡ Some l
-  some_link link o r c d l kept kept' via via' e = cc e
+  own_same : (own other : OwnPrefix) → Own own ≡ Own other → own ≡ other
+  own_same own other e = cc e
 
-  link_clash : (m r d : ℕ) (kept : Bool) (link via : Option ℕ) → Link m ≡ Own r d kept link via → ⊥
-  link_clash m r d kept link via e = cc e
+  link_clash : (m : ℕ) (own : OwnPrefix) → Link m ≡ Own own → ⊥
+  link_clash m own e = cc e
 
   link_same : (l m : ℕ) → Link l ≡ Link m → l ≡ m
   link_same l m e = cc e
 
   module _ (f : Option Failure) where
     -- an own seat that is alive is that to which the prefix is attached
-    own_up : (k p r c l : ℕ) (kept : Bool) (link via : Option ℕ) → IsPlace n k p (Own r c kept link via) → is_any_up f link ≡ true → IsAttached n r p l → is_link_up f l ≡ true
-    own_up k p r c l kept link via is up at =
-        let own : Touches n k p r c = inr (record { kept = kept; link = link; via = via; place = is }) in
-        let same = one_touch k at.0 p r c at.1.cost _ _ own (attached_touch r p l at) is at.1.place in
-        let named : link ≡ Some l = some_link link r r c at.1.cost l kept at.1.kept via at.1.via same in
+    own_up : {Says : OwnPrefix → Type 0} (k p r l : ℕ) (h : IsOwnWith n k p r Says) → is_any_up f h.own.link ≡ true → IsAttached n r p l → is_link_up f l ≡ true
+    own_up k p r l h up at =
+        let same = one_touch k at.0 p r h.own.cost at.1.own.cost _ _ (inr (own_says h refl)) (attached_touch r p l at) h.place at.1.place in
+        let named : h.own.link ≡ Some l = ap (λ (o : OwnPrefix). o.link) (own_same h.own at.1.own same) ∙ at.1.says in
         rw named at up
 
     -- where a router keeps the prefix after the failure, no link that it was attached to has failed
     pub kept_up : (r p l : ℕ) → IsKept (network_left n f) r p → IsAttached n r p l → is_link_up f l ≡ true
     kept_up r p l (inl kept) at =
         let h = was_place n f kept.0 p _ kept.1.place in
-        let up = both (is_router_up f r) (is_any_up f kept.1.link) h.2 in
-        own_up h.0 p r kept.1.cost l true kept.1.link kept.1.via h.1 up.1 at
+        let up = and_parts (is_router_up f kept.1.own.router) (is_any_up f kept.1.own.link) h.2 in
+        own_up h.0 p r l (own_moved kept.1 h.1) up.1 at
     kept_up r p l (inr still) at =
         let h = was_attached n f r p still.0 still.1 in
-        own_up h.0.0 p r h.0.1.cost l h.0.1.kept (Some still.0) h.0.1.via h.0.1.place h.2 at
+        own_up h.0.0 p r l h.0.1 (rw h.0.1.says h.2) at
 
     -- nor where it has it directly
     pub direct_up : (r p c l : ℕ) → IsDirect (network_left n f) r p c → IsAttached n r p l → is_link_up f l ≡ true
     direct_up r p c l (k, inl here) at =
         let h = was_place n f k p _ here.1 in
         let j = was_connected n f here.2.0 r here.0 c here.2.1 in
-        let same = one_touch h.0 at.0 p r c at.1.cost _ _ (inl (here.0, h.1, j.0)) (attached_touch r p l at) h.1 at.1.place in
-        absurd (link_clash here.0 r at.1.cost at.1.kept (Some l) at.1.via same)
+        let same = one_touch h.0 at.0 p r c at.1.own.cost _ _ (inl (here.0, h.1, j.0)) (attached_touch r p l at) h.1 at.1.place in
+        absurd (link_clash here.0 at.1.own same)
     direct_up r p c l (k, inr own) at =
         let h = was_place n f k p _ own.place in
-        let up = both (is_router_up f r) (is_any_up f own.link) h.2 in
-        own_up h.0 p r c l own.kept own.link own.via h.1 up.1 at
+        let up = and_parts (is_router_up f own.own.router) (is_any_up f own.own.link) h.2 in
+        own_up h.0 p r l (own_moved own h.1) up.1 at
 
     -- and no link of the router that carries the prefix has failed
     pub carried_up : (r p c l : ℕ) → IsDirect (network_left n f) r p c → Carries n l p → IsOn n r l → is_link_up f l ≡ true
@@ -260,9 +254,8 @@ module _ (n : Network) (plan : IsLawful n) where
             rw named at h.2
         go (k, inr own) =
             let h = was_place n f k p _ own.place in
-            let mine : Touches n h.0 p r c = inr (record { kept = own.kept; link = own.link; via = own.via; place = h.1 }) in
-            let same = one_touch carried.0 h.0 p r on.1.1.direct c _ _ touch mine carried.1 h.1 in
-            absurd (link_clash l r c own.kept own.link own.via same)
+            let same = one_touch carried.0 h.0 p r on.1.1.direct c _ _ touch (inr (own_moved own h.1)) carried.1 h.1 in
+            absurd (link_clash l own.own same)
 
     -- what is left is sound
     pub left_sound : IsSound (network_left n f)

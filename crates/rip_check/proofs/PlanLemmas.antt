@@ -3,16 +3,14 @@ use Rattle.std.proofs.Common.{◌≡◌, ℕ, zero, suc, length, slice_get, ◌<
 use Rattle.std.specs.Option.{option_eq}
 use Rattle.std.specs.Prelude.{eqb}
 use Rattle.std.proofs.lemmas.Bool.{cases_eq, eqb-true, eq-eqb}
-use Rattle.std.proofs.lemmas.Option.{slice_get_within}
+use Rattle.std.proofs.lemmas.Option.{slice_get_within, same_Some}
+use Rattle.rip_plan.specs.declared.parts.OwnPrefix.{OwnPrefix}
 use Rattle.rip_plan.specs.declared.parts.Seat.{Seat}
 use Rattle.rip_plan.specs.declared.parts.Seat.TheVariants.{Link, Own}
 use Rattle.rip_plan.specs.declared.parts.Place.{Place}
 use Rattle.rip_plan.specs.Network.{Network}
-use Rattle.rip_plan.specs.Relations.{Carries, HasCost, IsAttached, IsAttachedAt, IsConnected, IsDirect, IsInterface, IsKept, IsLawful, IsOn, IsOwnAt, IsPlace, Touches}
+use Rattle.rip_plan.specs.Relations.{Carries, HasCost, IsAttached, IsAttachedAt, IsConnected, IsDirect, IsInterface, IsKept, IsLawful, IsOn, IsOwnAt, IsOwnWith, IsPlace, Touches}
 use Rattle.rip_check.specs.Tables.{MayHoldBack}
-
-same_one : {A : Type 0} {x y : A} → Some x ≡ Some y → x ≡ y
-same_one e = cc e
 
 -- a search below a bound
 pub find_below : (P : ℕ → Type 0) → ((k : ℕ) → P k ⊎ (P k → ⊥)) → (bound : ℕ) → ((k : ℕ) × (k < bound) × P k) ⊎ ((k : ℕ) → k < bound → P k → ⊥)
@@ -30,21 +28,29 @@ find_below P test (suc b) = go (test b) (find_below P test b)
 
 -- a place has one seat
 pub one_seat : (n : Network) (k p : ℕ) (s t : Seat) → IsPlace n k p s → IsPlace n k p t → s ≡ t
-one_seat n k p s t a b = ap (λ (x : Place). x.seat) (same_one (sym a.listed ∙ b.listed))
+one_seat n k p s t a b = ap (λ (x : Place). x.seat) (same_Some _ _ (sym a.listed ∙ b.listed))
+
+-- of a router's own prefix something else is said
+abbrev pub own_says : {n : Network} {k p r : ℕ} {Says Other : OwnPrefix → Type 0} → (h : IsOwnWith n k p r Says) → Other h.own → IsOwnWith n k p r Other
+own_says h other = record { own = h.own; place = h.place; router = h.router; says = other }
+
+-- the same of another place
+abbrev pub own_moved : {n m : Network} {k j p r : ℕ} {Says : OwnPrefix → Type 0} → (h : IsOwnWith n k p r Says) → IsPlace m j p (Own h.own) → IsOwnWith m j p r Says
+own_moved h place = record { own = h.own; place = place; router = h.router; says = h.says }
 
 -- whether a place has a seat on the link
 place_case : (n : Network) (l p k : ℕ) (x : Place) (s : Seat) → slice_get n.places k ≡ Some x → x.seat ≡ s → (x.prefix ≡ p) ⊎ (x.prefix ≡ p → ⊥) →
     ((m : ℕ) → s ≡ Link m → (m ≡ l) ⊎ (m ≡ l → ⊥)) → IsPlace n k p (Link l) ⊎ (IsPlace n k p (Link l) → ⊥)
-place_case n l p k x s at is (inr differs) test = inr (λ h. differs (ap (λ (y : Place). y.prefix) (same_one (sym at ∙ h.listed))))
-place_case n l p k x (Own r c kept link via) at is (inl same) test =
-    inr (λ h. let e : Own r c kept link via ≡ Link l = sym is ∙ ap (λ (y : Place). y.seat) (same_one (sym at ∙ h.listed)) in cc e)
+place_case n l p k x s at is (inr differs) test = inr (λ h. differs (ap (λ (y : Place). y.prefix) (same_Some _ _ (sym at ∙ h.listed))))
+place_case n l p k x (Own own) at is (inl same) test =
+    inr (λ h. let e : Own own ≡ Link l = sym is ∙ ap (λ (y : Place). y.seat) (same_Some _ _ (sym at ∙ h.listed)) in cc e)
 place_case n l p k x (Link m) at is (inl same) test =
     elim (test m refl) [
       | inl e ↦
           let whole : x ≡ record { prefix = p; seat = Link l } = λ i. record { prefix = same i; seat = (is ∙ ap Link e) i } in
           inl (record { listed = at ∙ ap Some whole })
       | inr differs ↦
-          inr (λ h. let e : Link m ≡ Link l = sym is ∙ ap (λ (y : Place). y.seat) (same_one (sym at ∙ h.listed)) in differs (cc e))
+          inr (λ h. let e : Link m ≡ Link l = sym is ∙ ap (λ (y : Place). y.seat) (same_Some _ _ (sym at ∙ h.listed)) in differs (cc e))
     ]
 
 place_or_not : (n : Network) (l p k : ℕ) → IsPlace n k p (Link l) ⊎ (IsPlace n k p (Link l) → ⊥)
@@ -64,24 +70,26 @@ carries_or_not n l p =
 -- whether a place is the prefix as the router's own, attached to the link
 attached_case : (n : Network) (r p l k : ℕ) (x : Place) (s : Seat) → slice_get n.places k ≡ Some x → x.seat ≡ s → (x.prefix ≡ p) ⊎ (x.prefix ≡ p → ⊥) →
     IsAttachedAt n k p r l ⊎ (IsAttachedAt n k p r l → ⊥)
-attached_case n r p l k x s at is (inr differs) = inr (λ h. differs (ap (λ (y : Place). y.prefix) (same_one (sym at ∙ h.place.listed))))
+attached_case n r p l k x s at is (inr differs) = inr (λ h. differs (ap (λ (y : Place). y.prefix) (same_Some _ _ (sym at ∙ h.place.listed))))
 attached_case n r p l k x (Link m) at is (inl same) =
-    inr (λ h. let e : Link m ≡ Own r h.cost h.kept (Some l) h.via = sym is ∙ ap (λ (y : Place). y.seat) (same_one (sym at ∙ h.place.listed)) in cc e)
-attached_case n r p l k x (Own o c kept None via) at is (inl same) =
-    inr (λ h. let e : Own o c kept None via ≡ Own r h.cost h.kept (Some l) h.via = sym is ∙ ap (λ (y : Place). y.seat) (same_one (sym at ∙ h.place.listed)) in cc e)
-attached_case n r p l k x (Own o c kept (Some m) via) at is (inl same) =
-    elim (cases_eq o r) [
-      | inl e ↦ elim (cases_eq m l) [
-        | inl e' ↦
-            let whole : x ≡ record { prefix = p; seat = Own r c kept (Some l) via } =
-            λ i. record { prefix = same i; seat = (is ∙ λ j. Own (e j) c kept (Some (e' j)) via) i } in
-            inl (record { cost = c; kept = kept; via = via; place = record { listed = at ∙ ap Some whole } })
-        | inr differs ↦
-            inr (λ h. let f : Own o c kept (Some m) via ≡ Own r h.cost h.kept (Some l) h.via = sym is ∙ ap (λ (y : Place). y.seat) (same_one (sym at ∙ h.place.listed)) in differs (cc f))
+    inr (λ h. let e : Link m ≡ Own h.own = sym is ∙ ap (λ (y : Place). y.seat) (same_Some _ _ (sym at ∙ h.place.listed)) in cc e)
+attached_case n r p l k x (Own own) at is (inl same) =
+    elim (cases_eq own.router r) [
+      | inl router ↦ elim (names own.link) [
+        | inl link ↦
+            let whole : x ≡ record { prefix = p; seat = Own own } = λ i. record { prefix = same i; seat = is i } in
+            inl (record { own = own; place = record { listed = at ∙ ap Some whole }; router = router; says = link })
+        | inr differs ↦ inr (λ h. differs (ap (λ (o : OwnPrefix). o.link) (the_own h) ∙ h.says))
       ]
-      | inr differs ↦
-          inr (λ h. let f : Own o c kept (Some m) via ≡ Own r h.cost h.kept (Some l) h.via = sym is ∙ ap (λ (y : Place). y.seat) (same_one (sym at ∙ h.place.listed)) in differs (cc f))
+      | inr differs ↦ inr (λ h. differs (ap (λ (o : OwnPrefix). o.router) (the_own h) ∙ h.router))
     ]
+  where
+    the_own : (h : IsAttachedAt n k p r l) → own ≡ h.own
+    the_own h = let e : Own own ≡ Own h.own = sym is ∙ ap (λ (y : Place). y.seat) (same_Some _ _ (sym at ∙ h.place.listed)) in cc e
+
+    names : (link : Option ℕ) → (link ≡ Some l) ⊎ (link ≡ Some l → ⊥)
+    names None = inr (λ e. cc e)
+    names (Some m) = elim (cases_eq m l) [ inl e ↦ inl (ap Some e) | inr differs ↦ inr (λ e. differs (same_Some _ _ e)) ]
 
 attached_at_or_not : (n : Network) (r p l k : ℕ) → IsAttachedAt n k p r l ⊎ (IsAttachedAt n k p r l → ⊥)
 attached_at_or_not n r p l k = go (slice_get n.places k) refl
@@ -109,7 +117,7 @@ holds_back_or_not n r p l = go (carries_or_not n l p) (attached_or_not n r p l)
 pub attached_test : (n : Network) (r p l : ℕ) (o : Option ℕ) (b : Bool) → ((k : ℕ) → (o ≡ Some k) ↔ IsAttached n r p k) → b ≡ option_eq eqb o (Some l) → Decides b (IsAttached n r p l)
 attached_test n r p l None b exact e = (λ t. absurd (let clash : false ≡ true = sym e ∙ t in cc clash), λ at. absurd (let none : None ≡ Some l = (exact l).1 at in cc none))
 attached_test n r p l (Some m) b exact e =
-    (λ t. (exact l).0 (ap Some (eqb-true m l (sym e ∙ t))), λ at. e ∙ eq-eqb m l (same_one ((exact l).1 at)))
+    (λ t. (exact l).0 (ap Some (eqb-true m l (sym e ∙ t))), λ at. e ∙ eq-eqb m l (same_Some _ _ ((exact l).1 at)))
 
 -- and the test for any other link
 pub attached_ne : (n : Network) (r p l : ℕ) (o : Option ℕ) (b : Bool) → ((k : ℕ) → (o ≡ Some k) ↔ IsAttached n r p k) → b ≡ not (option_eq eqb o (Some l)) →
@@ -139,16 +147,13 @@ carried_direct n plan r l c p has on =
     let there = its_direct n has.0 r l c has.1 in
     (has.1.direct, (on.0, inl (l, on.1, (has.0, there))), plan.direct_most has.0 r l c has.1.direct has.1 there)
 
-pub attached_own : (n : Network) (k p r l : ℕ) → (h : IsAttachedAt n k p r l) → IsOwnAt n k p r h.cost
-attached_own n k p r l h = record { kept = h.kept; link = Some l; via = h.via; place = h.place }
-
 pub attached_kept : (n : Network) (r p l : ℕ) → IsAttached n r p l → IsKept n r p
 attached_kept n r p l at = inr (l, at)
 
 -- what is kept is the router's own
 pub kept_own : (n : Network) (r p : ℕ) → IsKept n r p → (k c : ℕ) × IsOwnAt n k p r c
-kept_own n r p (inl h) = (h.0, h.1.cost, record { kept = _; link = h.1.link; via = h.1.via; place = h.1.place })
-kept_own n r p (inr h) = (h.1.0, h.1.1.cost, attached_own n h.1.0 p r h.0 h.1.1)
+kept_own n r p (inl h) = (h.0, h.1.own.cost, own_says h.1 refl)
+kept_own n r p (inr h) = (h.1.0, h.1.1.own.cost, own_says h.1.1 refl)
 
 module _ (n : Network) (plan : IsLawful n) where
   -- a router on a link of the prefix does not keep it
@@ -159,16 +164,17 @@ module _ (n : Network) (plan : IsLawful n) where
       let there = its_direct n has.0 r l on.0 has.1 in
       let same : carried.0 ≡ own.0 = plan.touched_once carried.0 own.0 p r has.1.direct own.1 (inl (l, carried.1, (has.0, there))) (inr own.2) in
       let place : IsPlace n own.0 p (Link l) = rw same at carried.1 in
-      let seats : Link l ≡ Own r own.1 own.2.kept own.2.link own.2.via = one_seat n own.0 p (Link l) _ place own.2.place in
+      let seats : Link l ≡ Own own.2.own = one_seat n own.0 p (Link l) _ place own.2.place in
       cc seats
 
   -- and a prefix is attached to one link
   pub attached_once : (r p l k : ℕ) → IsAttached n r p l → IsAttached n r p k → l ≡ k
   attached_once r p l k a b =
-      let same : a.0 ≡ b.0 = plan.touched_once a.0 b.0 p r a.1.cost b.1.cost (inr (attached_own n a.0 p r l a.1)) (inr (attached_own n b.0 p r k b.1)) in
-      let place : IsPlace n b.0 p (Own r a.1.cost a.1.kept (Some l) a.1.via) = rw same at a.1.place in
-      let seats : Own r a.1.cost a.1.kept (Some l) a.1.via ≡ Own r b.1.cost b.1.kept (Some k) b.1.via = one_seat n b.0 p _ _ place b.1.place in
-      cc seats
+      let same : a.0 ≡ b.0 = plan.touched_once a.0 b.0 p r a.1.own.cost b.1.own.cost (inr (own_says a.1 refl)) (inr (own_says b.1 refl)) in
+      let place : IsPlace n b.0 p (Own a.1.own) = rw same at a.1.place in
+      let seats : Own a.1.own ≡ Own b.1.own = one_seat n b.0 p _ _ place b.1.place in
+      let one : a.1.own ≡ b.1.own = cc seats in
+      same_Some _ _ (sym a.1.says ∙ ap (λ (o : OwnPrefix). o.link) one ∙ b.1.says)
 
   -- one of a router's links at most carries a prefix
   carried_link : (r p l k : ℕ) → IsOn n r l → IsOn n r k → Carries n l p → Carries n k p → l ≡ k
@@ -190,7 +196,7 @@ module _ (n : Network) (plan : IsLawful n) where
   -- where a router may hold back its route, it has the prefix itself
   pub held_back_direct : (r p l : ℕ) → IsOn n r l → MayHoldBack n r p l → (d : ℕ) × IsDirect n r p d
   held_back_direct r p l on (inl x) = let h = carried_direct n plan r l on.0 p on.1 x in (h.0, h.1)
-  held_back_direct r p l on (inr x) = (x.1.cost, (x.0, inr (attached_own n x.0 p r l x.1)))
+  held_back_direct r p l on (inr x) = (x.1.own.cost, (x.0, inr (own_says x.1 refl)))
 
   pub direct_least : (r p d : ℕ) → IsDirect n r p d → 1 ≤ d
   direct_least r p d h = go h.1

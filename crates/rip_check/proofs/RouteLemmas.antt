@@ -1,9 +1,10 @@
 -- What is shown tells of the routes: never two sets of tables, and one set where each place has a route that fits.
 use Rattle.std.proofs.Common.{◌≡◌, ◌≢◌, ℕ, length, slice_get, ◌<◌, ◌≤◌, ◌⊎◌, inl, inr, Option, None, Some, unwrap_or, refl, sym, ◌∙◌, ap, arith}
 use Rattle.std.proofs.lemmas.Bool.{cases_lt, cases_eq}
-use Rattle.std.proofs.lemmas.Option.{slice_get_within}
+use Rattle.std.proofs.lemmas.Option.{slice_get_within, same_Some}
 use Rattle.rip_check.proofs.PlanLemmas.{find_below, held_back_once, holds_back_or_not, its_cost, one_seat}
 use Rattle.rip_plan.specs.declared.parts.Interface.{Interface}
+use Rattle.rip_plan.specs.declared.parts.OwnPrefix.{OwnPrefix}
 use Rattle.rip_plan.specs.declared.parts.Seat.TheVariants.{Link, Own}
 use Rattle.rip_plan.specs.Network.{Network}
 use Rattle.rip_plan.specs.Relations.{IsConnected, IsDirect, IsInterface, IsLawful, IsLeaf, Touches}
@@ -13,9 +14,6 @@ use Rattle.rip_check.specs.declared.way.Way.{Way}
 use Rattle.rip_check.specs.declared.way.Way.TheVariants.{Unreachable, Here, Over}
 use Rattle.rip_check.proofs.ShownLemmas.{some_is, shown_below, metric_most}
 use Rattle.rip_check.specs.Metrics.{metric_at}
-
-same_Some' : {A : Type 0} {x y : A} → Some x ≡ Some y → x ≡ y
-same_Some' e = cc e
 
 -- router r has more than one interface
 abbrev pub TwoInterfaces : Network → ℕ → Type 0
@@ -44,7 +42,7 @@ another_or_not n r i j = go (cases_eq j i) (slice_get n.interfaces j) refl
     go (inr other) (Some x) e =
         elim (cases_eq x.router r) [
           | inl its ↦ inl (record { own = x; other = other; listed = e; its = its })
-          | inr not ↦ inr (λ h. not (ap (λ (y : Interface). y.router) (same_Some' (sym e ∙ h.listed)) ∙ h.its))
+          | inr not ↦ inr (λ h. not (ap (λ (y : Interface). y.router) (same_Some _ _ (sym e ∙ h.listed)) ∙ h.its))
         ]
 
 pub two_or_leaf : (n : Network) (r i l c : ℕ) → IsInterface n i r l c → TwoInterfaces n r ⊎ IsLeaf n r i l c
@@ -182,14 +180,15 @@ module _ (n : Network) (plan : IsLawful n) (shown : State) where
           let x'' : IsConnected n y.2.0 r y.0 c = rw number at x' in
           one_direct n y.2.0 r y.0 c d x'' y.2.1
       go k (inl x) (inr y) =
-          let seats : Link x.0 ≡ Own r d y.kept y.link y.via = one_seat n k p _ _ x.1 y.place in
+          let seats : Link x.0 ≡ Own y.own = one_seat n k p _ _ x.1 y.place in
           cc seats
       go k (inr x) (inl y) =
-          let seats : Own r c x.kept x.link x.via ≡ Link y.0 = one_seat n k p _ _ x.place y.1 in
+          let seats : Own x.own ≡ Link y.0 = one_seat n k p _ _ x.place y.1 in
           cc seats
       go k (inr x) (inr y) =
-          let seats : Own r c x.kept x.link x.via ≡ Own r d y.kept y.link y.via = one_seat n k p _ _ x.place y.place in
-          cc seats
+          let seats : Own x.own ≡ Own y.own = one_seat n k p _ _ x.place y.place in
+          let one : x.own ≡ y.own = cc seats in
+          sym x.says ∙ ap (λ (o : OwnPrefix). o.cost) one ∙ y.says
 
   -- what is not below 16 is silence
   silent_from : (l p m : ℕ) (r : ℕ) (w : Way) (x : Option ℕ) → FitsWay n r p m w → MayShow n r l p m w x → 16 ≤ unwrap_or x 16 → IsSilent x

@@ -2,7 +2,7 @@
 -- and another a metric below.
 use Rattle.std.proofs.Common.{◌≡◌, ◌≢◌, ℕ, length, slice_get, ◌<◌, ◌≤◌, ◌⊎◌, inl, inr, Option, None, Some, refl, sym, ◌∙◌, ap, arith}
 use Rattle.std.proofs.lemmas.Bool.{cases_eq}
-use Rattle.std.proofs.lemmas.Option.{slice_get_within}
+use Rattle.std.proofs.lemmas.Option.{slice_get_within, same_Some}
 use Rattle.rip_plan.specs.declared.parts.Interface.{Interface}
 use Rattle.rip_plan.specs.Network.{Network}
 use Rattle.rip_plan.specs.Relations.{HasTwoInterfaces, IsAttached, IsInterface, IsLawful, IsLeaf}
@@ -29,16 +29,13 @@ IsPoisoned n shown r p i = IsOwn n r i (metric_at shown i p ≡ Some 16)
 abbrev IsOther : Network → State → ℕ → ℕ → ℕ → Type 0
 IsOther n shown r p i = IsOwn n r i (metric_at shown i p ≡ Some 16 → ⊥)
 
-same_one : {A : Type 0} {x y : A} → Some x ≡ Some y → x ≡ y
-same_one e = cc e
-
 is_16 : (x : Option ℕ) → (x ≡ Some 16) ⊎ (x ≡ Some 16 → ⊥)
 is_16 None = inr (λ e. cc e)
 is_16 (Some m) = go (cases_eq m 16)
   where
     go : (m ≡ 16) ⊎ (m ≡ 16 → ⊥) → (Some m ≡ Some 16) ⊎ (Some m ≡ Some 16 → ⊥)
     go (inl e) = inl (ap Some e)
-    go (inr differs) = inr (λ e. differs (same_one e))
+    go (inr differs) = inr (λ e. differs (same_Some _ _ e))
 
 own_or_not : (n : Network) (r i : ℕ) (Q : Type 0) → Q ⊎ (Q → ⊥) → IsOwn n r i Q ⊎ (IsOwn n r i Q → ⊥)
 own_or_not n r i Q s = go (slice_get n.interfaces i) refl s
@@ -49,7 +46,7 @@ own_or_not n r i Q s = go (slice_get n.interfaces i) refl s
     go (Some x) e (inl shows) =
         elim (cases_eq x.router r) [
           | inl its ↦ inl (record { own = x; listed = e; its = its; shows = shows })
-          | inr not ↦ inr (λ h. not (ap (λ (y : Interface). y.router) (same_one (sym e ∙ h.listed)) ∙ h.its))
+          | inr not ↦ inr (λ h. not (ap (λ (y : Interface). y.router) (same_Some _ _ (sym e ∙ h.listed)) ∙ h.its))
         ]
 
 poisoned_or_not : (n : Network) (shown : State) (r p i : ℕ) → IsPoisoned n shown r p i ⊎ (IsPoisoned n shown r p i → ⊥)
@@ -145,7 +142,7 @@ module _ (n : Network) (plan : IsLawful n) (shown : State) (range : IsInRange n 
             elim (poisoned_or_not n shown r p j) [
               | inl g ↦
                   let there' : IsInterface n o r k d = rw (only j g) at there in
-                  inl (ap (λ (y : Interface). y.link) (same_one (sym its.listed ∙ there'.listed)), g.shows)
+                  inl (ap (λ (y : Interface). y.link) (same_Some _ _ (sym its.listed ∙ there'.listed)), g.shows)
               | inr not ↦
                   let b = below j k d there not in
                   inr (λ e. not (moved j k d there e), b.1 ∙ ap Some (same i j l k c d m b.0 has there shows small b.1 b.3))
@@ -202,7 +199,7 @@ module _ (n : Network) (plan : IsLawful n) (shown : State) (range : IsInRange n 
         held j k d there g on =
             let its = on_its_link n shown r p o h in
             let there' : IsInterface n o r k d = rw (only j g) at there in
-            let link : h.own.link ≡ k = ap (λ (y : Interface). y.link) (same_one (sym its.listed ∙ there'.listed)) in
+            let link : h.own.link ≡ k = ap (λ (y : Interface). y.link) (same_Some _ _ (sym its.listed ∙ there'.listed)) in
             rw link at on
 
     two_shown : Shows16Twice n shown r p

@@ -2,6 +2,7 @@
 use Rattle.std.specs.Prelude.{ℕ, zero, suc, ◌+◌, ◌*◌, ◌/◌, ◌%◌, ◌==◌, nat_lt, min, true, false, if◌then◌else◌, List, [], ◌∷◌, ◌++◌, Option, None, Some, option_and_then, unwrap_or, length, replicate, slice_get, slice_index_or, codes}
 use Rattle.rip_wire.specs.Prefix.{Block, block}
 use Rattle.rip_plan.specs.declared.parts.Interface.{Interface}
+use Rattle.rip_plan.specs.declared.parts.OwnPrefix.{OwnPrefix}
 use Rattle.rip_plan.specs.declared.parts.Seat.{Seat}
 use Rattle.rip_plan.specs.declared.parts.Seat.TheVariants.{Link, Own}
 use Rattle.rip_plan.specs.declared.parts.Place.{Place}
@@ -38,9 +39,12 @@ interface r l a c = record {
 abbrev pub one_each : ℕ → List (List ℕ)
 one_each n = replicate n []
 
--- the prefix is router r's own, at cost c
+-- an own prefix of router r, at cost c
+abbrev pub plain_own : ℕ → ℕ → OwnPrefix
+plain_own r c = record { router = r; cost = c; kept = false; link = None; via = None }
+
 abbrev pub own : ℕ → ℕ → Seat
-own r c = Own r c false None None
+own r c = Own (plain_own r c)
 
 abbrev pub place : ℕ → Seat → Place
 place p seat = record { prefix = p; seat = seat }
@@ -160,13 +164,13 @@ two_exits_tables = tables (
     ∷ (route 2 (Over 2) ∷ route 1 Here ∷ route 1 Here ∷ route 1 Here ∷ []) ∷ []
     )
 
--- ---- A keeper: the same, but the first router has the default route at 5 and keeps it, though it is
--- offered for less
+-- ---- A keeper: the same, but the first router has the default route at 5 and keeps it, though it
+-- is offered for less
 
 abbrev pub keeper : Network
 keeper = record two_exits {
   places = place 0 (Link 0) ∷ place 1 (Link 1) ∷ place 2 (Link 2)
-      ∷ place 3 (Own 0 5 true None None) ∷ place 3 (own 2 1) ∷ [];
+      ∷ place 3 (Own (record (plain_own 0 5) { kept = true })) ∷ place 3 (own 2 1) ∷ [];
 }
 
 -- the first router shows a and c of the default route on its two links
@@ -185,14 +189,14 @@ keeper_tables t = tables (
     ∷ (route 2 (Over 2) ∷ route 1 Here ∷ route 1 Here ∷ route 1 Here ∷ []) ∷ []
     )
 
--- ---- A second prefix on a wire: the triangle, whose first router alone has a fourth prefix on link a,
--- and does not tell of it there
+-- ---- A second prefix on a wire: the triangle, whose first router alone has a fourth prefix on
+-- link a, and does not tell of it there
 
 abbrev pub second_prefix : Network
 second_prefix = record triangle {
   prefixes = ten 1 ∷ ten 2 ∷ ten 3 ∷ ten 4 ∷ [];
   places = place 0 (Link 0) ∷ place 1 (Link 1) ∷ place 2 (Link 2)
-      ∷ place 3 (Own 0 1 false (Some 0) None) ∷ [];
+      ∷ place 3 (Own (record (plain_own 0 1) { link = Some 0 })) ∷ [];
 }
 
 -- the first router shows x of it on link a, and the second goes round over the third

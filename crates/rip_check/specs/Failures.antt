@@ -38,7 +38,7 @@ is_any_up f (Some l) = is_link_up f l
 -- prefix attached to the failed link
 abbrev pub is_alive_seat : Option Failure → Seat → Bool
 is_alive_seat f (seats.Link l) = is_link_up f l
-is_alive_seat f (seats.Own r c kept link via) = is_router_up f r && is_any_up f link
+is_alive_seat f (seats.Own own) = is_router_up f own.router && is_any_up f own.link
 
 -- the network after a failure: its interfaces and places that are alive; links, routers and
 -- prefixes keep their numbers. Further addresses stay as they were, by the numbers that the

@@ -1,5 +1,6 @@
 -- The tables whose fields are read are those that have the keys, each of its kind.
-use Rattle.std.proofs.Common.{◌≡◌, ◌≢◌, ℕ, zero, suc, List, [], ◌∷◌, Bool, true, false, cond, ◌&&◌, Option, Some, None, Ordering, Less, Equal, Greater, nat_cmp, is_eq, refl, sym, ◌∙◌, ap, subst}
+use Rattle.std.proofs.Common.{◌≡◌, ◌≢◌, ℕ, zero, suc, List, [], ◌∷◌, Bool, true, false, cond, Option, Some, None, Ordering, Less, Equal, Greater, nat_cmp, is_eq, refl, sym, ◌∙◌, ap, subst}
+use Rattle.std.proofs.lemmas.Bool.{and_parts}
 use Rattle.std.specs.Prelude.{ℤ, is_some, option_and_then, option_map, slice_get, unwrap_or, codes as codes_of}
 use Rattle.std.specs.List.{list_all}
 use Rattle.std.specs.Str.{bytes_eq}
@@ -10,16 +11,13 @@ use Rattle.std.proofs.lemmas.Option.{none-some, same_Some, cond_some}
 use Rattle.std.proofs.lemmas.Slice.Eq.{bytes_eq-Decides}
 use Rattle.toml.specs.Data.{Data, Members, no_members, member, string, array, table, get_member, as_array, as_bool, as_integer, as_str, as_table}
 use Rattle.rip_plan.specs.DocumentTables.{HasOnly, IsFlag, IsInteger, IsInterfaceTable, IsLinkTable, IsList, IsOwnTable, IsRoot, IsRouterTable, IsSomeList, IsString, IsTextList}
-use Rattle.rip_plan.specs.Fields.{InterfaceFields, OwnFields, ◌&>◌, flag_if, has_only, integer_if, interface_fields, interface_keys, items_at, items_if, link_fields, link_keys, list_of, own_fields, own_keys, root_fields, root_keys, router_fields, router_keys, some_items, text_at, text_if, texts_of}
+use Rattle.rip_plan.specs.Keys.{interface_keys, link_keys, own_keys, root_keys, router_keys}
+use Rattle.rip_plan.specs.Fields.{InterfaceFields, OwnFields, ◌&>◌, flag_if, has_only, integer_if, interface_fields, items_at, items_if, link_fields, list_of, own_fields, root_fields, router_fields, some_items, text_at, text_if, texts_of}
 use Rattle.rip_plan.specs.Names.{is_one_of}
 use Rattle.rip_plan.proofs.ItemLemmas.{any_at, any_finds}
 use Rattle.rip_plan.proofs.TableLemmas.{array_is, boolean_is, chosen, integer_is, items_there, table_is, text_is, text_there, then_some}
 
 -- ---- keys
-
-both : (a b : Bool) → (a && b) ≡ true → (a ≡ true) × (b ≡ true)
-both true b h = (refl, h)
-both false b h = absurd cc
 
 is_equal : (o : Ordering) → is_eq o ≡ true → o ≡ Equal
 is_equal Less h = absurd cc
@@ -32,7 +30,7 @@ same_order k = is_equal (slice_cmp nat_cmp k k) (is_eq-slice_cmp k k ∙ (bytes_
 keys_only : (keys : List (List ℕ)) (ms : Members) → has_only keys ms ≡ true → HasOnly keys (table ms)
 keys_only keys no_members h key value at = absurd (none-some value at)
 keys_only keys (member l d ms) h key value at =
-    let parts = both (is_one_of l keys) (has_only keys ms) h in
+    let parts = and_parts (is_one_of l keys) (has_only keys ms) h in
     by_order (slice_cmp nat_cmp key l) refl at (λ there. keys_only keys ms parts.1 key value there)
   where
     by_order : (o : Ordering) → slice_cmp nat_cmp key l ≡ o → match_ordering o (get_member key ms) (Some d) (get_member key ms) ≡ Some value
@@ -41,7 +39,7 @@ keys_only keys (member l d ms) h key value at =
     by_order Greater e g later = later g
     by_order Equal e g later =
         let same : key ≡ l = (bytes_eq-Decides key l).0 (sym (is_eq-slice_cmp key l) ∙ ap is_eq e) in
-        let (k, other, there, test) = any_finds (λ (x : List ℕ). bytes_eq x l) keys (both (is_one_of l keys) (has_only keys ms) h).0 in
+        let (k, other, there, test) = any_finds (λ (x : List ℕ). bytes_eq x l) keys (and_parts (is_one_of l keys) (has_only keys ms) h).0 in
         (k, there ∙ ap (λ (x : List ℕ). Some x) ((bytes_eq-Decides other l).0 test ∙ sym same))
 
 only_keys : (keys : List (List ℕ)) (ms : Members) → HasOnly keys (table ms) → has_only keys ms ≡ true
@@ -107,12 +105,12 @@ list_may o xs h d is = let (items, array_of, same) = array_is d xs (ap items_if 
 
 each_text : (ds : List Data) → list_all (λ x. is_some (as_str x)) ds ≡ true → (k : ℕ) (x : Data) → slice_get ds k ≡ Some x → IsString x
 each_text [] h k x at = absurd (none-some x at)
-each_text (d ∷ ds) h zero x at = by_text (as_str d) refl (both (is_some (as_str d)) (list_all (λ x. is_some (as_str x)) ds) h).0
+each_text (d ∷ ds) h zero x at = by_text (as_str d) refl (and_parts (is_some (as_str d)) (list_all (λ x. is_some (as_str x)) ds) h).0
   where
     by_text : (o : Option (List ℕ)) → as_str d ≡ o → is_some o ≡ true → IsString x
     by_text None e t = absurd cc
     by_text (Some s) e t = (s, sym (same_Some d x at) ∙ text_is d s e)
-each_text (d ∷ ds) h (suc k) x at = each_text ds (both (is_some (as_str d)) (list_all (λ x. is_some (as_str x)) ds) h).1 k x at
+each_text (d ∷ ds) h (suc k) x at = each_text ds (and_parts (is_some (as_str d)) (list_all (λ x. is_some (as_str x)) ds) h).1 k x at
 
 texts_may : (o : Option Data) (also : List Data) → (items_if o &> texts_of) ≡ Some also → MayHaveAt o IsTextList
 texts_may o also h d is =
@@ -173,6 +171,10 @@ guarded : {A : Type 0} (b : Bool) (o : Option A) (x : A) → cond b o None ≡ S
 guarded true o x h = refl
 guarded false o x h = absurd (none-some x h)
 
+-- a table whose members were read was read
+not_read : {A : Type 0} (fields : Members → Option A) (d : Data) (ms : Members) → d ≡ table ms → (f : A) × (fields ms ≡ Some f) → (as_table d &> fields) ≡ None → ⊥
+not_read fields d ms is (f, read) none = none-some f (sym none ∙ ap (λ (x : Data). as_table x &> fields) is ∙ read)
+
 pub root_told : (document : Members) (f : List Data × List Data × Bool) → root_fields document ≡ Some f → IsRoot document
 unfolding root_fields
 root_told ms f h =
@@ -187,7 +189,7 @@ root_told ms f h =
       poison = flag_may (get_member (codes_of "poison") ms) c third;
     }
 
-pub root_given : (document : Members) → IsRoot document → (f : List Data × List Data × Bool) × (root_fields document ≡ Some f)
+root_given : (document : Members) → IsRoot document → (f : List Data × List Data × Bool) × (root_fields document ≡ Some f)
 unfolding root_fields
 root_given ms is =
     let (a, first) = some_given (get_member (codes_of "link") ms) is.link in
@@ -218,13 +220,8 @@ link_read ms its =
     let (b, second) = list_given (get_member (codes_of "prefixes") ms) its.prefixes in
     ((a, b), rw (only_keys link_keys ms its.keys, first, second) refl)
 
-pub link_given : (d : Data) → IsLinkTable d → (f : List ℕ × List Data) × ((as_table d &> link_fields) ≡ Some f)
-link_given d is =
-    let (f, read) = link_read is.members (subst IsLinkTable is.is_table is) in
-    (f, ap (λ (x : Data). as_table x &> link_fields) is.is_table ∙ read)
-
 pub link_not : (d : Data) → (as_table d &> link_fields) ≡ None → IsLinkTable d → ⊥
-link_not d none is = let (f, read) = link_given d is in none-some f (sym none ∙ read)
+link_not d none is = not_read link_fields d is.members is.is_table (link_read is.members (subst IsLinkTable is.is_table is)) none
 
 pub router_told : (d : Data) (f : List ℕ × List Data × List Data) → (as_table d &> router_fields) ≡ Some f → IsRouterTable d
 unfolding router_fields
@@ -252,13 +249,8 @@ router_read ms its =
     let (c, third) = list_if_given (get_member (codes_of "own") ms) its.own in
     ((a, b, c), rw (only_keys router_keys ms its.keys, first, second, third) refl)
 
-pub router_given : (d : Data) → IsRouterTable d → (f : List ℕ × List Data × List Data) × ((as_table d &> router_fields) ≡ Some f)
-router_given d is =
-    let (f, read) = router_read is.members (subst IsRouterTable is.is_table is) in
-    (f, ap (λ (x : Data). as_table x &> router_fields) is.is_table ∙ read)
-
 pub router_not : (d : Data) → (as_table d &> router_fields) ≡ None → IsRouterTable d → ⊥
-router_not d none is = let (f, read) = router_given d is in none-some f (sym none ∙ read)
+router_not d none is = not_read router_fields d is.members is.is_table (router_read is.members (subst IsRouterTable is.is_table is)) none
 
 pub interface_told : (d : Data) (f : InterfaceFields) → (as_table d &> interface_fields) ≡ Some f → IsInterfaceTable d
 unfolding interface_fields
@@ -295,13 +287,8 @@ interface_read ms its =
     let (p, sixth) = flag_given (get_member (codes_of "poison") ms) its.poison in
     (record { link = a; address = b; cost = c; direct = e; also = g; poison = p }, rw (only_keys interface_keys ms its.keys, first, second, third, fourth, fifth, sixth) refl)
 
-pub interface_given : (d : Data) → IsInterfaceTable d → (f : InterfaceFields) × ((as_table d &> interface_fields) ≡ Some f)
-interface_given d is =
-    let (f, read) = interface_read is.members (subst IsInterfaceTable is.is_table is) in
-    (f, ap (λ (x : Data). as_table x &> interface_fields) is.is_table ∙ read)
-
 pub interface_not : (d : Data) → (as_table d &> interface_fields) ≡ None → IsInterfaceTable d → ⊥
-interface_not d none is = let (f, read) = interface_given d is in none-some f (sym none ∙ read)
+interface_not d none is = not_read interface_fields d is.members is.is_table (interface_read is.members (subst IsInterfaceTable is.is_table is)) none
 
 pub own_told : (d : Data) (f : OwnFields) → (as_table d &> own_fields) ≡ Some f → IsOwnTable d
 unfolding own_fields
@@ -335,13 +322,8 @@ own_read ms its =
     let (g, fifth) = text_if_given (get_member (codes_of "via") ms) its.via in
     (record { prefix = a; cost = b; kept = unwrap_or c false; link = e; via = g }, rw (only_keys own_keys ms its.keys, first, second, third, fourth, fifth) refl)
 
-pub own_given : (d : Data) → IsOwnTable d → (f : OwnFields) × ((as_table d &> own_fields) ≡ Some f)
-own_given d is =
-    let (f, read) = own_read is.members (subst IsOwnTable is.is_table is) in
-    (f, ap (λ (x : Data). as_table x &> own_fields) is.is_table ∙ read)
-
 pub own_not : (d : Data) → (as_table d &> own_fields) ≡ None → IsOwnTable d → ⊥
-own_not d none is = let (f, read) = own_given d is in none-some f (sym none ∙ read)
+own_not d none is = not_read own_fields d is.members is.is_table (own_read is.members (subst IsOwnTable is.is_table is)) none
 
 pub string_not : (d : Data) → as_str d ≡ None → IsString d → ⊥
 string_not d none (text, is) = none-some text (sym none ∙ ap as_str is)
@@ -350,7 +332,8 @@ pub root_not : (document : Members) → root_fields document ≡ None → IsRoot
 root_not document none is = let (f, read) = root_given document is in none-some f (sym none ∙ read)
 
 -- a table is what was read, or was not read
-pub by_table : {A : Type 0} (Is : Data → Type 0) (fields : Members → Option A) → ((d : Data) (f : A) → (as_table d &> fields) ≡ Some f → Is d) → (d : Data) → ((Is d → ⊥) → ⊥) → ((as_table d &> fields) ≡ None → Is d → ⊥) → Is d
+pub by_table : {A : Type 0} (Is : Data → Type 0) (fields : Members → Option A) → ((d : Data) (f : A) → (as_table d &> fields) ≡ Some f → Is d) → (d : Data) → ((Is d → ⊥) → ⊥)
+    → ((as_table d &> fields) ≡ None → Is d → ⊥) → Is d
 by_table {A} Is fields told d not_lacks not = by_option (as_table d &> fields) refl
   where
     by_option : (o : Option A) → (as_table d &> fields) ≡ o → Is d

@@ -1,5 +1,6 @@
 -- What the first pass over a plan's places keeps.
-use Rattle.std.proofs.Common.{◌≡◌, ℕ, ◌+◌, ◌-◌, ◌<◌, ◌≤◌, ◌^◌, List, [], ◌∷◌, ◌++◌, length, length-append, Bool, true, false, not, ◌&&◌, ◌||◌, Option, Some, None, Ok, refl, ◌∙◌, ap, subst, arith}
+use Rattle.std.proofs.Common.{◌≡◌, ℕ, ◌+◌, ◌-◌, ◌<◌, ◌≤◌, ◌^◌, List, [], ◌∷◌, ◌++◌, length, length-append, Bool, true, false, ◌&&◌, ◌||◌, Option, Some, None, Ok, refl, ◌∙◌, ap, subst, arith}
+use Rattle.std.proofs.lemmas.Bool.{or_parts, not-false}
 use Rattle.std.proofs.lemmas.Iterator.Adapters.{position_from-zero}
 use Rattle.std.specs.Prelude.{nat_le, nat_lt, option_map, unwrap_or}
 use Rattle.std.specs.List.{AllByRecursion, IsDistinct, list_any, position_or_len}
@@ -14,6 +15,7 @@ use Rattle.rip_wire.specs.Name.{IsName, is_name}
 use Rattle.rip_wire.specs.Prefix.{Block, IsBlock}
 use Rattle.rip_plan.specs.declared.draft.DraftInterface.{DraftInterface}
 use Rattle.rip_plan.specs.declared.draft.DraftPlace.{DraftPlace}
+use Rattle.rip_plan.specs.declared.parts.OwnPrefix.{OwnPrefix}
 use Rattle.rip_plan.specs.declared.parts.Seat.{Seat}
 use Rattle.rip_plan.specs.declared.parts.Seat.TheVariants as seats
 use Rattle.rip_plan.specs.declared.error.At.{At}
@@ -23,7 +25,7 @@ use Rattle.rip_plan.specs.Draft.{Sketch, prefix_step, link_step, interface_step,
 use Rattle.rip_plan.specs.Names.{number_of_name}
 use Rattle.rip_plan.specs.PlanOf.{Matched}
 use Rattle.rip_plan.proofs.BindLemmas.{steps_keep}
-use Rattle.rip_plan.proofs.ItemLemmas.{or_false, all_none, all_push, all_weaker, distinct_push}
+use Rattle.rip_plan.proofs.ItemLemmas.{all_none, all_push, all_weaker, distinct_push}
 use Rattle.rip_plan.proofs.TakenStepLemmas.{with_link, with_router, prefix_taken, link_taken, interface_taken, own_taken, router_taken}
 use Rattle.rip_plan.proofs.TakenSpotLemmas.{further}
 use Rattle.rip_plan.proofs.TableLemmas.{IsReadOf, addresses_read, cost_within, direct_within}
@@ -44,7 +46,7 @@ IsFitGateway (Some a) = a < 2 ^ 32
 
 abbrev pub IsFitSeat : ℕ → ℕ → Seat → Type 0
 IsFitSeat links routers (seats.Link l) = l < links
-IsFitSeat links routers (seats.Own r c kept link via) = (r < routers) × (1 ≤ c) × (c ≤ 15) × IsFitGateway via
+IsFitSeat links routers (seats.Own own) = (own.router < routers) × (1 ≤ own.cost) × (own.cost ≤ 15) × IsFitGateway own.via
 
 -- each is an address
 abbrev pub AreAddresses : List ℕ → Type 0
@@ -75,20 +77,18 @@ pub record Kept (s : Sketch) : Type 0 where
 
 number_below : (name : List ℕ) (names : List (List ℕ)) (l : ℕ) → number_of_name name names ≡ Some l → l < length names
 number_below name names l h =
-    let (below, same) = cond_some (nat_lt (position_or_len (λ other. bytes_eq other name) names) (length names)) (position_or_len (λ other. bytes_eq other name) names) l (position_from-zero (λ other. bytes_eq other name) names ∙ h) in
+    let (below, same) =
+    cond_some (nat_lt (position_or_len (λ other. bytes_eq other name) names) (length names)) (position_or_len (λ other. bytes_eq other name) names) l
+    (position_from-zero (λ other. bytes_eq other name) names ∙ h) in
     grind (arith, nat_tests)
 
 room_left : (n : ℕ) → nat_le 1024 n ≡ false → n + 1 ≤ 1024
 room_left n h = grind (arith, nat_tests)
 
-is_named : (b : Bool) → not b ≡ false → b ≡ true
-is_named true h = refl
-is_named false h = absurd cc
-
 -- there is room for one more interface with these addresses
 pub room_for : (s : Sketch) (also : List ℕ) → is_full s also ≡ false → (length s.interfaces + 1 ≤ 1024) × (further s + length also ≤ 1024)
 room_for s also h =
-    let parts = or_false (nat_le 1024 (length s.interfaces)) (nat_lt 1024 (further s + length also)) h in
+    let parts = or_parts (nat_le 1024 (length s.interfaces)) (nat_lt 1024 (further s + length also)) h in
     (room_left (length s.interfaces) parts.0, few_left (further s + length also) parts.1)
   where
     few_left : (n : ℕ) → nat_lt 1024 n ≡ false → n ≤ 1024
@@ -109,10 +109,10 @@ addresses_fit laws (d ∷ ds) [] m = absurd m
 addresses_fit laws (d ∷ ds) (a ∷ also) (of, m) = ((address_is laws of.0 a of.2).0, addresses_fit laws ds also m)
 
 -- an own prefix is on no link
-outside_same : (l a : ℕ) (ps : List DraftPlace) (prefix : Block) (r c : ℕ) (kept : Bool) (link via : Option ℕ) (place : At) → is_outside l a ps ≡ false
-    → is_outside l a (ps ++ record { prefix = prefix; seat = seats.Own r c kept link via; at = place } ∷ []) ≡ false
-outside_same l a ps prefix r c kept link via place h =
-    let p : DraftPlace = record { prefix = prefix; seat = seats.Own r c kept link via; at = place } in
+outside_same : (l a : ℕ) (ps : List DraftPlace) (prefix : Block) (own : OwnPrefix) (place : At) → is_outside l a ps ≡ false
+    → is_outside l a (ps ++ record { prefix = prefix; seat = seats.Own own; at = place } ∷ []) ≡ false
+outside_same l a ps prefix own place h =
+    let p : DraftPlace = record { prefix = prefix; seat = seats.Own own; at = place } in
     let on = any_same (λ q. is_on l q.seat) ps p refl in
     let holds = any_same (λ q. is_on l q.seat && has_address q.prefix a) ps p refl in
     rw (on, holds) h
@@ -137,7 +137,7 @@ fit_place_more links routers more others le le' p f = record { prefix = f.prefix
   where
     wider : (seat : Seat) → IsFitSeat links routers seat → IsFitSeat more others seat
     wider (seats.Link l) h = omega arith
-    wider (seats.Own r c kept link via) h = (omega (arith, h.0), h.1, h.2, h.3)
+    wider (seats.Own own) h = (omega (arith, h.0), h.1, h.2, h.3)
 
 -- while the prefixes of link i are read
 record WhileLink (i : ℕ) (s : Sketch) : Type 0 where
@@ -183,7 +183,7 @@ link_keeps laws n d s t now h =
     let more : length u.links ≡ length s.links + 1 = omega (arith, length-append s.links (taken.name ∷ [])) in
     let start : WhileLink n u = record {
       kept = record {
-        link_names = all_push IsName s.links taken.name kept.link_names ((laws.name taken.name).0 (is_named (is_name taken.name) taken.named));
+        link_names = all_push IsName s.links taken.name kept.link_names ((laws.name taken.name).0 (not-false (is_name taken.name) taken.named));
         links_differ = distinct_push bytes_eq s.links taken.name kept.links_differ taken.fresh;
         router_names = kept.router_names;
         routers_differ = kept.routers_differ;
@@ -201,7 +201,8 @@ link_keeps laws n d s t now h =
       routers = now.routers;
       number = more ∙ next;
     } in
-    let end = steps_keep (prefix_step n) (λ _ v. WhileLink n v) (λ j x v w k e. prefix_keeps laws n j x v w (omega arith) k e) 1 taken.prefixes u t start taken.others (1 + length taken.prefixes) refl in
+    let end = steps_keep (prefix_step n) (λ _ v. WhileLink n v) (λ j x v w k e. prefix_keeps laws n j x v w (omega arith) k e) 1 taken.prefixes u t start taken.others
+    (1 + length taken.prefixes) refl in
     record { kept = end.kept; interfaces = end.interfaces; routers = end.routers; next = ap (λ k. k + 1) end.number }
 
 -- ---- routers
@@ -223,7 +224,8 @@ interface_keeps laws links r j d s t some while h =
     let kept = while.kept in
     let number : length s.routers ≡ r = while.number in
     let room = room_for s taken.also taken.room in
-    let added : DraftInterface = record { interface = record { router = r - 1; link = taken.link; address = taken.address; cost = taken.cost; direct = taken.direct; poison = unwrap_or taken.given.poison s.poison }; at = _ } in
+    let added : DraftInterface =
+    record { interface = record { router = r - 1; link = taken.link; address = taken.address; cost = taken.cost; direct = taken.direct; poison = unwrap_or taken.given.poison s.poison }; at = _ } in
     let costs = cost_within taken.given.cost taken.cost taken.costs in
     let directs = direct_within taken.cost taken.given.direct taken.direct costs.0 taken.directs in
     rw taken.made (record {
@@ -260,8 +262,8 @@ own_keeps laws links r j d s t some while h =
     let kept = while.kept in
     let number : length s.routers ≡ r = while.number in
     let room : length s.places + 1 ≤ 1024 = room_left (length s.places) taken.added.room in
-    let added : DraftPlace = record { prefix = taken.prefix; seat = seats.Own (r - 1) taken.cost taken.given.kept taken.link taken.via; at = _ } in
-    let costs = cost_within taken.given.cost taken.cost taken.costs in
+    let added : DraftPlace = record { prefix = taken.prefix; seat = seats.Own taken.own; at = _ } in
+    let costs = cost_within taken.given.cost taken.own.cost taken.costs in
     rw taken.added.made (record {
       kept = record {
         link_names = kept.link_names;
@@ -270,9 +272,12 @@ own_keeps laws links r j d s t some while h =
         routers_differ = kept.routers_differ;
         interfaces = kept.interfaces;
         inside = all_weaker (IsInsideOf s.places) (IsInsideOf (s.places ++ added ∷ []))
-            (λ i e. outside_same i.interface.link i.interface.address s.places taken.prefix (r - 1) taken.cost taken.given.kept taken.link taken.via added.at e) s.interfaces kept.inside;
+            (λ i e. outside_same i.interface.link i.interface.address s.places taken.prefix taken.own added.at e) s.interfaces kept.inside;
         places = all_push (IsFitPlace (length s.links) (length s.routers)) s.places added kept.places
-            (record { prefix = (prefix_is laws taken.given.prefix taken.prefix taken.parsed).0; seat = (omega arith, costs.0, costs.1, gateway_fits laws taken.given.via taken.via taken.gateway) });
+            (record {
+              prefix = (prefix_is laws taken.given.prefix taken.prefix taken.parsed).0;
+              seat = (omega (arith, taken.router), costs.0, costs.1, gateway_fits laws taken.given.via taken.own.via taken.gateway);
+            });
         also = kept.also;
         also_listed = kept.also_listed;
         few_interfaces = kept.few_interfaces;
@@ -294,10 +299,18 @@ router_keeps laws links n d s t now h =
       kept = record {
         link_names = kept.link_names;
         links_differ = kept.links_differ;
-        router_names = all_push IsName s.routers taken.name kept.router_names ((laws.name taken.name).0 (is_named (is_name taken.name) taken.named));
+        router_names = all_push IsName s.routers taken.name kept.router_names ((laws.name taken.name).0 (not-false (is_name taken.name) taken.named));
         routers_differ = distinct_push bytes_eq s.routers taken.name kept.routers_differ taken.fresh;
         interfaces = all_weaker (IsFit (length s.links) (length s.routers)) (IsFit (length s.links) (length u.routers))
-            (λ i p. record { least = p.least; most = p.most; link = p.link; router = omega (arith, p.router, more); address = p.address; direct_least = p.direct_least; direct_most = p.direct_most }) s.interfaces kept.interfaces;
+            (λ i p. record {
+              least = p.least;
+              most = p.most;
+              link = p.link;
+              router = omega (arith, p.router, more);
+              address = p.address;
+              direct_least = p.direct_least;
+              direct_most = p.direct_most;
+            }) s.interfaces kept.interfaces;
         inside = kept.inside;
         places = all_weaker (IsFitPlace (length s.links) (length s.routers)) (IsFitPlace (length s.links) (length u.routers))
             (fit_place_more (length s.links) (length s.routers) (length s.links) (length u.routers) (omega arith) (omega arith)) s.places kept.places;
@@ -311,6 +324,9 @@ router_keeps laws links n d s t now h =
       number = more ∙ next;
     } in
     let some : 1 ≤ n = omega arith in
-    let between = steps_keep (interface_step n) (λ _ v. WhileRouter links n v) (λ j x v w k e. interface_keeps laws links n j x v w some k e) 1 taken.interfaces u taken.between start taken.first (1 + length taken.interfaces) refl in
-    let end = steps_keep (own_step n) (λ _ v. WhileRouter links n v) (λ j x v w k e. own_keeps laws links n j x v w some k e) 1 taken.owns taken.between t between taken.second (1 + length taken.owns) refl in
+    let between =
+    steps_keep (interface_step n) (λ _ v. WhileRouter links n v) (λ j x v w k e. interface_keeps laws links n j x v w some k e) 1 taken.interfaces u taken.between start taken.first
+    (1 + length taken.interfaces) refl in
+    let end = steps_keep (own_step n) (λ _ v. WhileRouter links n v) (λ j x v w k e. own_keeps laws links n j x v w some k e) 1 taken.owns taken.between t between taken.second
+    (1 + length taken.owns) refl in
     record { kept = end.kept; links = end.links; next = ap (λ k. k + 1) end.number }

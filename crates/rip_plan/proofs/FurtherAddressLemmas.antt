@@ -8,8 +8,8 @@ use Rattle.rip_plan.specs.declared.error.At.{At}
 use Rattle.rip_plan.specs.declared.error.At.TheVariants.{RouterInterface}
 use Rattle.rip_plan.specs.PlanOf.{items_in}
 use Rattle.rip_plan.specs.PlanFaults.{IsItem, also_spots, also_spots_from, also_spots_of}
-use Rattle.rip_plan.proofs.ItemLemmas.{get_left, get_seen, get_some, get_split, see_got}
-use Rattle.rip_plan.proofs.SpotLemmas.{IsSpot, get_past, item_of}
+use Rattle.rip_plan.proofs.ItemLemmas.{get_left, get_seen, get_some, get_split, see_got, get_past}
+use Rattle.rip_plan.proofs.SpotLemmas.{IsSpot, item_of}
 
 abbrev pub also_items : Data → List Data
 also_items d = items_in (get (codes_of "also") d)
@@ -67,22 +67,27 @@ also_count r (d ∷ ds) =
 
 -- ---- those of one interface stand after those before
 
-of_here : (at : ℕ → At) (j : ℕ) (front : List Data) (x : Data) (back : List Data) (m : ℕ) → m < length (also_items x) → (n : ℕ) → n ≡ also_in front + m → slice_get (also_spots_of at j (front ++ x ∷ back)) n ≡ Some (at (j + length front))
+of_here : (at : ℕ → At) (j : ℕ) (front : List Data) (x : Data) (back : List Data) (m : ℕ) → m < length (also_items x) → (n : ℕ) → n ≡ also_in front + m
+    → slice_get (also_spots_of at j (front ++ x ∷ back)) n ≡ Some (at (j + length front))
 of_here at j [] x back m less n e =
     let (y, is) = get_some (also_items x) m less in
     let same : n ≡ m = omega arith in
-    rw same (get_left (map (λ (z : Data). at j) (also_items x)) (also_spots_of at (j + 1) back) m (at j) (see_got (λ (z : Data). at j) (also_items x) m y is) ∙ ap (λ (q : ℕ). Some (at q)) (omega arith))
+    rw same (get_left (map (λ (z : Data). at j) (also_items x)) (also_spots_of at (j + 1) back) m (at j) (see_got (λ (z : Data). at j) (also_items x) m y is)
+    ∙ ap (λ (q : ℕ). Some (at q)) (omega arith))
 of_here at j (d ∷ front) x back m less n e =
     get_past (map (λ (z : Data). at j) (also_items d)) (also_spots_of at (j + 1) (front ++ x ∷ back)) (also_in front + m) n (omega (arith, length-map (also_items d) (λ (z : Data). at j)))
     ∙ of_here at (j + 1) front x back m less (also_in front + m) refl
     ∙ ap (λ (q : ℕ). Some (at q)) (omega arith)
 
-pub also_here : (r : ℕ) (done : List Data) (d : Data) (rest front : List Data) (x : Data) (back : List Data) → items_in (get (codes_of "interface") d) ≡ front ++ x ∷ back → (m : ℕ) → m < length (also_items x)
+pub also_here : (r : ℕ) (done : List Data) (d : Data) (rest front : List Data) (x : Data) (back : List Data) → items_in (get (codes_of "interface") d) ≡ front ++ x ∷ back → (m : ℕ)
+    → m < length (also_items x)
     → (n : ℕ) → n ≡ also_under done + (also_in front + m) → slice_get (also_spots_from r (done ++ d ∷ rest)) n ≡ Some (RouterInterface (r + length done) (1 + length front))
 also_here r [] d rest front x back e m less n h =
     let same : n ≡ also_in front + m = omega arith in
-    let here : slice_get (also_spots_of (RouterInterface r) 1 (items_in (get (codes_of "interface") d))) (also_in front + m) ≡ Some (RouterInterface r (1 + length front)) = rw e (of_here (RouterInterface r) 1 front x back m less (also_in front + m) refl) in
-    rw same (get_left (also_spots_of (RouterInterface r) 1 (items_in (get (codes_of "interface") d))) (also_spots_from (r + 1) rest) (also_in front + m) (RouterInterface r (1 + length front)) here ∙ ap (λ (q : ℕ). Some (RouterInterface q (1 + length front))) (omega arith))
+    let here : slice_get (also_spots_of (RouterInterface r) 1 (items_in (get (codes_of "interface") d))) (also_in front + m) ≡ Some (RouterInterface r (1 + length front)) =
+    rw e (of_here (RouterInterface r) 1 front x back m less (also_in front + m) refl) in
+    rw same (get_left (also_spots_of (RouterInterface r) 1 (items_in (get (codes_of "interface") d))) (also_spots_from (r + 1) rest) (also_in front + m)
+    (RouterInterface r (1 + length front)) here ∙ ap (λ (q : ℕ). Some (RouterInterface q (1 + length front))) (omega arith))
 also_here r (y ∷ done) d rest front x back e m less n h =
     let theirs = items_in (get (codes_of "interface") y) in
     get_past (also_spots_of (RouterInterface r) 1 theirs) (also_spots_from (r + 1) (done ++ d ∷ rest)) (also_under done + (also_in front + m)) n (omega (arith, of_count (RouterInterface r) 1 theirs))
@@ -91,7 +96,8 @@ also_here r (y ∷ done) d rest front x back e m less n h =
 
 -- ---- and there is none further on
 
-of_within : (at : ℕ → At) → ((n m : ℕ) → at n ≡ at m → n ≡ m) → (j : ℕ) (front : List Data) (x : Data) (back : List Data) (k : ℕ) → slice_get (also_spots_of at j (front ++ x ∷ back)) k ≡ Some (at (j + length front)) → k < also_in front + length (also_items x)
+of_within : (at : ℕ → At) → ((n m : ℕ) → at n ≡ at m → n ≡ m) → (j : ℕ) (front : List Data) (x : Data) (back : List Data) (k : ℕ)
+    → slice_get (also_spots_of at j (front ++ x ∷ back)) k ≡ Some (at (j + length front)) → k < also_in front + length (also_items x)
 of_within at one j [] x back k h =
     elim (get_split (map (λ (z : Data). at j) (also_items x)) (also_spots_of at (j + 1) back) k (at (j + 0)) h) [
       | inl e ↦ omega (arith, e.1, length-map (also_items x) (λ (z : Data). at j))
@@ -127,6 +133,7 @@ also_within r (y ∷ done) d rest front x back e k h =
       | inl f ↦ omega (arith, f.1, of_count (RouterInterface r) 1 theirs)
       | inr f ↦
           let past : k ≡ length (also_spots_of (RouterInterface r) 1 theirs) + f.0 = f.1 in
-          let later : f.0 < also_under done + (also_in front + length (also_items x)) = also_within (r + 1) done d rest front x back e f.0 (f.2 ∙ ap (λ (q : ℕ). Some (RouterInterface q (1 + length front))) (omega arith)) in
+          let later : f.0 < also_under done + (also_in front + length (also_items x)) =
+          also_within (r + 1) done d rest front x back e f.0 (f.2 ∙ ap (λ (q : ℕ). Some (RouterInterface q (1 + length front))) (omega arith)) in
           omega (arith, of_count (RouterInterface r) 1 theirs)
     ]

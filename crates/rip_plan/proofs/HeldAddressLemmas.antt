@@ -1,5 +1,6 @@
 -- The addresses of interfaces in one list, and what is found there.
 use Rattle.std.proofs.Common.{◌≡◌, ℕ, zero, suc, ◌+◌, inl, inr, List, [], ◌∷◌, length, Bool, true, false, cond, Some, None, refl, sym, ◌∙◌, ap, arith}
+use Rattle.std.proofs.lemmas.Bool.{and_parts}
 use Rattle.std.specs.Prelude.{slice_get, ◌==◌}
 use Rattle.std.proofs.lemmas.Option.{none-some, same_Some}
 use Rattle.std.proofs.lemmas.Bool.Decides.{nat_tests}
@@ -8,7 +9,7 @@ use Rattle.rip_plan.specs.declared.parts.Interface.{Interface}
 use Rattle.rip_plan.specs.Addresses.{held_by, held_from, holder_at, is_at}
 use Rattle.rip_plan.specs.Network.{Network, addresses_of}
 use Rattle.rip_plan.specs.Relations.{HasAddress, HasAddresses}
-use Rattle.rip_plan.proofs.ItemLemmas.{both, get_left, get_right, get_seen, get_split, see_got}
+use Rattle.rip_plan.proofs.ItemLemmas.{get_left, get_seen, get_split, see_got, get_past}
 use Rattle.rip_plan.proofs.NumbersWhereLemmas.{contains_at, at_contains}
 
 -- the address at j of an interface
@@ -74,14 +75,17 @@ is_held n (y ∷ is) (front ∷ rest) zero x further j a h its at =
     )
 is_held n (y ∷ is) (front ∷ rest) (suc i) x further j a h its at =
     let (k, there) = is_held (n + 1) is rest i x further j a h its at in
-    let same : n + 1 + i ≡ n + suc i = omega arith in
-    (length (held_by n y front) + k, get_right (held_by n y front) (held_from (n + 1) is rest) k (length (held_by n y front) + k) _ refl there ∙ ap (λ (m : ℕ). Some (record { interface = m; link = x.link; address = a })) same)
+    let same : n + 1 + i ≡ n + suc i = omega arith in (
+      length (held_by n y front) + k,
+      get_past (held_by n y front) (held_from (n + 1) is rest) k (length (held_by n y front) + k) refl ∙ there
+          ∙ ap (λ (m : ℕ). Some (record { interface = m; link = x.link; address = a })) same,
+    )
 
 -- ---- the first interface with an address
 
 same_held : (h : Held) (l a : ℕ) → is_at l a h ≡ true → h ≡ record { interface = h.interface; link = l; address = a }
 same_held h l a e =
-    let tests = both (h.link == l) (h.address == a) e in
+    let tests = and_parts (h.link == l) (h.address == a) e in
     let link : h.link ≡ l = grind (arith, nat_tests) in
     let address : h.address ≡ a = grind (arith, nat_tests) in
     rw (← link, ← address) refl

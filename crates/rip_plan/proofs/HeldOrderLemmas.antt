@@ -6,14 +6,15 @@ use Rattle.rip_plan.specs.declared.addresses.Held.{Held}
 use Rattle.rip_plan.specs.declared.parts.Interface.{Interface}
 use Rattle.rip_plan.specs.Addresses.{held_by, held_from}
 use Rattle.rip_plan.proofs.HeldAddressLemmas.{held_is}
-use Rattle.rip_plan.proofs.ItemLemmas.{get_left, get_right, get_seen, get_split, see_got}
+use Rattle.rip_plan.proofs.ItemLemmas.{get_left, get_seen, get_split, see_got, get_past}
 
 -- the addresses of one interface stand one after another, from a number on
 pub record StandsFrom (n : ℕ) (is : List Interface) (also : List (List ℕ)) (i : ℕ) (x : Interface) (further : List ℕ) : Type 0 where
   pub first : ℕ
   pub each : (j a : ℕ) → slice_get (x.address ∷ further) j ≡ Some a → slice_get (held_from n is also) (first + j) ≡ Some (record { interface = n + i; link = x.link; address = a })
 
-pub stands_from : (n : ℕ) (is : List Interface) (also : List (List ℕ)) (i : ℕ) (x : Interface) (further : List ℕ) → slice_get is i ≡ Some x → slice_get also i ≡ Some further → StandsFrom n is also i x further
+pub stands_from : (n : ℕ) (is : List Interface) (also : List (List ℕ)) (i : ℕ) (x : Interface) (further : List ℕ) → slice_get is i ≡ Some x → slice_get also i ≡ Some further
+    → StandsFrom n is also i x further
 stands_from n [] also i x further h its = absurd (none-some x h)
 stands_from n (y ∷ is) [] i x further h its = absurd (none-some further its)
 stands_from n (y ∷ is) (front ∷ rest) zero x further h its =
@@ -32,7 +33,7 @@ stands_from n (y ∷ is) (front ∷ rest) (suc i) x further h its =
     record {
       first = length (held_by n y front) + later.first;
       each = λ j a at.
-          get_right (held_by n y front) (held_from (n + 1) is rest) (later.first + j) _ (record { interface = n + 1 + i; link = x.link; address = a }) (omega arith) (later.each j a at)
+          get_past (held_by n y front) (held_from (n + 1) is rest) (later.first + j) (length (held_by n y front) + later.first + j) (omega arith) ∙ later.each j a at
           ∙ ap (λ (m : ℕ). Some (record { interface = m; link = x.link; address = a })) (omega arith);
     }
 

@@ -1,19 +1,10 @@
 -- The items of a list, by their numbers.
-use Rattle.std.proofs.Common.{◌≡◌, ℕ, zero, suc, ◌+◌, ◌<◌, ◌⊎◌, inl, inr, List, [], ◌∷◌, ◌++◌, length, map, Bool, true, false, cond, ◌&&◌, ◌||◌, Option, Some, None, refl, sym, ◌∙◌, ap, subst, arith, ◌≤◌}
+use Rattle.std.proofs.Common.{◌≡◌, ℕ, zero, suc, ◌+◌, ◌<◌, ◌⊎◌, inl, inr, List, [], ◌∷◌, ◌++◌, length, map, Bool, true, false, cond, ◌||◌, Option, Some, None, refl, sym, ◌∙◌, ap, subst, arith, ◌≤◌}
+use Rattle.std.proofs.lemmas.Bool.{or_parts, or_right}
 use Rattle.std.specs.Option.{is_some}
 use Rattle.std.specs.Prelude.{slice_get}
 use Rattle.std.specs.List.{AllByRecursion, IsDistinct, list_any, position_from}
 use Rattle.std.proofs.lemmas.Option.{none-some, same_Some}
-use Rattle.std.proofs.lemmas.List.Folds.{list_any-append}
-use Rattle.rip_plan.specs.Passes.{first_clash}
-
-pub both : (a b : Bool) → (a && b) ≡ true → (a ≡ true) × (b ≡ true)
-both true b h = (refl, h)
-both false b h = absurd cc
-
-pub or_false : (a b : Bool) → (a || b) ≡ false → (a ≡ false) × (b ≡ false)
-or_false true b h = absurd cc
-or_false false b h = (refl, h)
 
 option_guard : {A : Type 0} (b : Bool) (x : A) (o : Option A) → cond b (Some x) o ≡ None → (b ≡ false) × (o ≡ None)
 option_guard true x o h = absurd cc
@@ -29,26 +20,24 @@ all_at P (y ∷ ys) (suc i) x a h = all_at P ys i x a.1 h
 pub any_at : {A : Type 0} (p : A → Bool) (xs : List A) (i : ℕ) (x : A) → slice_get xs i ≡ Some x → p x ≡ true → list_any p xs ≡ true
 any_at p [] i x h e = absurd (none-some x h)
 any_at p (y ∷ ys) zero x h e = let same : y ≡ x = same_Some y x h in rw (same, e) refl
-any_at p (y ∷ ys) (suc i) x h e = by_head (p y) (any_at p ys i x h e)
-  where
-    by_head : (b : Bool) → list_any p ys ≡ true → (b || list_any p ys) ≡ true
-    by_head true t = refl
-    by_head false t = t
+any_at p (y ∷ ys) (suc i) x h e = or_right (p y) _ (any_at p ys i x h e)
 
 pub none_at : {A : Type 0} (p : A → Bool) (xs : List A) (i : ℕ) (x : A) → list_any p xs ≡ false → slice_get xs i ≡ Some x → p x ≡ false
 none_at p [] i x n h = absurd (none-some x h)
-none_at p (y ∷ ys) zero x n h = let same : y ≡ x = same_Some y x h in rw (← same) (or_false (p y) (list_any p ys) n).0
-none_at p (y ∷ ys) (suc i) x n h = none_at p ys i x (or_false (p y) (list_any p ys) n).1 h
+none_at p (y ∷ ys) zero x n h = let same : y ≡ x = same_Some y x h in rw (← same) (or_parts (p y) (list_any p ys) n).0
+none_at p (y ∷ ys) (suc i) x n h = none_at p ys i x (or_parts (p y) (list_any p ys) n).1 h
 
 pub any_finds : {A : Type 0} (p : A → Bool) (xs : List A) → list_any p xs ≡ true → (i : ℕ) × (x : A) × (slice_get xs i ≡ Some x) × (p x ≡ true)
 any_finds p [] h = absurd cc
 any_finds {A} p (y ∷ ys) h = by_head (p y) refl h (λ t. any_finds p ys t)
   where
-    by_head : (b : Bool) → p y ≡ b → (b || list_any p ys) ≡ true → (list_any p ys ≡ true → (i : ℕ) × (x : A) × (slice_get ys i ≡ Some x) × (p x ≡ true)) → (i : ℕ) × (x : A) × (slice_get (y ∷ ys) i ≡ Some x) × (p x ≡ true)
+    by_head : (b : Bool) → p y ≡ b → (b || list_any p ys) ≡ true → (list_any p ys ≡ true → (i : ℕ) × (x : A) × (slice_get ys i ≡ Some x) × (p x ≡ true))
+        → (i : ℕ) × (x : A) × (slice_get (y ∷ ys) i ≡ Some x) × (p x ≡ true)
     by_head true e t later = (zero, y, refl, e)
     by_head false e t later = let found = later t in (suc found.0, found.1, found.2, found.3)
 
-pub distinct_at : {A : Type 0} (clash : A → A → Bool) (xs : List A) (i j : ℕ) (x y : A) → IsDistinct clash xs → slice_get xs i ≡ Some x → slice_get xs j ≡ Some y → clash x y ≡ true → clash y x ≡ true → i ≡ j
+pub distinct_at : {A : Type 0} (clash : A → A → Bool) (xs : List A) (i j : ℕ) (x y : A) → IsDistinct clash xs → slice_get xs i ≡ Some x → slice_get xs j ≡ Some y → clash x y ≡ true
+    → clash y x ≡ true → i ≡ j
 unfolding IsDistinct
 distinct_at clash [] i j x y d h k e f = absurd (none-some x h)
 distinct_at clash (z ∷ zs) zero zero x y d h k e f = refl
@@ -80,7 +69,7 @@ pub distinct_push : {A : Type 0} (clash : A → A → Bool) (xs : List A) (x : A
 unfolding IsDistinct
 distinct_push clash [] x d h = (tt, tt)
 distinct_push clash (y ∷ ys) x d h =
-    let both = or_false (clash y x) (list_any (λ z. clash z x) ys) h in
+    let both = or_parts (clash y x) (list_any (λ z. clash z x) ys) h in
     (all_push (λ z. clash y z ≡ false) ys x d.0 both.0, distinct_push clash ys x d.1 both.1)
 
 pub get_left : {A : Type 0} (xs ys : List A) (i : ℕ) (x : A) → slice_get xs i ≡ Some x → slice_get (xs ++ ys) i ≡ Some x
@@ -88,13 +77,14 @@ get_left [] ys i x h = absurd (none-some x h)
 get_left (z ∷ zs) ys zero x h = h
 get_left (z ∷ zs) ys (suc i) x h = get_left zs ys i x h
 
-pub get_right : {A : Type 0} (xs ys : List A) (i k : ℕ) (x : A) → k ≡ length xs + i → slice_get ys i ≡ Some x → slice_get (xs ++ ys) k ≡ Some x
-get_right [] ys i k x e h = let same : k ≡ i = omega arith in ap (slice_get ys) same ∙ h
-get_right (z ∷ zs) ys i zero x e h = absurd (omega arith)
-get_right (z ∷ zs) ys i (suc k) x e h = get_right zs ys i k x (omega arith) h
+pub get_past : {A : Type 0} (xs ys : List A) (i k : ℕ) → k ≡ length xs + i → slice_get (xs ++ ys) k ≡ slice_get ys i
+get_past {A} [] ys i k e = ap (λ (n : ℕ). slice_get ys n) (omega arith)
+get_past (z ∷ zs) ys i zero e = absurd (omega arith)
+get_past (z ∷ zs) ys i (suc k) e = get_past zs ys i k (omega arith)
 
 -- an item of two lists is in the first or in the second
-pub get_split : {A : Type 0} (xs ys : List A) (k : ℕ) (a : A) → slice_get (xs ++ ys) k ≡ Some a → ((slice_get xs k ≡ Some a) × (k < length xs)) ⊎ ((m : ℕ) × (k ≡ length xs + m) × (slice_get ys m ≡ Some a))
+pub get_split : {A : Type 0} (xs ys : List A) (k : ℕ) (a : A) → slice_get (xs ++ ys) k ≡ Some a
+    → ((slice_get xs k ≡ Some a) × (k < length xs)) ⊎ ((m : ℕ) × (k ≡ length xs + m) × (slice_get ys m ≡ Some a))
 get_split [] ys k a h = inr (k, omega arith, h)
 get_split (x ∷ xs) ys zero a h = inl (h, omega arith)
 get_split (x ∷ xs) ys (suc k) a h =
@@ -104,8 +94,7 @@ get_split (x ∷ xs) ys (suc k) a h =
     ]
 
 pub get_last : {A : Type 0} (xs : List A) (x : A) → slice_get (xs ++ x ∷ []) (length xs) ≡ Some x
-get_last [] x = refl
-get_last (z ∷ zs) x = get_last zs x
+get_last xs x = get_past xs (x ∷ []) 0 (length xs) (omega arith)
 
 pub get_push : {A : Type 0} (xs : List A) (x : A) (i : ℕ) (y : A) → slice_get (xs ++ x ∷ []) i ≡ Some y → (slice_get xs i ≡ Some y) ⊎ ((i ≡ length xs) × (x ≡ y))
 get_push [] x zero y h = inr (refl, same_Some x y h)
@@ -175,29 +164,3 @@ any_found test n (x ∷ xs) = by_test (test x) refl (any_found test (n + 1) xs)
     by_test : (b : Bool) → test x ≡ b → is_some (position_from test (n + 1) xs) ≡ list_any test xs → is_some (position_from test n (x ∷ xs)) ≡ list_any test (x ∷ xs)
     by_test true e later = rw e refl
     by_test false e later = rw e later
-
--- ---- where nothing clashes, each item is apart from the earlier ones
-
-all_both : {A : Type 0} (P Q R : A → Type 0) → ((x : A) → P x → Q x × R x) → (xs : List A) → AllByRecursion P xs → AllByRecursion Q xs × AllByRecursion R xs
-all_both P Q R f [] h = (tt, tt)
-all_both P Q R f (x ∷ xs) h =
-    let here = f x h.0 in
-    let more = all_both P Q R f xs h.1 in
-    ((here.0, more.0), (here.1, more.1))
-
-clash_none : {A : Type 0} (clash : A → A → Bool) (earlier xs : List A) → first_clash clash earlier xs ≡ None
-    → AllByRecursion (λ x. list_any (λ y. clash y x) earlier ≡ false) xs × IsDistinct clash xs
-unfolding IsDistinct
-clash_none clash earlier [] h = (tt, tt)
-clash_none clash earlier (x ∷ xs) h =
-    let (here, h1) = option_guard (list_any (λ y. clash y x) earlier) x (first_clash clash (earlier ++ x ∷ []) xs) h in
-    let (apart, distinct) = clash_none clash (earlier ++ x ∷ []) xs h1 in
-    let (before, after) = all_both (λ z. list_any (λ y. clash y z) (earlier ++ x ∷ []) ≡ false) (λ z. list_any (λ y. clash y z) earlier ≡ false) (λ z. clash x z ≡ false)
-    (λ z p.
-    let both = or_false (list_any (λ y. clash y z) earlier) (list_any (λ y. clash y z) (x ∷ [])) (sym (list_any-append (λ y. clash y z) earlier (x ∷ [])) ∙ p) in
-    (both.0, (or_false (clash x z) false both.1).0))
-    xs apart in
-    ((here, before), (after, distinct))
-
-pub no_clash : {A : Type 0} (clash : A → A → Bool) (xs : List A) → first_clash clash [] xs ≡ None → IsDistinct clash xs
-no_clash clash xs h = (clash_none clash [] xs h).1

@@ -1,6 +1,9 @@
 -- A plan that was read keeps the laws.
-use Rattle.std.proofs.Common.{◌≡◌, ℕ, zero, suc, ◌+◌, ◌^◌, ◌<◌, ◌≤◌, inl, inr, List, [], ◌∷◌, length, map, Bool, true, false, cond, not, ◌&&◌, ◌||◌, Option, Some, None, Ok, refl, sym, ◌∙◌, ap, subst, arith}
-use Rattle.std.specs.Prelude.{slice_get, find, ◌==◌, nat_lt, unwrap_or, codes as codes_of}
+use Rattle.std.proofs.Common.{◌≡◌, ℕ, zero, suc, ◌+◌, ◌^◌, ◌<◌, ◌≤◌, List, [], ◌∷◌, length, map, Bool, true, false, not, ◌&&◌, ◌||◌, Option, Some, None, Ok, refl, sym, ◌∙◌, ap, subst, arith}
+use Rattle.rip_plan.proofs.FirstFoundLemmas.{clash_once, find_none}
+use Rattle.rip_plan.proofs.SketchPlanLemmas.{interface_in, place_in, place_from, touch, there_on}
+use Rattle.std.proofs.lemmas.Bool.{and_parts, or_parts, or_right, not-false, false_from_ne_true}
+use Rattle.std.specs.Prelude.{slice_get, ◌==◌, nat_lt, unwrap_or, codes as codes_of}
 use Rattle.std.specs.List.{IsDistinct, list_any}
 use Rattle.std.specs.Str.{bytes_eq}
 use Rattle.std.proofs.lemmas.Option.{none-some, same_Some, slice_get_within}
@@ -16,7 +19,8 @@ use Rattle.rip_plan.specs.declared.draft.DraftPlace.{DraftPlace}
 use Rattle.rip_plan.specs.declared.parts.Interface.{Interface}
 use Rattle.rip_plan.specs.declared.parts.Seat.{Seat}
 use Rattle.rip_plan.specs.declared.parts.Seat.TheVariants as seats
-use Rattle.rip_plan.specs.Fields.{flag_if, some_items, root_fields, items_at, root_keys, has_only, ◌&>◌}
+use Rattle.rip_plan.specs.Keys.{root_keys}
+use Rattle.rip_plan.specs.Fields.{flag_if, some_items, root_fields, items_at, has_only, ◌&>◌}
 use Rattle.rip_plan.specs.Seats.{is_on}
 use Rattle.rip_plan.specs.Draft.{Sketch, link_step, router_step, is_outside, has_address}
 use Rattle.rip_plan.specs.Passes.{same_prefix, touched, touching, do_meet, is_same_link, have_common, are_twice, is_astray, is_there}
@@ -25,7 +29,7 @@ use Rattle.rip_plan.specs.PlanText.{empty, sketch_of}
 use Rattle.rip_plan.specs.Network.{addresses_of, network_of_sketch}
 use Rattle.rip_plan.specs.Relations.{IsPrefix, IsInterface, IsConnected, HasAddress, HasAddresses, HasOwnAddress, IsAttached, IsEachOnce, IsOn, IsPlace, Carries, Touches, IsInside, IsLawful}
 use Rattle.rip_plan.proofs.BindLemmas.{steps_keep}
-use Rattle.rip_plan.proofs.ItemLemmas.{both, or_false, all_at, any_at, any_finds, distinct_at, get_seen, see_got, get_some}
+use Rattle.rip_plan.proofs.ItemLemmas.{all_at, any_at, any_finds, distinct_at, see_got}
 use Rattle.rip_plan.proofs.TakenStepLemmas.{DocumentTaken, text_taken}
 use Rattle.rip_plan.proofs.TextLemmas.{TextLaws}
 use Rattle.rip_plan.proofs.FirstPassLemmas.{AreAddresses, Kept, IsFit, IsFitPlace, IsFitSeat, IsInsideOf, BetweenLinks, BetweenRouters, link_keeps, router_keeps}
@@ -35,7 +39,7 @@ use Rattle.rip_plan.proofs.HeldAddressLemmas.{address_held}
 use Rattle.rip_plan.proofs.HeldOrderLemmas.{stands_from}
 use Rattle.rip_plan.proofs.LookupLemmas.{name_same, on_seat}
 use Rattle.rip_plan.proofs.NumbersWhereLemmas.{at_contains}
-use Rattle.rip_plan.proofs.SecondPassLemmas.{Clear, passes_clear, has_one, on_touched, own_touched, common}
+use Rattle.rip_plan.proofs.SecondPassLemmas.{Clear, passes_clear, has_one, common}
 
 -- what the passes leave
 record Good (s : Sketch) : Type 0 where
@@ -46,45 +50,11 @@ record Good (s : Sketch) : Type 0 where
   some_router : 1 ≤ length s.routers
   few_routers : length s.routers ≤ 128
 
--- ---- tests
-
-pub not_false : (b : Bool) → not b ≡ false → b ≡ true
-not_false true e = refl
-not_false false e = absurd cc
-
-none_found_at : {A : Type 0} (test : A → Bool) (xs : List A) (k : ℕ) (x : A) → find test xs ≡ None → slice_get xs k ≡ Some x → test x ≡ false
-none_found_at test [] k x h at = absurd (none-some x at)
-none_found_at {A} test (y ∷ ys) zero x h at = ap test (sym (same_Some y x at)) ∙ by_test (test y) refl h
-  where
-    by_test : (b : Bool) → test y ≡ b → cond b (Some y) (find test ys) ≡ None → test y ≡ false
-    by_test true e f = absurd cc
-    by_test false e f = e
-none_found_at {A} test (y ∷ ys) (suc k) x h at = by_test (test y) h (λ e. none_found_at test ys k x e at)
-  where
-    by_test : (b : Bool) → cond b (Some y) (find test ys) ≡ None → (find test ys ≡ None → test x ≡ false) → test x ≡ false
-    by_test true f later = absurd cc
-    by_test false f later = later f
-
--- ---- the parts of the plan of a draft
-
-interface_in : (s : Sketch) (i : ℕ) (v : Interface) → slice_get (network_of_sketch s).interfaces i ≡ Some v → (x : DraftInterface) × (slice_get s.interfaces i ≡ Some x) × (x.interface ≡ v)
-interface_in s i v h = get_seen (λ (x : DraftInterface). x.interface) s.interfaces i v h
-
-place_in : (s : Sketch) (k p : ℕ) (seat : Seat) → IsPlace (network_of_sketch s) k p seat → (d : DraftPlace) × (slice_get s.places k ≡ Some d) × (slice_get (network_of_sketch s).prefixes p ≡ Some d.prefix) × (seat ≡ d.seat)
-place_in s k p seat h = (numbers s.places).each k (record { prefix = p; seat = seat }) h.listed
-
-place_from : (s : Sketch) (k : ℕ) (d : DraftPlace) → slice_get s.places k ≡ Some d → (p : ℕ) × IsPlace (network_of_sketch s) k p d.seat × IsPrefix (network_of_sketch s) p d.prefix
-place_from s k d h =
-    let below : k < length (network_of_sketch s).places = omega (arith, (numbers s.places).count, slice_get_within s.places k d h) in
-    let (q, is) = get_some (network_of_sketch s).places k below in
-    let (e, there, prefix, seat) = (numbers s.places).each k q is in
-    let same : e ≡ d = same_Some e d (sym there ∙ h) in
-    (q.prefix, record { listed = is ∙ ap (λ x. Some (record { prefix = q.prefix; seat = x })) (seat ∙ ap (λ (x : DraftPlace). x.seat) same) }, prefix ∙ ap (λ (x : DraftPlace). Some x.prefix) same)
-
 -- ---- interfaces
 
 module _ (s : Sketch) (good : Good s) where
-  fit_at : (i : ℕ) (v : Interface) → slice_get (network_of_sketch s).interfaces i ≡ Some v → (x : DraftInterface) × (slice_get s.interfaces i ≡ Some x) × (x.interface ≡ v) × IsFit (length s.links) (length s.routers) x
+  fit_at : (i : ℕ) (v : Interface) → slice_get (network_of_sketch s).interfaces i ≡ Some v
+      → (x : DraftInterface) × (slice_get s.interfaces i ≡ Some x) × (x.interface ≡ v) × IsFit (length s.links) (length s.routers) x
   fit_at i v h =
       let (x, at, same) = interface_in s i v h in
       (x, at, same, all_at (IsFit (length s.links) (length s.routers)) s.interfaces i x good.kept.interfaces at)
@@ -92,8 +62,18 @@ module _ (s : Sketch) (good : Good s) where
   one_interface : (r : ℕ) → r < length s.routers → (i l c : ℕ) × IsInterface (network_of_sketch s) i r l c
   one_interface r h =
       let (i, x, at, of) = has_one s.interfaces (length s.routers) r good.clear.bare h in
-      let listed = see_got (λ (y : DraftInterface). y.interface) s.interfaces i x at in
-      (i, x.interface.link, x.interface.cost, record { address = x.interface.address; direct = x.interface.direct; poison = x.interface.poison; listed = listed ∙ ap (λ m. Some (record x.interface { router = m })) of })
+      let listed = see_got (λ (y : DraftInterface). y.interface) s.interfaces i x at in (
+        i,
+        x.interface.link,
+        x.interface.cost,
+        record {
+          address = x.interface.address;
+          direct = x.interface.direct;
+          poison = x.interface.poison;
+          listed = listed
+              ∙ ap (λ m. Some (record x.interface { router = m })) of;
+        },
+      )
 
   one_on_link : (i j r l c d : ℕ) → IsInterface (network_of_sketch s) i r l c → IsInterface (network_of_sketch s) j r l d → i ≡ j
   one_on_link i j r l c d h k =
@@ -101,7 +81,7 @@ module _ (s : Sketch) (good : Good s) where
       let (y, there, other) = interface_in s j _ k.listed in
       let routers : x.interface.router ≡ y.interface.router = ap (λ (v : Interface). v.router) same ∙ ap (λ (v : Interface). v.router) (sym other) in
       let links : x.interface.link ≡ y.interface.link = ap (λ (v : Interface). v.link) same ∙ ap (λ (v : Interface). v.link) (sym other) in
-      distinct_at are_twice s.interfaces i j x y good.clear.links at there (grind (arith, nat_tests)) (grind (arith, nat_tests))
+      clash_once are_twice s.interfaces i j x y good.clear.links at there (grind (arith, nat_tests)) (grind (arith, nat_tests))
 
   direct_most : (i r l c d : ℕ) → IsInterface (network_of_sketch s) i r l c → IsConnected (network_of_sketch s) i r l d → d ≤ c
   direct_most i r l c d h k =
@@ -131,7 +111,7 @@ module _ (s : Sketch) (good : Good s) where
       let (q, there) = address_held (network_of_sketch s) j l a k in
       let one : Held = record { interface = i; link = l; address = a } in
       let two : Held = record { interface = j; link = l; address = a } in
-      let same : p ≡ q = distinct_at have_one_address (addresses_of (network_of_sketch s)) p q one two good.clear.addresses at there (grind (arith, nat_tests)) (grind (arith, nat_tests)) in
+      let same : p ≡ q = clash_once have_one_address (addresses_of (network_of_sketch s)) p q one two good.clear.addresses at there (grind (arith, nat_tests)) (grind (arith, nat_tests)) in
       ap (λ (h : Held). h.interface) (same_Some one two (sym at ∙ ap (slice_get (addresses_of (network_of_sketch s))) same ∙ there))
 
   addresses_once : (i l : ℕ) (addresses : List ℕ) → HasAddresses (network_of_sketch s) i l addresses → IsEachOnce addresses
@@ -142,7 +122,7 @@ module _ (s : Sketch) (good : Good s) where
       let at = stands.each j a (ap (λ (xs : List ℕ). slice_get xs j) (sym has.all) ∙ h) in
       let there = stands.each k a (ap (λ (xs : List ℕ). slice_get xs k) (sym has.all) ∙ g) in
       let same : stands.first + j ≡ stands.first + k =
-      distinct_at have_one_address (addresses_of n) (stands.first + j) (stands.first + k) one one good.clear.addresses at there (grind (arith, nat_tests)) (grind (arith, nat_tests)) in
+      clash_once have_one_address (addresses_of n) (stands.first + j) (stands.first + k) one one good.clear.addresses at there (grind (arith, nat_tests)) (grind (arith, nat_tests)) in
       omega arith
 
   -- ---- places
@@ -162,7 +142,7 @@ module _ (s : Sketch) (good : Good s) where
       let one : d.prefix ≡ e.prefix = same_Some d.prefix e.prefix (sym prefix ∙ its) in
       let forth : do_meet (touching s.interfaces d) (touching s.interfaces e) ≡ true = rw (same_from d.prefix e.prefix one, ← same, ← is) meet in
       let back : do_meet (touching s.interfaces e) (touching s.interfaces d) ≡ true = rw (same_from e.prefix d.prefix (sym one), ← same, ← is) meet' in
-      distinct_at do_meet (map (touching s.interfaces) s.places) k j (touching s.interfaces d) (touching s.interfaces e) good.clear.meetings
+      clash_once do_meet (map (touching s.interfaces) s.places) k j (touching s.interfaces d) (touching s.interfaces e) good.clear.meetings
       (see_got (touching s.interfaces) s.places k d at) (see_got (touching s.interfaces) s.places j e there) forth back
 
   carried_once : (k j p l : ℕ) → IsPlace (network_of_sketch s) k p (seats.Link l) → IsPlace (network_of_sketch s) j p (seats.Link l) → k ≡ j
@@ -170,47 +150,21 @@ module _ (s : Sketch) (good : Good s) where
       let same : (l == l) ≡ true = grind (arith, nat_tests) in
       meet_once k j p (seats.Link l) (seats.Link l) h h' (rw same refl) (rw same refl)
 
-  touch : (k p r c : ℕ) → Touches (network_of_sketch s) k p r c → (seat : Seat) × IsPlace (network_of_sketch s) k p seat × (list_any (λ m. m == r) (touched s.interfaces seat) ≡ true)
-  touch k p r c (inl (l, place, (i, is))) =
-      let (x, at, same) = interface_in s i _ is.listed in
-      (seats.Link l, place, on_touched s.interfaces l r i x at (ap (λ (v : Interface). v.link) same) (ap (λ (v : Interface). v.router) same))
-  touch k p r c (inr own) = (seats.Own r c own.kept own.link own.via, own.place, own_touched s.interfaces r c own.kept own.link own.via)
-
   touched_once : (k j p r c d : ℕ) → Touches (network_of_sketch s) k p r c → Touches (network_of_sketch s) j p r d → k ≡ j
   touched_once k j p r c d h h' =
-      let (seat, place, here) = touch k p r c h in
-      let (other, its, there) = touch j p r d h' in
+      let (seat, place, here) = touch s k p r c h in
+      let (other, its, there) = touch s j p r d h' in
       meet_once k j p seat other place its
       (or_right (is_same_link seat other) _ (common (touched s.interfaces seat) (touched s.interfaces other) r here there))
       (or_right (is_same_link other seat) _ (common (touched s.interfaces other) (touched s.interfaces seat) r there here))
-    where
-      or_right : (b c : Bool) → c ≡ true → (b || c) ≡ true
-      or_right true c e = refl
-      or_right false c e = e
 
   -- the router of an attached prefix is on its link
   attached_there : (r p l : ℕ) → IsAttached (network_of_sketch s) r p l → IsOn (network_of_sketch s) r l
   attached_there r p l (k, h) =
-      let (d, at, prefix, same) = place_in s k p (seats.Own r h.cost h.kept (Some l) h.via) h.place in
-      let off : is_astray s.interfaces d.seat ≡ false = none_found_at (λ (q : DraftPlace). is_astray s.interfaces q.seat) s.places k d good.clear.astray at in
-      let there : is_there s.interfaces r l ≡ true = not_false (is_there s.interfaces r l) (ap (is_astray s.interfaces) same ∙ off) in
-      let (i, x, listed, test) = any_finds (λ (y : DraftInterface). y.interface.router == r && y.interface.link == l) s.interfaces there in
-      let (routers, links) = both (x.interface.router == r) (x.interface.link == l) test in
-      let router : x.interface.router ≡ r = grind (arith, nat_tests) in
-      let link : x.interface.link ≡ l = grind (arith, nat_tests) in (
-        x.interface.cost,
-        (
-          i,
-          record {
-            address = x.interface.address;
-            direct = x.interface.direct;
-            poison = x.interface.poison;
-            listed = see_got (λ (y : DraftInterface). y.interface) s.interfaces i x listed
-                ∙ ap (λ (m : ℕ). Some (record x.interface { router = m })) router
-                ∙ ap (λ (m : ℕ). Some (record x.interface { router = r; link = m })) link;
-          },
-        ),
-      )
+      let (d, at, prefix, same) = place_in s k p (seats.Own h.own) h.place in
+      let off : is_astray s.interfaces d.seat ≡ false =
+      false_from_ne_true (is_astray s.interfaces d.seat) (λ t. find_none (λ (q : DraftPlace). is_astray s.interfaces q.seat) s.places k d at t good.clear.astray) in
+      there_on s r l (not-false (is_there s.interfaces r l) (rw (h.says, h.router) at (ap (is_astray s.interfaces) same ∙ off)))
 
   inside : (i l a p : ℕ) → HasOwnAddress (network_of_sketch s) i l a → Carries (network_of_sketch s) l p → IsInside (network_of_sketch s) l a
   inside i l a p h (k, place) =
@@ -222,7 +176,7 @@ module _ (s : Sketch) (good : Good s) where
       let some : list_any (λ (q : DraftPlace). is_on l q.seat) s.places ≡ true = any_at (λ (q : DraftPlace). is_on l q.seat) s.places k d its (rw (← seat) self) in
       let holds = contains_one (list_any (λ (q : DraftPlace). is_on l q.seat) s.places) (list_any (λ (q : DraftPlace). is_on l q.seat && has_address q.prefix a) s.places) some not_outside in
       let (m, e, there, test) = any_finds (λ (q : DraftPlace). is_on l q.seat && has_address q.prefix a) s.places holds in
-      let parts = both (is_on l e.seat) (has_address e.prefix a) test in
+      let parts = and_parts (is_on l e.seat) (has_address e.prefix a) test in
       let (q, here, block) = place_from s m e there in
       (q, e.prefix, (m, subst (IsPlace (network_of_sketch s) m q) (on_seat l e.seat parts.0) here), block, grind (arith, nat_tests, parts.1))
     where
@@ -268,11 +222,11 @@ module _ (s : Sketch) (good : Good s) where
     one_place = λ p h. let (k, seat, place) = (numbers s.places).used p h in (k, seat, record { listed = place });
     prefix_known = λ k p seat h. let (d, at, prefix, same) = place_in s k p seat h in slice_get_within (network_of_sketch s).prefixes p d.prefix prefix;
     seat_known = λ k p l h. seat_at k p (seats.Link l) h;
-    owner_known = λ k p r c h. (seat_at k p (seats.Own r c h.kept h.link h.via) h.place).0;
-    own_cost_least = λ k p r c h. (seat_at k p (seats.Own r c h.kept h.link h.via) h.place).1;
-    own_cost_most = λ k p r c h. (seat_at k p (seats.Own r c h.kept h.link h.via) h.place).2;
+    owner_known = λ k p r c h. rw h.router at (seat_at k p (seats.Own h.own) h.place).0;
+    own_cost_least = λ k p r c h. rw h.says at (seat_at k p (seats.Own h.own) h.place).1;
+    own_cost_most = λ k p r c h. rw h.says at (seat_at k p (seats.Own h.own) h.place).2;
     attached_there = attached_there;
-    gateway_known = λ r p a h. (seat_at h.0 p (seats.Own r h.1.cost h.1.kept h.1.link (Some a)) h.1.place).3;
+    gateway_known = λ r p a h. rw h.1.says at (seat_at h.0 p (seats.Own h.1.own) h.1.place).3;
     carried_once = carried_once;
     touched_once = touched_once;
   }
@@ -283,7 +237,8 @@ some_at : (xs ys : List Data) → some_items xs ≡ Some ys → 1 ≤ length ys
 some_at [] ys h = absurd (none-some ys h)
 some_at (x ∷ xs) ys h = rw (← same_Some (x ∷ xs) ys h) (omega arith)
 
-some_of_both : (a b : Option (List Data)) (p : Option (Option Bool)) (f : List Data × List Data × Bool) → (a &> some_items &> (λ x. b &> some_items &> (λ y. p &> (λ z. Some (x, y, unwrap_or z true))))) ≡ Some f → (1 ≤ length f.0) × (1 ≤ length f.1)
+some_of_both : (a b : Option (List Data)) (p : Option (Option Bool)) (f : List Data × List Data × Bool)
+    → (a &> some_items &> (λ x. b &> some_items &> (λ y. p &> (λ z. Some (x, y, unwrap_or z true))))) ≡ Some f → (1 ≤ length f.0) × (1 ≤ length f.1)
 some_of_both None b p f h = absurd cc
 some_of_both (Some []) b p f h = absurd cc
 some_of_both (Some (x ∷ xs)) None p f h = absurd cc
@@ -301,7 +256,20 @@ good_document : (laws : TextLaws) (doc : Members) (s : Sketch) → DocumentTaken
 unfolding IsDistinct
 good_document laws doc s taken =
     let nothing : BetweenLinks 1 (empty taken.poison) = record {
-      kept = record { link_names = tt; links_differ = tt; router_names = tt; routers_differ = tt; interfaces = tt; inside = tt; places = tt; also = tt; also_listed = refl; few_interfaces = omega arith; few_also = omega arith; few_places = omega arith };
+      kept = record {
+        link_names = tt;
+        links_differ = tt;
+        router_names = tt;
+        routers_differ = tt;
+        interfaces = tt;
+        inside = tt;
+        places = tt;
+        also = tt;
+        also_listed = refl;
+        few_interfaces = omega arith;
+        few_also = omega arith;
+        few_places = omega arith;
+      };
       interfaces = refl;
       routers = refl;
       next = refl;
@@ -309,10 +277,11 @@ good_document laws doc s taken =
     let links = steps_keep link_step BetweenLinks (link_keeps laws) 1 taken.links (empty taken.poison) taken.between nothing taken.first (1 + length taken.links) refl in
     let counted : length taken.between.links ≡ length taken.links = omega (arith, links.next) in
     let start : BetweenRouters (length taken.links) 1 taken.between = record { kept = links.kept; links = counted; next = ap (λ (names : List (List ℕ)). length names + 1) links.routers } in
-    let end = steps_keep router_step (BetweenRouters (length taken.links)) (router_keeps laws (length taken.links)) 1 taken.routers taken.between s start taken.second (1 + length taken.routers) refl in
+    let end = steps_keep router_step (BetweenRouters (length taken.links)) (router_keeps laws (length taken.links)) 1 taken.routers taken.between s start taken.second
+    (1 + length taken.routers) refl in
     let routers : length s.routers ≡ length taken.routers = omega (arith, end.next) in
     let some = some_of_root doc (taken.links, taken.routers, taken.poison) taken.root in
-    let few = or_false (nat_lt 512 (length taken.links)) (nat_lt 128 (length taken.routers)) taken.room in
+    let few = or_parts (nat_lt 512 (length taken.links)) (nat_lt 128 (length taken.routers)) taken.room in
     record {
       kept = end.kept;
       clear = passes_clear s taken.passed;

@@ -7,10 +7,12 @@ pub mod BelowLemmas
 pub mod BindLemmas
 pub mod TakenStepLemmas
 pub mod ItemLemmas
+pub mod FirstFoundLemmas
 pub mod TextLemmas
 pub mod FirstPassLemmas
 pub mod NumberingLemmas
 pub mod SecondPassLemmas
+pub mod SketchPlanLemmas
 pub mod LawfulPlanLemmas
 pub mod CellLemmas
 pub mod NumbersWhereLemmas

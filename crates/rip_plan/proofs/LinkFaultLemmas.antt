@@ -22,9 +22,9 @@ use Rattle.rip_plan.specs.PlanText.{empty}
 use Rattle.rip_plan.specs.PlanFaults.{nth, IsItem, IsMisnamed, IsNamedAgain, spots_of, spots_under, place_spots}
 use Rattle.rip_plan.proofs.FindingLemmas.{Finds, no_rows, steps_finds}
 use Rattle.rip_plan.proofs.FaultRowLemmas.{by_code, IsTold, guard_told, want_told, prefix_from_limit, prefix_from_prefix, prefix_rows, prefix_starts, prefixes_rows, link_from_duplicate, link_from_name, link_rows, link_starts, links_rows, prefix_row_item, link_row_within}
-use Rattle.rip_plan.proofs.SpotLemmas.{nth_from, get_before, place_once, prefix_here, nth_here, item_once, count_of}
+use Rattle.rip_plan.proofs.SpotLemmas.{nth_from, place_once, prefix_here, nth_here, item_once, count_of}
 use Rattle.rip_plan.proofs.TakenSpotLemmas.{place_ats, links_stand, prefixes_stand}
-use Rattle.rip_plan.proofs.ItemLemmas.{any_at, any_finds, get_split}
+use Rattle.rip_plan.proofs.ItemLemmas.{any_at, any_finds, get_split, get_left}
 use Rattle.rip_plan.proofs.TableLemmas.{text_is, link_table}
 use Rattle.rip_plan.proofs.MatchingLemmas.{matched_left, matched_right}
 use Rattle.rip_plan.proofs.OnePlanLemmas.{text_same}
@@ -68,7 +68,7 @@ module _ (laws : TextLaws) (ds done : List Data) (d : Data) (rest : List Data) (
       let (earlier, is, its_name) = matched_left IsNameOf names done k other named at in
       let same : other ≡ name = (bytes_eq-Decides other name).0 test in
       let within : k < length done = slice_get_within done k earlier is in
-      (d, earlier, suc k, name, table_here, its, omega arith, rw split (get_before done (d ∷ rest) k earlier is), subst (λ (t : List ℕ). IsNameOf t earlier) same its_name)
+      (d, earlier, suc k, name, table_here, its, omega arith, rw split (get_left done (d ∷ rest) k earlier is), subst (λ (t : List ℕ). IsNameOf t earlier) same its_name)
 
   pub again_clear : (names : List (List ℕ)) → Matched IsNameOf names done → (name : List ℕ) → IsNameOf name d → is_one_of name names ≡ false → IsNamedAgain ds (1 + length done) → ⊥
   again_clear names named name its fresh (e, earlier, zero, other, is, its_name, less, there, theirs) = none-some earlier there
@@ -91,7 +91,8 @@ abbrev stood : List Data → List At
 stood done = spots_under (codes_of "prefixes") LinkPrefix 1 done
 
 module _ (document : Members) (links routers done : List Data) (d : Data) (rest : List Data) (split : links ≡ done ++ d ∷ rest) where
-  prefix_finds : (laws : TextLaws) (front : List Data) (x : Data) (back : List Data) (v : Sketch) → items_in (get (codes_of "prefixes") d) ≡ front ++ x ∷ back → length v.places ≡ length (stood done) + length front
+  prefix_finds : (laws : TextLaws) (front : List Data) (x : Data) (back : List Data) (v : Sketch) → items_in (get (codes_of "prefixes") d) ≡ front ++ x ∷ back
+      → length v.places ≡ length (stood done) + length front
       → Finds (IsTold document links routers) (prefix_rows (1 + length done) (1 + length front)).has (prefix_step (1 + length done) (1 + length front) x v)
   unfolding prefix_step
   prefix_finds laws front x back v items count =
@@ -150,7 +151,8 @@ module _ (document : Members) (links routers done : List Data) (d : Data) (rest 
       i : ℕ
       i = 1 + length done
 
-  link_finds : (laws : TextLaws) (poison : Bool) (u : Sketch) → steps link_step 1 done (empty poison) ≡ Ok u → Finds (IsTold document links routers) (link_rows (1 + length done)).has (link_step (1 + length done) d u)
+  link_finds : (laws : TextLaws) (poison : Bool) (u : Sketch) → steps link_step 1 done (empty poison) ≡ Ok u
+      → Finds (IsTold document links routers) (link_rows (1 + length done)).has (link_step (1 + length done) d u)
   unfolding link_step
   link_finds laws poison u taken =
       let i : ℕ = 1 + length done in

@@ -1,5 +1,7 @@
 -- What the look-ups of a lawful plan find, in the words of its relations.
 use Rattle.std.proofs.Common.{◌≡◌, ℕ, zero, suc, ◌+◌, ◌⊎◌, inl, inr, List, [], ◌∷◌, Bool, true, false, cond, ◌&&◌, Option, Some, None, refl, sym, ◌∙◌, ap, subst, arith}
+use Rattle.rip_plan.proofs.FirstFoundLemmas.{find_gives, find_none}
+use Rattle.std.proofs.lemmas.Bool.{and_parts}
 use Rattle.std.specs.Prelude.{slice_get, ◌==◌, find, option_and_then, option_map}
 use Rattle.std.specs.Option.{option_or}
 use Rattle.std.specs.List.{Contains, position_from}
@@ -9,6 +11,7 @@ use Rattle.std.proofs.lemmas.Bool.Decides.{nat_tests}
 use Rattle.std.proofs.lemmas.Slice.Eq.{bytes_eq-Decides}
 use Rattle.rip_wire.specs.Prefix.{Block}
 use Rattle.rip_plan.specs.declared.parts.Interface.{Interface}
+use Rattle.rip_plan.specs.declared.parts.OwnPrefix.{OwnPrefix}
 use Rattle.rip_plan.specs.declared.parts.Place.{Place}
 use Rattle.rip_plan.specs.declared.parts.Seat.{Seat}
 use Rattle.rip_plan.specs.declared.parts.Seat.TheVariants as seats
@@ -17,14 +20,15 @@ use Rattle.rip_plan.specs.Passes.{same_prefix}
 use Rattle.rip_plan.specs.Names.{number_of_name}
 use Rattle.rip_plan.specs.Addresses.{holder_at}
 use Rattle.rip_plan.specs.Network.{Network, addresses_of, number_of_prefix, found_at, is_on, is_of, numbers_where, is_carrying, first_carrying, is_owned, own_seat, cost_on, cost_at, direct_at}
-use Rattle.rip_plan.specs.Relations.{IsPrefix, IsInterface, IsConnected, HasAddress, IsAt, IsPlace, IsOwnAt, Carries, Touches, IsDirect, IsLawful}
+use Rattle.rip_plan.specs.Relations.{IsPrefix, IsInterface, IsConnected, HasAddress, IsAt, IsPlace, IsOwnWith, Carries, Touches, IsDirect, IsLawful}
 use Rattle.rip_plan.proofs.HeldAddressLemmas.{holder_gives, holder_none}
-use Rattle.rip_plan.proofs.ItemLemmas.{both, position_finds, position_none, none_at}
+use Rattle.rip_plan.proofs.ItemLemmas.{position_finds, position_none, none_at}
 use Rattle.rip_plan.proofs.NumberingLemmas.{same_is, same_self}
 use Rattle.rip_plan.proofs.NumbersWhereLemmas.{contains_at, at_contains, number_passes, passing_number}
 
 -- where an item passes, the first that passes is found
-found : {A : Type 0} (test : A → Bool) (xs : List A) (i : ℕ) (x : A) → slice_get xs i ≡ Some x → test x ≡ true → (k : ℕ) × (y : A) × (position_from test 0 xs ≡ Some k) × (slice_get xs k ≡ Some y) × (test y ≡ true)
+found : {A : Type 0} (test : A → Bool) (xs : List A) (i : ℕ) (x : A) → slice_get xs i ≡ Some x → test x ≡ true
+    → (k : ℕ) × (y : A) × (position_from test 0 xs ≡ Some k) × (slice_get xs k ≡ Some y) × (test y ≡ true)
 found {A} test xs i x h t = by_option (position_from test 0 xs) refl
   where
     by_option : (o : Option ℕ) → position_from test 0 xs ≡ o → (k : ℕ) × (y : A) × (position_from test 0 xs ≡ Some k) × (slice_get xs k ≡ Some y) × (test y ≡ true)
@@ -69,7 +73,7 @@ cost_found r l d (x ∷ xs) h = by_test (x.router == r && x.link == l) refl h (�
     by_test : (b : Bool) → (x.router == r && x.link == l) ≡ b → cond b (Some x.direct) (cost_on r l xs) ≡ Some d
         → (cost_on r l xs ≡ Some d → (i : ℕ) × IsConnectedIn xs i r l d) → (i : ℕ) × IsConnectedIn (x ∷ xs) i r l d
     by_test true e f later =
-        let tests = both (x.router == r) (x.link == l) e in
+        let tests = and_parts (x.router == r) (x.link == l) e in
         let router : x.router ≡ r = grind (arith, nat_tests) in
         let link : x.link ≡ l = grind (arith, nat_tests) in
         let direct : x.direct ≡ d = same_Some x.direct d f in
@@ -98,7 +102,8 @@ or_none : {A : Type 0} (o p : Option A) → option_or o p ≡ None → (o ≡ No
 or_none None p h = (refl, h)
 or_none (Some y) p h = absurd cc
 
-direct_found : (r k c : ℕ) (is : List Interface) (qs : List Place) → direct_at r k is qs ≡ Some c → (j : ℕ) × (seat : Seat) × (slice_get qs j ≡ Some (record { prefix = k; seat = seat })) × (cost_at r is seat ≡ Some c)
+direct_found : (r k c : ℕ) (is : List Interface) (qs : List Place) → direct_at r k is qs ≡ Some c
+    → (j : ℕ) × (seat : Seat) × (slice_get qs j ≡ Some (record { prefix = k; seat = seat })) × (cost_at r is seat ≡ Some c)
 direct_found r k c is [] h = absurd (none-some c h)
 direct_found r k c is (q ∷ qs) h = by_test (q.prefix == k) refl h (λ e. direct_found r k c is qs e)
   where
@@ -121,7 +126,8 @@ direct_there r k zero seat is (q ∷ qs) h e =
     ap (λ (p : Place). cost_at r is p.seat) (sym same) ∙ parts.0
 direct_there r k (suc j) seat is (q ∷ qs) h e = by_test (q.prefix == k) e (λ f. direct_there r k j seat is qs h f)
   where
-    by_test : (b : Bool) → cond b (option_or (cost_at r is q.seat) (direct_at r k is qs)) (direct_at r k is qs) ≡ None → (direct_at r k is qs ≡ None → cost_at r is seat ≡ None) → cost_at r is seat ≡ None
+    by_test : (b : Bool) → cond b (option_or (cost_at r is q.seat) (direct_at r k is qs)) (direct_at r k is qs) ≡ None → (direct_at r k is qs ≡ None → cost_at r is seat ≡ None)
+        → cost_at r is seat ≡ None
     by_test true f later = later (or_none (cost_at r is q.seat) (direct_at r k is qs) f).1
     by_test false f later = later f
 
@@ -129,23 +135,15 @@ cost_touches : (n : Network) (j k r c : ℕ) (seat : Seat) → IsPlace n j k sea
 cost_touches n j k r c (seats.Link l) place h =
     let (i, (a, cost, poison, at)) = cost_found r l c n.interfaces h in
     inl (l, place, (i, record { address = a; cost = cost; poison = poison; listed = at }))
-cost_touches n j k r c (seats.Own owner d kept link via) place h = by_test (owner == r) refl h
+cost_touches n j k r c (seats.Own own) place h = by_test (own.router == r) refl h
   where
-    by_test : (b : Bool) → (owner == r) ≡ b → cond b (Some d) None ≡ Some c → Touches n j k r c
-    by_test true e f =
-        let one : owner ≡ r = grind (arith, nat_tests) in
-        let two : d ≡ c = same_Some d c f in
-        inr (record {
-          kept = kept;
-          link = link;
-          via = via;
-          place = record { listed = place.listed ∙ ap (λ (m : ℕ). Some (record { prefix = k; seat = seats.Own m d kept link via })) one ∙ ap (λ (m : ℕ). Some (record { prefix = k; seat = seats.Own r m kept link via })) two };
-        })
+    by_test : (b : Bool) → (own.router == r) ≡ b → cond b (Some own.cost) None ≡ Some c → Touches n j k r c
+    by_test true e f = inr (record { own = own; place = place; router = grind (arith, nat_tests); says = same_Some own.cost c f })
     by_test false e f = absurd cc
 
 touch_costs : (n : Network) (j k r c : ℕ) → Touches n j k r c → (seat : Seat) × IsPlace n j k seat × (cost_at r n.interfaces seat ≡ None → ⊥)
 touch_costs n j k r c (inl (l, place, (i, is))) = (seats.Link l, place, λ e. cost_there r l c is.address is.cost i is.poison n.interfaces is.listed e)
-touch_costs n j k r c (inr own) = (seats.Own r c own.kept own.link own.via, own.place, λ e. let same : (r == r) ≡ true = grind (arith, nat_tests) in none-some c (sym (rw same at e)))
+touch_costs n j k r c (inr h) = (seats.Own h.own, h.place, λ e. let same : (h.own.router == r) ≡ true = grind (arith, nat_tests, h.router) in none-some h.own.cost (sym (rw same at e)))
 
 pub interface_of : (n : Network) (i r l d : ℕ) → (is : IsConnected n i r l d) → IsInterface n i r l is.cost
 interface_of n i r l d is = record { address = is.address; direct = d; poison = is.poison; listed = is.listed }
@@ -168,9 +166,12 @@ direct_once n laws r k c d (j, h) (m, h') =
         let same : i ≡ i' = laws.one_on_link i i' r l is.cost is''.cost (interface_of n i r l c is) (interface_of n i' r l d is'') in
         let listed : slice_get n.interfaces i ≡ slice_get n.interfaces i' = ap (slice_get n.interfaces) same in
         ap (λ (x : Interface). x.direct) (same_Some _ _ (sym is.listed ∙ listed ∙ is''.listed))
-    same_touch (inl (l, place, on)) (inr own) = let seat : seats.Link l ≡ seats.Own r d own.kept own.link own.via = one_seat n j k _ _ place own.place in absurd cc
-    same_touch (inr own) (inl (l', place', on)) = let seat : seats.Own r c own.kept own.link own.via ≡ seats.Link l' = one_seat n j k _ _ own.place place' in absurd cc
-    same_touch (inr own) (inr own') = let seat : seats.Own r c own.kept own.link own.via ≡ seats.Own r d own'.kept own'.link own'.via = one_seat n j k _ _ own.place own'.place in cc
+    same_touch (inl (l, place, on)) (inr own) = let seat : seats.Link l ≡ seats.Own own.own = one_seat n j k _ _ place own.place in absurd cc
+    same_touch (inr own) (inl (l', place', on)) = let seat : seats.Own own.own ≡ seats.Link l' = one_seat n j k _ _ own.place place' in absurd cc
+    same_touch (inr own) (inr own') =
+        let seat : seats.Own own.own ≡ seats.Own own'.own = one_seat n j k _ _ own.place own'.place in
+        let one : own.own ≡ own'.own = cc in
+        sym own.says ∙ ap (λ (o : OwnPrefix). o.cost) one ∙ own'.says
 
 pub direct_gives : (n : Network) (r k c : ℕ) → direct_at r k n.interfaces n.places ≡ Some c → IsDirect n r k c
 direct_gives n r k c h =
@@ -190,12 +191,12 @@ direct_finds n laws r k c h = by_option (direct_at r k n.interfaces n.places) re
 
 pub on_seat : (l : ℕ) (seat : Seat) → seated.is_on l seat ≡ true → seat ≡ seats.Link l
 on_seat l (seats.Link m) e = let same : m ≡ l = grind (arith, nat_tests) in ap seats.Link same
-on_seat l (seats.Own r c kept link via) e = absurd cc
+on_seat l (seats.Own own) e = absurd cc
 
 pub carrier_gives : (n : Network) (l k j : ℕ) → first_carrying l k 0 n.places ≡ Some j → Carries n l k
 carrier_gives n l k j h =
     let (q, at, passes) = at_first (is_carrying l k) n.places j h in
-    let tests = both (seated.is_on l q.seat) (q.prefix == k) passes in
+    let tests = and_parts (seated.is_on l q.seat) (q.prefix == k) passes in
     let seat : q.seat ≡ seats.Link l = on_seat l q.seat tests.0 in
     let prefix : q.prefix ≡ k = grind (arith, nat_tests) in
     (j, record { listed = at ∙ ap (λ (m : Seat). Some (record q { seat = m })) seat ∙ ap (λ (m : ℕ). Some (record { prefix = m; seat = seats.Link l })) prefix })
@@ -209,29 +210,9 @@ carrier_finds n l k (j, place) e =
 
 -- ---- a router's own prefixes
 
-own_owner : (r : ℕ) (seat : Seat) → seated.is_with r seat ≡ true → (c : ℕ) × (kept : Bool) × (link : Option ℕ) × (via : Option ℕ) × (seat ≡ seats.Own r c kept link via)
+own_owner : (r : ℕ) (seat : Seat) → seated.is_with r seat ≡ true → (own : OwnPrefix) × (seat ≡ seats.Own own) × (own.router ≡ r)
 own_owner r (seats.Link l) e = absurd cc
-own_owner r (seats.Own owner c kept link via) e =
-    let same : owner ≡ r = grind (arith, nat_tests) in
-    (c, kept, link, via, ap (λ (m : ℕ). seats.Own m c kept link via) same)
-
--- the first item that passes
-find_gives : {A : Type 0} (test : A → Bool) (xs : List A) (x : A) → find test xs ≡ Some x → (k : ℕ) × (slice_get xs k ≡ Some x) × (test x ≡ true)
-find_gives test [] x h = absurd (none-some x h)
-find_gives {A} test (y ∷ ys) x h = by_test (test y) refl h (λ e. find_gives test ys x e)
-  where
-    by_test : (b : Bool) → test y ≡ b → cond b (Some y) (find test ys) ≡ Some x → (find test ys ≡ Some x → (k : ℕ) × (slice_get ys k ≡ Some x) × (test x ≡ true)) → (k : ℕ) × (slice_get (y ∷ ys) k ≡ Some x) × (test x ≡ true)
-    by_test true e f later = let same : y ≡ x = same_Some y x f in (zero, f, ap test (sym same) ∙ e)
-    by_test false e f later = let (k, at, t) = later f in (suc k, at, t)
-
-find_none : {A : Type 0} (test : A → Bool) (xs : List A) (k : ℕ) (x : A) → slice_get xs k ≡ Some x → test x ≡ true → find test xs ≡ None → ⊥
-find_none test [] k x h t e = absurd (none-some x h)
-find_none {A} test (y ∷ ys) k x h t e = by_test (test y) refl e k h (λ j at f. find_none test ys j x at t f)
-  where
-    by_test : (b : Bool) → test y ≡ b → cond b (Some y) (find test ys) ≡ None → (j : ℕ) → slice_get (y ∷ ys) j ≡ Some x → ((m : ℕ) → slice_get ys m ≡ Some x → find test ys ≡ None → ⊥) → ⊥
-    by_test true f g j at later = absurd cc
-    by_test false f g zero at later = let same : y ≡ x = same_Some y x at in let off : test x ≡ false = ap test (sym same) ∙ f in absurd cc
-    by_test false f g (suc j) at later = later j at g
+own_owner r (seats.Own own) e = (own, refl, grind (arith, nat_tests))
 
 -- the first item that passes stands at the first number that passes
 pub find_at : {A : Type 0} (test : A → Bool) (n : ℕ) (xs : List A) (k i : ℕ) → position_from test n xs ≡ Some k → k ≡ n + i → find test xs ≡ slice_get xs i
@@ -255,15 +236,13 @@ find_past {A} test n (x ∷ xs) h = by_test (test x) refl h (λ f. find_past tes
     by_test true t f later = absurd cc
     by_test false t f later = rw t (later f)
 
+-- the same of another thing that the plan says
+pub own_says : {n : Network} {k p r : ℕ} {Says Other : OwnPrefix → Type 0} → (h : IsOwnWith n k p r Says) → Other h.own → IsOwnWith n k p r Other
+own_says h other = record { own = h.own; place = h.place; router = h.router; says = other }
+
 -- the seat of a router's own prefix
-pub record HasOwnSeat (n : Network) (r p : ℕ) (seat : Seat) : Type 0 where
-  pub place : ℕ
-  pub cost : ℕ
-  pub kept : Bool
-  pub link : Option ℕ
-  pub via : Option ℕ
-  pub is : seat ≡ seats.Own r cost kept link via
-  pub listed : IsPlace n place p (seats.Own r cost kept link via)
+abbrev pub HasOwnSeat : Network → ℕ → ℕ → Seat → Type 0
+HasOwnSeat n r p seat = (k : ℕ) × IsOwnWith n k p r (λ own. seat ≡ seats.Own own)
 
 pub own_gives : (n : Network) (r p : ℕ) (seat : Seat) → own_seat r p n.places ≡ Some seat → HasOwnSeat n r p seat
 own_gives n r p seat h = by_find (find (is_owned r p) n.places) refl h
@@ -272,41 +251,35 @@ own_gives n r p seat h = by_find (find (is_owned r p) n.places) refl h
     by_find None e f = absurd cc
     by_find (Some q) e f =
         let (k, at, test) = find_gives (is_owned r p) n.places q e in
-        let tests = both (seated.is_with r q.seat) (q.prefix == p) test in
-        let (c, kept, link, via, is) = own_owner r q.seat tests.0 in
-        let prefix : q.prefix ≡ p = grind (arith, nat_tests) in
-        record {
-          place = k;
-          cost = c;
-          kept = kept;
-          link = link;
-          via = via;
-          is = sym (same_Some q.seat seat f) ∙ is;
-          listed = record { listed = at ∙ ap (λ (m : Seat). Some (record q { seat = m })) is ∙ ap (λ (m : ℕ). Some (record { prefix = m; seat = seats.Own r c kept link via })) prefix };
-        }
+        let tests = and_parts (seated.is_with r q.seat) (q.prefix == p) test in
+        let (own, is, router) = own_owner r q.seat tests.0 in
+        let prefix : q.prefix ≡ p = grind (arith, nat_tests) in (
+          k,
+          record {
+            own = own;
+            place = record { listed = at ∙ ap (λ (m : Seat). Some (record q { seat = m })) is ∙ ap (λ (m : ℕ). Some (record { prefix = m; seat = seats.Own own })) prefix };
+            router = router;
+            says = sym (same_Some q.seat seat f) ∙ is;
+          },
+        )
 
--- a router has a prefix as its own at one place
-own_once : (n : Network) → IsLawful n → (j k p r c d : ℕ) → IsOwnAt n j p r c → IsOwnAt n k p r d → j ≡ k
-own_once n laws j k p r c d h h' = laws.touched_once j k p r c d (inr h) (inr h')
-
-pub own_finds : (n : Network) → IsLawful n → (k p r c : ℕ) (kept : Bool) (link via : Option ℕ) → IsPlace n k p (seats.Own r c kept link via) → own_seat r p n.places ≡ Some (seats.Own r c kept link via)
-own_finds n laws k p r c kept link via place = by_option (own_seat r p n.places) refl
+pub own_finds : {Says : OwnPrefix → Type 0} (n : Network) → IsLawful n → (k p r : ℕ) (h : IsOwnWith n k p r Says) → own_seat r p n.places ≡ Some (seats.Own h.own)
+own_finds n laws k p r h = by_option (own_seat r p n.places) refl
   where
     by_find : (o : Option Place) → find (is_owned r p) n.places ≡ o → option_map (λ (q : Place). q.seat) o ≡ None → ⊥
     by_find None e f =
-        let with : (r == r) ≡ true = grind (arith, nat_tests) in
+        let with : (h.own.router == r) ≡ true = grind (arith, nat_tests, h.router) in
         let its : (p == p) ≡ true = grind (arith, nat_tests) in
-        find_none (is_owned r p) n.places k (record { prefix = p; seat = seats.Own r c kept link via }) place.listed (rw (with, its) refl) e
+        find_none (is_owned r p) n.places k (record { prefix = p; seat = seats.Own h.own }) h.place.listed (rw (with, its) refl) e
     by_find (Some q) e f = absurd cc
 
-    by_option : (o : Option Seat) → own_seat r p n.places ≡ o → own_seat r p n.places ≡ Some (seats.Own r c kept link via)
+    by_option : (o : Option Seat) → own_seat r p n.places ≡ o → own_seat r p n.places ≡ Some (seats.Own h.own)
     by_option None e = absurd (by_find (find (is_owned r p) n.places) refl e)
     by_option (Some seat) e =
-        let has = own_gives n r p seat e in
-        let same : has.place ≡ k = own_once n laws has.place k p r has.cost c (record { kept = has.kept; link = has.link; via = has.via; place = has.listed }) (record { kept = kept; link = link; via = via; place = place }) in
-        let its : IsPlace n k p (seats.Own r has.cost has.kept has.link has.via) = subst (λ (m : ℕ). IsPlace n m p (seats.Own r has.cost has.kept has.link has.via)) same has.listed in
-        let one : seats.Own r has.cost has.kept has.link has.via ≡ seats.Own r c kept link via = one_seat n k p _ _ its place in
-        e ∙ ap (λ (s : Seat). Some s) (has.is ∙ one)
+        let (j, has) = own_gives n r p seat e in
+        let same : j ≡ k = laws.touched_once j k p r has.own.cost h.own.cost (inr (own_says has refl)) (inr (own_says h refl)) in
+        let its : IsPlace n k p (seats.Own has.own) = subst (λ (m : ℕ). IsPlace n m p (seats.Own has.own)) same has.place in
+        e ∙ ap (λ (s : Seat). Some s) (has.says ∙ one_seat n k p _ _ its h.place)
 
 -- ---- interfaces on a link and of a router
 

@@ -86,7 +86,7 @@ own_apart r j d s =
     want codes.Prefix (RouterOwn r j) (prefix_in f.prefix) _ (λ e. cc) (λ prefix.
     want codes.Cost (RouterOwn r j) (cost_of f.cost) _ (λ e. cc) (λ cost.
     want codes.UnknownLink (RouterOwn r j) (link_if f.link s.links) _ (λ e. cc) (λ link.
-    placed (RouterOwn r j) prefix (seats.Own (r - 1) cost f.kept link via) s)))))
+    placed (RouterOwn r j) prefix _ s)))))
 
 router_apart : (r : ℕ) (d : Data) (s : Sketch) → Apart (router_step r d s)
 unfolding router_step

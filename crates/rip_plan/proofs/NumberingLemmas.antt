@@ -4,7 +4,7 @@ use Rattle.std.specs.Prelude.{slice_get, ◌==◌}
 use Rattle.std.specs.List.{IsDistinct, list_any, position_from}
 use Rattle.std.specs.Option.{option_or}
 use Rattle.std.proofs.lemmas.Option.{none-some}
-use Rattle.std.proofs.lemmas.Bool.{cases_lt}
+use Rattle.std.proofs.lemmas.Bool.{cases_lt, and_parts, or_parts}
 use Rattle.std.proofs.lemmas.List.{append-nil}
 use Rattle.std.proofs.lemmas.Bool.Decides.{nat_tests}
 use Rattle.rip_wire.specs.Prefix.{Block, block}
@@ -13,11 +13,11 @@ use Rattle.rip_plan.specs.declared.parts.Seat.{Seat}
 use Rattle.rip_plan.specs.declared.draft.DraftPlace.{DraftPlace}
 use Rattle.rip_plan.specs.Passes.{same_prefix}
 use Rattle.rip_plan.specs.Network.{number_of_prefix, number_or_next, with_prefix, numbered}
-use Rattle.rip_plan.proofs.ItemLemmas.{both, or_false, get_left, get_last, get_push, distinct_push, position_finds, position_none}
+use Rattle.rip_plan.proofs.ItemLemmas.{get_left, get_last, get_push, distinct_push, position_finds, position_none}
 
 pub same_is : (p q : Block) → same_prefix p q ≡ true → p ≡ q
 same_is p q h =
-    let parts = both (p.network == q.network) (p.prefix_len == q.prefix_len) h in
+    let parts = and_parts (p.network == q.network) (p.prefix_len == q.prefix_len) h in
     let networks : p.network ≡ q.network = grind (arith, nat_tests) in
     let lengths : p.prefix_len ≡ q.prefix_len = grind (arith, nat_tests) in
     ap (λ a. block a p.prefix_len) networks ∙ ap (λ b. block q.network b) lengths
@@ -46,7 +46,7 @@ same_flips p q = by_tests (same_prefix p q) (same_prefix q p) refl refl
 pub none_same : (p : Block) (ps : List Block) → list_any (same_prefix p) ps ≡ false → list_any (λ q. same_prefix q p) ps ≡ false
 none_same p [] h = refl
 none_same p (q ∷ qs) h =
-    let parts = or_false (same_prefix p q) (list_any (same_prefix p) qs) h in
+    let parts = or_parts (same_prefix p q) (list_any (same_prefix p) qs) h in
     rw (sym (same_flips p q) ∙ parts.0) (none_same p qs parts.1)
 
 -- one more place

@@ -59,7 +59,8 @@ gateway_same laws d None (Some b) h k = absurd (none-some _ (sym h ∙ k.1))
 gateway_same laws d (Some a) None h k = absurd (none-some _ (sym k ∙ h.1))
 gateway_same laws d (Some a) (Some b) h k = let one : h.0 ≡ k.0 = text_same (codes_of "via") d h.0 k.0 h.1 k.1 in ap (λ (n : ℕ). Some n) (one_address laws h.0 k.0 a b one h.2 k.2)
 
-interface_same : (laws : TextLaws) (names others : List (List ℕ)) → names ≡ others → (b c : Bool) → b ≡ c → (x y : Interface) (at : ℕ × Data) → IsInterfaceOf names b x at → IsInterfaceOf others c y at → x ≡ y
+interface_same : (laws : TextLaws) (names others : List (List ℕ)) → names ≡ others → (b c : Bool) → b ≡ c → (x y : Interface) (at : ℕ × Data) → IsInterfaceOf names b x at
+    → IsInterfaceOf others c y at → x ≡ y
 interface_same laws names others same b c root x y at h k =
     let router : x.router ≡ y.router = h.router ∙ sym k.router in
     let name : h.link_name ≡ k.link_name = text_same (codes_of "link") at.1 h.link_name k.link_name h.has_link k.has_link in
@@ -69,12 +70,9 @@ interface_same laws names others same b c root x y at h k =
     let cost : x.cost ≡ y.cost = cost_same at.1 x.cost y.cost h.cost k.cost in
     let direct : x.direct ≡ y.direct = direct_same at.1 x.cost y.cost cost x.direct y.direct h.direct k.direct in
     let poison : x.poison ≡ y.poison = flag_same (codes_of "poison") at.1 b c root x.poison y.poison h.poisons k.poisons in
-    ap (λ (v : ℕ). record x { router = v }) router
-    ∙ ap (λ (v : ℕ). record { router = y.router; link = v; address = x.address; cost = x.cost; direct = x.direct; poison = x.poison }) link
-    ∙ ap (λ (v : ℕ). record { router = y.router; link = y.link; address = v; cost = x.cost; direct = x.direct; poison = x.poison }) address
-    ∙ ap (λ (v : ℕ). record { router = y.router; link = y.link; address = y.address; cost = v; direct = x.direct; poison = x.poison }) cost
-    ∙ ap (λ (v : ℕ). record { router = y.router; link = y.link; address = y.address; cost = y.cost; direct = v; poison = x.poison }) direct
-    ∙ ap (λ (v : Bool). record { router = y.router; link = y.link; address = y.address; cost = y.cost; direct = y.direct; poison = v }) poison
+    let all : x ≡ record { router = y.router; link = y.link; address = y.address; cost = y.cost; direct = y.direct; poison = y.poison } =
+    rw (← router, ← link, ← address, ← cost, ← direct, ← poison) refl in
+    all
 
 address_same : (laws : TextLaws) (a b : ℕ) (d : Data) → IsAddressOf a d → IsAddressOf b d → a ≡ b
 address_same laws a b d (t, h, is) (u, k, its) =
@@ -97,12 +95,15 @@ on_link_same laws x y at h k =
 owned_same : (laws : TextLaws) (names others : List (List ℕ)) → names ≡ others → (x y : Placement) (at : ℕ × Data) → IsOwned names x at → IsOwned others y at → x ≡ y
 owned_same laws names others same x y at h k =
     let text : h.text ≡ k.text = text_same (codes_of "prefix") at.1 h.text k.text h.has_prefix k.has_prefix in
-    let cost : h.cost ≡ k.cost = cost_same at.1 h.cost k.cost h.is_cost k.is_cost in
-    let kept : h.kept ≡ k.kept = flag_same (codes_of "kept") at.1 false false refl h.kept k.kept h.is_kept k.is_kept in
-    let link : h.link ≡ k.link = link_same names others same at.1 h.link k.link h.is_link k.is_link in
-    let via : h.via ≡ k.via = gateway_same laws at.1 h.via k.via h.is_via k.is_via in
-    let seat : seats.Own at.0 h.cost h.kept h.link h.via ≡ seats.Own at.0 k.cost k.kept k.link k.via = rw (cost, kept, link, via) refl in
-    placement_same x y (one_prefix laws h.text k.text x.prefix y.prefix text h.prefix k.prefix) (h.seat ∙ seat ∙ sym k.seat)
+    let a = h.own in
+    let b = k.own in
+    let router : a.router ≡ b.router = h.router ∙ sym k.router in
+    let cost : a.cost ≡ b.cost = cost_same at.1 a.cost b.cost h.cost k.cost in
+    let kept : a.kept ≡ b.kept = flag_same (codes_of "kept") at.1 false false refl a.kept b.kept h.kept k.kept in
+    let link : a.link ≡ b.link = link_same names others same at.1 a.link b.link h.link k.link in
+    let via : a.via ≡ b.via = gateway_same laws at.1 a.via b.via h.via k.via in
+    let own : a ≡ record { router = b.router; cost = b.cost; kept = b.kept; link = b.link; via = b.via } = rw (← router, ← cost, ← kept, ← link, ← via) refl in
+    placement_same x y (one_prefix laws h.text k.text x.prefix y.prefix text h.prefix k.prefix) (h.seat ∙ ap seats.Own own ∙ sym k.seat)
 
 place_same : (n m : Network) (bs : List Block) → n.prefixes ≡ each_once bs → n.prefixes ≡ m.prefixes → (x y : Place) (p : Placement) → IsPlaceOf n x p → IsPlaceOf m y p → x ≡ y
 place_same n m bs once same x y p h k =
@@ -113,12 +114,9 @@ place_same n m bs once same x y p h k =
 
 network_same : (n m : Network) → n.links ≡ m.links → n.routers ≡ m.routers → n.interfaces ≡ m.interfaces → n.also ≡ m.also → n.prefixes ≡ m.prefixes → n.places ≡ m.places → n ≡ m
 network_same n m names others interfaces also prefixes places =
-    ap (λ (v : List (List ℕ)). record n { links = v }) names
-    ∙ ap (λ (v : List (List ℕ)). record n { links = m.links; routers = v }) others
-    ∙ ap (λ (v : List Interface). record n { links = m.links; routers = m.routers; interfaces = v }) interfaces
-    ∙ ap (λ (v : List (List ℕ)). record n { links = m.links; routers = m.routers; interfaces = m.interfaces; also = v }) also
-    ∙ ap (λ (v : List Block). record m { prefixes = v; places = n.places }) prefixes
-    ∙ ap (λ (v : List Place). record m { places = v }) places
+    let all : n ≡ record { links = m.links; routers = m.routers; interfaces = m.interfaces; also = m.also; prefixes = m.prefixes; places = m.places } =
+    rw (← names, ← others, ← interfaces, ← also, ← prefixes, ← places) refl in
+    all
 
 pub one_plan : (laws : TextLaws) (document : Members) (n m : Network) → PlanOf document n → PlanOf document m → n ≡ m
 one_plan laws document n m p q =
@@ -132,7 +130,8 @@ one_plan laws document n m p q =
     (subst (Matched IsNameOf m.routers) router_tables q.router_names) in
     let poison : p.poison ≡ q.poison = flag_same (codes_of "poison") (table document) true true refl p.poison q.poison p.has_poison q.has_poison in
     let interfaces : n.interfaces ≡ m.interfaces =
-    matched_same (IsInterfaceOf n.links p.poison) (IsInterfaceOf m.links q.poison) (interface_same laws n.links m.links names p.poison q.poison poison) n.interfaces m.interfaces (items_under (codes_of "interface") 0 p.routers) p.interfaces
+    matched_same (IsInterfaceOf n.links p.poison) (IsInterfaceOf m.links q.poison) (interface_same laws n.links m.links names p.poison q.poison poison) n.interfaces m.interfaces
+    (items_under (codes_of "interface") 0 p.routers) p.interfaces
     (subst (λ (ds : List Data). Matched (IsInterfaceOf m.links q.poison) m.interfaces (items_under (codes_of "interface") 0 ds)) router_tables q.interfaces) in
     let also : n.also ≡ m.also =
     matched_same AreAlsoOf AreAlsoOf (also_same laws) n.also m.also (items_under (codes_of "interface") 0 p.routers) p.also

@@ -1,10 +1,12 @@
 -- What the later passes find of the faults of a plan.
-use Rattle.std.proofs.Common.{◌≡◌, ℕ, zero, suc, ◌+◌, ◌<◌, ◌≤◌, ◌⊎◌, inl, inr, List, [], ◌∷◌, ◌++◌, length, Bool, true, false, cond, not, ◌||◌, ◌&&◌, Option, Some, None, Result, refl, sym, ap, subst, ◌∙◌, arith, length-append, append_assoc}
-use Rattle.std.specs.Prelude.{slice_get, find, option_map, unwrap_or, map, filter, ◌==◌, codes as codes_of}
+use Rattle.std.proofs.Common.{◌≡◌, ℕ, suc, ◌+◌, ◌<◌, ◌≤◌, ◌⊎◌, inl, inr, List, [], ◌∷◌, ◌++◌, length, true, false, not, ◌||◌, Option, Some, None, Result, refl, sym, ap, subst, ◌∙◌, arith}
+use Rattle.rip_plan.proofs.FirstFoundLemmas.{Clashes, FirstSo, Passes, first_clashing, first_passing}
+use Rattle.rip_plan.proofs.SketchPlanLemmas.{interface_in, interface_from, listed_as, place_in, place_from, touch, touches, there_on, on_there}
+use Rattle.std.specs.Prelude.{slice_get, find, option_map, unwrap_or, map, ◌==◌, codes as codes_of}
 use Rattle.std.specs.List.{list_any}
-use Rattle.std.proofs.lemmas.Option.{none-some, same_Some, slice_get_within}
-use Rattle.std.proofs.lemmas.List.{append-nil}
-use Rattle.std.proofs.lemmas.Bool.{cases_lt}
+use Rattle.std.specs.Option.{option_map_or}
+use Rattle.std.proofs.lemmas.Option.{same_Some, slice_get_within}
+use Rattle.std.proofs.lemmas.Bool.{cases_lt, and_parts, or_cases, or_right, not-true, not-false, both_ways, false_from_ne_true}
 use Rattle.std.proofs.lemmas.Bool.Decides.{nat_tests}
 use Rattle.toml.specs.Data.{Data, Members}
 use Rattle.rip_plan.specs.declared.error.PlanCode.{PlanCode}
@@ -16,6 +18,7 @@ use Rattle.rip_plan.specs.declared.addresses.Held.{Held}
 use Rattle.rip_plan.specs.declared.draft.DraftPlace.{DraftPlace}
 use Rattle.rip_plan.specs.declared.draft.DraftInterface.{DraftInterface}
 use Rattle.rip_plan.specs.declared.parts.Interface.{Interface}
+use Rattle.rip_plan.specs.declared.parts.OwnPrefix.{OwnPrefix}
 use Rattle.rip_plan.specs.declared.parts.Seat.{Seat}
 use Rattle.rip_plan.specs.declared.parts.Seat.TheVariants as seats
 use Rattle.rip_plan.specs.Codes.{number_of_code}
@@ -24,7 +27,7 @@ use Rattle.rip_plan.specs.Draft.{Sketch}
 use Rattle.rip_plan.specs.Passes.{Touching, first_clash, touched, touching, same_prefix, do_meet, is_same_link, have_common, are_twice, is_astray, is_bare, is_there, first_bare, none_found, second_passes, spot_of, duplicate_in, twice_in, taken_address_in, bare_in, astray_in}
 use Rattle.rip_plan.specs.Addresses.{have_one_address}
 use Rattle.rip_plan.specs.Network.{Network, network_of_sketch}
-use Rattle.rip_plan.specs.Relations.{HasAddresses, IsOn, IsPrefix, IsInterface, IsPlace, Touches}
+use Rattle.rip_plan.specs.Relations.{HasAddresses, IsInterface, IsPlace}
 use Rattle.rip_plan.specs.PlanOf.{IsOnLink, IsPlaceOf, PlanOf, items_under}
 use Rattle.rip_plan.specs.PlanFaults.{TableFault, IsAstray, IsClash, IsBare, IsSo, DoMeet, AreTwice, HasOneTwice, HaveOneAddress, Before, pass_of, rank, position, place_spots, interface_spots, spots_under}
 use Rattle.rip_plan.proofs.OrderLemmas.{before_trans, before_not}
@@ -36,75 +39,10 @@ use Rattle.rip_plan.proofs.MatchingLemmas.{matched_left, matched_length}
 use Rattle.rip_plan.proofs.OnePlanLemmas.{one_plan}
 use Rattle.rip_plan.proofs.SpotLemmas.{place_ahead, interface_ahead, place_spot, interface_spot, spot_under, spots_count}
 use Rattle.rip_plan.proofs.TakenSpotLemmas.{place_ats, interface_ats}
-use Rattle.rip_plan.proofs.ItemLemmas.{both, any_at, any_finds, none_at, distinct_at, get_seen, get_split, see_got, get_some}
+use Rattle.rip_plan.proofs.ItemLemmas.{any_at, any_finds, distinct_at, get_seen, get_split, see_got, get_some}
 use Rattle.rip_plan.proofs.NumberingLemmas.{numbers, same_is, same_from}
-use Rattle.rip_plan.proofs.SecondPassLemmas.{address_spot, held, held_spot, taken_address, on_touched, own_touched, common}
+use Rattle.rip_plan.proofs.SecondPassLemmas.{address_spot, held, held_spot, taken_address, common, FoundBare, search_bare}
 use Rattle.rip_plan.proofs.TextLemmas.{TextLaws}
-
--- ---- the first clash
-
--- the earlier items up to number n do not clash with one another
-abbrev Apart : {A : Type 0} → (A → A → Bool) → List A → ℕ → Type 0
-Apart {A} clash xs n = (m : ℕ) (z : A) (i : ℕ) (w : A) → m < n → i < m → slice_get xs m ≡ Some z → slice_get xs i ≡ Some w → clash w z ≡ false
-
-record FirstClash {A : Type 0} (clash : A → A → Bool) (xs : List A) (x : A) : Type 0 where
-  k : ℕ
-  at : slice_get xs k ≡ Some x
-  j : ℕ
-  y : A
-  less : j < k
-  there : slice_get xs j ≡ Some y
-  meets : clash y x ≡ true
-  before : Apart clash xs k
-
-abbrev Searched : {A : Type 0} → (A → A → Bool) → List A → Option A → Type 0
-Searched clash xs None = Apart clash xs (length xs)
-Searched clash xs (Some x) = FirstClash clash xs x
-
-get_old : {A : Type 0} (xs ys : List A) (i : ℕ) (w : A) → i < length xs → slice_get (xs ++ ys) i ≡ Some w → slice_get xs i ≡ Some w
-get_old [] ys i w h g = absurd (omega arith)
-get_old (x ∷ xs) ys zero w h g = g
-get_old (x ∷ xs) ys (suc i) w h g = get_old xs ys i w (omega arith) g
-
-get_next : {A : Type 0} (xs : List A) (x : A) (ys : List A) → slice_get (xs ++ x ∷ ys) (length xs) ≡ Some x
-get_next [] x ys = refl
-get_next (z ∷ zs) x ys = get_next zs x ys
-
-get_kept : {A : Type 0} (xs ys : List A) (i : ℕ) (w : A) → slice_get xs i ≡ Some w → slice_get (xs ++ ys) i ≡ Some w
-get_kept [] ys i w h = absurd (none-some w h)
-get_kept (x ∷ xs) ys zero w h = h
-get_kept (x ∷ xs) ys (suc i) w h = get_kept xs ys i w h
-
-search_clash : {A : Type 0} (clash : A → A → Bool) (earlier xs whole : List A) → whole ≡ earlier ++ xs → Apart clash whole (length earlier) → Searched clash whole (first_clash clash earlier xs)
-search_clash clash earlier [] whole split apart =
-    let same : whole ≡ earlier = split ∙ append-nil earlier in
-    let count : length whole ≡ length earlier = ap length same in
-    λ m z i w less. apart m z i w (omega arith)
-search_clash {A} clash earlier (x ∷ xs) whole split apart = by_test (list_any (λ y. clash y x) earlier) refl (λ more. search_clash clash (earlier ++ x ∷ []) xs whole (split ∙ sym (append_assoc earlier (x ∷ []) xs)) more)
-  where
-    here : slice_get whole (length earlier) ≡ Some x
-    here = rw split (get_next earlier x xs)
-
-    by_test : (b : Bool) → list_any (λ y. clash y x) earlier ≡ b → (Apart clash whole (length (earlier ++ x ∷ [])) → Searched clash whole (first_clash clash (earlier ++ x ∷ []) xs)) → Searched clash whole (cond b (Some x) (first_clash clash (earlier ++ x ∷ []) xs))
-    by_test true e later =
-        let (j, y, there, test) = any_finds (λ y. clash y x) earlier e in
-        record { k = length earlier; at = here; j = j; y = y; less = slice_get_within earlier j y there; there = rw split (get_kept earlier (x ∷ xs) j y there); meets = test; before = apart }
-    by_test false e later =
-        later
-        (λ m z i w less under at its.
-        let count = length-append earlier (x ∷ []) in
-        elim (cases_lt m (length earlier)) [
-          | inl old ↦ apart m z i w old under at its
-          | inr ge ↦
-              let last : m ≡ length earlier = omega arith in
-              let same : x ≡ z = same_Some x z (sym here ∙ ap (slice_get whole) (sym last) ∙ at) in
-              let was : slice_get (earlier ++ x ∷ xs) i ≡ Some w = ap (λ (l : List A). slice_get l i) (sym split) ∙ its in
-              let kept : slice_get earlier i ≡ Some w = get_old earlier (x ∷ xs) i w (omega arith) was in
-              ap (clash w) (sym same) ∙ none_at (λ y. clash y x) earlier i w e kept
-        ])
-
-searched : {A : Type 0} (clash : A → A → Bool) (xs : List A) → Searched clash xs (first_clash clash [] xs)
-searched clash xs = search_clash clash [] xs xs refl (λ m z i w less. absurd (omega arith))
 
 -- ---- one pass
 
@@ -121,11 +59,6 @@ record Stood {A : Type 0} (Is : ℕ → A → Type 0) (see : A → At) (xs : Lis
   at : slice_get xs k ≡ Some x
   so : Is k x
   stands : see x ≡ place
-
--- no item that is so, or the first
-abbrev FirstSo : {A : Type 0} → (ℕ → A → Type 0) → List A → Option A → Type 0
-FirstSo {A} Is xs None = (k : ℕ) (x : A) → slice_get xs k ≡ Some x → Is k x → ⊥
-FirstSo {A} Is xs (Some x) = (k : ℕ) × (slice_get xs k ≡ Some x) × Is k x × ((m : ℕ) (z : A) → m < k → slice_get xs m ≡ Some z → Is m z → ⊥)
 
 -- later items stand later, or at the same place
 abbrev InOrder : {A : Type 0} → (A → At) → List A → Type 0
@@ -163,7 +96,8 @@ pass_finds {A} F n c Is see xs r first ahead told clear = by_search r first
                         | inl one ↦ at_one (sym h.stands ∙ sym one)
                         | inr past ↦
                             let after : Before (position (see x)) (position o.error.place) = subst (λ (p : At). Before (position (see x)) (position p)) h.stands past in
-                            let ranked_after : Before (rank n (fault c (see x))) (rank n (fault c o.error.place)) = inr (refl, before_more (position (see x)) (position o.error.place) (number_of_code c ∷ []) (number_of_code c ∷ []) after) in
+                            let ranked_after : Before (rank n (fault c (see x))) (rank n (fault c o.error.place)) =
+                            inr (refl, before_more (position (see x)) (position o.error.place) (number_of_code c ∷ []) (number_of_code c ∷ []) after) in
                             before_not (rank n (fault c o.error.place)) (before_trans (rank n (fault c o.error.place)) (rank n (fault c (see x))) (rank n (fault c o.error.place)) mine ranked_after)
                       ]
                   | inr le ↦
@@ -174,130 +108,42 @@ pass_finds {A} F n c Is see xs r first ahead told clear = by_search r first
           ],
     )
 
--- item k clashes with an earlier one
-abbrev Clashes : {A : Type 0} → (A → A → Bool) → List A → ℕ → A → Type 0
-Clashes {A} clash xs k x = (j : ℕ) × (y : A) × (j < k) × (slice_get xs j ≡ Some y) × (clash y x ≡ true)
-
-first_clashing : {A : Type 0} (clash : A → A → Bool) (xs : List A) → FirstSo (Clashes clash xs) xs (first_clash clash [] xs)
-first_clashing {A} clash xs = by_search (first_clash clash [] xs) (searched clash xs)
-  where
-    by_search : (r : Option A) → Searched clash xs r → FirstSo (Clashes clash xs) xs r
-    by_search None apart = λ k x at (j, y, less, there, meets). let off = apart k x j y (slice_get_within xs k x at) less at there in absurd cc
-    by_search (Some x) s = (s.k, s.at, (s.j, s.y, s.less, s.there, s.meets), λ m z sooner at (j, y, less, there, meets). let off = s.before m z j y sooner less at there in absurd cc)
-
--- item k passes
-abbrev Passes : {A : Type 0} → (A → Bool) → ℕ → A → Type 0
-Passes test k x = test x ≡ true
-
-first_passing : {A : Type 0} (test : A → Bool) (xs : List A) → FirstSo (Passes test) xs (find test xs)
-first_passing test [] = λ k x at e. none-some x at
-first_passing {A} test (y ∷ ys) = by_test (test y) refl (find test ys) (first_passing test ys)
-  where
-    by_test : (b : Bool) → test y ≡ b → (r : Option A) → FirstSo (Passes test) ys r → FirstSo (Passes test) (y ∷ ys) (cond b (Some y) r)
-    by_test true e r later = (zero, refl, e, λ m z less at passes. absurd (omega arith))
-    by_test false e None later = none
-      where
-        none : (k : ℕ) (x : A) → slice_get (y ∷ ys) k ≡ Some x → test x ≡ true → ⊥
-        none zero x at passes = let same : y ≡ x = same_Some y x at in let off : test x ≡ false = ap test (sym same) ∙ e in absurd cc
-        none (suc k) x at passes = later k x at passes
-    by_test false e (Some z) later = (suc later.0, later.1, later.2, before)
-      where
-        before : (m : ℕ) (x : A) → m < suc later.0 → slice_get (y ∷ ys) m ≡ Some x → test x ≡ true → ⊥
-        before zero x less at passes = let same : y ≡ x = same_Some y x at in let off : test x ≡ false = ap test (sym same) ∙ e in absurd cc
-        before (suc m) x less at passes = later.3 m x (omega arith) at passes
-
 -- ---- two places that meet
 
 module _ (s : Sketch) where
-  interface_in : (i : ℕ) (v : Interface) → slice_get (network_of_sketch s).interfaces i ≡ Some v → (x : DraftInterface) × (slice_get s.interfaces i ≡ Some x) × (x.interface ≡ v)
-  interface_in i v h = get_seen (λ (x : DraftInterface). x.interface) s.interfaces i v h
-
-  interface_from : (i : ℕ) (x : DraftInterface) → slice_get s.interfaces i ≡ Some x → slice_get (network_of_sketch s).interfaces i ≡ Some x.interface
-  interface_from i x h = see_got (λ (y : DraftInterface). y.interface) s.interfaces i x h
-
-  place_in : (k p : ℕ) (seat : Seat) → IsPlace (network_of_sketch s) k p seat → (d : DraftPlace) × (slice_get s.places k ≡ Some d) × (slice_get (network_of_sketch s).prefixes p ≡ Some d.prefix) × (seat ≡ d.seat)
-  place_in k p seat h = (numbers s.places).each k (record { prefix = p; seat = seat }) h.listed
-
-  place_from : (k : ℕ) (d : DraftPlace) → slice_get s.places k ≡ Some d → (p : ℕ) × IsPlace (network_of_sketch s) k p d.seat × IsPrefix (network_of_sketch s) p d.prefix
-  place_from k d h =
-      let below : k < length (network_of_sketch s).places = omega (arith, (numbers s.places).count, slice_get_within s.places k d h) in
-      let (q, is) = get_some (network_of_sketch s).places k below in
-      let (e, there, prefix, seat) = (numbers s.places).each k q is in
-      let same : e ≡ d = same_Some e d (sym there ∙ h) in
-      (q.prefix, record { listed = is ∙ ap (λ x. Some (record { prefix = q.prefix; seat = x })) (seat ∙ ap (λ (x : DraftPlace). x.seat) same) }, prefix ∙ ap (λ (x : DraftPlace). Some x.prefix) same)
-
-  touch : (k p r c : ℕ) → Touches (network_of_sketch s) k p r c → (seat : Seat) × IsPlace (network_of_sketch s) k p seat × (list_any (λ m. m == r) (touched s.interfaces seat) ≡ true)
-  touch k p r c (inl (l, place, (i, is))) =
-      let (x, at, same) = interface_in i _ is.listed in
-      (seats.Link l, place, on_touched s.interfaces l r i x at (ap (λ (v : Interface). v.link) same) (ap (λ (v : Interface). v.router) same))
-  touch k p r c (inr own) = (seats.Own r c own.kept own.link own.via, own.place, own_touched s.interfaces r c own.kept own.link own.via)
-
-  -- a router that a seat touches
-  touched_on : (is : List DraftInterface) (l r : ℕ) → list_any (λ m. m == r) (touched is (seats.Link l)) ≡ true → (i : ℕ) × (x : DraftInterface) × (slice_get is i ≡ Some x) × (x.interface.link ≡ l) × (x.interface.router ≡ r)
-  touched_on [] l r h = absurd cc
-  touched_on (y ∷ ys) l r h = by_link (y.interface.link == l) refl h (λ e. let (i, x, at, link, router) = touched_on ys l r e in (suc i, x, at, link, router))
-    where
-      by_router : (b : Bool) → (y.interface.router == r) ≡ b → y.interface.link ≡ l → (b || list_any (λ m. m == r) (touched ys (seats.Link l))) ≡ true → (list_any (λ m. m == r) (touched ys (seats.Link l)) ≡ true → (i : ℕ) × (x : DraftInterface) × (slice_get (y ∷ ys) i ≡ Some x) × (x.interface.link ≡ l) × (x.interface.router ≡ r)) → (i : ℕ) × (x : DraftInterface) × (slice_get (y ∷ ys) i ≡ Some x) × (x.interface.link ≡ l) × (x.interface.router ≡ r)
-      by_router true e on f more = let of : y.interface.router ≡ r = grind (arith, nat_tests) in (zero, y, refl, on, of)
-      by_router false e on f more = more f
-
-      by_link : (b : Bool) → (y.interface.link == l) ≡ b → list_any (λ m. m == r) (map (λ i. i.interface.router) (cond b (y ∷ filter (λ i. i.interface.link == l) ys) (filter (λ i. i.interface.link == l) ys))) ≡ true → (list_any (λ m. m == r) (touched ys (seats.Link l)) ≡ true → (i : ℕ) × (x : DraftInterface) × (slice_get (y ∷ ys) i ≡ Some x) × (x.interface.link ≡ l) × (x.interface.router ≡ r))
-          → (i : ℕ) × (x : DraftInterface) × (slice_get (y ∷ ys) i ≡ Some x) × (x.interface.link ≡ l) × (x.interface.router ≡ r)
-      by_link true e f more = let on : y.interface.link ≡ l = grind (arith, nat_tests) in by_router (y.interface.router == r) refl on f more
-      by_link false e f more = more f
-
-  -- an interface with this router and this link
-  listed_as : (i : ℕ) (x : DraftInterface) (r l : ℕ) → slice_get s.interfaces i ≡ Some x → x.interface.router ≡ r → x.interface.link ≡ l → slice_get (network_of_sketch s).interfaces i ≡ Some (record x.interface { router = r; link = l })
-  listed_as i x r l at router link =
-      interface_from i x at ∙ ap (λ (m : ℕ). Some (record x.interface { router = m })) router ∙ ap (λ (m : ℕ). Some (record x.interface { router = r; link = m })) link
-
-  touches : (k p r : ℕ) (seat : Seat) → IsPlace (network_of_sketch s) k p seat → list_any (λ m. m == r) (touched s.interfaces seat) ≡ true → (c : ℕ) × Touches (network_of_sketch s) k p r c
-  touches k p r (seats.Link l) place h =
-      let (i, x, at, link, router) = touched_on s.interfaces l r h in
-      (x.interface.direct, inl (l, place, (i, record { address = x.interface.address; cost = x.interface.cost; poison = x.interface.poison; listed = listed_as i x r l at router link })))
-  touches k p r (seats.Own owner c kept link via) place h =
-      let one : (owner == r) ≡ true = only (owner == r) h in
-      let same : owner ≡ r = grind (arith, nat_tests) in
-      (c, inr (record { kept = kept; link = link; via = via; place = subst (λ (m : ℕ). IsPlace (network_of_sketch s) k p (seats.Own m c kept link via)) same place }))
-    where
-      only : (b : Bool) → (b || false) ≡ true → b ≡ true
-      only true e = refl
-      only false e = absurd cc
-
-  either : (a b : Bool) → (a || b) ≡ true → (a ≡ true) ⊎ (b ≡ true)
-  either true b h = inl refl
-  either false b h = inr h
-
   on_one : (seat other : Seat) → is_same_link seat other ≡ true → (l : ℕ) × (seat ≡ seats.Link l) × (other ≡ seats.Link l)
   on_one (seats.Link l) (seats.Link m) h = let same : l ≡ m = grind (arith, nat_tests) in (l, refl, ap seats.Link (sym same))
-  on_one (seats.Link l) (seats.Own r c kept link via) h = absurd cc
-  on_one (seats.Own r c kept link via) other h = absurd cc
+  on_one (seats.Link l) (seats.Own own) h = absurd cc
+  on_one (seats.Own own) other h = absurd cc
 
-  meet_gives : (j k : ℕ) (y x : DraftPlace) → slice_get s.places j ≡ Some y → slice_get s.places k ≡ Some x → do_meet (touching s.interfaces y) (touching s.interfaces x) ≡ true → DoMeet (network_of_sketch s) j k
+  meet_gives : (j k : ℕ) (y x : DraftPlace) → slice_get s.places j ≡ Some y → slice_get s.places k ≡ Some x → do_meet (touching s.interfaces y) (touching s.interfaces x) ≡ true
+      → DoMeet (network_of_sketch s) j k
   meet_gives j k y x at there h =
-      let (same, meet) = both (same_prefix y.prefix x.prefix) (is_same_link y.seat x.seat || have_common (touched s.interfaces y.seat) (touched s.interfaces x.seat)) h in
-      let (p, place, prefix) = place_from j y at in
-      let (q, its, block) = place_from k x there in
+      let (same, meet) = and_parts (same_prefix y.prefix x.prefix) (is_same_link y.seat x.seat || have_common (touched s.interfaces y.seat) (touched s.interfaces x.seat)) h in
+      let (p, place, prefix) = place_from s j y at in
+      let (q, its, block) = place_from s k x there in
       let one : y.prefix ≡ x.prefix = same_is y.prefix x.prefix same in
-      let number : q ≡ p = distinct_at same_prefix (network_of_sketch s).prefixes q p x.prefix y.prefix (numbers s.places).distinct block prefix (same_from x.prefix y.prefix (sym one)) (same_from y.prefix x.prefix one) in
+      let number : q ≡ p =
+      distinct_at same_prefix (network_of_sketch s).prefixes q p x.prefix y.prefix (numbers s.places).distinct block prefix (same_from x.prefix y.prefix (sym one)) (same_from y.prefix x.prefix one) in
       let here : IsPlace (network_of_sketch s) k p x.seat = subst (λ (m : ℕ). IsPlace (network_of_sketch s) k m x.seat) number its in
-      elim (either (is_same_link y.seat x.seat) (have_common (touched s.interfaces y.seat) (touched s.interfaces x.seat)) meet) [
+      elim (or_cases (is_same_link y.seat x.seat) (have_common (touched s.interfaces y.seat) (touched s.interfaces x.seat)) meet) [
         | inl link ↦
             let (l, one_seat, other_seat) = on_one y.seat x.seat link in
             (p, inl (l, subst (IsPlace (network_of_sketch s) j p) one_seat place, subst (IsPlace (network_of_sketch s) k p) other_seat here))
         | inr shared ↦
             let (n, r, listed, test) = any_finds (λ m. list_any (λ t. t == m) (touched s.interfaces y.seat)) (touched s.interfaces x.seat) shared in
             let self : (r == r) ≡ true = grind (arith, nat_tests) in
-            let (c, one_touch) = touches j p r y.seat place test in
-            let (d, other_touch) = touches k p r x.seat here (any_at (λ m. m == r) (touched s.interfaces x.seat) n r listed self) in
+            let (c, one_touch) = touches s j p r y.seat place test in
+            let (d, other_touch) = touches s k p r x.seat here (any_at (λ m. m == r) (touched s.interfaces x.seat) n r listed self) in
             (p, inr (r, c, d, one_touch, other_touch))
       ]
 
-  met : (j k p : ℕ) (seat other : Seat) (y x : DraftPlace) → slice_get s.places j ≡ Some y → slice_get s.places k ≡ Some x → IsPlace (network_of_sketch s) j p seat → IsPlace (network_of_sketch s) k p other
+  met : (j k p : ℕ) (seat other : Seat) (y x : DraftPlace) → slice_get s.places j ≡ Some y → slice_get s.places k ≡ Some x → IsPlace (network_of_sketch s) j p seat
+      → IsPlace (network_of_sketch s) k p other
       → (is_same_link seat other || have_common (touched s.interfaces seat) (touched s.interfaces other)) ≡ true → do_meet (touching s.interfaces y) (touching s.interfaces x) ≡ true
   met j k p seat other y x at there h h' meet =
-      let (d, its, prefix, same) = place_in j p seat h in
-      let (e, theirs, block, is) = place_in k p other h' in
+      let (d, its, prefix, same) = place_in s j p seat h in
+      let (e, theirs, block, is) = place_in s k p other h' in
       let one : d ≡ y = same_Some d y (sym its ∙ at) in
       let two : e ≡ x = same_Some e x (sym theirs ∙ there) in
       let blocks : y.prefix ≡ x.prefix = ap (λ (w : DraftPlace). w.prefix) (sym one) ∙ same_Some d.prefix e.prefix (sym prefix ∙ block) ∙ ap (λ (w : DraftPlace). w.prefix) two in
@@ -305,36 +151,33 @@ module _ (s : Sketch) where
       let yours : other ≡ x.seat = is ∙ ap (λ (w : DraftPlace). w.seat) two in
       rw (same_from y.prefix x.prefix blocks, ← mine, ← yours) meet
 
-  meet_takes : (j k : ℕ) (y x : DraftPlace) → slice_get s.places j ≡ Some y → slice_get s.places k ≡ Some x → DoMeet (network_of_sketch s) j k → do_meet (touching s.interfaces y) (touching s.interfaces x) ≡ true
+  meet_takes : (j k : ℕ) (y x : DraftPlace) → slice_get s.places j ≡ Some y → slice_get s.places k ≡ Some x → DoMeet (network_of_sketch s) j k
+      → do_meet (touching s.interfaces y) (touching s.interfaces x) ≡ true
   meet_takes j k y x at there (p, inl (l, h, h')) =
       let same : (l == l) ≡ true = grind (arith, nat_tests) in
       met j k p (seats.Link l) (seats.Link l) y x at there h h' (rw same refl)
   meet_takes j k y x at there (p, inr (r, c, d, h, h')) =
-      let (seat, place, here) = touch j p r c h in
-      let (other, its, also) = touch k p r d h' in
+      let (seat, place, here) = touch s j p r c h in
+      let (other, its, also) = touch s k p r d h' in
       met j k p seat other y x at there place its (or_right (is_same_link seat other) _ (common (touched s.interfaces seat) (touched s.interfaces other) r here also))
-    where
-      or_right : (b c : Bool) → c ≡ true → (b || c) ≡ true
-      or_right true c e = refl
-      or_right false c e = e
 
   twice_gives : (j k : ℕ) (y x : DraftInterface) → slice_get s.interfaces j ≡ Some y → slice_get s.interfaces k ≡ Some x → are_twice y x ≡ true → AreTwice (network_of_sketch s) j k
   twice_gives j k y x at there h =
-      let (routers, links) = both (y.interface.router == x.interface.router) (y.interface.link == x.interface.link) h in
+      let (routers, links) = and_parts (y.interface.router == x.interface.router) (y.interface.link == x.interface.link) h in
       let router : x.interface.router ≡ y.interface.router = grind (arith, nat_tests) in
       let link : x.interface.link ≡ y.interface.link = grind (arith, nat_tests) in (
         y.interface.router,
         y.interface.link,
         y.interface.cost,
         x.interface.cost,
-        record { address = y.interface.address; direct = y.interface.direct; poison = y.interface.poison; listed = interface_from j y at },
-        record { address = x.interface.address; direct = x.interface.direct; poison = x.interface.poison; listed = listed_as k x y.interface.router y.interface.link there router link },
+        record { address = y.interface.address; direct = y.interface.direct; poison = y.interface.poison; listed = interface_from s j y at },
+        record { address = x.interface.address; direct = x.interface.direct; poison = x.interface.poison; listed = listed_as s k x y.interface.router y.interface.link there router link },
       )
 
   twice_takes : (j k : ℕ) (y x : DraftInterface) → slice_get s.interfaces j ≡ Some y → slice_get s.interfaces k ≡ Some x → AreTwice (network_of_sketch s) j k → are_twice y x ≡ true
   twice_takes j k y x at there (r, l, c, d, h, h') =
-      let (y', its, same) = interface_in j _ h.listed in
-      let (x', theirs, also) = interface_in k _ h'.listed in
+      let (y', its, same) = interface_in s j _ h.listed in
+      let (x', theirs, also) = interface_in s k _ h'.listed in
       let one : y'.interface ≡ y.interface = ap (λ (w : DraftInterface). w.interface) (same_Some y' y (sym its ∙ at)) in
       let two : x'.interface ≡ x.interface = ap (λ (w : DraftInterface). w.interface) (same_Some x' x (sym theirs ∙ there)) in
       let routers : y.interface.router ≡ x.interface.router = ap (λ (v : Interface). v.router) (sym one ∙ same) ∙ ap (λ (v : Interface). v.router) (sym also ∙ two) in
@@ -345,7 +188,7 @@ module _ (s : Sketch) where
   address_gives : (j k : ℕ) (y x : Held) → j < k → slice_get (held s.interfaces s.also) j ≡ Some y → slice_get (held s.interfaces s.also) k ≡ Some x → have_one_address y x ≡ true
       → ((i : ℕ) × (i < x.interface) × HaveOneAddress (network_of_sketch s) i x.interface) ⊎ HasOneTwice (network_of_sketch s) x.interface
   address_gives j k y x less at there h =
-      let (links, addresses) = both (y.link == x.link) (y.address == x.address) h in
+      let (links, addresses) = and_parts (y.link == x.link) (y.address == x.address) h in
       let link : y.link ≡ x.link = grind (arith, nat_tests) in
       let address : y.address ≡ x.address = grind (arith, nat_tests) in
       let n = network_of_sketch s in
@@ -370,7 +213,8 @@ module _ (s : Sketch) where
   abbrev IsTaken : ℕ → Type 0
   IsTaken i = (k : ℕ) × (x : Held) × (slice_get (held s.interfaces s.also) k ≡ Some x) × Clashes have_one_address (held s.interfaces s.also) k x × (x.interface ≡ i)
 
-  taken_of : (i l a j k m : ℕ) → j < k → slice_get (held s.interfaces s.also) j ≡ Some (record { interface = m; link = l; address = a }) → slice_get (held s.interfaces s.also) k ≡ Some (record { interface = i; link = l; address = a }) → IsTaken i
+  taken_of : (i l a j k m : ℕ) → j < k → slice_get (held s.interfaces s.also) j ≡ Some (record { interface = m; link = l; address = a })
+      → slice_get (held s.interfaces s.also) k ≡ Some (record { interface = i; link = l; address = a }) → IsTaken i
   taken_of i l a j k m less there at =
       (k, record { interface = i; link = l; address = a }, at, (j, record { interface = m; link = l; address = a }, less, there, grind (arith, nat_tests)), refl)
 
@@ -412,101 +256,52 @@ module _ (s : Sketch) where
 
   -- an own prefix whose router is not on its link
   astray_gives : (k : ℕ) (d : DraftPlace) → slice_get s.places k ≡ Some d → is_astray s.interfaces d.seat ≡ true → IsAstray (network_of_sketch s) k
-  astray_gives k d at h = let (p, place, prefix) = place_from k d at in by_seat d.seat p place h
+  astray_gives k d at h = let (p, place, prefix) = place_from s k d at in by_seat d.seat p place h
     where
-      not_true : (b : Bool) → not b ≡ true → b ≡ false
-      not_true true e = absurd cc
-      not_true false e = refl
-
       by_seat : (seat : Seat) (p : ℕ) → IsPlace (network_of_sketch s) k p seat → is_astray s.interfaces seat ≡ true → IsAstray (network_of_sketch s) k
       by_seat (seats.Link l) p place e = absurd cc
-      by_seat (seats.Own r c kept None via) p place e = absurd cc
-      by_seat (seats.Own r c kept (Some l) via) p place e = (p, r, l, record { cost = c; kept = kept; via = via; place = place }, off)
+      by_seat (seats.Own own) p place e = by_link own.link refl e
         where
-          off : IsOn (network_of_sketch s) r l → ⊥
-          off (b, (i, is)) =
-              let (x, listed, same) = interface_in i _ is.listed in
-              let router : x.interface.router ≡ r = ap (λ (v : Interface). v.router) same in
-              let link : x.interface.link ≡ l = ap (λ (v : Interface). v.link) same in
-              let there : is_there s.interfaces r l ≡ true = any_at (λ (y : DraftInterface). y.interface.router == r && y.interface.link == l) s.interfaces i x listed (grind (arith, nat_tests)) in
-              let none : is_there s.interfaces r l ≡ false = not_true (is_there s.interfaces r l) e in
-              absurd cc
+          by_link : (link : Option ℕ) → own.link ≡ link → option_map_or (λ l. not (is_there s.interfaces own.router l)) link false ≡ true → IsAstray (network_of_sketch s) k
+          by_link None is f = absurd cc
+          by_link (Some l) is f = (
+            p,
+            own.router,
+            l,
+            record { own = own; place = place; router = refl; says = is },
+            λ on. both_ways (is_there s.interfaces own.router l) (not-true _ f) (on_there s own.router l on),
+          )
 
   astray_takes : (k : ℕ) → IsAstray (network_of_sketch s) k → (d : DraftPlace) × (slice_get s.places k ≡ Some d) × (is_astray s.interfaces d.seat ≡ true)
   astray_takes k (p, r, l, h, none) =
-      let (d, at, prefix, same) = place_in k p (seats.Own r h.cost h.kept (Some l) h.via) h.place in
-      let off : is_there s.interfaces r l ≡ false = by_test (is_there s.interfaces r l) refl in
-      (d, at, ap (is_astray s.interfaces) (sym same) ∙ ap not off)
-    where
-      on : is_there s.interfaces r l ≡ true → ⊥
-      on e =
-          let (i, x, listed, test) = any_finds (λ (y : DraftInterface). y.interface.router == r && y.interface.link == l) s.interfaces e in
-          let (routers, links) = both (x.interface.router == r) (x.interface.link == l) test in
-          let router : x.interface.router ≡ r = grind (arith, nat_tests) in
-          let link : x.interface.link ≡ l = grind (arith, nat_tests) in
-          none (x.interface.cost, (i, record { address = x.interface.address; direct = x.interface.direct; poison = x.interface.poison; listed = listed_as i x r l listed router link }))
-
-      by_test : (b : Bool) → is_there s.interfaces r l ≡ b → is_there s.interfaces r l ≡ false
-      by_test true e = absurd (on e)
-      by_test false e = e
+      let (d, at, prefix, same) = place_in s k p (seats.Own h.own) h.place in
+      let off : is_there s.interfaces r l ≡ false = false_from_ne_true (is_there s.interfaces r l) (λ there. none (there_on s r l there)) in
+      (d, at, ap (is_astray s.interfaces) (sym same) ∙ rw (h.says, h.router, off) refl)
 
   bare_gives : (k : ℕ) → is_bare s.interfaces k ≡ true → (i l c : ℕ) → IsInterface (network_of_sketch s) i k l c → ⊥
   bare_gives k h i l c is =
-      let (x, at, same) = interface_in i _ is.listed in
+      let (x, at, same) = interface_in s i _ is.listed in
       let of : x.interface.router ≡ k = ap (λ (v : Interface). v.router) same in
-      let some : list_any (λ (y : DraftInterface). y.interface.router == k) s.interfaces ≡ true = any_at (λ (y : DraftInterface). y.interface.router == k) s.interfaces i x at (grind (arith, nat_tests)) in
-      not_true (list_any (λ (y : DraftInterface). y.interface.router == k) s.interfaces) some h
-    where
-      not_true : (b : Bool) → b ≡ true → not b ≡ true → ⊥
-      not_true true e f = cc
-      not_true false e f = cc
+      let some : list_any (λ (y : DraftInterface). y.interface.router == k) s.interfaces ≡ true =
+      any_at (λ (y : DraftInterface). y.interface.router == k) s.interfaces i x at (grind (arith, nat_tests)) in
+      both_ways (list_any (λ (y : DraftInterface). y.interface.router == k) s.interfaces) (not-true _ h) some
 
   bare_takes : (k : ℕ) → is_bare s.interfaces k ≡ false → ((i l c : ℕ) → IsInterface (network_of_sketch s) i k l c → ⊥) → ⊥
   bare_takes k h none =
-      let (i, x, at, test) = any_finds (λ (y : DraftInterface). y.interface.router == k) s.interfaces (not_false (list_any (λ (y : DraftInterface). y.interface.router == k) s.interfaces) h) in
+      let (i, x, at, test) = any_finds (λ (y : DraftInterface). y.interface.router == k) s.interfaces (not-false (list_any (λ (y : DraftInterface). y.interface.router == k) s.interfaces) h) in
       let of : x.interface.router ≡ k = grind (arith, nat_tests) in
-      none i x.interface.link x.interface.cost (record { address = x.interface.address; direct = x.interface.direct; poison = x.interface.poison; listed = interface_from i x at ∙ ap (λ (m : ℕ). Some (record x.interface { router = m })) of })
-    where
-      not_false : (b : Bool) → not b ≡ false → b ≡ true
-      not_false true e = refl
-      not_false false e = absurd cc
-
--- ---- the first router with no interface
-
-abbrev FoundBare : List DraftInterface → ℕ → ℕ → Option ℕ → Type 0
-FoundBare is k n None = (m : ℕ) → k ≤ m → m < k + n → is_bare is m ≡ false
-FoundBare is k n (Some r) = (k ≤ r) × (r < k + n) × (is_bare is r ≡ true) × ((m : ℕ) → k ≤ m → m < r → is_bare is m ≡ false)
-
-search_bare : (is : List DraftInterface) (k n : ℕ) → FoundBare is k n (first_bare is k n)
-search_bare is k zero = λ m le less. absurd (omega arith)
-search_bare is k (suc n) = by_test (is_bare is k) refl (first_bare is (k + 1) n) (search_bare is (k + 1) n)
-  where
-    same_bare : (m : ℕ) → k ≡ m → is_bare is k ≡ false → is_bare is m ≡ false
-    same_bare m e h = ap (is_bare is) (sym e) ∙ h
-
-    by_test : (b : Bool) → is_bare is k ≡ b → (o : Option ℕ) → FoundBare is (k + 1) n o → FoundBare is k (suc n) (cond b (Some k) o)
-    by_test true e o found = (omega arith, omega arith, e, λ m le less. absurd (omega arith))
-    by_test false e None found = λ m le less.
-        elim (cases_lt k m) [
-          | inl more ↦ found m (omega arith) (omega arith)
-          | inr here ↦ ap (is_bare is) (omega arith) ∙ e
-        ]
-    by_test false e (Some r) found =
-        let low : k + 1 ≤ r = found.0 in
-        let high : r < k + 1 + n = found.1 in (
-          omega arith,
-          omega arith,
-          found.2,
-          λ m le less.
-              elim (cases_lt k m) [
-                | inl more ↦ found.3 m (omega arith) less
-                | inr here ↦ same_bare m (omega arith) e
-              ],
-        )
+      none i x.interface.link x.interface.cost (record {
+        address = x.interface.address;
+        direct = x.interface.direct;
+        poison = x.interface.poison;
+        listed = interface_from s i x at
+            ∙ ap (λ (m : ℕ). Some (record x.interface { router = m })) of;
+      })
 
 -- ---- all later passes
 
-module _ (laws : TextLaws) (document : Members) (links routers : List Data) (s : Sketch) (plan : PlanOf document (network_of_sketch s)) (placed : place_ats s ≡ place_spots links routers) (listed : interface_ats s ≡ interface_spots routers) (tables : plan.links ≡ links) where
+module _ (laws : TextLaws) (document : Members) (links routers : List Data) (s : Sketch) (plan : PlanOf document (network_of_sketch s)) (placed : place_ats s ≡ place_spots links routers)
+    (listed : interface_ats s ≡ interface_spots routers) (tables : plan.links ≡ links) where
   place_at : (k : ℕ) (d : DraftPlace) → slice_get s.places k ≡ Some d → slice_get (place_spots links routers) k ≡ Some d.at
   place_at k d h = ap (λ (l : List At). slice_get l k) (sym placed) ∙ see_got (λ (p : DraftPlace). p.at) s.places k d h
 
@@ -527,8 +322,12 @@ module _ (laws : TextLaws) (document : Members) (links routers : List Data) (s :
   duplicate_told place c =
       let (j, k, at, less, meet) = c in
       elim (place_spot links routers k place at) [
-        | inl (i, n, e) ↦ subst (λ (p : At). TableFault document links routers codes.DuplicatePrefix p) (sym e) (network_of_sketch s, plan, subst (IsClash (DoMeet (network_of_sketch s)) (place_spots links routers)) e c)
-        | inr (i, n, e) ↦ subst (λ (p : At). TableFault document links routers codes.DuplicatePrefix p) (sym e) (network_of_sketch s, plan, subst (IsClash (DoMeet (network_of_sketch s)) (place_spots links routers)) e c)
+        | inl (i, n, e) ↦
+            subst (λ (p : At). TableFault document links routers codes.DuplicatePrefix p) (sym e)
+            (network_of_sketch s, plan, subst (IsClash (DoMeet (network_of_sketch s)) (place_spots links routers)) e c)
+        | inr (i, n, e) ↦
+            subst (λ (p : At). TableFault document links routers codes.DuplicatePrefix p) (sym e)
+            (network_of_sketch s, plan, subst (IsClash (DoMeet (network_of_sketch s)) (place_spots links routers)) e c)
       ]
 
   -- of a network that is the plan too
@@ -547,7 +346,8 @@ module _ (laws : TextLaws) (document : Members) (links routers : List Data) (s :
       (λ k m x y less h g.
       let (a, at, same) = get_seen (touching s.interfaces) s.places k x h in
       let (b, there, also) = get_seen (touching s.interfaces) s.places m y g in
-      inr (subst (λ (t : Touching). Before (position t.place.at) (position y.place.at)) same (subst (λ (t : Touching). Before (position a.at) (position t.place.at)) also (place_ahead links routers k m a.at b.at less (place_at k a at) (place_at m b there)))))
+      inr (subst (λ (t : Touching). Before (position t.place.at) (position y.place.at)) same
+      (subst (λ (t : Touching). Before (position a.at) (position t.place.at)) also (place_ahead links routers k m a.at b.at less (place_at k a at) (place_at m b there)))))
       (λ place c.
       let (j, y, less, there, meets) = c.so in
       let (a, at, same) = get_seen (touching s.interfaces) s.places c.k c.x c.at in
@@ -559,7 +359,13 @@ module _ (laws : TextLaws) (document : Members) (links routers : List Data) (s :
       let (j, k, spot, less, meet) = duplicate_clear place f.0 in
       let (a, at, stands) = at_place k place spot in
       let (b, there) = get_some s.places j (omega (arith, less, slice_get_within s.places k a at)) in
-      record { k = k; x = touching s.interfaces a; at = see_got (touching s.interfaces) s.places k a at; so = (j, touching s.interfaces b, less, see_got (touching s.interfaces) s.places j b there, meet_takes s j k b a there at meet); stands = stands })
+      record {
+        k = k;
+        x = touching s.interfaces a;
+        at = see_got (touching s.interfaces) s.places k a at;
+        so = (j, touching s.interfaces b, less, see_got (touching s.interfaces) s.places j b there, meet_takes s j k b a there at meet);
+        stands = stands;
+      })
 
   -- interfaces
   twice_told : (place : At) → IsClash (AreTwice (network_of_sketch s)) (interface_spots routers) place → TableFault document links routers codes.TwiceOnLink place
@@ -577,9 +383,14 @@ module _ (laws : TextLaws) (document : Members) (links routers : List Data) (s :
 
   twice_find : Finds (IsTold document links routers) (code_rows 2 codes.TwiceOnLink).has (none_found codes.TwiceOnLink (twice_in s.interfaces))
   twice_find =
-      pass_finds (IsTold document links routers) 2 codes.TwiceOnLink (Clashes are_twice s.interfaces) (λ (i : DraftInterface). i.at) s.interfaces (first_clash are_twice [] s.interfaces) (first_clashing are_twice s.interfaces)
+      pass_finds (IsTold document links routers) 2 codes.TwiceOnLink (Clashes are_twice s.interfaces) (λ (i : DraftInterface). i.at) s.interfaces (first_clash are_twice [] s.interfaces)
+      (first_clashing are_twice s.interfaces)
       (λ k m x y less h g. inr (interfaces_ahead k m x y less h g))
-      (λ place c. let (j, y, less, there, meets) = c.so in (twice_told place (j, c.k, interface_at c.k c.x c.at ∙ ap (λ (p : At). Some p) c.stands, less, twice_gives s j c.k y c.x there c.at meets), refl))
+      (λ place c. let (j, y, less, there, meets) = c.so in (
+        twice_told place
+            (j, c.k, interface_at c.k c.x c.at ∙ ap (λ (p : At). Some p) c.stands, less, twice_gives s j c.k y c.x there c.at meets),
+        refl,
+      ))
       (λ place f.
       let (j, k, spot, less, meet) = twice_clear place f.0 in
       let (a, at, stands) = at_interface k place spot in
@@ -590,7 +401,8 @@ module _ (laws : TextLaws) (document : Members) (links routers : List Data) (s :
   abbrev IsAddressClash : Network → At → Type 0
   IsAddressClash n place = IsClash (HaveOneAddress n) (interface_spots routers) place ⊎ IsSo (HasOneTwice n) (interface_spots routers) place
 
-  address_told : (place : At) → (k : ℕ) → slice_get (interface_spots routers) k ≡ Some place → IsAddressClash (network_of_sketch s) place → TableFault document links routers codes.DuplicateAddress place
+  address_told : (place : At) → (k : ℕ) → slice_get (interface_spots routers) k ≡ Some place → IsAddressClash (network_of_sketch s) place
+      → TableFault document links routers codes.DuplicateAddress place
   address_told place k at c =
       let (i, n, e) = interface_spot routers k place at in
       subst (λ (p : At). TableFault document links routers codes.DuplicateAddress p) (sym e) (network_of_sketch s, plan, subst (IsAddressClash (network_of_sketch s)) e c)
@@ -616,7 +428,8 @@ module _ (laws : TextLaws) (document : Members) (links routers : List Data) (s :
   addresses_find =
       let items : List Held = held s.interfaces s.also in
       rw (taken_address s.interfaces s.also)
-      (pass_finds (IsTold document links routers) 3 codes.DuplicateAddress (Clashes have_one_address items) (address_spot s.interfaces) items (first_clash have_one_address [] items) (first_clashing have_one_address items)
+      (pass_finds (IsTold document links routers) 3 codes.DuplicateAddress (Clashes have_one_address items) (address_spot s.interfaces) items (first_clash have_one_address [] items)
+      (first_clashing have_one_address items)
       addresses_ahead
       (λ place c.
       let (j, y, less, there, meets) = c.so in
@@ -634,7 +447,8 @@ module _ (laws : TextLaws) (document : Members) (links routers : List Data) (s :
         | inr (i, spot, twice) ↦ taken_at place i spot (twice_taken s i twice)
       ]))
     where
-      taken_at : (place : At) (i : ℕ) → slice_get (interface_spots routers) i ≡ Some place → IsTaken s i → Stood (Clashes have_one_address (held s.interfaces s.also)) (address_spot s.interfaces) (held s.interfaces s.also) place
+      taken_at : (place : At) (i : ℕ) → slice_get (interface_spots routers) i ≡ Some place → IsTaken s i
+          → Stood (Clashes have_one_address (held s.interfaces s.also)) (address_spot s.interfaces) (held s.interfaces s.also) place
       taken_at place i spot (k, x, at, clashes, number) =
           let (d, listed, seen) = address_at k x at in
           let (e, its, stands) = at_interface i place spot in
@@ -642,8 +456,8 @@ module _ (laws : TextLaws) (document : Members) (links routers : List Data) (s :
           record { k = k; x = x; at = at; so = clashes; stands = seen ∙ ap (λ (y : DraftInterface). y.at) same ∙ stands }
 
   -- own prefixes
-  own_spot : (k i j p r c : ℕ) (kept : Bool) (link via : Option ℕ) → IsPlace (network_of_sketch s) k p (seats.Own r c kept link via) → slice_get (place_spots links routers) k ≡ Some (LinkPrefix i j) → ⊥
-  own_spot k i j p r c kept link via place spot =
+  own_spot : (k i j p : ℕ) (own : OwnPrefix) → IsPlace (network_of_sketch s) k p (seats.Own own) → slice_get (place_spots links routers) k ≡ Some (LinkPrefix i j) → ⊥
+  own_spot k i j p own place spot =
       let n = network_of_sketch s in
       let on_links = spots_under (codes_of "prefixes") LinkPrefix 1 links in
       let count : length on_links ≡ length plan.on_links =
@@ -654,7 +468,7 @@ module _ (laws : TextLaws) (document : Members) (links routers : List Data) (s :
       elim (get_split plan.on_links plan.owned k q at) [
         | inl here ↦
             let (x, is, on) = matched_left IsOnLink plan.on_links (items_under (codes_of "prefixes") 0 plan.links) k q plan.link_prefixes here.0 in
-            let seat : seats.Own r c kept link via ≡ seats.Link x.0 = of.seat ∙ on.seat in
+            let seat : seats.Own own ≡ seats.Link x.0 = of.seat ∙ on.seat in
             absurd cc
         | inr there ↦
             let past : k ≡ length plan.on_links + there.0 = there.1 in
@@ -671,7 +485,7 @@ module _ (laws : TextLaws) (document : Members) (links routers : List Data) (s :
   astray_told place c =
       let (k, at, (p, r, l, h, none)) = c in
       elim (place_spot links routers k place at) [
-        | inl (i, j, is) ↦ absurd (own_spot k i j p r h.cost h.kept (Some l) h.via h.place (at ∙ ap (λ (x : At). Some x) is))
+        | inl (i, j, is) ↦ absurd (own_spot k i j p h.own h.place (at ∙ ap (λ (x : At). Some x) is))
         | inr (i, j, is) ↦ subst (IsAstrayAt document links routers) (sym is) (network_of_sketch s, plan, subst (IsSo (IsAstray (network_of_sketch s)) (place_spots links routers)) is c)
       ]
 
@@ -703,7 +517,8 @@ module _ (laws : TextLaws) (document : Members) (links routers : List Data) (s :
       as_fault : (o : Found) → (o.pass ≡ 4) × (o.error.code ≡ codes.NoInterface) → IsTold document links routers o → TableFault document links routers codes.NoInterface o.error.place
       as_fault o same f = subst (λ (d : PlanCode). TableFault document links routers d o.error.place) same.1 f.0
 
-      by_search : (o : Option ℕ) → FoundBare s.interfaces 0 (length s.routers) o → Finds (IsTold document links routers) (code_rows 4 codes.NoInterface).has (none_found codes.NoInterface (option_map (λ r. Router (r + 1)) o))
+      by_search : (o : Option ℕ) → FoundBare s.interfaces 0 (length s.routers) o
+          → Finds (IsTold document links routers) (code_rows 4 codes.NoInterface).has (none_found codes.NoInterface (option_map (λ r. Router (r + 1)) o))
       by_search None found = λ o same f.
           let (r, at, (k, number, less, none)) = bare_clear o.error.place (as_fault o same f) in
           bare_takes s k (found k (omega arith) (omega arith)) none
@@ -714,7 +529,8 @@ module _ (laws : TextLaws) (document : Members) (links routers : List Data) (s :
         λ o same f before.
             let (r, at, (m, number, less, none)) = bare_clear o.error.place (as_fault o same f) in
             let is : o ≡ in_pass 4 codes.NoInterface (Router r) = rw (← at, ← same.1, ← same.0) refl in
-            let mine : Before (ranked (in_pass 4 codes.NoInterface (Router r))) (ranked (in_pass 4 codes.NoInterface (Router (k + 1)))) = subst (λ (e : Found). Before (ranked e) (ranked (in_pass 4 codes.NoInterface (Router (k + 1))))) is before in
+            let mine : Before (ranked (in_pass 4 codes.NoInterface (Router r))) (ranked (in_pass 4 codes.NoInterface (Router (k + 1)))) =
+            subst (λ (e : Found). Before (ranked e) (ranked (in_pass 4 codes.NoInterface (Router (k + 1))))) is before in
             elim (cases_lt m k) [
               | inl sooner ↦ bare_takes s m (found.3 m (omega arith) sooner) none
               | inr ge ↦ not_sooner r (k + 1) (omega arith) mine
@@ -731,15 +547,18 @@ module _ (laws : TextLaws) (document : Members) (links routers : List Data) (s :
           not_sooner i j le (inr (e, inr (e1, inr (e2, inr (e3, inr (e4, inr (e5, b))))))) = b
 
   -- one pass, in the words of all passes
-  of_pass : {A : Type 0} (n : ℕ) (c : PlanCode) (r : Result A PlanError) → n < 5 → Finds (IsTold document links routers) (code_rows n c).has r → Finds (IsOfTables document links routers) (code_rows n c).has r
+  of_pass : {A : Type 0} (n : ℕ) (c : PlanCode) (r : Result A PlanError) → n < 5 → Finds (IsTold document links routers) (code_rows n c).has r
+      → Finds (IsOfTables document links routers) (code_rows n c).has r
   of_pass n c r less h = told_finds document links routers (code_rows n c).has r (λ o row. let same : o.pass ≡ n = row.0 in omega arith) h
 
   last_finds : Finds (IsOfTables document links routers) (code_rows 5 codes.UnknownLink).has (none_found codes.UnknownLink (astray_in s.interfaces s.places))
   last_finds =
-      finds_in (IsLast document links routers) (IsOfTables document links routers) (code_rows 5 codes.UnknownLink).has (code_rows 5 codes.UnknownLink).has (none_found codes.UnknownLink (astray_in s.interfaces s.places))
+      finds_in (IsLast document links routers) (IsOfTables document links routers) (code_rows 5 codes.UnknownLink).has (code_rows 5 codes.UnknownLink).has
+      (none_found codes.UnknownLink (astray_in s.interfaces s.places))
       (λ e f. inr f) (λ e row. row) take astrays_find
     where
-      take : (o : Found) → (o.pass ≡ 5) × (o.error.code ≡ codes.UnknownLink) → IsOfTables document links routers o → IsLast document links routers o × ((o.pass ≡ 5) × (o.error.code ≡ codes.UnknownLink))
+      take : (o : Found) → (o.pass ≡ 5) × (o.error.code ≡ codes.UnknownLink) → IsOfTables document links routers o
+          → IsLast document links routers o × ((o.pass ≡ 5) × (o.error.code ≡ codes.UnknownLink))
       take o row (inl f) = let late : o.pass ≡ 5 = row.0 in let early : o.pass ≡ 0 = f.1 ∙ ap pass_of row.1 in absurd (omega arith)
       take o row (inr f) = (f, row)
 
@@ -747,8 +566,12 @@ module _ (laws : TextLaws) (document : Members) (links routers : List Data) (s :
   unfolding second_passes
   passes_find =
       let F = IsOfTables document links routers in
-      bind_rows F (code_rows 1 codes.DuplicatePrefix).has last_four (none_found codes.DuplicatePrefix (duplicate_in s.interfaces s.places)) _ (λ e h. code_high 1 codes.DuplicatePrefix e 2 h (omega arith)) (of_pass 1 codes.DuplicatePrefix _ (omega arith) duplicates_find) (λ a is_a.
-      bind_rows F (code_rows 2 codes.TwiceOnLink).has last_three (none_found codes.TwiceOnLink (twice_in s.interfaces)) _ (λ e h. code_high 2 codes.TwiceOnLink e 3 h (omega arith)) (of_pass 2 codes.TwiceOnLink _ (omega arith) twice_find) (λ b is_b.
-      bind_rows F (code_rows 3 codes.DuplicateAddress).has last_two (none_found codes.DuplicateAddress (taken_address_in s.interfaces s.also)) _ (λ e h. code_high 3 codes.DuplicateAddress e 4 h (omega arith)) (of_pass 3 codes.DuplicateAddress _ (omega arith) addresses_find) (λ c is_c.
-      bind_rows F (code_rows 4 codes.NoInterface).has (code_rows 5 codes.UnknownLink) (none_found codes.NoInterface (bare_in s.interfaces (length s.routers))) _ (λ e h. code_high 4 codes.NoInterface e 5 h (omega arith)) (of_pass 4 codes.NoInterface _ (omega arith) bare_finds) (λ d is_d.
+      bind_rows F (code_rows 1 codes.DuplicatePrefix).has last_four (none_found codes.DuplicatePrefix (duplicate_in s.interfaces s.places)) _
+      (λ e h. code_high 1 codes.DuplicatePrefix e 2 h (omega arith)) (of_pass 1 codes.DuplicatePrefix _ (omega arith) duplicates_find) (λ a is_a.
+      bind_rows F (code_rows 2 codes.TwiceOnLink).has last_three (none_found codes.TwiceOnLink (twice_in s.interfaces)) _ (λ e h. code_high 2 codes.TwiceOnLink e 3 h (omega arith))
+      (of_pass 2 codes.TwiceOnLink _ (omega arith) twice_find) (λ b is_b.
+      bind_rows F (code_rows 3 codes.DuplicateAddress).has last_two (none_found codes.DuplicateAddress (taken_address_in s.interfaces s.also)) _
+      (λ e h. code_high 3 codes.DuplicateAddress e 4 h (omega arith)) (of_pass 3 codes.DuplicateAddress _ (omega arith) addresses_find) (λ c is_c.
+      bind_rows F (code_rows 4 codes.NoInterface).has (code_rows 5 codes.UnknownLink) (none_found codes.NoInterface (bare_in s.interfaces (length s.routers))) _
+      (λ e h. code_high 4 codes.NoInterface e 5 h (omega arith)) (of_pass 4 codes.NoInterface _ (omega arith) bare_finds) (λ d is_d.
       last_finds))))

@@ -1,17 +1,18 @@
 -- What a lawful plan answers from its look-ups.
-use Rattle.std.proofs.Common.{◌≡◌, ◌<◌, ◌≤◌, ◌↔◌, ◌⊎◌, inl, inr, arith, ℕ, Bool, true, false, ◌||◌, subst, Option, Some, None, List, [], ◌∷◌, length, refl, sym, ◌∙◌, ap}
+use Rattle.std.proofs.Common.{◌≡◌, ◌<◌, ◌≤◌, ◌↔◌, ◌⊎◌, inl, inr, arith, ℕ, Bool, true, false, ◌||◌, Option, Some, None, List, [], ◌∷◌, length, refl, sym, ◌∙◌, ap}
 use Rattle.std.specs.Prelude.{option_and_then, unwrap_or, Decides, IfSome}
 use Rattle.std.specs.List.{list_any}
 use Rattle.std.specs.Option.{is_some, option_map_or}
 use Rattle.std.proofs.lemmas.Option.{slice_get_within}
 use Rattle.rip_wire.specs.Prefix.{Block}
+use Rattle.rip_plan.specs.declared.parts.OwnPrefix.{OwnPrefix}
 use Rattle.rip_plan.specs.declared.parts.Place.{Place}
 use Rattle.rip_plan.specs.declared.parts.Seat.{Seat}
 use Rattle.rip_plan.specs.declared.parts.Seat.TheVariants as seats
 use Rattle.rip_plan.specs.Seats.{gateway_of, is_kept, link_of}
 use Rattle.rip_plan.specs.Network.{Network, is_owned, own_seat, direct_at, first_carrying, found_at, number_of_prefix}
-use Rattle.rip_plan.specs.Relations.{IsAt, IsAttached, IsGateway, IsKept, IsPlace, IsPrefix, IsDirect, Touches, Carries, IsLawful}
-use Rattle.rip_plan.proofs.LookupLemmas.{interface_of, prefix_of_number, number_of_planned, HasOwnSeat, own_gives, own_finds, direct_gives, direct_finds, carrier_gives, carrier_finds, found_gives, found_finds}
+use Rattle.rip_plan.specs.Relations.{IsAt, IsAttached, IsGateway, IsKept, IsOwnWith, IsPrefix, IsDirect, Touches, Carries, IsLawful}
+use Rattle.rip_plan.proofs.LookupLemmas.{interface_of, prefix_of_number, number_of_planned, HasOwnSeat, own_says, own_gives, own_finds, direct_gives, direct_finds, carrier_gives, carrier_finds, found_gives, found_finds}
 
 pub found_exact : (n : Network) → IsLawful n → (name : List ℕ) (a : ℕ) (o : Option ℕ) → o ≡ found_at n name a → (i : ℕ) → (o ≡ Some i) ↔ IsAt n name a i
 found_exact n laws name a o e i = (λ h. found_gives n name a i (sym e ∙ h), λ h. e ∙ found_finds n laws name a i h)
@@ -62,7 +63,8 @@ pub none_kept : (r k : ℕ) (places : List Place) → list_any (λ (q : Place). 
 none_kept r k [] h = refl
 none_kept r k (q ∷ qs) h = by_tests (is_owned r k q) refl (is_kept q.seat) refl (none_kept r k qs)
   where
-    by_tests : (b : Bool) → is_owned r k q ≡ b → (m : Bool) → is_kept q.seat ≡ m → (list_any (λ (p : Place). is_kept p.seat) qs ≡ false → option_map_or is_kept (own_seat r k qs) false ≡ false) → option_map_or is_kept (own_seat r k (q ∷ qs)) false ≡ false
+    by_tests : (b : Bool) → is_owned r k q ≡ b → (m : Bool) → is_kept q.seat ≡ m → (list_any (λ (p : Place). is_kept p.seat) qs ≡ false → option_map_or is_kept (own_seat r k qs) false ≡ false)
+        → option_map_or is_kept (own_seat r k (q ∷ qs)) false ≡ false
     by_tests b e true f later = let clash : true ≡ false = rw f at h in absurd cc
     by_tests true e false f later = rw e f
     by_tests false e false f later = rw e (later (rw f at h))
@@ -70,12 +72,15 @@ none_kept r k (q ∷ qs) h = by_tests (is_owned r k q) refl (is_kept q.seat) ref
 pub none_attached : (r k : ℕ) (places : List Place) → list_any (λ (q : Place). is_kept q.seat) places ≡ false → option_and_then link_of (own_seat r k places) ≡ None
 none_attached r k places h = by_seat (own_seat r k places) (none_kept r k places h)
   where
+    no_link : (kept : Bool) (link : Option ℕ) → (kept || is_some link) ≡ false → link ≡ None
+    no_link true link e = absurd cc
+    no_link false (Some l) e = absurd cc
+    no_link false None e = refl
+
     by_seat : (o : Option Seat) → option_map_or is_kept o false ≡ false → option_and_then link_of o ≡ None
     by_seat None e = refl
     by_seat (Some (seats.Link l)) e = refl
-    by_seat (Some (seats.Own o c true link via)) e = absurd cc
-    by_seat (Some (seats.Own o c false (Some l) via)) e = absurd cc
-    by_seat (Some (seats.Own o c false None via)) e = refl
+    by_seat (Some (seats.Own own)) e = no_link own.kept own.link e
 
 pub own_past : (n : Network) → IsLawful n → (r k : ℕ) → (length n.routers ≤ r) ⊎ (length n.prefixes ≤ k) → own_seat r k n.places ≡ None
 own_past n laws r k past = by_option (own_seat r k n.places) refl
@@ -83,59 +88,55 @@ own_past n laws r k past = by_option (own_seat r k n.places) refl
     by_option : (o : Option Seat) → own_seat r k n.places ≡ o → own_seat r k n.places ≡ None
     by_option None e = e
     by_option (Some seat) e =
-        let has = own_gives n r k seat e in
+        let (j, has) = own_gives n r k seat e in
         elim past [
-          | inl router ↦ absurd (omega (arith, laws.owner_known has.place k r has.cost (record { kept = has.kept; link = has.link; via = has.via; place = has.listed })))
-          | inr prefix ↦ absurd (omega (arith, laws.prefix_known has.place k _ has.listed))
+          | inl router ↦ absurd (omega (arith, laws.owner_known j k r has.own.cost (own_says has refl)))
+          | inr prefix ↦ absurd (omega (arith, laws.prefix_known j k _ has.place))
         ]
 
 pub kept_exact : (n : Network) → IsLawful n → (r k : ℕ) (o : Option Seat) (b : Bool) → o ≡ own_seat r k n.places → b ≡ option_map_or is_kept o false → Decides b (IsKept n r k)
 kept_exact n laws r k o b e f = (λ h. by_option o refl (sym f ∙ h), from)
   where
-    some : (link : Option ℕ) → is_some link ≡ true → (l : ℕ) × (link ≡ Some l)
-    some None h = absurd cc
-    some (Some l) h = (l, refl)
-
-    of_own : (has : (seat : Seat) × HasOwnSeat n r k seat) → is_kept has.0 ≡ true → IsKept n r k
-    of_own (seat, has) h = by_flag has.kept refl (ap is_kept (sym has.is) ∙ h)
+    of_own : (seat : Seat) → HasOwnSeat n r k seat → is_kept seat ≡ true → IsKept n r k
+    of_own seat (j, has) h = by_parts has.own.kept refl has.own.link refl (ap is_kept (sym has.says) ∙ h)
       where
-        by_flag : (kept : Bool) → has.kept ≡ kept → (kept || is_some has.link) ≡ true → IsKept n r k
-        by_flag true g t = inl (has.place, record { cost = has.cost; link = has.link; via = has.via; place = subst (λ (m : Bool). IsPlace n has.place k (seats.Own r has.cost m has.link has.via)) g has.listed })
-        by_flag false g t =
-            let (l, is) = some has.link t in
-            inr (l, (has.place, record { cost = has.cost; kept = has.kept; via = has.via; place = subst (λ (m : Option ℕ). IsPlace n has.place k (seats.Own r has.cost has.kept m has.via)) is has.listed }))
+        by_parts : (kept : Bool) → has.own.kept ≡ kept → (link : Option ℕ) → has.own.link ≡ link → (kept || is_some link) ≡ true → IsKept n r k
+        by_parts true is link at t = inl (j, own_says has is)
+        by_parts false is (Some l) at t = inr (l, (j, own_says has at))
+        by_parts false is None at t = absurd cc
 
     by_option : (p : Option Seat) → o ≡ p → option_map_or is_kept p false ≡ true → IsKept n r k
     by_option None g h = absurd cc
-    by_option (Some seat) g h = of_own (seat, own_gives n r k seat (sym e ∙ g)) h
+    by_option (Some seat) g h = of_own seat (own_gives n r k seat (sym e ∙ g)) h
+
+    seen : (j : ℕ) {Says : OwnPrefix → Type 0} → (h : IsOwnWith n j k r Says) → b ≡ is_kept (seats.Own h.own)
+    seen j h = f ∙ ap (λ (p : Option Seat). option_map_or is_kept p false) (e ∙ own_finds n laws j k r h)
 
     from : IsKept n r k → b ≡ true
-    from (inl (j, its)) = f ∙ ap (λ (p : Option Seat). option_map_or is_kept p false) (e ∙ own_finds n laws j k r its.cost true its.link its.via its.place)
-    from (inr (l, (j, its))) = f ∙ ap (λ (p : Option Seat). option_map_or is_kept p false) (e ∙ own_finds n laws j k r its.cost its.kept (Some l) its.via its.place) ∙ or_true its.kept
+    from (inl (j, its)) = seen j its ∙ ap (λ (m : Bool). m || is_some its.own.link) its.says
+    from (inr (l, (j, its))) = seen j its ∙ ap (λ (m : Option ℕ). its.own.kept || is_some m) its.says ∙ or_true its.own.kept
       where
         or_true : (m : Bool) → (m || true) ≡ true
         or_true true = refl
         or_true false = refl
 
 pub attached_exact : (n : Network) → IsLawful n → (r k : ℕ) (o : Option ℕ) → o ≡ option_and_then link_of (own_seat r k n.places) → (l : ℕ) → (o ≡ Some l) ↔ IsAttached n r k l
-attached_exact n laws r k o e l = (λ h. by_option (own_seat r k n.places) refl (sym e ∙ h), λ h. e ∙ ap (option_and_then link_of) (own_finds n laws h.0 k r h.1.cost h.1.kept (Some l) h.1.via h.1.place))
+attached_exact n laws r k o e l = (λ h. by_option (own_seat r k n.places) refl (sym e ∙ h), λ h. e ∙ ap (option_and_then link_of) (own_finds n laws h.0 k r h.1) ∙ h.1.says)
   where
     by_option : (p : Option Seat) → own_seat r k n.places ≡ p → option_and_then link_of p ≡ Some l → IsAttached n r k l
     by_option None g h = absurd cc
     by_option (Some seat) g h =
-        let has = own_gives n r k seat g in
-        let is : has.link ≡ Some l = ap link_of (sym has.is) ∙ h in
-        (has.place, record { cost = has.cost; kept = has.kept; via = has.via; place = subst (λ (m : Option ℕ). IsPlace n has.place k (seats.Own r has.cost has.kept m has.via)) is has.listed })
+        let (j, has) = own_gives n r k seat g in
+        (j, own_says has (ap link_of (sym has.says) ∙ h))
 
 gateway_exact : (n : Network) → IsLawful n → (r k : ℕ) (o : Option ℕ) → o ≡ option_and_then gateway_of (own_seat r k n.places) → (a : ℕ) → (o ≡ Some a) ↔ IsGateway n r k a
-gateway_exact n laws r k o e a = (λ h. by_option (own_seat r k n.places) refl (sym e ∙ h), λ h. e ∙ ap (option_and_then gateway_of) (own_finds n laws h.0 k r h.1.cost h.1.kept h.1.link (Some a) h.1.place))
+gateway_exact n laws r k o e a = (λ h. by_option (own_seat r k n.places) refl (sym e ∙ h), λ h. e ∙ ap (option_and_then gateway_of) (own_finds n laws h.0 k r h.1) ∙ h.1.says)
   where
     by_option : (p : Option Seat) → own_seat r k n.places ≡ p → option_and_then gateway_of p ≡ Some a → IsGateway n r k a
     by_option None g h = absurd cc
     by_option (Some seat) g h =
-        let has = own_gives n r k seat g in
-        let is : has.via ≡ Some a = ap gateway_of (sym has.is) ∙ h in
-        (has.place, record { cost = has.cost; kept = has.kept; link = has.link; place = subst (λ (m : Option ℕ). IsPlace n has.place k (seats.Own r has.cost has.kept has.link m)) is has.listed })
+        let (j, has) = own_gives n r k seat g in
+        (j, own_says has (ap gateway_of (sym has.says) ∙ h))
 
 -- ---- carriers
 

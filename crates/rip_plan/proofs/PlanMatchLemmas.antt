@@ -11,11 +11,12 @@ use Rattle.rip_plan.specs.declared.parts.Interface.{Interface}
 use Rattle.rip_plan.specs.declared.parts.Seat.TheVariants as seats
 use Rattle.rip_plan.specs.declared.error.At.TheVariants.{LinkPrefix, RouterInterface, RouterOwn}
 use Rattle.rip_plan.specs.Fault.{steps}
-use Rattle.rip_plan.specs.Fields.{◌&>◌, flag_if, items_at, root_keys, has_only, some_items, root_fields}
+use Rattle.rip_plan.specs.Keys.{root_keys}
+use Rattle.rip_plan.specs.Fields.{◌&>◌, flag_if, items_at, has_only, some_items, root_fields}
 use Rattle.rip_plan.specs.Draft.{Sketch, prefix_step, link_step, interface_step, own_step, router_step}
 use Rattle.rip_plan.specs.PlanText.{empty, sketch_of}
 use Rattle.rip_plan.specs.Network.{Network, network_in, network_of_sketch}
-use Rattle.rip_plan.specs.PlanOf.{Matched, HasItems, IsAddressOf, AreAlsoOf, IsNameOf, items_under, IsInterfaceOf, Placement, IsOnLink, IsOwned, IsPlaceOf, IsPoisonOf, each_once, PlanOf, IsPlanOfText}
+use Rattle.rip_plan.specs.PlanOf.{Matched, HasItems, IsAddressOf, AreAlsoOf, IsNameOf, items_under, IsInterfaceOf, IsKeptOf, Placement, IsOnLink, IsOwned, IsPlaceOf, IsPoisonOf, each_once, PlanOf, IsPlanOfText}
 use Rattle.rip_plan.proofs.BindLemmas.{bind_ok, ok_same}
 use Rattle.rip_plan.proofs.TakenStepLemmas.{with_link, with_router, prefix_taken, link_taken, interface_taken, own_taken, router_taken, text_taken}
 use Rattle.rip_plan.proofs.NumberingLemmas.{numbers}
@@ -53,7 +54,8 @@ prefixes_added laws l j (x ∷ xs) s t h =
     let new : DraftPlace = record { prefix = taken.prefix; seat = seats.Link (l + 1 - 1); at = LinkPrefix (l + 1) j } in
     record {
       added = new ∷ rest.added;
-      made = rest.made ∙ ap (λ (v : Sketch). record v { places = v.places ++ rest.added }) taken.added.made ∙ ap (λ (ps : List DraftPlace). record s { places = ps }) (append_assoc s.places (new ∷ []) rest.added);
+      made = rest.made ∙ ap (λ (v : Sketch). record v { places = v.places ++ rest.added }) taken.added.made
+          ∙ ap (λ (ps : List DraftPlace). record s { places = ps }) (append_assoc s.places (new ∷ []) rest.added);
       match = (record { text = taken.text; is_text = text_is x taken.text taken.is_text; prefix = prefix_is laws taken.text taken.prefix taken.parsed; seat = ap seats.Link (back l) }, rest.match);
     }
 
@@ -70,7 +72,8 @@ pub links_added : (laws : TextLaws) (k : ℕ) (xs : List Data) (s t : Sketch) �
 links_added laws k [] s t h = record {
   names = [];
   added = [];
-  made = sym (ok_same s t h) ∙ ap (λ (ls : List (List ℕ)). record s { links = ls }) (sym (append-nil s.links)) ∙ ap (λ (ps : List DraftPlace). record s { links = s.links ++ []; places = ps }) (sym (append-nil s.places));
+  made = sym (ok_same s t h) ∙ ap (λ (ls : List (List ℕ)). record s { links = ls }) (sym (append-nil s.links))
+      ∙ ap (λ (ps : List DraftPlace). record s { links = s.links ++ []; places = ps }) (sym (append-nil s.places));
   named = tt;
   placed = tt;
 }
@@ -116,7 +119,11 @@ interfaces_added laws r j (x ∷ xs) s t h =
     let taken = interface_taken (r + 1) j x s u first in
     let fields = interface_table x taken.given taken.cost taken.direct taken.fields taken.costs taken.directs in
     let rest = interfaces_added laws r (j + 1) xs u t others in
-    let new : DraftInterface = record { interface = record { router = r + 1 - 1; link = taken.link; address = taken.address; cost = taken.cost; direct = taken.direct; poison = unwrap_or taken.given.poison s.poison }; at = RouterInterface (r + 1) j } in
+    let new : DraftInterface =
+    record {
+      interface = record { router = r + 1 - 1; link = taken.link; address = taken.address; cost = taken.cost; direct = taken.direct; poison = unwrap_or taken.given.poison s.poison };
+      at = RouterInterface (r + 1) j;
+    } in
     record {
       added = new ∷ rest.added;
       further = taken.also ∷ rest.further;
@@ -125,7 +132,18 @@ interfaces_added laws r j (x ∷ xs) s t h =
           ∙ ap (λ (is : List DraftInterface). record s { interfaces = is; also = (s.also ++ taken.also ∷ []) ++ rest.further }) (append_assoc s.interfaces (new ∷ []) rest.added)
           ∙ ap (λ (l : List (List ℕ)). record s { interfaces = s.interfaces ++ new ∷ rest.added; also = l }) (append_assoc s.also (taken.also ∷ []) rest.further);
       match = (
-        record { router = back r; link_name = taken.given.link; has_link = fields.has.has_link; link = first_named taken.given.link s.links taken.link taken.known; text = taken.given.address; has_address = fields.has.has_address; address = address_is laws taken.given.address taken.address taken.parsed; cost = fields.cost; direct = fields.direct; poisons = fields.poisons s.poison },
+        record {
+          router = back r;
+          link_name = taken.given.link;
+          has_link = fields.has.has_link;
+          link = first_named taken.given.link s.links taken.link taken.known;
+          text = taken.given.address;
+          has_address = fields.has.has_address;
+          address = address_is laws taken.given.address taken.address taken.parsed;
+          cost = fields.cost;
+          direct = fields.direct;
+          poisons = fields.poisons s.poison;
+        },
         subst (λ (v : Sketch). Matched (IsInterfaceOf v.links v.poison) (map its_interface rest.added) (map (with_number r) xs)) taken.made rest.match,
       );
       also_match = (subst (Matched IsAddressOf taken.also) (sym fields.has.also_are) (addresses_are laws taken.given.also taken.also taken.others), rest.also_match);
@@ -141,26 +159,25 @@ owns_added laws r j [] s t h = record { added = []; made = sym (ok_same s t h) �
 owns_added laws r j (x ∷ xs) s t h =
     let (u, first, others) = bind_ok (own_step (r + 1) j x s) (steps (own_step (r + 1)) (j + 1) xs) t h in
     let taken = own_taken (r + 1) j x s u first in
-    let fields = own_table laws x s.links taken.given taken.cost taken.link taken.via taken.fields taken.costs taken.known taken.gateway in
+    let fields = own_table laws x s.links taken.given taken.own taken.fields taken.costs taken.known taken.gateway in
     let rest = owns_added laws r (j + 1) xs u t others in
-    let new : DraftPlace = record { prefix = taken.prefix; seat = seats.Own (r + 1 - 1) taken.cost taken.given.kept taken.link taken.via; at = RouterOwn (r + 1) j } in
+    let new : DraftPlace = record { prefix = taken.prefix; seat = seats.Own taken.own; at = RouterOwn (r + 1) j } in
     record {
       added = new ∷ rest.added;
-      made = rest.made ∙ ap (λ (v : Sketch). record v { places = v.places ++ rest.added }) taken.added.made ∙ ap (λ (ps : List DraftPlace). record s { places = ps }) (append_assoc s.places (new ∷ []) rest.added);
+      made = rest.made ∙ ap (λ (v : Sketch). record v { places = v.places ++ rest.added }) taken.added.made
+          ∙ ap (λ (ps : List DraftPlace). record s { places = ps }) (append_assoc s.places (new ∷ []) rest.added);
       match = (
         record {
           text = taken.given.prefix;
           has_prefix = fields.has.has_prefix;
           prefix = prefix_is laws taken.given.prefix taken.prefix taken.parsed;
-          cost = taken.cost;
-          is_cost = fields.cost;
-          kept = taken.given.kept;
-          is_kept = fields.has.kept;
-          link = taken.link;
-          is_link = fields.link;
-          via = taken.via;
-          is_via = fields.via;
-          seat = ap (λ (n : ℕ). seats.Own n taken.cost taken.given.kept taken.link taken.via) (back r);
+          own = taken.own;
+          seat = refl;
+          router = taken.router ∙ back r;
+          cost = fields.cost;
+          kept = subst (IsKeptOf x) (sym taken.kept) fields.has.kept;
+          link = fields.link;
+          via = fields.via;
         },
         subst (λ (names : List (List ℕ)). Matched (IsOwned names) (map placement rest.added) (map (with_number r) xs)) (ap (λ (v : Sketch). v.links) taken.added.made) rest.match,
       );
@@ -185,11 +202,7 @@ routers_added laws k [] s t h = record {
   interfaces = [];
   also = [];
   owned = [];
-  made = sym (ok_same s t h)
-      ∙ ap (λ (rs : List (List ℕ)). record s { routers = rs }) (sym (append-nil s.routers))
-      ∙ ap (λ (is : List DraftInterface). record s { routers = s.routers ++ []; interfaces = is }) (sym (append-nil s.interfaces))
-      ∙ ap (λ (l : List (List ℕ)). record s { routers = s.routers ++ []; interfaces = s.interfaces ++ []; also = l }) (sym (append-nil s.also))
-      ∙ ap (λ (ps : List DraftPlace). record s { routers = s.routers ++ []; interfaces = s.interfaces ++ []; also = s.also ++ []; places = ps }) (sym (append-nil s.places));
+  made = rw (append-nil s.routers, append-nil s.interfaces, append-nil s.also, append-nil s.places) (sym (ok_same s t h));
   named = tt;
   on_links = tt;
   further = tt;
@@ -210,17 +223,25 @@ routers_added laws k (x ∷ xs) s t h =
       interfaces = inner.added ++ rest.interfaces;
       also = inner.further ++ rest.also;
       owned = own.added ++ rest.owned;
-      made = rest.made
-          ∙ ap (λ (v : Sketch). record v { routers = v.routers ++ rest.names; interfaces = v.interfaces ++ rest.interfaces; also = v.also ++ rest.also; places = v.places ++ rest.owned }) here
-          ∙ ap (λ (rs : List (List ℕ)). record s { routers = rs; interfaces = (s.interfaces ++ inner.added) ++ rest.interfaces; also = (s.also ++ inner.further) ++ rest.also; places = (s.places ++ own.added) ++ rest.owned }) (append_assoc s.routers (taken.name ∷ []) rest.names)
-          ∙ ap (λ (is : List DraftInterface). record s { routers = s.routers ++ taken.name ∷ rest.names; interfaces = is; also = (s.also ++ inner.further) ++ rest.also; places = (s.places ++ own.added) ++ rest.owned }) (append_assoc s.interfaces inner.added rest.interfaces)
-          ∙ ap (λ (l : List (List ℕ)). record s { routers = s.routers ++ taken.name ∷ rest.names; interfaces = s.interfaces ++ (inner.added ++ rest.interfaces); also = l; places = (s.places ++ own.added) ++ rest.owned }) (append_assoc s.also inner.further rest.also)
-          ∙ ap (λ (ps : List DraftPlace). record s { routers = s.routers ++ taken.name ∷ rest.names; interfaces = s.interfaces ++ (inner.added ++ rest.interfaces); also = s.also ++ (inner.further ++ rest.also); places = ps }) (append_assoc s.places own.added rest.owned);
+      made = rw (
+        ← append_assoc s.routers (taken.name ∷ []) rest.names,
+        ← append_assoc s.interfaces inner.added rest.interfaces,
+        ← append_assoc s.also inner.further rest.also,
+        ← append_assoc s.places own.added rest.owned,
+      )
+          (rest.made ∙ ap (λ (v : Sketch). record v {
+            routers = v.routers ++ rest.names;
+            interfaces = v.interfaces ++ rest.interfaces;
+            also = v.also ++ rest.also;
+            places = v.places ++ rest.owned;
+          }) here);
       named = (fields.named, rest.named);
       on_links = rw (map_append its_interface inner.added rest.interfaces, fields.interfaces_are)
-          (matched_append (IsInterfaceOf s.links s.poison) (map its_interface inner.added) (map its_interface rest.interfaces) (map (with_number k) taken.interfaces) (items_under (codes_of "interface") (k + 1) xs) inner.match
+          (matched_append (IsInterfaceOf s.links s.poison) (map its_interface inner.added) (map its_interface rest.interfaces) (map (with_number k) taken.interfaces)
+          (items_under (codes_of "interface") (k + 1) xs) inner.match
           (subst (λ (v : Sketch). Matched (IsInterfaceOf v.links v.poison) (map its_interface rest.interfaces) (items_under (codes_of "interface") (k + 1) xs)) here rest.on_links));
-      further = rw fields.interfaces_are (matched_append AreAlsoOf inner.further rest.also (map (with_number k) taken.interfaces) (items_under (codes_of "interface") (k + 1) xs) inner.also_match rest.further);
+      further = rw fields.interfaces_are (matched_append AreAlsoOf inner.further rest.also (map (with_number k) taken.interfaces)
+          (items_under (codes_of "interface") (k + 1) xs) inner.also_match rest.further);
       own = rw (map_append placement own.added rest.owned, fields.owns_are)
           (matched_append (IsOwned s.links) (map placement own.added) (map placement rest.owned) (map (with_number k) taken.owns) (items_under (codes_of "own") (k + 1) xs)
           (subst (λ (names : List (List ℕ)). Matched (IsOwned names) (map placement own.added) (map (with_number k) taken.owns)) between own.match)
@@ -251,7 +272,8 @@ root_table doc links routers poison h =
     let (d, given', some') = then_some (items_at (codes_of "router") doc) some_items b second in
     record {
       has_links = items_there (get_member (codes_of "link") doc) links (given ∙ ap (λ (xs : List Data). Some xs) (some_items_same c a some ∙ ap (λ (f : List Data × List Data × Bool). f.0) same));
-      has_routers = items_there (get_member (codes_of "router") doc) routers (given' ∙ ap (λ (xs : List Data). Some xs) (some_items_same d b some' ∙ ap (λ (f : List Data × List Data × Bool). f.1) same));
+      has_routers = items_there (get_member (codes_of "router") doc) routers
+          (given' ∙ ap (λ (xs : List Data). Some xs) (some_items_same d b some' ∙ ap (λ (f : List Data × List Data × Bool). f.1) same));
       has_poison = subst (IsPoisonOf true (table doc)) (ap (λ (f : List Data × List Data × Bool). f.2) same)
           (flag_meant (get_member (codes_of "poison") doc) p true (flag_if_is (get_member (codes_of "poison") doc) p third));
     }
@@ -282,7 +304,12 @@ document_matches laws doc s taken =
     let links = links_added laws 0 taken.links (empty taken.poison) taken.between taken.first in
     let routers = routers_added laws 0 taken.routers taken.between s taken.second in
     let made : s ≡ record { links = links.names; routers = routers.names; poison = taken.poison; interfaces = routers.interfaces; also = routers.also; places = links.added ++ routers.owned } =
-    routers.made ∙ ap (λ (v : Sketch). record v { routers = v.routers ++ routers.names; interfaces = v.interfaces ++ routers.interfaces; also = v.also ++ routers.also; places = v.places ++ routers.owned }) links.made in
+    routers.made ∙ ap (λ (v : Sketch). record v {
+      routers = v.routers ++ routers.names;
+      interfaces = v.interfaces ++ routers.interfaces;
+      also = v.also ++ routers.also;
+      places = v.places ++ routers.owned;
+    }) links.made in
     let names : s.links ≡ taken.between.links = ap (λ (v : Sketch). v.links) routers.made in
     let split : map placement s.places ≡ map placement links.added ++ map placement routers.owned = ap (λ (v : Sketch). map placement v.places) made ∙ map_append placement links.added routers.owned in
     record {
@@ -308,7 +335,8 @@ document_matches laws doc s taken =
     blocks_seen [] = refl
     blocks_seen (d ∷ ds) = ap (λ (l : List Block). d.prefix ∷ l) (blocks_seen ds)
 
-    interfaces_match : (m : Members) (v : Sketch) (was : TablesTaken m v) → Matched (IsInterfaceOf v.links was.poison) (map its_interface v.interfaces) (items_under (codes_of "interface") 0 was.routers)
+    interfaces_match : (m : Members) (v : Sketch) (was : TablesTaken m v)
+        → Matched (IsInterfaceOf v.links was.poison) (map its_interface v.interfaces) (items_under (codes_of "interface") 0 was.routers)
     interfaces_match m v was =
         let links = links_added laws 0 was.links (empty was.poison) was.between was.first in
         let routers = routers_added laws 0 was.routers was.between v was.second in
@@ -323,7 +351,20 @@ document_matches laws doc s taken =
 matches : (laws : TextLaws) (bytes : List ℕ) (s : Sketch) → sketch_of bytes ≡ Ok s → IsPlanOfText bytes (network_of_sketch s)
 matches laws bytes s h =
     let taken = text_taken bytes s h in
-    record { document = taken.document; reads = taken.read; plan = document_matches laws taken.document s (record { links = taken.taken.links; routers = taken.taken.routers; poison = taken.taken.poison; root = taken.taken.root; between = taken.taken.between; first = taken.taken.first; second = taken.taken.second }) }
+    record {
+      document = taken.document;
+      reads = taken.read;
+      plan = document_matches laws taken.document s
+          (record {
+            links = taken.taken.links;
+            routers = taken.taken.routers;
+            poison = taken.taken.poison;
+            root = taken.taken.root;
+            between = taken.taken.between;
+            first = taken.taken.first;
+            second = taken.taken.second;
+          });
+    }
 
 -- of a network that the bytes are
 pub network_matches : (laws : TextLaws) (bytes : List ℕ) (n : Network) → network_in bytes ≡ Ok n → IsPlanOfText bytes n

@@ -1,5 +1,6 @@
 -- What is found of the faults of a document's routers.
 use Rattle.std.proofs.Common.{◌≡◌, ℕ, ◌+◌, ◌-◌, ◌<◌, ◌≤◌, ◌⊎◌, inl, inr, List, [], ◌∷◌, ◌++◌, length, Bool, true, false, not, ◌&&◌, ◌||◌, Option, Some, None, Ok, refl, sym, ap, subst, ◌∙◌, arith, length-append}
+use Rattle.std.proofs.lemmas.Bool.{and_parts, and_from}
 use Rattle.std.specs.Prelude.{slice_get, nat_le, nat_lt, option_map, codes as codes_of, map}
 use Rattle.std.specs.List.{list_any, IsDistinct}
 use Rattle.std.specs.Str.{bytes_eq}
@@ -31,9 +32,9 @@ use Rattle.rip_plan.proofs.FaultRowLemmas.{by_code, IsTold, guard_told, want_tol
 use Rattle.rip_plan.proofs.FurtherAddressLemmas.{also_here, also_in, also_items, also_under, also_within}
 use Rattle.rip_plan.proofs.FirstPassLemmas.{room_for}
 use Rattle.rip_plan.proofs.OrderLemmas.{starts_high}
-use Rattle.rip_plan.proofs.SpotLemmas.{nth_from, get_before, place_once, interface_once, own_here, under_here, nth_here, item_once, count_of}
+use Rattle.rip_plan.proofs.SpotLemmas.{nth_from, place_once, interface_once, own_here, under_here, nth_here, item_once, count_of}
 use Rattle.rip_plan.proofs.TakenSpotLemmas.{further, place_ats, interface_ats, links_stand, interfaces_stand, owns_stand, routers_stand}
-use Rattle.rip_plan.proofs.ItemLemmas.{both, any_at, any_finds, get_split, position_finds, position_none, distinct_at, distinct_push, get_seen, see_got}
+use Rattle.rip_plan.proofs.ItemLemmas.{any_at, any_finds, get_split, position_finds, position_none, distinct_at, distinct_push, get_seen, see_got, get_left}
 use Rattle.rip_plan.proofs.TableLemmas.{HasInterfaceFields, IsTextIf, router_table, interface_texts, own_texts, addresses_told, addresses_clear, cost_is, cost_within, cost_told, cost_clear, direct_told, direct_clear, gateway_told, gateway_clear, IsReadOf, addresses_read}
 use Rattle.rip_plan.proofs.MatchingLemmas.{matched_left, matched_length, matched_right}
 use Rattle.rip_plan.proofs.OnePlanLemmas.{cost_same, text_same}
@@ -56,7 +57,8 @@ most_most n e = grind (arith, nat_tests)
 -- ---- links by their names
 
 -- no link has the name
-unknown_told : (links : List Data) (v : Sketch) → Matched IsNameOf v.links links → (x : Data) (name : List ℕ) → get (codes_of "link") x ≡ Some (string name) → number_of_name name v.links ≡ None → NamesNoLink links x
+unknown_told : (links : List Data) (v : Sketch) → Matched IsNameOf v.links links → (x : Data) (name : List ℕ) → get (codes_of "link") x ≡ Some (string name) → number_of_name name v.links ≡ None
+    → NamesNoLink links x
 unknown_told links v matched x name has none = (
   name,
   has,
@@ -83,14 +85,16 @@ named_at links v matched name l h =
     let (table, listed, its) = matched_left IsNameOf v.links links k m matched at in
     rw (← here) (record { table = table; listed = listed; its = subst (λ (t : List ℕ). IsNameOf t table) same its; kept = at ∙ ap (λ (t : List ℕ). Some t) same })
 
-unknown_clear : (links : List Data) (v : Sketch) → Matched IsNameOf v.links links → (x : Data) (name : List ℕ) → get (codes_of "link") x ≡ Some (string name) → (l : ℕ) → number_of_name name v.links ≡ Some l → NamesNoLink links x → ⊥
+unknown_clear : (links : List Data) (v : Sketch) → Matched IsNameOf v.links links → (x : Data) (name : List ℕ) → get (codes_of "link") x ≡ Some (string name) → (l : ℕ)
+    → number_of_name name v.links ≡ Some l → NamesNoLink links x → ⊥
 unknown_clear links v matched x name has l h (other, has_other, none) =
     let found = named_at links v matched name l h in
     let same : name ≡ other = text_same (codes_of "link") x name other has has_other in
     none l found.table found.listed (subst (λ (t : List ℕ). IsNameOf t found.table) same found.its)
 
 -- the same of a link that may be given
-attached_told : (links : List Data) (v : Sketch) → Matched IsNameOf v.links links → (x : Data) (name : Option (List ℕ)) → IsTextIf (get (codes_of "link") x) name → link_if name v.links ≡ None → NamesNoLink links x
+attached_told : (links : List Data) (v : Sketch) → Matched IsNameOf v.links links → (x : Data) (name : Option (List ℕ)) → IsTextIf (get (codes_of "link") x) name → link_if name v.links ≡ None
+    → NamesNoLink links x
 attached_told links v matched x None has h = absurd (none-some None (sym h))
 attached_told links v matched x (Some name) has h = by_number (number_of_name name v.links) refl h
   where
@@ -98,7 +102,8 @@ attached_told links v matched x (Some name) has h = by_number (number_of_name na
     by_number None e g = unknown_told links v matched x name has e
     by_number (Some l) e g = absurd (none-some (Some l) (sym g))
 
-attached_clear : (links : List Data) (v : Sketch) → Matched IsNameOf v.links links → (x : Data) (name : Option (List ℕ)) (link : Option ℕ) → IsTextIf (get (codes_of "link") x) name → link_if name v.links ≡ Some link → NamesNoLink links x → ⊥
+attached_clear : (links : List Data) (v : Sketch) → Matched IsNameOf v.links links → (x : Data) (name : Option (List ℕ)) (link : Option ℕ) → IsTextIf (get (codes_of "link") x) name
+    → link_if name v.links ≡ Some link → NamesNoLink links x → ⊥
 attached_clear links v matched x None link has h n = none-some (string n.0) (sym has ∙ n.1)
 attached_clear links v matched x (Some name) link has h n = by_number (number_of_name name v.links) refl h
   where
@@ -139,7 +144,8 @@ module _ (document : Members) (links routers done : List Data) (d : Data) (rest 
       (λ l known.
       guard_told document links routers (nat_le 1024 (length v.places)) codes.Limit (RouterOwn r j) (no_rows (1 ∷ [])) (inl (omega arith)) _
       (λ full. (length v.places, here, most_most (length v.places) full))
-      (λ free h. let same : h.0 ≡ length v.places = place_once links routers h.0 (length v.places) (RouterOwn r j) h.1 here in let le : 1024 ≤ h.0 = h.2 in past_most (length v.places) free (omega arith))
+      (λ free h. let same : h.0 ≡ length v.places = place_once links routers h.0 (length v.places) (RouterOwn r j) h.1 here in let le : 1024 ≤ h.0 = h.2 in past_most (length v.places) free
+      (omega arith))
       (λ free o h g. h))))))
     where
       r : ℕ
@@ -167,7 +173,8 @@ also_told laws x f fields none =
 also_length : (x : Data) (f : InterfaceFields) → HasInterfaceFields x f → (also : List ℕ) → addresses_in f.also ≡ Some also → length also ≡ length (also_items x)
 also_length x f fields also others = matched_length IsReadOf also f.also (addresses_read f.also also others) ∙ ap length (sym fields.also_are)
 
-address_clear : (laws : TextLaws) (x : Data) (f : InterfaceFields) → HasInterfaceFields x f → (a : ℕ) (also : List ℕ) → address_in f.address ≡ Some a → addresses_in f.also ≡ Some also → HasNoAddress (codes_of "address") x ⊎ HasWrongAlso x → ⊥
+address_clear : (laws : TextLaws) (x : Data) (f : InterfaceFields) → HasInterfaceFields x f → (a : ℕ) (also : List ℕ) → address_in f.address ≡ Some a → addresses_in f.also ≡ Some also
+    → HasNoAddress (codes_of "address") x ⊎ HasWrongAlso x → ⊥
 address_clear laws x f fields a also parsed others (inl (text, has, none)) =
     let same : text ≡ f.address = text_same (codes_of "address") x text f.address has fields.has_address in
     none a (subst (λ (t : List ℕ). IsAddressText t a) (sym same) (address_is laws f.address a parsed))
@@ -207,30 +214,29 @@ has_prefix links v linked l k q h on =
     let seat : q.seat ≡ seats.Link l = on_seat l q.seat on in
     elim (get_split linked.on_links linked.owned k q at) [
       | inl here ↦
-          let ((n, item), is, of) = matched_left IsOnLink (map placement linked.on_links) (items_under (codes_of "prefixes") 0 links) k (placement q) linked.placed (see_got placement linked.on_links k q here.0) in
+          let ((n, item), is, of) =
+          matched_left IsOnLink (map placement linked.on_links) (items_under (codes_of "prefixes") 0 links) k (placement q) linked.placed (see_got placement linked.on_links k q here.0) in
           let number : seats.Link l ≡ seats.Link n = sym seat ∙ of.seat in
           let same : n ≡ l = cc in
           (k, of.text, is ∙ ap (λ (x : ℕ × Data). Some x) (ap (λ (m : ℕ). (m, item)) same ∙ ap (λ (y : Data). (l, y)) of.is_text), of.prefix)
       | inr there ↦
           let (y, is, of) = matched_left (IsOwned linked.names) (map placement linked.owned) linked.owns there.0 (placement q) linked.own (see_got placement linked.owned there.0 q there.2) in
-          let wrong : seats.Link l ≡ seats.Own y.0 of.cost of.kept of.link of.via = sym seat ∙ of.seat in
+          let wrong : seats.Link l ≡ seats.Own of.own = sym seat ∙ of.seat in
           absurd cc
     ]
 
-place_has : (laws : TextLaws) (links : List Data) (v : Sketch) → Linked links v → (l : ℕ) (p : Block) → HasPrefix links l p → (k : ℕ) × (q : DraftPlace) × (slice_get v.places k ≡ Some q) × (q.seat ≡ seats.Link l) × (q.prefix ≡ p)
+place_has : (laws : TextLaws) (links : List Data) (v : Sketch) → Linked links v → (l : ℕ) (p : Block) → HasPrefix links l p
+    → (k : ℕ) × (q : DraftPlace) × (slice_get v.places k ≡ Some q) × (q.seat ≡ seats.Link l) × (q.prefix ≡ p)
 place_has laws links v linked l p (k, text, is, parsed) =
     let (x, at, of) = matched_right IsOnLink (map placement linked.on_links) (items_under (codes_of "prefixes") 0 links) k (l, string text) linked.placed is in
     let (q, listed, seen) = get_seen placement linked.on_links k x at in
     let same : string text ≡ string of.text = of.is_text in
     let one : text ≡ of.text = cc in
     let block : x.prefix ≡ p = one_prefix laws of.text text x.prefix p (sym one) of.prefix parsed in
-    (k, q, rw linked.places (get_before linked.on_links linked.owned k q listed), ap (λ (w : Placement). w.seat) seen ∙ of.seat, ap (λ (w : Placement). w.prefix) seen ∙ block)
+    (k, q, rw linked.places (get_left linked.on_links linked.owned k q listed), ap (λ (w : Placement). w.seat) seen ∙ of.seat, ap (λ (w : Placement). w.prefix) seen ∙ block)
 
 self_on : (l : ℕ) (q : DraftPlace) → q.seat ≡ seats.Link l → is_on l q.seat ≡ true
 self_on l q e = rw e (grind (arith, nat_tests))
-
-both_true : (a b : Bool) → a ≡ true → b ≡ true → (a && b) ≡ true
-both_true a b h k = rw (h, k) refl
 
 not_both : (a b : Bool) → (a && not b) ≡ false → a ≡ true → b ≡ true
 not_both true true e h = refl
@@ -248,7 +254,8 @@ contains_test p a h = grind (arith, nat_tests)
 test_contains : (p : Block) (a : ℕ) → has_address p a ≡ true → ContainsAddress p a
 test_contains p a h = grind (arith, nat_tests)
 
-outside_told : (laws : TextLaws) (links : List Data) (v : Sketch) → Linked links v → (x : Data) (name text : List ℕ) (a l : ℕ) → get (codes_of "link") x ≡ Some (string name) → get (codes_of "address") x ≡ Some (string text) → address_in text ≡ Some a
+outside_told : (laws : TextLaws) (links : List Data) (v : Sketch) → Linked links v → (x : Data) (name text : List ℕ) (a l : ℕ) → get (codes_of "link") x ≡ Some (string name)
+    → get (codes_of "address") x ≡ Some (string text) → address_in text ≡ Some a
     → number_of_name name v.links ≡ Some l → is_outside l a v.places ≡ true → IsOutside links x
 outside_told laws links v linked x name text a l has has_text parsed h out =
     let found = named_at links v linked.named name l h in
@@ -268,12 +275,15 @@ outside_told laws links v linked x name text a l has has_text parsed h out =
       some = (q.prefix, has_prefix links v linked l k q at on);
       none = λ p its holds.
           let (m, w, there, seat, block) = place_has laws links v linked l p its in
-          let test : (is_on l w.seat && has_address w.prefix a) ≡ true = both_true (is_on l w.seat) (has_address w.prefix a) (self_on l w seat) (ap (λ (b : Block). has_address b a) block ∙ contains_test p a holds) in
-          let all : list_any (λ (p : DraftPlace). is_on l p.seat && has_address p.prefix a) v.places ≡ true = any_at (λ (p : DraftPlace). is_on l p.seat && has_address p.prefix a) v.places m w there test in
+          let test : (is_on l w.seat && has_address w.prefix a) ≡ true =
+          and_from (is_on l w.seat) (has_address w.prefix a) (self_on l w seat) (ap (λ (b : Block). has_address b a) block ∙ contains_test p a holds) in
+          let all : list_any (λ (p : DraftPlace). is_on l p.seat && has_address p.prefix a) v.places ≡ true =
+          any_at (λ (p : DraftPlace). is_on l p.seat && has_address p.prefix a) v.places m w there test in
           cc;
     }
 
-outside_clear : (laws : TextLaws) (links : List Data) (v : Sketch) → Linked links v → (x : Data) (name text : List ℕ) (a l : ℕ) → get (codes_of "link") x ≡ Some (string name) → get (codes_of "address") x ≡ Some (string text) → address_in text ≡ Some a
+outside_clear : (laws : TextLaws) (links : List Data) (v : Sketch) → Linked links v → (x : Data) (name text : List ℕ) (a l : ℕ) → get (codes_of "link") x ≡ Some (string name)
+    → get (codes_of "address") x ≡ Some (string text) → address_in text ≡ Some a
     → number_of_name name v.links ≡ Some l → is_outside l a v.places ≡ false → IsOutside links x → ⊥
 outside_clear laws links v linked x name text a l has has_text parsed h inside o =
     let found = named_at links v linked.named name l h in
@@ -287,8 +297,9 @@ outside_clear laws links v linked x name text a l has has_text parsed h inside o
     let some : list_any (λ (p : DraftPlace). is_on l p.seat) v.places ≡ true = any_at (λ (p : DraftPlace). is_on l p.seat) v.places k w there (self_on l w seat) in
     let holds = not_both (list_any (λ (p : DraftPlace). is_on l p.seat) v.places) (list_any (λ (p : DraftPlace). is_on l p.seat && has_address p.prefix a) v.places) inside some in
     let (n, q, its, tests) = any_finds (λ (p : DraftPlace). is_on l p.seat && has_address p.prefix a) v.places holds in
-    let (on, within) = both (is_on l q.seat) (has_address q.prefix a) tests in
-    o.none q.prefix (subst (λ (i : ℕ). HasPrefix links i q.prefix) (sym number) (has_prefix links v linked l n q its on)) (subst (λ (i : ℕ). ContainsAddress q.prefix i) (sym address) (test_contains q.prefix a within))
+    let (on, within) = and_parts (is_on l q.seat) (has_address q.prefix a) tests in
+    o.none q.prefix (subst (λ (i : ℕ). HasPrefix links i q.prefix) (sym number) (has_prefix links v linked l n q its on))
+    (subst (λ (i : ℕ). ContainsAddress q.prefix i) (sym address) (test_contains q.prefix a within))
 
 module _ (document : Members) (links routers done : List Data) (d : Data) (rest : List Data) (split : routers ≡ done ++ d ∷ rest) where
   interface_finds : (laws : TextLaws) (front : List Data) (x : Data) (back : List Data) (v : Sketch) → items_in (get (codes_of "interface") d) ≡ front ++ x ∷ back → Linked links v
@@ -296,26 +307,31 @@ module _ (document : Members) (links routers done : List Data) (d : Data) (rest 
       → Finds (IsTold document links routers) (interface_rows (1 + length done) (1 + length front)).has (interface_step (1 + length done) (1 + length front) x v)
   unfolding interface_step
   interface_finds laws front x back v items linked count sum few =
-      want_told document links routers codes.Key (RouterInterface r j) (as_table x &> interface_fields) (interface_from_address r j) (by_code (RouterInterface r j) codes.Key codes.Address refl (omega arith)) _
+      want_told document links routers codes.Key (RouterInterface r j) (as_table x &> interface_fields) (interface_from_address r j)
+      (by_code (RouterInterface r j) codes.Key codes.Address refl (omega arith)) _
       (λ none. (x, item, interface_not x none))
       (λ f is h. h.2 (subst IsInterfaceTable (sym (one h.0 h.1)) (interface_told x f is)))
       (λ f is.
       let fields = interface_texts x f is in
-      both_told document links routers codes.Address (RouterInterface r j) (address_in f.address) (λ a. addresses_in f.also) (interface_from_cost r j) (by_code (RouterInterface r j) codes.Address codes.Cost refl (omega arith)) _
+      both_told document links routers codes.Address (RouterInterface r j) (address_in f.address) (λ a. addresses_in f.also) (interface_from_cost r j)
+      (by_code (RouterInterface r j) codes.Address codes.Cost refl (omega arith)) _
       (λ none. (x, item, inl (f.address, fields.has_address, no_address laws f.address none)))
       (λ a parsed none. (x, item, inr (also_told laws x f fields none)))
       (λ a also parsed others h. address_clear laws x f fields a also parsed others (subst (λ (t : Data). HasNoAddress (codes_of "address") t ⊎ HasWrongAlso t) (one h.0 h.1) h.2))
       (λ a also parsed others.
-      both_told document links routers codes.Cost (RouterInterface r j) (cost_of f.cost) (λ c. direct_of c f.direct) (interface_from_link r j) (by_code (RouterInterface r j) codes.Cost codes.UnknownLink refl (omega arith)) _
+      both_told document links routers codes.Cost (RouterInterface r j) (cost_of f.cost) (λ c. direct_of c f.direct) (interface_from_link r j)
+      (by_code (RouterInterface r j) codes.Cost codes.UnknownLink refl (omega arith)) _
       (λ none. (x, item, inl (cost_told (get (codes_of "cost") x) f.cost fields.cost none)))
       (λ c costs none. (x, item, inr (metric_told x f fields c costs none)))
       (λ c e costs directs h. costs_clear x f fields c e costs directs (subst (λ (t : Data). HasWrongCost t ⊎ HasWrongDirect t) (one h.0 h.1) h.2))
       (λ c e costs directs.
-      want_told document links routers codes.UnknownLink (RouterInterface r j) (number_of_name f.link v.links) (interface_from_outside r j) (by_code (RouterInterface r j) codes.UnknownLink codes.OutsidePrefix refl (omega arith)) _
+      want_told document links routers codes.UnknownLink (RouterInterface r j) (number_of_name f.link v.links) (interface_from_outside r j)
+      (by_code (RouterInterface r j) codes.UnknownLink codes.OutsidePrefix refl (omega arith)) _
       (λ none. (x, item, unknown_told links v linked.named x f.link fields.has_link none))
       (λ l known h. unknown_clear links v linked.named x f.link fields.has_link l known (subst (NamesNoLink links) (one h.0 h.1) h.2))
       (λ l known.
-      guard_told document links routers (is_outside l a v.places) codes.OutsidePrefix (RouterInterface r j) (interface_from_limit r j) (by_code (RouterInterface r j) codes.OutsidePrefix codes.Limit refl (omega arith)) _
+      guard_told document links routers (is_outside l a v.places) codes.OutsidePrefix (RouterInterface r j) (interface_from_limit r j)
+      (by_code (RouterInterface r j) codes.OutsidePrefix codes.Limit refl (omega arith)) _
       (λ out. (x, item, outside_told laws links v linked x f.link f.address a l fields.has_link fields.has_address parsed known out))
       (λ inside h. outside_clear laws links v linked x f.link f.address a l fields.has_link fields.has_address parsed known inside (subst (IsOutside links) (one h.0 h.1) h.2))
       (λ inside.
@@ -339,7 +355,8 @@ module _ (document : Members) (links routers done : List Data) (d : Data) (rest 
       here : slice_get (interface_spots routers) (length v.interfaces) ≡ Some (RouterInterface (1 + length done) (1 + length front))
       here = rw split (under_here (codes_of "interface") RouterInterface 1 done d rest front x back items (length v.interfaces) count)
 
-      full_told : (also : List ℕ) → length also ≡ length (also_items x) → is_full v also ≡ true → IsPast 1024 (interface_spots routers) (RouterInterface (1 + length done) (1 + length front)) ⊎ IsPast 1024 (also_spots routers) (RouterInterface (1 + length done) (1 + length front))
+      full_told : (also : List ℕ) → length also ≡ length (also_items x) → is_full v also ≡ true
+          → IsPast 1024 (interface_spots routers) (RouterInterface (1 + length done) (1 + length front)) ⊎ IsPast 1024 (also_spots routers) (RouterInterface (1 + length done) (1 + length front))
       full_told also same full = by_test (nat_le 1024 (length v.interfaces)) refl full
         where
           by_test : (b : Bool) → nat_le 1024 (length v.interfaces) ≡ b → (b || nat_lt 1024 (further v + length also)) ≡ true
@@ -351,7 +368,8 @@ module _ (document : Members) (links routers done : List Data) (d : Data) (rest 
               let at = also_here 1 done d rest front x back items last (omega arith) (also_under done + (also_in front + last)) refl in
               inr (also_under done + (also_in front + last), rw split at, omega arith)
 
-      full_clear : (also : List ℕ) → length also ≡ length (also_items x) → is_full v also ≡ false → IsPast 1024 (interface_spots routers) (RouterInterface (1 + length done) (1 + length front)) ⊎ IsPast 1024 (also_spots routers) (RouterInterface (1 + length done) (1 + length front)) → ⊥
+      full_clear : (also : List ℕ) → length also ≡ length (also_items x) → is_full v also ≡ false
+          → IsPast 1024 (interface_spots routers) (RouterInterface (1 + length done) (1 + length front)) ⊎ IsPast 1024 (also_spots routers) (RouterInterface (1 + length done) (1 + length front)) → ⊥
       full_clear also same free (inl h) =
           let room = room_for v also free in
           let one : h.0 ≡ length v.interfaces = interface_once routers h.0 (length v.interfaces) (RouterInterface (1 + length done) (1 + length front)) h.1 here in
@@ -359,7 +377,8 @@ module _ (document : Members) (links routers done : List Data) (d : Data) (rest 
           omega (arith, room.0)
       full_clear also same free (inr h) =
           let room = room_for v also free in
-          let at : slice_get (also_spots (done ++ d ∷ rest)) h.0 ≡ Some (RouterInterface (1 + length done) (1 + length front)) = ap (λ (l : List Data). slice_get (also_spots l) h.0) (sym split) ∙ h.1 in
+          let at : slice_get (also_spots (done ++ d ∷ rest)) h.0 ≡ Some (RouterInterface (1 + length done) (1 + length front)) = ap (λ (l : List Data). slice_get (also_spots l) h.0) (sym split)
+          ∙ h.1 in
           let within = also_within 1 done d rest front x back items h.0 at in
           let le : 1024 ≤ h.0 = h.2 in
           omega (arith, room.1, within)
@@ -452,8 +471,10 @@ places_count u spots h = sym (length-map u.places (λ (p : DraftPlace). p.at)) �
 interfaces_count : (u : Sketch) (spots : List At) → interface_ats u ≡ spots → length u.interfaces ≡ length spots
 interfaces_count u spots h = sym (length-map u.interfaces (λ (p : DraftInterface). p.at)) ∙ ap length h
 
-module _ (document : Members) (links routers done : List Data) (d : Data) (rest : List Data) (split : routers ≡ done ++ d ∷ rest) (poison : Bool) (w u : Sketch) (first : steps link_step 1 links (empty poison) ≡ Ok w) (second : steps router_step 1 done w ≡ Ok u) where
-  interfaces_find : (laws : TextLaws) (name : List ℕ) (all : List Data) → items_in (get (codes_of "interface") d) ≡ all → Finds (IsTold document links routers) (interfaces_rows (1 + length done)).has (steps (interface_step (1 + length done)) 1 all (with_router name u))
+module _ (document : Members) (links routers done : List Data) (d : Data) (rest : List Data) (split : routers ≡ done ++ d ∷ rest) (poison : Bool) (w u : Sketch)
+    (first : steps link_step 1 links (empty poison) ≡ Ok w) (second : steps router_step 1 done w ≡ Ok u) where
+  interfaces_find : (laws : TextLaws) (name : List ℕ) (all : List Data) → items_in (get (codes_of "interface") d) ≡ all
+      → Finds (IsTold document links routers) (interfaces_rows (1 + length done)).has (steps (interface_step (1 + length done)) 1 all (with_router name u))
   interfaces_find laws name all items =
       steps_finds (IsTold document links routers) (interface_step r) (λ j. (interface_rows r j).has) (0 ∷ 2 ∷ r ∷ 1 ∷ []) (interface_starts r) all (with_router name u)
       (λ front x back v parts taken.
@@ -462,8 +483,10 @@ module _ (document : Members) (links routers done : List Data) (d : Data) (rest 
       let none = links_stand 1 links (empty poison) w first in
       let before = routers_stand 1 done w u second in
       let inner = interfaces_stand r 1 front (with_router name u) v taken in
-      let start : interface_ats u ≡ spots_under (codes_of "interface") RouterInterface 1 done = before.interfaces ∙ ap (λ (l : List At). l ++ spots_under (codes_of "interface") RouterInterface 1 done) none.interfaces in
-      let two : length v.interfaces ≡ length (interface_ats u ++ spots_of (RouterInterface r) 1 front) = interfaces_count v (interface_ats u ++ spots_of (RouterInterface r) 1 front) inner.interfaces in
+      let start : interface_ats u ≡ spots_under (codes_of "interface") RouterInterface 1 done = before.interfaces
+      ∙ ap (λ (l : List At). l ++ spots_under (codes_of "interface") RouterInterface 1 done) none.interfaces in
+      let two : length v.interfaces ≡ length (interface_ats u ++ spots_of (RouterInterface r) 1 front) =
+      interfaces_count v (interface_ats u ++ spots_of (RouterInterface r) 1 front) inner.interfaces in
       let three : length (interface_ats u) ≡ length (spots_under (codes_of "interface") RouterInterface 1 done) = ap length start in
       let empty_none : further (empty poison) ≡ 0 = refl in
       let few : further u ≤ 1024 = few_routers 1 done w u (omega (arith, none.also)) second in
@@ -481,7 +504,8 @@ module _ (document : Members) (links routers done : List Data) (d : Data) (rest 
       r : ℕ
       r = 1 + length done
 
-  owns_find : (laws : TextLaws) (name : List ℕ) (ins : List Data) (v0 : Sketch) → steps (interface_step (1 + length done)) 1 ins (with_router name u) ≡ Ok v0 → (all : List Data) → items_in (get (codes_of "own") d) ≡ all
+  owns_find : (laws : TextLaws) (name : List ℕ) (ins : List Data) (v0 : Sketch) → steps (interface_step (1 + length done)) 1 ins (with_router name u) ≡ Ok v0 → (all : List Data)
+      → items_in (get (codes_of "own") d) ≡ all
       → Finds (IsTold document links routers) (owns_rows (1 + length done)).has (steps (own_step (1 + length done)) 1 all v0)
   owns_find laws name ins v0 between all items =
       steps_finds (IsTold document links routers) (own_step r) (λ j. (own_rows r j).has) (0 ∷ 2 ∷ r ∷ 2 ∷ []) (own_starts r) all v0
@@ -497,7 +521,8 @@ module _ (document : Members) (links routers done : List Data) (d : Data) (rest 
       let two : length v.places ≡ length (place_ats v0 ++ spots_of (RouterOwn r) 1 front) = places_count v (place_ats v0 ++ spots_of (RouterOwn r) 1 front) inner.places in
       let three : length (place_ats v0) ≡ length (on_links ++ own) = ap length same in
       let names : v.links ≡ u.links = owns_leave r 1 front v0 v taken ∙ left.0 in
-      own_finds document links routers done d rest split laws front x back v (items ∙ parts) (subst (λ (l : List (List ℕ)). Matched IsNameOf l links) (sym names) (linked_through laws links done poison w u first second).named)
+      own_finds document links routers done d rest split laws front x back v (items ∙ parts)
+      (subst (λ (l : List (List ℕ)). Matched IsNameOf l links) (sym names) (linked_through laws links done poison w u first second).named)
       (omega (arith, two, three, length-append on_links own, length-append (place_ats v0) (spots_of (RouterOwn r) 1 front), count_of (RouterOwn r) 1 front)))
       (λ m o past row f.
       let (x, (e, is, item)) = own_row_item document links routers r m o row f in
@@ -535,7 +560,8 @@ module _ (document : Members) (links routers done : List Data) (d : Data) (rest 
       (interfaces_find laws f.0 f.1 table.interfaces_are)
       (λ v between. owns_find laws f.0 f.1 v between f.2 table.owns_are))))
 
-pub routers_find : (laws : TextLaws) (document : Members) (links routers : List Data) (poison : Bool) (w : Sketch) → steps link_step 1 links (empty poison) ≡ Ok w → Finds (IsTold document links routers) routers_rows.has (steps router_step 1 routers w)
+pub routers_find : (laws : TextLaws) (document : Members) (links routers : List Data) (poison : Bool) (w : Sketch) → steps link_step 1 links (empty poison) ≡ Ok w
+    → Finds (IsTold document links routers) routers_rows.has (steps router_step 1 routers w)
 routers_find laws document links routers poison w first =
     steps_finds (IsTold document links routers) router_step (λ r. (router_rows r).has) (0 ∷ 2 ∷ []) router_starts routers w
     (λ done x rest u split taken. router_finds document links routers done x rest split poison w u first taken laws)

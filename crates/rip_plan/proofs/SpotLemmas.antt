@@ -9,7 +9,7 @@ use Rattle.rip_plan.specs.declared.error.At.{At}
 use Rattle.rip_plan.specs.declared.error.At.TheVariants.{LinkPrefix, RouterInterface, RouterOwn}
 use Rattle.rip_plan.specs.PlanOf.{items_in, items_under}
 use Rattle.rip_plan.specs.PlanFaults.{nth, IsItem, spots_of, spots_under, place_spots, interface_spots, position, Before}
-use Rattle.rip_plan.proofs.ItemLemmas.{get_split}
+use Rattle.rip_plan.proofs.ItemLemmas.{get_split, get_left, get_past}
 use Rattle.rip_plan.proofs.OrderLemmas.{before_not}
 
 pub nth_from : {A : Type 0} (xs : List A) (i : ℕ) (x : A) → nth xs i ≡ Some x → (1 ≤ i) × (i ≤ length xs)
@@ -65,7 +65,8 @@ Ordered at = (i j n m : ℕ) → Sooner i j n m → Before (position (at i j)) (
 abbrev Ahead : At → At → Type 0
 Ahead a b = Before (position a) (position b)
 
-under_ahead : (key : List ℕ) (at : ℕ → ℕ → At) → Ordered at → (i : ℕ) (ds : List Data) (k m : ℕ) (a b : At) → k < m → slice_get (spots_under key at i ds) k ≡ Some a → slice_get (spots_under key at i ds) m ≡ Some b → Ahead a b
+under_ahead : (key : List ℕ) (at : ℕ → ℕ → At) → Ordered at → (i : ℕ) (ds : List Data) (k m : ℕ) (a b : At) → k < m → slice_get (spots_under key at i ds) k ≡ Some a
+    → slice_get (spots_under key at i ds) m ≡ Some b → Ahead a b
 under_ahead key at order i [] k m a b less h g = absurd (none-some a h)
 under_ahead key at order i (d ∷ ds) k m a b less h g =
     let here = spots_of (at i) 1 (items_in (get key d)) in
@@ -131,7 +132,8 @@ place_ahead links routers k m a b less h g =
     ]
 
 -- each spot has one number
-spot_once : (spots : List At) → ((k m : ℕ) (a b : At) → k < m → slice_get spots k ≡ Some a → slice_get spots m ≡ Some b → Ahead a b) → (k m : ℕ) (a : At) → slice_get spots k ≡ Some a → slice_get spots m ≡ Some a → k ≡ m
+spot_once : (spots : List At) → ((k m : ℕ) (a b : At) → k < m → slice_get spots k ≡ Some a → slice_get spots m ≡ Some b → Ahead a b) → (k m : ℕ) (a : At) → slice_get spots k ≡ Some a
+    → slice_get spots m ≡ Some a → k ≡ m
 spot_once spots ahead k m a h g =
     elim (cases_lt k m) [
       | inl less ↦ absurd (before_not (position a) (ahead k m a a less h g))
@@ -199,16 +201,6 @@ spots_under_append key at i (x ∷ xs) ys n e =
     ap (λ (spots : List At). spots_of (at i) 1 (items_in (get key x)) ++ spots) (spots_under_append key at (i + 1) xs ys n (omega arith))
     ∙ sym (append_assoc (spots_of (at i) 1 (items_in (get key x))) (spots_under key at (i + 1) xs) (spots_under key at n ys))
 
-pub get_past : {A : Type 0} (xs ys : List A) (k m : ℕ) → m ≡ length xs + k → slice_get (xs ++ ys) m ≡ slice_get ys k
-get_past {A} [] ys k m e = ap (λ (n : ℕ). slice_get ys n) (omega arith)
-get_past (x ∷ xs) ys k zero e = absurd (omega arith)
-get_past (x ∷ xs) ys k (suc m) e = get_past xs ys k m (omega arith)
-
-pub get_before : {A : Type 0} (xs ys : List A) (k : ℕ) (a : A) → slice_get xs k ≡ Some a → slice_get (xs ++ ys) k ≡ Some a
-get_before [] ys k a h = absurd (none-some a h)
-get_before (x ∷ xs) ys zero a h = h
-get_before (x ∷ xs) ys (suc k) a h = get_before xs ys k a h
-
 of_here : (at : ℕ → At) (j : ℕ) (done : List Data) (x : Data) (rest : List Data) → slice_get (spots_of at j (done ++ x ∷ rest)) (length done) ≡ Some (at (j + length done))
 of_here at j [] x rest = ap (λ (n : ℕ). Some (at n)) (omega arith)
 of_here at j (d ∷ done) x rest = of_here at (j + 1) done x rest ∙ ap (λ (n : ℕ). Some (at n)) (omega arith)
@@ -219,7 +211,8 @@ pub under_here : (key : List ℕ) (at : ℕ → ℕ → At) (i : ℕ) (done : Li
 under_here key at i [] d rest front x back e n h =
     let same : n ≡ length front = omega arith in
     let here : slice_get (spots_of (at i) 1 (items_in (get key d))) (length front) ≡ Some (at i (1 + length front)) = rw e (of_here (at i) 1 front x back) in
-    rw same (get_before (spots_of (at i) 1 (items_in (get key d))) (spots_under key at (i + 1) rest) (length front) (at i (1 + length front)) here ∙ ap (λ (m : ℕ). Some (at m (1 + length front))) (omega arith))
+    rw same (get_left (spots_of (at i) 1 (items_in (get key d))) (spots_under key at (i + 1) rest) (length front) (at i (1 + length front)) here
+    ∙ ap (λ (m : ℕ). Some (at m (1 + length front))) (omega arith))
 under_here key at i (y ∷ done) d rest front x back e n h =
     let count = length-append (spots_of (at i) 1 (items_in (get key y))) (spots_under key at (i + 1) done) in
     get_past (spots_of (at i) 1 (items_in (get key y))) (spots_under key at (i + 1) (done ++ d ∷ rest)) (length (spots_under key at (i + 1) done) + length front) n (omega (arith, count))
@@ -227,14 +220,18 @@ under_here key at i (y ∷ done) d rest front x back e n h =
     ∙ ap (λ (m : ℕ). Some (at m (1 + length front))) (omega arith)
 
 pub prefix_here : (routers done : List Data) (d : Data) (rest front : List Data) (x : Data) (back : List Data) → items_in (get (codes_of "prefixes") d) ≡ front ++ x ∷ back
-    → (n : ℕ) → n ≡ length (spots_under (codes_of "prefixes") LinkPrefix 1 done) + length front → slice_get (place_spots (done ++ d ∷ rest) routers) n ≡ Some (LinkPrefix (1 + length done) (1 + length front))
+    → (n : ℕ) → n ≡ length (spots_under (codes_of "prefixes") LinkPrefix 1 done) + length front
+    → slice_get (place_spots (done ++ d ∷ rest) routers) n ≡ Some (LinkPrefix (1 + length done) (1 + length front))
 prefix_here routers done d rest front x back e n h =
-    get_before (spots_under (codes_of "prefixes") LinkPrefix 1 (done ++ d ∷ rest)) (spots_under (codes_of "own") RouterOwn 1 routers) n _ (under_here (codes_of "prefixes") LinkPrefix 1 done d rest front x back e n h)
+    get_left (spots_under (codes_of "prefixes") LinkPrefix 1 (done ++ d ∷ rest)) (spots_under (codes_of "own") RouterOwn 1 routers) n _
+    (under_here (codes_of "prefixes") LinkPrefix 1 done d rest front x back e n h)
 
 pub own_here : (links done : List Data) (d : Data) (rest front : List Data) (x : Data) (back : List Data) → items_in (get (codes_of "own") d) ≡ front ++ x ∷ back
-    → (n : ℕ) → n ≡ length (spots_under (codes_of "prefixes") LinkPrefix 1 links) + (length (spots_under (codes_of "own") RouterOwn 1 done) + length front) → slice_get (place_spots links (done ++ d ∷ rest)) n ≡ Some (RouterOwn (1 + length done) (1 + length front))
+    → (n : ℕ) → n ≡ length (spots_under (codes_of "prefixes") LinkPrefix 1 links) + (length (spots_under (codes_of "own") RouterOwn 1 done) + length front)
+    → slice_get (place_spots links (done ++ d ∷ rest)) n ≡ Some (RouterOwn (1 + length done) (1 + length front))
 own_here links done d rest front x back e n h =
-    get_past (spots_under (codes_of "prefixes") LinkPrefix 1 links) (spots_under (codes_of "own") RouterOwn 1 (done ++ d ∷ rest)) (length (spots_under (codes_of "own") RouterOwn 1 done) + length front) n h
+    get_past (spots_under (codes_of "prefixes") LinkPrefix 1 links) (spots_under (codes_of "own") RouterOwn 1 (done ++ d ∷ rest))
+    (length (spots_under (codes_of "own") RouterOwn 1 done) + length front) n h
     ∙ under_here (codes_of "own") RouterOwn 1 done d rest front x back e (length (spots_under (codes_of "own") RouterOwn 1 done) + length front) refl
 
 pub nth_here : {A : Type 0} (done : List A) (x : A) (rest : List A) (n : ℕ) → n ≡ 1 + length done → nth (done ++ x ∷ rest) n ≡ Some x

@@ -6,7 +6,9 @@ use Rattle.std.proofs.lemmas.Option.{none-some, same_Some, cond_some}
 use Rattle.std.proofs.lemmas.Bool.Decides.{nat_tests}
 use Rattle.toml.specs.Data.{Data, Items, Members, string, integer, float, boolean, datetime, array, table, get, get_member, as_bool, as_str, as_integer, as_array, as_table}
 use Rattle.rip_wire.specs.Address.{address_in}
-use Rattle.rip_plan.specs.Fields.{InterfaceFields, OwnFields, ◌&>◌, has_only, list_of, text_at, items_at, items_if, integer_if, texts_of, flag_if, text_if, address_if, link_if, addresses_in, link_keys, interface_keys, own_keys, router_keys, is_between, link_fields, interface_fields, own_fields, router_fields, cost_of, direct_of}
+use Rattle.rip_plan.specs.declared.parts.OwnPrefix.{OwnPrefix}
+use Rattle.rip_plan.specs.Keys.{interface_keys, link_keys, own_keys, router_keys}
+use Rattle.rip_plan.specs.Fields.{InterfaceFields, OwnFields, ◌&>◌, has_only, list_of, text_at, items_at, items_if, integer_if, texts_of, flag_if, text_if, address_if, link_if, addresses_in, is_between, link_fields, interface_fields, own_fields, router_fields, cost_of, direct_of}
 use Rattle.rip_plan.specs.Names.{number_of_name}
 use Rattle.rip_plan.specs.PlanOf.{HasText, IsAddressOf, IsCostOf, IsDirectOf, IsGatewayOf, IsKeptOf, IsLinkOf, IsNameOf, IsPoisonOf, Matched, items_in}
 use Rattle.rip_plan.specs.PlanFaults.{HasNoAddress, IsOutsideOf}
@@ -238,11 +240,11 @@ own_texts d f h =
       via = text_if_is (get_member (codes_of "via") ms) g fifth;
     }))
 
-pub record IsOwnTable (d : Data) (links : List (List ℕ)) (f : OwnFields) (c : ℕ) (l a : Option ℕ) : Type 0 where
+pub record IsOwnTable (d : Data) (links : List (List ℕ)) (f : OwnFields) (own : OwnPrefix) : Type 0 where
   pub has : HasOwnFields d f
-  pub cost : IsCostOf d c
-  pub link : IsLinkOf links d l
-  pub via : IsGatewayOf d a
+  pub cost : IsCostOf d own.cost
+  pub link : IsLinkOf links d own.link
+  pub via : IsGatewayOf d own.via
 
 link_is : (links : List (List ℕ)) (d : Data) (name : Option (List ℕ)) (link : Option ℕ) → IsTextIf (get (codes_of "link") d) name → link_if name links ≡ Some link → IsLinkOf links d link
 link_is links d None link has h = let same : None ≡ link = same_Some None link h in subst (IsLinkOf links d) same has
@@ -260,14 +262,15 @@ gateway_is laws d (Some text) via has h = by_address (address_in text) refl h
     by_address None e g = absurd (none-some via g)
     by_address (Some a) e g = subst (IsGatewayOf d) (same_Some (Some a) via g) (text, has, address_is laws text a e)
 
-pub own_table : (laws : TextLaws) (d : Data) (links : List (List ℕ)) (f : OwnFields) (c : ℕ) (link via : Option ℕ) → (as_table d &> own_fields) ≡ Some f → cost_of f.cost ≡ Some c → link_if f.link links ≡ Some link → address_if f.via ≡ Some via → IsOwnTable d links f c link via
-own_table laws d links f c link via h costs known gateway =
+pub own_table : (laws : TextLaws) (d : Data) (links : List (List ℕ)) (f : OwnFields) (own : OwnPrefix)
+    → (as_table d &> own_fields) ≡ Some f → cost_of f.cost ≡ Some own.cost → link_if f.link links ≡ Some own.link → address_if f.via ≡ Some own.via → IsOwnTable d links f own
+own_table laws d links f own h costs known gateway =
     let has = own_texts d f h in
     record {
       has = has;
-      cost = cost_is (get (codes_of "cost") d) f.cost c has.cost costs;
-      link = link_is links d f.link link has.link known;
-      via = gateway_is laws d f.via via has.via gateway;
+      cost = cost_is (get (codes_of "cost") d) f.cost own.cost has.cost costs;
+      link = link_is links d f.link own.link has.link known;
+      via = gateway_is laws d f.via own.via has.via gateway;
     }
 
 pub record IsRouterTable (d : Data) (name : List ℕ) (interfaces owns : List Data) : Type 0 where
@@ -293,7 +296,8 @@ router_table d name interfaces owns h =
 
 -- ---- an integer that is given, and is none that may stand there
 
-integer_told : (f : Option ℤ → Option ℕ) (c : ℕ) (o : Option Data) (given : Option ℤ) → f None ≡ Some c → integer_if o ≡ Some given → f given ≡ None → (z : ℤ) × (o ≡ Some (integer z)) × (f (Some z) ≡ None)
+integer_told : (f : Option ℤ → Option ℕ) (c : ℕ) (o : Option Data) (given : Option ℤ) → f None ≡ Some c → integer_if o ≡ Some given → f given ≡ None
+    → (z : ℤ) × (o ≡ Some (integer z)) × (f (Some z) ≡ None)
 integer_told f c None given some h e = let same : None ≡ given = same_Some None given h in absurd (none-some c (sym e ∙ ap f (sym same) ∙ some))
 integer_told f c (Some d) given some h e = by_given (as_integer d) refl h
   where
@@ -391,7 +395,8 @@ pub addresses_are : (laws : TextLaws) (ds : List Data) (also : List ℕ) → add
 addresses_are laws ds also h = matched_weaker IsReadOf IsAddressOf (λ a d read. (read.0, read.1, address_is laws read.0 a read.2)) also ds (addresses_read ds also h)
 
 -- a text among them that is no address
-pub addresses_told : (ds : List Data) → list_all (λ x. is_some (as_str x)) ds ≡ true → addresses_in ds ≡ None → (k : ℕ) × (text : List ℕ) × (slice_get ds k ≡ Some (string text)) × (address_in text ≡ None)
+pub addresses_told : (ds : List Data) → list_all (λ x. is_some (as_str x)) ds ≡ true → addresses_in ds ≡ None
+    → (k : ℕ) × (text : List ℕ) × (slice_get ds k ≡ Some (string text)) × (address_in text ≡ None)
 addresses_told [] all h = absurd (none-some [] (sym h))
 addresses_told (d ∷ ds) all h = by_text (as_str d) refl all h (addresses_told ds)
   where
@@ -405,7 +410,8 @@ addresses_told (d ∷ ds) all h = by_text (as_str d) refl all h (addresses_told 
         by_rest None i a k = i
         by_rest (Some others) i a k = absurd (none-some (a ∷ others) (sym k))
 
-        by_address : (o : Option ℕ) → address_in text ≡ o → (o &> (λ a. addresses_in ds &> (λ others. Some (a ∷ others)))) ≡ None → (k : ℕ) × (t : List ℕ) × (slice_get (d ∷ ds) k ≡ Some (string t)) × (address_in t ≡ None)
+        by_address : (o : Option ℕ) → address_in text ≡ o → (o &> (λ a. addresses_in ds &> (λ others. Some (a ∷ others)))) ≡ None
+            → (k : ℕ) × (t : List ℕ) × (slice_get (d ∷ ds) k ≡ Some (string t)) × (address_in t ≡ None)
         by_address None i k = (zero, text, ap (λ (x : Data). Some x) (text_is d text e), i)
         by_address (Some a) i k = let (m, t, at, none) = later texts (by_rest (addresses_in ds) refl a k) in (suc m, t, at, none)
 

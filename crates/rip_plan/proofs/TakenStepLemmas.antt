@@ -1,5 +1,5 @@
 -- What each step of the first pass found where it ended with no fault.
-use Rattle.std.proofs.Common.{◌≡◌, ℕ, ◌-◌, List, [], ◌∷◌, ◌++◌, length, Bool, false, not, ◌||◌, Option, Some, Ok, sym, ap, ◌∙◌}
+use Rattle.std.proofs.Common.{◌≡◌, ℕ, ◌-◌, List, [], ◌∷◌, ◌++◌, length, Bool, false, not, ◌||◌, Some, Ok, refl, sym, ap, ◌∙◌}
 use Rattle.std.specs.Prelude.{nat_le, nat_lt, unwrap_or, codes as codes_of}
 use Rattle.toml.specs.Data.{Data, Members, as_str, as_table, get_member}
 use Rattle.rip_wire.specs.Address.{address_in}
@@ -8,6 +8,7 @@ use Rattle.rip_wire.specs.Prefix.{Block, prefix_in}
 use Rattle.rip_plan.specs.declared.error.PlanCode.TheVariants as codes
 use Rattle.rip_plan.specs.declared.error.At.{At}
 use Rattle.rip_plan.specs.declared.error.At.TheVariants.{Text, Version, Link, LinkPrefix, Router, RouterInterface, RouterOwn}
+use Rattle.rip_plan.specs.declared.parts.OwnPrefix.{OwnPrefix}
 use Rattle.rip_plan.specs.declared.parts.Seat.{Seat}
 use Rattle.rip_plan.specs.declared.parts.Seat.TheVariants as seats
 use Rattle.rip_plan.specs.Fault.{fault, ◌>>=◌, steps}
@@ -82,7 +83,10 @@ pub record InterfaceTaken (r j : ℕ) (d : Data) (s t : Sketch) : Type 0 where
   pub known : number_of_name given.link s.links ≡ Some link
   pub inside : is_outside link address s.places ≡ false
   pub room : is_full s also ≡ false
-  pub made : t ≡ with_interface (record { interface = record { router = r - 1; link = link; address = address; cost = cost; direct = direct; poison = unwrap_or given.poison s.poison }; at = RouterInterface r j }) also s
+  pub made : t ≡ with_interface (record {
+    interface = record { router = r - 1; link = link; address = address; cost = cost; direct = direct; poison = unwrap_or given.poison s.poison };
+    at = RouterInterface r j;
+  }) also s
 
 pub interface_taken : (r j : ℕ) (d : Data) (s t : Sketch) → interface_step r j d s ≡ Ok t → InterfaceTaken r j d s t
 unfolding interface_step
@@ -116,15 +120,15 @@ interface_taken r j d s t h =
 pub record OwnTaken (r j : ℕ) (d : Data) (s t : Sketch) : Type 0 where
   pub given : OwnFields
   pub fields : (as_table d &> own_fields) ≡ Some given
-  pub via : Option ℕ
-  pub gateway : address_if given.via ≡ Some via
   pub prefix : Block
   pub parsed : prefix_in given.prefix ≡ Some prefix
-  pub cost : ℕ
-  pub costs : cost_of given.cost ≡ Some cost
-  pub link : Option ℕ
-  pub known : link_if given.link s.links ≡ Some link
-  pub added : PlaceTaken (RouterOwn r j) prefix (seats.Own (r - 1) cost given.kept link via) s t
+  pub own : OwnPrefix
+  pub router : own.router ≡ r - 1
+  pub costs : cost_of given.cost ≡ Some own.cost
+  pub kept : own.kept ≡ given.kept
+  pub known : link_if given.link s.links ≡ Some own.link
+  pub gateway : address_if given.via ≡ Some own.via
+  pub added : PlaceTaken (RouterOwn r j) prefix (seats.Own own) s t
 
 pub own_taken : (r j : ℕ) (d : Data) (s t : Sketch) → own_step r j d s ≡ Ok t → OwnTaken r j d s t
 unfolding own_step
@@ -137,15 +141,15 @@ own_taken r j d s t h =
     record {
       given = f;
       fields = fields;
-      via = via;
-      gateway = gateway;
       prefix = prefix;
       parsed = parsed;
-      cost = cost;
+      own = record { router = r - 1; cost = cost; kept = f.kept; link = link; via = via };
+      router = refl;
       costs = costs;
-      link = link;
+      kept = refl;
       known = known;
-      added = place_taken (RouterOwn r j) prefix (seats.Own (r - 1) cost f.kept link via) s t h5;
+      gateway = gateway;
+      added = place_taken (RouterOwn r j) prefix _ s t h5;
     }
 
 pub record RouterTaken (r : ℕ) (d : Data) (s t : Sketch) : Type 0 where
@@ -190,7 +194,19 @@ document_taken doc t h =
     let (u, first, second) = bind_ok (steps link_step 1 root.0 (empty root.2)) (steps router_step 1 root.1) v both in
     let (done, passed, h5) = bind_ok (second_passes v) (λ _. Ok v) t h4 in
     let same : v ≡ t = ok_same v t h5 in
-    record { version = version; links = root.0; routers = root.1; poison = root.2; root = is; room = room; between = u; first = first; second = second ∙ ap (λ (x : Sketch). Ok x) same; passed = ap second_passes (sym same) ∙ passed }
+    record {
+      version = version;
+      links = root.0;
+      routers = root.1;
+      poison = root.2;
+      root = is;
+      room = room;
+      between = u;
+      first = first;
+      second = second
+          ∙ ap (λ (x : Sketch). Ok x) same;
+      passed = ap second_passes (sym same) ∙ passed;
+    }
 
 pub record TextTaken (bytes : List ℕ) (t : Sketch) : Type 0 where
   pub room : nat_lt 1048576 (length bytes) ≡ false

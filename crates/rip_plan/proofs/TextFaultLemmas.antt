@@ -1,5 +1,6 @@
 -- The first fault of a text is the one that is told, and a text that is read has none.
 use Rattle.std.proofs.Common.{◌≡◌, ◌≢◌, ℕ, ◌<◌, ◌≤◌, ◌⊎◌, ◌↔◌, inl, inr, List, [], ◌∷◌, ◌++◌, length, Bool, true, false, cond, not, ◌||◌, Option, Some, None, Result, Ok, Err, refl, sym, ap, subst, ◌∙◌, arith}
+use Rattle.std.proofs.lemmas.Bool.{or_parts, not-false}
 use Rattle.std.specs.Prelude.{pos, negsuc, nat_lt, ◌==◌, codes as codes_of}
 use Rattle.std.specs.Result.{result_err}
 use Rattle.std.proofs.lemmas.Option.{none-some, same_Some}
@@ -24,8 +25,7 @@ use Rattle.rip_plan.specs.Relations.{IsLawful}
 use Rattle.rip_plan.proofs.BindLemmas.{bind_ok}
 use Rattle.rip_plan.proofs.FaultRowLemmas.{IsAstrayAt, IsOfTables, IsTold, covers, told_finds, first_rows, first_high, first_sooner, links_rows, links_high, routers_rows, pass_rows, table_rows}
 use Rattle.rip_plan.proofs.FindingLemmas.{Found, ranked, row_at, Rows, row_then, Finds, finds_in, guard_finds, want_finds, bind_rows}
-use Rattle.rip_plan.proofs.ItemLemmas.{or_false}
-use Rattle.rip_plan.proofs.LawfulPlanLemmas.{lawful, not_false}
+use Rattle.rip_plan.proofs.LawfulPlanLemmas.{lawful}
 use Rattle.rip_plan.proofs.LinkFaultLemmas.{links_find}
 use Rattle.rip_plan.proofs.OnePlanLemmas.{items_same}
 use Rattle.rip_plan.proofs.OrderLemmas.{before_not, before_trans, before_or}
@@ -46,10 +46,12 @@ module _ (laws : TextLaws) (document : Members) (links routers : List Data) (poi
       let T = IsTold document links routers in
       bind_rows F first_rows.has pass_rows (steps link_step 1 links (empty poison) >>= steps router_step 1 routers) (λ s. second_passes s >>= (λ _. Ok s)) (λ e h. first_high e h)
       (told_finds document links routers first_rows.has (steps link_step 1 links (empty poison) >>= steps router_step 1 routers) first_sooner
-      (bind_rows T links_rows.has routers_rows (steps link_step 1 links (empty poison)) (steps router_step 1 routers) (λ e h. links_high e h) (links_find laws document links routers poison) (λ w is. routers_find laws document links routers poison w is)))
+      (bind_rows T links_rows.has routers_rows (steps link_step 1 links (empty poison)) (steps router_step 1 routers) (λ e h. links_high e h) (links_find laws document links routers poison)
+      (λ w is. routers_find laws document links routers poison w is)))
       (λ s taken.
       let (w, first, second) = bind_ok (steps link_step 1 links (empty poison)) (steps router_step 1 routers) s taken in
-      let plan : PlanOf document (network_of_sketch s) = document_matches laws document s (record { links = links; routers = routers; poison = poison; root = root; between = w; first = first; second = second }) in
+      let plan : PlanOf document (network_of_sketch s) =
+      document_matches laws document s (record { links = links; routers = routers; poison = poison; root = root; between = w; first = first; second = second }) in
       let one = links_stand 1 links (empty poison) w first in
       let two = routers_stand 1 routers w s second in
       let placed : place_ats s ≡ place_spots links routers = two.places ∙ ap (λ (l : List At). l ++ spots_under (codes_of "own") RouterOwn 1 routers) one.places in
@@ -148,7 +150,8 @@ module _ (laws : TextLaws) (bytes : List ℕ) (document : Members) (short : leng
     tables = let r = root_table document links routers poison root in record { text = text; has_links = r.has_links; has_routers = r.has_routers }
 
     -- a fault is one of the text as a whole, or of the tables
-    split_fault : (pass : ℕ) (c : PlanCode) (place : At) → IsFound bytes pass (fault c place) → Before (rank pass (fault c place)) (0 ∷ 1 ∷ 1 ∷ []) ⊎ IsOfTables document links routers (record { pass = pass; error = fault c place })
+    split_fault : (pass : ℕ) (c : PlanCode) (place : At) → IsFound bytes pass (fault c place)
+        → Before (rank pass (fault c place)) (0 ∷ 1 ∷ 1 ∷ []) ⊎ IsOfTables document links routers (record { pass = pass; error = fault c place })
     split_fault pass codes.Syntax Text (inl h) = inl (inr (h.1, inl (omega arith)))
     split_fault pass codes.Version Version (inl h) = inl (inr (h.1, inl (omega arith)))
     split_fault pass codes.Key Text (inl h) = inl (inr (h.1, inl (omega arith)))
@@ -190,18 +193,22 @@ module _ (laws : TextLaws) (bytes : List ℕ) (document : Members) (short : leng
       by_test false e f = inr (grind (arith, nat_tests))
 
   over_clear : (links routers : List Data) → (nat_lt 512 (length links) || nat_lt 128 (length routers)) ≡ false → (512 < length links) ⊎ (128 < length routers) → ⊥
-  over_clear links routers h (inl more) = let parts = or_false (nat_lt 512 (length links)) (nat_lt 128 (length routers)) h in let few : nat_lt 512 (length links) ≡ false = parts.0 in grind (arith, nat_tests)
-  over_clear links routers h (inr more) = let parts = or_false (nat_lt 512 (length links)) (nat_lt 128 (length routers)) h in let few : nat_lt 128 (length routers) ≡ false = parts.1 in grind (arith, nat_tests)
+  over_clear links routers h (inl more) = let parts = or_parts (nat_lt 512 (length links)) (nat_lt 128 (length routers)) h in let few : nat_lt 512 (length links) ≡ false = parts.0 in grind
+      (arith, nat_tests)
+  over_clear links routers h (inr more) = let parts = or_parts (nat_lt 512 (length links)) (nat_lt 128 (length routers)) h in let few : nat_lt 128 (length routers) ≡ false = parts.1 in grind
+      (arith, nat_tests)
 
   document_finds : Finds (IsTextFault bytes) from_version.has (sketch_of_document document)
   unfolding sketch_of_document
   document_finds =
-      guard_finds (IsTextFault bytes) (not (is_version (get_member (codes_of "version") document))) (row_at codes.Version Version) from_key (inr (refl, inr (refl, inr (refl, inr (refl, inr (refl, inl (omega arith))))))) _
+      guard_finds (IsTextFault bytes) (not (is_version (get_member (codes_of "version") document))) (row_at codes.Version Version) from_key
+      (inr (refl, inr (refl, inr (refl, inr (refl, inr (refl, inl (omega arith))))))) _
       (λ bad. inl ((document, text, version_told (get_member (codes_of "version") document) bad), refl))
       (λ good f.
       let h = in_table bytes 0 codes.Version Version (λ a. a) f in
       let same = same_document bytes document h.0 reads h.1 in
-      let its : get_member (codes_of "version") document ≡ Some (integer (pos 1)) = version_is (get_member (codes_of "version") document) (not_false (is_version (get_member (codes_of "version") document)) good) in
+      let its : get_member (codes_of "version") document ≡ Some (integer (pos 1)) =
+      version_is (get_member (codes_of "version") document) (not-false (is_version (get_member (codes_of "version") document)) good) in
       h.2 (ap (get_member (codes_of "version")) same ∙ its))
       (λ good.
       want_finds (IsTextFault bytes) (row_at codes.Key Text) (root_fields document) from_limit (inr (refl, inr (refl, inr (refl, inr (refl, inr (refl, inl (omega arith))))))) _
@@ -214,17 +221,20 @@ module _ (laws : TextLaws) (bytes : List ℕ) (document : Members) (short : leng
       (λ over. inl (inr (document, r.0, r.1, tables r.0 r.1 r.2 is, over_told r.0 r.1 over), refl))
       (λ room f. limit_clear r.0 r.1 r.2 is room (in_table bytes 0 codes.Limit Text (λ a. a) f))
       (λ room.
-      finds_in (IsOfTables document r.0 r.1) (IsTextFault bytes) table_rows.has table_rows.has (steps link_step 1 r.0 (empty r.2) >>= steps router_step 1 r.1 >>= (λ s. second_passes s >>= (λ _. Ok s))) (λ o t. whole r.0 r.1 r.2 is o t) (λ o here. here)
+      finds_in (IsOfTables document r.0 r.1) (IsTextFault bytes) table_rows.has table_rows.has
+      (steps link_step 1 r.0 (empty r.2) >>= steps router_step 1 r.1 >>= (λ s. second_passes s >>= (λ _. Ok s))) (λ o t. whole r.0 r.1 r.2 is o t) (λ o here. here)
       (λ o here f. by_fault r.0 r.1 o here (split_fault r.0 r.1 r.2 is o.pass o.error.code o.error.place f))
       (tables_find laws document r.0 r.1 r.2 is))))
     where
-      limit_clear : (links routers : List Data) (poison : Bool) → root_fields document ≡ Some (links, routers, poison) → (nat_lt 512 (length links) || nat_lt 128 (length routers)) ≡ false → FaultAt bytes codes.Limit Text → ⊥
+      limit_clear : (links routers : List Data) (poison : Bool) → root_fields document ≡ Some (links, routers, poison) → (nat_lt 512 (length links) || nat_lt 128 (length routers)) ≡ false
+          → FaultAt bytes codes.Limit Text → ⊥
       limit_clear links routers poison is room (inl more) = let past : 1048576 < length bytes = more in omega arith
       limit_clear links routers poison is room (inr (other, ls, rs, has, over)) =
           let (one, two, three) = one_tables bytes document links routers (tables links routers poison is) other ls rs has in
           over_clear links routers room (subst (λ (l : List Data). (512 < length links) ⊎ (128 < length l)) three (subst (λ (l : List Data). (512 < length l) ⊎ (128 < length rs)) two over))
 
-      by_fault : (links routers : List Data) (o : Found) → table_rows.has o → Before (ranked o) (0 ∷ 1 ∷ 1 ∷ []) ⊎ IsOfTables document links routers o → IsOfTables document links routers o × table_rows.has o
+      by_fault : (links routers : List Data) (o : Found) → table_rows.has o → Before (ranked o) (0 ∷ 1 ∷ 1 ∷ []) ⊎ IsOfTables document links routers o
+          → IsOfTables document links routers o × table_rows.has o
       by_fault links routers o here (inl before) = absurd (table_rows.low o here before)
       by_fault links routers o here (inr t) = (t, here)
 
@@ -264,15 +274,18 @@ text_finds laws bytes = by_length (nat_lt 1048576 (length bytes)) refl
 
     past_syntax : document_of bytes ≡ None → (o : Found) → Kind bytes o → Before (ranked o) (ranked (row_at codes.Syntax Text)) → ⊥
     past_syntax none o (long same) before = not_first (subst (λ (e : Found). Before (ranked e) (ranked (row_at codes.Syntax Text))) same before)
-    past_syntax none o (not_document same short none') before = before_not (ranked (row_at codes.Syntax Text)) (subst (λ (e : Found). Before (ranked e) (ranked (row_at codes.Syntax Text))) same before)
+    past_syntax none o (not_document same short none') before = before_not (ranked (row_at codes.Syntax Text))
+        (subst (λ (e : Found). Before (ranked e) (ranked (row_at codes.Syntax Text))) same before)
     past_syntax none o (of_document d t) before = none-some d (sym none ∙ t.reads)
 
     by_document : length bytes ≤ 1048576 → (o : Option Members) → document_of bytes ≡ o → Finds (IsTextFault bytes) (λ o. Unit {0}) (wanted (fault codes.Syntax Text) o >>= sketch_of_document)
     by_document short None e = (0, inl ((short, e), refl), tt, λ o u f before. past_syntax e o (kind bytes o.pass o.error.code o.error.place f) before)
     by_document short (Some document) e = all_find laws bytes document short e
 
-    by_length : (b : Bool) → nat_lt 1048576 (length bytes) ≡ b → Finds (IsTextFault bytes) (λ o. Unit {0}) (cond b (Err (fault codes.Limit Text)) (wanted (fault codes.Syntax Text) (document_of bytes) >>= sketch_of_document))
-    by_length true e = let more : 1048576 < length bytes = grind (arith, nat_tests) in (0, inl (inl more, refl), tt, λ o u f before. past_long more o (kind bytes o.pass o.error.code o.error.place f) before)
+    by_length : (b : Bool) → nat_lt 1048576 (length bytes) ≡ b → Finds (IsTextFault bytes) (λ o. Unit {0})
+        (cond b (Err (fault codes.Limit Text)) (wanted (fault codes.Syntax Text) (document_of bytes) >>= sketch_of_document))
+    by_length true e = let more : 1048576 < length bytes = grind (arith, nat_tests) in
+        (0, inl (inl more, refl), tt, λ o u f before. past_long more o (kind bytes o.pass o.error.code o.error.place f) before)
     by_length false e = by_document (grind (arith, nat_tests)) (document_of bytes) refl
 
 -- ---- a fault is known by its rank
@@ -368,7 +381,8 @@ fault_told laws bytes e = by_sketch (sketch_of bytes) refl
       λ p. absurd (faultless laws bytes s h e (p.pass, p.found)),
     )
     by_sketch (Err d) h = (
-      λ f. let same : d ≡ e = same_Some d e (ap (λ (r : Result Sketch PlanError). result_err (r >>= (λ s. Ok (network_of_sketch s)))) (sym h) ∙ f) in subst (PlanFault bytes) same (fault_first laws bytes d h),
+      λ f. let same : d ≡ e = same_Some d e (ap (λ (r : Result Sketch PlanError). result_err (r >>= (λ s. Ok (network_of_sketch s)))) (sym h) ∙ f) in subst (PlanFault bytes) same
+          (fault_first laws bytes d h),
       λ p. ap (λ (r : Result Sketch PlanError). result_err (r >>= (λ s. Ok (network_of_sketch s)))) h ∙ ap (λ (x : PlanError). Some x) (one d (fault_first laws bytes d h) p),
     )
 

@@ -23,11 +23,11 @@ use Rattle.rip_plan.specs.PlanOf.{AreAlsoOf, IsAddressOf, IsCostOf, IsDirectOf, 
 use Rattle.rip_plan.specs.Relations.{Carries, HasOwnAddress, IsConnected, IsInterface, IsLawful, IsOwnAt, IsPlace, IsPrefix}
 use Rattle.rip_plan.specs.WellFormed.{IsWellFormed}
 use Rattle.rip_plan.proofs.FurtherAddressLemmas.{also_count, also_in, also_items, also_under}
-use Rattle.rip_plan.proofs.ItemLemmas.{get_seen, get_split, see_got}
+use Rattle.rip_plan.proofs.ItemLemmas.{get_seen, get_split, see_got, get_left, get_past}
 use Rattle.rip_plan.proofs.MatchingLemmas.{matched_left, matched_length, matched_right}
 use Rattle.rip_plan.proofs.OnePlanLemmas.{cost_same, one_plan, text_same}
 use Rattle.rip_plan.proofs.PlanMatchLemmas.{with_number}
-use Rattle.rip_plan.proofs.SpotLemmas.{get_before, get_past, spots_count}
+use Rattle.rip_plan.proofs.SpotLemmas.{spots_count}
 use Rattle.rip_plan.proofs.TextFaultLemmas.{one_astray, one_fault, one_tables, same_document, version_is, version_told}
 use Rattle.rip_plan.proofs.TextLemmas.{TextLaws, one_address}
 use Rattle.rip_plan.specs.Texts.{IsAddressText, IsPrefixText, IsNoPrefix}
@@ -56,15 +56,22 @@ under_item key n (d ∷ ds) k m x h =
           (suc i, j, omega arith, item)
     ]
 
-under_at : (key : List ℕ) (n : ℕ) (ds : List Data) (i j : ℕ) (d x : Data) → slice_get ds i ≡ Some d → slice_get (items_in (get key d)) j ≡ Some x → (k : ℕ) × (slice_get (items_under key n ds) k ≡ Some (n + i, x))
+under_at : (key : List ℕ) (n : ℕ) (ds : List Data) (i j : ℕ) (d x : Data) → slice_get ds i ≡ Some d → slice_get (items_in (get key d)) j ≡ Some x
+    → (k : ℕ) × (slice_get (items_under key n ds) k ≡ Some (n + i, x))
 under_at key n [] i j d x h g = absurd (none-some d h)
 under_at key n (e ∷ ds) zero j d x h g =
     let same : e ≡ d = same_Some e d h in
-    let here : slice_get (items_in (get key e)) j ≡ Some x = ap (λ (t : Data). slice_get (items_in (get key t)) j) same ∙ g in
-    (j, get_before (map (with_number n) (items_in (get key e))) (items_under key (n + 1) ds) j (n, x) (see_got (with_number n) (items_in (get key e)) j x here) ∙ ap (λ (m : ℕ). Some (m, x)) (omega arith))
+    let here : slice_get (items_in (get key e)) j ≡ Some x = ap (λ (t : Data). slice_get (items_in (get key t)) j) same ∙ g in (
+      j,
+      get_left (map (with_number n) (items_in (get key e))) (items_under key (n + 1) ds) j (n, x) (see_got (with_number n) (items_in (get key e)) j x here)
+          ∙ ap (λ (m : ℕ). Some (m, x)) (omega arith),
+    )
 under_at key n (e ∷ ds) (suc i) j d x h g =
-    let (k, at) = under_at key (n + 1) ds i j d x h g in
-    (length (map (with_number n) (items_in (get key e))) + k, get_past (map (with_number n) (items_in (get key e))) (items_under key (n + 1) ds) k _ refl ∙ at ∙ ap (λ (m : ℕ). Some (m, x)) (omega arith))
+    let (k, at) = under_at key (n + 1) ds i j d x h g in (
+      length (map (with_number n) (items_in (get key e))) + k,
+      get_past (map (with_number n) (items_in (get key e))) (items_under key (n + 1) ds) k _ refl ∙ at
+          ∙ ap (λ (m : ℕ). Some (m, x)) (omega arith),
+    )
 
 -- where an item of a table stands in the lists at a key
 record StandsUnder (key : List ℕ) (ds : List Data) (i : ℕ) (x : Data) : Type 0 where
@@ -134,7 +141,8 @@ also_flat n (d ∷ ds) =
 
 -- ---- names
 
-names_good : (names : List (List ℕ)) (ds : List Data) → Matched IsNameOf names ds → (i k : ℕ) (name : List ℕ) (d : Data) → i ≡ suc k → nth ds i ≡ Some d → IsNameOf name d → slice_get names k ≡ Some name
+names_good : (names : List (List ℕ)) (ds : List Data) → Matched IsNameOf names ds → (i k : ℕ) (name : List ℕ) (d : Data) → i ≡ suc k → nth ds i ≡ Some d → IsNameOf name d
+    → slice_get names k ≡ Some name
 names_good names ds named (suc i) k name d number at its =
     let same : i ≡ k = omega arith in
     let (other, listed, of) = matched_right IsNameOf names ds i d named at in
@@ -147,7 +155,8 @@ misnamed_not : (names : List (List ℕ)) (ds : List Data) → Matched IsNameOf n
 misnamed_not names ds named P good zero name d at its = absurd (none-some d at)
 misnamed_not names ds named P good (suc k) name d at its = good k name (names_good names ds named (suc k) k name d refl at its)
 
-again_not : (names : List (List ℕ)) (ds : List Data) → Matched IsNameOf names ds → ((k m : ℕ) (name : List ℕ) → slice_get names k ≡ Some name → slice_get names m ≡ Some name → k ≡ m) → (i : ℕ) → IsNamedAgain ds i → ⊥
+again_not : (names : List (List ℕ)) (ds : List Data) → Matched IsNameOf names ds → ((k m : ℕ) (name : List ℕ) → slice_get names k ≡ Some name → slice_get names m ≡ Some name → k ≡ m) → (i : ℕ)
+    → IsNamedAgain ds i → ⊥
 again_not names ds named differ zero (d, earlier, k, name, at, its, less, there, theirs) = omega arith
 again_not names ds named differ (suc i) (d, earlier, zero, name, at, its, less, there, theirs) = none-some earlier there
 again_not names ds named differ (suc i) (d, earlier, suc k, name, at, its, less, there, theirs) =
@@ -171,7 +180,8 @@ module _ (laws : TextLaws) (document : Members) (n : Network) (plan : PlanOf doc
       )
 
   interfaces_count : length n.interfaces ≡ length (interface_spots plan.routers)
-  interfaces_count = matched_length (IsInterfaceOf n.links plan.poison) n.interfaces (items_under (codes_of "interface") 0 plan.routers) plan.interfaces ∙ sym (spots_count (codes_of "interface") RouterInterface 1 0 plan.routers)
+  interfaces_count = matched_length (IsInterfaceOf n.links plan.poison) n.interfaces (items_under (codes_of "interface") 0 plan.routers) plan.interfaces
+      ∙ sym (spots_count (codes_of "interface") RouterInterface 1 0 plan.routers)
 
   -- the interface of an item
   record HasInterface (x : Data) : Type 0 where
@@ -211,7 +221,7 @@ module _ (laws : TextLaws) (document : Members) (n : Network) (plan : PlanOf doc
   has_carrier : (l : ℕ) (p : Block) → HasPrefix plan.links l p → (k : ℕ) × Carries n l k
   has_carrier l p (k, text, at, parsed) =
       let (q, listed, of) = matched_right IsOnLink plan.on_links (items_under (codes_of "prefixes") 0 plan.links) k (l, string text) plan.link_prefixes at in
-      let (number, place, prefix) = its_place k q (get_before plan.on_links plan.owned k q listed) in
+      let (number, place, prefix) = its_place k q (get_left plan.on_links plan.owned k q listed) in
       (number, (k, subst (IsPlace n k number) of.seat place))
 
   carrier_has : (l p : ℕ) (block : Block) → Carries n l p → IsPrefix n p block → HasPrefix plan.links l block
@@ -226,7 +236,7 @@ module _ (laws : TextLaws) (document : Members) (n : Network) (plan : PlanOf doc
             (k, on.text, is ∙ ap (λ (y : ℕ × Data). Some y) (ap (λ (v : ℕ). (v, item)) number ∙ ap (λ (y : Data). (l, y)) on.is_text), subst (IsPrefixText on.text) (sym same) on.prefix)
         | inr there ↦
             let ((m, item), is, own) = matched_left (IsOwned n.links) plan.owned (items_under (codes_of "own") 0 plan.routers) there.0 q plan.own_prefixes there.2 in
-            let seat : seats.Link l ≡ seats.Own m own.cost own.kept own.link own.via = of.seat ∙ own.seat in
+            let seat : seats.Link l ≡ seats.Own own.own = of.seat ∙ own.seat in
             absurd cc
       ]
 
@@ -288,7 +298,8 @@ module _ (laws : TextLaws) (document : Members) (n : Network) (plan : PlanOf doc
 
   address_clash_not : (place : At) (m : Network) → PlanOf document m → IsClash (HaveOneAddress m) (interface_spots plan.routers) place ⊎ IsSo (HasOneTwice m) (interface_spots plan.routers) place → ⊥
   address_clash_not place m its (inl c) = clash_not HaveOneAddress (interface_spots plan.routers) place address_not m its c
-  address_clash_not place m its (inr c) = let (k, at, twice) = subst (λ (v : Network). IsSo (HasOneTwice v) (interface_spots plan.routers) place) (one_plan laws document m n its plan) c in once_not k twice
+  address_clash_not place m its (inr c) = let (k, at, twice) = subst (λ (v : Network). IsSo (HasOneTwice v) (interface_spots plan.routers) place)
+      (one_plan laws document m n its plan) c in once_not k twice
 
   astray_not : (place : At) (m : Network) → PlanOf document m → IsSo (IsAstray m) (place_spots plan.links plan.routers) place → ⊥
   astray_not place m its c =
@@ -326,15 +337,17 @@ module _ (laws : TextLaws) (document : Members) (n : Network) (plan : PlanOf doc
       let on : IsConnected n h.k h.i.router h.i.link h.i.direct = record { address = h.i.address; cost = h.i.cost; poison = h.i.poison; listed = h.listed } in
       elim wrong [
         | inl cost ↦ costs x h.i.cost h.of.cost (lawful.cost_least h.k h.i.router h.i.link h.i.cost is) (lawful.cost_most h.k h.i.router h.i.link h.i.cost is) cost
-        | inr direct ↦ directs x h.i.cost h.i.direct h.of.cost h.of.direct (lawful.direct_least h.k h.i.router h.i.link h.i.direct on) (lawful.direct_most h.k h.i.router h.i.link h.i.cost h.i.direct is on) direct
+        | inr direct ↦
+            directs x h.i.cost h.i.direct h.of.cost h.of.direct (lawful.direct_least h.k h.i.router h.i.link h.i.direct on)
+            (lawful.direct_most h.k h.i.router h.i.link h.i.cost h.i.direct is on) direct
       ]
 
   own_cost : (x : Data) → HasOwn x → HasWrongCost x → ⊥
   own_cost x h wrong =
       let k = length plan.on_links + h.k in
       let (p, place, prefix) = its_place k h.q (get_past plan.on_links plan.owned h.k k refl ∙ h.listed) in
-      let own : IsOwnAt n k p h.m h.of.cost = record { kept = h.of.kept; link = h.of.link; via = h.of.via; place = subst (IsPlace n k p) h.of.seat place } in
-      costs x h.of.cost h.of.is_cost (lawful.own_cost_least k p h.m h.of.cost own) (lawful.own_cost_most k p h.m h.of.cost own) wrong
+      let own : IsOwnAt n k p h.m h.of.own.cost = record { own = h.of.own; place = subst (IsPlace n k p) h.of.seat place; router = h.of.router; says = refl } in
+      costs x h.of.own.cost h.of.cost (lawful.own_cost_least k p h.m h.of.own.cost own) (lawful.own_cost_most k p h.m h.of.own.cost own) wrong
 
 -- ---- bytes that are well formed
 
@@ -398,7 +411,8 @@ module _ (laws : TextLaws) (bytes : List ℕ) (w : IsWellFormed bytes) where
   table_not codes.DuplicateName (Link i) f = again_not w.network.links w.plan.links w.plan.link_names w.lawful.link_names_differ i f
   table_not codes.Key (LinkPrefix i j) f = key_not i j f.0 f.1 f.2
   table_not codes.Prefix (LinkPrefix i j) f = prefix_not i j f.0 f.1 f.2
-  table_not codes.Limit (LinkPrefix i j) f = past_not laws w.document w.network w.plan w.lawful (place_spots w.plan.links w.plan.routers) (LinkPrefix i j) f.0 (few_places laws w.document w.network w.plan w.lawful) f.1 f.2
+  table_not codes.Limit (LinkPrefix i j) f = past_not laws w.document w.network w.plan w.lawful (place_spots w.plan.links w.plan.routers) (LinkPrefix i j) f.0
+      (few_places laws w.document w.network w.plan w.lawful) f.1 f.2
   table_not codes.Key (Router r) f = has_fields IsRouterTable w.plan.routers r f.0 w.router_tables f.1 f.2
   table_not codes.Name (Router r) f = router_named r f
   table_not codes.DuplicateName (Router r) f = again_not w.network.routers w.plan.routers w.plan.router_names w.lawful.router_names_differ r f
@@ -409,14 +423,20 @@ module _ (laws : TextLaws) (bytes : List ℕ) (w : IsWellFormed bytes) where
   table_not codes.OutsidePrefix (RouterInterface r j) f = outside_not laws w.document w.network w.plan w.lawful f.0 (its_interface laws w.document w.network w.plan w.lawful r j f.0 f.1) f.2
   table_not codes.Limit (RouterInterface r j) f = interface_limit laws w.document w.network w.plan w.lawful r j f
   table_not codes.Key (RouterOwn r j) f = item_fields IsOwnTable (codes_of "own") w.plan.routers r j f.0 w.own_tables f.1 f.2
-  table_not codes.Address (RouterOwn r j) f = let h = its_own laws w.document w.network w.plan w.lawful r j f.0 f.1 in gateways f.0 h.of.via h.of.is_via f.2
-  table_not codes.UnknownLink (RouterOwn r j) f = let h = its_own laws w.document w.network w.plan w.lawful r j f.0 f.1 in attached_not laws w.document w.network w.plan w.lawful f.0 h.of.link h.of.is_link f.2
+  table_not codes.Address (RouterOwn r j) f = let h = its_own laws w.document w.network w.plan w.lawful r j f.0 f.1 in gateways f.0 h.of.own.via h.of.via f.2
+  table_not codes.UnknownLink (RouterOwn r j) f =
+      let h = its_own laws w.document w.network w.plan w.lawful r j f.0 f.1 in
+      attached_not laws w.document w.network w.plan w.lawful f.0 h.of.own.link h.of.link f.2
   table_not codes.Prefix (RouterOwn r j) f = own_prefix_told r j f.0 f.1 f.2 f.3 f.4
   table_not codes.Cost (RouterOwn r j) f = own_cost laws w.document w.network w.plan w.lawful f.0 (its_own laws w.document w.network w.plan w.lawful r j f.0 f.1) f.2
-  table_not codes.Limit (RouterOwn r j) f = past_not laws w.document w.network w.plan w.lawful (place_spots w.plan.links w.plan.routers) (RouterOwn r j) f.0 (few_places laws w.document w.network w.plan w.lawful) f.1 f.2
-  table_not codes.DuplicatePrefix (LinkPrefix i j) f = clash_not laws w.document w.network w.plan w.lawful DoMeet (place_spots w.plan.links w.plan.routers) (LinkPrefix i j) (meet_not laws w.document w.network w.plan w.lawful) f.0 f.1 f.2
-  table_not codes.DuplicatePrefix (RouterOwn r j) f = clash_not laws w.document w.network w.plan w.lawful DoMeet (place_spots w.plan.links w.plan.routers) (RouterOwn r j) (meet_not laws w.document w.network w.plan w.lawful) f.0 f.1 f.2
-  table_not codes.TwiceOnLink (RouterInterface r j) f = clash_not laws w.document w.network w.plan w.lawful AreTwice (interface_spots w.plan.routers) (RouterInterface r j) (twice_not laws w.document w.network w.plan w.lawful) f.0 f.1 f.2
+  table_not codes.Limit (RouterOwn r j) f = past_not laws w.document w.network w.plan w.lawful (place_spots w.plan.links w.plan.routers) (RouterOwn r j) f.0
+      (few_places laws w.document w.network w.plan w.lawful) f.1 f.2
+  table_not codes.DuplicatePrefix (LinkPrefix i j) f = clash_not laws w.document w.network w.plan w.lawful DoMeet (place_spots w.plan.links w.plan.routers) (LinkPrefix i j)
+      (meet_not laws w.document w.network w.plan w.lawful) f.0 f.1 f.2
+  table_not codes.DuplicatePrefix (RouterOwn r j) f = clash_not laws w.document w.network w.plan w.lawful DoMeet (place_spots w.plan.links w.plan.routers) (RouterOwn r j)
+      (meet_not laws w.document w.network w.plan w.lawful) f.0 f.1 f.2
+  table_not codes.TwiceOnLink (RouterInterface r j) f = clash_not laws w.document w.network w.plan w.lawful AreTwice (interface_spots w.plan.routers) (RouterInterface r j)
+      (twice_not laws w.document w.network w.plan w.lawful) f.0 f.1 f.2
   table_not codes.DuplicateAddress (RouterInterface r j) f = address_clash_not laws w.document w.network w.plan w.lawful (RouterInterface r j) f.0 f.1 f.2
   table_not codes.NoInterface (Router r) f = bare_not laws w.document w.network w.plan w.lawful r f.0 f.1 f.2
   table_not c place f = absurd f
@@ -476,10 +496,12 @@ module _ (bytes : List ℕ) (none : (e : PlanError) → IsFault bytes e → ⊥)
     its_tables = record { text = text; has_links = plan.has_links; has_routers = plan.has_routers }
 
     its_links : All IsLinkTable plan.links
-    its_links = all_from IsLinkTable plan.links (λ k d at. by_table IsLinkTable link_fields link_told d (λ lacks. none_at codes.Key (Link (suc k)) (document, plan.links, plan.routers, its_tables, (d, at, lacks))) (link_not d))
+    its_links = all_from IsLinkTable plan.links (λ k d at. by_table IsLinkTable link_fields link_told d
+        (λ lacks. none_at codes.Key (Link (suc k)) (document, plan.links, plan.routers, its_tables, (d, at, lacks))) (link_not d))
 
     its_routers : All IsRouterTable plan.routers
-    its_routers = all_from IsRouterTable plan.routers (λ k d at. by_table IsRouterTable router_fields router_told d (λ lacks. none_at codes.Key (Router (suc k)) (document, plan.links, plan.routers, its_tables, (d, at, lacks))) (router_not d))
+    its_routers = all_from IsRouterTable plan.routers (λ k d at. by_table IsRouterTable router_fields router_told d
+        (λ lacks. none_at codes.Key (Router (suc k)) (document, plan.links, plan.routers, its_tables, (d, at, lacks))) (router_not d))
 
     its_interfaces : All (λ (at : ℕ × Data). IsInterfaceTable at.1) (items_under (codes_of "interface") 0 plan.routers)
     its_interfaces =

@@ -1,7 +1,8 @@
 -- The tables of a plan's document: which keys each may have, and the kinds of their values.
-use Rattle.std.specs.Prelude.{◌≡◌, ◌≢◌, ℕ, ℤ, List, [], ◌∷◌, Bool, codes, Some, slice_get}
+use Rattle.std.specs.Prelude.{◌≡◌, ◌≢◌, ℕ, ℤ, List, [], Bool, codes, Some, slice_get}
 use Rattle.toml.specs.Data.{Data, Items, Members, array, boolean, get, integer, string, table}
 use Rattle.rip_plan.specs.Fields.{list_of}
+use Rattle.rip_plan.specs.Keys.{interface_keys, link_keys, own_keys, root_keys, router_keys}
 
 -- the table has no key but these
 abbrev pub HasOnly : List (List ℕ) → Data → Type 0
@@ -45,8 +46,7 @@ IsTextList d =
 
 -- the document itself; its version is judged apart
 pub record IsRoot (document : Members) : Type 0 where
-  pub keys : HasOnly (codes "version" ∷ codes "link" ∷ codes "router" ∷ codes "poison" ∷ [])
-      (table document)
+  pub keys : HasOnly root_keys (table document)
   pub link : Has (codes "link") (table document) IsSomeList
   pub router : Has (codes "router") (table document) IsSomeList
   pub poison : MayHave (codes "poison") (table document) IsFlag
@@ -54,14 +54,14 @@ pub record IsRoot (document : Members) : Type 0 where
 pub record IsLinkTable (d : Data) : Type 0 where
   pub members : Members
   pub is_table : d ≡ table members
-  pub keys : HasOnly (codes "name" ∷ codes "prefixes" ∷ []) d
+  pub keys : HasOnly link_keys d
   pub name : Has (codes "name") d IsString
   pub prefixes : Has (codes "prefixes") d IsList
 
 pub record IsRouterTable (d : Data) : Type 0 where
   pub members : Members
   pub is_table : d ≡ table members
-  pub keys : HasOnly (codes "name" ∷ codes "interface" ∷ codes "own" ∷ []) d
+  pub keys : HasOnly router_keys d
   pub name : Has (codes "name") d IsString
   pub interface : Has (codes "interface") d IsList
   pub own : MayHave (codes "own") d IsList
@@ -69,9 +69,7 @@ pub record IsRouterTable (d : Data) : Type 0 where
 pub record IsInterfaceTable (d : Data) : Type 0 where
   pub members : Members
   pub is_table : d ≡ table members
-  pub keys : HasOnly
-      (codes "link" ∷ codes "address" ∷ codes "cost" ∷ codes "direct" ∷ codes "also"
-      ∷ codes "poison" ∷ []) d
+  pub keys : HasOnly interface_keys d
   pub link : Has (codes "link") d IsString
   pub address : Has (codes "address") d IsString
   pub cost : MayHave (codes "cost") d IsInteger
@@ -82,8 +80,7 @@ pub record IsInterfaceTable (d : Data) : Type 0 where
 pub record IsOwnTable (d : Data) : Type 0 where
   pub members : Members
   pub is_table : d ≡ table members
-  pub keys : HasOnly
-      (codes "prefix" ∷ codes "cost" ∷ codes "kept" ∷ codes "link" ∷ codes "via" ∷ []) d
+  pub keys : HasOnly own_keys d
   pub prefix : Has (codes "prefix") d IsString
   pub cost : MayHave (codes "cost") d IsInteger
   pub kept : MayHave (codes "kept") d IsFlag

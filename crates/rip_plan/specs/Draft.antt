@@ -22,7 +22,8 @@ use Rattle.rip_plan.specs.Fault.{fault, ◌>>=◌, wanted, steps, Fails}
 use Rattle.rip_plan.specs.Fields.{◌&>◌, link_fields, interface_fields, own_fields, router_fields, cost_of, direct_of, addresses_in, address_if, link_if}
 
 -- what was read: names, whether interfaces poison that do not say it, interfaces with the further
--- addresses of each, and places of prefixes; interfaces and places with where they stand in the text
+-- addresses of each, and places of prefixes; interfaces and places with where they stand in the
+-- text
 pub record Sketch : Type 0 where
   pub links : List (List ℕ)
   pub routers : List (List ℕ)
@@ -124,7 +125,13 @@ own_step r j d s =
     wanted (fault codes.Prefix (RouterOwn r j)) (prefix_in f.prefix) >>= (λ prefix.
     wanted (fault codes.Cost (RouterOwn r j)) (cost_of f.cost) >>= (λ cost.
     wanted (fault codes.UnknownLink (RouterOwn r j)) (link_if f.link s.links) >>= (λ link.
-    with_place (RouterOwn r j) prefix (seats.Own (r - 1) cost f.kept link via) s)))))
+    with_place (RouterOwn r j) prefix (seats.Own (record {
+      router = r - 1;
+      cost = cost;
+      kept = f.kept;
+      link = link;
+      via = via;
+    })) s)))))
 
 -- router r
 unfoldable pub router_step : ℕ → Data → Sketch → Result Sketch PlanError

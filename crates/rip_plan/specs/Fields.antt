@@ -4,6 +4,7 @@ use Rattle.std.specs.List.{list_all}
 use Rattle.toml.specs.Data.{Data, integer, Items, no_items, item, Members, no_members, member, get_member, as_bool, as_str, as_integer, as_array}
 use Rattle.rip_wire.specs.Address.{address_in}
 use Rattle.rip_plan.specs.declared.limits.TheConstants.{MOST_COST}
+use Rattle.rip_plan.specs.Keys.{interface_keys, link_keys, own_keys, root_keys, router_keys}
 use Rattle.rip_plan.specs.Names.{is_one_of, number_of_name}
 
 infixl 10 ◌&>◌
@@ -19,14 +20,6 @@ has_only keys (member k d ms) = is_one_of k keys && has_only keys ms
 abbrev pub list_of : Items → List Data
 list_of no_items = []
 list_of (item d ds) = d ∷ list_of ds
-
-abbrev pub link_keys : List (List ℕ)
-link_keys = codes "name" ∷ codes "prefixes" ∷ []
-
-abbrev pub interface_keys : List (List ℕ)
-interface_keys =
-    codes "link" ∷ codes "address" ∷ codes "cost" ∷ codes "direct" ∷ codes "also"
-    ∷ codes "poison" ∷ []
 
 abbrev pub text_at : List ℕ → Members → Option (List ℕ)
 text_at key ms = option_and_then as_str (get_member key ms)
@@ -113,10 +106,6 @@ addresses_in [] = Some []
 addresses_in (d ∷ ds) =
     as_str d &> address_in &> (λ a. addresses_in ds &> (λ others. Some (a ∷ others)))
 
-abbrev pub own_keys : List (List ℕ)
-own_keys =
-    codes "prefix" ∷ codes "cost" ∷ codes "kept" ∷ codes "link" ∷ codes "via" ∷ []
-
 -- what an own prefix's table gives
 pub record OwnFields : Type 0 where
   pub prefix : List ℕ
@@ -158,9 +147,6 @@ abbrev pub link_if : Option (List ℕ) → List (List ℕ) → Option (Option �
 link_if None links = Some None
 link_if (Some name) links = option_map Some (number_of_name name links)
 
-abbrev pub router_keys : List (List ℕ)
-router_keys = codes "name" ∷ codes "interface" ∷ codes "own" ∷ []
-
 -- the name, the interfaces and the own prefixes of a router's table
 unfoldable pub router_fields : Members → Option (List ℕ × List Data × List Data)
 router_fields ms =
@@ -170,9 +156,6 @@ router_fields ms =
     items_if (get_member (codes "own") ms) &> (λ owns.
     Some (name, interfaces, owns)))))
     else None
-
-abbrev pub root_keys : List (List ℕ)
-root_keys = codes "version" ∷ codes "link" ∷ codes "router" ∷ codes "poison" ∷ []
 
 -- a list that is not empty
 abbrev pub some_items : List Data → Option (List Data)

@@ -1,5 +1,6 @@
 pub mod Addresses
 pub mod Fault
+pub mod Keys
 pub mod Fields
 pub mod Seats
 pub mod Given

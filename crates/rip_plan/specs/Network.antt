@@ -122,7 +122,7 @@ cost_on r l (i ∷ is) = if i.router == r && i.link == l then Some i.direct else
 -- the metric at which the router has what is at the seat
 abbrev pub cost_at : ℕ → List Interface → Seat → Option ℕ
 cost_at r interfaces (seats.Link l) = cost_on r l interfaces
-cost_at r interfaces (seats.Own owner c kept link via) = if owner == r then Some c else None
+cost_at r interfaces (seats.Own own) = if own.router == r then Some own.cost else None
 
 -- the metric at which the router has prefix k, at the first place that touches it
 abbrev pub direct_at : ℕ → ℕ → List Interface → List Place → Option ℕ

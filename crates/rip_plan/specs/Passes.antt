@@ -29,12 +29,12 @@ same_prefix p q = p.network == q.network && p.prefix_len == q.prefix_len
 abbrev pub touched : List DraftInterface → Seat → List ℕ
 touched interfaces (seats.Link l) =
     map (λ i. i.interface.router) (filter (λ i. i.interface.link == l) interfaces)
-touched interfaces (seats.Own r c kept link via) = r ∷ []
+touched interfaces (seats.Own own) = own.router ∷ []
 
 abbrev pub is_same_link : Seat → Seat → Bool
 is_same_link (seats.Link l) (seats.Link m) = l == m
-is_same_link (seats.Link l) (seats.Own r c kept link via) = false
-is_same_link (seats.Own r c kept link via) seat = false
+is_same_link (seats.Link l) (seats.Own own) = false
+is_same_link (seats.Own own) seat = false
 
 -- a place with the routers that it touches
 pub record Touching : Type 0 where
@@ -100,8 +100,8 @@ is_there interfaces r l =
 -- a router's own prefix that is attached to a link on which the router is not
 abbrev pub is_astray : List DraftInterface → Seat → Bool
 is_astray interfaces (seats.Link l) = false
-is_astray interfaces (seats.Own r c kept link via) =
-    option_map_or (λ l. not (is_there interfaces r l)) link false
+is_astray interfaces (seats.Own own) =
+    option_map_or (λ l. not (is_there interfaces own.router l)) own.link false
 
 -- where the first such own prefix stands
 abbrev pub astray_in : List DraftInterface → List DraftPlace → Option At

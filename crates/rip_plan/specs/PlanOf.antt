@@ -4,6 +4,7 @@ use Rattle.std.specs.Prelude.{◌≡◌, ◌⊎◌, ℕ, ◌+◌, ◌≤◌, pos
 use Rattle.toml.specs.Data.{Data, Items, Members, string, boolean, integer, array, table, get}
 use Rattle.rip_wire.specs.Prefix.{Block}
 use Rattle.rip_plan.specs.declared.parts.Interface.{Interface}
+use Rattle.rip_plan.specs.declared.parts.OwnPrefix.{OwnPrefix}
 use Rattle.rip_plan.specs.declared.parts.Place.{Place}
 use Rattle.rip_plan.specs.declared.parts.Seat.{Seat}
 use Rattle.rip_plan.specs.declared.parts.Seat.TheVariants as seats
@@ -130,15 +131,13 @@ pub record IsOwned (links : List (List ℕ)) (p : Placement) (at : ℕ × Data) 
   pub text : List ℕ
   pub has_prefix : HasText (codes "prefix") at.1 text
   pub prefix : IsPrefixText text p.prefix
-  pub cost : ℕ
-  pub is_cost : IsCostOf at.1 cost
-  pub kept : Bool
-  pub is_kept : IsKeptOf at.1 kept
-  pub link : Option ℕ
-  pub is_link : IsLinkOf links at.1 link
-  pub via : Option ℕ
-  pub is_via : IsGatewayOf at.1 via
-  pub seat : p.seat ≡ seats.Own at.0 cost kept link via
+  pub own : OwnPrefix
+  pub seat : p.seat ≡ seats.Own own
+  pub router : own.router ≡ at.0
+  pub cost : IsCostOf at.1 own.cost
+  pub kept : IsKeptOf at.1 own.kept
+  pub link : IsLinkOf links at.1 own.link
+  pub via : IsGatewayOf at.1 own.via
 
 -- the prefixes, each once, in the order in which they first stand
 abbrev pub each_once : List Block → List Block

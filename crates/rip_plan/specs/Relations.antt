@@ -1,10 +1,11 @@
 -- What stands in a network: who is on which link at what cost, where each prefix is, and the laws
 -- that a plan keeps.
-use Rattle.std.specs.Prelude.{◌≡◌, ◌≢◌, ℕ, ◌<◌, ◌≤◌, ◌^◌, ◌⊎◌, List, ◌∷◌, length, map, sum, Bool, true, Contains, Option, Some, slice_get}
+use Rattle.std.specs.Prelude.{◌≡◌, ◌≢◌, ℕ, ◌<◌, ◌≤◌, ◌^◌, ◌⊎◌, List, ◌∷◌, length, map, sum, Bool, true, Contains, Some, slice_get}
 use Rattle.rip_wire.specs.Name.{IsName}
 use Rattle.rip_wire.specs.Prefix.{Block, ContainsAddress, IsBlock}
 use Rattle.rip_plan.specs.declared.limits.TheConstants.{MOST_ALSO, MOST_COST, MOST_INTERFACES, MOST_LINKS, MOST_PLACES, MOST_ROUTERS}
 use Rattle.rip_plan.specs.declared.parts.Interface.{Interface}
+use Rattle.rip_plan.specs.declared.parts.OwnPrefix.{OwnPrefix}
 use Rattle.rip_plan.specs.declared.parts.Seat.{Seat}
 use Rattle.rip_plan.specs.declared.parts.Seat.TheVariants.{Link, Own}
 use Rattle.rip_plan.specs.Network.{Network}
@@ -121,37 +122,32 @@ pub record IsPlace (n : Network) (k p : ℕ) (seat : Seat) : Type 0 where
 abbrev pub Carries : Network → ℕ → ℕ → Type 0
 Carries n l p = (k : ℕ) × IsPlace n k p (Link l)
 
+-- place k of the plan is prefix p as router r's own, of which the plan says this
+pub record IsOwnWith (n : Network) (k p r : ℕ) (Says : OwnPrefix → Type 0) : Type 0 where
+  pub own : OwnPrefix
+  pub place : IsPlace n k p (Own own)
+  pub router : own.router ≡ r
+  pub says : Says own
+
 -- place k of the plan is prefix p as router r's own, at cost c
-pub record IsOwnAt (n : Network) (k p r c : ℕ) : Type 0 where
-  pub kept : Bool
-  pub link : Option ℕ
-  pub via : Option ℕ
-  pub place : IsPlace n k p (Own r c kept link via)
+abbrev pub IsOwnAt : Network → ℕ → ℕ → ℕ → ℕ → Type 0
+IsOwnAt n k p r c = IsOwnWith n k p r (λ own. own.cost ≡ c)
 
 -- place k of the plan is prefix p as router r's own, attached to link l: a connected network of the
 -- router's interface there, beside the link's prefixes
-pub record IsAttachedAt (n : Network) (k p r l : ℕ) : Type 0 where
-  pub cost : ℕ
-  pub kept : Bool
-  pub via : Option ℕ
-  pub place : IsPlace n k p (Own r cost kept (Some l) via)
+abbrev pub IsAttachedAt : Network → ℕ → ℕ → ℕ → ℕ → Type 0
+IsAttachedAt n k p r l = IsOwnWith n k p r (λ own. own.link ≡ Some l)
 
 -- place k of the plan is prefix p as router r's own, and the plan says that the router keeps it
-pub record IsKeptAt (n : Network) (k p r : ℕ) : Type 0 where
-  pub cost : ℕ
-  pub link : Option ℕ
-  pub via : Option ℕ
-  pub place : IsPlace n k p (Own r cost true link via)
+abbrev pub IsKeptAt : Network → ℕ → ℕ → ℕ → Type 0
+IsKeptAt n k p r = IsOwnWith n k p r (λ own. own.kept ≡ true)
 
 -- place k of the plan is prefix p as router r's own, with gateway a
-pub record HasGatewayAt (n : Network) (k p r a : ℕ) : Type 0 where
-  pub cost : ℕ
-  pub kept : Bool
-  pub link : Option ℕ
-  pub place : IsPlace n k p (Own r cost kept link (Some a))
+abbrev pub HasGatewayAt : Network → ℕ → ℕ → ℕ → ℕ → Type 0
+HasGatewayAt n k p r a = IsOwnWith n k p r (λ own. own.via ≡ Some a)
 
--- place k of prefix p touches router r, which has the prefix there at metric c: the router is on the
--- link, or owns the prefix
+-- place k of prefix p touches router r, which has the prefix there at metric c: the router is on
+-- the link, or owns the prefix
 abbrev pub Touches : Network → ℕ → ℕ → ℕ → ℕ → Type 0
 Touches n k p r c =
     ((l : ℕ) × IsPlace n k p (Link l) × ((i : ℕ) × IsConnected n i r l c))

@@ -60,14 +60,14 @@ AreOnLinks interfaces lists =
 -- a link of the seat has a lower number
 abbrev pub IsLinkBelow : ℕ → Seat → Type 0
 IsLinkBelow links (seats.Link l) = l < links
-IsLinkBelow links (seats.Own r c kept link via) = Unit {0}
+IsLinkBelow links (seats.Own own) = Unit {0}
 
 -- an owner of the seat has a lower number
 abbrev pub IsOwnerBelow : ℕ → Seat → Type 0
 IsOwnerBelow routers (seats.Link l) = Unit {0}
-IsOwnerBelow routers (seats.Own r c kept link via) = r < routers
+IsOwnerBelow routers (seats.Own own) = own.router < routers
 
 -- the cell of an owner is among so many
 abbrev pub IsOwnerWithin : ℕ → ℕ → ℕ → Seat → Type 0
 IsOwnerWithin w p cells (seats.Link l) = Unit {0}
-IsOwnerWithin w p cells (seats.Own r c kept link via) = r * w + p < cells
+IsOwnerWithin w p cells (seats.Own own) = own.router * w + p < cells

@@ -13,7 +13,7 @@ listed eq m k = option_map_or (λ v. v.items) (get eq m k) []
 -- the routers that a seat touches, by the routers on each link
 abbrev pub touched_by : {S G : Type 0} → HashMap ℕ (Vec ℕ G) S → Seat → List ℕ
 touched_by on_links (seats.Link l) = listed nat_eq on_links l
-touched_by on_links (seats.Own r c kept link via) = r ∷ []
+touched_by on_links (seats.Own own) = own.router ∷ []
 
 -- two places of one prefix meet at these seats
 abbrev pub seats_meet : (Seat → List ℕ) → Seat → Seat → Bool

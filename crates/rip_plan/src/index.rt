@@ -138,12 +138,13 @@ fn write_costs_at(
     ensures { WritesCosts prefixes place.prefix (λ r. cost_at r interfaces.now place.seat) costs.old
         costs.new }
 {
-    match place.seat {
+    let seat = place.seat;
+    match seat {
         Seat::Link(link) => {
             let numbers = on_link[link].as_slice();
             write_costs_on(costs, interfaces, numbers, place.prefix, prefixes);
         }
-        Seat::Own { router, cost, .. } => costs[router * prefixes + place.prefix] = cost,
+        Seat::Own(own) => costs[own.router * prefixes + place.prefix] = own.cost,
     }
 }
 
@@ -200,8 +201,9 @@ pub(crate) fn owners_of(
     let mut owners = vec![in alloc; None; routers * prefixes]?;
     for i in (0..places.len()).rev() {
         let place = places[i];
-        if let Seat::Own { router, .. } = place.seat {
-            owners[router * prefixes + place.prefix] = Some(i as u16);
+        let seat = place.seat;
+        if let Seat::Own(own) = seat {
+            owners[own.router * prefixes + place.prefix] = Some(i as u16);
         }
     }
     Ok(owners)

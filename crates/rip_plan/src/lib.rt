@@ -18,5 +18,5 @@ pub use error::{At, PlanCode, PlanError};
 pub use limits::{
     MOST_ALSO, MOST_COST, MOST_INTERFACES, MOST_LINKS, MOST_PLACES, MOST_PLAN_BYTES, MOST_ROUTERS,
 };
-pub use parts::{Interface, Place, Seat};
+pub use parts::{Interface, OwnPrefix, Place, Seat};
 pub use plan::Plan;

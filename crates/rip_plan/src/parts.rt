@@ -23,26 +23,29 @@ pub struct Interface {
     pub poison: bool,
 }
 
+/// What the plan says of a router's own prefix.
+#[derive(Clone, Copy, Debug, PartialEq, Eq)]
+pub struct OwnPrefix {
+    /// The number of the router.
+    pub router: usize,
+    /// The cost at which the router has the prefix, 1 to 15.
+    pub cost: u8,
+    /// Whether the plan says that the router never gives the prefix up for an offer.
+    pub kept: bool,
+    /// The link of the router to which the prefix is attached: a connected network of the interface
+    /// there, beside the link's prefixes. The router keeps it, and does not tell of it on that link.
+    pub link: Option<usize>,
+    /// A gateway outside of the plan that the router may tell as next hop of the prefix.
+    pub via: Option<Address>,
+}
+
 /// Where a prefix stands: on a link, or with a router as its own.
 #[derive(Clone, Copy, Debug, PartialEq, Eq)]
 pub enum Seat {
     /// On the link of this number.
     Link(usize),
     /// With a router, as its own.
-    Own {
-        /// The number of the router.
-        router: usize,
-        /// The cost at which the router has the prefix, 1 to 15.
-        cost: u8,
-        /// Whether the plan says that the router never gives the prefix up for an offer.
-        kept: bool,
-        /// The link of the router to which the prefix is attached: a connected network of the
-        /// interface there, beside the link's prefixes. The router keeps it, and does not tell of it
-        /// on that link.
-        link: Option<usize>,
-        /// A gateway outside of the plan that the router may tell as next hop of the prefix.
-        via: Option<Address>,
-    },
+    Own(OwnPrefix),
 }
 
 impl Seat {
@@ -52,7 +55,7 @@ impl Seat {
     {
         match self {
             Seat::Link(_) => false,
-            Seat::Own { kept, link, .. } => kept || link.is_some(),
+            Seat::Own(own) => own.kept || own.link.is_some(),
         }
     }
 
@@ -62,7 +65,7 @@ impl Seat {
     {
         match self {
             Seat::Link(_) => None,
-            Seat::Own { link, .. } => link,
+            Seat::Own(own) => own.link,
         }
     }
 
@@ -72,7 +75,7 @@ impl Seat {
     {
         match self {
             Seat::Link(_) => None,
-            Seat::Own { via, .. } => via,
+            Seat::Own(own) => own.via,
         }
     }
 }

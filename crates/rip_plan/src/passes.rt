@@ -45,7 +45,7 @@ fn routers_touched<'a>(on_links: &'a HashMap<usize, Vec<usize>>, seat: &'a Seat)
             Some(routers) => routers.as_slice(),
             None => &[],
         },
-        Seat::Own { router, .. } => std::slice::from_ref(router),
+        Seat::Own(own) => std::slice::from_ref(&own.router),
     }
 }
 
@@ -103,22 +103,23 @@ fn meets_earlier(
     }
 }
 
-/// Adds the seat of a place to those at its prefix.
-fn add_seat(
+/// Adds a value to those at a prefix.
+fn add_at<V: Drop>(
     alloc: Global,
-    earlier: &mut HashMap<Prefix, Vec<Seat>>,
-    place: DraftPlace,
+    all: &mut HashMap<Prefix, Vec<V>>,
+    prefix: Prefix,
+    value: V,
 ) -> Result<(), AllocError>
-    ensures { IfOk result (λ done. (b : Block) → listed same_prefix earlier.new b
-        ≡ (if same_prefix place.prefix b then listed same_prefix earlier.old b ++ place.seat ∷ []
-        else listed same_prefix earlier.old b)) }
+    ensures { IfOk result (λ done. (b : Block) → listed same_prefix all.new b
+        ≡ (if same_prefix prefix b then listed same_prefix all.old b ++ value ∷ []
+        else listed same_prefix all.old b)) }
 {
-    let mut seats = match earlier.remove(&place.prefix) {
-        Some(seats) => seats,
+    let mut values = match all.remove(&prefix) {
+        Some(values) => values,
         None => Vec::new(alloc),
     };
-    seats.push(place.seat)?;
-    earlier.insert(place.prefix, seats)?;
+    values.push(value)?;
+    all.insert(prefix, values)?;
     Ok(())
 }
 
@@ -137,7 +138,7 @@ fn first_duplicate(
         if meets_earlier(&on_links, &place, &earlier) {
             return Ok(Some(place.at));
         }
-        add_seat(alloc, &mut earlier, place)?;
+        add_at(alloc, &mut earlier, place.prefix, place.seat)?;
     }
     Ok(None)
 }
@@ -229,8 +230,8 @@ fn is_astray(interfaces: &[DraftInterface], seat: Seat) -> bool
 {
     match seat {
         Seat::Link(_) => false,
-        Seat::Own { router, link, .. } => match link {
-            Some(link) => !is_there(interfaces, router, link),
+        Seat::Own(own) => match own.link {
+            Some(link) => !is_there(interfaces, own.router, link),
             None => false,
         },
     }

@@ -89,7 +89,8 @@ direct_text i = if i.direct == i.cost then [] else codes " direct " ++ decimal i
 abbrev pub poison_text : Bool → List ℕ
 poison_text poison = if poison then [] else codes " poison false"
 
--- `interface r1 a 10.1.0.1 cost 5 direct 1 poison false`, an interface without its further addresses
+-- `interface r1 a 10.1.0.1 cost 5 direct 1 poison false`, an interface without its further
+-- addresses
 unfoldable pub interface_text : Network → Interface → List ℕ
 interface_text n i =
     codes "interface " ++ name_of n.routers i.router ++ codes " " ++ name_of n.links i.link
@@ -122,8 +123,8 @@ interface_lines n = flat_map (line_of_interface n) (enumerate_from 0 n.interface
 -- the link, or the router, is one of the plan, and so is the link to which a prefix is attached
 abbrev pub IsSeat : Network → Seat → Type 0
 IsSeat n (seats.Link l) = l < length n.links
-IsSeat n (seats.Own r c kept link via) =
-    (r < length n.routers) × IfSome link (λ l. l < length n.links)
+IsSeat n (seats.Own own) =
+    (own.router < length n.routers) × IfSome own.link (λ l. l < length n.links)
 
 abbrev pub kept_text : Bool → List ℕ
 kept_text kept = if kept then codes " kept" else []
@@ -138,9 +139,9 @@ gateway_text (Some a) = codes " via " ++ address_text a
 
 abbrev pub seat_text : Network → Seat → List ℕ
 seat_text n (seats.Link l) = codes " link " ++ name_of n.links l
-seat_text n (seats.Own r c kept link via) =
-    codes " router " ++ name_of n.routers r ++ codes " cost " ++ decimal c
-    ++ kept_text kept ++ attached_text n link ++ gateway_text via
+seat_text n (seats.Own own) =
+    codes " router " ++ name_of n.routers own.router ++ codes " cost " ++ decimal own.cost
+    ++ kept_text own.kept ++ attached_text n own.link ++ gateway_text own.via
 
 -- `prefix 10.1.0.0/16 link a`, or `prefix 10.9.0.0/16 router r1 cost 1 kept link a via 10.1.0.254`
 unfoldable pub place_line : Network → Place → List ℕ
@@ -153,8 +154,8 @@ shown_plan n = record {
   status = Done;
 }
 
--- what is written for the bytes of a plan: their first fault, or one of the texts that a command has
--- for the plan that their document is
+-- what is written for the bytes of a plan: their first fault, or one of the texts that a command
+-- has for the plan that their document is
 pub data OfPlan (IsText : Network → Written → Type 0) (plan : List ℕ) : Written → Type 0 where
   a_fault : (e : PlanError) → PlanFault plan e → OfPlan IsText plan (refused_plan e)
   of_plan : (n : Network) (w : Written) → ((e : PlanError) → IsFault plan e → ⊥)

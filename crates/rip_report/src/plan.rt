@@ -196,20 +196,14 @@ fn push_seat(text: &mut Line, plan: &Plan, seat: Seat)
             text.push(" link ");
             push_link(text, plan, link);
         }
-        Seat::Own {
-            router,
-            cost,
-            kept,
-            link,
-            via,
-        } => {
+        Seat::Own(own) => {
             text.push(" router ");
-            push_router(text, plan, router);
+            push_router(text, plan, own.router);
             text.push(" cost ");
-            text.push_number(u64::from(cost));
-            push_kept(text, kept);
-            push_attached(text, plan, link);
-            push_gateway(text, via);
+            text.push_number(u64::from(own.cost));
+            push_kept(text, own.kept);
+            push_attached(text, plan, own.link);
+            push_gateway(text, own.via);
         }
     }
 }

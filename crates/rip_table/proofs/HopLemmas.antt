@@ -11,6 +11,7 @@ use Rattle.rip_plan.specs.Network.{Network}
 use Rattle.rip_plan.specs.Passes.{same_prefix}
 use Rattle.rip_plan.specs.Relations.{HasAddress, IsGateway, IsInterface, IsPrefix}
 use Rattle.rip_plan.specs.declared.parts.Interface.{Interface}
+use Rattle.rip_plan.specs.declared.parts.OwnPrefix.{OwnPrefix}
 use Rattle.rip_plan.specs.declared.parts.Seat.{Seat}
 use Rattle.rip_plan.specs.declared.parts.Seat.TheVariants.{Link, Own}
 use Rattle.rip_table.proofs.PrefixListLemmas.{same-is, same-self}
@@ -55,12 +56,15 @@ held_address n i a h = by (slice_get n.interfaces i) refl (slice_get n.also i) r
 
 -- ---- gateways
 
-gateway_seat : (r a : ℕ) (seat : Seat) → has_gateway r a seat ≡ true → (c : ℕ) × (kept : Bool) × (link : Option ℕ) × (seat ≡ Own r c kept link (Some a))
+gateway_seat : (r a : ℕ) (seat : Seat) → has_gateway r a seat ≡ true → (own : OwnPrefix) × (seat ≡ Own own) × (own.router ≡ r) × (own.via ≡ Some a)
 gateway_seat r a (Link l) h = absurd (cc h)
-gateway_seat r a (Own owner c kept link None) h = absurd (cc (and_parts (owner == r) false h).1)
-gateway_seat r a (Own owner c kept link (Some b)) h =
-    let parts = and_parts (owner == r) (b == a) h in
-    (c, kept, link, ap (λ (m : ℕ). Own m c kept link (Some b)) (eqb-true owner r parts.0) ∙ ap (λ (m : ℕ). Own r c kept link (Some m)) (eqb-true b a parts.1))
+gateway_seat r a (Own own) h =
+    let parts = and_parts (own.router == r) _ h in
+    (own, refl, eqb-true own.router r parts.0, gateway own.via parts.1)
+  where
+    gateway : (via : Option ℕ) → option_map_or (λ b. b == a) via false ≡ true → via ≡ Some a
+    gateway None t = absurd (cc t)
+    gateway (Some b) t = ap (λ (m : ℕ). Some m) (eqb-true b a t)
 
 prefix_is : (p : Block) (o : Option Block) → option_map_or (same_prefix p) o false ≡ true → o ≡ Some p
 prefix_is p None h = absurd (cc h)
@@ -68,9 +72,9 @@ prefix_is p (Some q) h = ap (λ (b : Block). Some b) (sym (same-is p q h))
 
 pub gateway_known : (n : Network) (i : ℕ) (p : Block) (a : ℕ) → KnowsGateway n i p a → knows_gateway n i p a ≡ true
 gateway_known n i p a (r, l, c, k, is, prefix, (j, has)) =
-    let seat : has_gateway r a (Own r has.cost has.kept has.link (Some a)) ≡ true = rw (eq-eqb r r refl, eq-eqb a a refl) refl in
+    let seat : has_gateway r a (Own has.own) ≡ true = rw (has.router, has.says, eq-eqb r r refl, eq-eqb a a refl) refl in
     let its : option_map_or (same_prefix p) (slice_get n.prefixes k) false ≡ true = ap (λ (o : Option Block). option_map_or (same_prefix p) o false) prefix ∙ same-self p in
-    let test : is_gateway n r p a (record { prefix = k; seat = Own r has.cost has.kept has.link (Some a) }) ≡ true = rw (seat, its) refl in
+    let test : is_gateway n r p a (record { prefix = k; seat = Own has.own }) ≡ true = rw (seat, its) refl in
     ap (λ (o : Option Interface). option_map_or (λ x. list_any (is_gateway n x.router p a) n.places) o false) is.listed
     ∙ any_passes_from_place (is_gateway n r p a) n.places j _ has.place.listed test
 
@@ -82,7 +86,7 @@ known_gateway n i p a h = by (slice_get n.interfaces i) refl h
     by (Some x) e t =
         let (j, q, at, test) = any_some (is_gateway n x.router p a) n.places t in
         let parts = and_parts (has_gateway x.router a q.seat) (option_map_or (same_prefix p) (slice_get n.prefixes q.prefix) false) test in
-        let (c, kept, link, seat) = gateway_seat x.router a q.seat parts.0 in
+        let (own, seat, router, via) = gateway_seat x.router a q.seat parts.0 in
         let placed = at ∙ ap (λ (s : Seat). Some (record { prefix = q.prefix; seat = s })) seat in (
           x.router,
           x.link,
@@ -90,7 +94,7 @@ known_gateway n i p a h = by (slice_get n.interfaces i) refl h
           q.prefix,
           record { address = x.address; direct = x.direct; poison = x.poison; listed = e },
           prefix_is p (slice_get n.prefixes q.prefix) parts.1,
-          (j, record { cost = c; kept = kept; link = link; place = record { listed = placed } }),
+          (j, record { own = own; place = record { listed = placed }; router = router; says = via }),
         )
 
 -- ---- as the plan answers

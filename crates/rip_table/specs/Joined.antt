@@ -45,7 +45,7 @@ holds_address n i a =
 -- the seat is with the router, with this gateway
 abbrev pub has_gateway : ℕ → ℕ → Seat → Bool
 has_gateway r a (Link l) = false
-has_gateway r a (Own owner c kept link via) = (owner == r) && option_map_or (λ b. b == a) via false
+has_gateway r a (Own own) = (own.router == r) && option_map_or (λ b. b == a) own.via false
 
 -- the place is the prefix as the router's own, with this gateway
 abbrev pub is_gateway : Network → ℕ → Block → ℕ → Place → Bool
@@ -55,7 +55,8 @@ is_gateway n r p a q =
 -- the router of the interface has this gateway for the prefix
 abbrev pub knows_gateway : Network → ℕ → Block → ℕ → Bool
 knows_gateway n i p a =
-    option_map_or (λ x. list_any (is_gateway n x.router p a) n.places) (slice_get n.interfaces i) false
+    option_map_or (λ x. list_any (is_gateway n x.router p a) n.places) (slice_get n.interfaces i)
+    false
 
 -- a next hop that interface i may tell of the prefix
 abbrev pub may_tell : Network → ℕ → Block → ℕ → Bool

@@ -14,7 +14,7 @@ use crate::draft::{Draft, DraftInterface, DraftPlace};
 use crate::error::{At, PlanCode, ReadError, fault};
 use crate::fields;
 use crate::limits::{MOST_ALSO, MOST_INTERFACES, MOST_PLACES};
-use crate::parts::{Interface, Seat};
+use crate::parts::{Interface, OwnPrefix, Seat};
 use rip_wire::{Address, Prefix, is_name};
 use std::alloc::{AllocError, Global};
 use std::collections::HashMap;
@@ -318,14 +318,14 @@ fn add_own(draft: &mut Draft, r: usize, j: usize, item: &Value) -> Result<(), Re
     let Some(link) = link_if(draft, given.link) else {
         return Err(fault(PlanCode::UnknownLink, at));
     };
-    let seat = Seat::Own {
+    let own = OwnPrefix {
         router: r - 1,
         cost,
         kept: given.kept,
         link,
         via,
     };
-    add_place(draft, at, prefix, seat)
+    add_place(draft, at, prefix, Seat::Own(own))
 }
 
 fn add_owns(draft: &mut Draft, r: usize, items: &[Value]) -> Result<(), ReadError>

@@ -16,8 +16,8 @@ loop-i-preserved-in-Own c =
     let w = c.args.prefixes in
     let q = c.index-places-i.result in
     let is = c.index-places-i.is in
-    let o = c.in-Own.router in
-    let owner : IsOwnerBelow c.args.routers (Own o c.in-Own.cost c.in-Own.kept c.in-Own.link c.in-Own.via) = rw (← is, c.in-Own.is) at (c.requires.owners (i - 1) q (omega arith)) in
+    let o = c.in-Own.own.router in
+    let owner : IsOwnerBelow c.args.routers (Own c.in-Own.own) = rw (← is, c.in-Own.is) at (c.requires.owners (i - 1) q (omega arith)) in
     let column : q.prefix < w = rw (← is) at (c.requires.prefixes (i - 1) q (omega arith)) in
     let inside : o * w + q.prefix < length c.loop-i.owners.items = omega (arith, c.loop-i.invariant.0, mul-add-lt o w q.prefix c.args.routers owner column) in (
       simp length-set c.loop-i.invariant.0,

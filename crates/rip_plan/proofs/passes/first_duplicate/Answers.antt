@@ -23,9 +23,10 @@ met interfaces by same front p seats h =
     each [] = refl
     each (q ∷ qs) = rw (each qs, same q.seat, same p.seat) refl
 
-touched_same : {S G : Type 0} (on_links : HashMap ℕ (Vec ℕ G) S) (interfaces : List DraftInterface) → ((l : ℕ) → listed nat_eq on_links l ≡ touched interfaces (Link l)) → (seat : Seat) → touched_by on_links seat ≡ touched interfaces seat
+touched_same : {S G : Type 0} (on_links : HashMap ℕ (Vec ℕ G) S) (interfaces : List DraftInterface) → ((l : ℕ) → listed nat_eq on_links l ≡ touched interfaces (Link l)) → (seat : Seat)
+    → touched_by on_links seat ≡ touched interfaces seat
 touched_same on_links interfaces h (Link l) = h l
-touched_same on_links interfaces h (Own r c kept link via) = refl
+touched_same on_links interfaces h (Own own) = refl
 
 pub returns-then-meets_earlier : goal.returns-then-meets_earlier
 returns-then-meets_earlier c =
@@ -34,8 +35,10 @@ returns-then-meets_earlier c =
     let k = c.loop-k.k in
     let p = c.index-places-k.result in
     let clash = λ (q r : DraftPlace). do_meet (touching is q) (touching is r) in
-    let before = met is (touched_by c.in_ok-on_links.on_links) (touched_same c.in_ok-on_links.on_links is c.in_ok-on_links.ensures) (take k places) p (listed same_prefix c.loop-k.earlier p.prefix) (c.loop-k.invariant.1 p.prefix) in
-    ap (option_map (λ (q : DraftPlace). q.at)) (clash_here clash places k p c.loop-k-test.true c.index-places-k.is _ (sym before ∙ sym c.meets_earlier.ensures ∙ c.if-meets_earlier.true) c.loop-k.invariant.0)
+    let before = met is (touched_by c.in_ok-on_links.on_links) (touched_same c.in_ok-on_links.on_links is c.in_ok-on_links.ensures) (take k places) p
+    (listed same_prefix c.loop-k.earlier p.prefix) (c.loop-k.invariant.1 p.prefix) in
+    ap (option_map (λ (q : DraftPlace). q.at)) (clash_here clash places k p c.loop-k-test.true c.index-places-k.is _
+    (sym before ∙ sym c.meets_earlier.ensures ∙ c.if-meets_earlier.true) c.loop-k.invariant.0)
     ∙ meeting_seen is places
 
 pub loop-k-preserved : goal.loop-k-preserved
@@ -45,11 +48,13 @@ loop-k-preserved c =
     let k = c.loop-k.k in
     let p = c.index-places-k.result in
     let clash = λ (q r : DraftPlace). do_meet (touching is q) (touching is r) in
-    let before = met is (touched_by c.in_ok-on_links.on_links) (touched_same c.in_ok-on_links.on_links is c.in_ok-on_links.ensures) (take k places) p (listed same_prefix c.loop-k.earlier p.prefix) (c.loop-k.invariant.1 p.prefix) in
+    let before = met is (touched_by c.in_ok-on_links.on_links) (touched_same c.in_ok-on_links.on_links is c.in_ok-on_links.ensures) (take k places) p
+    (listed same_prefix c.loop-k.earlier p.prefix) (c.loop-k.invariant.1 p.prefix) in
     let more : take (k + 1) places ≡ take k places ++ p ∷ [] = take_more places k p c.loop-k-test.true ∙ ap (λ q. take k places ++ q ∷ []) (sym c.index-places-k.is) in (
       clash_later clash places k p c.loop-k-test.true c.index-places-k.is _ (sym before ∙ sym c.meets_earlier.ensures ∙ c.if-meets_earlier.false) c.loop-k.invariant.0,
-      λ b. c.in_ok-add_seat.ensures b
-          ∙ rw (c.loop-k.invariant.1 b) (sym (ap (λ ps. map (λ q. q.seat) (filter (λ q. same_prefix q.prefix b) ps)) more ∙ listed_push (λ (q : DraftPlace). q.seat) (λ q. same_prefix q.prefix b) (take k places) p)),
+      λ b. c.in_ok-add_at.ensures b
+          ∙ rw (c.loop-k.invariant.1 b) (sym (ap (λ ps. map (λ q. q.seat) (filter (λ q. same_prefix q.prefix b) ps)) more
+          ∙ listed_push (λ (q : DraftPlace). q.seat) (λ q. same_prefix q.prefix b) (take k places) p)),
     )
 
 pub returns : goal.returns

@@ -1,4 +1,5 @@
-use Rattle.std.proofs.Common.{ℕ, ◌≤◌, ◌++◌, Ok, None, Some, length, ap, ◌∙◌, arith}
+use Rattle.std.proofs.Common.{◌≡◌, ℕ, ◌<◌, ◌≤◌, ◌++◌, Ok, Option, None, Some, length, refl, ap, ◌∙◌, arith}
+use Rattle.std.specs.Prelude.{IfSome}
 use Rattle.std.specs.List.{flat_map}
 use Rattle.rip_plan.specs.Network.{Network}
 use Rattle.rip_plan.specs.Relations.{IsLawful, IsPlace}
@@ -13,13 +14,13 @@ use Rattle.rip_report.proofs.plan.write_places.Goals as goal
 -- a place of a plan is on a link of it, or with a router of it
 known : (n : Network) (k p : ℕ) (seat : Seat) → IsLawful n → IsPlace n k p seat → IsSeat n seat
 known n k p (Link l) laws is = laws.seat_known k p l is
-known n k p (Own r c kept None via) laws is =
-    (laws.owner_known k p r c (record { kept = kept; link = None; via = via; place = is }), tt)
-known n k p (Own r c kept (Some l) via) laws is =
-    let there = laws.attached_there r p l (k, record { cost = c; kept = kept; via = via; place = is }) in (
-      laws.owner_known k p r c (record { kept = kept; link = Some l; via = via; place = is }),
-      laws.link_known there.1.0 r l there.0 there.1.1,
-    )
+known n k p (Own own) laws is = (laws.owner_known k p own.router own.cost (record { own = own; place = is; router = refl; says = refl }), attached own.link refl)
+  where
+    attached : (link : Option ℕ) → own.link ≡ link → IfSome link (λ l. l < length n.links)
+    attached None e = tt
+    attached (Some l) e =
+        let there = laws.attached_there own.router p l (k, record { own = own; place = is; router = refl; says = e }) in
+        laws.link_known there.1.0 own.router l there.0 there.1.1
 
 pub place_text-requires-clause-prefix : goal.place_text-requires-clause-prefix
 place_text-requires-clause-prefix g c = c.lawful.ensures.prefix_known c.loop-k.k c.place.result.prefix c.place.result.seat c.place.ensures
