@@ -68,7 +68,6 @@ IsElsewhere-foreign net i e h =
     let held : holds_address net i e.next_hop ≡ false = false_from_ne_true (holds_address net i e.next_hop) (λ t. let (l, has) = held_address net i e.next_hop t in h.other l has) in
     let known : knows_gateway net i e.prefix e.next_hop ≡ false = false_from_ne_true (knows_gateway net i e.prefix e.next_hop) (λ t. h.no_gateway (known_gateway net i e.prefix e.next_hop t)) in
     rw (low, differs e.next_hop 0 h.unspecified, held, known) refl
-  where
 
 -- ---- an entry
 
