@@ -40,11 +40,13 @@ text-password-of d h =
 text-password-tested : (d : List ℕ) → HasTextPassword d → has_text_password d ≡ true
 text-password-tested d h = and_from (has_password d) (is_of_entries (length d)) (password-tested d h.password) (entries-tested (length d) h.whole)
 
-size-tested : (d : List ℕ) → (trailer_at d + 4 + data_len d ≡ length d) ⊎ (trailer_at d + data_len d ≡ length d) → (trailer_at d + 4 + data_len d == length d || trailer_at d + data_len d == length d) ≡ true
+size-tested : (d : List ℕ) → (trailer_at d + 4 + data_len d ≡ length d) ⊎ (trailer_at d + data_len d ≡ length d) →
+    (trailer_at d + 4 + data_len d == length d || trailer_at d + data_len d == length d) ≡ true
 size-tested d (inl e) = or_left (trailer_at d + 4 + data_len d == length d) (trailer_at d + data_len d == length d) (eq-eqb (trailer_at d + 4 + data_len d) (length d) e)
 size-tested d (inr e) = or_right (trailer_at d + 4 + data_len d == length d) (trailer_at d + data_len d == length d) (eq-eqb (trailer_at d + data_len d) (length d) e)
 
-size-of : (d : List ℕ) → (trailer_at d + 4 + data_len d == length d || trailer_at d + data_len d == length d) ≡ true → (trailer_at d + 4 + data_len d ≡ length d) ⊎ (trailer_at d + data_len d ≡ length d)
+size-of : (d : List ℕ) → (trailer_at d + 4 + data_len d == length d || trailer_at d + data_len d == length d) ≡ true →
+    (trailer_at d + 4 + data_len d ≡ length d) ⊎ (trailer_at d + data_len d ≡ length d)
 size-of d h = elim (or_cases (trailer_at d + 4 + data_len d == length d) (trailer_at d + data_len d == length d) h) [
   | inl e ↦ inl (eqb-true (trailer_at d + 4 + data_len d) (length d) e)
   | inr e ↦ inr (eqb-true (trailer_at d + data_len d) (length d) e)

@@ -135,7 +135,8 @@ pub record Fronted (within : Option Order) (order : Order) (kind : BlockKind) (l
   pub kind_is : kind ≡ kind_of order b
   pub len_is : len ≡ block_len order b
 
-pub fronted-on : (within : Option Order) (order : Order) (kind : BlockKind) (len : ℕ) (xs ys : List ℕ) → front_len xs ≤ length xs → HasOrder within xs order → SaysFront order xs (Ok (kind, len)) → Extends xs ys → Fronted within order kind len ys
+pub fronted-on : (within : Option Order) (order : Order) (kind : BlockKind) (len : ℕ) (xs ys : List ℕ) → front_len xs ≤ length xs → HasOrder within xs order → SaysFront order xs (Ok (kind, len)) →
+    Extends xs ys → Fronted within order kind len ys
 fronted-on within order kind len xs ys room has says e =
     let begun : 8 ≤ length xs = omega (arith, room, front-least xs) in
     let same = kind-stays order xs ys (omega (arith, begun)) e in
@@ -189,7 +190,8 @@ module _ (within : Option Order) (b : List ℕ) (at_end : Bool) (begins : begins
   misses-section code some (less, inl read) = inl (read, lacks_front (omega (arith, less, front-of-section b begins)))
   misses-section code some (less, inr cut) = inr (λ s e. short_front some (omega (arith, less, front-of-section b begins)) cut.0, λ e. cut.1)
 
-  pub section-order : (r : Option Order) → 12 ≤ length b → MatchOption r ((order : Order) → number_at 4 8 b ≢ order_number order) (λ order. number_at 4 8 b ≡ order_number order) → FindsOrder within b at_end (ok_or r codes.Version)
+  pub section-order : (r : Option Order) → 12 ≤ length b → MatchOption r ((order : Order) → number_at 4 8 b ≢ order_number order) (λ order. number_at 4 8 b ≡ order_number order) →
+      FindsOrder within b at_end (ok_or r codes.Version)
   section-order (Some order) room is = (omega (arith, room, front-most b), own begins is)
   section-order None room is = inr (λ s e. no_order (omega (arith, room, front-most b)) begins is refl, λ e. cc e)
 
@@ -202,7 +204,8 @@ misses-next within b at_end code begun (less, inl read) = inl (read, lacks_front
 misses-next within b at_end code begun (less, inr cut) = inr (λ s e. short_front (begun cut.0) (omega (arith, less, front-least b)) cut.0, λ e. cut.1)
 
 -- what is wrong with a front
-pub front-fault : (within : Option Order) (order : Order) (b : List ℕ) (at_end : Bool) (code : CaptureCode) → front_len b ≤ length b → HasOrder within b order → SaysFront order b (Err code) → NoNextBlock within b at_end code
+pub front-fault : (within : Option Order) (order : Order) (b : List ℕ) (at_end : Bool) (code : CaptureCode) → front_len b ≤ length b → HasOrder within b order → SaysFront order b (Err code) →
+    NoNextBlock within b at_end code
 front-fault within order b at_end codes.Length room has says =
     inr (λ s e. ordered order room (subst (λ (o : Option Order). HasOrder o b order) (sym e) has) (bad_size says refl), λ e. cc e)
 front-fault within order b at_end codes.OldPacket room has says =

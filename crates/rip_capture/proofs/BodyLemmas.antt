@@ -23,7 +23,8 @@ use Rattle.rip_capture.specs.declared.link.LinkType.{LinkType}
 use Rattle.rip_capture.specs.declared.numbers.Order.{Order}
 use Rattle.rip_capture.specs.declared.span.Span.{Span}
 
-pub packet-fault : (order : Order) (interfaces : List Interface) (form : PacketForm) (b : List ℕ) (code : CaptureCode) → ReadsPacket order interfaces form b (Err code) → PacketFault order interfaces form b code
+pub packet-fault : (order : Order) (interfaces : List Interface) (form : PacketForm) (b : List ℕ) (code : CaptureCode) → ReadsPacket order interfaces form b (Err code) →
+    PacketFault order interfaces form b code
 packet-fault order interfaces form b codes.Interface says = no_interface says refl
 packet-fault order interfaces form b codes.Length says = bad_length says.0 says.1 says.2 refl
 packet-fault order interfaces form b codes.LinkType says = no_type says.0 says.1 says.2 says.3 refl
@@ -40,7 +41,8 @@ version-only now order b kind code is (bad_version k wrong e) = bad_version k wr
 version-only now order b kind code is (too_many n k at many e) = absurd (cc (is, k))
 version-only now order b kind code is (bad_packet n form k at f) = absurd (cc (is, k))
 
-pub body-fault-in : (s : Option Section) (now : Section) (order : Order) (b : List ℕ) (kind : BlockKind) (code : CaptureCode) → (s ≡ None → kind ≡ kinds.Section) → ((n : Section) → s ≡ Some n → n ≡ now) → ReadsBody order now.interfaces kind b (Err code) → BodyFault s order b kind code
+pub body-fault-in : (s : Option Section) (now : Section) (order : Order) (b : List ℕ) (kind : BlockKind) (code : CaptureCode) → (s ≡ None → kind ≡ kinds.Section) →
+    ((n : Section) → s ≡ Some n → n ≡ now) → ReadsBody order now.interfaces kind b (Err code) → BodyFault s order b kind code
 body-fault-in s now order b kind code only is (inl says) = bad_version says.0 says.1 says.2
 body-fault-in None now order b kind code only is (inr f) = version-only now order b kind code (only refl) (f now refl)
 body-fault-in (Some n) now order b kind code only is (inr f) = subst (λ (m : Section). BodyFault (Some m) order b kind code) (sym (is n refl)) (f now refl)
@@ -102,7 +104,8 @@ abbrev pub frames-in : List ℕ → Body → List Frame
 frames-in b (says.Packet t span) = record { link_type = t; bytes = slice_range b span.from span.to } ∷ []
 frames-in b _ = []
 
-lies-packet : (order : Order) (interfaces : List Interface) (form : PacketForm) (b : List ℕ) (t : LinkType) (span : Span) → LiesAt order interfaces form b t span → IsPacket order interfaces form b (record { link_type = t; bytes = slice_range b span.from span.to })
+lies-packet : (order : Order) (interfaces : List Interface) (form : PacketForm) (b : List ℕ) (t : LinkType) (span : Span) → LiesAt order interfaces form b t span →
+    IsPacket order interfaces form b (record { link_type = t; bytes = slice_range b span.from span.to })
 lies-packet order interfaces form b t span is = record {
   interface = is.interface;
   described = is.described;
@@ -111,7 +114,8 @@ lies-packet order interfaces form b t span is = record {
   bytes = ap (λ (n : ℕ). slice_range b n span.to) is.from ∙ ap (slice_range b (packet_from form)) is.to;
 }
 
-does-in : (now : Section) (order : Order) (b : List ℕ) (kind : BlockKind) (body : Body) → kind ≢ kinds.OldPacket → ReadsBody order now.interfaces kind b (Ok body) → Does (Some now) order b kind (frames-in b body) (entered now order body)
+does-in : (now : Section) (order : Order) (b : List ℕ) (kind : BlockKind) (body : Body) → kind ≢ kinds.OldPacket → ReadsBody order now.interfaces kind b (Ok body) →
+    Does (Some now) order b kind (frames-in b body) (entered now order body)
 does-in now order b kind says.Section young reads = does_section reads.0 reads.1 refl refl
 does-in now order b kind (says.Interface i) young reads =
     does_interface now reads.0 refl reads.2 refl (ap (λ (x : Interface). record { order = now.order; interfaces = now.interfaces ++ x ∷ [] }) reads.1)
@@ -120,7 +124,8 @@ does-in now order b kind (says.Packet t span) young reads =
 does-in now order b kind says.Other young (inl is) = does_nothing now is refl refl refl
 does-in now order b kind says.Other young (inr old) = absurd (young old)
 
-pub does-of : (s : Option Section) (now : Section) (order : Order) (b : List ℕ) (kind : BlockKind) (body : Body) → kind ≢ kinds.OldPacket → (s ≡ None → kind ≡ kinds.Section) → ((n : Section) → s ≡ Some n → n ≡ now) → ReadsBody order now.interfaces kind b (Ok body) → Does s order b kind (frames-in b body) (entered now order body)
+pub does-of : (s : Option Section) (now : Section) (order : Order) (b : List ℕ) (kind : BlockKind) (body : Body) → kind ≢ kinds.OldPacket → (s ≡ None → kind ≡ kinds.Section) →
+    ((n : Section) → s ≡ Some n → n ≡ now) → ReadsBody order now.interfaces kind b (Ok body) → Does s order b kind (frames-in b body) (entered now order body)
 does-of (Some n) now order b kind body young only is reads =
     subst (λ (m : Section). Does (Some m) order b kind (frames-in b body) (entered now order body)) (sym (is n refl)) (does-in now order b kind body young reads)
 does-of None now order b kind says.Section young only is reads = does_section reads.0 reads.1 refl refl
@@ -130,7 +135,8 @@ does-of None now order b kind says.Other young only is (inl other) = absurd (cc 
 does-of None now order b kind says.Other young only is (inr old) = absurd (young old)
 
 -- a block of a packet says a packet
-pub packet-said : (order : Order) (interfaces : List Interface) (b : List ℕ) (kind : BlockKind) (form : PacketForm) (body : Body) → kind ≡ kinds.Packet form → ReadsBody order interfaces kind b (Ok body) → (t : LinkType) × (span : Span) × (body ≡ says.Packet t span)
+pub packet-said : (order : Order) (interfaces : List Interface) (b : List ℕ) (kind : BlockKind) (form : PacketForm) (body : Body) → kind ≡ kinds.Packet form →
+    ReadsBody order interfaces kind b (Ok body) → (t : LinkType) × (span : Span) × (body ≡ says.Packet t span)
 packet-said order interfaces b kind form says.Section is reads = absurd (cc (is, reads.0))
 packet-said order interfaces b kind form (says.Interface i) is reads = absurd (cc (is, reads.0))
 packet-said order interfaces b kind form (says.Packet t span) is reads = (t, span, refl)

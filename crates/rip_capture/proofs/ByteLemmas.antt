@@ -46,11 +46,16 @@ records-bytes P order t b (f ∷ fs) (first, rest, is, are, whole) all =
 range-bytes : (P : ℕ → Type 0) (xs : List ℕ) (i j : ℕ) → AllByRecursion P xs → AllByRecursion P (slice_range xs i j)
 range-bytes P xs i j all = all-take P (j - i) (drop i xs) (all-drop P i xs all)
 
-does-bytes : (P : ℕ → Type 0) (s : Option Section) (order : Order) (b : List ℕ) (kind : BlockKind) (fs : List Frame) (t : Section) → Does s order b kind fs t → AllByRecursion P b → AllByRecursion (λ f. AllByRecursion P f.bytes) fs
+does-bytes : (P : ℕ → Type 0) (s : Option Section) (order : Order) (b : List ℕ) (kind : BlockKind) (fs : List Frame) (t : Section) → Does s order b kind fs t → AllByRecursion P b →
+    AllByRecursion (λ f. AllByRecursion P f.bytes) fs
 does-bytes P s order b kind fs t (section k v none e) all = subst (AllByRecursion (λ (f : Frame). AllByRecursion P f.bytes)) (sym none) tt
 does-bytes P s order b kind fs t (interface now k at few none e) all = subst (AllByRecursion (λ (f : Frame). AllByRecursion P f.bytes)) (sym none) tt
 does-bytes P s order b kind fs t (packet now form f k at is one e) all =
-    subst (AllByRecursion (λ (f : Frame). AllByRecursion P f.bytes)) (sym one) (subst (AllByRecursion P) (sym is.bytes) (range-bytes P b (packet_from form) (packet_from form + packet_len order form b is.interface) all), tt)
+    subst (AllByRecursion (λ (f : Frame). AllByRecursion P f.bytes)) (sym one) (
+      subst (AllByRecursion P) (sym is.bytes)
+          (range-bytes P b (packet_from form) (packet_from form + packet_len order form b is.interface) all),
+      tt,
+    )
 does-bytes P s order b kind fs t (other now k at none e) all = subst (AllByRecursion (λ (f : Frame). AllByRecursion P f.bytes)) (sym none) tt
 
 blocks-bytes : (P : ℕ → Type 0) (s l : Option Section) (b : List ℕ) (fs : List Frame) → AreBlocks s b fs l → AllByRecursion P b → AllByRecursion (λ f. AllByRecursion P f.bytes) fs
@@ -58,7 +63,8 @@ blocks-bytes P s l b fs (no_blocks _ _ _ _ empty none is) all = subst (AllByRecu
 blocks-bytes P s l b fs (more_blocks _ _ _ _ order first rest mine theirs next is does are whole split) all =
     let both = subst (AllByRecursion P) whole all in
     subst (AllByRecursion (λ (f : Frame). AllByRecursion P f.bytes)) (sym split)
-    (all-both (λ (f : Frame). AllByRecursion P f.bytes) mine theirs (does-bytes P s order first (kind_of order first) mine next does (all-left P first rest both)) (blocks-bytes P (Some next) l rest theirs are (all-right P first rest both)))
+    (all-both (λ (f : Frame). AllByRecursion P f.bytes) mine theirs (does-bytes P s order first (kind_of order first) mine next does (all-left P first rest both))
+    (blocks-bytes P (Some next) l rest theirs are (all-right P first rest both)))
 
 pub capture-bytes : (P : ℕ → Type 0) (b : List ℕ) (fs : List Frame) → IsCapture b fs → AllByRecursion P b → AllByRecursion (λ f. AllByRecursion P f.bytes) fs
 capture-bytes P b fs (pcap order t h) all =

@@ -116,7 +116,8 @@ packet-cases now order b form =
                 ]
           ]
     ] where
-      packet-does : (i : Interface) → slice_get now.interfaces (interface_of order form b) ≡ Some i → HasPacketLength order form b i → (t : LinkType) → number_of t ≡ i.link_number → DoesSo (Some now) order b (kinds.Packet form)
+      packet-does : (i : Interface) → slice_get now.interfaces (interface_of order form b) ≡ Some i → HasPacketLength order form b i → (t : LinkType) → number_of t ≡ i.link_number →
+          DoesSo (Some now) order b (kinds.Packet form)
       packet-does i described can t link =
           let frame : Frame = record { link_type = t; bytes = slice_range b (packet_from form) (packet_from form + packet_len order form b i) } in
           (frame ∷ [], now, does_packet now form frame refl refl (record { interface = i; described = described; can = can; link = link; bytes = refl }) refl refl)
@@ -156,7 +157,8 @@ HasBlockFault s b = (code : CaptureCode) × BlockFault s b code
 
 module _ (s : Option Section) (b : List ℕ) (begins : s ≡ None → begins_section b ≡ true) where
   -- a block, whole
-  whole-cases : (order : Order) (room : front_len b ≤ length b) (has : HasOrder (order_of s) b order) → kind_of order b ≢ kinds.OldPacket → (n : ℕ) → n ≡ block_len order b → IsBlock (order_of s) order (take n b) → kind_of order b ≡ kind_of order (take n b) → FirstBlock s b ⊎ HasBlockFault s b
+  whole-cases : (order : Order) (room : front_len b ≤ length b) (has : HasOrder (order_of s) b order) → kind_of order b ≢ kinds.OldPacket → (n : ℕ) → n ≡ block_len order b →
+      IsBlock (order_of s) order (take n b) → kind_of order b ≡ kind_of order (take n b) → FirstBlock s b ⊎ HasBlockFault s b
   whole-cases order room has young n len is kind =
       elim (does-cases s order (take n b) (kind_of order (take n b)) (λ old. young (kind ∙ old)) (λ none. sym kind ∙ section-kind order b (begins none))) [
         | inl does ↦ inl (record { order = order; first = take n b; rest = drop n b; frames = does.0; next = does.1; is = is; does = does.2; whole = sym (take-append-drop n b) })
@@ -181,9 +183,11 @@ module _ (s : Option Section) (b : List ℕ) (begins : s ≡ None → begins_sec
                   ]
             ]
       ] where
-        found : HasLength order b → kind_of order b ≢ kinds.OldPacket → block_len order b ≤ length b → number_in order (block_len order b - 4) b ≡ block_len order b → FirstBlock s b ⊎ HasBlockFault s b
+        found : HasLength order b → kind_of order b ≢ kinds.OldPacket → block_len order b ≤ length b → number_in order (block_len order b - 4) b ≡ block_len order b →
+            FirstBlock s b ⊎ HasBlockFault s b
         found can young inside end =
-            let is = block-found (order_of s) order (kind_of order b) (block_len order b) b true (record { room = room; order_is = has; can = can; young = young; kind_is = refl; len_is = refl }) inside end in
+            let is = block-found (order_of s) order (kind_of order b) (block_len order b) b true
+            (record { room = room; order_is = has; can = can; young = young; kind_is = refl; len_is = refl }) inside end in
             whole-cases order room has young (block_len order b) refl is.0 is.1
 
   -- the byte order
@@ -249,7 +253,8 @@ walk-blocks (suc fuel) s b begins less =
           elim (block-cases s b begins some) [
             | inr fault ↦ walk-ends s b (Some fault.0) fault.1
             | inl f ↦
-                walk-block s b f (walk-blocks fuel (Some f.next) f.rest (λ e. cc e) (omega (arith, less, ap length f.whole, length-append f.first f.rest, block-least (order_of s) f.order f.first f.is)))
+                walk-block s b f (walk-blocks fuel (Some f.next) f.rest (λ e. cc e)
+                (omega (arith, less, ap length f.whole, length-append f.first f.rest, block-least (order_of s) f.order f.first f.is)))
           ]
     ]
 

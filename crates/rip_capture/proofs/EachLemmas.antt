@@ -108,7 +108,8 @@ walk (suc fuel) o t b less =
                       elim (cases_lt (length b) (16 + captured_len o b)) [
                         | inl cut ↦ walk-end o t b (Some codes.Cut) (cut_record room few cut refl)
                         | inr inside ↦
-                            walk-on o t b (captured_len o b) (record-of o t b (captured_len o b) inside refl few) (walk fuel o t (drop (16 + captured_len o b) b) (omega (arith, less, length-drop (16 + captured_len o b) b)))
+                            walk-on o t b (captured_len o b) (record-of o t b (captured_len o b) inside refl few)
+                            (walk fuel o t (drop (16 + captured_len o b) b) (omega (arith, less, length-drop (16 + captured_len o b) b)))
                       ]
                 ]
           ]
@@ -129,7 +130,8 @@ front-faulty : (b : List ℕ) (code : CaptureCode) → FrontFault b code → Has
 front-faulty b code f = record { frames = []; code = code; at = 0; is = at_front refl refl f }
 
 -- behind its header
-ends-as : (o : Order) (t : LinkType) (b : List ℕ) (frames : List Frame) (right rest : List ℕ) (ends : Option CaptureCode) → IsPcap right o t frames → Stops o rest ends → b ≡ right ++ rest → HasFrames b ⊎ HasFault b
+ends-as : (o : Order) (t : LinkType) (b : List ℕ) (frames : List Frame) (right rest : List ℕ) (ends : Option CaptureCode) → IsPcap right o t frames → Stops o rest ends → b ≡ right ++ rest →
+    HasFrames b ⊎ HasFault b
 ends-as o t b frames right rest None is stops whole =
     inl (frames, pcap_capture o t (subst (λ (l : List ℕ). IsPcap l o t frames) (sym (whole ∙ ap (λ (l : List ℕ). right ++ l) stops ∙ append-nil right)) is))
 ends-as o t b frames right rest (Some code) is stops whole =
@@ -160,7 +162,8 @@ behind-magic o b begun magic =
     ]
 
 -- behind the front of a section
-blocks-end : (b : List ℕ) (frames : List Frame) (right rest : List ℕ) (last : Option Section) (ends : Option CaptureCode) → 4 ≤ length b → begins_section b ≡ true → AreBlocks None right frames last → StopsAtBlock last rest ends → b ≡ right ++ rest → HasFrames b ⊎ HasFault b
+blocks-end : (b : List ℕ) (frames : List Frame) (right rest : List ℕ) (last : Option Section) (ends : Option CaptureCode) → 4 ≤ length b → begins_section b ≡ true → AreBlocks None right frames last →
+    StopsAtBlock last rest ends → b ≡ right ++ rest → HasFrames b ⊎ HasFault b
 blocks-end b frames right rest last (Some code) room begins are stops whole =
     inr (record { frames = frames; code = code; at = length right; is = in_pcapng last right rest room begins whole are refl stops })
 blocks-end b frames right rest last None room begins are stops whole =

@@ -108,7 +108,15 @@ frame-is order t first frame is =
 -- the first record, where two are told
 first-one : (order : Order) (t : LinkType) (a b c d : List ℕ) (f g : Frame) → IsRecord order t a f → IsRecord order t c g → a ++ b ≡ c ++ d → (a ≡ c) × (b ≡ d) × (f ≡ g)
 first-one order t a b c d f g is js e =
-    let size : length a ≡ length c = omega (arith, record-size order t a f is, record-size order t c g js, captured-stays order t a b f is, captured-stays order t c d g js, ap (captured_len order) e) in
+    let size : length a ≡ length c = omega (
+      arith,
+      record-size order t a f is,
+      record-size order t c g js,
+      captured-stays order t a b f is,
+      captured-stays order t c d g js,
+      ap
+          (captured_len order) e,
+    ) in
     let p = parts a b c d size e in
     (p.0, p.1, frame-is order t a f is ∙ ap (λ (l : List ℕ). record { link_type = t; bytes = drop 16 l }) p.0 ∙ sym (frame-is order t c g js))
 
@@ -118,7 +126,8 @@ pub record One (fs gs : List Frame) (o p : Option CaptureCode) (xs ys : List ℕ
   pub ends : o ≡ p
   pub size : length xs ≡ length ys
 
-records-one : (order : Order) (t : LinkType) (fs gs : List Frame) (xs ys rest last : List ℕ) (o p : Option CaptureCode) → AreRecords order t xs fs → Stops order rest o → AreRecords order t ys gs → Stops order last p → xs ++ rest ≡ ys ++ last → One fs gs o p xs ys
+records-one : (order : Order) (t : LinkType) (fs gs : List Frame) (xs ys rest last : List ℕ) (o p : Option CaptureCode) → AreRecords order t xs fs → Stops order rest o → AreRecords order t ys gs →
+    Stops order last p → xs ++ rest ≡ ys ++ last → One fs gs o p xs ys
 records-one order t [] [] xs ys rest last o p h s k r e =
     let same : rest ≡ last = ap (λ (l : List ℕ). l ++ rest) (sym h) ∙ e ∙ ap (λ (l : List ℕ). l ++ last) k in
     record { frames = refl; ends = Stops-one order last o p (subst (λ (l : List ℕ). Stops order l o) same s) r; size = ap length (h ∙ sym k) }
@@ -147,7 +156,8 @@ holds-record order t first rest frame is = record {
   packet = omega (arith, captured-stays order t first rest frame is, record-size order t first frame is, length-append first rest);
 }
 
-records-most : (order : Order) (t : LinkType) (fs gs : List Frame) (xs ys rest last : List ℕ) → AreRecords order t xs fs → ¬ HoldsRecord order rest → AreRecords order t ys gs → xs ++ rest ≡ ys ++ last → length gs ≤ length fs
+records-most : (order : Order) (t : LinkType) (fs gs : List Frame) (xs ys rest last : List ℕ) → AreRecords order t xs fs → ¬ HoldsRecord order rest → AreRecords order t ys gs →
+    xs ++ rest ≡ ys ++ last → length gs ≤ length fs
 records-most order t fs [] xs ys rest last h none k e = omega arith
 records-most order t [] (g ∷ gs) xs ys rest last h none k e =
     let same : rest ≡ k.0 ++ (k.1 ++ last) = ap (λ (l : List ℕ). l ++ rest) (sym h) ∙ e ∙ ap (λ (l : List ℕ). l ++ last) k.4 ∙ append_assoc k.0 k.1 last in
@@ -166,7 +176,8 @@ header-order o p t u a b h k e =
     (orders, one_type t u (h.link ∙ ap (link_number o) e ∙ ap (λ (x : Order). link_number x b) orders ∙ sym k.link))
 
 -- files that begin with the same bytes, and how they end
-pcap-one : (o p : Order) (t u : LinkType) (a b : List ℕ) (fs gs : List Frame) (rest last : List ℕ) (x y : Option CaptureCode) → IsPcap a o t fs → Stops o rest x → IsPcap b p u gs → Stops p last y → a ++ rest ≡ b ++ last → One fs gs x y a b
+pcap-one : (o p : Order) (t u : LinkType) (a b : List ℕ) (fs gs : List Frame) (rest last : List ℕ) (x y : Option CaptureCode) → IsPcap a o t fs → Stops o rest x → IsPcap b p u gs → Stops p last y →
+    a ++ rest ≡ b ++ last → One fs gs x y a b
 pcap-one o p t u a b fs gs rest last x y h s k r e =
     let both : h.header ++ (h.records ++ rest) ≡ k.header ++ (k.records ++ last) =
     sym (ap (λ (l : List ℕ). l ++ rest) h.whole ∙ append_assoc h.header h.records rest) ∙ e ∙ ap (λ (l : List ℕ). l ++ last) k.whole ∙ append_assoc k.header k.records last in
@@ -181,7 +192,8 @@ pcap-one o p t u a b fs gs rest last x y h s k r e =
       size = ap length h.whole ∙ length-append h.header h.records ∙ omega (arith, h.is_header.size, k.is_header.size, on.size) ∙ sym (length-append k.header k.records) ∙ sym (ap length k.whole);
     }
 
-pcap-most : (o p : Order) (t u : LinkType) (a b : List ℕ) (fs gs : List Frame) (rest last : List ℕ) → IsPcap a o t fs → ¬ HoldsRecord o rest → IsPcap b p u gs → a ++ rest ≡ b ++ last → length gs ≤ length fs
+pcap-most : (o p : Order) (t u : LinkType) (a b : List ℕ) (fs gs : List Frame) (rest last : List ℕ) → IsPcap a o t fs → ¬ HoldsRecord o rest → IsPcap b p u gs → a ++ rest ≡ b ++ last →
+    length gs ≤ length fs
 pcap-most o p t u a b fs gs rest last h none k e =
     let both : h.header ++ (h.records ++ rest) ≡ k.header ++ (k.records ++ last) =
     sym (ap (λ (l : List ℕ). l ++ rest) h.whole ∙ append_assoc h.header h.records rest) ∙ e ∙ ap (λ (l : List ℕ). l ++ last) k.whole ∙ append_assoc k.header k.records last in
@@ -230,7 +242,8 @@ front-most b frames less front rest others e (pcapng_capture now k) =
     absurd (omega (arith, less, ap length e, length-append front rest, (blocks-start front others now k).long))
 
 -- behind blocks of which no whole one follows, there are no more packets
-pub block-most : (s : Option Section) (taken rest : List ℕ) (frames : List Frame) → 4 ≤ length (taken ++ rest) → begins_section (taken ++ rest) ≡ true → AreBlocks None taken frames s → NoBlock (order_of s) rest → HasNoMore (taken ++ rest) frames
+pub block-most : (s : Option Section) (taken rest : List ℕ) (frames : List Frame) → 4 ≤ length (taken ++ rest) → begins_section (taken ++ rest) ≡ true → AreBlocks None taken frames s →
+    NoBlock (order_of s) rest → HasNoMore (taken ++ rest) frames
 block-most s taken rest frames room begins are none front last others e (pcap_capture p u k) =
     absurd (no-both p (taken ++ rest) (subst (IsMagic p) (sym e) (pcap-begins front last p u others k)) begins)
 block-most s taken rest frames room begins are none front last others e (pcapng_capture now k) =
@@ -414,7 +427,8 @@ record-next o t front bytes frames h part rest e (pcap_capture p u k) =
 record-next o t front bytes frames h part rest e (pcapng_capture now k) =
     absurd (no-both o (front ++ part) (pcap-begins front part o t frames h) (section-whole (front ++ part) frames now k))
 
-next-block : (now next : Section) (front more : List ℕ) (frames : List Frame) (frame : Frame) (order : Order) → AreBlocks None front frames (Some now) → IsBlock (order_of (Some now)) order more → Does (Some now) order more (kind_of order more) (frame ∷ []) next → IsNext front more frames
+next-block : (now next : Section) (front more : List ℕ) (frames : List Frame) (frame : Frame) (order : Order) → AreBlocks None front frames (Some now) → IsBlock (order_of (Some now)) order more →
+    Does (Some now) order more (kind_of order more) (frame ∷ []) next → IsNext front more frames
 next-block now next front more frames frame order h is does part rest e (pcap_capture p u k) =
     absurd (no-both p (front ++ part) (magic-whole (front ++ part) p u frames k) (section-begins front part frames now h))
 next-block now next front more frames frame order h is does part rest e (pcapng_capture m k) =
@@ -426,6 +440,7 @@ no-first order more kind frame next (does_interface now k at few none is) = cc a
 no-first order more kind frame next (does_packet now form f k at js one is) = cc at
 no-first order more kind frame next (does_nothing now k at none is) = cc at
 
-pub packet-next : (s : Option Section) (next : Section) (front more : List ℕ) (frames : List Frame) (frame : Frame) (order : Order) → AreBlocks None front frames s → IsBlock (order_of s) order more → Does s order more (kind_of order more) (frame ∷ []) next → IsNext front more frames
+pub packet-next : (s : Option Section) (next : Section) (front more : List ℕ) (frames : List Frame) (frame : Frame) (order : Order) → AreBlocks None front frames s → IsBlock (order_of s) order more →
+    Does s order more (kind_of order more) (frame ∷ []) next → IsNext front more frames
 packet-next None next front more frames frame order h is does = absurd (no-first order more (kind_of order more) frame next does)
 packet-next (Some now) next front more frames frame order h is does = next-block now next front more frames frame order h is does

@@ -93,12 +93,14 @@ record-of order t b n inside is few =
     }
 
 -- a record more
-AreRecords-snoc : (order : Order) (t : LinkType) (b more : List ℕ) (frame : Frame) (frames : List Frame) → AreRecords order t b frames → IsRecord order t more frame → AreRecords order t (b ++ more) (frames ++ frame ∷ [])
+AreRecords-snoc : (order : Order) (t : LinkType) (b more : List ℕ) (frame : Frame) (frames : List Frame) → AreRecords order t b frames → IsRecord order t more frame →
+    AreRecords order t (b ++ more) (frames ++ frame ∷ [])
 AreRecords-snoc order t b more frame [] none is = (more, [], is, refl, ap (λ l. l ++ more) none ∙ sym (append-nil more))
 AreRecords-snoc order t b more frame (f ∷ frames) h is =
     (h.0, h.1 ++ more, h.2, AreRecords-snoc order t h.1 more frame frames h.3 is, ap (λ l. l ++ more) h.4 ∙ append_assoc h.0 h.1 more)
 
-pub IsPcap-snoc : (order : Order) (t : LinkType) (b more : List ℕ) (frame : Frame) (frames : List Frame) → IsPcap b order t frames → IsRecord order t more frame → IsPcap (b ++ more) order t (frames ++ frame ∷ [])
+pub IsPcap-snoc : (order : Order) (t : LinkType) (b more : List ℕ) (frame : Frame) (frames : List Frame) → IsPcap b order t frames → IsRecord order t more frame →
+    IsPcap (b ++ more) order t (frames ++ frame ∷ [])
 IsPcap-snoc order t b more frame frames p is = record {
   header = p.header;
   records = p.records ++ more;
@@ -118,7 +120,8 @@ IsPcap-none order t header is = record {
 }
 
 -- a second step that needs nothing where a whole record is held
-pub ready-on : {R : Type 0} (order : Order) (old first second : Feed R) (now : List ℕ) (n : ℕ) → HoldsRecord order (held old) → first ≡ old → now ≡ held first → n ≡ number_in order 8 now → (16 + n ≤ length (held first) → second ≡ first) → second ≡ old
+pub ready-on : {R : Type 0} (order : Order) (old first second : Feed R) (now : List ℕ) (n : ℕ) → HoldsRecord order (held old) → first ≡ old → now ≡ held first → n ≡ number_in order 8 now →
+    (16 + n ≤ length (held first) → second ≡ first) → second ≡ old
 ready-on {R = R} order old first second now n holds is now_is n_is next =
     let same = ap (λ (f : Feed R). held f) is in
     let size = n_is ∙ ap (number_in order 8) (now_is ∙ same) in

@@ -89,7 +89,8 @@ does-one s order b kind fs gs t u (does_packet now form f k at js one is) (does_
 does-one s order b kind fs gs t u (does_packet now form f k at js one is) (does_packet now' form' g k' at' js' one' is') =
     let same : now ≡ now' = cc (at, at') in
     let forms : form ≡ form' = cc (k, k') in
-    let here : IsPacket order now'.interfaces form' b f = subst (λ (n : Section). IsPacket order n.interfaces form' b f) same (subst (λ (x : PacketForm). IsPacket order now.interfaces x b f) forms js) in
+    let here : IsPacket order now'.interfaces form' b f = subst (λ (n : Section). IsPacket order n.interfaces form' b f) same
+    (subst (λ (x : PacketForm). IsPacket order now.interfaces x b f) forms js) in
     (one ∙ ap (λ (x : Frame). x ∷ []) (packet-one order now'.interfaces form' b f g here js') ∙ sym one', is ∙ same ∙ sym is')
 does-one s order b kind fs gs t u (does_packet now form f k at js one is) (does_nothing now' k' at' none' is') = absurd (cc (k, k'))
 does-one s order b kind fs gs t u (does_nothing now k at none is) (does_section k' v' none' is') = absurd (cc (k, k'))
@@ -112,7 +113,8 @@ body-young s order b kind code (bad_packet now form k at f) old = cc (k, old)
 
 -- ---- where a block is there is no fault
 
-no-packet-fault : (order : Order) (interfaces : List Interface) (form : PacketForm) (b : List ℕ) (f : Frame) (code : CaptureCode) → IsPacket order interfaces form b f → PacketFault order interfaces form b code → ⊥
+no-packet-fault : (order : Order) (interfaces : List Interface) (form : PacketForm) (b : List ℕ) (f : Frame) (code : CaptureCode) → IsPacket order interfaces form b f →
+    PacketFault order interfaces form b code → ⊥
 no-packet-fault order interfaces form b f code is (no_interface at e) = cc (is.described, at)
 no-packet-fault order interfaces form b f code is (bad_length i at wrong e) =
     let same : is.interface ≡ i = cc (is.described, at) in
@@ -141,7 +143,8 @@ no-body-fault s order b kind fs t code (does_nothing now k at none is) (bad_vers
 no-body-fault s order b kind fs t code (does_nothing now k at none is) (too_many now' k' at' many e) = cc (k, k')
 no-body-fault s order b kind fs t code (does_nothing now k at none is) (bad_packet now' form k' at' f) = cc (k, k')
 
-module _ (s : Option Section) (order : Order) (a rest : List ℕ) (fs : List Frame) (t : Section) (code : CaptureCode) (is : IsBlock (order_of s) order a) (does : Does s order a (kind_of order a) fs t) where
+module _ (s : Option Section) (order : Order) (a rest : List ℕ) (fs : List Frame) (t : Section) (code : CaptureCode) (is : IsBlock (order_of s) order a)
+    (does : Does s order a (kind_of order a) fs t) where
   least : 12 ≤ length a
   least = block-least (order_of s) order a is
 
@@ -171,7 +174,8 @@ module _ (s : Option Section) (order : Order) (a rest : List ℕ) (fs : List Fra
 
 -- ---- a fault is one
 
-packet-fault-one : (order : Order) (interfaces : List Interface) (form : PacketForm) (b : List ℕ) (c d : CaptureCode) → PacketFault order interfaces form b c → PacketFault order interfaces form b d → c ≡ d
+packet-fault-one : (order : Order) (interfaces : List Interface) (form : PacketForm) (b : List ℕ) (c d : CaptureCode) → PacketFault order interfaces form b c → PacketFault order interfaces form b d →
+    c ≡ d
 packet-fault-one order interfaces form b c d (no_interface at e) (no_interface at' e') = e ∙ sym e'
 packet-fault-one order interfaces form b c d (no_interface at e) (bad_length i at' wrong' e') = absurd (cc (at, at'))
 packet-fault-one order interfaces form b c d (no_interface at e) (bad_type i at' can' wrong' e') = absurd (cc (at, at'))
@@ -208,7 +212,8 @@ pub record Bodied (s : Option Section) (order : Order) (b : List ℕ) : Type 0 w
   pub room : block_len order b ≤ length b
   pub end : number_in order (block_len order b - 4) b ≡ block_len order b
 
-bodied : (s : Option Section) (order : Order) (b first rest : List ℕ) (code : CaptureCode) → b ≡ first ++ rest → IsBlock (order_of s) order first → BodyFault s order first (kind_of order first) code → Bodied s order b
+bodied : (s : Option Section) (order : Order) (b first rest : List ℕ) (code : CaptureCode) → b ≡ first ++ rest → IsBlock (order_of s) order first → BodyFault s order first (kind_of order first) code →
+    Bodied s order b
 bodied s order b first rest code whole is f =
     let least = block-least (order_of s) order first is in
     let len = block-len (order_of s) order first rest is in
@@ -216,7 +221,8 @@ bodied s order b first rest code whole is f =
       can = length-stays order first (first ++ rest) (omega (arith, least)) (front-of first rest) is.can;
       young = λ old. body-young s order first (kind_of order first) code f (sym (kind-stays order first (first ++ rest) (omega (arith, least)) (front-of first rest)) ∙ old);
       room = omega (arith, len, length-append first rest);
-      end = subst (λ (n : ℕ). number_in order (n - 4) (first ++ rest) ≡ n) (sym len) (number-stays order (length first - 4) first (first ++ rest) (omega (arith, least)) (front-of first rest) ∙ is.end);
+      end = subst (λ (n : ℕ). number_in order (n - 4) (first ++ rest) ≡ n) (sym len) (number-stays order (length first - 4) first (first ++ rest) (omega (arith, least)) (front-of first rest)
+          ∙ is.end);
     })
 
 ordered-fault-one : (s : Option Section) (order : Order) (b : List ℕ) (c d : CaptureCode) → OrderedFault s order b c → OrderedFault s order b d → c ≡ d
@@ -298,7 +304,8 @@ module _ (b more : List ℕ) (code : CaptureCode) (uncut : code ≢ codes.Cut) w
       (λ o is. wrong o (sym (place-stays 8 b (b ++ more) (omega (arith, twelve)) longer) ∙ is)) e
   block-fault-on s (ordered o room has f) =
       let begun : 8 ≤ length b = omega (arith, room, front-least b) in
-      ordered o (omega (arith, front-stays b (b ++ more) (omega (arith, begun)) longer, room, length-append b more)) (order-stays (order_of s) o b (b ++ more) room longer has) (ordered-fault-on s o begun f)
+      ordered o (omega (arith, front-stays b (b ++ more) (omega (arith, begun)) longer, room, length-append b more)) (order-stays (order_of s) o b (b ++ more) room longer has)
+      (ordered-fault-on s o begun f)
 
 -- ---- blocks, and how they end: with the file, or at a fault
 
@@ -312,7 +319,8 @@ stops-one s rest None (Some d) h k = absurd (omega (arith, ap length h, block-fa
 stops-one s rest (Some c) None h k = absurd (omega (arith, ap length k, block-fault-some s rest c h))
 stops-one s rest (Some c) (Some d) h k = ap Some (block-fault-one s rest c d h k)
 
-no-stop : (s : Option Section) (order : Order) (a rest : List ℕ) (fs : List Frame) (t : Section) (o : Option CaptureCode) → IsBlock (order_of s) order a → Does s order a (kind_of order a) fs t → StopsAtBlock s (a ++ rest) o → ⊥
+no-stop : (s : Option Section) (order : Order) (a rest : List ℕ) (fs : List Frame) (t : Section) (o : Option CaptureCode) → IsBlock (order_of s) order a → Does s order a (kind_of order a) fs t →
+    StopsAtBlock s (a ++ rest) o → ⊥
 no-stop s order a rest fs t None is does h = omega (arith, block-least (order_of s) order a is, ap length h, length-append a rest)
 no-stop s order a rest fs t (Some code) is does h = no-block-fault s order a rest fs t code is does h
 
@@ -323,7 +331,8 @@ pub record OneBlock (fs gs : List Frame) (t u : Section) (a c b d : List ℕ) : 
   pub bytes : a ≡ c
   pub rest : b ≡ d
 
-one-block : (s : Option Section) (o p : Order) (a b c d : List ℕ) (fs gs : List Frame) (t u : Section) → IsBlock (order_of s) o a → Does s o a (kind_of o a) fs t → IsBlock (order_of s) p c → Does s p c (kind_of p c) gs u → a ++ b ≡ c ++ d → OneBlock fs gs t u a c b d
+one-block : (s : Option Section) (o p : Order) (a b c d : List ℕ) (fs gs : List Frame) (t u : Section) → IsBlock (order_of s) o a → Does s o a (kind_of o a) fs t → IsBlock (order_of s) p c →
+    Does s p c (kind_of p c) gs u → a ++ b ≡ c ++ d → OneBlock fs gs t u a c b d
 one-block s o p a b c d fs gs t u is does js goes e =
     let same = first-block (order_of s) o p a b c d is js e in
     let here : Does s p c (kind_of p c) fs t = subst (λ (l : List ℕ). Does s p l (kind_of p l) fs t) same.1 (subst (λ (x : Order). Does s x a (kind_of x a) fs t) same.0 does) in
@@ -335,12 +344,14 @@ pub record OneRun (fs gs : List Frame) (o p : Option CaptureCode) (xs ys : List 
   pub ends : o ≡ p
   pub size : length xs ≡ length ys
 
-pub blocks-one : (s l m : Option Section) (fs gs : List Frame) (xs ys rest last : List ℕ) (o p : Option CaptureCode) → AreBlocks s xs fs l → StopsAtBlock l rest o → AreBlocks s ys gs m → StopsAtBlock m last p → xs ++ rest ≡ ys ++ last → OneRun fs gs o p xs ys
+pub blocks-one : (s l m : Option Section) (fs gs : List Frame) (xs ys rest last : List ℕ) (o p : Option CaptureCode) → AreBlocks s xs fs l → StopsAtBlock l rest o → AreBlocks s ys gs m →
+    StopsAtBlock m last p → xs ++ rest ≡ ys ++ last → OneRun fs gs o p xs ys
 blocks-one s l m fs gs xs ys rest last o p (no_blocks _ _ _ _ empty none is) h (no_blocks _ _ _ _ empty' none' is') k e =
     let same : rest ≡ last = ap (λ (z : List ℕ). z ++ rest) (sym empty) ∙ e ∙ ap (λ (z : List ℕ). z ++ last) empty' in
     record {
       frames = none ∙ sym none';
-      ends = stops-one s last o p (subst (λ (z : List ℕ). StopsAtBlock s z o) same (subst (λ (z : Option Section). StopsAtBlock z rest o) is h)) (subst (λ (z : Option Section). StopsAtBlock z last p) is' k);
+      ends = stops-one s last o p (subst (λ (z : List ℕ). StopsAtBlock s z o) same (subst (λ (z : Option Section). StopsAtBlock z rest o) is h))
+          (subst (λ (z : Option Section). StopsAtBlock z last p) is' k);
       size = ap length empty ∙ sym (ap length empty');
     }
 blocks-one s l m fs gs xs ys rest last o p (no_blocks _ _ _ _ empty none is) h (more_blocks _ _ _ _ q first others mine theirs next js does are whole split) k e =
@@ -349,7 +360,8 @@ blocks-one s l m fs gs xs ys rest last o p (no_blocks _ _ _ _ empty none is) h (
 blocks-one s l m fs gs xs ys rest last o p (more_blocks _ _ _ _ q first others mine theirs next js does are whole split) h (no_blocks _ _ _ _ empty none is) k e =
     let same : last ≡ first ++ (others ++ rest) = ap (λ (z : List ℕ). z ++ last) (sym empty) ∙ sym e ∙ ap (λ (z : List ℕ). z ++ rest) whole ∙ append_assoc first others rest in
     absurd (no-stop s q first (others ++ rest) mine next p js does (subst (λ (z : List ℕ). StopsAtBlock s z p) same (subst (λ (z : Option Section). StopsAtBlock z last p) is k)))
-blocks-one s l m fs gs xs ys rest last o p (more_blocks _ _ _ _ q first others mine theirs next js does are whole split) h (more_blocks _ _ _ _ q' first' others' mine' theirs' next' js' does' are' whole' split') k e =
+blocks-one s l m fs gs xs ys rest last o p (more_blocks _ _ _ _ q first others mine theirs next js does are whole split) h
+    (more_blocks _ _ _ _ q' first' others' mine' theirs' next' js' does' are' whole' split') k e =
     let both : first ++ (others ++ rest) ≡ first' ++ (others' ++ last) =
     sym (ap (λ (z : List ℕ). z ++ rest) whole ∙ append_assoc first others rest) ∙ e ∙ ap (λ (z : List ℕ). z ++ last) whole' ∙ append_assoc first' others' last in
     let one = one-block s q q' first (others ++ rest) first' (others' ++ last) mine mine' next next' js does js' does' both in
@@ -368,18 +380,28 @@ NoBlock within b = (order : Order) (first rest : List ℕ) → b ≡ first ++ re
 
 pub no-block : (within : Option Order) (b : List ℕ) → LacksBlock within b → NoBlock within b
 no-block within b (lacks_front less) order first rest e is =
-    omega (arith, less, ap front_len e, front-stays first (first ++ rest) (omega (arith, block-least within order first is)) (front-of first rest), block-room within order first is, ap length e, length-append first rest)
+    omega (
+      arith,
+      less,
+      ap front_len e,
+      front-stays first (first ++ rest) (omega (arith, block-least within order first is)) (front-of first rest),
+      block-room within order first is,
+      ap length e,
+      length-append first rest,
+    )
 no-block within b (lacks_rest p room has less) order first rest e is =
     let same : order ≡ p = order-one within b order p (subst (λ (l : List ℕ). HasOrder within l order) (sym e) (block-order within order first rest is)) has in
     let len : block_len p b ≡ length first = ap (λ (x : Order). block_len x b) (sym same) ∙ ap (block_len order) e ∙ block-len within order first rest is in
     omega (arith, less, len, ap length e, length-append first rest)
 
-pub blocks-most : (s l m : Option Section) (fs gs : List Frame) (xs ys rest last : List ℕ) → AreBlocks s xs fs l → NoBlock (order_of l) rest → AreBlocks s ys gs m → xs ++ rest ≡ ys ++ last → length gs ≤ length fs
+pub blocks-most : (s l m : Option Section) (fs gs : List Frame) (xs ys rest last : List ℕ) → AreBlocks s xs fs l → NoBlock (order_of l) rest → AreBlocks s ys gs m → xs ++ rest ≡ ys ++ last →
+    length gs ≤ length fs
 blocks-most s l m fs gs xs ys rest last are h (no_blocks _ _ _ _ empty none is) e = omega (arith, ap length none)
 blocks-most s l m fs gs xs ys rest last (no_blocks _ _ _ _ empty none is) h (more_blocks _ _ _ _ q first others mine theirs next js does are whole split) e =
     let same : rest ≡ first ++ (others ++ last) = ap (λ (z : List ℕ). z ++ rest) (sym empty) ∙ e ∙ ap (λ (z : List ℕ). z ++ last) whole ∙ append_assoc first others last in
     absurd (h q first (others ++ last) same (subst (λ (z : Option Section). IsBlock (order_of z) q first) (sym is) js))
-blocks-most s l m fs gs xs ys rest last (more_blocks _ _ _ _ q first others mine theirs next js does are whole split) h (more_blocks _ _ _ _ q' first' others' mine' theirs' next' js' does' are' whole' split') e =
+blocks-most s l m fs gs xs ys rest last (more_blocks _ _ _ _ q first others mine theirs next js does are whole split) h
+    (more_blocks _ _ _ _ q' first' others' mine' theirs' next' js' does' are' whole' split') e =
     let both : first ++ (others ++ rest) ≡ first' ++ (others' ++ last) =
     sym (ap (λ (z : List ℕ). z ++ rest) whole ∙ append_assoc first others rest) ∙ e ∙ ap (λ (z : List ℕ). z ++ last) whole' ∙ append_assoc first' others' last in
     let one = one-block s q q' first (others ++ rest) first' (others' ++ last) mine mine' next next' js does js' does' both in
@@ -388,7 +410,8 @@ blocks-most s l m fs gs xs ys rest last (more_blocks _ _ _ _ q first others mine
 
 -- ---- a block more
 
-pub blocks-snoc : (s l : Option Section) (b more : List ℕ) (fs mine : List Frame) (order : Order) (next : Section) → AreBlocks s b fs l → IsBlock (order_of l) order more → Does l order more (kind_of order more) mine next → AreBlocks s (b ++ more) (fs ++ mine) (Some next)
+pub blocks-snoc : (s l : Option Section) (b more : List ℕ) (fs mine : List Frame) (order : Order) (next : Section) → AreBlocks s b fs l → IsBlock (order_of l) order more →
+    Does l order more (kind_of order more) mine next → AreBlocks s (b ++ more) (fs ++ mine) (Some next)
 blocks-snoc s l b more fs mine order next (no_blocks _ _ _ _ empty none is) js does =
     more_blocks s (b ++ more) (fs ++ mine) (Some next) order more [] mine [] next
     (subst (λ (z : Option Section). IsBlock (order_of z) order more) is js) (subst (λ (z : Option Section). Does z order more (kind_of order more) mine next) is does)
@@ -453,18 +476,22 @@ append-none (x ∷ xs) ys e = cc e
 frame-some : (f : Frame) (xs ys : List Frame) → xs ≡ f ∷ [] → [] ≡ xs ++ ys → ⊥
 frame-some f xs ys is e = cc (e ∙ ap (λ (l : List Frame). l ++ ys) is)
 
-pub block-next : (s l m : Option Section) (fs gs : List Frame) (xs ys part rest more : List ℕ) (frame : Frame) (order : Order) (next : Section) → AreBlocks s xs fs l → IsBlock (order_of l) order more → Does l order more (kind_of order more) (frame ∷ []) next → AreBlocks s ys gs m → ys ≡ xs ++ part → gs ≡ fs → more ≡ part ++ rest → part ≡ []
+pub block-next : (s l m : Option Section) (fs gs : List Frame) (xs ys part rest more : List ℕ) (frame : Frame) (order : Order) (next : Section) → AreBlocks s xs fs l →
+    IsBlock (order_of l) order more → Does l order more (kind_of order more) (frame ∷ []) next → AreBlocks s ys gs m → ys ≡ xs ++ part → gs ≡ fs → more ≡ part ++ rest → part ≡ []
 block-next s l m fs gs xs ys part rest more frame order next (no_blocks _ _ _ _ empty none is) js does (no_blocks _ _ _ _ empty' none' is') e same parted = append-none xs part (sym e ∙ empty')
 block-next s l m fs gs xs ys part rest more frame order next (no_blocks _ _ _ _ empty none is) js does (more_blocks _ _ _ _ q first others mine theirs mid ks goes are whole split) e same parted =
     let alone : part ≡ first ++ others = ap (λ (z : List ℕ). z ++ part) (sym empty) ∙ sym e ∙ whole in
     let both : more ++ [] ≡ first ++ (others ++ rest) = append-nil more ∙ parted ∙ ap (λ (z : List ℕ). z ++ rest) alone ∙ append_assoc first others rest in
     let here : IsBlock (order_of s) order more = subst (λ (z : Option Section). IsBlock (order_of z) order more) is js in
-    let one = one-block s order q more [] first (others ++ rest) (frame ∷ []) mine next mid here (subst (λ (z : Option Section). Does z order more (kind_of order more) (frame ∷ []) next) is does) ks goes both in
+    let one = one-block s order q more [] first (others ++ rest) (frame ∷ []) mine next mid here
+    (subst (λ (z : Option Section). Does z order more (kind_of order more) (frame ∷ []) next) is does) ks goes both in
     absurd (frame-some frame mine theirs (sym one.frames) (sym none ∙ sym same ∙ split))
 block-next s l m fs gs xs ys part rest more frame order next (more_blocks _ _ _ _ q first others mine theirs mid ks goes are whole split) js does (no_blocks _ _ _ _ empty none is) e same parted =
     append-none xs part (sym e ∙ empty)
-block-next s l m fs gs xs ys part rest more frame order next (more_blocks _ _ _ _ q first others mine theirs mid ks goes are whole split) js does (more_blocks _ _ _ _ q' first' others' mine' theirs' mid' ks' goes' are' whole' split') e same parted =
+block-next s l m fs gs xs ys part rest more frame order next (more_blocks _ _ _ _ q first others mine theirs mid ks goes are whole split) js does
+    (more_blocks _ _ _ _ q' first' others' mine' theirs' mid' ks' goes' are' whole' split') e same parted =
     let both : first ++ (others ++ part) ≡ first' ++ others' = sym (append_assoc first others part) ∙ ap (λ (z : List ℕ). z ++ part) (sym whole) ∙ sym e ∙ whole' in
     let one = one-block s q q' first (others ++ part) first' others' mine mine' mid mid' ks goes ks' goes' both in
     let frames : mine ++ theirs' ≡ mine ++ theirs = ap (λ (z : List Frame). z ++ theirs') one.frames ∙ sym split' ∙ same ∙ split in
-    block-next (Some mid) l m theirs theirs' others others' part rest more frame order next are js does (subst (λ (n : Section). AreBlocks (Some n) others' theirs' m) (sym one.next) are') (sym one.rest) (append_cancel_left mine theirs' theirs frames) parted
+    block-next (Some mid) l m theirs theirs' others others' part rest more frame order next are js does (subst (λ (n : Section). AreBlocks (Some n) others' theirs' m) (sym one.next) are')
+    (sym one.rest) (append_cancel_left mine theirs' theirs frames) parted

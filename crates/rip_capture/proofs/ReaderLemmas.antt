@@ -35,7 +35,8 @@ read-capture (Some (Pcap h)) now taken frames is = capture_read (pcap_capture h.
 read-capture (Some Pcapng) now taken frames are = capture_read (pcapng_capture now are)
 
 -- where nothing was taken
-pub Stands-kept : {R : Type 0} (given : R → List ℕ) (before taken : List ℕ) (frames : List Frame) (old new : CaptureReader R) → Keeps given old.feed new.feed → new.position ≡ old.position → new.format ≡ old.format → section_by new ≡ section_by old → Stands given before old taken frames → Stands given before new taken frames
+pub Stands-kept : {R : Type 0} (given : R → List ℕ) (before taken : List ℕ) (frames : List Frame) (old new : CaptureReader R) → Keeps given old.feed new.feed → new.position ≡ old.position →
+    new.format ≡ old.format → section_by new ≡ section_by old → Stands given before old taken frames → Stands given before new taken frames
 Stands-kept given before taken frames old new keeps position format section s = record {
   gave = keeps (before ++ taken) s.gave;
   position = position ∙ s.position;
@@ -43,12 +44,14 @@ Stands-kept given before taken frames old new keeps position format section s = 
 }
 
 -- some bytes more were taken
-more-taken : {R : Type 0} (given : R → List ℕ) (before taken more : List ℕ) (old mid new : Feed R) → Keeps given old mid → Takes given mid new more → given old.source ≡ before ++ taken ++ held old → given new.source ≡ before ++ (taken ++ more) ++ held new
+more-taken : {R : Type 0} (given : R → List ℕ) (before taken more : List ℕ) (old mid new : Feed R) → Keeps given old mid → Takes given mid new more → given old.source ≡ before ++ taken ++ held old →
+    given new.source ≡ before ++ (taken ++ more) ++ held new
 more-taken given before taken more old mid new keeps takes gave =
     takes (before ++ taken) (keeps (before ++ taken) gave) ∙ ap (λ l. l ++ held new) (append_assoc before taken more)
 
 -- the record of a packet
-pub TakesPacket-found : {R : Type 0} (given : R → List ℕ) (before taken : List ℕ) (frames : List Frame) (frame : Frame) (old new : CaptureReader R) (mid : Feed R) (h : PcapHeader) (n : ℕ) (at_end : Bool)
+pub TakesPacket-found : {R : Type 0} (given : R → List ℕ) (before taken : List ℕ) (frames : List Frame) (frame : Frame) (old new : CaptureReader R) (mid : Feed R) (h : PcapHeader) (n : ℕ)
+    (at_end : Bool)
     → old.format ≡ Some (Pcap h) → new.format ≡ Some (Pcap h) → Keeps given old.feed mid → FindsRecord h.order (held mid) at_end (Ok (Some n)) → Takes given mid new.feed (take (16 + n) (held mid))
     → new.position ≡ old.position + (16 + n) → frame ≡ record { link_type = h.link_type; bytes = drop 16 (take (16 + n) (held mid)) }
     → Stands given before old taken frames → TakesPacket given before frames frame old.position new
@@ -73,7 +76,8 @@ TakesPacket-found given before taken frames frame old new mid h n at_end was is 
 
 -- the end of the file
 pub EndsHere-found : {R : Type 0} (given : R → List ℕ) (at_end : R → Bool) (before taken : List ℕ) (frames : List Frame) (old new : CaptureReader R) (h : PcapHeader)
-    → old.format ≡ Some (Pcap h) → Keeps given old.feed new.feed → new.position ≡ old.position → new.format ≡ old.format → section_by new ≡ section_by old → FindsRecord h.order (held new.feed) (at_end new.feed.source) (Ok None)
+    → old.format ≡ Some (Pcap h) → Keeps given old.feed new.feed → new.position ≡ old.position → new.format ≡ old.format → section_by new ≡ section_by old
+    → FindsRecord h.order (held new.feed) (at_end new.feed.source) (Ok None)
     → Stands given before old taken frames → EndsHere given at_end before frames new
 EndsHere-found given at_end before taken frames old new h was keeps position format section finds s = record {
   file = taken;
@@ -84,12 +88,14 @@ EndsHere-found given at_end before taken frames old new h was keeps position for
 }
 
 -- a fault that is told of a record, of the whole file
-record-fault : (h : PcapHeader) (taken rest : List ℕ) (frames : List Frame) (code : CaptureCode) (at : ℕ) (at_end : Bool) → at ≡ length taken → IsPcap taken h.order h.link_type frames → (code ≡ Read) ⊎ (RecordFault h.order rest code × EndsFor code at_end) → is_read code ≡ false → CaptureFault (taken ++ rest) frames code at
+record-fault : (h : PcapHeader) (taken rest : List ℕ) (frames : List Frame) (code : CaptureCode) (at : ℕ) (at_end : Bool) → at ≡ length taken → IsPcap taken h.order h.link_type frames →
+    (code ≡ Read) ⊎ (RecordFault h.order rest code × EndsFor code at_end) → is_read code ≡ false → CaptureFault (taken ++ rest) frames code at
 record-fault h taken rest frames code at at_end place right (inl e) calm = absurd (false≢true (sym calm ∙ ap is_read e))
 record-fault h taken rest frames code at at_end place right (inr f) calm = in_pcap h.order h.link_type taken rest refl right place f.0
 
 -- and of the front
-front-fault : (taken rest : List ℕ) (frames : List Frame) (code : CaptureCode) (at_end : Bool) → taken ≡ [] → frames ≡ [] → (code ≡ Read) ⊎ (FrontFault rest code × EndsFor code at_end) → is_read code ≡ false → CaptureFault (taken ++ rest) frames code 0
+front-fault : (taken rest : List ℕ) (frames : List Frame) (code : CaptureCode) (at_end : Bool) → taken ≡ [] → frames ≡ [] → (code ≡ Read) ⊎ (FrontFault rest code × EndsFor code at_end) →
+    is_read code ≡ false → CaptureFault (taken ++ rest) frames code 0
 front-fault taken rest frames code at_end none no_frames (inl e) calm = absurd (false≢true (sym calm ∙ ap is_read e))
 front-fault taken rest frames code at_end none no_frames (inr f) calm =
     at_front no_frames refl (subst (λ (l : List ℕ). FrontFault (l ++ rest) code) (sym none) f.0)
@@ -101,7 +107,8 @@ fault-ends code at_end (inr f) cut = f.1 cut
 
 -- a fault of a record, or a failure there
 pub StopsAt-record : {R : Type 0} (given : R → List ℕ) (at_end : R → Bool) (before taken : List ℕ) (frames : List Frame) (old new : CaptureReader R) (h : PcapHeader) (code : CaptureCode)
-    → old.format ≡ Some (Pcap h) → Keeps given old.feed new.feed → new.position ≡ old.position → (code ≡ Read) ⊎ (RecordFault h.order (held new.feed) code × EndsFor code (at_end new.feed.source)) → (is_read code ≡ true → ¬ HoldsRecord h.order (held new.feed))
+    → old.format ≡ Some (Pcap h) → Keeps given old.feed new.feed → new.position ≡ old.position → (code ≡ Read) ⊎ (RecordFault h.order (held new.feed) code × EndsFor code (at_end new.feed.source))
+    → (is_read code ≡ true → ¬ HoldsRecord h.order (held new.feed))
     → Stands given before old taken frames → StopsAt given at_end before frames (record { code = code; at = old.position }) new
 StopsAt-record given at_end before taken frames old new h code was keeps position finds short s =
     let right : IsPcap taken h.order h.link_type frames = subst (λ (f : Option Format). HasRead f (section_by old) taken frames) was s.read in
@@ -135,7 +142,8 @@ StopsAt-far given at_end before taken frames old new h was keeps position far s 
 
 -- a fault of the front, or a failure there
 pub StopsAt-front : {R : Type 0} (given : R → List ℕ) (at_end : R → Bool) (before taken : List ℕ) (frames : List Frame) (old new : CaptureReader R) (code : CaptureCode)
-    → old.format ≡ None → Keeps given old.feed new.feed → new.position ≡ old.position → FindsHeader (held new.feed) (at_end new.feed.source) (Err code) → (is_read code ≡ true → length (held new.feed) < 24)
+    → old.format ≡ None → Keeps given old.feed new.feed → new.position ≡ old.position → FindsHeader (held new.feed) (at_end new.feed.source) (Err code)
+    → (is_read code ≡ true → length (held new.feed) < 24)
     → Stands given before old taken frames → StopsAt given at_end before frames (record { code = code; at = 0 }) new
 StopsAt-front given at_end before taken frames old new code was keeps position finds short s =
     let none : HasRead None (section_by old) taken frames = subst (λ (f : Option Format). HasRead f (section_by old) taken frames) was s.read in
@@ -160,7 +168,8 @@ Stands-begun given before taken frames old new mid h at_end was is keeps finds t
     let none : HasRead None (section_by old) taken frames = subst (λ (f : Option Format). HasRead f (section_by old) taken frames) was s.read in
     let alone : more ≡ taken ++ more = ap (λ (l : List ℕ). l ++ more) (sym none.0) in
     let header = IsPcap-none h.order h.link_type more finds.1 in
-    let whole : IsPcap (taken ++ more) h.order h.link_type frames = subst (λ (l : List ℕ). IsPcap l h.order h.link_type frames) alone (subst (λ (l : List Frame). IsPcap more h.order h.link_type l) (sym none.1) header) in
+    let whole : IsPcap (taken ++ more) h.order h.link_type frames =
+    subst (λ (l : List ℕ). IsPcap l h.order h.link_type frames) alone (subst (λ (l : List Frame). IsPcap more h.order h.link_type l) (sym none.1) header) in
     record {
       gave = more-taken given before taken more old.feed mid new.feed keeps takes s.gave;
       position = position ∙ sym finds.1.size ∙ ap length alone;
@@ -228,7 +237,8 @@ Runs-stopped given coming broken at_end old new e b = record {
 
 -- where only the first bytes of the front were filled in
 pub Begins-behind : {R : Type 0} (given : R → List ℕ) (coming : R → Option (List ℕ)) (broken at_end : R → Bool) (old mid new : CaptureReader R) (result : Result Format CaptureError)
-    → old.format ≡ None → mid.format ≡ old.format → section_by mid ≡ section_by old → mid.position ≡ old.position → mid.refusal ≡ old.refusal → Keeps given old.feed mid.feed → Went given coming at_end (source_of old) (source_of mid) → broken (source_of mid) ≡ broken (source_of old)
+    → old.format ≡ None → mid.format ≡ old.format → section_by mid ≡ section_by old → mid.position ≡ old.position → mid.refusal ≡ old.refusal → Keeps given old.feed mid.feed
+    → Went given coming at_end (source_of old) (source_of mid) → broken (source_of mid) ≡ broken (source_of old)
     → Begins given coming broken at_end mid new result → Begins given coming broken at_end old new result
 Begins-behind given coming broken at_end old mid new result was format section position refusal keeps went marks b = record {
   goes = λ before taken frames s. b.goes before taken frames (Stands-kept given before taken frames old mid keeps position format section s);
@@ -256,7 +266,8 @@ block-stands given before taken frames old mid passed block was position section
 }
 
 pub block-ends : {R : Type 0} (given : R → List ℕ) (at_end : R → Bool) (before taken : List ℕ) (frames : List Frame) (old new : CaptureReader R) (passed : List ℕ)
-    → old.format ≡ Some Pcapng → new.position ≡ old.position → new.format ≡ old.format → section_by new ≡ section_by old → passed ≡ [] → held_by new ≡ [] → at_end (source_of new) ≡ true → Skips given old.feed new.feed passed
+    → old.format ≡ Some Pcapng → new.position ≡ old.position → new.format ≡ old.format → section_by new ≡ section_by old → passed ≡ [] → held_by new ≡ [] → at_end (source_of new) ≡ true
+    → Skips given old.feed new.feed passed
     → Stands given before old taken frames → EndsHere given at_end before frames new
 block-ends given at_end before taken frames old new passed was position format section none all ended skips s =
     let are : HasRead (Some Pcapng) (section_by old) taken frames = subst (λ (f : Option Format). HasRead f (section_by old) taken frames) was s.read in
@@ -273,7 +284,8 @@ block-ends given at_end before taken frames old new passed was position format s
     }
 
 pub TakesPacket-block : {R : Type 0} (given : R → List ℕ) (before taken : List ℕ) (frames : List Frame) (mid new : CaptureReader R) (found : Found)
-    → mid.format ≡ Some Pcapng → new.format ≡ Some Pcapng → Stands given before mid taken frames → TakesBlock given before taken frames new (Packet found) → TakesPacket given before frames (frame_at new found) (place_at found) new
+    → mid.format ≡ Some Pcapng → new.format ≡ Some Pcapng → Stands given before mid taken frames → TakesBlock given before taken frames new (Packet found)
+    → TakesPacket given before frames (frame_at new found) (place_at found) new
 TakesPacket-block given before taken frames mid new found was is s b = record {
   front = taken;
   bytes = b.more;

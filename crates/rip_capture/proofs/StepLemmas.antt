@@ -43,7 +43,8 @@ use Rattle.rip_capture.specs.declared.span.Span.{Span}
 
 -- ---- a block that was found
 
-module _ {R : Type 0} (given : R → List ℕ) (before taken passed : List ℕ) (frames : List Frame) (s : Option Section) (old : CaptureReader R) (block : Block) (st : StandsAt given before old taken passed frames s block) where
+module _ {R : Type 0} (given : R → List ℕ) (before taken passed : List ℕ) (frames : List Frame) (s : Option Section) (old : CaptureReader R) (block : Block)
+    (st : StandsAt given before old taken passed frames s block) where
   -- the block
   abbrev first : List ℕ
   first = take block.len (passed ++ held_by old)
@@ -66,15 +67,19 @@ module _ {R : Type 0} (given : R → List ℕ) (before taken passed : List ℕ) 
       let size : block.held ≡ block.len = omega (arith, st.found.size, ap length none) in
       ap (λ (n : ℕ). take n (held_by old)) size ∙ ap (λ (l : List ℕ). take block.len (l ++ held_by old)) (sym none)
 
-  reads-err : (interfaces : List Interface) (code : CaptureCode) → ReadsBody block.order interfaces block.kind (take block.held (held_by old)) (Err code) → ReadsBody block.order interfaces (kind_of block.order first) first (Err code)
+  reads-err : (interfaces : List Interface) (code : CaptureCode) → ReadsBody block.order interfaces block.kind (take block.held (held_by old)) (Err code) →
+      ReadsBody block.order interfaces (kind_of block.order first) first (Err code)
   reads-err interfaces code reads =
       let whole = reads-whole block.order interfaces (take block.held (held_by old)) block.kind code reads in
-      subst (λ (k : BlockKind). ReadsBody block.order interfaces k first (Err code)) st.found.kind (subst (λ (l : List ℕ). ReadsBody block.order interfaces block.kind l (Err code)) (all-held whole) reads)
+      subst (λ (k : BlockKind). ReadsBody block.order interfaces k first (Err code)) st.found.kind
+      (subst (λ (l : List ℕ). ReadsBody block.order interfaces block.kind l (Err code)) (all-held whole) reads)
 
-  same-body : (interfaces : List Interface) (body : Body) → is_read_whole block.kind ≡ true → ReadsBody block.order interfaces block.kind (take block.held (held_by old)) (Ok body) → ReadsBody block.order interfaces block.kind first (Ok body)
+  same-body : (interfaces : List Interface) (body : Body) → is_read_whole block.kind ≡ true → ReadsBody block.order interfaces block.kind (take block.held (held_by old)) (Ok body) →
+      ReadsBody block.order interfaces block.kind first (Ok body)
   same-body interfaces body whole reads = subst (λ (l : List ℕ). ReadsBody block.order interfaces block.kind l (Ok body)) (all-held whole) reads
 
-  reads-here : (interfaces : List Interface) (body : Body) → ReadsBody block.order interfaces block.kind (take block.held (held_by old)) (Ok body) → ReadsBody block.order interfaces block.kind first (Ok body)
+  reads-here : (interfaces : List Interface) (body : Body) → ReadsBody block.order interfaces block.kind (take block.held (held_by old)) (Ok body) →
+      ReadsBody block.order interfaces block.kind first (Ok body)
   reads-here interfaces says.Section reads = same-body interfaces says.Section (ap is_read_whole reads.0) reads
   reads-here interfaces (says.Interface i) reads = same-body interfaces (says.Interface i) (ap is_read_whole reads.0) reads
   reads-here interfaces (says.Packet t span) reads = same-body interfaces (says.Packet t span) (ap is_read_whole reads.1) reads
@@ -88,29 +93,36 @@ module _ {R : Type 0} (given : R → List ℕ) (before taken passed : List ℕ) 
       let on = Extends-take block.len (passed ++ held_by old) in
       let room : front_len first ≤ length first = omega (arith, front-most first, least) in
       let f = body-fault-in s (section_by old) order first (kind_of order first) code (λ none. sym st.found.kind ∙ only none) st.stands (reads-err (section_by old).interfaces code reads) in
-      ordered order (omega (arith, front-stays first (passed ++ held_by old) (omega (arith, least)) on, room, Extends-length first (passed ++ held_by old) on)) (order-stays (order_of s) order first (passed ++ held_by old) room on st.found.is_block.order_is)
+      ordered order (omega (arith, front-stays first (passed ++ held_by old) (omega (arith, least)) on, room, Extends-length first (passed ++ held_by old) on))
+      (order-stays (order_of s) order first (passed ++ held_by old) room on st.found.is_block.order_is)
       (bad_body first (drop block.len (passed ++ held_by old)) (sym (take-append-drop block.len (passed ++ held_by old))) st.found.is_block f)
 
   first-parts : first ≡ passed ++ take block.held (held_by old)
   first-parts = ap (λ (n : ℕ). take n (passed ++ held_by old)) (sym st.found.size) ∙ take-append-add passed (held_by old) block.held
 
   -- where it was taken
-  pub took : (new : CaptureReader R) (body : Body) (step : Step) → Takes given old.feed new.feed (take block.held (held_by old)) → new.position ≡ old.position + block.len → section_by new ≡ entered (section_by old) block.order body
-      → frames_of new step ≡ frames-in first body → BringsAt (length taken) step → ReadsBody block.order (section_by old).interfaces block.kind (take block.held (held_by old)) (Ok body) → TakesBlock given before taken frames new step
+  pub took : (new : CaptureReader R) (body : Body) (step : Step) → Takes given old.feed new.feed (take block.held (held_by old)) → new.position ≡ old.position + block.len →
+      section_by new ≡ entered (section_by old) block.order body
+      → frames_of new step ≡ frames-in first body → BringsAt (length taken) step → ReadsBody block.order (section_by old).interfaces block.kind (take block.held (held_by old)) (Ok body)
+      → TakesBlock given before taken frames new step
   took new body step takes position section framed brings reads =
       let order = block.order in
       let parted = take block.held (held_by old) in
       let here = reads-here (section_by old).interfaces body reads in
       let does = does-of s (section_by old) order first block.kind body st.found.young only st.stands here in
-      let goes : Does s order first (kind_of order first) (frames-in first body) (entered (section_by old) order body) = subst (λ (k : BlockKind). Does s order first k (frames-in first body) (entered (section_by old) order body)) st.found.kind does in
+      let goes : Does s order first (kind_of order first) (frames-in first body) (entered (section_by old) order body) =
+      subst (λ (k : BlockKind). Does s order first k (frames-in first body) (entered (section_by old) order body)) st.found.kind does in
       let read = blocks-snoc None s taken first frames (frames-in first body) order (entered (section_by old) order body) st.read st.found.is_block goes in
-      let placed : given (source_of new) ≡ (before ++ taken ++ passed ++ parted) ++ held_by new = takes (before ++ taken ++ passed) (st.gave ∙ sym (append_assoc (before ++ taken) passed (held_by old))) in
+      let placed : given (source_of new) ≡ (before ++ taken ++ passed ++ parted) ++ held_by new =
+      takes (before ++ taken ++ passed) (st.gave ∙ sym (append_assoc (before ++ taken) passed (held_by old))) in
       record {
         more = first;
-        gave = placed ∙ ap (λ (l : List ℕ). l ++ held_by new) (append_assoc (before ++ taken) passed parted ∙ append_assoc before taken (passed ++ parted) ∙ ap (λ (l : List ℕ). before ++ (taken ++ l)) (sym first-parts));
+        gave = placed ∙ ap (λ (l : List ℕ). l ++ held_by new) (append_assoc (before ++ taken) passed parted ∙ append_assoc before taken (passed ++ parted) ∙ ap
+            (λ (l : List ℕ). before ++ (taken ++ l)) (sym first-parts));
         position = omega (arith, position, st.position, length-append taken first, first-len);
         some = omega (arith, block-least (order_of s) order first st.found.is_block);
-        read = subst (λ (n : Section). AreBlocks None (taken ++ first) (frames ++ frames_of new step) (Some n)) (sym section) (subst (λ (fs : List Frame). AreBlocks None (taken ++ first) (frames ++ fs) (Some (entered (section_by old) order body))) (sym framed) read);
+        read = subst (λ (n : Section). AreBlocks None (taken ++ first) (frames ++ frames_of new step) (Some n)) (sym section)
+            (subst (λ (fs : List Frame). AreBlocks None (taken ++ first) (frames ++ fs) (Some (entered (section_by old) order body))) (sym framed) read);
         brings = brings;
         next = λ frame one. packet-next s (entered (section_by old) order body) taken first frames frame order st.read st.found.is_block
             (subst (λ (fs : List Frame). Does s order first (kind_of order first) fs (entered (section_by old) order body)) (sym framed ∙ one) goes);
@@ -120,7 +132,8 @@ module _ {R : Type 0} (given : R → List ℕ) (before taken passed : List ℕ) 
   first-kind none = only none
 
   -- the packet that lies in it, as it lies in the buffer
-  pub packet-framed : (items : List ℕ) (at : Span) (t : LinkType) (span : Span) (interfaces : List Interface) → slice_of items at ≡ take block.held (held_by old) → at.to ≡ at.from + block.held → ReadsBody block.order interfaces block.kind (take block.held (held_by old)) (Ok (says.Packet t span))
+  pub packet-framed : (items : List ℕ) (at : Span) (t : LinkType) (span : Span) (interfaces : List Interface) → slice_of items at ≡ take block.held (held_by old) → at.to ≡ at.from + block.held →
+      ReadsBody block.order interfaces block.kind (take block.held (held_by old)) (Ok (says.Packet t span))
       → slice_range items (at.from + span.from) (at.from + span.to) ≡ slice_range first span.from span.to
   packet-framed items at t span interfaces lies size reads =
       let whole = all-held (ap is_read_whole reads.1) in
@@ -147,8 +160,10 @@ blocks-read : (s : Option Section) (taken : List ℕ) (frames : List Frame) → 
 blocks-read s taken frames (no_blocks _ _ _ _ empty none is) = nothing_read empty none
 blocks-read s taken frames (more_blocks _ _ _ _ order first rest mine others next is does are whole split) = behind (last-section (Some next) s rest others are) where
   behind : ((rest ≡ []) × (s ≡ Some next)) ⊎ ((now : Section) × (s ≡ Some now)) → IsRead taken frames
-  behind (inl e) = capture_read (pcapng_capture next (subst (λ (l : Option Section). AreBlocks None taken frames l) e.1 (more_blocks None taken frames s order first rest mine others next is does are whole split)))
-  behind (inr h) = capture_read (pcapng_capture h.0 (subst (λ (l : Option Section). AreBlocks None taken frames l) h.1 (more_blocks None taken frames s order first rest mine others next is does are whole split)))
+  behind (inl e) =
+      capture_read (pcapng_capture next (subst (λ (l : Option Section). AreBlocks None taken frames l) e.1 (more_blocks None taken frames s order first rest mine others next is does are whole split)))
+  behind (inr h) =
+      capture_read (pcapng_capture h.0 (subst (λ (l : Option Section). AreBlocks None taken frames l) h.1 (more_blocks None taken frames s order first rest mine others next is does are whole split)))
 
 module _ {R : Type 0} (given : R → List ℕ) (at_end : R → Bool) (before taken b : List ℕ) (frames : List Frame) (s : Option Section) (new : CaptureReader R)
     (room : 4 ≤ length (taken ++ b)) (begins : begins_section (taken ++ b) ≡ true) (are : AreBlocks None taken frames s)
@@ -157,7 +172,8 @@ module _ {R : Type 0} (given : R → List ℕ) (at_end : R → Bool) (before tak
   fault-here code at place f = in_pcapng s taken b room begins refl are place f
 
   -- where no block is there
-  pub stops-missing : (code : CaptureCode) (at : ℕ) → at ≡ length taken → NoNextBlock (order_of s) b (at_end (source_of new)) code → StopsAt given at_end before frames (record { code = code; at = at }) new
+  pub stops-missing : (code : CaptureCode) (at : ℕ) → at ≡ length taken → NoNextBlock (order_of s) b (at_end (source_of new)) code →
+      StopsAt given at_end before frames (record { code = code; at = at }) new
   stops-missing code at place (inl lacks) = record {
     front = taken;
     rest = b;
@@ -182,7 +198,8 @@ module _ {R : Type 0} (given : R → List ℕ) (at_end : R → Bool) (before tak
   }
 
   -- where a block has a fault in its body, or is too far
-  pub stops-taking : (code : CaptureCode) (at : ℕ) → at ≡ length taken → ((code ≡ Read) × IsFar new) ⊎ ((is_read code ≡ false) × (code ≢ Cut) × BlockFault s b code) → StopsAt given at_end before frames (record { code = code; at = at }) new
+  pub stops-taking : (code : CaptureCode) (at : ℕ) → at ≡ length taken → ((code ≡ Read) × IsFar new) ⊎ ((is_read code ≡ false) × (code ≢ Cut) × BlockFault s b code) →
+      StopsAt given at_end before frames (record { code = code; at = at }) new
   stops-taking code at place (inl far) = record {
     front = taken;
     rest = b;
@@ -243,27 +260,33 @@ module _ {R : Type 0} (given : R → List ℕ) (at_end : R → Bool) (before tak
   pub front-stands : (block : Block) → IsFound None passed (held_by mid) block → StandsAt given before mid [] passed [] None block
   front-stands block found = record { gave = gave-behind; position = start; read = nothing; stands = λ now e. cc e; found = found }
 
-  pub front-stops : (new : CaptureReader R) (error : CaptureError) → source_of new ≡ source_of mid → TakesSo given before [] passed [] None new (Err error) → StopsAt given at_end before frames error new
+  pub front-stops : (new : CaptureReader R) (error : CaptureError) → source_of new ≡ source_of mid → TakesSo given before [] passed [] None new (Err error) →
+      StopsAt given at_end before frames error new
   front-stops new error source (place, gave_new, at, why) =
       let same : passed ++ held_by new ≡ behind =
       append_cancel_left (before ++ []) (passed ++ held_by new) behind (sym gave_new ∙ ap given source ∙ gave-behind) in
       subst (λ (fs : List Frame). StopsAt given at_end before fs error new) (sym none.1)
-      (stops-taking given at_end before [] (passed ++ held_by new) [] None new (subst (λ (l : List ℕ). 4 ≤ length l) (sym same) room-behind) (subst (λ (l : List ℕ). begins_section l ≡ true) (sym same) begins-behind) nothing gave_new at error.code error.at place why)
+      (stops-taking given at_end before [] (passed ++ held_by new) [] None new (subst (λ (l : List ℕ). 4 ≤ length l) (sym same) room-behind)
+      (subst (λ (l : List ℕ). begins_section l ≡ true) (sym same) begins-behind) nothing gave_new at error.code error.at place why)
 
 -- ---- the next block
 
 -- the kind of a block that is held is told by its front
-pub held-kind : (within : Option Order) (b held_before : List ℕ) (block : Block) (passed : List ℕ) → IsFound within passed b block → Extends held_before (passed ++ b) → (holds : HoldsBlock within held_before) → block.kind ≡ kind_of holds.order held_before
+pub held-kind : (within : Option Order) (b held_before : List ℕ) (block : Block) (passed : List ℕ) → IsFound within passed b block → Extends held_before (passed ++ b) →
+    (holds : HoldsBlock within held_before) → block.kind ≡ kind_of holds.order held_before
 held-kind within b held_before block passed found e holds =
     let all = passed ++ b in
     let first = take block.len all in
     let least = block-least within block.order first found.is_block in
     let on = Extends-take block.len all in
     let begun_first : front_len first ≤ length first = omega (arith, front-most first, least) in
-    let same : block.order ≡ holds.order = order-one within all block.order holds.order (order-stays within block.order first all begun_first on found.is_block.order_is) (order-stays within holds.order held_before all holds.front e holds.order_is) in
-    found.kind ∙ ap (λ (o : Order). kind_of o first) same ∙ sym (kind-stays holds.order first all (omega (arith, least)) on) ∙ kind-stays holds.order held_before all (omega (arith, holds.front, front-least held_before)) e
+    let same : block.order ≡ holds.order = order-one within all block.order holds.order (order-stays within block.order first all begun_first on found.is_block.order_is)
+    (order-stays within holds.order held_before all holds.front e holds.order_is) in
+    found.kind ∙ ap (λ (o : Order). kind_of o first) same ∙ sym (kind-stays holds.order first all (omega (arith, least)) on) ∙ kind-stays holds.order held_before all
+    (omega (arith, holds.front, front-least held_before)) e
 
-pub block-stops : {R : Type 0} (given : R → List ℕ) (at_end : R → Bool) (before taken passed : List ℕ) (frames : List Frame) (now : Section) (new : CaptureReader R) (error : CaptureError) → AreBlocks None taken frames (Some now)
+pub block-stops : {R : Type 0} (given : R → List ℕ) (at_end : R → Bool) (before taken passed : List ℕ) (frames : List Frame) (now : Section) (new : CaptureReader R) (error : CaptureError) →
+    AreBlocks None taken frames (Some now)
     → TakesSo given before taken passed frames (Some now) new (Err error) → StopsAt given at_end before frames error new
 block-stops given at_end before taken passed frames now new error are (place, gave, position, why) =
     let front = begun taken (passed ++ held_by new) frames now are in

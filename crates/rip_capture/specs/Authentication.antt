@@ -1,5 +1,5 @@
--- The authentication of a datagram: a password in text (RFC 2453, section 4.1), or a keyed digest behind
--- the entries (RFC 2082, section 3.2; RFC 4822, section 2).
+-- The authentication of a datagram: a password in text (RFC 2453, section 4.1), or a keyed digest
+-- behind the entries (RFC 2082, section 3.2; RFC 4822, section 2).
 use Rattle.std.specs.Prelude.{◌≡◌, ◌⊎◌, ◌+◌, ◌-◌, ◌*◌, ◌%◌, ◌≤◌, ◌==◌, ◌&&◌, ◌||◌, ℕ, Bool, List, ◌++◌, if◌then◌else◌, nat_le, length, take, slice_index, slice_range}
 use Rattle.rip_wire.specs.Fields.{number_at}
 use Rattle.rip_wire.specs.declared.limits.TheConstants.{ENTRY_LEN, HEADER_LEN}
@@ -27,8 +27,8 @@ trailer_at d = number_at 2 8 d
 abbrev pub data_len : List ℕ → ℕ
 data_len d = slice_index d DATA_LEN_AT
 
--- a keyed digest: whole entries, of which the first says where they end, and behind them a trailer to
--- the end, as long as the first one says, with its header or without
+-- a keyed digest: whole entries, of which the first says where they end, and behind them a trailer
+-- to the end, as long as the first one says, with its header or without
 pub record HasKeyedDigest (d : List ℕ) : Type 0 where
   pub entry : ENTRIES_FROM ≤ length d
   pub family : number_at 2 4 d ≡ AUTHENTICATION
@@ -85,6 +85,7 @@ has_authentication d = has_text_password d || has_keyed_digest d
 abbrev pub entries_end : List ℕ → ℕ
 entries_end d = if has_text_password d then length d else trailer_at d
 
--- such a datagram as it would be without: its header, and the entries behind the one that authenticates
+-- such a datagram as it would be without: its header, and the entries behind the one that
+-- authenticates
 unfoldable pub without_authentication : List ℕ → List ℕ
 without_authentication d = take HEADER_LEN d ++ slice_range d ENTRIES_FROM (entries_end d)

@@ -15,7 +15,8 @@ pub data HasMagic (b : List ℕ) : Type 0 where
 
 -- these bytes are a capture, up to here, with these frames
 pub data IsCapture (b : List ℕ) (frames : List Frame) : Type 0 where
-  pcap : (order : Order) (link_type : LinkType) → IsPcap b order link_type frames → IsCapture b frames
+  pcap : (order : Order) (link_type : LinkType) → IsPcap b order link_type frames →
+      IsCapture b frames
   pcapng : (now : Section) → AreBlocks None b frames (Some now) → IsCapture b frames
 
 -- what was read of a file: a capture of these frames, or nothing yet
@@ -29,7 +30,8 @@ HasNoMore b frames =
     (front rest : List ℕ) (others : List Frame) → b ≡ front ++ rest → IsCapture front others →
     length others ≤ length frames
 
--- these bytes are the next record or block behind a capture of these frames: no front of them is passed over
+-- these bytes are the next record or block behind a capture of these frames: no front of them is
+-- passed over
 abbrev pub IsNext : List ℕ → List ℕ → List Frame → Type 0
 IsNext front bytes frames =
     (part rest : List ℕ) → bytes ≡ part ++ rest → IsCapture (front ++ part) frames → part ≡ []
@@ -41,12 +43,16 @@ pub data FrontFault (b : List ℕ) (code : CaptureCode) : Type 0 where
   pcap : (order : Order) → MAGIC_LEN ≤ length b → IsMagic order b → HeaderFault order b code →
       FrontFault b code
 
--- a file has this fault at an offset: behind a front of so many bytes that is right, with these frames
-pub data CaptureFault (b : List ℕ) (frames : List Frame) (code : CaptureCode) (at : ℕ) : Type 0 where
+-- a file has this fault at an offset: behind a front of so many bytes that is right, with these
+-- frames
+pub data CaptureFault (b : List ℕ) (frames : List Frame) (code : CaptureCode) (at : ℕ)
+    : Type 0 where
   front : frames ≡ [] → at ≡ 0 → FrontFault b code → CaptureFault b frames code at
   pcap : (order : Order) (link_type : LinkType) (right rest : List ℕ) → b ≡ right ++ rest →
       IsPcap right order link_type frames → at ≡ length right → RecordFault order rest code →
       CaptureFault b frames code at
-  pcapng : (s : Option Section) (right rest : List ℕ) → MAGIC_LEN ≤ length b → begins_section b ≡ true →
-      b ≡ right ++ rest → AreBlocks None right frames s → at ≡ length right → BlockFault s rest code →
+  pcapng : (s : Option Section) (right rest : List ℕ) → MAGIC_LEN ≤ length b →
+      begins_section b ≡ true →
+      b ≡ right ++ rest → AreBlocks None right frames s → at ≡ length right →
+      BlockFault s rest code →
       CaptureFault b frames code at

@@ -9,8 +9,8 @@ use Rattle.rip_capture.specs.declared.link.LinkType.{LinkType}
 use Rattle.rip_capture.specs.declared.packet.Carried.{Carried}
 use Rattle.rip_capture.specs.declared.packet.Carried.TheVariants.{Datagram, Unknown, Others}
 
--- what a frame of a link type carries: what its IPv4 packet does; nothing that could be told, where a
--- header or a tag is not whole; or other things
+-- what a frame of a link type carries: what its IPv4 packet does; nothing that could be told, where
+-- a header or a tag is not whole; or other things
 abbrev pub Carries : LinkType → List ℕ → Carried → Type 0
 Carries t frame carried =
     ((from : ℕ) × Holds t frame (Ip from) × IpCarries from (drop from frame) carried)

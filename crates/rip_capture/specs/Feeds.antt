@@ -27,7 +27,8 @@ pub record Extends (bytes longer : List ℕ) : Type 0 where
   pub whole : longer ≡ bytes ++ more
 
 -- these bytes were passed over, of those that were held and of those behind them
-pub record Skips {R : Type 0} (given : R → List ℕ) (old new : Feed R) (bytes : List ℕ) : Type 0 where
+pub record Skips {R : Type 0} (given : R → List ℕ) (old new : Feed R) (bytes : List ℕ)
+    : Type 0 where
   pub takes : Takes given old new bytes
   pub begins : Extends (held old) (bytes ++ held new)
 

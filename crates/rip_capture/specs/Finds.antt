@@ -51,7 +51,8 @@ abbrev pub FindsRecord : Order → List ℕ → Bool → Result (Option ℕ) Cap
 FindsRecord order b at_end (Ok (Some n)) =
     (RECORD_HEADER + n ≤ length b) × (captured_len order b ≡ n) × (n ≤ MOST_CAPTURED)
 FindsRecord order b at_end (Ok None) = (b ≡ []) × (at_end ≡ true)
-FindsRecord order b at_end (Err code) = (code ≡ Read) ⊎ (RecordFault order b code × EndsFor code at_end)
+FindsRecord order b at_end (Err code) =
+    (code ≡ Read) ⊎ (RecordFault order b code × EndsFor code at_end)
 
 -- no whole block is there: its front is not, or not as many bytes as it says
 pub data LacksBlock (within : Option Order) (b : List ℕ) : Type 0 where
@@ -71,7 +72,8 @@ FindsOrder within b at_end (Ok order) = (front_len b ≤ length b) × HasOrder w
 FindsOrder within b at_end (Err code) = NoNextBlock within b at_end code
 
 -- the same, or that there is no next block
-abbrev pub FindsNextOrder : Option Order → List ℕ → Bool → Result (Option Order) CaptureCode → Type 0
+abbrev pub FindsNextOrder : Option Order → List ℕ → Bool → Result (Option Order) CaptureCode →
+    Type 0
 FindsNextOrder within b at_end (Ok (Some order)) = FindsOrder within b at_end (Ok order)
 FindsNextOrder within b at_end (Ok None) = (b ≡ []) × (at_end ≡ true)
 FindsNextOrder within b at_end (Err code) = NoNextBlock within b at_end code
@@ -108,7 +110,8 @@ FindsBlock within passed b at_end (Err code) = NoNextBlock within (passed ++ b) 
 -- the same, or that there is no next block
 abbrev pub FindsNextBlock :
     Option Order → List ℕ → List ℕ → Bool → Result (Option Block) CaptureCode → Type 0
-FindsNextBlock within passed b at_end (Ok (Some block)) = FindsBlock within passed b at_end (Ok block)
+FindsNextBlock within passed b at_end (Ok (Some block)) =
+    FindsBlock within passed b at_end (Ok block)
 FindsNextBlock within passed b at_end (Ok None) = (passed ++ b ≡ []) × (at_end ≡ true)
 FindsNextBlock within passed b at_end (Err code) = NoNextBlock within (passed ++ b) at_end code
 

@@ -13,8 +13,8 @@ use Rattle.rip_capture.specs.declared.numbers.Order.TheVariants.{Big, Little}
 abbrev pub is_tag : ℕ → Bool
 is_tag kind = (kind == 0x8100 || kind == 0x88A8) || kind == 0x9100
 
--- what a frame holds, where a type stands at one offset, and what it names begins at the other; a tag
--- is two bytes and the next type; where nothing follows a header or a tag, the frame is short
+-- what a frame holds, where a type stands at one offset, and what it names begins at the other; a
+-- tag is two bytes and the next type; where nothing follows a header or a tag, the frame is short
 pub data Leads (frame : List ℕ) : ℕ → ℕ → Network → Type 0 where
   ipv4 : (at from : ℕ) (held : Network) → number_at 2 at frame ≡ IPV4 → held ≡ Ip from →
       Leads frame at from held

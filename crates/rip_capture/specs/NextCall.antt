@@ -42,21 +42,23 @@ place_of p = p.at
 abbrev pub section_by : {R : Type 0} → CaptureReader R → Section
 section_by reader = section_of reader.section
 
--- these bytes of a file of this kind were read, and have these frames; blocks then stand in this section
+-- these bytes of a file of this kind were read, and have these frames; blocks then stand in this
+-- section
 abbrev pub HasRead : Option Format → Section → List ℕ → List Frame → Type 0
 HasRead None now taken frames = (taken ≡ []) × (frames ≡ [])
 HasRead (Some (Pcap h)) now taken frames = IsPcap taken h.order h.link_type frames
 HasRead (Some Pcapng) now taken frames = AreBlocks None taken frames (Some now)
 
--- a reader stands behind these bytes of its file, which have these frames; before is what the source
--- had given when the reader was made
+-- a reader stands behind these bytes of its file, which have these frames; before is what the
+-- source had given when the reader was made
 pub record Stands {R : Type 0} (given : R → List ℕ) (before : List ℕ) (reader : CaptureReader R)
     (taken : List ℕ) (frames : List Frame) : Type 0 where
   pub gave : given (source_of reader) ≡ before ++ taken ++ held_by reader
   pub position : position_of reader ≡ length taken
   pub read : HasRead reader.format (section_by reader) taken frames
 
--- the next packet was taken: its record or block begins at this place, behind a capture of the frames before it
+-- the next packet was taken: its record or block begins at this place, behind a capture of the
+-- frames before it
 pub record TakesPacket {R : Type 0} (given : R → List ℕ) (before : List ℕ) (frames : List Frame)
     (frame : Frame) (place : ℕ) (new : CaptureReader R) : Type 0 where
   pub front : List ℕ
@@ -109,7 +111,8 @@ pub record IsOver {R : Type 0} (at_end : R → Bool) (reader : CaptureReader R) 
   pub all : held_by reader ≡ []
   pub ended : at_end (source_of reader) ≡ true
 
--- bytes of a file of this kind, behind its front, begin with a whole record, or a whole block of a packet
+-- bytes of a file of this kind, behind its front, begin with a whole record, or a whole block of a
+-- packet
 abbrev pub HoldsPacket : Option Format → Section → List ℕ → Type 0
 HoldsPacket None now b = ⊥
 HoldsPacket (Some (Pcap h)) now b = HoldsRecord h.order b
@@ -122,9 +125,11 @@ is_unreadable (Err e) = is_read e.code
 
 -- how a call moves a source on, and what it leaves of its marks
 pub record Moves {R A : Type 0} (given : R → List ℕ) (coming : R → Option (List ℕ))
-    (broken at_end : R → Bool) (old new : CaptureReader R) (result : Result A CaptureError) : Type 0 where
+    (broken at_end : R → Bool) (old new : CaptureReader R)
+    (result : Result A CaptureError) : Type 0 where
   pub went : Went given coming at_end (source_of old) (source_of new)
-  -- the code Read only where the source failed, or far beyond all files; every other answer leaves its mark
+  -- the code Read only where the source failed, or far beyond all files; every other answer leaves
+  -- its mark
   pub failed : is_unreadable result ≡ true → (broken (source_of new) ≡ true) ⊎ IsFar new
   pub marks : is_unreadable result ≡ false → broken (source_of new) ≡ broken (source_of old)
 

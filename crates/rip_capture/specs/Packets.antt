@@ -1,4 +1,5 @@
--- What an IPv4 packet carries, by the numbers of its headers (RFC 791, 768; RFC 2453, section 3.9 and 4.5).
+-- What an IPv4 packet carries, by the numbers of its headers (RFC 791, 768; RFC 2453, section 3.9
+-- and 4.5).
 use Rattle.std.specs.Prelude.{◌≡◌, ◌≢◌, ◌⊎◌, ◌<◌, ◌≤◌, ◌+◌, ◌*◌, ◌/◌, ◌%◌, ℕ, List, [], length, slice_index}
 use Rattle.rip_wire.specs.Fields.{number_at}
 use Rattle.rip_capture.specs.declared.packet.Carried.{Carried}

@@ -15,8 +15,8 @@ pub record Frame : Type 0 where
   pub link_type : LinkType
   pub bytes : List ℕ
 
--- what the first four bytes of a file say, most significant byte first: the byte order, and that times
--- are in microseconds or nanoseconds
+-- what the first four bytes of a file say, most significant byte first: the byte order, and that
+-- times are in microseconds or nanoseconds
 abbrev pub IsMagicNumber : Order → ℕ → Type 0
 IsMagicNumber Big n = (n ≡ 0xA1B2C3D4) ⊎ (n ≡ 0xA1B23C4D)
 IsMagicNumber Little n = (n ≡ 0xD4C3B2A1) ⊎ (n ≡ 0x4D3CB2A1)
@@ -34,8 +34,8 @@ pub record IsVersion (order : Order) (b : List ℕ) : Type 0 where
 abbrev pub link_number : Order → List ℕ → ℕ
 link_number order b = number_in order 20 b % 2 ^ 26
 
--- the header of a file: four bytes of kind and order, the version, twelve bytes that do not count, and
--- the link type
+-- the header of a file: four bytes of kind and order, the version, twelve bytes that do not count,
+-- and the link type
 pub record IsPcapHeader (b : List ℕ) (order : Order) (link_type : LinkType) : Type 0 where
   pub size : length b ≡ FILE_HEADER
   pub magic : IsMagic order b
@@ -46,8 +46,10 @@ pub record IsPcapHeader (b : List ℕ) (order : Order) (link_type : LinkType) : 
 abbrev pub captured_len : Order → List ℕ → ℕ
 captured_len order b = number_in order 8 b
 
--- a record: eight bytes of time, the captured length, the length that the packet had, and the packet
-pub record IsRecord (order : Order) (link_type : LinkType) (b : List ℕ) (frame : Frame) : Type 0 where
+-- a record: eight bytes of time, the captured length, the length that the packet had, and the
+-- packet
+pub record IsRecord (order : Order) (link_type : LinkType) (b : List ℕ) (frame : Frame)
+    : Type 0 where
   pub header : RECORD_HEADER ≤ length b
   pub link : frame.link_type ≡ link_type
   pub behind : frame.bytes ≡ drop RECORD_HEADER b
@@ -62,7 +64,8 @@ AreRecords order link_type b (frame ∷ frames) =
     × AreRecords order link_type rest frames × (b ≡ first ++ rest)
 
 -- these bytes are a file, up to here, with these frames
-pub record IsPcap (b : List ℕ) (order : Order) (link_type : LinkType) (frames : List Frame) : Type 0 where
+pub record IsPcap (b : List ℕ) (order : Order) (link_type : LinkType) (frames : List Frame)
+    : Type 0 where
   pub header : List ℕ
   pub records : List ℕ
   pub is_header : IsPcapHeader header order link_type

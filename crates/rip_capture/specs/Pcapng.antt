@@ -31,7 +31,8 @@ begins_section b = number_at 4 0 b == SECTION
 abbrev pub front_len : List ℕ → ℕ
 front_len b = if begins_section b then SECTION_FRONT else BLOCK_FRONT
 
--- what a section says of its byte order, most significant byte first: the number 1A2B3C4D in that order
+-- what a section says of its byte order, most significant byte first: the number 1A2B3C4D in that
+-- order
 abbrev pub order_number : Order → ℕ
 order_number Big = 0x1A2B3C4D
 order_number Little = 0x4D3C2B1A
@@ -95,8 +96,8 @@ pub record IsSectionVersion (order : Order) (b : List ℕ) : Type 0 where
   pub major : short_in order 12 b ≡ 1
   pub minor : (short_in order 14 b ≡ 0) ⊎ (short_in order 14 b ≡ 2)
 
--- the interface that a block describes: the number of its link type, and the most bytes of a packet that it
--- captures, where that is not 0
+-- the interface that a block describes: the number of its link type, and the most bytes of a packet
+-- that it captures, where that is not 0
 abbrev pub interface_in : Order → List ℕ → Interface
 interface_in order b = record { link_number = short_in order 8 b; most = number_in order 12 b }
 
@@ -110,8 +111,8 @@ abbrev pub packet_from : PacketForm → ℕ
 packet_from Enhanced = 28
 packet_from Simple = 12
 
--- how many bytes of a simple packet there are: as many as it had, as the block has room for, and as its
--- interface captures
+-- how many bytes of a simple packet there are: as many as it had, as the block has room for, and as
+-- its interface captures
 abbrev pub simple_len : ℕ → ℕ → ℕ → ℕ
 simple_len had room most = if most == 0 then min had room else min (min had room) most
 
@@ -121,7 +122,8 @@ packet_len order Enhanced b i = number_in order 20 b
 packet_len order Simple b i = simple_len (number_in order 8 b) (length b - 16) i.most
 
 -- the bytes of a packet can be so many, and lie in the block
-pub record HasPacketLength (order : Order) (form : PacketForm) (b : List ℕ) (i : Interface) : Type 0 where
+pub record HasPacketLength (order : Order) (form : PacketForm) (b : List ℕ) (i : Interface)
+    : Type 0 where
   pub few : packet_len order form b i ≤ MOST_CAPTURED
   pub inside : packet_from form + packet_len order form b i + 4 ≤ length b
 
@@ -135,14 +137,16 @@ pub record IsPacket (order : Order) (interfaces : List Interface) (form : Packet
   pub bytes : frame.bytes
       ≡ slice_range b (packet_from form) (packet_from form + packet_len order form b interface)
 
--- what a whole block of a kind does in a section: which packets it has, and in what blocks then stand
-pub data Does (s : Option Section) (order : Order) (b : List ℕ) (kind : BlockKind) (frames : List Frame)
-    (next : Section) : Type 0 where
+-- what a whole block of a kind does in a section: which packets it has, and in what blocks then
+-- stand
+pub data Does (s : Option Section) (order : Order) (b : List ℕ) (kind : BlockKind)
+    (frames : List Frame) (next : Section) : Type 0 where
   section : kind ≡ kinds.Section → IsSectionVersion order b → frames ≡ [] →
       next ≡ record { order = order; interfaces = [] } → Does s order b kind frames next
   interface : (now : Section) → kind ≡ kinds.Interface → s ≡ Some now →
       length now.interfaces < MOST_INTERFACES → frames ≡ [] →
-      next ≡ record { order = now.order; interfaces = now.interfaces ++ interface_in order b ∷ [] } →
+      next
+      ≡ record { order = now.order; interfaces = now.interfaces ++ interface_in order b ∷ [] } →
       Does s order b kind frames next
   packet : (now : Section) (form : PacketForm) (frame : Frame) → kind ≡ kinds.Packet form →
       s ≡ Some now → IsPacket order now.interfaces form b frame → frames ≡ frame ∷ [] → next ≡ now →
@@ -159,8 +163,8 @@ order_of (Some s) = Some s.order
 pub data AreBlocks : Option Section → List ℕ → List Frame → Option Section → Type 0 where
   none : (s : Option Section) (b : List ℕ) (frames : List Frame) (last : Option Section) →
       b ≡ [] → frames ≡ [] → last ≡ s → AreBlocks s b frames last
-  more : (s : Option Section) (b : List ℕ) (frames : List Frame) (last : Option Section) (order : Order)
-      (first rest : List ℕ) (mine others : List Frame) (next : Section) →
+  more : (s : Option Section) (b : List ℕ) (frames : List Frame) (last : Option Section)
+      (order : Order) (first rest : List ℕ) (mine others : List Frame) (next : Section) →
       IsBlock (order_of s) order first → Does s order first (kind_of order first) mine next →
       AreBlocks (Some next) rest others last → b ≡ first ++ rest → frames ≡ mine ++ others →
       AreBlocks s b frames last

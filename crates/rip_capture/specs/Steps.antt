@@ -38,7 +38,8 @@ IsGoodStep reader Passed = Unit {0}
 -- what reading the front does to a file of which these frames were read
 abbrev pub BeginsSo : {R : Type 0} → (R → List ℕ) → (R → Bool) → List ℕ → List Frame →
     CaptureReader R → Result Format CaptureError → Type 0
-BeginsSo given at_end before frames new (Ok f) = (taken : List ℕ) × Stands given before new taken frames
+BeginsSo given at_end before frames new (Ok f) =
+    (taken : List ℕ) × Stands given before new taken frames
 BeginsSo given at_end before frames new (Err e) = StopsAt given at_end before frames e new
 
 -- what reading the front does, where it was not read; where it was, it does nothing
@@ -54,10 +55,11 @@ pub record Begins {R : Type 0} (given : R → List ℕ) (coming : R → Option (
 
 -- ---- blocks
 
--- a reader stands behind these bytes of a pcapng file, with these frames, and in the next block behind these
--- of it, in this section, or at the front
+-- a reader stands behind these bytes of a pcapng file, with these frames, and in the next block
+-- behind these of it, in this section, or at the front
 pub record StandsAt {R : Type 0} (given : R → List ℕ) (before : List ℕ) (reader : CaptureReader R)
-    (taken passed : List ℕ) (frames : List Frame) (s : Option Section) (block : Block) : Type 0 where
+    (taken passed : List ℕ) (frames : List Frame) (s : Option Section) (block : Block)
+    : Type 0 where
   pub gave : given (source_of reader) ≡ before ++ taken ++ (passed ++ held_by reader)
   pub position : position_of reader ≡ length taken
   pub read : AreBlocks None taken frames s
@@ -75,7 +77,8 @@ BringsAt at (Packet found) = place_at found ≡ at
 BringsAt at Passed = Unit {0}
 
 -- a reader took a block
-pub record TakesBlock {R : Type 0} (given : R → List ℕ) (before taken : List ℕ) (frames : List Frame)
+pub record TakesBlock {R : Type 0} (given : R → List ℕ) (before taken : List ℕ)
+    (frames : List Frame)
     (new : CaptureReader R) (step : Step) : Type 0 where
   pub more : List ℕ
   pub gave : given (source_of new) ≡ before ++ (taken ++ more) ++ held_by new

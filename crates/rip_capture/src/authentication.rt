@@ -40,8 +40,8 @@ fn has_text_password(datagram: &[u8]) -> bool
     password_in(datagram).is_some() && is_of_entries(datagram.len())
 }
 
-/// Whether a datagram has a trailer behind its entries, up to its end. The length of it that the first
-/// entry says counts the trailer's header or does not: daemons write both.
+/// Whether a datagram has a trailer behind its entries, up to its end. The length of it that the
+/// first entry says counts the trailer's header or does not: daemons write both.
 fn has_trailer(datagram: &[u8]) -> bool
     requires first { ENTRIES_FROM ≤ length datagram.now }
     requires entries { ENTRIES_FROM ≤ trailer_at datagram.now }
@@ -57,8 +57,8 @@ fn has_trailer(datagram: &[u8]) -> bool
         && (at + TRAILER_HEADER + size == datagram.len() || at + size == datagram.len())
 }
 
-/// Whether a datagram is whole entries, of which the first one is of a keyed digest, and the trailer that
-/// has the digest.
+/// Whether a datagram is whole entries, of which the first one is of a keyed digest, and the
+/// trailer that has the digest.
 fn has_keyed_digest(datagram: &[u8]) -> bool
     ensures { result ≡ has_keyed_digest datagram.now }
 {
@@ -69,8 +69,9 @@ fn has_keyed_digest(datagram: &[u8]) -> bool
         && has_trailer(datagram)
 }
 
-/// The entries of a datagram behind the one that authenticates it: with its header they are the datagram
-/// as it would be without. None where it has no authentication, or one that does not fit it.
+/// The entries of a datagram behind the one that authenticates it: with its header they are the
+/// datagram as it would be without. None where it has no authentication, or one that does not fit
+/// it.
 #[tactic(auto, unfolding(crate::specs::Authentication::has_authentication, crate::specs::Authentication::without_authentication))]
 pub fn entries_in(datagram: &[u8]) -> Option<Span>
     ensures found { MatchOption result (¬ IsAuthenticated datagram.now)

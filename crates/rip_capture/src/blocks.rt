@@ -164,8 +164,8 @@ fn section_order<R: Source>(feed: &mut Feed<R>) -> Result<Order, CaptureCode>
     order_in(feed.held()).ok_or(CaptureCode::Version)
 }
 
-/// The byte order of the next block in a section of this order, whose front is then held; or that there
-/// is none.
+/// The byte order of the next block in a section of this order, whose front is then held; or that
+/// there is none.
 fn next_order<R: Source>(feed: &mut Feed<R>, within: Order) -> Result<Option<Order>, CaptureCode>
     ensures keeps { Keeps R.given feed.old feed.new }
     ensures held { Extends (held feed.old) (held feed.new) }
@@ -290,8 +290,8 @@ pub(crate) fn first_block<R: Source>(feed: &mut Feed<R>) -> Result<Block, Captur
     }
 }
 
-/// The next block in a section of this byte order, which is then held, or all but its length at its end
-/// passed over; or that there is none.
+/// The next block in a section of this byte order, which is then held, or all but its length at its
+/// end passed over; or that there is none.
 pub(crate) fn next_block<R: Source>(
     feed: &mut Feed<R>,
     within: Order,

@@ -25,7 +25,8 @@ pub enum Body {
     Other,
 }
 
-/// The section that blocks stand in: its byte order, and the interfaces that it has described so far.
+/// The section that blocks stand in: its byte order, and the interfaces that it has described so
+/// far.
 #[derive(Drop)]
 pub struct OpenSection {
     pub order: Order,
@@ -138,8 +139,8 @@ fn is_section_version(order: Order, bytes: &[u8]) -> bool
     short_in(order, bytes, 12) == 1 && (minor == 0 || minor == 2)
 }
 
-/// What a block says, where its section has described these interfaces so far. Of a block that is passed
-/// over the bytes are not looked at.
+/// What a block says, where its section has described these interfaces so far. Of a block that is
+/// passed over the bytes are not looked at.
 pub(crate) fn read_body(
     block: Block,
     interfaces: &[Interface],

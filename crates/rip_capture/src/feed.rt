@@ -181,8 +181,8 @@ impl<R: Source> Feed<R> {
         Span { from, to }
     }
 
-    /// Takes so many bytes, whether they are held or come: Cut where the source ends before them, and Read
-    /// where it fails.
+    /// Takes so many bytes, whether they are held or come: Cut where the source ends before them,
+    /// and Read where it fails.
     pub fn skip(&mut self, count: usize) -> Result<(), CaptureCode>
         ensures skips { (bytes : List ℕ) × Skips R.given self.old self.new bytes
             × SkipsSo count bytes (held self.new) (R.at_end self.new.source) result }

@@ -1,5 +1,5 @@
-//! Laws of the definitions alone: functions that do nothing, whose contracts hold of all frames and all
-//! files.
+//! Laws of the definitions alone: functions that do nothing, whose contracts hold of all frames and
+//! all files.
 
 ghost use Rattle.std.specs.Prelude.{◌≡◌, ◌≢◌, ◌⊎◌, ◌↔◌, ◌*◌, ◌<◌, ◌≤◌, ◌++◌, ℕ, true, List, Option, length, take};
 ghost use Rattle.std.specs.List.{AllByRecursion};
@@ -62,8 +62,8 @@ pub fn authentication_numbers()
     ensures trailer_header { TRAILER_HEADER ≡ 4 }
 {}
 
-/// The test of an authentication is true of just the datagrams that have one in the words of the standard,
-/// and what is left of such a datagram is its header and its other entries.
+/// The test of an authentication is true of just the datagrams that have one in the words of the
+/// standard, and what is left of such a datagram is its header and its other entries.
 pub fn authentications()
     ensures tested { (d : List ℕ) → (has_authentication d ≡ true) ↔ IsAuthenticated d }
     ensures left { (d : List ℕ) (span : Span) → AreEntries d span →
@@ -99,7 +99,8 @@ pub fn long_captures()
         RECORD_HEADER * length frames ≤ length file }
 {}
 
-/// The bytes of packets are bytes where those of the file are, of a capture and of a file with a fault.
+/// The bytes of packets are bytes where those of the file are, of a capture and of a file with a
+/// fault.
 pub fn packet_bytes()
     ensures right { (file : List ℕ) (frames : List Frame) → IsCapture file frames →
         AllByRecursion (λ b. b < 256) file →

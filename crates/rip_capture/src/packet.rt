@@ -11,8 +11,8 @@ use crate::numbers::{u16_at, u32_at};
 use crate::span::Span;
 use rip_wire::Address;
 
-/// What a captured packet is to a log: a RIP datagram to 224.0.0.9, of which the sender is told, whole or
-/// why not; or nothing of the kind.
+/// What a captured packet is to a log: a RIP datagram to 224.0.0.9, of which the sender is told,
+/// whole or why not; or nothing of the kind.
 #[derive(Clone, Copy, Debug, PartialEq, Eq)]
 pub enum Carried {
     /// The datagram of a sender, and where it lies in the frame.
@@ -102,8 +102,9 @@ fn read_packet(packet: &[u8], place: usize) -> Carried
     }
 }
 
-/// What a frame of a link type carries. Lengths are those of the IPv4 and UDP headers (RFC 791, RFC 768),
-/// so padding behind them is left out; checksums, the source port and the TTL are not looked at.
+/// What a frame of a link type carries. Lengths are those of the IPv4 and UDP headers (RFC 791, RFC
+/// 768), so padding behind them is left out; checksums, the source port and the TTL are not looked
+/// at.
 pub fn read_frame(link_type: LinkType, frame: &[u8]) -> Carried
     ensures carries { Carries link_type frame.now result }
     // A datagram lies in the frame, and has at most 999 bytes.

@@ -51,9 +51,9 @@ enum Step {
     Passed,
 }
 
-/// A reader of a capture file's packets, of at most 262,144 bytes each. It reads pcap and pcapng files of
-/// either byte order (draft-ietf-opsawg-pcap, draft-ietf-opsawg-pcapng). After an error there are no more
-/// packets.
+/// A reader of a capture file's packets, of at most 262,144 bytes each. It reads pcap and pcapng
+/// files of either byte order (draft-ietf-opsawg-pcap, draft-ietf-opsawg-pcapng). After an error
+/// there are no more packets.
 #[derive(Drop)]
 pub struct CaptureReader<R> {
     feed: Feed<R>,
@@ -72,8 +72,8 @@ impl<R: Source> CaptureReader<R> {
     ghost use Rattle.rip_capture.specs.Pcapng.{Section, begins_section, is_read_whole, least_len};
     ghost use Rattle.rip_capture.specs.Steps.{Begins, GoesOn, IsGood, IsGoodStep, StandsAt, Steps, TakesSo, frame_at, place_at};
 
-    /// A reader at the front of a file: of what the source gives from here on. It allocates its buffer, and
-    /// pulls nothing yet. Where memory is refused, the source comes back.
+    /// A reader at the front of a file: of what the source gives from here on. It allocates its
+    /// buffer, and pulls nothing yet. Where memory is refused, the source comes back.
     pub fn new(alloc: Global, source: R) -> Result<CaptureReader<R>, (AllocError, R)>
         ensures source { IfOk result (λ r. source_of r ≡ source) }
         ensures front { IfOk result (λ r. Stands R.given (R.given source) r [] []) }
@@ -313,11 +313,11 @@ impl<R: Source> CaptureReader<R> {
         }
     }
 
-    /// The next packet, which borrows the reader's buffer, or None at the end of the file. It allocates
-    /// nothing, and pulls nothing where it holds the next record, or block of a packet. An error is the
-    /// first fault of the file, or Read where the source failed (or a part of the file may end past the
-    /// offset 2 ^ 64 - 1). After an error each call answers the same error, and pulls nothing; after the
-    /// end each call answers None.
+    /// The next packet, which borrows the reader's buffer, or None at the end of the file. It
+    /// allocates nothing, and pulls nothing where it holds the next record, or block of a packet.
+    /// An error is the first fault of the file, or Read where the source failed (or a part of the
+    /// file may end past the offset 2 ^ 64 - 1). After an error each call answers the same error,
+    /// and pulls nothing; after the end each call answers None.
     pub fn next(&mut self) -> Result<Option<Packet<'_>>, CaptureError>
         // Once the packet that it lends is let go, the reader is as `NextCall` says.
         ensures* leaves { sem 𝓛 (Rests (the_row R.row) self.entry (λ new.

@@ -90,10 +90,12 @@ is_comment-front (b ∷ line) (suc from) inside here = is_comment-front line fro
 no-eqb : (a b : ℕ) → (a ≡ b → ⊥) → (a == b) ≡ false
 no-eqb a b h = grind arith
 
-pub is_comment-no : (line : List ℕ) (from : ℕ) → from < length line → is_blank (get_or line from 0) ≡ false → fields_of line ≡ fields_of (drop from line) → (get_or line from 0 ≡ 35 → ⊥) → is_comment (fields_of line) ≡ false
+pub is_comment-no : (line : List ℕ) (from : ℕ) → from < length line → is_blank (get_or line from 0) ≡ false → fields_of line ≡ fields_of (drop from line) → (get_or line from 0 ≡ 35 → ⊥) →
+    is_comment (fields_of line) ≡ false
 is_comment-no line from inside here same none = ap is_comment same ∙ is_comment-front line from inside here ∙ no-eqb _ _ none
 
-pub is_comment-yes : (line : List ℕ) (from : ℕ) → from < length line → is_blank (get_or line from 0) ≡ false → fields_of line ≡ fields_of (drop from line) → get_or line from 0 ≡ 35 → is_comment (fields_of line) ≡ true
+pub is_comment-yes : (line : List ℕ) (from : ℕ) → from < length line → is_blank (get_or line from 0) ≡ false → fields_of line ≡ fields_of (drop from line) → get_or line from 0 ≡ 35 →
+    is_comment (fields_of line) ≡ true
 is_comment-yes line from inside here same is = ap is_comment same ∙ is_comment-front line from inside here ∙ eq-eqb _ _ is
 
 -- ---- the rest of a line, without the blanks at its end
@@ -144,12 +146,14 @@ fields_of-one (b ∷ xs) some none =
     ∙ ap (λ l. (b ∷ xs) ∷ fields_of l) end
 
 -- blanks at the end of a line make no field
-pub rest-fields : (line : List ℕ) (from to : ℕ) → from ≤ to → ((k : ℕ) → to ≤ k → k < length line → is_blank (get_or line k 0) ≡ true) → fields_of (slice_range line from to) ≡ fields_of (drop from line)
+pub rest-fields : (line : List ℕ) (from to : ℕ) → from ≤ to → ((k : ℕ) → to ≤ k → k < length line → is_blank (get_or line k 0) ≡ true) →
+    fields_of (slice_range line from to) ≡ fields_of (drop from line)
 rest-fields line from to some blanks =
     fields_of-trim (drop from line) (to - from) (λ k low high. rw (get_or-drop from line k 0) (blanks (from + k) (omega (arith, low)) (omega (arith, high, length-drop from line))))
 
 -- a part of a line that begins and ends with no blank
-pub rest-trimmed : (line : List ℕ) (from to : ℕ) → from < to → to ≤ length line → is_blank (get_or line from 0) ≡ false → is_blank (get_or line (to - 1) 0) ≡ false → IsTrimmed (slice_range line from to)
+pub rest-trimmed : (line : List ℕ) (from to : ℕ) → from < to → to ≤ length line → is_blank (get_or line from 0) ≡ false → is_blank (get_or line (to - 1) 0) ≡ false →
+    IsTrimmed (slice_range line from to)
 rest-trimmed line from to some within first last =
     let n = to - from in
     let rest = drop from line in

@@ -114,7 +114,8 @@ fault-longer n line whole code (inl e) long (bad few is) =
     bad few (subst (IsBad whole) (sym e) past_too)
 fault-longer n line whole code (inr e) long (bad few is) = absurd (subst (IsBad line) e is)
 
-pub LogFault-at_once : (text more : List ℕ) (records : List Numbered) (line : ℕ) (code : LogCode) → ((code ≡ LongLine) ⊎ (code ≡ TooManyLines)) → LogFault text records line code → LogFault (text ++ more) records line code
+pub LogFault-at_once : (text more : List ℕ) (records : List Numbered) (line : ℕ) (code : LogCode) → ((code ≡ LongLine) ⊎ (code ≡ TooManyLines)) → LogFault text records line code →
+    LogFault (text ++ more) records line code
 LogFault-at_once text more records line code which is =
     let found = longer text more is.before is.bad is.after (lines_of-AreLines text _ is.are_lines) in
     record {
@@ -169,7 +170,8 @@ module _ (judges : Judges) where
       LogFault-log_in judges (text ++ (10 ∷ others)) records e (ap Some (ap (log_of 0) (lines_of-after text others) ∙ same ∙ all))
 
   -- the records that were taken are those of the lines that were passed
-  records-passed : (passed rest : List (List ℕ)) (taken : List Numbered) (f : Option LogError) → 0 + length passed ≤ 1000000 → (log_of 0 passed).fault ≡ f → log_of 0 (passed ++ rest) ≡ onto_all taken (log_of (0 + length passed) rest)
+  records-passed : (passed rest : List (List ℕ)) (taken : List Numbered) (f : Option LogError) → 0 + length passed ≤ 1000000 → (log_of 0 passed).fault ≡ f →
+      log_of 0 (passed ++ rest) ≡ onto_all taken (log_of (0 + length passed) rest)
       → AreRecords 0 passed taken
   records-passed passed rest taken None few h e =
       let none = none-of 0 passed (omega arith) h in

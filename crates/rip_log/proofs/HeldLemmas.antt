@@ -49,7 +49,8 @@ none-among old new n all front none k inside feed =
     none k below (ap (λ l. get_or l k 0) (sym front) ∙ get_or-take (length old) new k 0 below ∙ feed)
 
 -- where it finds one, that is the first
-pub first-found : (xs hay : List ℕ) (seen found : ℕ) → hay ≡ drop seen xs → seen ≤ length xs → NoFeedBelow xs seen → NoneBefore (Passes (is_byte 10) hay) 0 (length hay) found → Passes (is_byte 10) hay found → FirstFeed xs (seen + found)
+pub first-found : (xs hay : List ℕ) (seen found : ℕ) → hay ≡ drop seen xs → seen ≤ length xs → NoFeedBelow xs seen → NoneBefore (Passes (is_byte 10) hay) 0 (length hay) found →
+    Passes (is_byte 10) hay found → FirstFeed xs (seen + found)
 first-found xs hay seen found e within before none here =
     let inside : seen + found < length xs = omega (arith, none.high, ap length e, length-drop seen xs) in
     let here_at : get_or xs (seen + found) 0 ≡ get_or hay found 0 = sym (rw e (get_or-drop seen xs found 0)) in

@@ -37,7 +37,8 @@ first-part line m from to h o =
     ∙ take-take (to - from) (m - from) (drop from line) (omega arith)
 
 -- what the front of a line says of its parts, the line does
-parts-front : (line front room : List ℕ) (m : ℕ) (p : Parts) → m ≤ length line → front ≡ take m line → AreParts front room p → (capture_of_parts front room p ≡ capture_of_parts line room p) × AreParts line room p
+parts-front : (line front room : List ℕ) (m : ℕ) (p : Parts) → m ≤ length line → front ≡ take m line → AreParts front room p →
+    (capture_of_parts front room p ≡ capture_of_parts line room p) × AreParts line room p
 parts-front line front room m p fits is parts =
     let link = p.link in
     let short : link.to ≤ m = omega (arith, parts.link.within, ap length is, length-take m line) in

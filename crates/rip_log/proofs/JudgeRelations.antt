@@ -99,7 +99,8 @@ module _ (laws : WireLaws) where
   no_fault : (bytes : List ℕ) (m : Message) → message_in bytes ≡ Ok m → (code : WireCode) (at : ℕ) → ¬ WireFault bytes code at
   no_fault bytes m e code at fault = cc (e, (laws.faults bytes code at).1 fault)
 
-  says-checked : (line link digits bytes : List ℕ) (sender : ℕ) (r : Result Message WireError) → HasSender line link digits sender → decode_of digits ≡ Ok bytes → length bytes ≤ 504 → message_in bytes ≡ r
+  says-checked : (line link digits bytes : List ℕ) (sender : ℕ) (r : Result Message WireError) → HasSender line link digits sender → decode_of digits ≡ Ok bytes → length bytes ≤ 504 →
+      message_in bytes ≡ r
       → IsLineJudged line (checked link sender bytes r)
   says-checked line link digits bytes sender (Ok m) front e few read = record { digits = digits; front = front; bytes = e; few = few; no_fault = no_fault bytes m read }
   says-checked line link digits bytes sender (Err f) front e few read = (link, digits, bytes, sender, front, e, few, (laws.faults bytes f.code f.at).0 read)
@@ -109,7 +110,8 @@ module _ (laws : WireLaws) where
   says-sized line link digits bytes sender true front e h = (link, digits, bytes, sender, front, e, many-of bytes h)
   says-sized line link digits bytes sender false front e h = says-checked line link digits bytes sender (message_in bytes) front e (few-of bytes h) refl
 
-  says-digits : (line link digits : List ℕ) (sender : ℕ) (r : Result (List ℕ) FromHexError) → HasSender line link digits sender → decode_of digits ≡ r → IsLineJudged line (capture_in link sender (sized r))
+  says-digits : (line link digits : List ℕ) (sender : ℕ) (r : Result (List ℕ) FromHexError) → HasSender line link digits sender → decode_of digits ≡ r →
+      IsLineJudged line (capture_in link sender (sized r))
   says-digits line link digits sender (Ok bytes) front e = says-sized line link digits bytes sender (nat_lt 504 (length bytes)) front e refl
   says-digits line link digits sender (Err f) front e = (link, digits, sender, front, λ bytes is. cc (e, is))
 
@@ -178,7 +180,8 @@ module _ (laws : WireLaws) where
   checked-none link bytes sender (Ok m) e none = refl
   checked-none link bytes sender (Err f) e none = absurd (none f.code f.at ((laws.faults bytes f.code f.at).0 e))
 
-  judge-bytes : (line link digits bytes : List ℕ) (address : ℕ) → HasSender line link digits address → decode_of digits ≡ Ok bytes → length bytes ≤ 504 → judge line ≡ checked link address bytes (message_in bytes)
+  judge-bytes : (line link digits bytes : List ℕ) (address : ℕ) → HasSender line link digits address → decode_of digits ≡ Ok bytes → length bytes ≤ 504 →
+      judge line ≡ checked link address bytes (message_in bytes)
   judge-bytes line link digits bytes address front e few =
       judge-sender line link digits address front ∙ ap (capture_in link address) (ap sized e ∙ sized-few bytes few)
 

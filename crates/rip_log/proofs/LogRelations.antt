@@ -57,7 +57,8 @@ outcome-later : (n : ℕ) (line : List ℕ) (lines : List (List ℕ)) (records a
 outcome-later n line lines records all None onto t = (onto lines t.0, omega (arith, t.1))
 outcome-later n line lines records all (Some e) onto t = later-fault n line lines records all e onto t
 
-outcome-line : (n : ℕ) (line : List ℕ) (lines : List (List ℕ)) (later : Log) (x : Result (Option Capture) LogCode) → n < 1000000 → IsLineJudged line x → IsOutcome (n + 1) lines later.records later.fault
+outcome-line : (n : ℕ) (line : List ℕ) (lines : List (List ℕ)) (later : Log) (x : Result (Option Capture) LogCode) → n < 1000000 → IsLineJudged line x →
+    IsOutcome (n + 1) lines later.records later.fault
     → IsOutcome n (line ∷ lines) (with_line (n + 1) x later).records (with_line (n + 1) x later).fault
 outcome-line n line lines later (Ok None) few says t = outcome-later n line lines later.records later.records later.fault (λ before are. skip n line before later.records says are) t
 outcome-line n line lines later (Ok (Some capture)) few says t =
@@ -102,7 +103,8 @@ module _ (judges : Judges) where
       ∙ ap (λ (k : ℕ). onto_log (record { line = n + 1; capture = r.capture }) (onto_all records (log_of k rest))) (omega arith)
       ∙ ap (λ (k : ℕ). onto_log (record { line = k; capture = r.capture }) (onto_all records (log_of (n + length (line ∷ before)) rest))) (sym are.0)
 
-  outcome-first : (n : ℕ) (line : List ℕ) (lines : List (List ℕ)) (x : Bool) → n ≤ 1000000 → leb 1000000 n ≡ x → (n < 1000000 → IsOutcome (n + 1) lines (log_of (n + 1) lines).records (log_of (n + 1) lines).fault)
+  outcome-first : (n : ℕ) (line : List ℕ) (lines : List (List ℕ)) (x : Bool) → n ≤ 1000000 → leb 1000000 n ≡ x →
+      (n < 1000000 → IsOutcome (n + 1) lines (log_of (n + 1) lines).records (log_of (n + 1) lines).fault)
       → let log = cond x (faulty_log (record { line = n + 1; code = TooManyLines })) (with_line (n + 1) (judge line) (log_of (n + 1) lines)) in IsOutcome n (line ∷ lines) log.records log.fault
   outcome-first n line lines true few e t =
       let here : n + length {A = List ℕ} [] ≡ 1000000 = omega (arith, le-of n e) in
@@ -170,7 +172,8 @@ IsTaken-more taken log rest new r is gives = (
       ∙ ap (λ (l : List Numbered). record { records = l; fault = gives.0.fault }) (sym (append_assoc taken (numbered r ∷ []) gives.0.records)),
 )
 
-pub IsTaken-end : (taken : List Numbered) (log rest : Log) (new : Option Log) → IsTaken taken log rest → Gives capture_of line_of (Some rest) new (Ok None) → log ≡ record { records = taken; fault = None }
+pub IsTaken-end : (taken : List Numbered) (log rest : Log) (new : Option Log) → IsTaken taken log rest → Gives capture_of line_of (Some rest) new (Ok None) →
+    log ≡ record { records = taken; fault = None }
 IsTaken-end taken log rest new is gives =
     is
     ∙ ap (λ (l : Log). record { records = taken ++ l.records; fault = l.fault }) gives.0

@@ -43,12 +43,14 @@ taken-some (suc n) [] some within = absurd (omega (arith, within))
 taken-some (suc n) (b ∷ bytes) some within = refl
 
 -- what the calls came to where one more was noted that moved some bytes
-pub noted_some : {E : Type 0} (old new : List Outcome) (r : Result ℕ E) (n : ℕ) (buffer : List ℕ) → all_moved old ≡ true → new ≡ old ++ outcome_of r buffer ∷ [] → r ≡ Ok n → 0 < n → n ≤ length buffer → all_moved new ≡ true
+pub noted_some : {E : Type 0} (old new : List Outcome) (r : Result ℕ E) (n : ℕ) (buffer : List ℕ) → all_moved old ≡ true → new ≡ old ++ outcome_of r buffer ∷ [] → r ≡ Ok n → 0 < n →
+    n ≤ length buffer → all_moved new ≡ true
 noted_some old new r n buffer all e is some within =
     subst (λ l. all_moved l ≡ true) (sym (e ∙ ap (λ r. old ++ outcome_of r buffer ∷ []) is)) (all-on old (Some (take n buffer)) all (taken-some n buffer some within))
 
 -- and where the one more ends them
-pub noted_last : {E : Type 0} (such : Outcome → Bool) (old new : List Outcome) (r : Result ℕ E) (buffer : List ℕ) → all_moved old ≡ true → new ≡ old ++ outcome_of r buffer ∷ [] → such (outcome_of r buffer) ≡ true → ends_in such new ≡ true
+pub noted_last : {E : Type 0} (such : Outcome → Bool) (old new : List Outcome) (r : Result ℕ E) (buffer : List ℕ) → all_moved old ≡ true → new ≡ old ++ outcome_of r buffer ∷ [] →
+    such (outcome_of r buffer) ≡ true → ends_in such new ≡ true
 noted_last such old new r buffer all e h = subst (λ l. ends_in such l ≡ true) (sym e) (ends-on such old (outcome_of r buffer) all h)
 
 -- a call that came to nothing moved nothing

@@ -24,7 +24,8 @@ calm-refused true calm fine = cc calm
 calm-refused false calm fine = cc fine
 
 -- where the source failed the text was kept
-pub passes_failed : (t mid : Option (List ℕ)) (n after : ℕ) (e : LogError) → not (is_read e.code) ≡ false → IfElse (is_read e.code) (Keeps t mid) (IsPastLast t mid n e.code) → after ≡ n → PassesLines t n mid after
+pub passes_failed : (t mid : Option (List ℕ)) (n after : ℕ) (e : LogError) → not (is_read e.code) ≡ false → IfElse (is_read e.code) (Keeps t mid) (IsPastLast t mid n e.code) → after ≡ n →
+    PassesLines t n mid after
 passes_failed t mid n after e read says same = failed-by t mid n after e (is_read e.code) read says same
 
 pub passes_line : (t new : Option (List ℕ)) (n after : ℕ) (line : List ℕ) → FirstLine t new line → after ≡ n + 1 → PassesLines t n new after

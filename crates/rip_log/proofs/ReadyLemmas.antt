@@ -34,7 +34,8 @@ pub ready-none : (xs : List ℕ) → NoFeedBelow xs (length xs) → length xs �
 ready-none xs none short = none-behind 0 xs none (omega arith)
 
 -- where these bytes are those that were held before, none was ready then
-pub none-before : {W : Type 0} (held_of : W → List ℕ) (now before : W) → now ≡ before → NoFeedBelow (held_of now) (length (held_of now)) → length (held_of now) ≤ 2048 → 0 < ready_lines (held_of before) → ⊥
+pub none-before : {W : Type 0} (held_of : W → List ℕ) (now before : W) → now ≡ before → NoFeedBelow (held_of now) (length (held_of now)) → length (held_of now) ≤ 2048 →
+    0 < ready_lines (held_of before) → ⊥
 none-before held_of now before same none short ready =
     let zero_ready : ready_lines (held_of before) ≡ 0 = ap (λ w. ready_lines (held_of w)) (sym same) ∙ ready-none (held_of now) none short in
     omega (arith, zero_ready, ready)

@@ -121,7 +121,8 @@ module _ (judges : Judges) (addresses : Addresses) where
   in-all n (line ∷ front) after [] x few are comes = skipped n line front after [] x few are.0 are.1 comes (in-all (n + 1) front after []) where
     skipped : (n : ℕ) (line : List ℕ) (front after : List (List ℕ)) (said : List SaidAt) (x : Bool) → n + length (line ∷ front) ≤ 1000000 → IsSkipped line → AreSaid (n + 1) front said
         → ComesAfter x (n + length (line ∷ front)) after
-        → ((x : Bool) → n + 1 + length front ≤ 1000000 → AreSaid (n + 1) front said → ComesAfter x (n + 1 + length front) after → all_of (n + 1) (front ++ after) ≡ record { said = said; too_many = x })
+        → ((x : Bool) → n + 1 + length front ≤ 1000000 → AreSaid (n + 1) front said → ComesAfter x (n + 1 + length front) after
+        → all_of (n + 1) (front ++ after) ≡ record { said = said; too_many = x })
         → all_of n (line ∷ front ++ after) ≡ record { said = said; too_many = x }
     skipped n line front after said x few is are comes later =
         first-said n line (front ++ after) (Ok None) (omega (arith, few)) ((judges line (Ok None)).1 is)
@@ -152,11 +153,13 @@ module _ (judges : Judges) (addresses : Addresses) where
   pub all_said-AreAllSaid : (text : List ℕ) (all : AllSaid) → AreAllSaid text all → all_said text ≡ all
   all_said-AreAllSaid text all is =
       ap (all_of 0) (lines_of-AreLines text (is.lines ++ is.after) is.are_lines)
-      ∙ in-all 0 is.lines is.after all.said all.too_many (omega (arith, is.few)) is.are_said (subst (λ (k : ℕ). ComesAfter all.too_many k is.after) {y = 0 + length is.lines} (omega arith) is.comes_after)
+      ∙ in-all 0 is.lines is.after all.said all.too_many (omega (arith, is.few)) is.are_said
+      (subst (λ (k : ℕ). ComesAfter all.too_many k is.after) {y = 0 + length is.lines} (omega arith) is.comes_after)
 
 -- ---- a log without a fault
 
-good-line : (n : ℕ) (line : List ℕ) (log : Log) (all : AllSaid) (x : Bool) (j : Result (Option Capture) LogCode) → (log.fault ≡ None → all ≡ record { said = captured_all log.records; too_many = false })
+good-line : (n : ℕ) (line : List ℕ) (log : Log) (all : AllSaid) (x : Bool) (j : Result (Option Capture) LogCode) →
+    (log.fault ≡ None → all ≡ record { said = captured_all log.records; too_many = false })
     → let whole = cond x (faulty_log (record { line = n; code = codes.TooManyLines })) (with_line n j log) in
     whole.fault ≡ None → cond x many_lines (with_said n (said_in line j) all) ≡ record { said = captured_all whole.records; too_many = false }
 good-line n line log all true j later none = cc none
@@ -227,9 +230,13 @@ log-said n text records e =
 records-of : (said : List SaidAt) → AllByRecursion (λ (s : SaidAt). IsCaptured s.said) said → (records : List Numbered) × (said ≡ captured_all records)
 records-of [] good = ([], refl)
 records-of (s ∷ said) good = onto s said s.said refl good.0 (records-of said good.1) where
-  onto : (s : SaidAt) (said : List SaidAt) (x : Said) → s.said ≡ x → IsCaptured s.said → (records : List Numbered) × (said ≡ captured_all records) → (records : List Numbered) × (s ∷ said ≡ captured_all records)
-  onto s said (captured capture) e is rest =
-      ((record { line = s.line; capture = capture }) ∷ rest.0, ap (λ (x : Said). (record { line = s.line; said = x }) ∷ said) e ∙ ap (λ (l : List SaidAt). (record { line = s.line; said = captured capture }) ∷ l) rest.1)
+  onto : (s : SaidAt) (said : List SaidAt) (x : Said) → s.said ≡ x → IsCaptured s.said → (records : List Numbered) × (said ≡ captured_all records) →
+      (records : List Numbered) × (s ∷ said ≡ captured_all records)
+  onto s said (captured capture) e is rest = (
+    (record { line = s.line; capture = capture }) ∷ rest.0,
+    ap (λ (x : Said). (record { line = s.line; said = x }) ∷ said) e ∙ ap
+        (λ (l : List SaidAt). (record { line = s.line; said = captured capture }) ∷ l) rest.1,
+  )
   onto s said (bad code origin) e is rest = absurd (subst IsCaptured e is)
 
 pub HasNoFault-records : (all : AllSaid) → HasNoFault all → (records : List Numbered) × (all ≡ record { said = captured_all records; too_many = false })

@@ -34,14 +34,16 @@ left old new (Ok n) bytes none h = subst (Appends old new) (no-bytes _ none) h
 left old new (Err e) bytes none h = kept old new h
 
 -- a write that is noted is a push
-pub pushed_noted : {E : Type 0} (old new : List Outcome) (below under : Option (List ℕ)) (r : Result ℕ E) (n : ℕ) (bytes : List ℕ) → r ≡ Ok n → new ≡ old ++ outcome_of r bytes ∷ [] → WriteAppends below under r bytes
+pub pushed_noted : {E : Type 0} (old new : List Outcome) (below under : Option (List ℕ)) (r : Result ℕ E) (n : ℕ) (bytes : List ℕ) → r ≡ Ok n → new ≡ old ++ outcome_of r bytes ∷ [] →
+    WriteAppends below under r bytes
     → Pushed {E = E} (record { bytes = moved old; beneath = below }) (record { bytes = moved new; beneath = under }) (Ok n) bytes
 pushed_noted old new below under r n bytes is noted h =
     let gave = gave-noted old new r bytes noted in
     record { bytes = rw is at gave; beneath = rw is at h }
 
 -- and one that took nothing is a push that fails
-pub none_noted : {E : Type 0} (old new : List Outcome) (below under : Option (List ℕ)) (r : Result ℕ E) (bytes : List ℕ) → takes_none (outcome_of r bytes) ≡ true → new ≡ old ++ outcome_of r bytes ∷ [] → WriteAppends below under r bytes
+pub none_noted : {E : Type 0} (old new : List Outcome) (below under : Option (List ℕ)) (r : Result ℕ E) (bytes : List ℕ) → takes_none (outcome_of r bytes) ≡ true →
+    new ≡ old ++ outcome_of r bytes ∷ [] → WriteAppends below under r bytes
     → Took (record { bytes = moved old; beneath = below }) (record { bytes = moved new; beneath = under }) []
 none_noted old new below under r bytes none noted h = record {
   bytes = noted_none old new (outcome_of r bytes) noted none ∙ sym (append-nil (moved old));

@@ -41,8 +41,8 @@ is_marked Broken reads = ends_in is_failure reads
 abbrev pub takes_none : Outcome → Bool
 takes_none write = is_failure write || is_no_bytes write
 
--- what the writes of a sink came to, by whether it has failed: each took some bytes, but for the last
--- one where it has
+-- what the writes of a sink came to, by whether it has failed: each took some bytes, but for the
+-- last one where it has
 abbrev pub is_written : Bool → List Outcome → Bool
 is_written false writes = all_moved writes
 is_written true writes = ends_in takes_none writes

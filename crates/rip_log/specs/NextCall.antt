@@ -110,7 +110,8 @@ pub record Pulls {R X : Type 0} (given : R → List ℕ) (coming : R → Option 
   -- past its end, and after an error, it stays as it is
   pub unpulled : at_end (source_of old) ≡ true → source_of new ≡ source_of old
   pub rests : has_stopped old ≡ true → source_of new ≡ source_of old
-  -- and where each line that the call asked for was ready; then the lines after them are ready still
+  -- and where each line that the call asked for was ready; then the lines after them are ready
+  -- still
   pub ready : line_asked number new result ≤ last_ready old → source_of new ≡ source_of old
   pub still_ready : line_asked number new result ≤ last_ready old →
       OnOk result (last_ready new ≡ last_ready old)

@@ -39,8 +39,8 @@ number_of (Bad b) = b.line
 abbrev pub last_ended : {R : Type 0} → LogReader R → ℕ
 last_ended reader = lines_behind reader + ended_lines (held reader.window)
 
--- what a call takes off what is to be said, where it is modelled: its first line, or its end, good or
--- by too many lines
+-- what a call takes off what is to be said, where it is modelled: its first line, or its end, good
+-- or by too many lines
 abbrev pub GivesLine : {X : Type 0} → (X → Said) → (X → ℕ) → Option AllSaid → Option AllSaid →
     Result (Option X) LogError → Type 0
 GivesLine view number None new result = Unit {0}
@@ -66,8 +66,8 @@ IsUnread (Some t) n behind failed =
     × (all_of n (lines_of t) ≡ all_of behind rest)
     × ((failed ≡ true) ⊎ BeginsEndless rest)
 
--- what a call answers of what is to be said, each line seen by view and number, and the lines behind
--- the reader then
+-- what a call answers of what is to be said, each line seen by view and number, and the lines
+-- behind the reader then
 pub record AnswersLine {R X : Type 0} (given : R → List ℕ) (broken at_end : R → Bool)
     (view : X → Said) (number : X → ℕ) (old new : LogReader R)
     (result : Result (Option X) LogError) : Type 0 where

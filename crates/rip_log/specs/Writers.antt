@@ -16,7 +16,7 @@ has_failed s = s.failed
 abbrev pub writes_of : {W : Type 0} → IntoWrite W → List Outcome
 writes_of s = s.noted.history.outcomes
 
--- the bytes that it has taken, and what the writer beneath holds, where `contents` says what a writer
--- holds
+-- the bytes that it has taken, and what the writer beneath holds, where `contents` says what a
+-- writer holds
 abbrev pub taken_by : {W : Type 0} → (W → Option (List ℕ)) → IntoWrite W → Taken
 taken_by contents s = record { bytes = moved (writes_of s); beneath = contents (writer_of s) }

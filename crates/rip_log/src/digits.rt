@@ -26,7 +26,8 @@ fn are_digits(text: &[u8]) -> bool
     text.iter().all(|byte| is_digit(*byte))
 }
 
-/// The code for too many digits: Hex if their number is odd or a byte is no digit, else LongDatagram.
+/// The code for too many digits: Hex if their number is odd or a byte is no digit, else
+/// LongDatagram.
 fn code_of_long(digits: &[u8]) -> LogCode
     requires { MOST_DIGITS < length digits.now }
     ensures { bytes_of digits.now ≡ Err result }

@@ -7,8 +7,8 @@ ghost use Rattle.rip_log.specs.Fields.{is_blank, fields_of, IsTrimmed, NextField
 use crate::span::Span;
 use memchr::memchr2_iter;
 
-/// The fields of a line, where they lie. Of three or more the third span is the rest of the line from the
-/// third on, without the blanks at its end.
+/// The fields of a line, where they lie. Of three or more the third span is the rest of the line
+/// from the third on, without the blanks at its end.
 #[derive(Clone, Copy)]
 pub enum Fields {
     Nothing,
@@ -39,8 +39,8 @@ fn skip_blanks(line: &[u8], from: usize) -> usize
     at
 }
 
-/// The first blank of these bytes. The iterator looks at the next 32 bytes alone before it goes on by more,
-/// and few fields but the third are longer.
+/// The first blank of these bytes. The iterator looks at the next 32 bytes alone before it goes on
+/// by more, and few fields but the third are longer.
 fn first_blank(bytes: &[u8]) -> Option<usize>
     ensures { IsFirstByte (is_byte2 32 9) bytes.now result }
 {

@@ -5,8 +5,8 @@ ghost use Rattle.std.specs.Borrow.{ftrue};
 
 use std::marker::Model;
 
-/// What the calls of a device came to, one after the other: each moved some bytes, or failed. It has no
-/// size, and its methods do nothing when the program runs.
+/// What the calls of a device came to, one after the other: each moved some bytes, or failed. It
+/// has no size, and its methods do nothing when the program runs.
 #[derive(Drop)]
 pub struct History {
     pub ghost outcomes: { List (Option (List ℕ)) },

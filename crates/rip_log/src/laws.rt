@@ -25,8 +25,8 @@ pub fn limits()
     ensures passed { MOST_PASSED_BYTES + 1 ≡ 2 ^ 64 }
 {}
 
-/// What is computed of a line is what the words of the format say: it is skipped, or is a record, or
-/// is bad by the first of its faults.
+/// What is computed of a line is what the words of the format say: it is skipped, or is a record,
+/// or is bad by the first of its faults.
 pub fn judged_lines()
     ensures { (line : List ℕ) (judged : Result (Option Capture) LogCode) →
         (judge line ≡ judged) ↔ IsLineJudged line judged }
@@ -76,8 +76,8 @@ pub fn good_lines()
         × (all ≡ record { said = captured_all records; too_many = false })) }
 {}
 
-/// A line's fault is the same whatever follows the line, and that of a line that is too long, or one
-/// too many, whatever else follows.
+/// A line's fault is the same whatever follows the line, and that of a line that is too long, or
+/// one too many, whatever else follows.
 pub fn early_faults()
     ensures ended { (text more others : List ℕ) (lines : List (List ℕ)) (records : List Numbered)
         (line : ℕ) (code : LogCode) → AreLines (text ++ 10 ∷ []) lines → line ≤ length lines →
@@ -106,9 +106,9 @@ pub fn whole_runs()
         log ≡ record { records = taken; fault = Some e } }
 {}
 
-/// The lines of a whole run: from the front of a text each call adds those that it passed, and where
-/// the source fails, the records that were taken are those of these lines, and the line that was
-/// being read is the next.
+/// The lines of a whole run: from the front of a text each call adds those that it passed, and
+/// where the source fails, the records that were taken are those of these lines, and the line that
+/// was being read is the next.
 pub fn lines_of_runs()
     ensures none { (text : List ℕ) → PassesLines (Some text) 0 (Some text) 0 }
     ensures more { (text left new : Option (List ℕ)) (n behind after : ℕ) →

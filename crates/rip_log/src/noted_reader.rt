@@ -35,8 +35,8 @@ impl<R: Read> NotedReader<R> {
         self.reader
     }
 
-    /// Reads once into room for some bytes, and notes what came, or that the read failed. Without room
-    /// nothing would come, whether it is the end or not.
+    /// Reads once into room for some bytes, and notes what came, or that the read failed. Without
+    /// room nothing would come, whether it is the end or not.
     pub fn read(&mut self, buffer: &mut [u8]) -> Result<usize, Failed>
         requires room { 0 < length buffer.old }
         ensures noted { self.new.history.outcomes

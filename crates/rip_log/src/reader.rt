@@ -87,12 +87,13 @@ fn name_text(name: &[u8]) -> &str
     ensures { result.now ≡ name.now }
 {
     laws::names();
-    // SAFETY: a name is ASCII (`laws::names`), so it is UTF-8, as this call's proved `requires` asks.
+    // SAFETY: a name is ASCII (`laws::names`), so it is UTF-8, as this call's proved `requires`
+    // asks.
     unsafe { str::from_utf8_unchecked(name) }
 }
 
-/// A reader of a log's records: one a line, of at most 1,000,000 lines of at most 2,048 bytes. After
-/// an error there are no more.
+/// A reader of a log's records: one a line, of at most 1,000,000 lines of at most 2,048 bytes.
+/// After an error there are no more.
 #[derive(Drop)]
 pub struct LogReader<R> {
     window: Window<R>,
@@ -259,9 +260,10 @@ impl<R: Source> LogReader<R> {
     }
 
     /// The next record, which borrows the reader's buffers, or None at the end of the text. It
-    /// allocates nothing. An error is the fault of the first bad line, or Read where the source failed while
-    /// a line was read; after an error each call answers Ended at the same line. It pulls nothing where it
-    /// holds each line that it comes to: whole, or more bytes of it than a line may have.
+    /// allocates nothing. An error is the fault of the first bad line, or Read where the source
+    /// failed while a line was read; after an error each call answers Ended at the same line. It
+    /// pulls nothing where it holds each line that it comes to: whole, or more bytes of it than a
+    /// line may have.
     pub fn next(&mut self) -> Result<Option<Record<'_>>, LogError>
         // Once the record that it lends is let go, the reader is as `NextCall` says.
         ensures* leaves { sem 𝓛 (Rests (the_row R.row) self.entry (λ new.

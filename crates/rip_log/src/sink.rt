@@ -12,18 +12,19 @@ use std::io::Write;
 /// A device that takes bytes. Once it has failed it takes no more, and what lies beneath it is left
 /// alone.
 pub trait Sink {
-    // The bytes that it has taken, and the contents of what lies beneath it, where these are modelled.
+    // The bytes that it has taken, and the contents of what lies beneath it, where these are
+    // modelled.
     ghost taken: { Self → Taken };
 
     // Whether it has failed.
     ghost broken: { Self → Bool };
 
-    /// Gives bytes to the device, and answers how many of them it took, of a nonempty slice at least
-    /// one. An error says that the device has failed, then or before.
+    /// Gives bytes to the device, and answers how many of them it took, of a nonempty slice at
+    /// least one. An error says that the device has failed, then or before.
     fn push(&mut self, bytes: &[u8]) -> Result<usize, Failed>
         ensures bound { WritesAtMost result bytes.now }
-        // The bytes that it took follow those that it had taken, and what lay beneath. Where it fails,
-        // it took none.
+        // The bytes that it took follow those that it had taken, and what lay beneath. Where it
+        // fails, it took none.
         ensures took { Pushed (taken self.old) (taken self.new) result bytes.now }
         ensures some { 0 < length bytes.now → IfOk result (λ n. 0 < n) }
 
@@ -66,8 +67,8 @@ impl<W: Write> IntoWrite<W> {
         }
     }
 
-    /// What its writes came to: each took some bytes, but for the last one where the sink has failed,
-    /// which failed or took none. Does nothing.
+    /// What its writes came to: each took some bytes, but for the last one where the sink has
+    /// failed, which failed or took none. Does nothing.
     pub fn lawful(&self)
         ensures open { has_failed self.now ≡ false → AllMoved (writes_of self.now) }
         ensures failed { has_failed self.now ≡ true → EndIn takes_none (writes_of self.now) }

@@ -10,8 +10,8 @@ use crate::device::Failed;
 use crate::noted_reader::NotedReader;
 use std::io::Read;
 
-/// A device that gives bytes. Once it has failed, or come to its end, it gives no more, and asking it
-/// again changes nothing: what lies beneath it is left alone.
+/// A device that gives bytes. Once it has failed, or come to its end, it gives no more, and asking
+/// it again changes nothing: what lies beneath it is left alone.
 pub trait Source {
     // The bytes that it has given.
     ghost given: { Self → List ℕ };
@@ -25,8 +25,8 @@ pub trait Source {
     // Whether it has come to its end.
     ghost at_end: { Self → Bool };
 
-    /// Takes bytes from the device into the buffer, and answers how many came: 0 into a nonempty one
-    /// at the end. An error says that the device has failed, then or before.
+    /// Takes bytes from the device into the buffer, and answers how many came: 0 into a nonempty
+    /// one at the end. An error says that the device has failed, then or before.
     fn pull(&mut self, buffer: &mut [u8]) -> Result<usize, Failed>
         ensures bound { ReadsAtMost result buffer.new }
         // The bytes that came follow those that it had given. Where it fails, none came.
@@ -66,8 +66,8 @@ enum Mark {
     Broken,
 }
 
-/// A source over a reader. Any error of the reader is a failure, an interruption too. What each read
-/// came to is noted, for proofs alone.
+/// A source over a reader. Any error of the reader is a failure, an interruption too. What each
+/// read came to is noted, for proofs alone.
 #[derive(Drop)]
 pub struct FromRead<R> {
     noted: NotedReader<R>,
@@ -94,8 +94,8 @@ impl<R: Read> FromRead<R> {
         }
     }
 
-    /// What its reads came to: each gave some bytes, but for the last one where the source has ended,
-    /// which gave none, or has failed, which failed. Does nothing.
+    /// What its reads came to: each gave some bytes, but for the last one where the source has
+    /// ended, which gave none, or has failed, which failed. Does nothing.
     pub fn lawful(&self)
         ensures open { has_ended self.now ≡ false → has_failed self.now ≡ false →
             AllMoved (reads_of self.now) }

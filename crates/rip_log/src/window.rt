@@ -203,8 +203,8 @@ impl<R: Source> Window<R> {
         }
     }
 
-    /// Takes the first line off the text, where bytes of it are held. Pulls nothing where a whole line
-    /// is held, or more bytes than a line may have.
+    /// Takes the first line off the text, where bytes of it are held. Pulls nothing where a whole
+    /// line is held, or more bytes than a line may have.
     pub fn take_line(&mut self) -> Result<RawLine, Failed>
         requires { 0 < length (held self.old) }
         ensures cut { IfOk result (λ line. OfWhole R.given R.at_end self.new.source (λ coming.

@@ -31,8 +31,10 @@ use Rattle.rip_report.proofs.ReportLemmas.{HasOnePlan, LogWords, accepted_plan, 
 pub record Laws (n : Network) : Type 0 where
   pub words : LogWords
   pub said : (text : List ℕ) (all : AllSaid) → (all_said text ≡ all) ↔ AreAllSaid text all
-  pub come : (said : List SaidAt) (events : List EventAt) (new : State) → ((events_of n (new_state n) said ≡ events) × (state_after n (new_state n) said ≡ new)) ↔ ComeTo n (new_state n) said events new
-  pub calm : (new : State) (text : List ℕ) (log : Log) (all : AllSaid) → log_at 0 (Some text) ≡ Some log → said_at 0 (Some text) ≡ Some all → IsOutcome n (new_state n) log new None ↔ (AreCalm (all_events n (new_state n) all) × (state_after n (new_state n) all.said ≡ new))
+  pub come : (said : List SaidAt) (events : List EventAt) (new : State) →
+      ((events_of n (new_state n) said ≡ events) × (state_after n (new_state n) said ≡ new)) ↔ ComeTo n (new_state n) said events new
+  pub calm : (new : State) (text : List ℕ) (log : Log) (all : AllSaid) → log_at 0 (Some text) ≡ Some log → said_at 0 (Some text) ≡ Some all →
+      IsOutcome n (new_state n) log new None ↔ (AreCalm (all_events n (new_state n) all) × (state_after n (new_state n) all.said ≡ new))
   pub counts : (events : List EventAt) → AreCalm events ↔ (((counts_of events).refused ≡ 0) × ((counts_of events).strangers ≡ 0) × ((counts_of events).bad ≡ 0))
 
 -- a text that comes to events has a log and lines of which these are
@@ -126,7 +128,8 @@ of_accepted IsText bytes log n s _ one words whole same k (of_plan m w no_fault 
     }
 
 -- what went out was one of these texts, and so one of those
-pub went_also : (IsText IsAlso : Written → Type 0) (a b : Taken) (outcome : Result Status RunError) → ((w : Written) → IsText w → IsAlso w) → IfOk outcome (WentOut IsText a b) → IfOk outcome (WentOut IsAlso a b)
+pub went_also : (IsText IsAlso : Written → Type 0) (a b : Taken) (outcome : Result Status RunError) → ((w : Written) → IsText w → IsAlso w) → IfOk outcome (WentOut IsText a b) →
+    IfOk outcome (WentOut IsAlso a b)
 went_also IsText IsAlso a b (Ok status) also h = (h.0, also (record { text = h.0; status = status }) h.1, h.2)
 went_also IsText IsAlso a b (Err e) also h = tt
 
@@ -141,5 +144,6 @@ pub whole_text : (IsText : Written → Type 0) (first : List ℕ) (c : Counts) (
 whole_text IsText first c w all h =
     let text : w.text ≡ first ++ h.rest = h.text ∙ ap (λ (l : List ℕ). (first ++ l) ++ h.rest) (none_left c all) ∙ ap (λ (l : List ℕ). l ++ h.rest) (append-nil first) in
     let status : w.status ≡ h.status = h.answers ∙ rw all refl in
-    let whole : w ≡ record { text = first ++ h.rest; status = h.status } = ap (λ (t : List ℕ). record { text = t; status = w.status }) text ∙ ap (λ (s : Status). record { text = first ++ h.rest; status = s }) status in
+    let whole : w ≡ record { text = first ++ h.rest; status = h.status } =
+    ap (λ (t : List ℕ). record { text = t; status = w.status }) text ∙ ap (λ (s : Status). record { text = first ++ h.rest; status = s }) status in
     subst IsText (sym whole) h.is_text

@@ -99,7 +99,8 @@ module _ {R : Type 0} (given : R → List ℕ) (at_end : R → Bool) (before byt
     by_code NoRead found ended = later NoRead (λ e. cc e) found
 
   -- a file that is refused since the log has no room
-  many-by : (how : Authentication) (lines : ℕ) (cs : List Carrier) (at : ℕ) (listing : Listing) → AllByRecursion IsCarrier cs → EndsSo given at_end how before lines cs reader listing (Refused TooManyLines at)
+  many-by : (how : Authentication) (lines : ℕ) (cs : List Carrier) (at : ℕ) (listing : Listing) → AllByRecursion IsCarrier cs →
+      EndsSo given at_end how before lines cs reader listing (Refused TooManyLines at)
       → IsRefusedAt lines bytes cs TooManyLines at
   many-by how lines cs at listing carry (count, inl (next, is, takes, has)) =
       packet takes.front takes.bytes (held_by reader ++ text.left) next (record { capture = takes.right; carry = carry })
@@ -123,7 +124,8 @@ module _ {K : Type 0} (taken : K → Taken) (broken : K → Bool) (old new : K) 
     sink = ends.sink;
   }
 
-  pub not-followed : (text : List ℕ) (lines : ℕ) (answer result : Result Status RunError) → (answer ≡ Ok RefusedFile) ⊎ (is_err answer ≡ true) → EndsWith taken broken old new text answer result → after ≡ before → Follows before after lines result
+  pub not-followed : (text : List ℕ) (lines : ℕ) (answer result : Result Status RunError) → (answer ≡ Ok RefusedFile) ⊎ (is_err answer ≡ true) → EndsWith taken broken old new text answer result →
+      after ≡ before → Follows before after lines result
   not-followed text lines answer (Err e) h ends same = same
   not-followed text lines answer (Ok s) (inl e) ends same =
       let is : s ≡ RefusedFile = cc ((ends.out (λ f. cc f)).0, e) in
@@ -147,13 +149,24 @@ module _ {R K : Type 0} (given : R → List ℕ) (at_end : R → Bool) (start by
       (refused cs (Capture code) at (fault code found carry few refl) refl refl) (not-followed taken broken old new before after link bytes _ 0 _ result (inl refl) ends same)
   adds-file (Refused TooManyLines at) result ends_so (ends, same) =
       adds-text taken broken old new before after link bytes _ 0 _ result ends
-      (refused cs TooManyLines at (many-by given at_end start bytes reader text before.authentication before.lines cs at listing carry ends_so) refl refl) (not-followed taken broken old new before after link bytes _ 0 _ result (inl refl) ends same)
+      (refused cs TooManyLines at (many-by given at_end start bytes reader text before.authentication before.lines cs at listing carry ends_so) refl refl)
+      (not-followed taken broken old new before after link bytes _ 0 _ result (inl refl) ends same)
   adds-file Unread result (error, stops, failed) (ends, same) =
       adds-text taken broken old new before after link bytes _ 0 _ result ends
-      (unread cs (begins-by given at_end start bytes reader text cs stops.front stops.rest carry stops.read stops.gave) few refl refl) (not-followed taken broken old new before after link bytes _ 0 _ result (inr refl) ends same)
+      (unread cs (begins-by given at_end start bytes reader text cs stops.front stops.rest carry stops.read stops.gave) few refl refl)
+      (not-followed taken broken old new before after link bytes _ 0 _ result (inr refl) ends same)
   adds-file Unwritten result (failed, (so_far, stands)) (is, sink, began, same) = record {
     text = λ h. absurd (h is);
-    write = λ e. (sink, (packet_lines before.authentication link cs, some_packets cs (begins-by given at_end start bytes reader text cs so_far (held_by reader) carry (captures reader.format (section_by reader) so_far (map (λ c. c.frame) cs) stands.read) stands.gave) few refl, began));
+    write = λ e. (
+      sink,
+      (
+        packet_lines before.authentication link cs,
+        some_packets cs
+            (begins-by given at_end start bytes reader text cs so_far (held_by reader) carry
+            (captures reader.format (section_by reader) so_far (map (λ c. c.frame) cs) stands.read) stands.gave) few refl,
+        began,
+      ),
+    );
     sink = λ h. absurd (h is);
     kept = λ e is_error. same;
   }
@@ -182,12 +195,15 @@ module _ {R : Type 0} (given : R → List ℕ) (at_end : R → Bool) (start byte
   pub far-bytes : EndsSo given at_end how start lines cs reader listing Unread → IsFar reader → 2 ^ 64 ≤ length bytes + 2 ^ 32
   far-bytes (error, stops, failed) far =
       let is = split-by given at_end start bytes reader text stops.front stops.rest stops.gave in
-      let size : length bytes ≡ length stops.front + length (stops.rest ++ text.left) = ap length (is ∙ append_assoc stops.front stops.rest text.left) ∙ length-append stops.front (stops.rest ++ text.left) in
+      let size : length bytes ≡ length stops.front + length (stops.rest ++ text.left) =
+      ap length (is ∙ append_assoc stops.front stops.rest text.left) ∙ length-append stops.front (stops.rest ++ text.left) in
       omega (arith, size, stops.position, far)
 
 -- what went out where the source failed has each packet that it gave whole
-pub adds-unread : {R K : Type 0} (given : R → List ℕ) (at_end : R → Bool) (start bytes : List ℕ) (reader : CaptureReader R) (taken : K → Taken) (broken : K → Bool) (old new : K) (before after : CaptureLog) (link : List ℕ) (lines : ℕ) (listing : Listing) (cs : List Carrier)
-    → AllByRecursion IsCarrier cs → given (source_of reader) ≡ start ++ bytes → EndsSo given at_end before.authentication start lines cs reader listing Unread → (result : Result Status RunError) → ClosesSo taken broken old new before after link (packet_lines before.authentication link cs) Unread result
+pub adds-unread : {R K : Type 0} (given : R → List ℕ) (at_end : R → Bool) (start bytes : List ℕ) (reader : CaptureReader R) (taken : K → Taken) (broken : K → Bool) (old new : K)
+    (before after : CaptureLog) (link : List ℕ) (lines : ℕ) (listing : Listing) (cs : List Carrier)
+    → AllByRecursion IsCarrier cs → given (source_of reader) ≡ start ++ bytes → EndsSo given at_end before.authentication start lines cs reader listing Unread → (result : Result Status RunError)
+    → ClosesSo taken broken old new before after link (packet_lines before.authentication link cs) Unread result
     → result ≡ Err Read → AddsUnread taken old new before.authentication link bytes
 adds-unread given at_end start bytes reader taken broken old new before after link lines listing cs carry gave (error, stops, failed) result (ends, same) e =
     let is : bytes ≡ stops.front ++ stops.rest = append_cancel_left start bytes (stops.front ++ stops.rest) (sym gave ∙ stops.gave ∙ append_assoc start stops.front stops.rest) in
@@ -234,7 +250,8 @@ module _ (before after : CaptureLog) (link bytes part : List ℕ) (lines : ℕ) 
   goes-on (Ok Unsettled) file follows = one-more Unsettled (λ e. cc e) file follows
   goes-on (Err e) file follows = still (Err e) follows (stops (Err e) file (inr refl))
 
-pub log-goes-on : {K : Type 0} (taken : K → Taken) (broken : K → Bool) (old new : K) (before after : CaptureLog) (link bytes : List ℕ) (answer : Result Status RunError) → AddsFile taken broken old new before after link bytes answer
+pub log-goes-on : {K : Type 0} (taken : K → Taken) (broken : K → Bool) (old new : K) (before after : CaptureLog) (link bytes : List ℕ) (answer : Result Status RunError) →
+    AddsFile taken broken old new before after link bytes answer
     → (files : List File) (text : List ℕ) → IsLogOf before files text → answer ≢ Err Write
     → (part : List ℕ) × Took (taken old) (taken new) part × GoesOn after (files ++ record { link = link; bytes = bytes } ∷ []) (text ++ part) answer
 log-goes-on taken broken old new before after link bytes answer adds files text is wrote =
@@ -242,7 +259,8 @@ log-goes-on taken broken old new before after link bytes answer adds files text 
     (out.0, out.3, goes-on before after link bytes out.0 out.1 files text is answer out.2 out.4)
 
 -- a failure before a file is begun, of which nothing was read
-failed-text : (error : RunError) → error ≢ Write → (n : ℕ) (log : CaptureLog) (link bytes : List ℕ) → FileText log.authentication n log.lines link bytes (line (fault_line_of error)) log.lines (Err error)
+failed-text : (error : RunError) → error ≢ Write → (n : ℕ) (log : CaptureLog) (link bytes : List ℕ) →
+    FileText log.authentication n log.lines link bytes (line (fault_line_of error)) log.lines (Err error)
 failed-text Read h n log link bytes = unread [] (none refl) (omega (arith, log.few)) refl refl
 failed-text Write h n log link bytes = absurd (h refl)
 failed-text Memory h n log link bytes = memory refl refl
@@ -252,5 +270,6 @@ pub failure-goes-on : {K : Type 0} (taken : K → Taken) (broken : K → Bool) (
     → (part : List ℕ) × Took (taken old) (taken new) part × LogOf log.authentication (files ++ file ∷ []) (text ++ part) result
 failure-goes-on taken broken old new error result good ends log files text file is wrote =
     let out = ends.out wrote in
-    let log_of = stopped files [] file text (line (fault_line_of error)) log.lines log.lines log.status is.so_far (failed-text error good (length files + 1) log file.link file.bytes) (inr refl) refl refl in
+    let log_of = stopped files [] file text (line (fault_line_of error)) log.lines log.lines log.status is.so_far (failed-text error good (length files + 1) log file.link file.bytes)
+    (inr refl) refl refl in
     (line (fault_line_of error), out.1, subst (λ r. LogOf log.authentication (files ++ file ∷ []) (text ++ line (fault_line_of error)) r) (sym out.0) log_of)

@@ -57,8 +57,10 @@ module _ {X : Type 0} where
 pub frames-snoc : (cs : List Carrier) (c : Carrier) → map (λ d. d.frame) (cs ++ c ∷ []) ≡ map (λ d. d.frame) cs ++ c.frame ∷ []
 frames-snoc cs c = map-append (λ d. d.frame) cs (c ∷ [])
 
-pub lines-snoc : (how : Authentication) (link : List ℕ) (cs : List Carrier) (c : Carrier) → packet_lines how link (cs ++ c ∷ []) ≡ packet_lines how link cs ++ carried_line how link c.frame.bytes c.carried
-lines-snoc how link cs c = flat_map-append (λ d. carried_line how link d.frame.bytes d.carried) cs (c ∷ []) ∙ ap (λ l. packet_lines how link cs ++ l) (append-nil (carried_line how link c.frame.bytes c.carried))
+pub lines-snoc : (how : Authentication) (link : List ℕ) (cs : List Carrier) (c : Carrier) →
+    packet_lines how link (cs ++ c ∷ []) ≡ packet_lines how link cs ++ carried_line how link c.frame.bytes c.carried
+lines-snoc how link cs c =
+    flat_map-append (λ d. carried_line how link d.frame.bytes d.carried) cs (c ∷ []) ∙ ap (λ l. packet_lines how link cs ++ l) (append-nil (carried_line how link c.frame.bytes c.carried))
 
 pub line_count-snoc : (cs : List Carrier) (c : Carrier) → line_count (cs ++ c ∷ []) ≡ line_count cs + one (has_line c.carried)
 line_count-snoc cs c = count-snoc (λ d. has_line d.carried) cs c
@@ -106,7 +108,8 @@ module _ {K : Type 0} (taken : K → Taken) (failed : K → Bool) where
 
 module _ {R : Type 0} (given : R → List ℕ) (at_end : R → Bool) (how : Authentication) (before : List ℕ) (lines : ℕ) (cs : List Carrier) (new : CaptureReader R) (listing : Listing) where
   -- at an error
-  pub ends-by : (code : CaptureCode) (at : ℕ) → StopsAt given at_end before (map (λ c. c.frame) cs) (record { code = code; at = at }) new → EndsSo given at_end how before lines cs new listing (ended_by (record { code = code; at = at }))
+  pub ends-by : (code : CaptureCode) (at : ℕ) → StopsAt given at_end before (map (λ c. c.frame) cs) (record { code = code; at = at }) new →
+      EndsSo given at_end how before lines cs new listing (ended_by (record { code = code; at = at }))
   ends-by Magic at h = (h, refl)
   ends-by Cut at h = (h, refl)
   ends-by Version at h = (h, refl)
@@ -119,10 +122,12 @@ module _ {R : Type 0} (given : R → List ℕ) (at_end : R → Bool) (how : Auth
   -- at its end
   pub ends-at : (tally : Tally) → EndsHere given at_end before (map (λ c. c.frame) cs) new → tally.counts ≡ counts_of how cs → tally.lines ≡ lines + line_count cs → tally.lines ≤ 1000000
       → EndsSo given at_end how before lines cs new listing (ended_at tally (position_of new))
-  ends-at tally here counts count few = elim (tally.lines == 1000000) as (λ b. (tally.lines == 1000000) ≡ b → EndsSo given at_end how before lines cs new listing (if b then RefusedFile TooManyLines (position_of new) else Whole tally)) [
-    | true ↦ λ e. (sym count ∙ eqb-true tally.lines 1000000 e, inr (here, refl))
-    | false ↦ λ e. (here, counts, count, omega (arith, few, eqb-false tally.lines 1000000 e))
-  ] refl
+  ends-at tally here counts count few =
+      elim (tally.lines == 1000000) as (λ b. (tally.lines == 1000000) ≡ b → EndsSo given at_end how before lines cs new listing
+      (if b then RefusedFile TooManyLines (position_of new) else Whole tally)) [
+        | true ↦ λ e. (sym count ∙ eqb-true tally.lines 1000000 e, inr (here, refl))
+        | false ↦ λ e. (here, counts, count, omega (arith, few, eqb-false tally.lines 1000000 e))
+      ] refl
 
 pub never-unread : (tally : Tally) (at : ℕ) → ended_at tally at ≡ Unread → ⊥
 never-unread tally at h = elim (tally.lines == 1000000) as (λ b. (if b then RefusedFile TooManyLines at else Whole tally) ≡ Unread → ⊥) [
@@ -156,7 +161,8 @@ pub far : {R : Type 0} (reader : CaptureReader R) (taken : List ℕ) (fs : List 
 far reader taken fs long position (nothing_read none none_of) many = absurd (omega (arith, ap length none_of, many))
 far reader taken fs long position (capture_read is) many = omega (arith, long taken fs is, position, many)
 
-pub stops-far : {R : Type 0} (given : R → List ℕ) (at_end : R → Bool) (before taken : List ℕ) (fs : List Frame) (reader : CaptureReader R) → Stands given before reader taken fs → IsRead taken fs → IsFar reader
+pub stops-far : {R : Type 0} (given : R → List ℕ) (at_end : R → Bool) (before taken : List ℕ) (fs : List Frame) (reader : CaptureReader R) → Stands given before reader taken fs → IsRead taken fs →
+    IsFar reader
     → StopsAt given at_end before fs (record { code = Read; at = position_of reader }) reader
 stops-far given at_end before taken fs reader s read is_far = record {
   front = taken;
@@ -219,7 +225,8 @@ none-as-sent frame Others = refl
 counted-more : (p : Carrier → Bool) (c : Carrier) (cs : List Carrier) → count_by p (c ∷ cs) ≡ one (p c) + count_by p cs
 counted-more p c cs = sum_by-cons (λ d. cond (p d) 1 0) c cs
 
-pub kinds-sum : (cs : List Carrier) → length cs ≡ count_of is_datagram cs + count_of is_cut cs + count_of is_fragment cs + count_of is_malformed cs + count_of is_long cs + count_of is_elsewhere cs + count_of is_other cs
+pub kinds-sum : (cs : List Carrier) →
+    length cs ≡ count_of is_datagram cs + count_of is_cut cs + count_of is_fragment cs + count_of is_malformed cs + count_of is_long cs + count_of is_elsewhere cs + count_of is_other cs
 kinds-sum [] = refl
 kinds-sum (c ∷ cs) = omega (
   arith,

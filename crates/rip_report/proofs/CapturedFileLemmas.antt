@@ -76,7 +76,8 @@ lacking-spaced n =
     let fragments = counted (codes " fragments") n.fragments (tested 32 (codes " fragments") refl) in
     let malformed = counted (codes " malformed") n.malformed (tested 32 (codes " malformed") refl) in
     let long = counted (codes " long") n.long (tested 32 (codes " long") refl) in
-    both (count_part (codes ", ") n.cut (codes " cut") ++ count_part (codes ", ") n.fragments (codes " fragments") ++ count_part (codes ", ") n.malformed (codes " malformed")) (count_part (codes ", ") n.long (codes " long"))
+    both (count_part (codes ", ") n.cut (codes " cut") ++ count_part (codes ", ") n.fragments (codes " fragments") ++ count_part (codes ", ") n.malformed (codes " malformed"))
+    (count_part (codes ", ") n.long (codes " long"))
     (both (count_part (codes ", ") n.cut (codes " cut") ++ count_part (codes ", ") n.fragments (codes " fragments")) (count_part (codes ", ") n.malformed (codes " malformed"))
     (both (count_part (codes ", ") n.cut (codes " cut")) (count_part (codes ", ") n.fragments (codes " fragments")) cut fragments) malformed) long
 
@@ -87,8 +88,10 @@ other-spaced n =
     let bare = counted (codes " without authentication") n.without_authentication (tested 32 (codes " without authentication") refl) in
     let elsewhere = counted (codes " elsewhere") n.elsewhere (tested 32 (codes " elsewhere") refl) in
     let others = counted (codes " others") n.others (tested 32 (codes " others") refl) in
-    both (count_part (codes ", ") n.passwords (codes " passwords") ++ count_part (codes ", ") n.without_authentication (codes " without authentication") ++ count_part (codes ", ") n.elsewhere (codes " elsewhere")) (count_part (codes ", ") n.others (codes " others"))
-    (both (count_part (codes ", ") n.passwords (codes " passwords") ++ count_part (codes ", ") n.without_authentication (codes " without authentication")) (count_part (codes ", ") n.elsewhere (codes " elsewhere"))
+    both (count_part (codes ", ") n.passwords (codes " passwords") ++ count_part (codes ", ") n.without_authentication (codes " without authentication") ++ count_part (codes ", ") n.elsewhere
+    (codes " elsewhere")) (count_part (codes ", ") n.others (codes " others"))
+    (both (count_part (codes ", ") n.passwords (codes " passwords") ++ count_part (codes ", ") n.without_authentication (codes " without authentication"))
+    (count_part (codes ", ") n.elsewhere (codes " elsewhere"))
     (both (count_part (codes ", ") n.passwords (codes " passwords")) (count_part (codes ", ") n.without_authentication (codes " without authentication")) passwords bare) elsewhere) others
 
 -- a comment begins with a field of # alone
@@ -285,7 +288,8 @@ module _ (packet_bytes : PacketBytes) where
     ok-of : {s t : Status} → ◌≡◌ {A = Result Status RunError} (Ok s) (Ok t) → s ≡ t
     ok-of e = cc e
 
-    have-more : (how : Authentication) (files : List File) (file : File) (xs ys : List Captured) → HaveDatagrams how files xs → HasDatagrams how file ys → HaveDatagrams how (files ++ file ∷ []) (xs ++ ys)
+    have-more : (how : Authentication) (files : List File) (file : File) (xs ys : List Captured) → HaveDatagrams how files xs → HasDatagrams how file ys →
+        HaveDatagrams how (files ++ file ∷ []) (xs ++ ys)
     have-more how [] file xs ys e h = (ys, [], h, refl, ap (λ l. l ++ ys) e ∙ sym (append-nil ys))
     have-more how (f ∷ files) file xs ys (first, rest, has, have, e) h = (first, rest ++ ys, has, have-more how files file rest ys have h, ap (λ l. l ++ ys) e ∙ append_assoc first rest ys)
 
@@ -313,7 +317,8 @@ module _ (packet_bytes : PacketBytes) where
     at-end : (n : ℕ) (records : List Numbered) → Reads n [] records → records ≡ []
     at-end n records e = sym (ap (λ (l : Log). l.records) e)
 
-    pub log-says : (how : Authentication) (files : List File) (text : List ℕ) (answer : Result Status RunError) (records : List Numbered) → AllByRecursion IsFile files → LogOf how files text answer → Reads 0 text records
+    pub log-says : (how : Authentication) (files : List File) (text : List ℕ) (answer : Result Status RunError) (records : List Numbered) → AllByRecursion IsFile files → LogOf how files text answer →
+        Reads 0 text records
         → (answer ≡ Ok Done) × HaveDatagrams how files (map (λ r. r.capture) records)
     log-says how files text answer records are (all lines status so_far f) reads =
         let say = files-say how files text lines status [] records are so_far (subst (λ l. Reads 0 l records) (sym (append-nil text)) reads) in
@@ -323,7 +328,8 @@ module _ (packet_bytes : PacketBytes) where
     log-says how files text answer records are (stopped before after file front part lines more_lines status so_far is stop e f) reads =
         let good = subst (AllByRecursion IsFile) e are in
         let say = files-say how before front lines status part records (all-left IsFile before (file ∷ after) good) so_far (subst (λ l. Reads 0 l records) f reads) in
-        let last = file-says how say.says.lines (length before + 1) lines file part more_lines answer [] say.says.later (all-right IsFile before (file ∷ after) good).0 is (subst (λ l. Reads say.says.lines l say.says.later) (sym (append-nil part)) say.says.reads) in
+        let last = file-says how say.says.lines (length before + 1) lines file part more_lines answer [] say.says.later (all-right IsFile before (file ∷ after) good).0 is
+        (subst (λ l. Reads say.says.lines l say.says.later) (sym (append-nil part)) say.says.reads) in
         absurd (not-done stop last.done) where
           not-done : (answer ≡ Ok Refused) ⊎ (is_err answer ≡ true) → answer ≡ Ok Done → ⊥
           not-done (inl e) f = cc (e, f)

@@ -123,7 +123,8 @@ module _ (names : (t : List ℕ) → (is_name t ≡ true) ↔ IsName t) where
   three-said link sender digits name = if-no (is_comment (link ∷ (sender ∷ (digits ∷ [])))) _ _ (no-comment link (sender ∷ (digits ∷ [])) name) ∙ if-yes (is_name link) _ _ ((names link).1 name)
 
   -- a third field that spells no bytes
-  pub word-bad : (n : ℕ) (link sender word rest : List ℕ) (records : List Numbered) (code : LogCode) → IsName link → High sender → 0 < length sender → High word → 0 < length word → bytes_of word ≡ Err code
+  pub word-bad : (n : ℕ) (link sender word rest : List ℕ) (records : List Numbered) (code : LogCode) → IsName link → High sender → 0 < length sender → High word → 0 < length word →
+      bytes_of word ≡ Err code
       → Reads n ((link ++ 32 ∷ (sender ++ 32 ∷ word)) ++ 10 ∷ rest) records → ⊥
   word-bad n link sender word rest records code name high some word_high word_some bad reads =
       let text = link ++ 32 ∷ (sender ++ 32 ∷ word) in
@@ -154,7 +155,8 @@ module _ (names : (t : List ℕ) → (is_name t ≡ true) ↔ IsName t) where
         let some : 0 < length digits = digits-some x xs in
         let safe = three-spaced link (address_text a) digits name (address-high a) (spaced digits high) in
         let fields = two-fields link (address_text a) digits name (address-high a) (address-some a) ∙ ap (λ l. link ∷ (address_text a ∷ l)) (field-last digits some high) in
-        let said = three-said link (address_text a) digits name ∙ ap (λ o. with_sender link o digits) ((addresses (address_text a) a).1 (small, refl)) ∙ ap (λ r. capture_in link a (sized r)) (decode_of-encode_lower d (bytes-at d h)) in
+        let said = three-said link (address_text a) digits name ∙ ap (λ o. with_sender link o digits) ((addresses (address_text a) a).1 (small, refl)) ∙ ap (λ r. capture_in link a (sized r))
+        (decode_of-encode_lower d (bytes-at d h)) in
         let comes = subst (ComesTo text) said (comes-to text (link ∷ (address_text a ∷ (digits ∷ []))) safe fields) in
         sized-by text safe reads (nat_lt 504 (length d)) comes where
           message-by : (text : List ℕ) → Spaced text → Reads n (text ++ 10 ∷ rest) records → (m : Result Message WireError) → ComesTo text (checked link a (x ∷ xs) m)
@@ -212,9 +214,11 @@ module _ (names : (t : List ℕ) → (is_name t ≡ true) ↔ IsName t) (address
   lacking : (n : ℕ) (link : List ℕ) (a : ℕ) (word rest : List ℕ) (records : List Numbered) (code : LogCode) → IsName link → High word → 0 < length word → bytes_of word ≡ Err code
       → Reads n (line (sender_part link a ++ word) ++ rest) records → ⊥
   lacking n link a word rest records code name high some bad reads =
-      word-bad names n link (address_text a) word rest records code name (address-high a) (address-some a) high some bad (ended n (sender_part link a ++ word) (link ++ 32 ∷ (address_text a ++ 32 ∷ word)) rest records (sender-line link a word) reads)
+      word-bad names n link (address_text a) word rest records code name (address-high a) (address-some a) high some bad
+      (ended n (sender_part link a ++ word) (link ++ 32 ∷ (address_text a ++ 32 ∷ word)) rest records (sender-line link a word) reads)
 
-  pub packet-says : (how : Authentication) (n : ℕ) (link : List ℕ) (t : LinkType) (frame : List ℕ) (carried : Carried) (rest : List ℕ) (records : List Numbered) → IsName link → Bytes frame → Carries t frame carried
+  pub packet-says : (how : Authentication) (n : ℕ) (link : List ℕ) (t : LinkType) (frame : List ℕ) (carried : Carried) (rest : List ℕ) (records : List Numbered) → IsName link → Bytes frame →
+      Carries t frame carried
       → Reads n (carried_line how link frame carried ++ rest) records → PacketSays how link frame carried rest records
   unfolding carried_line
   packet-says how n link t frame (Datagram a span) rest records name h carries reads =
@@ -223,9 +227,12 @@ module _ (names : (t : List ℕ) → (is_name t ≡ true) ↔ IsName t) (address
       (ended n (sender_part link a ++ encode_lower d) (link ++ 32 ∷ (address_text a ++ 32 ∷ encode_lower d)) rest records (sender-line link a (encode_lower d)) reads) in
       record { whole = refl; says = says-first n rest records (record { link = link; sender = a; datagram = d }) first }
   packet-says how n link t frame (Cut a) rest records name h carries reads = absurd (lacking n link a (codes "cut") rest records Hex name (tested 33 (codes "cut") refl) (omega arith) refl reads)
-  packet-says how n link t frame (Fragment a) rest records name h carries reads = absurd (lacking n link a (codes "fragment") rest records Hex name (tested 33 (codes "fragment") refl) (omega arith) fragment-bad reads)
-  packet-says how n link t frame (Malformed a) rest records name h carries reads = absurd (lacking n link a (codes "malformed") rest records Hex name (tested 33 (codes "malformed") refl) (omega arith) refl reads)
-  packet-says how n link t frame (Long a) rest records name h carries reads = absurd (lacking n link a (codes "long") rest records Hex name (tested 33 (codes "long") refl) (omega arith) long-bad reads)
+  packet-says how n link t frame (Fragment a) rest records name h carries reads =
+      absurd (lacking n link a (codes "fragment") rest records Hex name (tested 33 (codes "fragment") refl) (omega arith) fragment-bad reads)
+  packet-says how n link t frame (Malformed a) rest records name h carries reads =
+      absurd (lacking n link a (codes "malformed") rest records Hex name (tested 33 (codes "malformed") refl) (omega arith) refl reads)
+  packet-says how n link t frame (Long a) rest records name h carries reads =
+      absurd (lacking n link a (codes "long") rest records Hex name (tested 33 (codes "long") refl) (omega arith) long-bad reads)
   packet-says how n link t frame Unknown rest records name h carries reads =
       absurd (word-bad names n link (codes "unknown") (codes "cut") rest records Hex name (tested 33 (codes "unknown") refl) (omega arith) (tested 33 (codes "cut") refl) (omega arith) refl
       (ended n (link ++ codes " unknown cut") (link ++ 32 ∷ (codes "unknown" ++ 32 ∷ codes "cut")) rest records refl reads))
@@ -237,7 +244,8 @@ module _ (names : (t : List ℕ) → (is_name t ≡ true) ↔ IsName t) (address
     pub whole : AllByRecursion (λ c. is_whole c.carried ≡ true) cs
     pub says : Says rest records (flat_map (λ c. datagram_in how link c.frame.bytes c.carried) cs)
 
-  pub packets-say : (how : Authentication) (n : ℕ) (link : List ℕ) (cs : List Carrier) (rest : List ℕ) (records : List Numbered) → IsName link → AllByRecursion IsCarrier cs → AllByRecursion (λ c. Bytes c.frame.bytes) cs
+  pub packets-say : (how : Authentication) (n : ℕ) (link : List ℕ) (cs : List Carrier) (rest : List ℕ) (records : List Numbered) → IsName link → AllByRecursion IsCarrier cs →
+      AllByRecursion (λ c. Bytes c.frame.bytes) cs
       → Reads n (packet_lines how link cs ++ rest) records → PacketsSay how link cs rest records
   packets-say how n link [] rest records name carry h reads = record { whole = tt; says = says-none n rest records reads }
   packets-say how n link (c ∷ cs) rest records name carry h reads =

@@ -33,7 +33,8 @@ shown_metric s i p shown known is =
     rw at (is b at)
 
 -- the interfaces on a link, by their numbers
-pub on_number : (n : Network) (l : ℕ) (numbers : List ℕ) → ((i : ℕ) → Contains numbers i ↔ ((r c : ℕ) × IsInterface n i r l c)) → (k : ℕ) → k < length numbers → (r c : ℕ) × IsInterface n (get_or numbers k 0) r l c
+pub on_number : (n : Network) (l : ℕ) (numbers : List ℕ) → ((i : ℕ) → Contains numbers i ↔ ((r c : ℕ) × IsInterface n i r l c)) → (k : ℕ) → k < length numbers →
+    (r c : ℕ) × IsInterface n (get_or numbers k 0) r l c
 on_number n l numbers exact k lt = (exact (get_or numbers k 0)).0 (Contains-get_or numbers k 0 lt)
 
 pub on_below : (n : Network) (l : ℕ) (numbers : List ℕ) → ((i : ℕ) → Contains numbers i ↔ ((r c : ℕ) × IsInterface n i r l c)) → (k : ℕ) → k < length numbers → get_or numbers k 0 < length n.interfaces
@@ -42,11 +43,13 @@ on_below n l numbers exact k lt = let h = on_number n l numbers exact k lt in sl
 -- what was read of an interface on a link
 pub its_own_link : (n : Network) (j r l c : ℕ) (x : Interface) → IsInterface n j r l c → slice_get n.interfaces j ≡ Some x → IsInterface n j x.router l x.cost
 its_own_link n j r l c x is at =
-    let same : record { router = r; link = l; address = is.address; cost = c; direct = is.direct; poison = is.poison } ≡ x = same_Some (record { router = r; link = l; address = is.address; cost = c; direct = is.direct; poison = is.poison }) x (sym is.listed ∙ at) in
+    let same : record { router = r; link = l; address = is.address; cost = c; direct = is.direct; poison = is.poison } ≡ x =
+    same_Some (record { router = r; link = l; address = is.address; cost = c; direct = is.direct; poison = is.poison }) x (sym is.listed ∙ at) in
     subst (λ (y : Interface). IsInterface n j y.router l y.cost) same is
 
 -- each interface on a link is at a place of the list
-pub on_place : (n : Network) (l : ℕ) (numbers : List ℕ) → ((i : ℕ) → Contains numbers i ↔ ((r c : ℕ) × IsInterface n i r l c)) → (i r c : ℕ) → IsInterface n i r l c → (k : ℕ) × (k < length numbers) × (get_or numbers k 0 ≡ i)
+pub on_place : (n : Network) (l : ℕ) (numbers : List ℕ) → ((i : ℕ) → Contains numbers i ↔ ((r c : ℕ) × IsInterface n i r l c)) → (i r c : ℕ) → IsInterface n i r l c →
+    (k : ℕ) × (k < length numbers) × (get_or numbers k 0 ≡ i)
 on_place n l numbers exact i r c is =
     let h = (exact i).1 (r, c, is) in
     (h.0, h.1, get_or_default numbers h.0 0 i h.1 ∙ h.2)
@@ -71,12 +74,14 @@ explained n s all v w j (a_settled lines right under) = rw (j.settled.1 right) a
 explained n s all v w j (an_unclear trouble text first h) = rw ((j.unclear trouble).1 first) at (judged n s v j)
 explained n s all v w j (an_unsettled f text shows first h) = rw ((j.unsettled f).1 (shows, first)) at (judged n s v j)
 
-pub explained_out : (n : Network) (s : State) (all : Bool) (v : Verdict) (a b : Taken) (outcome : Result Status RunError) → Judges n s v → IfOk outcome (WentOut (ExplainText n s all) a b) → IfOk outcome (IsJudged n s)
+pub explained_out : (n : Network) (s : State) (all : Bool) (v : Verdict) (a b : Taken) (outcome : Result Status RunError) → Judges n s v → IfOk outcome (WentOut (ExplainText n s all) a b) →
+    IfOk outcome (IsJudged n s)
 explained_out n s all v a b (Ok status) j h = explained n s all v (record { text = h.0; status = status }) j h.1
 explained_out n s all v a b (Err e) j h = tt
 
 -- a run without `all` has written a text that begins with the verdict
-pub begins_out : (n : Network) (s : State) (all : Bool) (a b : Taken) (outcome : Result Status RunError) → all ≡ false → IfOk outcome (WentOut (ExplainText n s all) a b) → IfOk outcome (WentOut (BeginsWithVerdict n s) a b)
+pub begins_out : (n : Network) (s : State) (all : Bool) (a b : Taken) (outcome : Result Status RunError) → all ≡ false → IfOk outcome (WentOut (ExplainText n s all) a b) →
+    IfOk outcome (WentOut (BeginsWithVerdict n s) a b)
 begins_out n s all a b (Ok status) off h =
     let text : ExplainText n s false (record { text = h.0; status = status }) = rw off at h.1 in
     (h.0, begins n s (record { text = h.0; status = status }) text, h.2)
@@ -103,7 +108,8 @@ explains_below n s IsText IsLine each (suc k) text h =
     let more = explains_more n s before.0 front here.0 part before.2 here.2 in
     (before.0 ++ here.0, (before.0, here.0, before.1, here.1, refl), (more.0, more.1, whole ∙ more.2))
 
-explains_place : (n : Network) (s : State) (r p : ℕ) (text : List ℕ) → FailingText n s (PlaceLines n s) r p text → (line : List ℕ) × FailingText n s (UnsettledLine n s) r p line × Explains n s line text
+explains_place : (n : Network) (s : State) (r p : ℕ) (text : List ℕ) → FailingText n s (PlaceLines n s) r p text →
+    (line : List ℕ) × FailingText n s (UnsettledLine n s) r p line × Explains n s line text
 explains_place n s r p text (fails f same router prefix failing lines) =
     let line = unsettled_line n s f in
     (line, fails f line router prefix failing refl, ((f, _) ∷ [], sym (append-nil line), lines.whole ∙ sym (append-nil _)))
@@ -121,7 +127,8 @@ explains_each n s w (an_unclear trouble text first h) = λ e. absurd cc
 explains_each n s w (an_unsettled f text shows first h) = λ e. let all = explains_all n s text h in (all.0, unsettled_verdict f all.0 shows first all.1, all.2)
 
 -- a run with `all` has written a text with the lines of `audit --all`
-pub explains_out : (n : Network) (s : State) (all : Bool) (a b : Taken) (outcome : Result Status RunError) → all ≡ true → IfOk outcome (WentOut (ExplainText n s all) a b) → IfOk outcome (WentOut (ExplainsAll n s) a b)
+pub explains_out : (n : Network) (s : State) (all : Bool) (a b : Taken) (outcome : Result Status RunError) → all ≡ true → IfOk outcome (WentOut (ExplainText n s all) a b) →
+    IfOk outcome (WentOut (ExplainsAll n s) a b)
 explains_out n s all a b (Ok status) on h =
     let text : ExplainText n s true (record { text = h.0; status = status }) = rw on at h.1 in
     (h.0, explains_each n s (record { text = h.0; status = status }) text, h.2)

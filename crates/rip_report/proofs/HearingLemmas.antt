@@ -14,7 +14,8 @@ use Rattle.rip_report.specs.Hearings.{IsUnread, LogComesTo, heard_in}
 use Rattle.rip_report.specs.declared.status.RunError.TheVariants as run
 
 -- what a listener holds that had heard nothing
-pub heard_of : ((text : List ℕ) (all : AllSaid) → (all_said text ≡ all) ↔ AreAllSaid text all) → (n : Network) (text : List ℕ) (s : State) (was then : List EventAt → Type 0) (r : Result (Unit {0}) CollectAllError)
+pub heard_of : ((text : List ℕ) (all : AllSaid) → (all_said text ≡ all) ↔ AreAllSaid text all) →
+    (n : Network) (text : List ℕ) (s : State) (was then : List EventAt → Type 0) (r : Result (Unit {0}) CollectAllError)
     → was [] → SaidOutcome n (new_state n) (Some (all_said text)) s was then r → OnOk (heard_in r) ((events : List EventAt) × then events × LogComesTo n text events s)
 heard_of law n text s was then (Ok u) start said =
     (said.0 ++ last_event (all_said text).too_many, said.2 [] start, record { all = all_said text; said = (law text (all_said text)).0 refl; of_lines = said.0; come = said.1; whole = refl })
@@ -28,7 +29,8 @@ unread_of (Err (Log e)) P Q is said f = f e said
 unread_of (Err Memory) P Q is said f = cc is
 
 -- where a line could not be read, the source failed or the text has a line without an end
-pub endless_of : (n : Network) (old : State) (text : List ℕ) (others behind : ℕ) (failed : Bool) (s : State) (was then : List EventAt → Type 0) → UnreadAt n old text others behind failed s was then → IsUnread failed text
+pub endless_of : (n : Network) (old : State) (text : List ℕ) (others behind : ℕ) (failed : Bool) (s : State) (was then : List EventAt → Type 0) → UnreadAt n old text others behind failed s was then →
+    IsUnread failed text
 endless_of n old text others behind failed s was then unread = by unread.cause
   where
     by : (failed ≡ true) ⊎ BeginsEndless unread.rest → IsUnread failed text

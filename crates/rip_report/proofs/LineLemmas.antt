@@ -58,8 +58,10 @@ Sent-lines line a b text held xs i le s =
     subst (λ (l : List ℕ). Sent a b text l) (ap (λ rest. held ++ flat_map line rest) (drop_all i xs le) ∙ append-nil held) s
 
 -- one more line is written, or begun
-pub Writes-line : {A K : Type 0} (line : A → List ℕ) (taken : K → Taken) (broken : K → Bool) (a b c : K) (done : Unit {0}) (r : Result (Unit {0}) Failed) (text held left : List ℕ) (xs : List A) (i : ℕ) (x : A) → slice_get xs i ≡ Some x
-    → Writes taken broken a b (Ok done) text (held ++ flat_map line (drop i xs)) → Writes taken broken b c r (held ++ line x) left → Writes taken broken a c r text (left ++ flat_map line (drop (i + 1) xs))
+pub Writes-line : {A K : Type 0} (line : A → List ℕ) (taken : K → Taken) (broken : K → Bool) (a b c : K) (done : Unit {0}) (r : Result (Unit {0}) Failed) (text held left : List ℕ) (xs : List A)
+    (i : ℕ) (x : A) → slice_get xs i ≡ Some x
+    → Writes taken broken a b (Ok done) text (held ++ flat_map line (drop i xs)) → Writes taken broken b c r (held ++ line x) left
+    → Writes taken broken a c r text (left ++ flat_map line (drop (i + 1) xs))
 Writes-line line taken broken a b c done r text held left xs i x h w v = record {
   ok = on_ok_weaker r (Sent-line line (taken a) (taken b) (taken c) text held left xs i x h w.ok) v.ok;
   err = on_err_weaker r (Began-line line (taken a) (taken b) (taken c) text held xs i x h w.ok) v.err;

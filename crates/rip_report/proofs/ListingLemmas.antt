@@ -30,7 +30,8 @@ module _ {K : Type 0} (taken : K → Taken) (broken : K → Bool) where
   adds_none a old = λ start text w. Writes-same taken broken start a old.wrote text (text ++ []) _ (sym (append-nil text)) w
 
   pub adds_then : (a b c : K) (old new last : Listing) (x y : List ℕ) → Adds taken broken a b old new x → Adds taken broken b c new last y → Adds taken broken a c old last (x ++ y)
-  adds_then a b c old new last x y f g = λ start text w. Writes-same taken broken start c last.wrote ((text ++ x) ++ y) (text ++ (x ++ y)) _ (append_assoc text x y) (g start (text ++ x) (f start text w))
+  adds_then a b c old new last x y f g =
+      λ start text w. Writes-same taken broken start c last.wrote ((text ++ x) ++ y) (text ++ (x ++ y)) _ (append_assoc text x y) (g start (text ++ x) (f start text w))
 
   pub adds_same : (a b : K) (old new : Listing) (x y : List ℕ) → x ≡ y → Adds taken broken a b old new x → Adds taken broken a b old new y
   adds_same a b old new x y e f = rw (← e) f
@@ -45,7 +46,8 @@ module _ {K : Type 0} (taken : K → Taken) (broken : K → Bool) (IsText : ℕ 
   pub nothing_yet : (a : K) (old : Listing) → SoFar taken broken a a old old IsText 0
   nothing_yet a old = record { text = []; texts = refl; adds = adds_none taken broken a old }
 
-  pub one_more : (a b c : K) (old new last : Listing) (k : ℕ) → SoFar taken broken a b old new IsText k → (part : List ℕ) → IsText k part → Adds taken broken b c new last part → SoFar taken broken a c old last IsText (k + 1)
+  pub one_more : (a b c : K) (old new last : Listing) (k : ℕ) → SoFar taken broken a b old new IsText k → (part : List ℕ) → IsText k part → Adds taken broken b c new last part →
+      SoFar taken broken a c old last IsText (k + 1)
   one_more a b c old new last k so part is adds =
       let e : k + 1 ≡ suc k = omega arith in
       rw e (record { text = so.text ++ part; texts = (so.text, part, so.texts, is, refl); adds = adds_then taken broken a b c old new last so.text part so.adds adds })

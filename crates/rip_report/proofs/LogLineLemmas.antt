@@ -190,10 +190,11 @@ abbrev pub ComesTo : List ℕ → Result (Option Capture) LogCode → Type 0
 ComesTo line judged = (judge line ≡ Err LongLine) ⊎ (judge line ≡ judged)
 
 pub comes-to : (line : List ℕ) (fields : List (List ℕ)) → Spaced line → fields_of line ≡ fields → ComesTo line (unless_skipped fields)
-comes-to line fields h e = elim (nat_lt 2048 (length line)) as (λ b. ((if b then Err LongLine else judge_short line) ≡ Err LongLine) ⊎ ((if b then Err LongLine else judge_short line) ≡ unless_skipped fields)) [
-  | true ↦ inl refl
-  | false ↦ inr (ap unless_skipped (ap fields_of (bare line h) ∙ e))
-]
+comes-to line fields h e =
+    elim (nat_lt 2048 (length line)) as (λ b. ((if b then Err LongLine else judge_short line) ≡ Err LongLine) ⊎ ((if b then Err LongLine else judge_short line) ≡ unless_skipped fields)) [
+      | true ↦ inl refl
+      | false ↦ inr (ap unless_skipped (ap fields_of (bare line h) ∙ e))
+    ]
 
 -- these records are all that a text has, behind n lines
 abbrev pub Reads : ℕ → List ℕ → List Numbered → Type 0
@@ -204,7 +205,10 @@ step : (n : ℕ) (line rest : List ℕ) (records : List Numbered) → Spaced lin
     → with_line (n + 1) (judge line) (log_of (n + 1) (lines_of rest)) ≡ record { records = records; fault = None }
 step n line rest records h reads =
     room (nat_le 1000000 n) (ap (log_of n) (sym (lines-first line rest h)) ∙ reads) where
-      room : (b : Bool) → (if b then faulty_log (record { line = n + 1; code = TooManyLines }) else with_line (n + 1) (judge line) (log_of (n + 1) (lines_of rest))) ≡ record { records = records; fault = None }
+      room : (b : Bool) → (if b then faulty_log (record {
+        line = n + 1;
+        code = TooManyLines;
+      }) else with_line (n + 1) (judge line) (log_of (n + 1) (lines_of rest))) ≡ record { records = records; fault = None }
           → with_line (n + 1) (judge line) (log_of (n + 1) (lines_of rest)) ≡ record { records = records; fault = None }
       room true e = absurd (cc (ap (λ (l : Log). l.fault) e))
       room false e = e
@@ -214,8 +218,10 @@ no-fault : (k : ℕ) (code : LogCode) (later : Log) (records : List Numbered) �
 no-fault k code later records e = cc (ap (λ (l : Log). l.fault) e)
 
 pub bad-line : (n : ℕ) (line rest : List ℕ) (records : List Numbered) (code : LogCode) → Spaced line → ComesTo line (Err code) → Reads n (line ++ 10 ∷ rest) records → ⊥
-bad-line n line rest records code h (inl e) reads = no-fault (n + 1) LongLine (log_of (n + 1) (lines_of rest)) records (ap (λ j. with_line (n + 1) j (log_of (n + 1) (lines_of rest))) (sym e) ∙ step n line rest records h reads)
-bad-line n line rest records code h (inr e) reads = no-fault (n + 1) code (log_of (n + 1) (lines_of rest)) records (ap (λ j. with_line (n + 1) j (log_of (n + 1) (lines_of rest))) (sym e) ∙ step n line rest records h reads)
+bad-line n line rest records code h (inl e) reads =
+    no-fault (n + 1) LongLine (log_of (n + 1) (lines_of rest)) records (ap (λ j. with_line (n + 1) j (log_of (n + 1) (lines_of rest))) (sym e) ∙ step n line rest records h reads)
+bad-line n line rest records code h (inr e) reads =
+    no-fault (n + 1) code (log_of (n + 1) (lines_of rest)) records (ap (λ j. with_line (n + 1) j (log_of (n + 1) (lines_of rest))) (sym e) ∙ step n line rest records h reads)
 
 -- a line that is skipped
 pub skipped-line : (n : ℕ) (line rest : List ℕ) (records : List Numbered) → Spaced line → ComesTo line (Ok None) → Reads n (line ++ 10 ∷ rest) records → Reads (n + 1) rest records
@@ -228,7 +234,8 @@ pub record HasFirst (n : ℕ) (rest : List ℕ) (records : List Numbered) (captu
   pub reads : Reads (n + 1) rest later
   pub first : records ≡ (record { line = n + 1; capture = capture }) ∷ later
 
-pub record-line : (n : ℕ) (line rest : List ℕ) (records : List Numbered) (capture : Capture) → Spaced line → ComesTo line (Ok (Some capture)) → Reads n (line ++ 10 ∷ rest) records → HasFirst n rest records capture
+pub record-line : (n : ℕ) (line rest : List ℕ) (records : List Numbered) (capture : Capture) → Spaced line → ComesTo line (Ok (Some capture)) → Reads n (line ++ 10 ∷ rest) records →
+    HasFirst n rest records capture
 record-line n line rest records capture h (inl e) reads = absurd (bad-line n line rest records LongLine h (inl e) reads)
 record-line n line rest records capture h (inr e) reads =
     let at = ap (λ j. with_line (n + 1) j (log_of (n + 1) (lines_of rest))) (sym e) ∙ step n line rest records h reads in

@@ -27,11 +27,13 @@ pub record LogWords : Type 0 where
   pub text : (text : List ℕ) (records : List Numbered) → (log_in (Some text) ≡ Some (record { records = records; fault = None })) ↔ LogText text records
   pub fault : (text : List ℕ) (records : List Numbered) (e : LogError) → (log_in (Some text) ≡ Some (record { records = records; fault = Some e })) ↔ LogFault text records e.line e.code
 
-pub in_words : (words : LogWords) (text : List ℕ) (records : List Numbered) (fault : Option LogError) → log_in (Some text) ≡ Some (record { records = records; fault = fault }) → LogSays text records fault
+pub in_words : (words : LogWords) (text : List ℕ) (records : List Numbered) (fault : Option LogError) → log_in (Some text) ≡ Some (record { records = records; fault = fault }) →
+    LogSays text records fault
 in_words words text records None h = (words.text text records).0 h
 in_words words text records (Some e) h = (words.fault text records e).0 h
 
-pub as_read : (words : LogWords) (text : List ℕ) (records : List Numbered) (fault : Option LogError) → LogSays text records fault → log_in (Some text) ≡ Some (record { records = records; fault = fault })
+pub as_read : (words : LogWords) (text : List ℕ) (records : List Numbered) (fault : Option LogError) → LogSays text records fault →
+    log_in (Some text) ≡ Some (record { records = records; fault = fault })
 as_read words text records None h = (words.text text records).1 h
 as_read words text records (Some e) h = (words.fault text records e).1 h
 
@@ -42,12 +44,14 @@ of_causes P e true read h = tt
 of_causes P e false true h = tt
 of_causes P e false false h = h refl refl
 
-pub refusal_said : (n : Network) (old : State) (log : Log) (s : State) (collected : Result (Unit {0}) CollectError) → SaidOutcome n old log s collected → IfOk (refusal_in collected) (IsOutcome n old log s)
+pub refusal_said : (n : Network) (old : State) (log : Log) (s : State) (collected : Result (Unit {0}) CollectError) → SaidOutcome n old log s collected →
+    IfOk (refusal_in collected) (IsOutcome n old log s)
 refusal_said n old log s (Ok done) h = h
 refusal_said n old log s (Err e) h = of_causes (IsOutcome n old log s) e (is_memory e.cause) (is_read_cause e.cause) h
 
 -- what is made of a log
-pub made_of : (words : LogWords) (n : Network) (text : List ℕ) (s : State) (collected : Result (Unit {0}) CollectError) → ((log : Log) → log_in (Some text) ≡ Some log → SaidOutcome n (new_state n) log s collected)
+pub made_of : (words : LogWords) (n : Network) (text : List ℕ) (s : State) (collected : Result (Unit {0}) CollectError) →
+    ((log : Log) → log_in (Some text) ≡ Some log → SaidOutcome n (new_state n) log s collected)
     → IfOk (refusal_in collected) (LogMakes n text s)
 made_of words n text s collected said = found (log_in (Some text)) refl
   where
@@ -63,7 +67,8 @@ made_of words n text s collected said = found (log_in (Some text)) refl
 abbrev pub OneJoin : Type 0
 OneJoin = (n : Network) (old s t : State) (log : List Numbered) → IsState s → IsState t → IsJoin n old log s → IsJoin n old log t → s ≡ t
 
-joined_alone : (one : OneJoin) (n : Network) (s t : State) (log : Log) (refusal : Option CollectError) → log.fault ≡ None → IsOutcome n (new_state n) log s refusal → IsJoined n (new_state n) log.records t → (s ≡ t) × (refusal ≡ None)
+joined_alone : (one : OneJoin) (n : Network) (s t : State) (log : Log) (refusal : Option CollectError) → log.fault ≡ None → IsOutcome n (new_state n) log s refusal →
+    IsJoined n (new_state n) log.records t → (s ≡ t) × (refusal ≡ None)
 joined_alone one n s t log None whole (no_fault, is) h = (one n (new_state n) s t log.records is.state h.state is.join h.join, refl)
 joined_alone one n s t log (Some e) whole (inl first) h = absurd (h.accepted first.before first.after _ s e.cause first.split first.joined.join first.joined.state first.refused)
 joined_alone one n s t log (Some e) whole (inr own) h = absurd (never own.fault (sym own.has ∙ whole))
@@ -72,7 +77,8 @@ joined_alone one n s t log (Some e) whole (inr own) h = absurd (never own.fault 
     never f h = absurd (cc)
 
 -- a log makes one table, and where it has one nothing refuses it
-pub same_table : (words : LogWords) (one : OneJoin) (n : Network) (text : List ℕ) (s t : State) (refusal : Option CollectError) → LogMakes n text s refusal → IsTable n text t → (s ≡ t) × (refusal ≡ None)
+pub same_table : (words : LogWords) (one : OneJoin) (n : Network) (text : List ℕ) (s t : State) (refusal : Option CollectError) → LogMakes n text s refusal → IsTable n text t →
+    (s ≡ t) × (refusal ≡ None)
 same_table words one n text s t refusal made h =
     let (log, says, outcome) = made in
     let read = as_read words text log.records log.fault says in

@@ -82,7 +82,8 @@ Began-more a b c text held more s t = Began-all a b c (text ++ more) (held ++ mo
 -- ---- A call that writes, after one that did not fail
 
 -- a call that failed wrote a beginning of its text, and of every longer one
-pub Writes-fails : {K : Type 0} (taken : K → Taken) (broken : K → Bool) (a b : K) (e : Failed) (r : Result (Unit {0}) Failed) (text left rest : List ℕ) → is_err r ≡ true → Writes taken broken a b (Err e) text left → Writes taken broken a b r text rest
+pub Writes-fails : {K : Type 0} (taken : K → Taken) (broken : K → Bool) (a b : K) (e : Failed) (r : Result (Unit {0}) Failed) (text left rest : List ℕ) → is_err r ≡ true →
+    Writes taken broken a b (Err e) text left → Writes taken broken a b r text rest
 Writes-fails taken broken a b e (Ok done) text left rest fails w = absurd (cc)
 Writes-fails taken broken a b e (Err f) text left rest fails w = record {
   ok = tt;
@@ -91,7 +92,8 @@ Writes-fails taken broken a b e (Err f) text left rest fails w = record {
   marks = λ h. absurd (cc);
 }
 
-pub Writes-cut : {K : Type 0} (taken : K → Taken) (broken : K → Bool) (a b : K) (e : Failed) (r : Result (Unit {0}) Failed) (text more left rest : List ℕ) → is_err r ≡ true → Writes taken broken a b (Err e) text left → Writes taken broken a b r (text ++ more) rest
+pub Writes-cut : {K : Type 0} (taken : K → Taken) (broken : K → Bool) (a b : K) (e : Failed) (r : Result (Unit {0}) Failed) (text more left rest : List ℕ) → is_err r ≡ true →
+    Writes taken broken a b (Err e) text left → Writes taken broken a b r (text ++ more) rest
 Writes-cut taken broken a b e r text more left rest fails w = Writes-fails taken broken a b e r (text ++ more) left rest fails (record {
   ok = tt;
   err = Began-front (taken a) (taken b) text more w.err;
@@ -100,11 +102,13 @@ Writes-cut taken broken a b e r text more left rest fails w = Writes-fails taken
 })
 
 -- the same text by another name
-pub Writes-same : {K : Type 0} (taken : K → Taken) (broken : K → Bool) (a b : K) (r : Result (Unit {0}) Failed) (text line left : List ℕ) → text ≡ line → Writes taken broken a b r text left → Writes taken broken a b r line left
+pub Writes-same : {K : Type 0} (taken : K → Taken) (broken : K → Bool) (a b : K) (r : Result (Unit {0}) Failed) (text line left : List ℕ) → text ≡ line → Writes taken broken a b r text left →
+    Writes taken broken a b r line left
 Writes-same taken broken a b r text line left same w = subst (λ (l : List ℕ). Writes taken broken a b r l left) same w
 
 -- what was held, and more, is written next
-pub Writes-more : {K : Type 0} (taken : K → Taken) (broken : K → Bool) (a b c : K) (done : Unit {0}) (r : Result (Unit {0}) Failed) (text held more left : List ℕ) → Writes taken broken a b (Ok done) text held
+pub Writes-more : {K : Type 0} (taken : K → Taken) (broken : K → Bool) (a b c : K) (done : Unit {0}) (r : Result (Unit {0}) Failed) (text held more left : List ℕ) →
+    Writes taken broken a b (Ok done) text held
     → Writes taken broken b c r (held ++ more) left → Writes taken broken a c r (text ++ more) left
 Writes-more taken broken a b c done r text held more left w v = record {
   ok = on_ok_weaker r (Sent-more (taken a) (taken b) (taken c) text held more left w.ok) v.ok;
@@ -114,7 +118,8 @@ Writes-more taken broken a b c done r text held more left w v = record {
 }
 
 -- what was held is written, and nothing more
-pub Writes-held : {K : Type 0} (taken : K → Taken) (broken : K → Bool) (a b c : K) (done : Unit {0}) (r : Result (Unit {0}) Failed) (text held left : List ℕ) → Writes taken broken a b (Ok done) text held
+pub Writes-held : {K : Type 0} (taken : K → Taken) (broken : K → Bool) (a b c : K) (done : Unit {0}) (r : Result (Unit {0}) Failed) (text held left : List ℕ) →
+    Writes taken broken a b (Ok done) text held
     → Writes taken broken b c r held left → Writes taken broken a c r text left
 Writes-held taken broken a b c done r text held left w v = record {
   ok = on_ok_weaker r (Sent-then (taken a) (taken b) (taken c) text held left w.ok) v.ok;
@@ -124,6 +129,8 @@ Writes-held taken broken a b c done r text held left w v = record {
 }
 
 -- the same where nothing is held afterwards
-pub Writes-more-held : {K : Type 0} (taken : K → Taken) (broken : K → Bool) (a b c : K) (done : Unit {0}) (r : Result (Unit {0}) Failed) (text more held left : List ℕ) → left ≡ [] → Writes taken broken a b (Ok done) text held
+pub Writes-more-held : {K : Type 0} (taken : K → Taken) (broken : K → Bool) (a b c : K) (done : Unit {0}) (r : Result (Unit {0}) Failed) (text more held left : List ℕ) → left ≡ [] →
+    Writes taken broken a b (Ok done) text held
     → Writes taken broken b c r (held ++ more) [] → Writes taken broken a c r (text ++ more) left
-Writes-more-held taken broken a b c done r text more held left none w v = subst (λ (l : List ℕ). Writes taken broken a c r (text ++ more) l) (sym none) (Writes-more taken broken a b c done r text held more [] w v)
+Writes-more-held taken broken a b c done r text more held left none w v =
+    subst (λ (l : List ℕ). Writes taken broken a c r (text ++ more) l) (sym none) (Writes-more taken broken a b c done r text held more [] w v)

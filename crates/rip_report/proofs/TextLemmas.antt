@@ -44,7 +44,8 @@ pub text-at : (texts : List Text) (k : ℕ) (d : Text) (text : List ℕ) → IsT
 text-at texts k d text is = ap text_of (get_or_from_slice_get texts k is.0 d is.1) ∙ is.2
 
 -- the line of a metric in its parts
-pub metric-parts : (n : Network) (i : Interface) (p : Block) (m : ℕ) (front middle end : List ℕ) → front ≡ interface_name n i ++ codes " " → middle ≡ prefix_text p ++ codes " " → end ≡ line (decimal m)
+pub metric-parts : (n : Network) (i : Interface) (p : Block) (m : ℕ) (front middle end : List ℕ) → front ≡ interface_name n i ++ codes " " → middle ≡ prefix_text p ++ codes " " →
+    end ≡ line (decimal m)
     → front ++ (middle ++ end) ≡ metric_line n i p m
 unfolding metric_line
 metric-parts n i p m front middle end first second third = rw (first, second, third) (simp append_assoc)

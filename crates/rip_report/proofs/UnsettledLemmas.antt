@@ -28,7 +28,8 @@ known_place n s after f lawful next = record {
 }
 
 -- a place that fails, by its router and its prefix
-pub failing_place : (n : Network) (s : State) (r p : ℕ) (f : Place2) → IsLawful n → r < length n.routers → p < length s.prefixes → f.router ≡ r → f.prefix ≡ p → IsFailing n (told n s) f → AreKnown n s f
+pub failing_place : (n : Network) (s : State) (r p : ℕ) (f : Place2) → IsLawful n → r < length n.routers → p < length s.prefixes → f.router ≡ r → f.prefix ≡ p → IsFailing n (told n s) f →
+    AreKnown n s f
 failing_place n s r p f lawful router prefix same_router same_prefix failing = record {
   router = rw same_router router;
   prefix = rw same_prefix prefix;

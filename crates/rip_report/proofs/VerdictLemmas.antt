@@ -102,18 +102,22 @@ judged n s v j = record {
 }
 
 -- the end of a run that wrote a verdict
-pub ended_judged : (n : Network) (s : State) (status : Status) (r : Result (Unit {0}) Failed) (outcome : Result Status RunError) → outcome ≡ finished r status → IsJudged n s status → IfOk outcome (λ status. IsJudged n s status)
+pub ended_judged : (n : Network) (s : State) (status : Status) (r : Result (Unit {0}) Failed) (outcome : Result Status RunError) → outcome ≡ finished r status → IsJudged n s status →
+    IfOk outcome (λ status. IsJudged n s status)
 ended_judged n s status (Ok done) outcome is h = rw is h
 ended_judged n s status (Err e) outcome is h = rw is tt
 
 -- what each verdict writes
-pub settled_told : (n : Network) (s : State) (all : Bool) (v : Verdict) → v ≡ verdicts.Settled → IsVerdict n (told n s) v → VerdictText n s all (record { text = settled_line n s; status = verdict_status v })
+pub settled_told : (n : Network) (s : State) (all : Bool) (v : Verdict) → v ≡ verdicts.Settled → IsVerdict n (told n s) v →
+    VerdictText n s all (record { text = settled_line n s; status = verdict_status v })
 settled_told n s all v e h = rw e (a_settled (rw e at h))
 
-pub unclear_told : (n : Network) (s : State) (all : Bool) (v : Verdict) (trouble : Unclear) → v ≡ verdicts.Unclear trouble → IsVerdict n (told n s) v → VerdictText n s all (record { text = unclear_line n s trouble; status = verdict_status v })
+pub unclear_told : (n : Network) (s : State) (all : Bool) (v : Verdict) (trouble : Unclear) → v ≡ verdicts.Unclear trouble → IsVerdict n (told n s) v →
+    VerdictText n s all (record { text = unclear_line n s trouble; status = verdict_status v })
 unclear_told n s all v trouble e h = rw e (an_unclear trouble (rw e at h))
 
-pub unsettled_told : (n : Network) (s : State) (all : Bool) (v : Verdict) (f : Place2) (text : List ℕ) → v ≡ verdicts.Unsettled f → IsVerdict n (told n s) v → UnsettledLines n s all f text → VerdictText n s all (record { text = text; status = verdict_status v })
+pub unsettled_told : (n : Network) (s : State) (all : Bool) (v : Verdict) (f : Place2) (text : List ℕ) → v ≡ verdicts.Unsettled f → IsVerdict n (told n s) v → UnsettledLines n s all f text →
+    VerdictText n s all (record { text = text; status = verdict_status v })
 unsettled_told n s all v f text e h lines = let both = rw e at h in rw e (an_unsettled f text both.0 both.1 lines)
 
 pub ifok-map : {A E : Type 0} {P Q : A → Type 0} (r : Result A E) → ((x : A) → P x → Q x) → IfOk r P → IfOk r Q
@@ -121,7 +125,8 @@ ifok-map (Ok x) f p = f x p
 ifok-map (Err e) f p = tt
 
 -- the headline, of what is judged and what is told
-pub headline : (n : Network) (s : State) (IsText : Written → Type 0) (a b : Taken) (outcome : Result Status RunError) → IfOk outcome (IsJudged n s) → IfOk outcome (WentOut IsText a b) → IfOk outcome (AnswersRightly n s IsText a b)
+pub headline : (n : Network) (s : State) (IsText : Written → Type 0) (a b : Taken) (outcome : Result Status RunError) → IfOk outcome (IsJudged n s) → IfOk outcome (WentOut IsText a b) →
+    IfOk outcome (AnswersRightly n s IsText a b)
 headline n s IsText a b (Ok status) j out = (j.settled, j.arrive, out)
 headline n s IsText a b (Err e) j out = tt
 

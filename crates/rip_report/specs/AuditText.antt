@@ -157,21 +157,23 @@ verdict_status verdicts.Settled = Settled
 verdict_status (verdicts.Unsettled f) = Unsettled
 verdict_status (verdicts.Unclear trouble) = IsUnclear
 
--- what is written for the bytes of a plan and the text of a log: what refuses them, or the verdict on the table of the log's records
+-- what is written for the bytes of a plan and the text of a log: what refuses them, or the verdict
+-- on the table of the log's records
 abbrev pub AuditText : List ℕ → List ℕ → Bool → Written → Type 0
 AuditText plan log all = ReportText (λ n s. VerdictText n s all) plan log
 
 -- ---- What the statuses mean
 
--- the table shows tables in which each metric is the least cost of a path over any neighbours, or 16,
--- and each way begins such a path: right tables of a plan that says nothing of paths beside RFC 2453
+-- the table shows tables in which each metric is the least cost of a path over any neighbours, or
+-- 16, and each way begins such a path: right tables of a plan that says nothing of paths beside RFC
+-- 2453
 abbrev pub ShowsPlainRightTables : Network → State → Type 0
 ShowsPlainRightTables n s =
     (T : Tables) × Shows n (told n s) T
     × ((r p : ℕ) → r < length n.routers → p < length s.prefixes → IsPlainRight n r p (T r p))
 
--- a run that judges answers rightly: Settled exactly where the log shows right tables, and then packets
--- arrive; and one of these texts went out
+-- a run that judges answers rightly: Settled exactly where the log shows right tables, and then
+-- packets arrive; and one of these texts went out
 abbrev pub AnswersRightly : Network → State → (Written → Type 0) → Taken → Taken → Status → Type 0
 AnswersRightly n s IsText old new status =
     ((status ≡ Settled) ↔ ShowsRightTables n (told n s))

@@ -49,23 +49,24 @@ pub data BeginsWith (b : List ℕ) (carriers : List Carrier) : Type 0 where
   some : (front rest : List ℕ) → b ≡ front ++ rest → IsCaptureOf front carriers →
       BeginsWith b carriers
 
--- a file is refused behind these packets, of a log of so many lines: by its first fault, or where the
--- line of the next packet, or the comment, would be one too many
-pub data IsRefusedAt (lines : ℕ) (b : List ℕ) (carriers : List Carrier) (code : RefusalCode) (at : ℕ)
-    : Type 0 where
+-- a file is refused behind these packets, of a log of so many lines: by its first fault, or where
+-- the line of the next packet, or the comment, would be one too many
+pub data IsRefusedAt (lines : ℕ) (b : List ℕ) (carriers : List Carrier) (code : RefusalCode)
+    (at : ℕ) : Type 0 where
   fault : (fault : CaptureCode) → CaptureFault b (map (λ c. c.frame) carriers) fault at →
       AllByRecursion IsCarrier carriers → lines + line_count carriers ≤ MOST_LINES →
       code ≡ Capture fault → IsRefusedAt lines b carriers code at
   packet : (front more rest : List ℕ) (next : Carrier) → IsCaptureOf front carriers →
-      IsCaptureOf (front ++ more) (carriers ++ next ∷ []) → IsNext front more (map (λ c. c.frame) carriers) →
+      IsCaptureOf (front ++ more) (carriers ++ next ∷ []) →
+      IsNext front more (map (λ c. c.frame) carriers) →
       b ≡ (front ++ more) ++ rest →
       has_line next.carried ≡ true → lines + line_count carriers ≡ MOST_LINES → at ≡ length front →
       code ≡ TooManyLines → IsRefusedAt lines b carriers code at
   comment : IsCaptureOf b carriers → lines + line_count carriers ≡ MOST_LINES → at ≡ length b →
       code ≡ TooManyLines → IsRefusedAt lines b carriers code at
 
--- what a log has of the file of this number, behind so many lines, and, where the file is whole, how many
--- lines it then has
+-- what a log has of the file of this number, behind so many lines, and, where the file is whole,
+-- how many lines it then has
 pub data FileText (how : Authentication) (number lines : ℕ) (link b text : List ℕ) (after : ℕ)
     (answer : Result Status RunError) : Type 0 where
   whole : (carriers : List Carrier) → IsCaptureOf b carriers →
@@ -134,8 +135,9 @@ pub record AddsFile
   -- an error leaves the log as it was
   pub kept : (e : RunError) → answer ≡ Err e → after ≡ before
 
--- what a run leaves where the source failed, which had given these bytes: the line of each packet that is
--- whole in them went out, unless they are too long for their offsets, and that the source failed
+-- what a run leaves where the source failed, which had given these bytes: the line of each packet
+-- that is whole in them went out, unless they are too long for their offsets, and that the source
+-- failed
 pub record AddsUnread {K : Type 0} (taken : K → Taken) (old new : K) (how : Authentication)
     (link b : List ℕ) : Type 0 where
   pub carriers : List Carrier
@@ -151,7 +153,8 @@ pub record File : Type 0 where
   pub link : List ℕ
   pub bytes : List ℕ
 
--- the log of these files, each of which is a capture: its text, how many lines it has, and its status
+-- the log of these files, each of which is a capture: its text, how many lines it has, and its
+-- status
 pub data SoFar (how : Authentication) : List File → List ℕ → ℕ → Status → Type 0 where
   none : SoFar how [] [] 0 Done
   more : (files : List File) (file : File) (text part : List ℕ) (lines after : ℕ)
@@ -190,8 +193,8 @@ is_whole Elsewhere = true
 is_whole Others = true
 is_whole _ = false
 
--- the datagram that a frame carries, with zeros for a password, and without its authentication where
--- that was asked for, as a record of a log has it
+-- the datagram that a frame carries, with zeros for a password, and without its authentication
+-- where that was asked for, as a record of a log has it
 abbrev pub datagram_in : Authentication → List ℕ → List ℕ → Carried → List Captured
 datagram_in how link frame (Datagram sender span) = (record {
   link = link;

@@ -138,5 +138,6 @@ ClosesSo taken broken old new before after link text Unwritten result =
 abbrev pub ClosesFile : {K : Type 0} → (K → Taken) → (K → Bool) → K → K → CaptureLog → CaptureLog →
     List ℕ → Listing → Ending → Result Status RunError → Type 0
 ClosesFile {K} taken broken old new before after link listing ending result =
-    (start : K) (text : List ℕ) → Writes taken broken start old listing.wrote text (held listing.page)
+    (start : K) (text : List ℕ) →
+    Writes taken broken start old listing.wrote text (held listing.page)
     → ClosesSo taken broken start new before after link text ending result

@@ -134,9 +134,8 @@ unfoldable pub stranger_part : ℕ → Lines → List ℕ
 stranger_part a l =
     codes " " ++ address_text a ++ codes " " ++ any_responses_part l ++ codes ": "
 
--- the lines of a stranger that sent this: the one of its responses, as
--- `stranger core 10.21.7.1 6 responses, lines 12 to 80: r1 has the address on k`, and the one of those
--- that are bad
+-- the lines of a stranger that sent this: the one of its responses, as `stranger core 10.21.7.1 6
+-- responses, lines 12 to 80: r1 has the address on k`, and the one of those that are bad
 pub data StrangerLines (n : Network) (o : Origin) (t : StrangerTally) : List ℕ → Type 0 where
   sent : (who : List ℕ) → StrangerWho n o who
       → StrangerLines n o t (codes "stranger " ++ o.link ++ stranger_part o.sender t.responses

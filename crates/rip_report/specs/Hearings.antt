@@ -18,7 +18,8 @@ use Rattle.rip_report.specs.declared.status.RunError.{RunError}
 use Rattle.rip_report.specs.declared.status.RunError.TheVariants as run
 
 -- the lines of the text of a log come to these events, and make this table of a plan's new one
-pub record LogComesTo (n : Network) (text : List ℕ) (events : List EventAt) (s : State) : Type 0 where
+pub record LogComesTo (n : Network) (text : List ℕ) (events : List EventAt) (s : State)
+    : Type 0 where
   pub all : AllSaid
   pub said : AreAllSaid text all
   pub of_lines : List EventAt
@@ -43,8 +44,8 @@ pub record OfAccepted (IsText : Network → List EventAt → State → Written �
   pub all : is_all_joined (counts_of events) ≡ true
   pub is_text : IsText n events s w
 
--- what is written for the bytes of a plan and the text of a log: what refuses the plan, or who is in
--- the log
+-- what is written for the bytes of a plan and the text of a log: what refuses the plan, or who is
+-- in the log
 abbrev pub HeardOf : List ℕ → List ℕ → Written → Type 0
 HeardOf = EventsText (λ n events s. HeardText n events)
 

@@ -42,6 +42,7 @@ shown_table n s = record {
   status = Done;
 }
 
--- what is written for the bytes of a plan and the text of a log: what refuses them, or the table of the log's records
+-- what is written for the bytes of a plan and the text of a log: what refuses them, or the table of
+-- the log's records
 abbrev pub TableText : List ℕ → List ℕ → Written → Type 0
 TableText plan log = ReportText (λ n s w. w ≡ shown_table n s) plan log

@@ -122,8 +122,8 @@ fn close_file<K: Sink>(
     }
 }
 
-/// Writes the line of a failure as the last one of a log, so that nobody takes the log for a whole one: a
-/// file could not be opened, or there is no memory for one.
+/// Writes the line of a failure as the last one of a log, so that nobody takes the log for a whole
+/// one: a file could not be opened, or there is no memory for one.
 pub fn log_failure<K: Sink>(error: RunError, out: &mut K) -> Result<Status, RunError>
     requires { error ≢ RunError.Write }
     ensures ends { EndsWith K.taken K.broken out.old out.new (line (fault_line_of error))
@@ -140,10 +140,10 @@ pub fn log_failure<K: Sink>(error: RunError, out: &mut K) -> Result<Status, RunE
     end_listing(listing, Err(error), out)
 }
 
-/// Writes what a log has of a capture file of a link, behind the files that were written before: a line
-/// for each packet that carries a RIP datagram to 224.0.0.9, and a comment that counts all packets. Where
-/// the file is refused or cannot be read, the last line says so, no comment follows, and no file should.
-/// It allocates one buffer, of the same size for every file.
+/// Writes what a log has of a capture file of a link, behind the files that were written before: a
+/// line for each packet that carries a RIP datagram to 224.0.0.9, and a comment that counts all
+/// packets. Where the file is refused or cannot be read, the last line says so, no comment follows,
+/// and no file should. It allocates one buffer, of the same size for every file.
 pub fn run_log<R: Source, K: Sink>(
     alloc: Global,
     log: &mut CaptureLog,

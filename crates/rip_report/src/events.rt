@@ -100,8 +100,8 @@ pub(crate) fn report_events<
     }
 }
 
-/// Writes the report on a log, of which it is counted what is left out, for the plan that the bytes of a
-/// TOML document are, or what refuses the plan. The source comes back.
+/// Writes the report on a log, of which it is counted what is left out, for the plan that the bytes
+/// of a TOML document are, or what refuses the plan. The source comes back.
 pub(crate) fn run_counted<C: EventReport<Counts>, R: Source, K: Sink, S: BuildHasher + Drop>(
     alloc: Global,
     command: &C,

@@ -193,8 +193,8 @@ fn write_expected<K: Sink>(plan: &Plan, expected: &Expected, out: &mut K) -> Res
 }
 
 /// Prints the right routes of the plan in a TOML document, or the document's first fault: what the
-/// tables are once the network has settled. It allocates a byte for each router and prefix, beside the
-/// plan.
+/// tables are once the network has settled. It allocates a byte for each router and prefix, beside
+/// the plan.
 pub fn run_expect<K: Sink>(alloc: Global, plan: &[u8], out: &mut K) -> Result<Status, RunError>
     // The whole text went out, or a beginning where the sink failed, or nothing.
     ensures prints { Prints K.taken K.broken out.old out.new result (ExpectText plan.now) }

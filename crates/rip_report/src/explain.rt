@@ -219,13 +219,13 @@ impl Report for Explain {
     }
 }
 
-/// Prints the verdict on a log and what it comes from, by the plan in a TOML document, or why the plan
-/// or the log is refused. Under a settled network's line are the planned prefixes that its routers
-/// cannot reach; under that of a place that does not hold, what the router shows, its route, its direct
-/// cost, each neighbour's offer, and the least metric of the plan; under that of a trouble, what was
-/// heard or shown there. With `all` each place that does not hold is told of, or each trouble of the
-/// kind of the first. The source comes back. The log chooses the prefixes, so the hasher should be
-/// seeded at random.
+/// Prints the verdict on a log and what it comes from, by the plan in a TOML document, or why the
+/// plan or the log is refused. Under a settled network's line are the planned prefixes that its
+/// routers cannot reach; under that of a place that does not hold, what the router shows, its
+/// route, its direct cost, each neighbour's offer, and the least metric of the plan; under that of
+/// a trouble, what was heard or shown there. With `all` each place that does not hold is told of,
+/// or each trouble of the kind of the first. The source comes back. The log chooses the prefixes,
+/// so the hasher should be seeded at random.
 pub fn run_explain<R: Source, K: Sink, S: BuildHasher + Drop>(
     alloc: Global,
     plan: &[u8],

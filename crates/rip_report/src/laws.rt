@@ -25,8 +25,8 @@ use rip_capture::laws::packet_bytes;
 use rip_log::laws::log_texts;
 use rip_table::laws::{calm_counts, calm_logs, lines_come_to, new_states};
 
-/// Nothing is refused, a stranger's or bad exactly where the log is accepted, and the table of what is
-/// not refused is then the one that is judged.
+/// Nothing is refused, a stranger's or bad exactly where the log is accepted, and the table of what
+/// is not refused is then the one that is judged.
 pub fn accepted_logs()
     ensures accepted { (n : Network) (text : List ℕ) (events : List EventAt) (s : State) →
         IsLawful n → LogComesTo n text events s →
@@ -42,8 +42,8 @@ pub fn accepted_logs()
     calm_counts();
 }
 
-/// Each packet of a file is counted as one thing, and passwords and authentication are left out of whole
-/// datagrams alone.
+/// Each packet of a file is counted as one thing, and passwords and authentication are left out of
+/// whole datagrams alone.
 pub fn counted_packets()
     ensures kinds { (carriers : List Carrier) → length carriers
         ≡ count_of is_datagram carriers + count_of is_cut carriers + count_of is_fragment carriers
@@ -60,9 +60,10 @@ pub fn counted_packets()
         (counts_of_packets Authentication.AsSent carriers).without_authentication ≡ 0 }
 {}
 
-/// Where a log of capture files has no bad line, each file is a capture, all its datagrams to 224.0.0.9
-/// are there whole, and they are the records of the log, in order, and nothing else is: with zeros for a
-/// password, and without their authentication where that was asked for and it fits.
+/// Where a log of capture files has no bad line, each file is a capture, all its datagrams to
+/// 224.0.0.9 are there whole, and they are the records of the log, in order, and nothing else is:
+/// with zeros for a password, and without their authentication where that was asked for and it
+/// fits.
 pub fn captured_logs()
     ensures says { (how : Authentication) (files : List File) (text : List ℕ)
         (answer : Result Status RunError) (records : List Numbered) → LogOf how files text answer →

@@ -9,8 +9,8 @@ pub(crate) const PAGE_BYTES: usize = 4_096;
 /// The most bytes of a text that is made once, a prefix and a blank.
 pub(crate) const TEXT_BYTES: usize = 24;
 
-// The most bytes of the parts of a line: of each, those of its own words and of the parts in it. A word
-// that is changed costs nothing here as long as the words of its part fit `WORDS`.
+// The most bytes of the parts of a line: of each, those of its own words and of the parts in it. A
+// word that is changed costs nothing here as long as the words of its part fit `WORDS`.
 
 /// The fixed words of one part.
 pub(crate) const WORDS: usize = 28;

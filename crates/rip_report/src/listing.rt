@@ -9,8 +9,9 @@ use crate::line::Line;
 use crate::output::Page;
 use rip_log::{Failed, Sink};
 
-/// Lines that are gathered on a page. After a failed write the others are still made, and not written:
-/// what went out is promised to be a beginning of all lines, which there are only once each is made.
+/// Lines that are gathered on a page. After a failed write the others are still made, and not
+/// written: what went out is promised to be a beginning of all lines, which there are only once
+/// each is made.
 #[derive(Drop)]
 pub(crate) struct Listing {
     page: Page,

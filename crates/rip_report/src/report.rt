@@ -84,8 +84,9 @@ fn report_log<C: Report, R: Source, K: Sink, T: MetricTable>(
     }
 }
 
-/// Writes the report on a log by the plan in a TOML document, or why the plan or the log is refused.
-/// The source comes back. The log chooses the prefixes, so the hasher should be seeded at random.
+/// Writes the report on a log by the plan in a TOML document, or why the plan or the log is
+/// refused. The source comes back. The log chooses the prefixes, so the hasher should be seeded at
+/// random.
 pub(crate) fn run_report<C: Report, R: Source, K: Sink, S: BuildHasher + Drop>(
     alloc: Global,
     command: &C,

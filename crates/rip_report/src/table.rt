@@ -250,8 +250,8 @@ impl EventReport<Counts> for Table {
     }
 }
 
-/// Prints the table of a log by the plan in a TOML document, or why the plan or the log is refused. The
-/// source comes back. The log chooses the prefixes, so the hasher should be seeded at random.
+/// Prints the table of a log by the plan in a TOML document, or why the plan or the log is refused.
+/// The source comes back. The log chooses the prefixes, so the hasher should be seeded at random.
 pub fn run_table<R: Source, K: Sink, S: BuildHasher + Drop>(
     alloc: Global,
     plan: &[u8],
@@ -276,10 +276,10 @@ pub fn run_table<R: Source, K: Sink, S: BuildHasher + Drop>(
     run_report(alloc, &Table, plan, log, out, hasher)
 }
 
-/// Prints the table of what is not refused in a log, good or bad, with how much is left out of it, by
-/// the plan in a TOML document; or why the plan is refused. The log is read to its end, whatever its
-/// lines say, up to line 1,000,001. The source comes back. The log chooses the prefixes, so the hasher
-/// should be seeded at random. `Done` where nothing is left out, and else `Refused`.
+/// Prints the table of what is not refused in a log, good or bad, with how much is left out of it,
+/// by the plan in a TOML document; or why the plan is refused. The log is read to its end, whatever
+/// its lines say, up to line 1,000,001. The source comes back. The log chooses the prefixes, so the
+/// hasher should be seeded at random. `Done` where nothing is left out, and else `Refused`.
 pub fn run_table_anyway<R: Source, K: Sink, S: BuildHasher + Drop>(
     alloc: Global,
     plan: &[u8],

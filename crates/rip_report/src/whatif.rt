@@ -385,9 +385,9 @@ fn write_failures<K: Sink>(
 }
 
 /// Prints what the failure of each link and router would cost in the plan that a TOML document
-/// describes, or the document's first fault: how many pairs of a router and a prefix are lost, and how
-/// many go a longer way; with `all` each pair that is lost, and each prefix that is gone. Beside the
-/// plan it allocates two bytes for each router and prefix, and one for each prefix.
+/// describes, or the document's first fault: how many pairs of a router and a prefix are lost, and
+/// how many go a longer way; with `all` each pair that is lost, and each prefix that is gone.
+/// Beside the plan it allocates two bytes for each router and prefix, and one for each prefix.
 pub fn run_whatif<K: Sink>(
     alloc: Global,
     plan: &[u8],

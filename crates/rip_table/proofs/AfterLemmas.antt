@@ -55,8 +55,10 @@ listed_with s i m p listed q v h = by ((i == i) && same_prefix q p) refl h
 -- a metric that stands already adds nothing
 same_with : (s : State) (i m : ℕ) (p : Block) → Listed s i → s.shows i p ≡ Some m → s ≡ with_metric s i p m
 same_with s i m p listed here =
-    ap (λ (ps : List Block). record { interfaces = s.interfaces; prefixes = ps; shows = s.shows; heard = s.heard }) (sym (ap (λ (b : Bool). cond b s.prefixes (s.prefixes ++ p ∷ [])) (listed p m here)))
-    ∙ ap (λ (f : ℕ → Block → Option ℕ). record { interfaces = s.interfaces; prefixes = with_prefix p s.prefixes; shows = f; heard = s.heard }) (fun_ext (λ j. fun_ext (λ q. at j q ((j == i) && same_prefix q p) refl)))
+    ap (λ (ps : List Block). record { interfaces = s.interfaces; prefixes = ps; shows = s.shows; heard = s.heard })
+    (sym (ap (λ (b : Bool). cond b s.prefixes (s.prefixes ++ p ∷ [])) (listed p m here)))
+    ∙ ap (λ (f : ℕ → Block → Option ℕ). record { interfaces = s.interfaces; prefixes = with_prefix p s.prefixes; shows = f; heard = s.heard })
+    (fun_ext (λ j. fun_ext (λ q. at j q ((j == i) && same_prefix q p) refl)))
   where
     at : (j : ℕ) (q : Block) (b : Bool) → ((j == i) && same_prefix q p) ≡ b → s.shows j q ≡ cond b (Some m) (s.shows j q)
     at j q true t =

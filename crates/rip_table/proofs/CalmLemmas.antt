@@ -95,7 +95,10 @@ same_log a b e = cc e
 
 -- the laws of lower definitions: of a log without a fault, and of records that are joined
 module _
-    (good : (k : ℕ) (text : List ℕ) (records : List Numbered) → (log_at k (Some text) ≡ Some (record { records = records; fault = None })) ↔ (said_at k (Some text) ≡ Some (record { said = captured_all records; too_many = false })))
+    (good : (k : ℕ) (text : List ℕ) (records : List Numbered) → (log_at k (Some text) ≡ Some (record {
+      records = records;
+      fault = None;
+    })) ↔ (said_at k (Some text) ≡ Some (record { said = captured_all records; too_many = false })))
     (records_of : (all : AllSaid) → HasNoFault all ↔ ((records : List Numbered) × (all ≡ record { said = captured_all records; too_many = false })))
     (n : Network) (old : State) (joins : (log : List Numbered) (new : State) → (joined_records n old log ≡ Ok new) ↔ IsJoined n old log new)
     (k : ℕ) (text : List ℕ) (log : Log) (all : AllSaid) (is_log : log_at k (Some text) ≡ Some log) (is_all : said_at k (Some text) ≡ Some all) where

@@ -118,7 +118,8 @@ pub cells-with_rows : (w : ℕ) (rows : Rows) (es : List Entry) → cell (with_r
 cells-with_rows w rows es = fun_ext (λ j. fun_ext (λ q. cell_rows w rows es j q))
 
 -- one more metric that was written
-pub shown_after-step : (shows : ℕ → Block → Option ℕ) (i : ℕ) (e : Entry) (es : List Entry) → shown_after (λ j q. cond ((j == i) && same_prefix q e.prefix) (Some e.metric) (shows j q)) i es ≡ shown_after shows i (e ∷ es)
+pub shown_after-step : (shows : ℕ → Block → Option ℕ) (i : ℕ) (e : Entry) (es : List Entry) →
+    shown_after (λ j q. cond ((j == i) && same_prefix q e.prefix) (Some e.metric) (shows j q)) i es ≡ shown_after shows i (e ∷ es)
 shown_after-step shows i e es = refl
 
 -- a row of a plan's prefix shows nothing

@@ -112,7 +112,8 @@ valid_with s i m p false low high valid among room = record {
   differ = λ j k q h e. differ_with s.prefixes p valid.differ among j k q (h' j q h) (h' k q e);
   few = omega (arith, room refl, ap length listed, length-append s.prefixes (p ∷ []));
   shown = λ j k q lt h.
-      let shown = shown_with s i m p (with_metric s i p m).prefixes low high valid (λ r e. ap (is_among r) listed ∙ longer s.prefixes p r e) (ap (is_among p) listed ∙ last_among s.prefixes p) j k q lt ((j == i) && same_prefix q p) refl h in
+      let shown = shown_with s i m p (with_metric s i p m).prefixes low high valid (λ r e. ap (is_among r) listed ∙ longer s.prefixes p r e)
+      (ap (is_among p) listed ∙ last_among s.prefixes p) j k q lt ((j == i) && same_prefix q p) refl h in
       record { least = shown.0; most = shown.1; listed = shown.2 };
 }
   where
@@ -159,7 +160,8 @@ abbrev pub after : Result (Unit {0}) TableError → State → Result State Table
 after (Ok u) s = Ok s
 after (Err f) s = Err f
 
-alone-past : (net : Network) (i : ℕ) (t : State) (e : Entry) (n : ℕ) (b : Bool) → nat_lt 2048 n ≡ b → is_past t e.prefix ≡ b → joined_at net i t e None ≡ after (judged_alone (is_foreign net i e) e n) (with_metric t i e.prefix e.metric)
+alone-past : (net : Network) (i : ℕ) (t : State) (e : Entry) (n : ℕ) (b : Bool) → nat_lt 2048 n ≡ b → is_past t e.prefix ≡ b →
+    joined_at net i t e None ≡ after (judged_alone (is_foreign net i e) e n) (with_metric t i e.prefix e.metric)
 alone-past net i t e n b lt past =
     ap (λ (x : Bool). cond (is_foreign net i e) (Err (NextHop e.prefix)) (cond x (Err TooManyPrefixes) (Ok (with_metric t i e.prefix e.metric)))) past
     ∙ by (is_foreign net i e) b
@@ -174,7 +176,8 @@ alone-past net i t e n b lt past =
 known-at : (net : Network) (i : ℕ) (t : State) (e : Entry) (old n : ℕ) → nat_lt 2048 n ≡ false → joined_at net i t e (Some old) ≡ after (judged (is_foreign net i e) e (Some old) n) t
 known-at net i t e old n few =
     by (not (old == e.metric)) (is_foreign net i e)
-    ∙ ap (λ (x : Bool). after (cond (not (old == e.metric)) (Err (Changed e.prefix old e.metric)) (cond (is_foreign net i e) (Err (NextHop e.prefix)) (cond x (Err TooManyPrefixes) (Ok tt)))) t) (sym few)
+    ∙ ap (λ (x : Bool). after (cond (not (old == e.metric)) (Err (Changed e.prefix old e.metric)) (cond (is_foreign net i e) (Err (NextHop e.prefix)) (cond x (Err TooManyPrefixes) (Ok tt)))) t)
+    (sym few)
   where
     by : (c f : Bool) → ◌≡◌ {A = Result State TableError} (cond c (Err (Changed e.prefix old e.metric)) (cond f (Err (NextHop e.prefix)) (Ok t)))
         (after (cond c (Err (Changed e.prefix old e.metric)) (cond f (Err (NextHop e.prefix)) (Ok tt))) t)
@@ -244,7 +247,8 @@ module _ (net : Network) (i : ℕ) (s : State) (es : List Entry) (j count : ℕ)
           is ∙ sym (or-true (is_among p ck.state.prefixes))
       by false h = or-false (is_among p ck.state.prefixes)
 
-  joined_next : (k : Option ℕ) → o ≡ k → judged (is_foreign net i e) e o (counted count number (is_some o)) ≡ Ok tt → joined_entries net i (with_heard s i) (take (j + 1) es) ≡ Ok (added ck.state i e k)
+  joined_next : (k : Option ℕ) → o ≡ k → judged (is_foreign net i e) e o (counted count number (is_some o)) ≡ Ok tt →
+      joined_entries net i (with_heard s i) (take (j + 1) es) ≡ Ok (added ck.state i e k)
   joined_next k is h =
       ap (joined_entries net i (with_heard s i)) (take-more es j e here)
       ∙ joined-append net i (with_heard s i) (take j es) (e ∷ [])
@@ -268,7 +272,8 @@ module _ (net : Network) (i : ℕ) (s : State) (es : List Entry) (j count : ℕ)
       by true h = sym (ap (λ (x : Option ℕ). option_or x (Some e.metric)) (ap (ck.state.shows i) (same-is p e.prefix h) ∙ shows_here ∙ is))
       by false h = or-none (ck.state.shows i p)
 
-  among_new : (b : Bool) → is_among e.prefix ck.state.prefixes ≡ b → (p : Block) → is_among p (with_metric ck.state i e.prefix e.metric).prefixes ≡ (is_among p ck.state.prefixes || same_prefix p e.prefix)
+  among_new : (b : Bool) → is_among e.prefix ck.state.prefixes ≡ b → (p : Block) →
+      is_among p (with_metric ck.state i e.prefix e.metric).prefixes ≡ (is_among p ck.state.prefixes || same_prefix p e.prefix)
   among_new true h p = ap (λ (b : Bool). is_among p (cond b ck.state.prefixes (ck.state.prefixes ++ e.prefix ∷ []))) h ∙ among_kept h p
   among_new false h p =
       ap (λ (b : Bool). is_among p (cond b ck.state.prefixes (ck.state.prefixes ++ e.prefix ∷ []))) h
@@ -288,7 +293,8 @@ module _ (net : Network) (i : ℕ) (s : State) (es : List Entry) (j count : ℕ)
       let fine : judged_alone (is_foreign net i e) e (counted count number false) ≡ Ok tt = ap (λ (x : Option ℕ). judged (is_foreign net i e) e x (counted count number (is_some x))) (sym is) ∙ h in
       let few = unpast (is_foreign net i e) (nat_lt 2048 (counted count number false)) fine in
       let past : is_past ck.state e.prefix ≡ false = sym (past-is ck.state e.prefix count number ck.count_is few_now (unknown is)) ∙ few in
-      let still : nat_le 2048 (length ck.state.prefixes) ≡ false = left (nat_le 2048 (length ck.state.prefixes)) (ap (λ (b : Bool). nat_le 2048 (length ck.state.prefixes) && not b) (sym absent) ∙ past) in
+      let still : nat_le 2048 (length ck.state.prefixes) ≡ false =
+      left (nat_le 2048 (length ck.state.prefixes)) (ap (λ (b : Bool). nat_le 2048 (length ck.state.prefixes) && not b) (sym absent) ∙ past) in
       leb-false 2048 (length ck.state.prefixes) still
     where
       unpast : (f b : Bool) → ◌≡◌ {A = Result (Unit {0}) TableError} (cond f (Err (NextHop e.prefix)) (cond b (Err TooManyPrefixes) (Ok tt))) (Ok tt) → b ≡ false
@@ -300,7 +306,8 @@ module _ (net : Network) (i : ℕ) (s : State) (es : List Entry) (j count : ℕ)
       left true h = h
       left false h = refl
 
-  next : i < s.interfaces → 1 ≤ e.metric → e.metric ≤ 16 → judged (is_foreign net i e) e o (counted count number (is_some o)) ≡ Ok tt → (k : Option ℕ) → o ≡ k → Checked net i s es (j + 1) (counted count number (is_some k))
+  next : i < s.interfaces → 1 ≤ e.metric → e.metric ≤ 16 → judged (is_foreign net i e) e o (counted count number (is_some o)) ≡ Ok tt → (k : Option ℕ) → o ≡ k →
+      Checked net i s es (j + 1) (counted count number (is_some k))
   next lt low high h None is = record {
     state = with_metric ck.state i e.prefix e.metric;
     interfaces = ck.interfaces;
@@ -320,5 +327,6 @@ module _ (net : Network) (i : ℕ) (s : State) (es : List Entry) (j count : ℕ)
     count_is = ck.count_is ∙ sym (known-count count number);
   }
 
-  pub Checked-next : i < s.interfaces → 1 ≤ e.metric → e.metric ≤ 16 → judged (is_foreign net i e) e o (counted count number (is_some o)) ≡ Ok tt → Checked net i s es (j + 1) (counted count number (is_some o))
+  pub Checked-next : i < s.interfaces → 1 ≤ e.metric → e.metric ≤ 16 → judged (is_foreign net i e) e o (counted count number (is_some o)) ≡ Ok tt →
+      Checked net i s es (j + 1) (counted count number (is_some o))
   Checked-next lt low high h = next lt low high h o refl

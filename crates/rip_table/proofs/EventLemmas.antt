@@ -124,12 +124,14 @@ module _ (below : LowerLaws) (n : Network) (s : State) (lawful : IsLawful n) (va
       let of : first.interface ≡ i = cc here in
       let same = same_entries below.fields c.datagram (first.front ++ first.entry ∷ first.rest) es first.response.says is.says in
       let metrics = front_metrics first.front (first.entry ∷ first.rest) (response_metrics c.datagram (first.front ++ first.entry ∷ first.rest) first.response.says) in
-      let front = joined_of_entries n first.interface (with_heard s first.interface) first.state first.front metrics (heard_valid s first.interface valid) (interface_below n s c.link c.sender first.interface fits first.response.from) first.joined in
+      let front = joined_of_entries n first.interface (with_heard s first.interface) first.state first.front metrics (heard_valid s first.interface valid)
+      (interface_below n s c.link c.sender first.interface fits first.response.from) first.joined in
       let after = hop_is n first.interface (with_heard s first.interface) first.state error first.front first.rest first.entry front first.bad in
       record {
         first = first;
         of = of;
-        after = subst (λ (x : List Entry). IsHopAfter error first.entry (hop_of n i error x)) same (subst (λ (j : ℕ). IsHopAfter error first.entry (hop_of n j error (first.front ++ first.entry ∷ first.rest))) of after);
+        after = subst (λ (x : List Entry). IsHopAfter error first.entry (hop_of n i error x)) same
+            (subst (λ (j : ℕ). IsHopAfter error first.entry (hop_of n j error (first.front ++ first.entry ∷ first.rest))) of after);
       }
 
   words_refused : (c : Capture) (i : ℕ) (error : TableError) (hop : Option ℕ) → IsRefusedBy n s c i error hop → Is (came n s (captured c)) (refused i error hop) s
@@ -138,7 +140,8 @@ module _ (below : LowerLaws) (n : Network) (s : State) (lawful : IsLawful n) (va
       let response_is : IsResponse n c i es = subst (λ (j : ℕ). IsResponse n c j es) is.of is.first.response in
       let h = (response_refused below n s c i es error lawful valid fits response_is).1 is.first in
       let metrics = front_metrics is.first.front (is.first.entry ∷ is.first.rest) (response_metrics c.datagram es response_is.says) in
-      let front = joined_of_entries n is.first.interface (with_heard s is.first.interface) is.first.state is.first.front metrics (heard_valid s is.first.interface valid) (interface_below n s c.link c.sender is.first.interface fits is.first.response.from) is.first.joined in
+      let front = joined_of_entries n is.first.interface (with_heard s is.first.interface) is.first.state is.first.front metrics (heard_valid s is.first.interface valid)
+      (interface_below n s c.link c.sender is.first.interface fits is.first.response.from) is.first.joined in
       let after = hop_is n is.first.interface (with_heard s is.first.interface) is.first.state error is.first.front is.first.rest is.first.entry front is.first.bad in
       let moved = subst (λ (j : ℕ). IsHopAfter error is.first.entry (hop_of n j error es)) is.of after in
       came_known n s c (response es) (Some i) (ap message_or_request ((below.fields es c.datagram).1 response_is.says)) (below.finds n c.link c.sender i lawful response_is.from)
@@ -273,7 +276,8 @@ words_lines below n s t lawful valid fits (x ∷ said) (e ∷ events) is =
       ap (λ (o : Outcome). state_after n o.state said) here ∙ later.1,
     )
 
-pub come_to : (below : LowerLaws) (n : Network) (s t : State) → IsLawful n → IsState s → Fits n s → (said : List SaidAt) (events : List EventAt) → events_of n s said ≡ events → state_after n s said ≡ t
+pub come_to : (below : LowerLaws) (n : Network) (s t : State) → IsLawful n → IsState s → Fits n s → (said : List SaidAt) (events : List EventAt) → events_of n s said ≡ events →
+    state_after n s said ≡ t
     → ComeTo n s said events t
 come_to below n s t lawful valid fits said events a b =
     subst (λ (l : List EventAt). ComeTo n s said l t) a (subst (λ (u : State). ComeTo n s said (events_of n s said) u) b (lines_words below n s lawful valid fits said))

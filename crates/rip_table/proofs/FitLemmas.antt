@@ -102,7 +102,8 @@ fits_on n s t fits g = record {
   others = fits.others ++ g.more;
   prefixes = g.prefixes ∙ ap (λ (l : List Block). l ++ g.more) fits.prefixes ∙ append_assoc n.prefixes fits.others g.more;
   unplanned = λ k p is.
-      let planned : is_among p s.prefixes ≡ true = ap (is_among p) fits.prefixes ∙ is_among-append p n.prefixes fits.others ∙ ap (λ (b : Bool). b || is_among p fits.others) (is_among-item n.prefixes k p is) in
+      let planned : is_among p s.prefixes ≡ true = ap (is_among p) fits.prefixes ∙ is_among-append p n.prefixes fits.others ∙ ap (λ (b : Bool). b || is_among p fits.others)
+      (is_among-item n.prefixes k p is) in
       is_among-append p fits.others g.more ∙ or_from (is_among p fits.others) (is_among p g.more) (fits.unplanned k p is) (g.new p planned);
 }
 

@@ -19,7 +19,8 @@ use Rattle.rip_table.specs.declared.error.CollectAllError.TheVariants.{Log as Of
 
 -- the law `lines_come_to`
 abbrev pub Hearing : Type 0
-Hearing = (n : Network) (old new : State) (said : List SaidAt) (events : List EventAt) → IsLawful n → IsState old → Fits n old → ((events_of n old said ≡ events) × (state_after n old said ≡ new)) ↔ ComeTo n old said events new
+Hearing = (n : Network) (old new : State) (said : List SaidAt) (events : List EventAt) → IsLawful n → IsState old → Fits n old →
+    ((events_of n old said ≡ events) × (state_after n old said ≡ new)) ↔ ComeTo n old said events new
 
 events-append : (n : Network) (s : State) (xs ys : List SaidAt) → events_of n s (xs ++ ys) ≡ events_of n s xs ++ events_of n (state_after n s xs) ys
 events-append n s [] ys = refl
@@ -68,8 +69,10 @@ module _ {X : Type 0} (view : X → Said) (number : X → ℕ) where
       (Told-more n old all mid events (number x) (view x) here gives.0 told gives.2)
 
   -- or memory was refused at it
-  pub stuck-at : (may : Event → Type 0) (n : Network) (old : State) (all : Option AllSaid) (mid new : State) (events : List EventAt) (here left : Option AllSaid) (x : X) (was between then : List EventAt → Type 0) (line : ℕ) (stopped : Bool)
-      → ToldKnown n old all mid events here → HoldsMore was between events → GivesLine view number here left (Ok (Some x)) → IsRefusedMemory may n mid (view x) new (HoldsMore between then []) → number x ≡ line → stopped ≡ false
+  pub stuck-at : (may : Event → Type 0) (n : Network) (old : State) (all : Option AllSaid) (mid new : State) (events : List EventAt) (here left : Option AllSaid) (x : X)
+      (was between then : List EventAt → Type 0) (line : ℕ) (stopped : Bool)
+      → ToldKnown n old all mid events here → HoldsMore was between events → GivesLine view number here left (Ok (Some x)) → IsRefusedMemory may n mid (view x) new (HoldsMore between then [])
+      → number x ≡ line → stopped ≡ false
       → StuckAtKnown may n old all new was then line left stopped
   stuck-at may n old all mid new events here left x was between then line true told is gives allocates at runs = cc runs
   stuck-at may n old None mid new events here left x was between then line false told is gives allocates at runs = tt
@@ -85,7 +88,8 @@ module _ {X : Type 0} (view : X → Said) (number : X → ℕ) where
       by (inr made) = inr made
 
   -- no line is left
-  pub told-end : (n : Network) (old : State) (all : Option AllSaid) (new : State) (events : List EventAt) (was then : List EventAt → Type 0) (here left : Option AllSaid) → ToldKnown n old all new events here
+  pub told-end : (n : Network) (old : State) (all : Option AllSaid) (new : State) (events : List EventAt) (was then : List EventAt → Type 0) (here left : Option AllSaid) →
+      ToldKnown n old all new events here
       → GivesLine view number here left (Ok None) → HoldsMore was then events → ToldOutcome n old all new was then (Ok tt)
   told-end n old None new events was then here left told gives is = tt
   told-end n old (Some all) new events was then None left told gives is = absurd told
@@ -109,7 +113,8 @@ module _ {X : Type 0} (view : X → Said) (number : X → ℕ) where
       (told.events_are ∙ ap (events_of n old) (sym taken), told.too_many ∙ ap (λ (a : AllSaid). a.too_many) end, told.state_is ∙ ap (state_after n old) (sym taken))
 
   -- there is a line too many
-  pub told-last : (n : Network) (old : State) (all : Option AllSaid) (new : State) (events : List EventAt) (was mid then : List EventAt → Type 0) (here left : Option AllSaid) (e : LogError) (r : Result (Unit {0}) CollectAllError)
+  pub told-last : (n : Network) (old : State) (all : Option AllSaid) (new : State) (events : List EventAt) (was mid then : List EventAt → Type 0) (here left : Option AllSaid) (e : LogError)
+      (r : Result (Unit {0}) CollectAllError)
       → ToldKnown n old all new events here → GivesLine view number here left (Err e) → e.code ≡ codes.TooManyLines → e.line ≡ 1000001 → HoldsMore was mid events
       → MatchResult r (λ _. HoldsMore mid then ((record { line = e.line; event = bad codes.TooManyLines None None }) ∷ [])) (λ x. x ≡ Memory)
       → ToldOutcome n old all new was then r
@@ -126,12 +131,15 @@ module _ {X : Type 0} (view : X → Said) (number : X → ℕ) where
   told-last n old (Some all) new events was mid then here left e (Err x) told gives many at is ends = tt
 
   -- and memory was refused at it
-  pub stuck-last : (may : Event → Type 0) (n : Network) (old : State) (all : Option AllSaid) (new : State) (events : List EventAt) (was then : List EventAt → Type 0) (here left after : Option AllSaid) (e : LogError) (line : ℕ) (stopped : Bool)
-      → ToldKnown n old all new events here → GivesLine view number here left (Err e) → e.code ≡ codes.TooManyLines → stopped ≡ true → may (bad codes.TooManyLines None None) → StuckAtKnown may n old all new was then line after stopped
+  pub stuck-last : (may : Event → Type 0) (n : Network) (old : State) (all : Option AllSaid) (new : State) (events : List EventAt) (was then : List EventAt → Type 0) (here left after : Option AllSaid)
+      (e : LogError) (line : ℕ) (stopped : Bool)
+      → ToldKnown n old all new events here → GivesLine view number here left (Err e) → e.code ≡ codes.TooManyLines → stopped ≡ true → may (bad codes.TooManyLines None None)
+      → StuckAtKnown may n old all new was then line after stopped
   stuck-last may n old all new events was then here left after e line false told gives many stops allocates = cc stops
   stuck-last may n old None new events was then here left after e line true told gives many stops allocates = tt
   stuck-last may n old (Some all) new events was then None left after e line true told gives many stops allocates = absurd told
-  stuck-last may n old (Some all) new events was then (Some here) left after e line true told gives many stops allocates = let all_told = many-left n old all new events here left e told gives many in (all_told.1, all_told.2, allocates)
+  stuck-last may n old (Some all) new events was then (Some here) left after e line true told gives many stops allocates =
+      let all_told = many-left n old all new events here left e told gives many in (all_told.1, all_told.2, allocates)
 
   -- the reader stops where there are too many
   pub stops-last : (n : Network) (old : State) (all : Option AllSaid) (new : State) (events : List EventAt) (here left : Option AllSaid) (e : LogError) (stopped : Bool)
@@ -162,7 +170,8 @@ said-err n old None new was then e = tt
 said-err n old (Some all) new was then e = tt
 
 -- the same in the words of the subject
-pub said-told : Hearing → (n : Network) (old : State) (all : Option AllSaid) (new : State) (was then : List EventAt → Type 0) (r : Result (Unit {0}) CollectAllError) → IsLawful n → IsState old → Fits n old
+pub said-told : Hearing → (n : Network) (old : State) (all : Option AllSaid) (new : State) (was then : List EventAt → Type 0) (r : Result (Unit {0}) CollectAllError) → IsLawful n → IsState old →
+    Fits n old
     → ToldOutcome n old all new was then r → SaidOutcome n old all new was then r
 said-told law n old None new was then (Ok u) lawful valid fits told = tt
 said-told law n old None new was then (Err e) lawful valid fits told = tt
@@ -202,7 +211,8 @@ many_line e (inl read) many = cc (read, many)
 many_line e (inr is) many = is.1
 
 -- the reader had not stopped
-pub many_stopped : {B : Type 0} (e : LogError) (x : Bool) (n : ℕ) → e.code ≡ codes.TooManyLines → (x ≡ true → ◌≡◌ {A = Result B LogError} (Err e) (Err (record { code = codes.Ended; line = n + 1 }))) → x ≡ false
+pub many_stopped : {B : Type 0} (e : LogError) (x : Bool) (n : ℕ) → e.code ≡ codes.TooManyLines → (x ≡ true → ◌≡◌ {A = Result B LogError} (Err e) (Err (record { code = codes.Ended; line = n + 1 }))) →
+    x ≡ false
 many_stopped e true n many was =
     let same : e ≡ record { code = codes.Ended; line = n + 1 } = cc (was refl) in
     let clash : codes.TooManyLines ≡ codes.Ended = sym many ∙ ap (λ (x : LogError). x.code) same in

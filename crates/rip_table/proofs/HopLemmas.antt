@@ -22,7 +22,8 @@ any_some : {A : Type 0} (test : A → Bool) (xs : List A) → list_any test xs �
 any_some test [] h = absurd (cc h)
 any_some {A} test (y ∷ ys) h = by (test y) refl h (λ t. any_some test ys t)
   where
-    by : (b : Bool) → test y ≡ b → (b || list_any test ys) ≡ true → (list_any test ys ≡ true → (k : ℕ) × (x : A) × (slice_get ys k ≡ Some x) × (test x ≡ true)) → (k : ℕ) × (x : A) × (slice_get (y ∷ ys) k ≡ Some x) × (test x ≡ true)
+    by : (b : Bool) → test y ≡ b → (b || list_any test ys) ≡ true → (list_any test ys ≡ true → (k : ℕ) × (x : A) × (slice_get ys k ≡ Some x) × (test x ≡ true)) →
+        (k : ℕ) × (x : A) × (slice_get (y ∷ ys) k ≡ Some x) × (test x ≡ true)
     by true t k later = (zero, y, refl, t)
     by false t k later = let (m, x, at, passes) = later k in (suc m, x, at, passes)
 
@@ -109,7 +110,8 @@ address_decided n i r l c a b is says = decided b (holds_address n i a) (λ h. a
   where
     moved : (l' : ℕ) × HasAddress n i l' a → HasAddress n i l a
     moved (l', (all, has, holds)) =
-        let same : has.interface ≡ record { router = r; link = l; address = is.address; cost = c; direct = is.direct; poison = is.poison } = (let one : Some has.interface ≡ Some (record { router = r; link = l; address = is.address; cost = c; direct = is.direct; poison = is.poison }) = sym has.listed ∙ is.listed in cc one) in
+        let same : has.interface ≡ record { router = r; link = l; address = is.address; cost = c; direct = is.direct; poison = is.poison } =
+        (let one : Some has.interface ≡ Some (record { router = r; link = l; address = is.address; cost = c; direct = is.direct; poison = is.poison }) = sym has.listed ∙ is.listed in cc one) in
         (all, record { interface = has.interface; listed = has.listed; on = ap (λ (x : Interface). x.link) same; also = has.also; further = has.further; all = has.all }, holds)
 
 pub gateway_decided : (n : Network) (i r l c : ℕ) (p : Block) (a : ℕ) (b : Bool) → IsInterface n i r l c
@@ -120,7 +122,9 @@ gateway_decided n i r l c p a b is planned unplanned = decided b (knows_gateway 
     router_of {x} {y} h = let same : x ≡ y = cc h in ap (λ (z : Interface). z.router) same
 
     of_router : (r' l' c' : ℕ) → IsInterface n i r' l' c' → r' ≡ r
-    of_router r' l' c' its = let one : Some (record { router = r'; link = l'; address = its.address; cost = c'; direct = its.direct; poison = its.poison }) ≡ Some (record { router = r; link = l; address = is.address; cost = c; direct = is.direct; poison = is.poison }) = sym its.listed ∙ is.listed in router_of one
+    of_router r' l' c' its =
+        let one : Some (record { router = r'; link = l'; address = its.address; cost = c'; direct = its.direct; poison = its.poison }) ≡ Some
+        (record { router = r; link = l; address = is.address; cost = c; direct = is.direct; poison = is.poison }) = sym its.listed ∙ is.listed in router_of one
 
     back : knows_gateway n i p a ≡ true → b ≡ true
     back h =

@@ -19,7 +19,8 @@ use Rattle.std.proofs.lemmas.Bool.{and_parts, eqb-true, or_parts}
 use Rattle.rip_plan.specs.Network.{Network}
 
 -- with one more item at the end
-pub metric_in-snoc : (i : ℕ) (p : Block) (shown : List Shown) (c : Shown) → metric_in i p (shown ++ c ∷ []) ≡ option_or (metric_in i p shown) (cond ((i == c.interface) && same_prefix p c.prefix) (Some c.metric) None)
+pub metric_in-snoc : (i : ℕ) (p : Block) (shown : List Shown) (c : Shown) →
+    metric_in i p (shown ++ c ∷ []) ≡ option_or (metric_in i p shown) (cond ((i == c.interface) && same_prefix p c.prefix) (Some c.metric) None)
 metric_in-snoc i p [] c = by ((i == c.interface) && same_prefix p c.prefix)
   where
     by : (b : Bool) → option_map (λ (x : Shown). x.metric) (cond b (Some c) None) ≡ cond b (Some c.metric) None
@@ -29,7 +30,8 @@ metric_in-snoc i p (d ∷ shown) c = by ((i == d.interface) && same_prefix p d.p
   where
     by : (b : Bool) → metric_in i p (shown ++ c ∷ []) ≡ option_or (metric_in i p shown) (cond ((i == c.interface) && same_prefix p c.prefix) (Some c.metric) None)
         → option_map (λ (x : Shown). x.metric) (cond b (Some d) (find (λ (x : Shown). (i == x.interface) && same_prefix p x.prefix) (shown ++ c ∷ [])))
-        ≡ option_or (option_map (λ (x : Shown). x.metric) (cond b (Some d) (find (λ (x : Shown). (i == x.interface) && same_prefix p x.prefix) shown))) (cond ((i == c.interface) && same_prefix p c.prefix) (Some c.metric) None)
+        ≡ option_or (option_map (λ (x : Shown). x.metric) (cond b (Some d) (find (λ (x : Shown). (i == x.interface) && same_prefix p x.prefix) shown)))
+        (cond ((i == c.interface) && same_prefix p c.prefix) (Some c.metric) None)
     by true later = refl
     by false later = later
 
@@ -100,7 +102,9 @@ nothing-joins net i s (e ∷ es) t none h =
     here (Some old) h u k = known_at net i s u e old k
 
 -- marking an interface as heard
-pub list_state-heard : (heard : List Bool) (prefixes : List Block) (shown : List Shown) (i : ℕ) → i < length heard → list_state (set heard i true) prefixes shown ≡ with_heard (list_state heard prefixes shown) i
+pub list_state-heard : (heard : List Bool) (prefixes : List Block) (shown : List Shown) (i : ℕ) → i < length heard →
+    list_state (set heard i true) prefixes shown ≡ with_heard (list_state heard prefixes shown) i
 list_state-heard heard prefixes shown i lt =
-    ap (λ (n : ℕ). record { interfaces = n; prefixes = prefixes; shows = (list_state heard prefixes shown).shows; heard = (list_state (set heard i true) prefixes shown).heard }) (length-set heard i true)
+    ap (λ (n : ℕ). record { interfaces = n; prefixes = prefixes; shows = (list_state heard prefixes shown).shows; heard = (list_state (set heard i true) prefixes shown).heard })
+    (length-set heard i true)
     ∙ ap (λ (f : ℕ → Bool). record { interfaces = length heard; prefixes = prefixes; shows = (list_state heard prefixes shown).shows; heard = f }) (heard-with heard i lt)

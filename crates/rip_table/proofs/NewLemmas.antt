@@ -39,7 +39,8 @@ one_prefix n j k p q s t a b same =
 few_prefixes : (n : Network) → IsLawful n → length n.prefixes ≤ length n.places
 few_prefixes n lawful = pigeonhole (length n.prefixes) (length n.places) (λ p. (placed n lawful p).at)
     (λ p lt. slice_get_within n.places (placed n lawful p).at _ ((placed n lawful p).is lt).1.listed)
-    (λ p q lp lq same. one_prefix n (placed n lawful p).at (placed n lawful q).at p q ((placed n lawful p).is lp).0 ((placed n lawful q).is lq).0 ((placed n lawful p).is lp).1 ((placed n lawful q).is lq).1 same)
+    (λ p q lp lq same. one_prefix n (placed n lawful p).at (placed n lawful q).at p q ((placed n lawful p).is lp).0 ((placed n lawful q).is lq).0 ((placed n lawful p).is lp).1
+    ((placed n lawful q).is lq).1 same)
 
 -- a table with the plan's prefixes that shows nothing
 pub empty-is : (n : Network) → IsLawful n → (s : State) → s.prefixes ≡ n.prefixes → ((i : ℕ) (p : Block) → s.shows i p ≡ None) → IsState s
@@ -65,5 +66,6 @@ grid-new n =
     let rows = planned_rows w n.prefixes in
     ap (λ (k : ℕ). record { interfaces = k; prefixes = heads rows; shows = cell rows; heard = (grid_state (replicate w false) rows).heard }) (length-none w)
     ∙ ap (λ (ps : List Block). record { interfaces = w; prefixes = ps; shows = cell rows; heard = (grid_state (replicate w false) rows).heard }) (heads-planned w n.prefixes)
-    ∙ ap (λ (f : ℕ → Block → Option ℕ). record { interfaces = w; prefixes = n.prefixes; shows = f; heard = (grid_state (replicate w false) rows).heard }) (fun_ext (λ i. fun_ext (λ p. cell-planned w n.prefixes i p)))
+    ∙ ap (λ (f : ℕ → Block → Option ℕ). record { interfaces = w; prefixes = n.prefixes; shows = f; heard = (grid_state (replicate w false) rows).heard })
+    (fun_ext (λ i. fun_ext (λ p. cell-planned w n.prefixes i p)))
     ∙ ap (λ (f : ℕ → Bool). record { interfaces = w; prefixes = n.prefixes; shows = λ i p. None; heard = f }) (fun_ext (none_at w))

@@ -22,7 +22,8 @@ noted-more prefixes es j e old new here noted kept up p k number some =
     by (metric_among p (take j es)) refl (same_prefix p e.prefix) refl
     (sym (ap is_some (ap (metric_among p) (take-more es j e here) ∙ metric_among-snoc p (take j es) e)) ∙ some)
   where
-    by : (o : Option ℕ) → metric_among p (take j es) ≡ o → (b : Bool) → same_prefix p e.prefix ≡ b → is_some (option_or (metric_among p (take j es)) (cond (same_prefix p e.prefix) (Some e.metric) None)) ≡ true
+    by : (o : Option ℕ) → metric_among p (take j es) ≡ o → (b : Bool) → same_prefix p e.prefix ≡ b →
+        is_some (option_or (metric_among p (take j es)) (cond (same_prefix p e.prefix) (Some e.metric) None)) ≡ true
         → flag_of new k ≡ true
     by (Some m) is b same known = kept k (noted p k number (ap is_some is))
     by None is true same known = up k (sym (ap (λ (q : Block). number_of_prefix q prefixes) (same-is p e.prefix same)) ∙ number)

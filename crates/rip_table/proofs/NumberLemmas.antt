@@ -74,7 +74,8 @@ metric_among-snoc p (d ∷ es) e = by (same_prefix p d.prefix) (metric_among-sno
     by false later = later
 
 -- the number that was found for an entry is that of its prefix
-pub number-here : (ps : List Block) (es : List Entry) (ns : List (Option ℕ)) (j : ℕ) (e : Entry) → AreNumbers ps es ns → slice_get es j ≡ Some e → slice_index_or ns j None ≡ number_of_prefix e.prefix ps
+pub number-here : (ps : List Block) (es : List Entry) (ns : List (Option ℕ)) (j : ℕ) (e : Entry) → AreNumbers ps es ns → slice_get es j ≡ Some e →
+    slice_index_or ns j None ≡ number_of_prefix e.prefix ps
 number-here ps es ns j e are at = get_or_from_slice_get ns j (number_of_prefix e.prefix ps) None (are j e at)
 
 -- there is an entry at a number below the length
@@ -91,7 +92,8 @@ number-below ps es ns j k are lt h =
     slice_get_within ps k (here.0).prefix (number-at (here.0).prefix ps k (sym (number-here ps es ns j here.0 are here.1) ∙ h))
 
 -- the first entry of a prefix among the first entries
-pub metric_among-found : (p : Block) (es : List Entry) (j n : ℕ) (e : Entry) → metric_among p (take j es) ≡ None → slice_get es j ≡ Some e → same_prefix p e.prefix ≡ true → j < n → metric_among p (take n es) ≡ Some e.metric
+pub metric_among-found : (p : Block) (es : List Entry) (j n : ℕ) (e : Entry) → metric_among p (take j es) ≡ None → slice_get es j ≡ Some e → same_prefix p e.prefix ≡ true → j < n →
+    metric_among p (take n es) ≡ Some e.metric
 metric_among-found p [] j n e none at same lt = absurd (cc at)
 metric_among-found p (d ∷ es) j zero e none at same lt = absurd (omega (arith, lt))
 metric_among-found p (d ∷ es) zero (suc n) e none at same lt =
@@ -99,12 +101,14 @@ metric_among-found p (d ∷ es) zero (suc n) e none at same lt =
     ap (λ (b : Bool). cond b (Some d.metric) (metric_among p (take n es))) (ap (λ (x : Entry). same_prefix p x.prefix) is ∙ same) ∙ ap (λ (x : Entry). Some x.metric) is
 metric_among-found p (d ∷ es) (suc j) (suc n) e none at same lt = by (same_prefix p d.prefix) none (λ h. metric_among-found p es j n e h at same (omega (arith, lt)))
   where
-    by : (b : Bool) → cond b (Some d.metric) (metric_among p (take j es)) ≡ None → (metric_among p (take j es) ≡ None → metric_among p (take n es) ≡ Some e.metric) → cond b (Some d.metric) (metric_among p (take n es)) ≡ Some e.metric
+    by : (b : Bool) → cond b (Some d.metric) (metric_among p (take j es)) ≡ None → (metric_among p (take j es) ≡ None → metric_among p (take n es) ≡ Some e.metric) →
+        cond b (Some d.metric) (metric_among p (take n es)) ≡ Some e.metric
     by true h later = absurd (cc h)
     by false h later = later h
 
 -- one more entry of another prefix
-pub metric_among-passed : (p : Block) (es : List Entry) (j : ℕ) (e : Entry) → metric_among p (take j es) ≡ None → slice_get es j ≡ Some e → same_prefix p e.prefix ≡ false → metric_among p (take (j + 1) es) ≡ None
+pub metric_among-passed : (p : Block) (es : List Entry) (j : ℕ) (e : Entry) → metric_among p (take j es) ≡ None → slice_get es j ≡ Some e → same_prefix p e.prefix ≡ false →
+    metric_among p (take (j + 1) es) ≡ None
 metric_among-passed p es j e none at other =
     ap (metric_among p) (take-more es j e at)
     ∙ metric_among-snoc p (take j es) e

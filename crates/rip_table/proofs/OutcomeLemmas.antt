@@ -16,7 +16,8 @@ in_neither P Q R true b h k w = cc h
 
 -- the clause `outcome` of the law `refused_logs`
 abbrev pub RefusedLogs : Type 0
-RefusedLogs = (n : Network) (old s : State) (log : Log) (fault : Option CollectError) → IsLawful n → IsState old → Fits n old → (outcome n old log ≡ record { state = s; fault = fault }) ↔ IsOutcome n old log s fault
+RefusedLogs = (n : Network) (old s : State) (log : Log) (fault : Option CollectError) → IsLawful n → IsState old → Fits n old →
+    (outcome n old log ≡ record { state = s; fault = fault }) ↔ IsOutcome n old log s fault
 
 pub said_outcome : (refused_logs : RefusedLogs) (n : Network) (old new : State) (log left : Option Log) (result : Result (Unit {0}) CollectError)
     → IsLawful n → IsState old → Fits n old → ToldOutcome n old log new left result → (told : Log) → log ≡ Some told → SaidOutcome n old told new result

@@ -132,7 +132,8 @@ bad_at net i s e (Changed p old new) valid lt h =
 bad_at net i s e (NextHop p) valid lt h = by (s.shows i e.prefix) refl ∙ ap (λ (q : Block). Err (NextHop q)) (sym h.prefix)
   where
     by : (o : Option ℕ) → s.shows i e.prefix ≡ o → joined_at net i s e o ≡ Err (NextHop e.prefix)
-    by None shows = ap (λ (f : Bool). cond f (Err (NextHop e.prefix)) (cond (is_past s e.prefix) (Err TooManyPrefixes) (Ok (with_metric s i e.prefix e.metric)))) (IsElsewhere-foreign net i e h.elsewhere)
+    by None shows =
+        ap (λ (f : Bool). cond f (Err (NextHop e.prefix)) (cond (is_past s e.prefix) (Err TooManyPrefixes) (Ok (with_metric s i e.prefix e.metric)))) (IsElsewhere-foreign net i e h.elsewhere)
     by (Some old) shows =
         ap (λ (c : Bool). cond (not c) (Err (Changed e.prefix old e.metric)) (cond (is_foreign net i e) (Err (NextHop e.prefix)) (Ok s))) (eq-eqb old e.metric (h.keeps old shows))
         ∙ ap (λ (f : Bool). cond f (Err (NextHop e.prefix)) (Ok s)) (IsElsewhere-foreign net i e h.elsewhere)
@@ -246,7 +247,8 @@ from_cause : (r : Result State TableError) (cause : CollectCause) → as_cause r
 from_cause (Ok u) cause h = absurd (cc h)
 from_cause (Err e) cause h = (e, refl, cc h)
 
-bad_entry : (below : LowerLaws) (n : Network) (s : State) (c : Capture) (i : ℕ) (es : List Entry) (error : TableError) → IsState s → i < s.interfaces → IsResponseOf es c.datagram → interface_of n c ≡ Some i
+bad_entry : (below : LowerLaws) (n : Network) (s : State) (c : Capture) (i : ℕ) (es : List Entry) (error : TableError) → IsState s → i < s.interfaces → IsResponseOf es c.datagram →
+    interface_of n c ≡ Some i
     → joined_message n i s (response es) ≡ Err error → HasBadEntry n s c error
 bad_entry below n s c i es error valid lt says found h =
     let first = first_bad n i (with_heard s i) es error h in
@@ -277,7 +279,8 @@ refused_of below n s c cause lawful valid fits h = by (message_in c.datagram) re
         })
     by (Ok (response es)) is (Some i) found k =
         let split = from_cause (joined_message n i s (response es)) cause k in
-        subst (IsRefused n s c) split.2 (bad_entry below n s c i es split.0 valid (interface_below n s c.link c.sender i fits (below.gives n c.link c.sender i found)) ((below.fields es c.datagram).0 is) found split.1)
+        subst (IsRefused n s c) split.2 (bad_entry below n s c i es split.0 valid (interface_below n s c.link c.sender i fits (below.gives n c.link c.sender i found))
+        ((below.fields es c.datagram).0 is) found split.1)
 
 pub refused_at : (below : LowerLaws) (n : Network) (s : State) (c : Capture) (cause : CollectCause) → IsLawful n → IsState s → Fits n s → IsRefused n s c cause → joined_capture n s c ≡ Err cause
 refused_at below n s c (OfLog e) lawful valid fits h = absurd h
@@ -299,7 +302,8 @@ refused_at below n s c (Table error) lawful valid fits h =
     ∙ ap as_cause (bad_entries n i (with_heard s i) h.state h.front h.rest h.entry error metrics (heard_valid s i valid) lt joined h.bad)
 
 -- what a response of an interface makes of a table
-response_joined : (below : LowerLaws) (n : Network) (s : State) (c : Capture) (i : ℕ) (es : List Entry) → IsLawful n → IsResponse n c i es → joined_capture n s c ≡ as_cause (joined_message n i s (response es))
+response_joined : (below : LowerLaws) (n : Network) (s : State) (c : Capture) (i : ℕ) (es : List Entry) → IsLawful n → IsResponse n c i es →
+    joined_capture n s c ≡ as_cause (joined_message n i s (response es))
 response_joined below n s c i es lawful is =
     ap (λ (m : Result Message WireError). joined_from n s (message_or_request m) (interface_of n c)) ((below.fields es c.datagram).1 is.says)
     ∙ ap (joined_from n s (response es)) (below.finds n c.link c.sender i lawful is.from)
@@ -309,7 +313,8 @@ pub response_refused : (below : LowerLaws) (n : Network) (s : State) (c : Captur
 response_refused below n s c i es error lawful valid fits is = (
   bad_entry below n s c i es error valid (interface_below n s c.link c.sender i fits is.from) is.says (below.finds n c.link c.sender i lawful is.from),
   λ h.
-      let (e, is_error, same) = from_cause (joined_message n i s (response es)) (Table error) (sym (response_joined below n s c i es lawful is) ∙ refused_at below n s c (Table error) lawful valid fits h) in
+      let (e, is_error, same) = from_cause (joined_message n i s (response es)) (Table error)
+      (sym (response_joined below n s c i es lawful is) ∙ refused_at below n s c (Table error) lawful valid fits h) in
       let one : e ≡ error = cc same in
       subst (λ (x : TableError). joined_message n i s (response es) ≡ Err x) one is_error,
 )
@@ -373,7 +378,8 @@ records-append : (n : Network) (s t : State) (before rest : List Numbered) → j
 records-append n s t [] rest h = let same : s ≡ t = cc h in ap (λ (u : State). joined_records n u rest) same
 records-append n s t (r ∷ before) rest h = by (joined_capture n s r.capture) h (λ u k. records-append n u t before rest k)
   where
-    by : (x : Result State CollectCause) → and_then x (λ u. joined_records n u before) ≡ Ok t → ((u : State) → joined_records n u before ≡ Ok t → joined_records n u (before ++ rest) ≡ joined_records n t rest)
+    by : (x : Result State CollectCause) → and_then x (λ u. joined_records n u before) ≡ Ok t →
+        ((u : State) → joined_records n u before ≡ Ok t → joined_records n u (before ++ rest) ≡ joined_records n t rest)
         → and_then x (λ u. joined_records n u (before ++ rest)) ≡ joined_records n t rest
     by (Ok u) k later = later u k
     by (Err e) k later = absurd (cc k)
@@ -388,7 +394,8 @@ module _ (below : LowerLaws) (n : Network) (old : State) (lawful : IsLawful n) (
       let there = made before front.0 front.2 in
       let same = one_join n old before front.0 t there.1 state there.0 join in
       let again : IsRefused n front.0 r.capture cause = subst (λ (u : State). IsRefused n u r.capture cause) (sym same) refused in
-      let clash : ◌≡◌ {A = Result State CollectCause} (Ok front.1) (Err cause) = sym front.3 ∙ refused_at below n front.0 r.capture cause lawful there.1 (fits_log n old front.0 before fits front.2) again in
+      let clash : ◌≡◌ {A = Result State CollectCause} (Ok front.1) (Err cause) =
+      sym front.3 ∙ refused_at below n front.0 r.capture cause lawful there.1 (fits_log n old front.0 before fits front.2) again in
       cc clash
 
   pub is_joined : (log : List Numbered) (s : State) → joined_records n old log ≡ Ok s → IsJoined n old log s
@@ -409,13 +416,24 @@ module _ (below : LowerLaws) (n : Network) (old : State) (lawful : IsLawful n) (
           let found = first_refused n old log cause is in
           let first = found.2 in
           let before = made first.before found.0 first.joined in
-          absurd (h.accepted first.before first.after (record { line = found.1; capture = first.capture }) found.0 cause first.split before.0 before.1 (words first.before found.0 first.capture cause first.joined first.refused))
+          absurd (h.accepted first.before first.after (record { line = found.1; capture = first.capture }) found.0 cause first.split before.0 before.1
+          (words first.before found.0 first.capture cause first.joined first.refused))
 
   in_words : (log : List Numbered) (s : State) (line : ℕ) (cause : CollectCause) → Refusal n old log s line cause → IsFirstRefused n old log s line cause
-  in_words log s line cause h = record { before = h.before; capture = h.capture; after = h.after; split = h.split; joined = is_joined h.before s h.joined; refused = words h.before s h.capture cause h.joined h.refused }
+  in_words log s line cause h =
+      record { before = h.before; capture = h.capture; after = h.after; split = h.split; joined = is_joined h.before s h.joined; refused = words h.before s h.capture cause h.joined h.refused }
 
   of_words : (log : List Numbered) (s : State) (line : ℕ) (cause : CollectCause) → IsFirstRefused n old log s line cause → Refusal n old log s line cause
-  of_words log s line cause h = record { before = h.before; capture = h.capture; after = h.after; split = h.split; joined = joined_is h.before s h.joined; refused = refused_at below n s h.capture cause lawful (h.joined).state (fits_log n old s h.before fits (joined_is h.before s h.joined)) h.refused }
+  of_words log s line cause h =
+      record {
+        before = h.before;
+        capture = h.capture;
+        after = h.after;
+        split = h.split;
+        joined = joined_is h.before s h.joined;
+        refused = refused_at below n s h.capture cause lawful (h.joined).state
+            (fits_log n old s h.before fits (joined_is h.before s h.joined)) h.refused;
+      }
 
   records_refused : (log : List Numbered) (s : State) (line : ℕ) (cause : CollectCause) → Refusal n old log s line cause → joined_records n old log ≡ Err cause
   records_refused log s line cause h =

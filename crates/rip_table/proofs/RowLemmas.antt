@@ -138,7 +138,8 @@ take-all (r ∷ rows) = ap (λ (xs : Rows). r ∷ xs) (take-all rows)
 
 -- ---- writing to a cell
 
-pub rows-set : (es : Entries) (k i : ℕ) (x : Option ℕ) (row new : Vec (Option ℕ) Global) → slice_get (values_of es) k ≡ Some row → new.items ≡ set row.items i x → rows_of (set_value_at es k new) ≡ with_cell (rows_of es) k i x
+pub rows-set : (es : Entries) (k i : ℕ) (x : Option ℕ) (row new : Vec (Option ℕ) Global) → slice_get (values_of es) k ≡ Some row → new.items ≡ set row.items i x →
+    rows_of (set_value_at es k new) ≡ with_cell (rows_of es) k i x
 rows-set [] k i x row new h s = refl
 rows-set (e ∷ es) zero i x row new h s =
     let same : e.1 ≡ row = same_Some _ _ h in
@@ -211,14 +212,16 @@ heads_at (x ∷ rows) zero r h = ap (λ (y : Block × List (Option ℕ)). Some y
 heads_at (x ∷ rows) (suc k) r h = heads_at rows k r h
 
 -- the row of a prefix
-pub row-at : (es : Entries) (k : ℕ) (row : Vec (Option ℕ) Global) (p : Block) → slice_get (values_of es) k ≡ Some row → slice_get (heads (rows_of es)) k ≡ Some p → slice_get (rows_of es) k ≡ Some (p, row.items)
+pub row-at : (es : Entries) (k : ℕ) (row : Vec (Option ℕ) Global) (p : Block) → slice_get (values_of es) k ≡ Some row → slice_get (heads (rows_of es)) k ≡ Some p →
+    slice_get (rows_of es) k ≡ Some (p, row.items)
 row-at es k row p h at =
     let found = from_rows es k row h in
     let same : found.0 ≡ p = same_Some _ _ (sym (heads_at (rows_of es) k (found.0, row.items) found.1) ∙ at) in
     found.1 ∙ ap (λ (q : Block). Some (q, row.items)) same
 
 -- where prefixes differ, the number of one is where it stands
-pub number-listed : (ps : List Block) (k : ℕ) (p : Block) → ((i j : ℕ) (q : Block) → slice_get ps i ≡ Some q → slice_get ps j ≡ Some q → i ≡ j) → slice_get ps k ≡ Some p → number_of_prefix p ps ≡ Some k
+pub number-listed : (ps : List Block) (k : ℕ) (p : Block) → ((i j : ℕ) (q : Block) → slice_get ps i ≡ Some q → slice_get ps j ≡ Some q → i ≡ j) → slice_get ps k ≡ Some p →
+    number_of_prefix p ps ≡ Some k
 number-listed ps k p differ at = by (number_of_prefix p ps) refl
   where
     by : (o : Option ℕ) → number_of_prefix p ps ≡ o → number_of_prefix p ps ≡ Some k

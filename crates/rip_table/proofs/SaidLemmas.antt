@@ -42,7 +42,8 @@ abbrev nobody : ℕ → Type 0
 nobody j = ⊥
 
 test_of : (i j : ℕ) (p q : Block) → j ≡ i → p ≡ q → ((j == i) && same_prefix q p) ≡ true
-test_of i j p q here same = ap (λ (k : ℕ). (k == i) && same_prefix q p) here ∙ ap (λ (r : Block). (i == i) && same_prefix r p) (sym same) ∙ ap (λ (b : Bool). b && same_prefix p p) (eq-eqb i i refl) ∙ same-self p
+test_of i j p q here same =
+    ap (λ (k : ℕ). (k == i) && same_prefix q p) here ∙ ap (λ (r : Block). (i == i) && same_prefix r p) (sym same) ∙ ap (λ (b : Bool). b && same_prefix p p) (eq-eqb i i refl) ∙ same-self p
 
 shown_one : (s : State) (i m : ℕ) (p : Block) (j : ℕ) (q : Block) (x : ℕ) → (b : Bool) → ((j == i) && same_prefix q p) ≡ b → cond b (Some m) (s.shows j q) ≡ Some x
     → (s.shows j q ≡ Some x) ⊎ ((k : ℕ) × says_one i p m k j q x)
@@ -298,7 +299,8 @@ makes_capture below n s t c lawful valid fits h = by (message_in c.datagram) ref
     by (Err e) is o found k =
         says_nothing n c s t (λ es r. let clash : ◌≡◌ {A = Result Message WireError} (Err e) (Ok (response es)) = sym is ∙ (below.fields es c.datagram).1 r in cc clash) valid (from_request n s t o k)
     by (Ok request) is o found k =
-        says_nothing n c s t (λ es r. let clash : ◌≡◌ {A = Result Message WireError} (Ok request) (Ok (response es)) = sym is ∙ (below.fields es c.datagram).1 r in cc clash) valid (from_request n s t o k)
+        says_nothing n c s t (λ es r. let clash : ◌≡◌ {A = Result Message WireError} (Ok request) (Ok (response es)) = sym is ∙ (below.fields es c.datagram).1 r in cc clash) valid
+        (from_request n s t o k)
     by (Ok (response es)) is None found k = absurd (cc k)
     by (Ok (response es)) is (Some i) found k =
         let lt = interface_below n s c.link c.sender i fits (below.gives n c.link c.sender i found) in
@@ -357,7 +359,8 @@ makes_log below n s t (r ∷ log) lawful valid fits h =
     let u = split.0 in
     let first = makes_capture below n s u r.capture lawful valid fits split.1 in
     let then = makes_log below n u t log lawful first.1 (Fits-joined n s u r.capture fits split.1) split.2 in (
-      makes_both (says_capture n r.capture) (says_log n log) (says_log n (r ∷ log)) earlier before_log before_log (hears_capture n r.capture) (HasUpdate n log) (HasUpdate n (r ∷ log)) (record_first n r log) s u t first.0 then.0,
+      makes_both (says_capture n r.capture) (says_log n log) (says_log n (r ∷ log)) earlier before_log before_log (hears_capture n r.capture) (HasUpdate n log) (HasUpdate n (r ∷ log))
+          (record_first n r log) s u t first.0 then.0,
       then.1,
     )
 

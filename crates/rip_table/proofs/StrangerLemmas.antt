@@ -53,15 +53,18 @@ entry-row (e ∷ es) zero t h =
     (key_origin e.0, ap (λ (x : StrangerTally). Some (key_origin e.0, x)) is)
 entry-row (e ∷ es) (suc k) t h = entry-row es k t h
 
-pub set-row : (es : List (Stranger × StrangerTally)) (k line : ℕ) (code : Option LogCode) (was t : StrangerTally) → slice_get (values_of es) k ≡ Some was → ((o : Origin) → t ≡ with_stranger_event o was (stranger_line o line code)) → rows_of_strangers (set_value_at es k t) ≡ with_row_line (rows_of_strangers es) k line code
+pub set-row : (es : List (Stranger × StrangerTally)) (k line : ℕ) (code : Option LogCode) (was t : StrangerTally) → slice_get (values_of es) k ≡ Some was →
+    ((o : Origin) → t ≡ with_stranger_event o was (stranger_line o line code)) → rows_of_strangers (set_value_at es k t) ≡ with_row_line (rows_of_strangers es) k line code
 set-row [] k line code was t h made = refl
 set-row (e ∷ es) zero line code was t h made =
     let is : was ≡ e.1 = cc h in
-    ap (λ (x : StrangerTally). (key_origin e.0, x) ∷ rows_of_strangers es) (made (key_origin e.0) ∙ ap (λ (w : StrangerTally). with_stranger_event (key_origin e.0) w (stranger_line (key_origin e.0) line code)) is)
+    ap (λ (x : StrangerTally). (key_origin e.0, x) ∷ rows_of_strangers es) (made (key_origin e.0) ∙ ap
+    (λ (w : StrangerTally). with_stranger_event (key_origin e.0) w (stranger_line (key_origin e.0) line code)) is)
 set-row (e ∷ es) (suc k) line code was t h made = ap (λ (rows : StrangerRows). (key_origin e.0, e.1) ∷ rows) (set-row es k line code was t h made)
 
 -- a key whose origin is not among them is not found
-pub none-found : (key : Stranger) (es : List (Stranger × StrangerTally)) → is_origin_of (strangers_of (rows_of_strangers es)) (key_origin key) ≡ false → lookup (λ (s : Stranger). string_eq key.link s.link && (key.address == s.address)) es ≡ None
+pub none-found : (key : Stranger) (es : List (Stranger × StrangerTally)) → is_origin_of (strangers_of (rows_of_strangers es)) (key_origin key) ≡ false →
+    lookup (λ (s : Stranger). string_eq key.link s.link && (key.address == s.address)) es ≡ None
 none-found key [] h = refl
 none-found key (e ∷ es) h =
     let parts = or_parts (same_origin (key_origin key) (key_origin e.0)) (is_origin_of (strangers_of (rows_of_strangers es)) (key_origin key)) h in
@@ -72,11 +75,14 @@ rows-more [] e = refl
 rows-more (d ∷ es) e = ap (λ (rows : StrangerRows). (key_origin d.0, d.1) ∷ rows) (rows-more es e)
 
 -- the number of the first key whose origin is this one
-found-from : (o : Origin) (i k : ℕ) (es : List (Stranger × StrangerTally)) → position_from (λ (s : Stranger). same_origin o (key_origin s)) i (keys_of es) ≡ Some k → (j : ℕ) × (k ≡ i + j) × (slice_get (strangers_of (rows_of_strangers es)) j ≡ Some o)
+found-from : (o : Origin) (i k : ℕ) (es : List (Stranger × StrangerTally)) → position_from (λ (s : Stranger). same_origin o (key_origin s)) i (keys_of es) ≡ Some k →
+    (j : ℕ) × (k ≡ i + j) × (slice_get (strangers_of (rows_of_strangers es)) j ≡ Some o)
 found-from o i k [] h = absurd (cc h)
 found-from o i k (e ∷ es) h = by (same_origin o (key_origin e.0)) refl (found-from o (i + 1) k es)
   where
-    by : (b : Bool) → same_origin o (key_origin e.0) ≡ b → (position_from (λ (s : Stranger). same_origin o (key_origin s)) (i + 1) (keys_of es) ≡ Some k → (j : ℕ) × (k ≡ i + 1 + j) × (slice_get (strangers_of (rows_of_strangers es)) j ≡ Some o)) → (j : ℕ) × (k ≡ i + j) × (slice_get (strangers_of (rows_of_strangers (e ∷ es))) j ≡ Some o)
+    by : (b : Bool) → same_origin o (key_origin e.0) ≡ b →
+        (position_from (λ (s : Stranger). same_origin o (key_origin s)) (i + 1) (keys_of es) ≡ Some k → (j : ℕ) × (k ≡ i + 1 + j) × (slice_get (strangers_of (rows_of_strangers es)) j ≡ Some o)) →
+        (j : ℕ) × (k ≡ i + j) × (slice_get (strangers_of (rows_of_strangers (e ∷ es))) j ≡ Some o)
     by true is later =
         let here : i ≡ k = cc (h, ap (λ (b : Bool). if b then Some i else position_from (λ (s : Stranger). same_origin o (key_origin s)) (i + 1) (keys_of es)) is) in
         (0, omega (arith, here), ap Some (sym (same-is o (key_origin e.0) is)))
@@ -84,26 +90,34 @@ found-from o i k (e ∷ es) h = by (same_origin o (key_origin e.0)) refl (found-
         let rest = later (ap (λ (b : Bool). if b then Some i else position_from (λ (s : Stranger). same_origin o (key_origin s)) (i + 1) (keys_of es)) (sym is) ∙ h) in
         (suc rest.0, omega (arith, rest.1), rest.2)
 
-pub found-at : (o : Origin) (k : ℕ) (es : List (Stranger × StrangerTally)) → position (λ (s : Stranger). same_origin o (key_origin s)) (keys_of es) ≡ Some k → slice_get (strangers_of (rows_of_strangers es)) k ≡ Some o
+pub found-at : (o : Origin) (k : ℕ) (es : List (Stranger × StrangerTally)) → position (λ (s : Stranger). same_origin o (key_origin s)) (keys_of es) ≡ Some k →
+    slice_get (strangers_of (rows_of_strangers es)) k ≡ Some o
 found-at o k es h =
     let found = found-from o 0 k es (sym (position_from-zero (λ (s : Stranger). same_origin o (key_origin s)) (keys_of es)) ∙ h) in
     ap (slice_get (strangers_of (rows_of_strangers es))) (omega (arith, found.1)) ∙ found.2
 
-none-from : (o : Origin) (i : ℕ) (es : List (Stranger × StrangerTally)) → position_from (λ (s : Stranger). same_origin o (key_origin s)) i (keys_of es) ≡ None → is_origin_of (strangers_of (rows_of_strangers es)) o ≡ false
+none-from : (o : Origin) (i : ℕ) (es : List (Stranger × StrangerTally)) → position_from (λ (s : Stranger). same_origin o (key_origin s)) i (keys_of es) ≡ None →
+    is_origin_of (strangers_of (rows_of_strangers es)) o ≡ false
 none-from o i [] h = refl
 none-from o i (e ∷ es) h = by (same_origin o (key_origin e.0)) refl (none-from o (i + 1) es)
   where
-    by : (b : Bool) → same_origin o (key_origin e.0) ≡ b → (position_from (λ (s : Stranger). same_origin o (key_origin s)) (i + 1) (keys_of es) ≡ None → is_origin_of (strangers_of (rows_of_strangers es)) o ≡ false) → is_origin_of (strangers_of (rows_of_strangers (e ∷ es))) o ≡ false
+    by : (b : Bool) → same_origin o (key_origin e.0) ≡ b →
+        (position_from (λ (s : Stranger). same_origin o (key_origin s)) (i + 1) (keys_of es) ≡ None → is_origin_of (strangers_of (rows_of_strangers es)) o ≡ false) →
+        is_origin_of (strangers_of (rows_of_strangers (e ∷ es))) o ≡ false
     by true is later = absurd (cc (h, ap (λ (b : Bool). if b then Some i else position_from (λ (s : Stranger). same_origin o (key_origin s)) (i + 1) (keys_of es)) is))
     by false is later = rw is (later (ap (λ (b : Bool). if b then Some i else position_from (λ (s : Stranger). same_origin o (key_origin s)) (i + 1) (keys_of es)) (sym is) ∙ h))
 
-pub none-at : (o : Origin) (es : List (Stranger × StrangerTally)) → position (λ (s : Stranger). same_origin o (key_origin s)) (keys_of es) ≡ None → is_origin_of (strangers_of (rows_of_strangers es)) o ≡ false
+pub none-at : (o : Origin) (es : List (Stranger × StrangerTally)) → position (λ (s : Stranger). same_origin o (key_origin s)) (keys_of es) ≡ None →
+    is_origin_of (strangers_of (rows_of_strangers es)) o ≡ false
 none-at o es h = none-from o 0 es (sym (position_from-zero (λ (s : Stranger). same_origin o (key_origin s)) (keys_of es)) ∙ h)
 
-pub rows-new : (es new : List (Stranger × StrangerTally)) (o : Origin) (key : Stranger) (t was : StrangerTally) (line : ℕ) (code : Option LogCode) → string_bytes key.link ≡ o.link → key.address ≡ o.sender → new ≡ es ++ (key, t) ∷ [] → was ≡ stranger_tally o [] → ((p : Origin) → t ≡ with_stranger_event p was (stranger_line p line code)) → rows_of_strangers new ≡ rows_of_strangers es ++ new_row o line code ∷ []
+pub rows-new : (es new : List (Stranger × StrangerTally)) (o : Origin) (key : Stranger) (t was : StrangerTally) (line : ℕ) (code : Option LogCode) → string_bytes key.link ≡ o.link →
+    key.address ≡ o.sender → new ≡ es ++ (key, t) ∷ [] → was ≡ stranger_tally o [] → ((p : Origin) → t ≡ with_stranger_event p was (stranger_line p line code)) →
+    rows_of_strangers new ≡ rows_of_strangers es ++ new_row o line code ∷ []
 rows-new es new o key t was line code link address is none made =
     let key-is : key_origin key ≡ o = rw (link, address) refl in
-    let sent : t ≡ stranger_tally o (stranger_line o line code ∷ []) = made o ∙ ap (λ (w : StrangerTally). with_stranger_event o w (stranger_line o line code)) none ∙ sym (stranger-more o [] (stranger_line o line code)) in
+    let sent : t ≡ stranger_tally o (stranger_line o line code ∷ []) =
+    made o ∙ ap (λ (w : StrangerTally). with_stranger_event o w (stranger_line o line code)) none ∙ sym (stranger-more o [] (stranger_line o line code)) in
     ap rows_of_strangers is ∙ rows-more es (key, t) ∙ ap (λ (p : Origin). rows_of_strangers es ++ (p, t) ∷ []) key-is ∙ ap (λ (x : StrangerTally). rows_of_strangers es ++ (o, x) ∷ []) sent
 
 not-same : (o p : Origin) → (o ≡ p → ⊥) → same_origin o p ≡ false
@@ -159,7 +173,8 @@ no-stranger p t line (bad code (Some o) (Some i)) h = nothing-more t
 
 -- ---- rows
 
-rows-kept : (told : List Origin) (events : List EventAt) (e : EventAt) → ((p : Origin) → is_origin_of told p ≡ true → stranger_tally p (events ++ e ∷ []) ≡ stranger_tally p events) → stranger_rows told (events ++ e ∷ []) ≡ stranger_rows told events
+rows-kept : (told : List Origin) (events : List EventAt) (e : EventAt) → ((p : Origin) → is_origin_of told p ≡ true → stranger_tally p (events ++ e ∷ []) ≡ stranger_tally p events) →
+    stranger_rows told (events ++ e ∷ []) ≡ stranger_rows told events
 rows-kept [] events e h = refl
 rows-kept (o ∷ told) events e h =
     let here = h o (ap (λ (b : Bool). b || is_origin_of told o) (same-self o)) in
@@ -167,7 +182,8 @@ rows-kept (o ∷ told) events e h =
     rw (here, after) refl
 
 -- the rows of strangers of which none is this one
-rows-other : (told : List Origin) (events : List EventAt) (o : Origin) (line : ℕ) (code : Option LogCode) → is_origin_of told o ≡ false → stranger_rows told (events ++ stranger_line o line code ∷ []) ≡ stranger_rows told events
+rows-other : (told : List Origin) (events : List EventAt) (o : Origin) (line : ℕ) (code : Option LogCode) → is_origin_of told o ≡ false →
+    stranger_rows told (events ++ stranger_line o line code ∷ []) ≡ stranger_rows told events
 rows-other [] events o line code none = refl
 rows-other (p ∷ told) events o line code none =
     let parts = or_parts (same_origin o p) (is_origin_of told o) none in
@@ -179,7 +195,8 @@ abbrev AllDiffer : List Origin → Type 0
 AllDiffer [] = ⊤
 AllDiffer (o ∷ told) = (is_origin_of told o ≡ false) × AllDiffer told
 
-pub row-step : (told : List Origin) (events : List EventAt) (k : ℕ) (o : Origin) (line : ℕ) (code : Option LogCode) → AllDiffer told → slice_get told k ≡ Some o → with_row_line (stranger_rows told events) k line code ≡ stranger_rows told (events ++ stranger_line o line code ∷ [])
+pub row-step : (told : List Origin) (events : List EventAt) (k : ℕ) (o : Origin) (line : ℕ) (code : Option LogCode) → AllDiffer told → slice_get told k ≡ Some o →
+    with_row_line (stranger_rows told events) k line code ≡ stranger_rows told (events ++ stranger_line o line code ∷ [])
 row-step [] events k o line code differ h = absurd (cc h)
 row-step (p ∷ told) events zero o line code differ h =
     let is : p ≡ o = cc h in
@@ -197,7 +214,12 @@ differ-more (p ∷ told) o differ none =
 
 differ-with : (e : Option Origin) (told : List Origin) → AllDiffer told → AllDiffer (with_told e told)
 differ-with None told differ = differ
-differ-with (Some o) told differ = elim (cases_Bool (is_origin_of told o || nat_le MOST_STRANGERS (length told))) [ inl h ↦ rw h differ | inr h ↦ rw h (differ-more told o differ (or_parts (is_origin_of told o) (nat_le MOST_STRANGERS (length told)) h).0) ]
+differ-with (Some o) told differ =
+    elim (cases_Bool (is_origin_of told o || nat_le MOST_STRANGERS (length told))) [
+      | inl h ↦ rw h differ
+      | inr h ↦ rw h
+          (differ-more told o differ (or_parts (is_origin_of told o) (nat_le MOST_STRANGERS (length told)) h).0)
+    ]
 
 pub all-differ : (told : List Origin) (events : List EventAt) → AllDiffer told → AllDiffer (told_after told events)
 all-differ told [] differ = differ
@@ -239,9 +261,11 @@ told-then o told room = elim (cases_Bool (is_origin_of told o)) [ inl h ↦ rw h
 abbrev IsOf : Origin → (Event → Bool) → Type 0
 IsOf o is = (e : Event) → is e ≡ true → (p : Origin) × (stranger_of e ≡ Some p) × (same_origin o p ≡ true)
 
-none-sent : (o : Origin) (is : Event → Bool) → IsOf o is → (told : List Origin) (events : List EventAt) → HasRoom (told_after told events) → is_origin_of (told_after told events) o ≡ false → lines_where is events ≡ []
+none-sent : (o : Origin) (is : Event → Bool) → IsOf o is → (told : List Origin) (events : List EventAt) → HasRoom (told_after told events) → is_origin_of (told_after told events) o ≡ false →
+    lines_where is events ≡ []
 none-sent o is of told [] room none = refl
-none-sent o is of told (e ∷ events) room none = elim (cases_Bool (is e.event)) [ inl h ↦ absurd (told-anyway (of e.event h)) | inr h ↦ rw h (none-sent o is of (with_told (stranger_of e.event) told) events room none) ]
+none-sent o is of told (e ∷ events) room none =
+    elim (cases_Bool (is e.event)) [ inl h ↦ absurd (told-anyway (of e.event h)) | inr h ↦ rw h (none-sent o is of (with_told (stranger_of e.event) told) events room none) ]
   where
     told-anyway : (p : Origin) × (stranger_of e.event ≡ Some p) × (same_origin o p ≡ true) → ⊥
     told-anyway found =
@@ -293,7 +317,8 @@ tally-none o events room none =
     rw (responses, bad-lines, no-first o events bad-lines) refl
 
 -- and nobody is one of others then
-no-others : (all told : List Origin) (events : List EventAt) → HasRoom (told_after told events) → ((o : Origin) → is_origin_of (told_after told events) o ≡ true → is_origin_of all o ≡ true) → lines_where (is_of_others all) events ≡ []
+no-others : (all told : List Origin) (events : List EventAt) → HasRoom (told_after told events) → ((o : Origin) → is_origin_of (told_after told events) o ≡ true → is_origin_of all o ≡ true) →
+    lines_where (is_of_others all) events ≡ []
 no-others all told [] room covers = refl
 no-others all told (e ∷ events) room covers = rw (here (stranger_of e.event) refl) (no-others all (with_told (stranger_of e.event) told) events room covers)
   where
@@ -317,7 +342,8 @@ line-of o (Some c) = refl
 others-of : (told : List Origin) (o : Origin) (code : Option LogCode) → is_of_others told (stranger_event o code) ≡ not (is_origin_of told o)
 others-of told o code = rw (line-of o code) refl
 
-others-kept : (told : List Origin) (events : List EventAt) (e : EventAt) → is_of_others told e.event ≡ false → lines_in (lines_where (is_of_others told) (events ++ e ∷ [])) ≡ lines_in (lines_where (is_of_others told) events)
+others-kept : (told : List Origin) (events : List EventAt) (e : EventAt) → is_of_others told e.event ≡ false →
+    lines_in (lines_where (is_of_others told) (events ++ e ∷ [])) ≡ lines_in (lines_where (is_of_others told) events)
 others-kept told events e h = kind-more (is_of_others told) events e ∙ rw h refl
 
 at-among : (told : List Origin) (k : ℕ) (o : Origin) → slice_get told k ≡ Some o → is_origin_of told o ≡ true
@@ -332,34 +358,42 @@ rows-append [] o events = refl
 rows-append (p ∷ told) o events = ap (λ (rows : StrangerRows). (p, stranger_tally p events) ∷ rows) (rows-append told o events)
 
 -- a line of a stranger that is told
-pub step-told : (rows : StrangerRows) (others : Lines) (events : List EventAt) (k : ℕ) (o : Origin) (line : ℕ) (code : Option LogCode) → AreStrangers rows others events → slice_get (told_in events) k ≡ Some o → AreStrangers (with_row_line rows k line code) others (events ++ stranger_line o line code ∷ [])
+pub step-told : (rows : StrangerRows) (others : Lines) (events : List EventAt) (k : ℕ) (o : Origin) (line : ℕ) (code : Option LogCode) → AreStrangers rows others events →
+    slice_get (told_in events) k ≡ Some o → AreStrangers (with_row_line rows k line code) others (events ++ stranger_line o line code ∷ [])
 step-told rows others events k o line code h at =
     let e = stranger_line o line code in
     let among = at-among (told_in events) k o at in
     let same : told_in (events ++ e ∷ []) ≡ told_in events = told-more [] events e ∙ rw (line-of o code, among) refl in
     record {
-      are_told = ap (λ (r : StrangerRows). with_row_line r k line code) h.are_told ∙ row-step (told_in events) events k o line code (all-differ [] events tt) at ∙ ap (λ (l : List Origin). stranger_rows l (events ++ e ∷ [])) (sym same);
-      are_others = h.are_others ∙ sym (others-kept (told_in events) events e (others-of (told_in events) o code ∙ rw among refl)) ∙ ap (λ (l : List Origin). lines_in (lines_where (is_of_others l) (events ++ e ∷ []))) (sym same);
+      are_told = ap (λ (r : StrangerRows). with_row_line r k line code) h.are_told ∙ row-step (told_in events) events k o line code (all-differ [] events tt) at ∙ ap
+          (λ (l : List Origin). stranger_rows l (events ++ e ∷ [])) (sym same);
+      are_others = h.are_others ∙ sym (others-kept (told_in events) events e (others-of (told_in events) o code ∙ rw among refl)) ∙ ap
+          (λ (l : List Origin). lines_in (lines_where (is_of_others l) (events ++ e ∷ []))) (sym same);
     }
 
 -- a line of a new one, while there is room
-pub step-new : (rows : StrangerRows) (others : Lines) (events : List EventAt) (o : Origin) (line : ℕ) (code : Option LogCode) → AreStrangers rows others events → is_origin_of (told_in events) o ≡ false → HasRoom (told_in events) → AreStrangers (rows ++ new_row o line code ∷ []) others (events ++ stranger_line o line code ∷ [])
+pub step-new : (rows : StrangerRows) (others : Lines) (events : List EventAt) (o : Origin) (line : ℕ) (code : Option LogCode) → AreStrangers rows others events →
+    is_origin_of (told_in events) o ≡ false → HasRoom (told_in events) → AreStrangers (rows ++ new_row o line code ∷ []) others (events ++ stranger_line o line code ∷ [])
 step-new rows others events o line code h none room =
     let e = stranger_line o line code in
     let told = told_in events in
     let all = told ++ o ∷ [] in
     let same : told_in (events ++ e ∷ []) ≡ all = told-more [] events e ∙ rw (line-of o code, none, room) refl in
-    let new : (o, stranger_tally o (events ++ e ∷ [])) ≡ new_row o line code = ap (λ (t : StrangerTally). (o, t)) (stranger-more o events e ∙ ap (λ (t : StrangerTally). with_stranger_event o t e) (tally-none o events room none) ∙ sym (stranger-more o [] e)) in
+    let new : (o, stranger_tally o (events ++ e ∷ [])) ≡ new_row o line code =
+    ap (λ (t : StrangerTally). (o, t)) (stranger-more o events e ∙ ap (λ (t : StrangerTally). with_stranger_event o t e) (tally-none o events room none) ∙ sym (stranger-more o [] e)) in
     let before : others ≡ lines_in [] = h.are_others ∙ ap lines_in (no-others told [] events room (λ p there. there)) in
     let after : lines_where (is_of_others all) events ≡ [] = no-others all [] events room (λ p there. among-more told p o ∙ rw there refl) in
     let here : is_of_others all (stranger_event o code) ≡ false = others-of all o code ∙ rw (among-more told o o, none, same-self o) refl in
     record {
-      are_told = ap (λ (r : StrangerRows). r ++ new_row o line code ∷ []) (h.are_told ∙ sym (rows-other told events o line code none)) ∙ ap (λ (row : Origin × StrangerTally). stranger_rows told (events ++ e ∷ []) ++ row ∷ []) (sym new) ∙ sym (rows-append told o (events ++ e ∷ [])) ∙ ap (λ (l : List Origin). stranger_rows l (events ++ e ∷ [])) (sym same);
+      are_told = ap (λ (r : StrangerRows). r ++ new_row o line code ∷ []) (h.are_told ∙ sym (rows-other told events o line code none)) ∙ ap
+          (λ (row : Origin × StrangerTally). stranger_rows told (events ++ e ∷ []) ++ row ∷ []) (sym new) ∙ sym (rows-append told o (events ++ e ∷ [])) ∙ ap
+          (λ (l : List Origin). stranger_rows l (events ++ e ∷ [])) (sym same);
       are_others = before ∙ sym (others-kept all events e here ∙ ap lines_in after) ∙ ap (λ (l : List Origin). lines_in (lines_where (is_of_others l) (events ++ e ∷ []))) (sym same);
     }
 
 -- a line of a new one, where there is none
-pub step-other : (rows : StrangerRows) (others : Lines) (events : List EventAt) (o : Origin) (line : ℕ) (code : Option LogCode) → AreStrangers rows others events → is_origin_of (told_in events) o ≡ false → nat_le MOST_STRANGERS (length (told_in events)) ≡ true → AreStrangers rows (with_line others line) (events ++ stranger_line o line code ∷ [])
+pub step-other : (rows : StrangerRows) (others : Lines) (events : List EventAt) (o : Origin) (line : ℕ) (code : Option LogCode) → AreStrangers rows others events →
+    is_origin_of (told_in events) o ≡ false → nat_le MOST_STRANGERS (length (told_in events)) ≡ true → AreStrangers rows (with_line others line) (events ++ stranger_line o line code ∷ [])
 step-other rows others events o line code h none full =
     let e = stranger_line o line code in
     let told = told_in events in
@@ -367,18 +401,22 @@ step-other rows others events o line code h none full =
     let here : is_of_others told (stranger_event o code) ≡ true = others-of told o code ∙ rw none refl in
     record {
       are_told = h.are_told ∙ sym (rows-other told events o line code none) ∙ ap (λ (l : List Origin). stranger_rows l (events ++ e ∷ [])) (sym same);
-      are_others = ap (λ (l : Lines). with_line l line) h.are_others ∙ sym (kind-more (is_of_others told) events e ∙ ap (λ (b : Bool). if_line b (lines_in (lines_where (is_of_others told) events)) line) here) ∙ ap (λ (l : List Origin). lines_in (lines_where (is_of_others l) (events ++ e ∷ []))) (sym same);
+      are_others = ap (λ (l : Lines). with_line l line) h.are_others ∙ sym (kind-more (is_of_others told) events e ∙ ap
+          (λ (b : Bool). if_line b (lines_in (lines_where (is_of_others told) events)) line) here) ∙ ap (λ (l : List Origin). lines_in (lines_where (is_of_others l) (events ++ e ∷ [])))
+          (sym same);
     }
 
 -- what no stranger sent
-pub step-none : (rows : StrangerRows) (others : Lines) (events : List EventAt) (line : ℕ) (e : Event) → AreStrangers rows others events → stranger_of e ≡ None → AreStrangers rows others (events ++ (record { line = line; event = e }) ∷ [])
+pub step-none : (rows : StrangerRows) (others : Lines) (events : List EventAt) (line : ℕ) (e : Event) → AreStrangers rows others events → stranger_of e ≡ None →
+    AreStrangers rows others (events ++ (record { line = line; event = e }) ∷ [])
 step-none rows others events line e h none =
     let at : EventAt = record { line = line; event = e } in
     let told = told_in events in
     let same : told_in (events ++ at ∷ []) ≡ told = told-more [] events at ∙ rw none refl in
     let here : is_of_others told e ≡ false = rw none refl in
     record {
-      are_told = h.are_told ∙ sym (rows-kept told events at (λ p among. stranger-more p events at ∙ no-stranger p (stranger_tally p events) line e none)) ∙ ap (λ (l : List Origin). stranger_rows l (events ++ at ∷ [])) (sym same);
+      are_told = h.are_told ∙ sym (rows-kept told events at (λ p among. stranger-more p events at ∙ no-stranger p (stranger_tally p events) line e none)) ∙ ap
+          (λ (l : List Origin). stranger_rows l (events ++ at ∷ [])) (sym same);
       are_others = h.are_others ∙ sym (others-kept told events at here) ∙ ap (λ (l : List Origin). lines_in (lines_where (is_of_others l) (events ++ at ∷ []))) (sym same);
     }
 
@@ -407,7 +445,8 @@ row-at (p ∷ told) events zero o t h =
 row-at (p ∷ told) events (suc k) o t h = row-at told events k o t h
 
 -- an entry is its row
-pub at-row : (es : List (Stranger × StrangerTally)) (k : ℕ) (e : Stranger × StrangerTally) (o : Origin) (t : StrangerTally) → slice_get es k ≡ Some e → slice_get (rows_of_strangers es) k ≡ Some (o, t) → (key_origin e.0 ≡ o) × (e.1 ≡ t)
+pub at-row : (es : List (Stranger × StrangerTally)) (k : ℕ) (e : Stranger × StrangerTally) (o : Origin) (t : StrangerTally) → slice_get es k ≡ Some e →
+    slice_get (rows_of_strangers es) k ≡ Some (o, t) → (key_origin e.0 ≡ o) × (e.1 ≡ t)
 at-row [] k e o t h row = absurd (cc h)
 at-row (d ∷ es) zero e o t h row =
     let is : d ≡ e = cc h in
@@ -425,5 +464,6 @@ told-row (p ∷ told) events zero o h =
 told-row (p ∷ told) events (suc k) o h = told-row told events k o h
 
 -- the row of a stranger that is told
-pub row-of : (rows : StrangerRows) (others : Lines) (events : List EventAt) (k : ℕ) (o : Origin) → AreStrangers rows others events → slice_get (told_in events) k ≡ Some o → slice_get rows k ≡ Some (o, stranger_tally o events)
+pub row-of : (rows : StrangerRows) (others : Lines) (events : List EventAt) (k : ℕ) (o : Origin) → AreStrangers rows others events → slice_get (told_in events) k ≡ Some o →
+    slice_get rows k ≡ Some (o, stranger_tally o events)
 row-of rows others events k o h at = ap (λ (r : StrangerRows). slice_get r k) h.are_told ∙ told-row (told_in events) events k o at

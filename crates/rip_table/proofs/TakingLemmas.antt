@@ -49,7 +49,8 @@ refused n i s m es (NextHop p) is h = (refl, ap (joined_message n i s) is ∙ h)
 refused n i s m es TooManyPrefixes is h = (refl, ap (joined_message n i s) is ∙ h)
 
 -- a response without a bad entry that brings a pair may allocate
-pub allocating : (n : Network) (i : ℕ) (s : State) (m : Message) (es : List Entry) (new : State) → m ≡ response es → AreFaultless n i s es → brings_pair i s (response es) ≡ true → new ≡ s → Takes n i s m new (Err Memory)
+pub allocating : (n : Network) (i : ℕ) (s : State) (m : Message) (es : List Entry) (new : State) → m ≡ response es → AreFaultless n i s es → brings_pair i s (response es) ≡ true → new ≡ s →
+    Takes n i s m new (Err Memory)
 allocating n i s m es new is checked brings same = (
   same,
   record {

@@ -45,8 +45,10 @@ none-step i t line (request (Some j)) h = absurd h
 none-step i t line (bad code o None) h = other-made t
 none-step i t line (bad code o (Some j)) h = absurd h
 
-pub keeps-interfaces : (rows : List InterfaceTally) (events : List EventAt) (line : ℕ) (e : Event) → AreInterfaceTallies rows events → IsOfNone e → AreInterfaceTallies rows (events ++ (record { line = line; event = e }) ∷ [])
-keeps-interfaces rows events line e h none = record { at = λ i below. h.at i below ∙ ap (λ (t : InterfaceTally). Some t) (sym (tally_more i events (record { line = line; event = e }) ∙ none-step i (interface_tally i events) line e none)) }
+pub keeps-interfaces : (rows : List InterfaceTally) (events : List EventAt) (line : ℕ) (e : Event) → AreInterfaceTallies rows events → IsOfNone e →
+    AreInterfaceTallies rows (events ++ (record { line = line; event = e }) ∷ [])
+keeps-interfaces rows events line e h none =
+    record { at = λ i below. h.at i below ∙ ap (λ (t : InterfaceTally). Some t) (sym (tally_more i events (record { line = line; event = e }) ∙ none-step i (interface_tally i events) line e none)) }
 
 -- ---- what does not concern the lines of nobody
 
@@ -86,7 +88,10 @@ pub counted : (old new : Counts) (events : List EventAt) (line : ℕ) (e : Event
 counted old new events line e h is = is ∙ ap (λ (c : Counts). counts_with c e) h ∙ sym (counts-more events (at_line line e))
 
 -- what an interface sent
-pub tallied-sent : (counts : Counts) (rows : List InterfaceTally) (strangers : StrangerRows) (others : Lines) (plain : List Lines) (requests : Lines) (events : List EventAt) (i line : ℕ) (origin : Option Origin) (sent : Sent) (t : InterfaceTally) → AreTallied counts rows strangers others plain requests events → t ≡ with_event i (interface_tally i events) (at_line line (sent_event i origin sent)) → AreTallied (counts_with counts (sent_event i origin sent)) (slice_set rows i t) strangers others plain requests (events ++ at_line line (sent_event i origin sent) ∷ [])
+pub tallied-sent : (counts : Counts) (rows : List InterfaceTally) (strangers : StrangerRows) (others : Lines) (plain : List Lines) (requests : Lines) (events : List EventAt) (i line : ℕ)
+    (origin : Option Origin) (sent : Sent) (t : InterfaceTally) → AreTallied counts rows strangers others plain requests events →
+    t ≡ with_event i (interface_tally i events) (at_line line (sent_event i origin sent)) →
+    AreTallied (counts_with counts (sent_event i origin sent)) (slice_set rows i t) strangers others plain requests (events ++ at_line line (sent_event i origin sent) ∷ [])
 tallied-sent counts rows strangers others plain requests events i line origin sent t h made = record {
   counted = ap (λ (c : Counts). counts_with c (sent_event i origin sent)) h.counted ∙ sym (counts-more events (at_line line (sent_event i origin sent)));
   of_interfaces = set-tallies rows events i line origin sent t h.of_interfaces made;
@@ -109,7 +114,9 @@ stranger-request o None = refl
 stranger-request o (Some c) = refl
 
 -- what a stranger sent
-pub tallied-stranger : (counts : Counts) (rows : List InterfaceTally) (strangers new : StrangerRows) (others new_others : Lines) (plain : List Lines) (requests : Lines) (events : List EventAt) (line : ℕ) (o : Origin) (code : Option LogCode) → AreTallied counts rows strangers others plain requests events → AreStrangers new new_others (events ++ stranger_line o line code ∷ []) → AreTallied (counts_with counts (stranger_event o code)) rows new new_others plain requests (events ++ stranger_line o line code ∷ [])
+pub tallied-stranger : (counts : Counts) (rows : List InterfaceTally) (strangers new : StrangerRows) (others new_others : Lines) (plain : List Lines) (requests : Lines) (events : List EventAt)
+    (line : ℕ) (o : Origin) (code : Option LogCode) → AreTallied counts rows strangers others plain requests events → AreStrangers new new_others (events ++ stranger_line o line code ∷ []) →
+    AreTallied (counts_with counts (stranger_event o code)) rows new new_others plain requests (events ++ stranger_line o line code ∷ [])
 tallied-stranger counts rows strangers new others new_others plain requests events line o code h after = record {
   counted = ap (λ (c : Counts). counts_with c (stranger_event o code)) h.counted ∙ sym (counts-more events (stranger_line o line code));
   of_interfaces = keeps-interfaces rows events line (stranger_event o code) h.of_interfaces (stranger-none o code);
@@ -120,7 +127,8 @@ tallied-stranger counts rows strangers new others new_others plain requests even
 }
 
 -- a request of nobody that is planned
-pub tallied-request : (counts : Counts) (rows : List InterfaceTally) (strangers : StrangerRows) (others : Lines) (plain : List Lines) (requests : Lines) (events : List EventAt) (line : ℕ) → AreTallied counts rows strangers others plain requests events → AreTallied counts rows strangers others plain (with_line requests line) (events ++ at_line line (request None) ∷ [])
+pub tallied-request : (counts : Counts) (rows : List InterfaceTally) (strangers : StrangerRows) (others : Lines) (plain : List Lines) (requests : Lines) (events : List EventAt) (line : ℕ) →
+    AreTallied counts rows strangers others plain requests events → AreTallied counts rows strangers others plain (with_line requests line) (events ++ at_line line (request None) ∷ [])
 tallied-request counts rows strangers others plain requests events line h = record {
   counted = h.counted ∙ sym (counts-more events (at_line line (request None)));
   of_interfaces = keeps-interfaces rows events line (request None) h.of_interfaces tt;
@@ -131,13 +139,17 @@ tallied-request counts rows strangers others plain requests events line h = reco
 }
 
 -- a line that is bad and of nobody
-pub tallied-plain : (counts : Counts) (rows : List InterfaceTally) (strangers : StrangerRows) (others : Lines) (plain new : List Lines) (requests : Lines) (events : List EventAt) (line : ℕ) (code : LogCode) → AreTallied counts rows strangers others plain requests events → length new ≡ length plain → ((k : ℕ) (l : Lines) → slice_get new k ≡ Some l → (was : Lines) × (slice_get plain k ≡ Some was) × (l ≡ if_line (is_plain_bad k (bad code None None)) was line)) → AreTallied (counts_with counts (bad code None None)) rows strangers others new requests (events ++ at_line line (bad code None None) ∷ [])
+pub tallied-plain : (counts : Counts) (rows : List InterfaceTally) (strangers : StrangerRows) (others : Lines) (plain new : List Lines) (requests : Lines) (events : List EventAt) (line : ℕ)
+    (code : LogCode) → AreTallied counts rows strangers others plain requests events → length new ≡ length plain →
+    ((k : ℕ) (l : Lines) → slice_get new k ≡ Some l → (was : Lines) × (slice_get plain k ≡ Some was) × (l ≡ if_line (is_plain_bad k (bad code None None)) was line)) →
+    AreTallied (counts_with counts (bad code None None)) rows strangers others new requests (events ++ at_line line (bad code None None) ∷ [])
 tallied-plain counts rows strangers others plain new requests events line code h size added = record {
   counted = ap (λ (c : Counts). counts_with c (bad code None None)) h.counted ∙ sym (counts-more events (at_line line (bad code None None)));
   of_interfaces = keeps-interfaces rows events line (bad code None None) h.of_interfaces tt;
   of_strangers = step-none strangers others events line (bad code None None) h.of_strangers refl;
   codes = size ∙ h.codes;
-  of_lines = λ k l at. let was = added k l at in was.2 ∙ ap (λ (x : Lines). if_line (is_plain_bad k (bad code None None)) x line) (h.of_lines k was.0 was.1) ∙ sym (kind-more (is_plain_bad k) events (at_line line (bad code None None)));
+  of_lines = λ k l at. let was = added k l at in was.2 ∙ ap (λ (x : Lines). if_line (is_plain_bad k (bad code None None)) x line) (h.of_lines k was.0 was.1) ∙ sym
+      (kind-more (is_plain_bad k) events (at_line line (bad code None None)));
   of_requests = h.of_requests ∙ sym (keeps-kind is_other_request events (at_line line (bad code None None)) refl);
 }
 

@@ -30,7 +30,8 @@ pub lines-more : (numbers : List ℕ) (n : ℕ) → lines_in (numbers ++ n ∷ [
 lines-more [] n = refl
 lines-more (m ∷ numbers) n = rw (length-more n (m ∷ numbers), last-more m n numbers, eqb-suc-zero (length numbers)) refl
 
-where-step : (b c : Bool) (x n : ℕ) (l : List ℕ) → (if b then x ∷ (if c then l ++ n ∷ [] else l) else (if c then l ++ n ∷ [] else l)) ≡ (if c then (if b then x ∷ l else l) ++ n ∷ [] else (if b then x ∷ l else l))
+where-step : (b c : Bool) (x n : ℕ) (l : List ℕ) →
+    (if b then x ∷ (if c then l ++ n ∷ [] else l) else (if c then l ++ n ∷ [] else l)) ≡ (if c then (if b then x ∷ l else l) ++ n ∷ [] else (if b then x ∷ l else l))
 where-step true true x n l = refl
 where-step true false x n l = refl
 where-step false true x n l = refl
@@ -104,7 +105,8 @@ apart i (stranger o) = refl
 apart i (request o) = refl
 apart i (bad code o p) = refl
 
-runs-more : (was j r : Bool) (outcomes : List Bool) → (j && r) ≡ false → runs_in was (outcomes ++ outcome j r) ≡ (if r && last_outcome was outcomes then runs_in was outcomes + 1 else runs_in was outcomes)
+runs-more : (was j r : Bool) (outcomes : List Bool) → (j && r) ≡ false →
+    runs_in was (outcomes ++ outcome j r) ≡ (if r && last_outcome was outcomes then runs_in was outcomes + 1 else runs_in was outcomes)
 runs-more was true true [] h = absurd (cc h)
 runs-more was true false [] h = refl
 runs-more true false true [] h = refl
@@ -123,7 +125,19 @@ runs-more false j r (false ∷ outcomes) h = runs-more false j r outcomes h
 -- what an interface sent, with one event more
 pub tally_more : (i : ℕ) (events : List EventAt) (e : EventAt) → interface_tally i (events ++ e ∷ []) ≡ with_event i (interface_tally i events) e
 tally_more i events e =
-    rw (kind-more (is_joined i) events e, kind-more (is_refused i) events e, outcomes-more i events e, runs-more true (is_joined i e.event) (is_refused i e.event) (outcomes_of i events) (apart i e.event), first-more (refusal_of i) events e, kind-more (is_bad i) events e, first-more (code_of i) events e, kind-more (is_asked i) events e, order-more true (is_joined i e.event) (is_refused i e.event) (outcomes_of i events)) refl
+    rw (
+      kind-more (is_joined i) events e,
+      kind-more (is_refused i) events e,
+      outcomes-more i events e,
+      runs-more true (is_joined i e.event) (is_refused i e.event) (outcomes_of i events)
+          (apart i e.event),
+      first-more (refusal_of i) events e,
+      kind-more (is_bad i) events e,
+      first-more (code_of i) events e,
+      kind-more (is_asked i) events e,
+      order-more true (is_joined i e.event)
+          (is_refused i e.event) (outcomes_of i events),
+    ) refl
 
 -- ---- how large the numbers are
 
@@ -197,15 +211,23 @@ get-other (y ∷ l) (suc i) zero x h = refl
 get-other (y ∷ l) (suc i) (suc j) x h = get-other l i j x (λ e. h (ap suc e))
 
 -- the tallies with one event of an interface more
-pub set-tallies : (rows : List InterfaceTally) (events : List EventAt) (j line : ℕ) (origin : Option Origin) (sent : Sent) (t : InterfaceTally) → AreInterfaceTallies rows events → t ≡ with_event j (interface_tally j events) (record { line = line; event = sent_event j origin sent }) → AreInterfaceTallies (slice_set rows j t) (events ++ (record { line = line; event = sent_event j origin sent }) ∷ [])
+pub set-tallies : (rows : List InterfaceTally) (events : List EventAt) (j line : ℕ) (origin : Option Origin) (sent : Sent) (t : InterfaceTally) → AreInterfaceTallies rows events →
+    t ≡ with_event j (interface_tally j events) (record { line = line; event = sent_event j origin sent }) →
+    AreInterfaceTallies (slice_set rows j t) (events ++ (record { line = line; event = sent_event j origin sent }) ∷ [])
 set-tallies rows events j line origin sent t h made = record { at = λ i below. at-one i (omega (arith, below, length-set rows j t)) (i == j) refl }
   where
-    at-one : (i : ℕ) → i < length rows → (b : Bool) → (i == j) ≡ b → slice_get (slice_set rows j t) i ≡ Some (interface_tally i (events ++ (record { line = line; event = sent_event j origin sent }) ∷ []))
+    at-one : (i : ℕ) → i < length rows → (b : Bool) → (i == j) ≡ b →
+        slice_get (slice_set rows j t) i ≡ Some (interface_tally i (events ++ (record { line = line; event = sent_event j origin sent }) ∷ []))
     at-one i below true same =
         let is : i ≡ j = eqb-true i j same in
         rw (is, tally_more j events (record { line = line; event = sent_event j origin sent }), sym made) (get-same rows j t (omega (arith, is, below)))
     at-one i below false other =
-        rw (tally_more i events (record { line = line; event = sent_event j origin sent }), other-step i j origin sent (interface_tally i events) line other, get-other rows i j t (eqb-false i j other)) (h.at i below)
+        rw (
+          tally_more i events (record { line = line; event = sent_event j origin sent }),
+          other-step i j origin sent (interface_tally i events) line other,
+          get-other rows i j t
+              (eqb-false i j other),
+        ) (h.at i below)
 
 -- ---- where a listener may allocate
 

@@ -29,7 +29,8 @@ origin_of_sender s = record { link = s.link.now; sender = s.address }
 abbrev pub event_told : Network → EventTold → Event
 event_told n (told.Joined i) = joined i
 event_told n (told.Refused r) =
-    refused r.interface r.error (hop_of n r.interface r.error (entries_of (message_of r.datagram.now)))
+    refused r.interface r.error
+    (hop_of n r.interface r.error (entries_of (message_of r.datagram.now)))
 event_told n (told.Stranger s) = stranger (origin_of_sender s)
 event_told n (told.Request of) = request of
 event_told n (told.Bad b) = bad b.code (option_map origin_of_sender b.origin) b.interface
@@ -56,9 +57,9 @@ abbrev pub SaidMayAllocate : Network → State → Said → Type 0
 SaidMayAllocate n s (captured c) = MayAllocateFor n s c
 SaidMayAllocate n s (bad_line code o) = ⊥
 
--- memory was refused at a line that says this: to the table, which is as it was, and nothing is told of
--- the line; or to the listener, which may allocate at such an event, and the table is what the line makes
--- of it
+-- memory was refused at a line that says this: to the table, which is as it was, and nothing is
+-- told of the line; or to the listener, which may allocate at such an event, and the table is what
+-- the line makes of it
 abbrev pub IsRefusedMemory : (Event → Type 0) → Network → State → Said → State → Type 0 → Type 0
 IsRefusedMemory may n old said new untold =
     ((new ≡ old) × SaidMayAllocate n old said × untold)
@@ -104,8 +105,8 @@ SaidOutcome n old (Some all) new was then (Ok u) =
     × HoldsMore was then (events ++ last_event all.too_many)
 SaidOutcome n old all new was then result = Unit {0}
 
--- the line after those behind could not be read, of a text that others come before: the lines before
--- it were told; the source failed, or the line has no end
+-- the line after those behind could not be read, of a text that others come before: the lines
+-- before it were told; the source failed, or the line has no end
 pub record UnreadAt (n : Network) (old : State) (text : List ℕ) (others behind : ℕ) (failed : Bool)
     (new : State) (was then : List EventAt → Type 0) : Type 0 where
   pub passed : List (List ℕ)
@@ -133,12 +134,14 @@ pub record StuckAt (may : Event → Type 0) (n : Network) (old : State) (all : A
   pub told : Told n old all mid events (onto_said (record { line = line; said = said }) left)
   pub allocates : IsRefusedMemory may n mid said new (HoldsMore was then events)
 
--- the same where bytes are modelled; or memory was refused at the line too many, at which the reader stops
+-- the same where bytes are modelled; or memory was refused at the line too many, at which the
+-- reader stops
 abbrev pub StuckAtKnown : (Event → Type 0) → Network → State → Option AllSaid → State
     → (List EventAt → Type 0) → (List EventAt → Type 0) → ℕ → Option AllSaid → Bool → Type 0
 StuckAtKnown may n old None new was then line left stopped = Unit {0}
 StuckAtKnown may n old (Some all) new was then line left true =
-    (all.too_many ≡ true) × (new ≡ state_after n old all.said) × may (bad codes.TooManyLines None None)
+    (all.too_many ≡ true) × (new ≡ state_after n old all.said)
+    × may (bad codes.TooManyLines None None)
 StuckAtKnown may n old (Some all) new was then line None false = ⊥
 StuckAtKnown may n old (Some all) new was then line (Some left) false =
     StuckAt may n old all new was then line left
@@ -170,8 +173,8 @@ pub record CollectsAll {R : Type 0} (given : R → List ℕ) (coming : R → Opt
       ToldOutcome n old (said_to_come coming before) new was then result)
   pub said : has_stopped before ≡ false → OfWhole given at_end (source_of after) (λ coming.
       SaidOutcome n old (said_to_come coming before) new was then result)
-  -- the reader's error is Read, and comes only where the source failed while a line was read, or that
-  -- line has no end
+  -- the reader's error is Read, and comes only where the source failed while a line was read, or
+  -- that line has no end
   pub read : has_stopped before ≡ false → IsLogError result (λ e. (e.code ≡ codes.Read)
       × OfWhole given at_end (source_of after) (λ coming.
       UnreadAtKnown n old (text coming before) (lines_behind before) (lines_behind after)
@@ -179,7 +182,8 @@ pub record CollectsAll {R : Type 0} (given : R → List ℕ) (coming : R → Opt
   -- it is at the line after those behind the reader, which has stopped
   pub here : IsLogError result (λ e.
       (e.line ≡ lines_behind after + 1) × (has_stopped after ≡ true))
-  -- Memory only at a line that was read, or at the line too many, where table or listener may allocate
+  -- Memory only at a line that was read, or at the line too many, where table or listener may
+  -- allocate
   pub allocates : result ≡ Err Memory → OfWhole given at_end (source_of after) (λ coming.
       StuckAtKnown may n old (said_to_come coming before) new was then (lines_behind after)
       (said_to_come coming after) (has_stopped after))

@@ -19,8 +19,8 @@ use Rattle.rip_table.specs.LogJoin.{HasBadEntry, IsJoined, IsResponse, IsUnknown
 use Rattle.rip_table.specs.declared.error.TableError.{TableError}
 use Rattle.rip_table.specs.declared.error.TableError.TheVariants.{NextHop}
 
--- what became of a response, a request or a bad line: a response is joined, or the table refuses it,
--- or nobody planned sent it
+-- what became of a response, a request or a bad line: a response is joined, or the table refuses
+-- it, or nobody planned sent it
 pub data Event : Type 0 where
   -- the interface
   joined : ℕ → Event
@@ -114,7 +114,8 @@ AreCalm events = AllByRecursion (λ e. IsCalm e.event) events
 
 -- ---- what is computed
 
--- the next hop of the first of these entries that is of the prefix, below 16 and by another next hop
+-- the next hop of the first of these entries that is of the prefix, below 16 and by another next
+-- hop
 abbrev pub hop_among : Network → ℕ → Block → List Entry → Option ℕ
 hop_among n i p [] = None
 hop_among n i p (e ∷ es) =
@@ -149,7 +150,8 @@ interface_at n (Some o) = found_at n o.link o.sender
 
 -- what a line that says this comes to
 abbrev pub came : Network → State → Said → Outcome
-came n s (captured c) = came_from n s (origin_of_capture c) (message_of_capture c) (interface_of n c)
+came n s (captured c) =
+    came_from n s (origin_of_capture c) (message_of_capture c) (interface_of n c)
 came n s (bad_line code o) = record { event = bad code o (interface_at n o); state = s }
 
 -- what lines come to, in order

@@ -20,7 +20,8 @@ abbrev pub one_router : Network
 one_router = record {
   links = codes "a" ∷ [];
   routers = codes "r1" ∷ [];
-  interfaces = (record { router = 0; link = 0; address = sender; cost = 1; direct = 1; poison = true }) ∷ [];
+  interfaces =
+      (record { router = 0; link = 0; address = sender; cost = 1; direct = 1; poison = true }) ∷ [];
   also = [] ∷ [];
   prefixes = [];
   places = [];

@@ -113,9 +113,9 @@ abbrev pub KnowsGateway : Network → ℕ → Block → ℕ → Type 0
 KnowsGateway n i p a =
     (r l c k : ℕ) × IsInterface n i r l c × IsPrefix n k p × IsGateway n r k a
 
--- an entry of interface i is a route below 16 by a next hop that is neither 0.0.0.0, which stands for
--- the sender (RFC 2453, 4.4), nor an address of the interface, nor a gateway of its router for the
--- prefix
+-- an entry of interface i is a route below 16 by a next hop that is neither 0.0.0.0, which stands
+-- for the sender (RFC 2453, 4.4), nor an address of the interface, nor a gateway of its router for
+-- the prefix
 pub record IsElsewhere (n : Network) (i : ℕ) (e : Entry) : Type 0 where
   pub reachable : e.metric < 16
   pub unspecified : e.next_hop ≢ 0

@@ -79,7 +79,8 @@ AreRowNumbers rows entries row_numbers =
 -- what the entries of interface i show was written, whose join is a table
 abbrev pub AreWritten : ℕ → List Entry → Rows → Rows → Type 0
 AreWritten i entries old new =
-    (heard : List Bool) (n : Network) (t : State) → i < length heard → IsState (grid_state heard old)
+    (heard : List Bool) (n : Network) (t : State) → i < length heard →
+    IsState (grid_state heard old)
     → joined_entries n i (grid_state heard old) entries ≡ Ok t → grid_state heard new ≡ t
 
 -- the entries of a response of interface i can be written to rows of so many cells, by these

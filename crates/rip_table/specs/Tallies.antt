@@ -150,7 +150,8 @@ pub record IsAtMost (n : ℕ) (t : InterfaceTally) : Type 0 where
   pub requests : t.requests.count ≤ n
 
 -- each interface has its tally
-pub record AreInterfaceTallies (tallies : List InterfaceTally) (events : List EventAt) : Type 0 where
+pub record AreInterfaceTallies (tallies : List InterfaceTally) (events : List EventAt)
+    : Type 0 where
   pub at : (i : ℕ) → i < length tallies → slice_get tallies i ≡ Some (interface_tally i events)
 
 -- ---- of strangers
@@ -261,7 +262,8 @@ abbrev pub new_row : Origin → ℕ → Option LogCode → Origin × StrangerTal
 new_row o line code = (o, stranger_tally o (stranger_line o line code ∷ []))
 
 -- the strangers that are told, and the lines of the others
-pub record AreStrangers (rows : StrangerRows) (others : Lines) (events : List EventAt) : Type 0 where
+pub record AreStrangers (rows : StrangerRows) (others : Lines) (events : List EventAt)
+    : Type 0 where
   pub are_told : rows ≡ stranger_rows (told_after [] events) events
   pub are_others : others ≡ lines_in (lines_where (is_of_others (told_after [] events)) events)
 

@@ -20,8 +20,8 @@ pub enum TableError {
         /// The metric of the entry.
         new: Metric,
     },
-    /// The metric is below 16, and the next hop is neither 0.0.0.0, nor an address of the sender, nor a
-    /// gateway that the plan gives its router for the prefix.
+    /// The metric is below 16, and the next hop is neither 0.0.0.0, nor an address of the sender,
+    /// nor a gateway that the plan gives its router for the prefix.
     #[error("next hop of prefix {prefix:?}")]
     NextHop {
         /// The prefix of the entry.

@@ -61,8 +61,8 @@ pub enum Event<'a> {
 }
 
 impl Refused<'_> {
-    /// For `NextHop`, the next hop of the first entry of its prefix whose metric is below 16 and whose
-    /// next hop the interface may not tell; the response is searched for it again.
+    /// For `NextHop`, the next hop of the first entry of its prefix whose metric is below 16 and
+    /// whose next hop the interface may not tell; the response is searched for it again.
     pub fn next_hop(&self, plan: &Plan) -> Option<Address>
         requires { self.now.interface < length plan.now.interfaces }
         ensures { result ≡ hop_of plan.now self.now.interface self.now.error

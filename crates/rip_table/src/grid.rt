@@ -23,8 +23,9 @@ use rip_wire::{Datagram, Entry, Kind, MOST_ENTRIES, Metric, Prefix};
 use std::alloc::Global;
 use std::hash::BuildHasher;
 
-/// A table in a hashed map, from each prefix to a row with a byte for each interface. The rooms are for
-/// the entries of one response, and are kept: to clear them for each would cost more than an entry does.
+/// A table in a hashed map, from each prefix to a row with a byte for each interface. The rooms are
+/// for the entries of one response, and are kept: to clear them for each would cost more than an
+/// entry does.
 #[derive(Drop)]
 pub struct GridTable<S: BuildHasher> {
     alloc: Global,
@@ -118,8 +119,8 @@ impl<S: BuildHasher> MetricTable for GridTable<S> {
 impl<S: BuildHasher + Drop> GridTable<S> {
     ghost use Rattle.rip_table.specs.declared.error.TableError.TheVariants.{Memory};
 
-    /// The table of a plan in which nothing was heard. It finds prefixes by hashing with `hasher`; the
-    /// log chooses them, so a program hands in one that is seeded at random.
+    /// The table of a plan in which nothing was heard. It finds prefixes by hashing with `hasher`;
+    /// the log chooses them, so a program hands in one that is seeded at random.
     pub fn with_hasher(alloc: Global, plan: &Plan, hasher: S) -> Result<GridTable<S>, TableError>
         ensures state { IfOk result (λ table.
             ⟦<GridTable<S> as MetricTable>⟧.state table ≡ new_state plan.now) }

@@ -1,6 +1,7 @@
-//! Guesses at numbers: in the slot of a key is the number that was found last for a key of that slot. The
-//! keys of a log are few and come again and again, so it is likely the number of the key, and whoever uses
-//! it has to test it. The slots are an array where nothing may be allocated, and a `Vec` in what is moved.
+//! Guesses at numbers: in the slot of a key is the number that was found last for a key of that
+//! slot. The keys of a log are few and come again and again, so it is likely the number of the key,
+//! and whoever uses it has to test it. The slots are an array where nothing may be allocated, and a
+//! `Vec` in what is moved.
 
 ghost use Rattle.std.specs.Prelude.{◌≡◌, ◌≢◌, ◌<◌, ◌^◌, ℕ, length};
 ghost use Rattle.rip_table.specs.Guesses.{kept_number, slot};
@@ -8,8 +9,8 @@ ghost use Rattle.rip_table.specs.Guesses.{kept_number, slot};
 /// How many slots there are, 2^12: more than a plan has interfaces or a table prefixes.
 pub(crate) const SLOTS: usize = 4_096;
 
-/// 2^32 over the golden ratio. Multiplied by it, keys at equal distances, as networks and addresses are,
-/// spread over all slots (Fibonacci hashing).
+/// 2^32 over the golden ratio. Multiplied by it, keys at equal distances, as networks and addresses
+/// are, spread over all slots (Fibonacci hashing).
 const MULTIPLIER: u32 = 2_654_435_769;
 
 /// The slot of a key: the top 12 bits of a product.

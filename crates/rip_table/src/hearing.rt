@@ -19,8 +19,8 @@ use rip_log::{BadLine, Line, LogCode, LogReader, Record, Source};
 use rip_plan::Plan;
 use rip_wire::Kind;
 
-/// Joins a record into a table if it is a response of an interface that is not refused, and tells what
-/// became of it.
+/// Joins a record into a table if it is a response of an interface that is not refused, and tells
+/// what became of it.
 fn hear_record<T: MetricTable, L: Listener>(
     plan: &Plan,
     recent: &mut Recent,
@@ -140,16 +140,18 @@ fn hear_last<L: Listener>(plan: &Plan, listener: &mut L, line: u32) -> Result<()
     Ok(())
 }
 
-/// Joins all responses to come of a log that are not refused into a table that fits the plan, in order,
-/// each judged against the table of those before it, and tells a listener what became of each line that
-/// is neither blank nor a comment. Line 1,000,001 is the last that is told, as bad, and ends the reading.
+/// Joins all responses to come of a log that are not refused into a table that fits the plan, in
+/// order, each judged against the table of those before it, and tells a listener what became of
+/// each line that is neither blank nor a comment. Line 1,000,001 is the last that is told, as bad,
+/// and ends the reading.
 ///
-/// The error `Log` is Read where the source failed while a line was read, or that line has more than
-/// `u64::MAX` bytes; table and listener then have what the lines before it came to. It is Ended where the
-/// reader had stopped before, and then they are as they were. `Memory` comes at a line that was read,
-/// where it was refused to the table, for a response that brings a pair of interface and prefix, or to the
-/// listener, at an event at which it may allocate. The table then has what the lines before it came to,
-/// and where it was the listener, what this line comes to as well; what such a listener holds is not known.
+/// The error `Log` is Read where the source failed while a line was read, or that line has more
+/// than `u64::MAX` bytes; table and listener then have what the lines before it came to. It is
+/// Ended where the reader had stopped before, and then they are as they were. `Memory` comes at a
+/// line that was read, where it was refused to the table, for a response that brings a pair of
+/// interface and prefix, or to the listener, at an event at which it may allocate. The table then
+/// has what the lines before it came to, and where it was the listener, what this line comes to as
+/// well; what such a listener holds is not known.
 pub fn collect_all<R: Source, T: MetricTable, L: Listener>(
     plan: &Plan,
     reader: &mut LogReader<R>,

@@ -35,9 +35,10 @@ fn join<T: MetricTable>(
     }
 }
 
-/// Joins the records to come of a log into a table that fits the plan. The error is that of the first
-/// line that is refused; the table then holds what the lines before it gave. Memory comes only at a
-/// response that brings a pair of interface and prefix; the reader then stands behind its line.
+/// Joins the records to come of a log into a table that fits the plan. The error is that of the
+/// first line that is refused; the table then holds what the lines before it gave. Memory comes
+/// only at a response that brings a pair of interface and prefix; the reader then stands behind its
+/// line.
 pub fn collect<R: Source, T: MetricTable>(
     plan: &Plan,
     reader: &mut LogReader<R>,

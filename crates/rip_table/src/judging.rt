@@ -65,8 +65,8 @@ fn earlier(entries: &[Entry], prefix: Prefix) -> Option<Metric>
     None
 }
 
-/// The metric that is known of an entry's prefix: what its interface showed, if anything, or else what
-/// an earlier entry gives, searched for only where one may have the prefix.
+/// The metric that is known of an entry's prefix: what its interface showed, if anything, or else
+/// what an earlier entry gives, searched for only where one may have the prefix.
 fn known(shown: Option<Metric>, may_repeat: bool, entries: &[Entry], j: usize) -> Option<Metric>
     requires within { j < length entries.now }
     requires new { may_repeat ≡ false → (e : Entry) → slice_get entries.now j ≡ Some e →
@@ -109,8 +109,9 @@ fn is_gateway(plan: &Plan, router: usize, prefix: Prefix, hop: Address) -> bool
     }
 }
 
-/// Whether a next hop for a prefix is neither an address of the interface that sends it, nor a gateway
-/// of its router for the prefix. Most entries have 0.0.0.0, so this stays out of the loop over them.
+/// Whether a next hop for a prefix is neither an address of the interface that sends it, nor a
+/// gateway of its router for the prefix. Most entries have 0.0.0.0, so this stays out of the loop
+/// over them.
 #[inline(never)]
 fn is_unknown_hop(plan: &Plan, interface: usize, prefix: Prefix, hop: Address) -> bool
     requires { interface < length plan.now.interfaces }
@@ -131,8 +132,8 @@ pub(crate) fn is_elsewhere(plan: &Plan, interface: usize, entry: &Entry) -> bool
     hop.get() != 0 && entry.metric.get() < 16 && is_unknown_hop(plan, interface, entry.prefix, hop)
 }
 
-/// Judges an entry that an interface sends. Its prefix had this metric or none, and with it there are so
-/// many prefixes.
+/// Judges an entry that an interface sends. Its prefix had this metric or none, and with it there
+/// are so many prefixes.
 fn judge(
     plan: &Plan,
     interface: usize,

@@ -61,15 +61,15 @@ pub fn joined_responses()
         (joined_entries n i old front ≡ Ok new) ↔ AreJoined n i old front new }
 {}
 
-/// A log joined into a table gives one table: two joins of the same log into the same table are equal,
-/// the order of prefixes included.
+/// A log joined into a table gives one table: two joins of the same log into the same table are
+/// equal, the order of prefixes included.
 pub fn one_join()
     ensures { (n : Network) (old s t : State) (log : List Numbered) →
         IsState s → IsState t → IsJoin n old log s → IsJoin n old log t → s ≡ t }
 {}
 
-/// A log is refused exactly by its first record that is refused, and its line is that record's; else
-/// by the log's own fault.
+/// A log is refused exactly by its first record that is refused, and its line is that record's;
+/// else by the log's own fault.
 pub fn refused_logs()
     ensures records { (n : Network) (old : State) (log : List Numbered) (cause : CollectCause) →
         IsLawful n → IsState old → Fits n old →
@@ -83,8 +83,8 @@ pub fn refused_logs()
     rip_plan::laws::senders();
 }
 
-/// What lines come to is what the words say: each comes to one event, by the table that those before it
-/// leave.
+/// What lines come to is what the words say: each comes to one event, by the table that those
+/// before it leave.
 pub fn lines_come_to()
     ensures { (n : Network) (old new : State) (said : List SaidAt) (events : List EventAt) →
         IsLawful n → IsState old → Fits n old →
@@ -95,8 +95,8 @@ pub fn lines_come_to()
     rip_plan::laws::senders();
 }
 
-/// Nothing is refused, a stranger's or bad exactly where the log is accepted, and the table is then the
-/// one that the log makes.
+/// Nothing is refused, a stranger's or bad exactly where the log is accepted, and the table is then
+/// the one that the log makes.
 pub fn calm_logs()
     ensures { (n : Network) (old new : State) (k : ℕ) (text : List ℕ) (log : Log) (all : AllSaid) →
         IsLawful n → IsState old → Fits n old →
@@ -115,8 +115,9 @@ pub fn calm_counts()
         × ((counts_of events).bad ≡ 0)) }
 {}
 
-/// A log is refused by the first event of its lines that refuses, and the table is then the one that
-/// the lines before it leave. So the reading that ends there and the one that goes on agree up to it.
+/// A log is refused by the first event of its lines that refuses, and the table is then the one
+/// that the lines before it leave. So the reading that ends there and the one that goes on agree up
+/// to it.
 pub fn first_refusals()
     ensures { (n : Network) (old : State) (k : ℕ) (text : List ℕ) (log : Log) (all : AllSaid) →
         k ≤ MOST_LINES → log_at k (Some text) ≡ Some log → said_at k (Some text) ≡ Some all →
@@ -135,8 +136,8 @@ pub fn refused_responses()
     rip_plan::laws::senders();
 }
 
-/// A response brings a pair of interface and prefix, for which a table may allocate, exactly where an
-/// entry is of a prefix that its interface did not show.
+/// A response brings a pair of interface and prefix, for which a table may allocate, exactly where
+/// an entry is of a prefix that its interface did not show.
 pub fn new_pairs()
     ensures { (i : ℕ) (s : State) (entries : List Entry) →
         (brings_pair i s (response entries) ≡ true)
@@ -170,8 +171,8 @@ pub fn new_prefixes()
     laws::response_fields();
 }
 
-/// A response with one entry that gives a prefix another metric than the one before is refused on its
-/// line, whatever follows.
+/// A response with one entry that gives a prefix another metric than the one before is refused on
+/// its line, whatever follows.
 pub fn changed_metrics()
     ensures { (n : Network) (old s : State) (first second : Numbered) (log : Log)
         (rest : List Numbered) (i : ℕ) (e f : Entry) →

@@ -6,8 +6,8 @@ ghost use Rattle.rip_table.specs.Numbers.{flag_of};
 /// How many flags there are: few enough to clear them for each response.
 const FLAGS: usize = 128;
 
-/// A Bloom filter with one hash: each number that is noted raises the flag of its remainder. A number whose
-/// flag is down was not noted; one whose flag is up may be another.
+/// A Bloom filter with one hash: each number that is noted raises the flag of its remainder. A
+/// number whose flag is down was not noted; one whose flag is up may be another.
 #[derive(Drop)]
 pub(crate) struct Noted {
     flags: [bool; FLAGS],
@@ -23,7 +23,8 @@ impl Noted {
         }
     }
 
-    /// Notes the number of a prefix, if it has one, and answers whether it may have been noted before.
+    /// Notes the number of a prefix, if it has one, and answers whether it may have been noted
+    /// before.
     pub(crate) fn note(&mut self, number: Option<usize>) -> bool
         ensures fresh { (k : ℕ) → number ≡ Some k → result ≡ flag_of self.old.flags k }
         ensures unnumbered { number ≡ None → (result ≡ true) × (self.new ≡ self.old) }

@@ -10,8 +10,8 @@ use rip_plan::Plan;
 use rip_plan::laws::senders;
 use rip_wire::Address;
 
-/// The interfaces that were found last. A sender is first compared with the interface in the slot of its
-/// address, and looked up in the plan only where that is not its own.
+/// The interfaces that were found last. A sender is first compared with the interface in the slot
+/// of its address, and looked up in the plan only where that is not its own.
 #[derive(Drop)]
 pub(crate) struct Recent {
     slots: [u16; SLOTS],

@@ -12,8 +12,8 @@ use rip_wire::{Datagram, Metric, Prefix};
 use std::alloc::{AllocError, Global};
 
 /// What the interfaces of a plan showed: for each interface and prefix a metric or nothing, and
-/// which interfaces were heard. Prefixes are those of the plan, and then others in the order in which
-/// they came.
+/// which interfaces were heard. Prefixes are those of the plan, and then others in the order in
+/// which they came.
 pub trait MetricTable {
     // What it means.
     ghost state: { Self → State };
@@ -46,9 +46,9 @@ pub trait MetricTable {
         requires { interface < (state self.now).interfaces }
         ensures { result ≡ (state self.now).heard interface };
 
-    /// Takes in a datagram of an interface. A request changes nothing. A response adds the metric of
-    /// each entry, or is refused by its first bad entry, and then changes nothing; Memory comes only
-    /// for one without a bad entry that brings a pair of interface and prefix.
+    /// Takes in a datagram of an interface. A request changes nothing. A response adds the metric
+    /// of each entry, or is refused by its first bad entry, and then changes nothing; Memory comes
+    /// only for one without a bad entry that brings a pair of interface and prefix.
     fn take(
         &mut self,
         plan: &Plan,

@@ -72,8 +72,8 @@ fn add_plain(plain: &mut [Lines; PLAIN_CODES], line: u32, code: LogCode)
 }
 
 impl<S: BuildHasher + Drop> Tallies<S> {
-    /// Before any line. It finds strangers by hashing with `hasher`; since they choose their names, a
-    /// program hands in one that is seeded at random.
+    /// Before any line. It finds strangers by hashing with `hasher`; since they choose their names,
+    /// a program hands in one that is seeded at random.
     pub fn with_hasher(alloc: Global, plan: &Plan, hasher: S) -> Result<Tallies<S>, AllocError>
         ensures heard { IfOk result (λ t. HasHeard t []) }
         ensures interfaces { IfOk result (λ t.
@@ -117,8 +117,8 @@ impl<S: BuildHasher + Drop> Tallies<S> {
         self.interfaces[interface].refuse_again(line);
     }
 
-    /// What a stranger sent, on a line after others: a response, or a line that is bad by this code.
-    /// Where memory fails nothing is added.
+    /// What a stranger sent, on a line after others: a response, or a line that is bad by this
+    /// code. Where memory fails nothing is added.
     pub(crate) fn add_stranger(
         &mut self,
         link: &str,
@@ -241,7 +241,8 @@ impl<S: BuildHasher + Drop> Tallies<S> {
 }
 
 impl<S: BuildHasher + Drop> Tallies<S> {
-    /// Hears of a response that was refused. Only of the first of its interface the next hop is sought.
+    /// Hears of a response that was refused. Only of the first of its interface the next hop is
+    /// sought.
     fn hear_refused(&mut self, plan: &Plan, line: u32, refused: &Refused<'_>)
         requires interface { refused.now.interface < length plan.now.interfaces }
         requires suits { interfaces_of self.old ≡ length plan.now.interfaces }

@@ -27,7 +27,8 @@ read_exact b h = cases (message_in b) h
 clash : {P : Type 0} (b : List ℕ) (m : Message) (e : WireError) → message_in b ≡ Ok m → message_in b ≡ Err e → P
 clash b m e h g = let both : ◌≡◌ {A = Result Message WireError} (Ok m) (Err e) = sym h ∙ g in absurd (cc)
 
-pub read_response : (b : List ℕ) (es : List Entry) → IsBytes b → is_ok (message_in b) ≡ true → (message_or_request (message_in b) ≡ response es → ResponseBytes es b) × (ResponseBytes es b → message_or_request (message_in b) ≡ response es)
+pub read_response : (b : List ℕ) (es : List Entry) → IsBytes b → is_ok (message_in b) ≡ true →
+    (message_or_request (message_in b) ≡ response es → ResponseBytes es b) × (ResponseBytes es b → message_or_request (message_in b) ≡ response es)
 read_response b es bytes h =
     (λ is. response_bytes b es bytes (read_exact b h ∙ ap Ok is), λ spelled. ap message_or_request (response_again b es spelled))
 
@@ -44,7 +45,9 @@ pub refused_request : (b : List ℕ) (e : WireError) → message_in b ≡ Err e 
 refused_request b e h spelled = clash b request e (request_again b spelled) h
 
 -- the error that is answered is the fault
-pub refused_fault : {X : Type 0} (b : List ℕ) (e : WireError) (code : WireCode) (at : ℕ) → message_in b ≡ Err e → (◌≡◌ {A = Result X WireError} (Err e) (Err (record { code = code; at = at })) → WireFault b code at) × (WireFault b code at → ◌≡◌ {A = Result X WireError} (Err e) (Err (record { code = code; at = at })))
+pub refused_fault : {X : Type 0} (b : List ℕ) (e : WireError) (code : WireCode) (at : ℕ) → message_in b ≡ Err e →
+    (◌≡◌ {A = Result X WireError} (Err e) (Err (record { code = code; at = at })) → WireFault b code at) ×
+    (WireFault b code at → ◌≡◌ {A = Result X WireError} (Err e) (Err (record { code = code; at = at })))
 refused_fault {X = X} b e code at h = (
   λ is. let same : e ≡ record { code = code; at = at } = cc is in wire_fault b (record { code = code; at = at }) (h ∙ ap Err same),
   λ fault. ap Err (same_error e (record { code = code; at = at }) (sym h ∙ wire_fault_told b code at fault)),

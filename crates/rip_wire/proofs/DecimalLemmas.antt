@@ -127,7 +127,8 @@ Said text n rest = (n < 256) × (text ≡ decimal n ++ rest)
 pub number_of-said : (text rest : List ℕ) (n : ℕ) → number_of text ≡ Some (n, rest) → Said text n rest
 number_of-said text rest n h = first (digit_of text) refl h
   where
-    third : (a b : ℕ) (more : List ℕ) → a < 10 → b < 10 → a ≢ 0 → text ≡ (48 + a) ∷ (48 + b) ∷ more → (o : Option (ℕ × List ℕ)) → digit_of more ≡ o → with_third (10 * a + b) more o ≡ Some (n, rest) → Said text n rest
+    third : (a b : ℕ) (more : List ℕ) → a < 10 → b < 10 → a ≢ 0 → text ≡ (48 + a) ∷ (48 + b) ∷ more → (o : Option (ℕ × List ℕ)) → digit_of more ≡ o → with_third (10 * a + b) more o ≡ Some (n, rest) →
+        Said text n rest
     third a b more a_small b_small some is None e g =
         let parts = same (10 * a + b) n more rest g in
         let small : n < 256 = omega (arith, parts.0) in
@@ -163,8 +164,11 @@ number_of-said text rest n h = first (digit_of text) refl h
         at_test : (t : Bool) → eqb x.0 0 ≡ t → cond {A = Option (ℕ × List ℕ)} t (Some (0, x.1)) (with_second x.0 x.1 (digit_of x.1)) ≡ Some (n, rest) → Said text n rest
         at_test true z g =
             let zero : x.0 ≡ 0 = eqb-true x.0 0 z in
-            let parts = same 0 n x.1 rest g in
-            (omega (arith, parts.0), digit.1 ∙ ap (λ (d : ℕ). (48 + d) ∷ x.1) zero ∙ ap (λ (l : List ℕ). 48 ∷ l) parts.1 ∙ ap (λ (l : List ℕ). l ++ rest) (sym (one_is 0 (omega arith)) ∙ ap decimal parts.0))
+            let parts = same 0 n x.1 rest g in (
+              omega (arith, parts.0),
+              digit.1 ∙ ap (λ (d : ℕ). (48 + d) ∷ x.1) zero ∙ ap (λ (l : List ℕ). 48 ∷ l) parts.1 ∙ ap (λ (l : List ℕ). l ++ rest)
+                  (sym (one_is 0 (omega arith)) ∙ ap decimal parts.0),
+            )
         at_test false z g =
             let some : x.0 ≢ 0 = grind (arith, nat_tests) in
             second x.0 x.1 digit.0 some digit.1 (digit_of x.1) refl g

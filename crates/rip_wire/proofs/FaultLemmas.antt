@@ -55,10 +55,12 @@ kind_fails b =
     not_both zero y t = inr (grind (arith, nat_tests))
     not_both (suc x) y t = inl (λ h. omega arith)
 
-    by_command : (t : Bool) → eqb (get_or b 0 0) 1 ≡ t → not (eqb (get_or b 0 0) 1 || eqb (get_or b 0 0) 2) ≡ false → Fails (IsHeadFault b) (cond t (Ok Request) (cond (eqb (length b) 4) (Err (record { code = Empty; at = 4 })) (Ok Response)))
+    by_command : (t : Bool) → eqb (get_or b 0 0) 1 ≡ t → not (eqb (get_or b 0 0) 1 || eqb (get_or b 0 0) 2) ≡ false →
+        Fails (IsHeadFault b) (cond t (Ok Request) (cond (eqb (length b) 4) (Err (record { code = Empty; at = 4 })) (Ok Response)))
     by_command true e two = fails_not (IsHeadFault b) Request
     by_command false e two =
-        fails_test (IsHeadFault b) (eqb (length b) 4) _ _ (λ t. record { fault = (grind (arith, nat_tests), grind (arith, nat_tests), refl); low = omega arith }) (λ t. fails_not (IsHeadFault b) Response)
+        fails_test (IsHeadFault b) (eqb (length b) 4) _ _ (λ t. record { fault = (grind (arith, nat_tests), grind (arith, nat_tests), refl); low = omega arith })
+        (λ t. fails_not (IsHeadFault b) Response)
 
 -- the fault of entry i
 record IsEntryFault (b : List ℕ) (i : ℕ) (e : WireError) : Type 0 where
@@ -69,7 +71,8 @@ record IsEntryFault (b : List ℕ) (i : ℕ) (e : WireError) : Type 0 where
 field_at : (b : List ℕ) (i into : ℕ) → get_or b 0 0 ≡ 2 → i < groups_in b → IsFieldAt b into (entry_offset i + into)
 field_at b i into two within = record { response = two; entry = i; within = within; offset = refl }
 
-prefix_fails : (b : List ℕ) (i : ℕ) → get_or b 0 0 ≡ 2 → i < groups_in b → Fails (IsEntryFault b i) (prefix_of (entry_offset i) (number_at 4 (entry_offset i + 4) b) (bits_of_mask (number_at 4 (entry_offset i + 8) b)))
+prefix_fails : (b : List ℕ) (i : ℕ) → get_or b 0 0 ≡ 2 → i < groups_in b →
+    Fails (IsEntryFault b i) (prefix_of (entry_offset i) (number_at 4 (entry_offset i + 4) b) (bits_of_mask (number_at 4 (entry_offset i + 8) b)))
 prefix_fails b i two within = by_bits (bits_of_mask (number_at 4 (entry_offset i + 8) b)) refl
   where
     by_bits : (o : Option ℕ) → bits_of_mask (number_at 4 (entry_offset i + 8) b) ≡ o → Fails (IsEntryFault b i) (prefix_of (entry_offset i) (number_at 4 (entry_offset i + 4) b) o)
@@ -82,7 +85,14 @@ prefix_fails b i two within = by_bits (bits_of_mask (number_at 4 (entry_offset i
         (λ t. let none : bits ≡ 0 = grind (arith, nat_tests) in let set : number_at 4 (entry_offset i + 4) b ≢ 0 = grind (arith, nat_tests) in
         record { fault = (field_at b i 8 two within, mask.1 ∙ ap mask_of none, λ z. set (address ∙ z)); low = omega arith; high = omega arith }) (λ t1.
         fails_test (IsEntryFault b i) (not (eqb (number_at 4 (entry_offset i + 4) b % size_of bits) 0)) _ _
-        (λ t. record { fault = (field_at b i 4 two within, record { prefix_len = bits; few = mask.0; covers = sym cover ∙ mask.1; bits = grind (arith, nat_tests) }); low = omega arith; high = omega arith }) (λ t2.
+        (λ t. record {
+          fault = (
+            field_at b i 4 two within,
+            record { prefix_len = bits; few = mask.0; covers = sym cover ∙ mask.1; bits = grind (arith, nat_tests) },
+          );
+          low = omega arith;
+          high = omega arith;
+        }) (λ t2.
         fails_not (IsEntryFault b i) _))
 
 entry_fails : (b : List ℕ) (i : ℕ) → get_or b 0 0 ≡ 2 → i < groups_in b → Fails (IsEntryFault b i) (entry_at (entry_offset i) b)
@@ -95,7 +105,8 @@ entry_fails b i two within =
     fails_test P (not (eqb (number_at 2 k b) 2)) _ _ (λ t. record { fault = (here, grind (arith, nat_tests)); low = omega arith; high = omega arith }) (λ t2.
     fails_bind P (prefix_of k (number_at 4 (k + 4) b) (bits_of_mask (number_at 4 (k + 8) b))) _ (prefix_fails b i two within) (λ p is_p.
     fails_bind P (metric_of k (number_at 4 (k + 16) b)) _
-    (fails_test P (eqb (number_at 4 (k + 16) b) 0 || ltb 16 (number_at 4 (k + 16) b)) _ _ (λ t. record { fault = (field_at b i 16 two within, beyond (number_at 4 (k + 16) b) t); low = omega arith; high = omega arith }) (λ t3. fails_not P _))
+    (fails_test P (eqb (number_at 4 (k + 16) b) 0 || ltb 16 (number_at 4 (k + 16) b)) _ _
+    (λ t. record { fault = (field_at b i 16 two within, beyond (number_at 4 (k + 16) b) t); low = omega arith; high = omega arith }) (λ t3. fails_not P _))
     (λ m is_m. fails_not P _))))
   where
     beyond : (m : ℕ) → (eqb m 0 || ltb 16 m) ≡ true → (m < 1) ⊎ (16 < m)
@@ -117,7 +128,8 @@ tells_here : {X : Type 0} (t : Bool) (code : WireCode) (at k : ℕ) (y : Result 
 tells_here true code at k y h e = tells_this code at k e
 tells_here false code at k y h e = absurd (cc)
 
-tells_later : {X : Type 0} (t : Bool) (d : WireError) (y : Result X WireError) (code : WireCode) (at : ℕ) → rank d.code d.at < rank code at → (t ≡ false → Tells y code at) → Tells (cond t (Err d) y) code at
+tells_later : {X : Type 0} (t : Bool) (d : WireError) (y : Result X WireError) (code : WireCode) (at : ℕ) → rank d.code d.at < rank code at → (t ≡ false → Tells y code at) →
+    Tells (cond t (Err d) y) code at
 tells_later true d y code at less later = record { told = d; is = refl; before = inr less }
 tells_later false d y code at less later = later refl
 
@@ -125,7 +137,8 @@ tells_bind : {X Y : Type 0} (r : Result X WireError) (f : X → Result Y WireErr
 tells_bind r f code at t = record { told = t.told; is = ap (λ (x : Result _ WireError). x >>= f) t.is; before = t.before }
 
 -- where r has a fault, it comes before
-tells_or : {X Y : Type 0} (r : Result X WireError) (f : X → Result Y WireError) (code : WireCode) (at : ℕ) → Fails (λ e. rank e.code e.at < rank code at) r → ((x : X) → r ≡ Ok x → Tells (f x) code at) → Tells (r >>= f) code at
+tells_or : {X Y : Type 0} (r : Result X WireError) (f : X → Result Y WireError) (code : WireCode) (at : ℕ) → Fails (λ e. rank e.code e.at < rank code at) r →
+    ((x : X) → r ≡ Ok x → Tells (f x) code at) → Tells (r >>= f) code at
 tells_or (Ok x) f code at less later = later x refl
 tells_or (Err d) f code at less later = record { told = d; is = refl; before = inr (less d refl) }
 
@@ -270,7 +283,8 @@ tells_host_bits b at h f =
     tells_here (not (eqb (number_at 4 (k + 4) b % size_of hosts.prefix_len) 0)) HostBits at (k + 4) _ (grind (arith, nat_tests)) here)))
 
 -- a fault that entry i tells is told by those up to it
-tells_entries : (n j i : ℕ) (b : List ℕ) (code : WireCode) (at : ℕ) → get_or b 0 0 ≡ 2 → j ≤ i → i < j + n → i < groups_in b → 7 + 6 * i ≤ rank code at → Tells (entry_at (entry_offset i) b) code at → Tells (entries_at n (entry_offset j) b) code at
+tells_entries : (n j i : ℕ) (b : List ℕ) (code : WireCode) (at : ℕ) → get_or b 0 0 ≡ 2 → j ≤ i → i < j + n → i < groups_in b → 7 + 6 * i ≤ rank code at → Tells (entry_at (entry_offset i) b) code at →
+    Tells (entries_at n (entry_offset j) b) code at
 unfolding entries_at
 tells_entries zero j i b code at two from to within low h = absurd (omega arith)
 tells_entries (suc n) j i b code at two from to within low h =
@@ -282,7 +296,8 @@ tells_entries (suc n) j i b code at two from to within low h =
     next : entry_offset j + 20 ≡ entry_offset (j + 1)
     next = omega arith
 
-    by_order : (j ≡ i) ⊎ (j < i) → (j < i → Tells (entries_at n (entry_offset (j + 1)) b) code at) → Tells (entry_at (entry_offset j) b >>= λ e. entries_at n (entry_offset j + 20) b >>= λ es. Ok (e ∷ es)) code at
+    by_order : (j ≡ i) ⊎ (j < i) → (j < i → Tells (entries_at n (entry_offset (j + 1)) b) code at) →
+        Tells (entry_at (entry_offset j) b >>= λ e. entries_at n (entry_offset j + 20) b >>= λ es. Ok (e ∷ es)) code at
     by_order (inl same) later = tells_bind (entry_at (entry_offset j) b) _ code at (rw same h)
     by_order (inr less) later =
         tells_or (entry_at (entry_offset j) b) _ code at (λ e is. let f = entry_fails b j two (omega arith) e is in let high = f.high in omega arith) (λ e is.
@@ -296,7 +311,8 @@ tells_entry b code at offset f low h =
   where
     by_kind : (kind : Kind) → kind_in b ≡ Ok kind → Tells (message_of_kind b kind) code at
     by_kind Request is = let one = (headed b Request is).command in let two = f.response in absurd (omega arith)
-    by_kind Response is = tells_bind (entries_at (groups_in b) 4 b) _ code at (tells_entries (groups_in b) 0 f.entry b code at f.response (omega arith) (let within = f.within in omega arith) f.within low h)
+    by_kind Response is =
+        tells_bind (entries_at (groups_in b) 4 b) _ code at (tells_entries (groups_in b) 0 f.entry b code at f.response (omega arith) (let within = f.within in omega arith) f.within low h)
 
 -- a fault of the bytes is told, or one before it
 tells : (b : List ℕ) (code : WireCode) (at : ℕ) → IsFault b code at → Tells (message_in b) code at
@@ -353,7 +369,8 @@ wire_fault b e h = record {
 pub wire_fault_told : (b : List ℕ) (code : WireCode) (at : ℕ) → WireFault b code at → message_in b ≡ Err (record { code = code; at = at })
 wire_fault_told b code at w = let t = tells b code at w.fault in by_order t t.before (w.first t.told.code t.told.at (message_fails b t.told t.is))
   where
-    by_order : (t : Tells (message_in b) code at) → ((code ≡ t.told.code) × (at ≡ t.told.at)) ⊎ (rank t.told.code t.told.at < rank code at) → ((t.told.code ≡ code) × (t.told.at ≡ at)) ⊎ (rank code at < rank t.told.code t.told.at) → message_in b ≡ Err (record { code = code; at = at })
+    by_order : (t : Tells (message_in b) code at) → ((code ≡ t.told.code) × (at ≡ t.told.at)) ⊎ (rank t.told.code t.told.at < rank code at) →
+        ((t.told.code ≡ code) × (t.told.at ≡ at)) ⊎ (rank code at < rank t.told.code t.told.at) → message_in b ≡ Err (record { code = code; at = at })
     by_order t (inl same) other = rw (same.0, same.1) t.is
     by_order t (inr less) (inl same) = rw (← same.0, ← same.1) t.is
     by_order t (inr less) (inr more) = absurd (omega arith)

@@ -54,7 +54,8 @@ found : (mask bits : ℕ) (lens : List ℕ) → all_at_most 32 lens → find (λ
 found mask bits [] all h = absurd (cc)
 found mask bits (x ∷ xs) all h = at_test (eqb mask (mask_of x)) refl (found mask bits xs all.1) h
   where
-    at_test : (t : Bool) → eqb mask (mask_of x) ≡ t → (find (λ l. eqb mask (mask_of l)) xs ≡ Some bits → (bits ≤ 32) × (mask ≡ mask_of bits)) → cond t (Some x) (find (λ l. eqb mask (mask_of l)) xs) ≡ Some bits → (bits ≤ 32) × (mask ≡ mask_of bits)
+    at_test : (t : Bool) → eqb mask (mask_of x) ≡ t → (find (λ l. eqb mask (mask_of l)) xs ≡ Some bits → (bits ≤ 32) × (mask ≡ mask_of bits)) →
+        cond t (Some x) (find (λ l. eqb mask (mask_of l)) xs) ≡ Some bits → (bits ≤ 32) × (mask ≡ mask_of bits)
     at_test true e later g = let same : x ≡ bits = cc in rw (← same) (all.0, eqb-true mask (mask_of x) e)
     at_test false e later g = later g
 
@@ -96,7 +97,8 @@ no_mask mask h is =
     let clash : None ≡ Some is.0 = sym h ∙ found in cc
 
 -- an address is in a prefix where the mask leaves the network of it
-pub contains_by_mask : (p : Block) (a : ℕ) → IsBlock p → a < 2 ^ 32 → (bit_and a (mask_of p.prefix_len) ≡ p.network → ContainsAddress p a) × (ContainsAddress p a → bit_and a (mask_of p.prefix_len) ≡ p.network)
+pub contains_by_mask : (p : Block) (a : ℕ) → IsBlock p → a < 2 ^ 32 →
+    (bit_and a (mask_of p.prefix_len) ≡ p.network → ContainsAddress p a) × (ContainsAddress p a → bit_and a (mask_of p.prefix_len) ≡ p.network)
 contains_by_mask p a is small =
     let k = 32 - p.prefix_len in
     let masked : bit_and a (mask_of p.prefix_len) ≡ a / 2 ^ k * 2 ^ k = and_high_mask 32 k (omega arith) a small in

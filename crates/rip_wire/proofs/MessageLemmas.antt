@@ -51,7 +51,8 @@ headed b kind h =
       some = by_kind.1;
     }
   where
-    last : (t : Bool) → eqb (get_or b 0 0) 1 ≡ t → (k : Kind) → cond t (Ok Request) (cond (eqb (length b) 4) (fault Empty 4) (Ok Response)) ≡ Ok k → ((get_or b 0 0 ≢ 1 → get_or b 0 0 ≡ 2) → get_or b 0 0 ≡ command_of k) × (k ≡ Response → length b ≢ 4)
+    last : (t : Bool) → eqb (get_or b 0 0) 1 ≡ t → (k : Kind) → cond t (Ok Request) (cond (eqb (length b) 4) (fault Empty 4) (Ok Response)) ≡ Ok k →
+        ((get_or b 0 0 ≢ 1 → get_or b 0 0 ≡ 2) → get_or b 0 0 ≡ command_of k) × (k ≡ Response → length b ≢ 4)
     last true e k g =
         let same = same_Ok Request k g in
         let one = eqb-true _ _ e in

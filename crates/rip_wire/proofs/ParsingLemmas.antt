@@ -134,7 +134,8 @@ unfolding address_below
 below_gives zero text a h = absurd (cc)
 below_gives (suc n) text a h = at_test (bytes_eq (address_text n) text) refl (below_gives n text a) h
   where
-    at_test : (t : Bool) → bytes_eq (address_text n) text ≡ t → (address_below n text ≡ Some a → (a < n) × (text ≡ address_text a)) → cond t (Some n) (address_below n text) ≡ Some a → (a < suc n) × (text ≡ address_text a)
+    at_test : (t : Bool) → bytes_eq (address_text n) text ≡ t → (address_below n text ≡ Some a → (a < n) × (text ≡ address_text a)) → cond t (Some n) (address_below n text) ≡ Some a →
+        (a < suc n) × (text ≡ address_text a)
     at_test true e later g =
         let same : n ≡ a = cc in
         (omega arith, sym (same_bytes (address_text n) text e) ∙ ap address_text same)
@@ -173,9 +174,11 @@ address_in-none text none = cases (address_in text) refl
 prefix_below-gives : (n network : ℕ) (text : List ℕ) (p : Block) → n ≤ 33 → network < 2 ^ 32 → prefix_below n network text ≡ Some p → IsBlock p × (text ≡ prefix_text p)
 unfolding prefix_below
 prefix_below-gives zero network text p few small h = absurd (cc)
-prefix_below-gives (suc n) network text p few small h = at_test (eqb (network % size_of n) 0) refl (bytes_eq (prefix_text (block network n)) text) refl (λ g. prefix_below-gives n network text p (omega arith) small g) h
+prefix_below-gives (suc n) network text p few small h =
+    at_test (eqb (network % size_of n) 0) refl (bytes_eq (prefix_text (block network n)) text) refl (λ g. prefix_below-gives n network text p (omega arith) small g) h
   where
-    at_test : (s : Bool) → eqb (network % size_of n) 0 ≡ s → (t : Bool) → bytes_eq (prefix_text (block network n)) text ≡ t → (prefix_below n network text ≡ Some p → IsBlock p × (text ≡ prefix_text p)) → cond (s && t) (Some (block network n)) (prefix_below n network text) ≡ Some p → IsBlock p × (text ≡ prefix_text p)
+    at_test : (s : Bool) → eqb (network % size_of n) 0 ≡ s → (t : Bool) → bytes_eq (prefix_text (block network n)) text ≡ t →
+        (prefix_below n network text ≡ Some p → IsBlock p × (text ≡ prefix_text p)) → cond (s && t) (Some (block network n)) (prefix_below n network text) ≡ Some p → IsBlock p × (text ≡ prefix_text p)
     at_test true hosts true e later g =
         let same : block network n ≡ p = cc in
         let is : IsBlock (block network n) = (omega arith, small, eqb-true _ _ hosts) in
@@ -186,7 +189,8 @@ prefix_below-gives (suc n) network text p few small h = at_test (eqb (network % 
 prefix_below-finds : (n network : ℕ) (text : List ℕ) (l : ℕ) → n ≤ 33 → l < n → IsBlock (block network l) → text ≡ prefix_text (block network l) → prefix_below n network text ≡ Some (block network l)
 unfolding prefix_below
 prefix_below-finds zero network text l few lt is h = absurd (omega arith)
-prefix_below-finds (suc n) network text l few lt is h = at_test (eqb (network % size_of n) 0) refl (bytes_eq (prefix_text (block network n)) text) refl (λ less. prefix_below-finds n network text l (omega arith) less is h)
+prefix_below-finds (suc n) network text l few lt is h =
+    at_test (eqb (network % size_of n) 0) refl (bytes_eq (prefix_text (block network n)) text) refl (λ less. prefix_below-finds n network text l (omega arith) less is h)
   where
     other : (s t : Bool) → eqb (network % size_of n) 0 ≡ s → bytes_eq (prefix_text (block network n)) text ≡ t → (s && t) ≡ false → n ≢ l
     other s t hosts e fails same =
@@ -195,14 +199,17 @@ prefix_below-finds (suc n) network text l few lt is h = at_test (eqb (network % 
         let both : (s && t) ≡ true = rw (← hosts, ← e, yes, text_is) refl in
         let clash : true ≡ false = sym both ∙ fails in cc
 
-    at_test : (s : Bool) → eqb (network % size_of n) 0 ≡ s → (t : Bool) → bytes_eq (prefix_text (block network n)) text ≡ t → (l < n → prefix_below n network text ≡ Some (block network l)) → cond (s && t) (Some (block network n)) (prefix_below n network text) ≡ Some (block network l)
+    at_test : (s : Bool) → eqb (network % size_of n) 0 ≡ s → (t : Bool) → bytes_eq (prefix_text (block network n)) text ≡ t → (l < n → prefix_below n network text ≡ Some (block network l)) →
+        cond (s && t) (Some (block network n)) (prefix_below n network text) ≡ Some (block network l)
     at_test true hosts true e later = ap (λ (k : ℕ). Some (block network k)) (prefix_text-same network n l (omega arith) is.0 (same_bytes _ text e ∙ h))
     at_test true hosts false e later = later (omega (arith, other true false hosts e refl))
     at_test false hosts t e later = later (omega (arith, other false t hosts e refl))
 
 before_slash : (xs ys : List ℕ) → Lacks 47 xs → before_first (λ c. eqb c 47) (xs ++ (47 ∷ ys)) ≡ xs
 before_slash xs ys lacks =
-    let at : position_or_len (λ c. eqb c 47) (xs ++ (47 ∷ ys)) ≡ length xs = position_or_len_is (λ c. eqb c 47) (xs ++ (47 ∷ ys)) (length xs) 0 (omega (arith, length-append xs (47 ∷ ys))) (λ k lt. not_slash k lt) (λ _. rw (get_or-append_right xs (47 ∷ ys) (length xs) (length xs) 0 refl (omega arith)) (here (length xs))) in
+    let at : position_or_len (λ c. eqb c 47) (xs ++ (47 ∷ ys)) ≡ length xs =
+    position_or_len_is (λ c. eqb c 47) (xs ++ (47 ∷ ys)) (length xs) 0 (omega (arith, length-append xs (47 ∷ ys))) (λ k lt. not_slash k lt)
+    (λ _. rw (get_or-append_right xs (47 ∷ ys) (length xs) (length xs) 0 refl (omega arith)) (here (length xs))) in
     rw at (take_at xs (47 ∷ ys) (length xs) refl)
   where
     not_slash : (k : ℕ) → k < length xs → eqb (get_or (xs ++ (47 ∷ ys)) k 0) 47 ≡ false

@@ -48,7 +48,8 @@ by_command : (k : Kind) (n : ℕ) → n ≡ command_of k → (n ≡ 1 → Reques
 by_command Request n h = (λ _. refl, λ other. absurd (other h))
 by_command Response n h = (λ one. absurd (omega arith), λ _. refl)
 
-pub kind_by_command : (b : List ℕ) → is_ok (message_in b) ≡ true → (get_or b 0 0 ≡ 1 → Request ≡ kind_of (message_or_request (message_in b))) × (get_or b 0 0 ≢ 1 → Response ≡ kind_of (message_or_request (message_in b)))
+pub kind_by_command : (b : List ℕ) → is_ok (message_in b) ≡ true →
+    (get_or b 0 0 ≡ 1 → Request ≡ kind_of (message_or_request (message_in b))) × (get_or b 0 0 ≢ 1 → Response ≡ kind_of (message_or_request (message_in b)))
 kind_by_command b h =
     let m = has_message b h in
     rw m.read (by_command (kind_of m.message) (get_or b 0 0) (kind_read b m.message m.read))
@@ -74,7 +75,8 @@ groups_are_entries b h is =
     rw m.read (sym (length-entries_at (groups_in b) 4 b (entries_of m.message) es.entries))
 
 -- the entries of a response are those that are read of its bytes
-pub entries_whole : (b : List ℕ) → is_ok (message_in b) ≡ true → kind_of (message_or_request (message_in b)) ≡ Response → entries_at (groups_in b) 4 b ≡ Ok (entries_of (message_or_request (message_in b)))
+pub entries_whole : (b : List ℕ) → is_ok (message_in b) ≡ true → kind_of (message_or_request (message_in b)) ≡ Response →
+    entries_at (groups_in b) 4 b ≡ Ok (entries_of (message_or_request (message_in b)))
 entries_whole b h is = let m = has_message b h in rw m.read (has_entries b m.message m.read (rw m.read at is)).entries
 
 -- an entry of a response, by its number
@@ -82,7 +84,8 @@ pub record IsNumbered (b : List ℕ) (i : ℕ) : Type 0 where
   pub room : 4 + 20 * i + 20 ≤ length b
   pub has : HasEntry (entries_of (message_or_request (message_in b))) 4 i b
 
-pub numbered : (b : List ℕ) (i : ℕ) → is_ok (message_in b) ≡ true → kind_of (message_or_request (message_in b)) ≡ Response → i < length (entries_of (message_or_request (message_in b))) → IsNumbered b i
+pub numbered : (b : List ℕ) (i : ℕ) → is_ok (message_in b) ≡ true → kind_of (message_or_request (message_in b)) ≡ Response → i < length (entries_of (message_or_request (message_in b))) →
+    IsNumbered b i
 numbered b i h is lt =
     let m = has_message b h in
     let es = has_entries b m.message m.read (rw m.read at is) in

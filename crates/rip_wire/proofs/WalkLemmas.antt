@@ -31,7 +31,8 @@ unfolded count i b lt =
     rw (left, next) refl
 
 -- an entry that is read leaves the rest after it
-pub EndsAs-more : (count i : ℕ) (b : List ℕ) (e : Entry) (all : Result (List Entry) WireError) → i < count → entry_at (entry_offset i) b ≡ Ok e → EndsAs (rest_of count i b) all → EndsAs (rest_of count (i + 1) b) all
+pub EndsAs-more : (count i : ℕ) (b : List ℕ) (e : Entry) (all : Result (List Entry) WireError) → i < count → entry_at (entry_offset i) b ≡ Ok e → EndsAs (rest_of count i b) all →
+    EndsAs (rest_of count (i + 1) b) all
 EndsAs-more count i b e all lt here so_far = record {
   ok = λ h. so_far.ok (rw joined (goes_on (rest_of count (i + 1) b) h));
   err = λ f h. so_far.err f (joined ∙ rw h refl);
@@ -45,7 +46,8 @@ EndsAs-more count i b e all lt here so_far = record {
     goes_on (Err f) h = h
 
 -- an entry without a fault leaves the rest after it
-pub EndsAs-good : (count i : ℕ) (b : List ℕ) (all : Result (List Entry) WireError) → i < count → is_ok (entry_at (entry_offset i) b) ≡ true → EndsAs (rest_of count i b) all → EndsAs (rest_of count (i + 1) b) all
+pub EndsAs-good : (count i : ℕ) (b : List ℕ) (all : Result (List Entry) WireError) → i < count → is_ok (entry_at (entry_offset i) b) ≡ true → EndsAs (rest_of count i b) all →
+    EndsAs (rest_of count (i + 1) b) all
 EndsAs-good count i b all lt good so_far = cases (entry_at (entry_offset i) b) refl good
   where
     cases : (r : Result Entry WireError) → entry_at (entry_offset i) b ≡ r → is_ok r ≡ true → EndsAs (rest_of count (i + 1) b) all

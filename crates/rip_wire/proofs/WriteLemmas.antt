@@ -32,7 +32,8 @@ pub IsWritten-none : (old new : List ℕ) → take 4 new ≡ 2 ∷ 2 ∷ 0 ∷ 0
 unfolding entries_bytes
 IsWritten-none old new front others = record { each = tt; front = front; others = others }
 
-pub IsWritten-push : (at : ℕ) (es : List Entry) (e : Entry) (old mid new : List ℕ) → at ≡ 4 + 20 * length es → IsWritten es old mid → take (at + 20) new ≡ take at mid ++ entry_bytes e → drop (at + 20) new ≡ drop (at + 20) mid → IsEntry e → IsWritten (es ++ e ∷ []) old new
+pub IsWritten-push : (at : ℕ) (es : List Entry) (e : Entry) (old mid new : List ℕ) → at ≡ 4 + 20 * length es → IsWritten es old mid → take (at + 20) new ≡ take at mid ++ entry_bytes e →
+    drop (at + 20) new ≡ drop (at + 20) mid → IsEntry e → IsWritten (es ++ e ∷ []) old new
 IsWritten-push at es e old mid new offset so_far front others one =
     let size : 4 + 20 * length (es ++ e ∷ []) ≡ at + 20 = omega (arith, length-append es (e ∷ [])) in
     let before : take at mid ≡ 2 ∷ 2 ∷ 0 ∷ 0 ∷ entries_bytes es = rw offset so_far.front in

@@ -41,8 +41,8 @@ impl Address {
         self.number
     }
 
-    /// The address that has this text, as `10.3.0.1`: just as it is printed, so there are no zeros in
-    /// front of a number, no blanks and no signs.
+    /// The address that has this text, as `10.3.0.1`: just as it is printed, so there are no zeros
+    /// in front of a number, no blanks and no signs.
     pub fn parse(text: &str) -> Option<Address>
         ensures exact { (a : ℕ) → a < 2 ^ 32 → (result ≡ Some a) ↔ (text.now ≡ address_text a) }
         ensures value { result ≡ address_in text.now }

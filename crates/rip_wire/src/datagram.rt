@@ -74,7 +74,8 @@ impl<'a> Datagram<'a> {
         good_entry(self.bytes, HEADER_LEN + ENTRY_LEN * i)
     }
 
-    /// Writes the entries of a response at the front of the room, in their order, and answers how many.
+    /// Writes the entries of a response at the front of the room, in their order, and answers how
+    /// many.
     pub fn read_entries(&self, room: &mut [Entry; MOST_ENTRIES]) -> usize
         requires { kind_of (message_of self.now) ≡ Kind.Response }
         ensures entries { take result room.new ≡ entries_of (message_of self.now) }

@@ -19,7 +19,8 @@ pub enum WireCode {
     Empty,
     /// More than 504 bytes; told at 504.
     TooMany,
-    /// Address family 0xFFFF, which marks authentication (RFC 2453, section 4.1); told at the family.
+    /// Address family 0xFFFF, which marks authentication (RFC 2453, section 4.1); told at the
+    /// family.
     Authentication,
     /// An address family other than 2; told at the family.
     Family,

@@ -55,8 +55,8 @@ pub fn first_faults()
         (message_in b ≡ Err (record { code = code; at = at })) ↔ WireFault b code at }
 {}
 
-/// A response is read exactly of bytes in which its fields stand: its header, and the numbers of each
-/// entry at their places. On bytes this is their spelling.
+/// A response is read exactly of bytes in which its fields stand: its header, and the numbers of
+/// each entry at their places. On bytes this is their spelling.
 pub fn response_fields()
     ensures exact { (entries : List Entry) (b : List ℕ) →
         (message_in b ≡ Ok (response entries)) ↔ IsResponseOf entries b }

@@ -4,8 +4,8 @@ ghost use Rattle.std.specs.Prelude.{◌≡◌, ◌↔◌, IsTrue, IsAscii};
 ghost use Rattle.rip_wire.specs.Name.{IsName, is_name_byte};
 ghost use Rattle.rip_wire.specs.Name as name;
 
-/// Whether each byte may stand in a name. Each line of a log has a name, and to look a byte up takes half
-/// the instructions of comparing it.
+/// Whether each byte may stand in a name. Each line of a log has a name, and to look a byte up
+/// takes half the instructions of comparing it.
 #[rattlefmt::skip]
 const NAME_BYTES: [bool; 256] = [
     false, false, false, false, false, false, false, false, false, false, false, false, false, false, false, false,

@@ -85,8 +85,8 @@ impl Prefix {
         }
     }
 
-    /// The prefix that has this text, as `10.3.0.0/16`: just as it is printed, so there are no zeros
-    /// in front of a number, no blanks and no signs, and no bit past the length is set.
+    /// The prefix that has this text, as `10.3.0.0/16`: just as it is printed, so there are no
+    /// zeros in front of a number, no blanks and no signs, and no bit past the length is set.
     pub fn parse(text: &str) -> Option<Prefix>
         ensures exact { (p : Block) → IsBlock p → (result ≡ Some p) ↔ (text.now ≡ prefix_text p) }
         ensures value { result ≡ prefix_in text.now }

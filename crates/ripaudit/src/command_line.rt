@@ -326,8 +326,8 @@ where
     Ok(log.status())
 }
 
-/// Refuses a word of `log`, by its number: it names no file and link, or standard input a second time. It is not
-/// told itself: a file's name could hold a line feed.
+/// Refuses a word of `log`, by its number: it names no file and link, or standard input a second
+/// time. It is not told itself: a file's name could hold a line feed.
 fn refuse_word(rt: &impl Eprint, word: &str, number: usize) -> Result<Status, RunError> {
     let fault = match capture_word(word) {
         None => "names no file and link",

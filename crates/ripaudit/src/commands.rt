@@ -90,8 +90,8 @@ pub(crate) fn plan_command(word: &str, all: bool) -> Option<PlanCommand>
     }
 }
 
-/// The command of that name that reads a log, by its flags: `all` for all places, `anyway` for what is
-/// not refused.
+/// The command of that name that reads a log, by its flags: `all` for all places, `anyway` for what
+/// is not refused.
 pub(crate) fn read_command(word: &str, all: bool, anyway: bool) -> Option<ReadCommand>
     ensures audit { (result ≡ Some (ReadCommand.Judged (LogCommand.Audit all)))
         ↔ (word.now ≡ codes "audit") }
@@ -236,7 +236,8 @@ pub(crate) fn run_on_log<R: Source, K: Sink, S: BuildHasher + Drop>(
     }
 }
 
-/// Runs a command on the bytes of a plan and on a log, which is read to its end. The source comes back.
+/// Runs a command on the bytes of a plan and on a log, which is read to its end. The source comes
+/// back.
 pub(crate) fn run_anyway<R: Source, K: Sink, S: BuildHasher + Drop>(
     alloc: Global,
     command: AnywayCommand,

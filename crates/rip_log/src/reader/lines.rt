@@ -37,7 +37,8 @@ impl Origin<'_> {
 pub struct BadLine<'a> {
     /// The number of the line, from 1 on.
     pub line: u32,
-    /// Why it is bad: one of `LongLine`, `Fields`, `LinkName`, `Sender`, `Hex`, `LongDatagram` and `Wire`.
+    /// Why it is bad: one of `LongLine`, `Fields`, `LinkName`, `Sender`, `Hex`, `LongDatagram` and
+    /// `Wire`.
     pub code: LogCode,
     /// For `LongDatagram` and `Wire`, where its datagram came from.
     pub origin: Option<Origin<'a>>,
@@ -156,11 +157,11 @@ impl<R: Source> LogReader<R> {
     }
 
     /// The next line that is neither blank nor a comment, good or bad, which borrows the reader's
-    /// buffers, or None at the end of the text. It allocates nothing. A bad line ends nothing: the next
-    /// call goes on behind it, and of one that is too long the rest is skipped. An error is
-    /// TooManyLines at line 1,000,001, or Read where the source failed while a line was read (or a line
-    /// has more than `u64::MAX` bytes); after an error each call answers Ended at the same line. It pulls
-    /// nothing where it holds each line that it comes to, with its line feed.
+    /// buffers, or None at the end of the text. It allocates nothing. A bad line ends nothing: the
+    /// next call goes on behind it, and of one that is too long the rest is skipped. An error is
+    /// TooManyLines at line 1,000,001, or Read where the source failed while a line was read (or a
+    /// line has more than `u64::MAX` bytes); after an error each call answers Ended at the same
+    /// line. It pulls nothing where it holds each line that it comes to, with its line feed.
     pub fn next_line(&mut self) -> Result<Option<Line<'_>>, LogError>
         // Once the line that it lends is let go, the reader is as `NextLineCall` says.
         ensures* leaves { sem 𝓛 (Rests (the_row R.row) self.entry (λ new.

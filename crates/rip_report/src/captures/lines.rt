@@ -90,7 +90,8 @@ fn add_digits<K: Sink>(listing: &mut Listing, bytes: &[u8], out: &mut K)
     }
 }
 
-/// Adds the digits of a datagram, with zeros for its password if it has one, and tells whether it has.
+/// Adds the digits of a datagram, with zeros for its password if it has one, and tells whether it
+/// has.
 fn add_blanked<K: Sink>(listing: &mut Listing, datagram: &[u8], out: &mut K) -> bool
     requires { length datagram.now ≤ MOST_PAYLOAD }
     ensures adds { Adds K.taken K.broken out.old out.new listing.old listing.new
@@ -120,8 +121,8 @@ fn write_at(buffer: &mut [u8], at: usize, bytes: &[u8])
     buffer[at..at + bytes.len()].copy_from_slice(bytes);
 }
 
-/// Adds the digits of a datagram of which nothing is left but its header and these entries, with zeros for
-/// a password if it still has one.
+/// Adds the digits of a datagram of which nothing is left but its header and these entries, with
+/// zeros for a password if it still has one.
 fn add_stripped<K: Sink>(listing: &mut Listing, datagram: &[u8], entries: Span, out: &mut K) -> bool
     requires few { length datagram.now ≤ MOST_PAYLOAD }
     requires header { HEADER_LEN ≤ entries.from }
@@ -193,7 +194,8 @@ fn add_datagram_line<K: Sink>(
     omitted
 }
 
-/// Adds the line of what a frame carries, if it has one, and tells what was left out of its datagram.
+/// Adds the line of what a frame carries, if it has one, and tells what was left out of its
+/// datagram.
 #[tactic(auto, unfolding(crate::specs::CaptureText::carried_line))]
 pub(crate) fn add_line<K: Sink>(
     listing: &mut Listing,

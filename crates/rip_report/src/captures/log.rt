@@ -6,8 +6,9 @@ ghost use Rattle.rip_log.specs.declared.limits.TheConstants.{MOST_LINES};
 use crate::captures::authentication::Authentication;
 use crate::status::Status;
 
-/// A log of capture files, as far as it was written: what becomes of the authentication of datagrams, how
-/// many files and lines it has, and its status, Unclear where a datagram is not there whole.
+/// A log of capture files, as far as it was written: what becomes of the authentication of
+/// datagrams, how many files and lines it has, and its status, Unclear where a datagram is not
+/// there whole.
 #[derive(Clone, Copy, Debug)]
 pub struct CaptureLog {
     pub(super) authentication: Authentication,

@@ -18,7 +18,8 @@ use rip_capture::laws::{long_captures, read_captures};
 use rip_capture::{CaptureCode, CaptureError, CaptureReader, Packet, read_frame};
 use rip_log::{MOST_LINES, Sink, Source};
 
-/// Adds the line of a packet, if it has one, and counts it. False where the log has no room for the line.
+/// Adds the line of a packet, if it has one, and counts it. False where the log has no room for the
+/// line.
 fn log_packet<K: Sink>(
     packet: &Packet<'_>,
     link: &str,
@@ -58,7 +59,8 @@ fn ended_by(error: CaptureError) -> Ending
     }
 }
 
-/// How the reading of a file ends at its end, after so many bytes: the log may have no room for the comment.
+/// How the reading of a file ends at its end, after so many bytes: the log may have no room for the
+/// comment.
 fn ended_at(tally: Tally, at: u64) -> Ending
     ensures { result ≡ ended_at tally at }
 {

@@ -68,7 +68,8 @@ pub(crate) fn add_shown<T: MetricTable, K: Sink>(
     add_listed(&Shown { prefix }, listing, plan, table, numbers, out);
 }
 
-/// What is offered to a router over the link of its interface, by the router of another interface there.
+/// What is offered to a router over the link of its interface, by the router of another interface
+/// there.
 #[derive(Clone, Copy)]
 struct OfferTo {
     own: Interface,

@@ -15,8 +15,8 @@ use rip_log::LogCode;
 use rip_plan::Plan;
 use std::alloc::AllocError;
 
-/// How many responses were joined, how many were refused, how many came from strangers, and how many
-/// lines are bad.
+/// How many responses were joined, how many were refused, how many came from strangers, and how
+/// many lines are bad.
 #[derive(Clone, Copy, Debug, PartialEq, Eq)]
 pub struct Counts {
     /// The responses that were joined.

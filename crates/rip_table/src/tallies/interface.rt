@@ -21,8 +21,8 @@ pub struct Refusal {
     pub next_hop: Option<Address>,
 }
 
-/// What came of a line of an interface: of a response, of a line that is bad by its datagram, or of a
-/// request.
+/// What came of a line of an interface: of a response, of a line that is bad by its datagram, or of
+/// a request.
 #[derive(Clone, Copy)]
 pub(crate) enum Sent {
     Joined,

@@ -3,7 +3,8 @@
 ghost use Rattle.std.specs.Prelude.{◌≡◌, ◌<◌, []};
 ghost use Rattle.rip_table.specs.Tallies.{lines_in, with_line};
 
-/// The lines of a kind: how many there are, the first and the last, which are 0 where there are none.
+/// The lines of a kind: how many there are, the first and the last, which are 0 where there are
+/// none.
 #[derive(Clone, Copy, Debug, PartialEq, Eq)]
 pub struct Lines {
     /// How many.

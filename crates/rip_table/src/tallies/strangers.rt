@@ -163,8 +163,8 @@ impl<S: BuildHasher + Drop> Strangers<S> {
         Ok(())
     }
 
-    /// One line more of a stranger, after others: a response, or a line that is bad by this code. Where
-    /// memory fails it is not added.
+    /// One line more of a stranger, after others: a response, or a line that is bad by this code.
+    /// Where memory fails it is not added.
     pub(crate) fn add(
         &mut self,
         link: &str,

@@ -10,8 +10,12 @@ returns-in-Ok-clause-went g c = let S = g.R.Source in went_on S.given S.coming S
 pub returns-in-Ok-clause-found : goal.returns-in-Ok-clause-found
 returns-in-Ok-clause-found g c =
     let found = c.in-Ok.ensures.found in
-    let order = rw c.in-Ok-Some.field-0-is at c.in-Ok-Some.ensures.found in
-    (found.0, skips-on g.R.Source.given c.args.feed.now c.next_order.new.feed c.rest_of_block.new.feed found.0 c.next_order.ensures.keeps c.next_order.ensures.held found.1, found.2 (Some c.args.within) order.1)
+    let order = rw c.in-Ok-Some.field-0-is at c.in-Ok-Some.ensures.found in (
+      found.0,
+      skips-on g.R.Source.given c.args.feed.now c.next_order.new.feed c.rest_of_block.new.feed found.0 c.next_order.ensures.keeps c.next_order.ensures.held found.1,
+      found.2
+          (Some c.args.within) order.1,
+    )
 
 pub returns-in-Err-rest_of_block-clause-went : goal.returns-in-Err-rest_of_block-clause-went
 returns-in-Err-rest_of_block-clause-went g c = let S = g.R.Source in went_on S.given S.coming S.at_end _ _ _ c.next_order.ensures.went c.rest_of_block.ensures.went
@@ -19,8 +23,12 @@ returns-in-Err-rest_of_block-clause-went g c = let S = g.R.Source in went_on S.g
 pub returns-in-Err-rest_of_block-clause-found : goal.returns-in-Err-rest_of_block-clause-found
 returns-in-Err-rest_of_block-clause-found g c =
     let found = c.in-Err-rest_of_block.ensures.found in
-    let order = rw c.in-Ok-Some.field-0-is at c.in-Ok-Some.ensures.found in
-    (found.0, skips-on g.R.Source.given c.args.feed.now c.next_order.new.feed c.rest_of_block.new.feed found.0 c.next_order.ensures.keeps c.next_order.ensures.held found.1, found.2 (Some c.args.within) order.1)
+    let order = rw c.in-Ok-Some.field-0-is at c.in-Ok-Some.ensures.found in (
+      found.0,
+      skips-on g.R.Source.given c.args.feed.now c.next_order.new.feed c.rest_of_block.new.feed found.0 c.next_order.ensures.keeps c.next_order.ensures.held found.1,
+      found.2
+          (Some c.args.within) order.1,
+    )
 
 pub returns-in-Ok-clause-ready : goal.returns-in-Ok-clause-ready
 returns-in-Ok-clause-ready g c = λ h.

@@ -10,9 +10,13 @@ returns-in-Err-clause-found g c = (
   [],
   skips-none g.R.Source.given c.args.feed.now,
   λ within has.
-      front-fault within c.args.order (held c.args.feed.now) (g.R.Source.at_end c.args.feed.now.source) c.in-Err.code c.requires.front has (subst (λ (l : List ℕ). SaysFront c.args.order l (Err c.in-Err.code)) c.held.ensures c.in-Err.ensures),
+      front-fault within c.args.order (held c.args.feed.now) (g.R.Source.at_end c.args.feed.now.source) c.in-Err.code c.requires.front has
+      (subst (λ (l : List ℕ). SaysFront c.args.order l (Err c.in-Err.code)) c.held.ensures c.in-Err.ensures),
 )
 
 pub returns-then-is_read_whole-clause-found : goal.returns-then-is_read_whole-clause-found
-returns-then-is_read_whole-clause-found g c =
-    ([], skips-kept g.R.Source.given c.args.feed.now c.args.feed.now c.hold_block.new.feed [] (skips-none g.R.Source.given c.args.feed.now) c.hold_block.ensures.keeps c.hold_block.ensures.held, c.hold_block.ensures.found)
+returns-then-is_read_whole-clause-found g c = (
+  [],
+  skips-kept g.R.Source.given c.args.feed.now c.args.feed.now c.hold_block.new.feed [] (skips-none g.R.Source.given c.args.feed.now) c.hold_block.ensures.keeps c.hold_block.ensures.held,
+  c.hold_block.ensures.found,
+)

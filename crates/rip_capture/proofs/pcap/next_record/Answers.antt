@@ -49,11 +49,13 @@ returns-clause-found g c =
 
 pub returns-in_err-hold-clause-ready : goal.returns-in_err-hold-clause-ready
 returns-in_err-hold-clause-ready g c = λ holds.
-    ready-on c.args.order c.args.feed.now c.hold_next.new.self c.hold.new.self c.held.result.now c.number_in-captured.result holds (c.hold_next.ensures.ready holds.header) c.held.ensures c.number_in-captured.ensures c.hold.ensures.ready
+    ready-on c.args.order c.args.feed.now c.hold_next.new.self c.hold.new.self c.held.result.now c.number_in-captured.result holds
+    (c.hold_next.ensures.ready holds.header) c.held.ensures c.number_in-captured.ensures c.hold.ensures.ready
 
 pub returns-clause-ready : goal.returns-clause-ready
 returns-clause-ready g c = λ holds.
-    ready-on c.args.order c.args.feed.now c.hold_next.new.self c.hold.new.self c.held.result.now c.number_in-captured.result holds (c.hold_next.ensures.ready holds.header) c.held.ensures c.number_in-captured.ensures c.hold.ensures.ready
+    ready-on c.args.order c.args.feed.now c.hold_next.new.self c.hold.new.self c.held.result.now c.number_in-captured.result holds
+    (c.hold_next.ensures.ready holds.header) c.held.ensures c.number_in-captured.ensures c.hold.ensures.ready
 
 pub returns-in_err-hold-clause-short : goal.returns-in_err-hold-clause-short
 returns-in_err-hold-clause-short g c = λ failed holds.

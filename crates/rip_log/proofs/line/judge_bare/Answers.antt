@@ -17,6 +17,7 @@ returns-else-is_err c =
     let split = c.in-ThreeOrMore.ensures in
     let one : fields_of rest ≡ rest ∷ [] = elim c.else-is_err.branch [
       | else-is_err-via-then-is_err+else-not-is_field w ↦ w.is_field.ensures.one w.if-not-is_field.false
-      | else-is_err-via-else-is_err w ↦ good-said link sender rest bare room (origin_by (link ∷ sender ∷ rest ∷ [])) judged (sym c.is_err.ensures.value ∙ w.if-is_err.false) split.5.some c.judge_fields-judged.ensures
+      | else-is_err-via-else-is_err w ↦ good-said link sender rest bare room (origin_by (link ∷ sender ∷ rest ∷ [])) judged
+          (sym c.is_err.ensures.value ∙ w.if-is_err.false) split.5.some c.judge_fields-judged.ensures
     ] in
     three-said (fields_of bare) link sender rest bare room judged (split.1 ∙ ap (λ (l : List (List ℕ)). link ∷ sender ∷ l) one) split.0 c.judge_fields-judged.ensures

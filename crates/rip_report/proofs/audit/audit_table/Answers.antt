@@ -8,7 +8,8 @@ use Rattle.rip_report.proofs.audit.audit_table.Goals as goal
 pub write_verdict-wrote-requires-clause-verdict : goal.write_verdict-wrote-requires-clause-verdict
 write_verdict-wrote-requires-clause-verdict g c =
     let e = c.judge-verdict.ensures in
-    said c.args.plan.now (g.T.MetricTable.state c.args.table.now) c.judge-verdict.result (record { settled = e.settled; unsettled = e.unsettled; unclear = e.unclear; no_tables = e.no_tables; arrive = e.arrive })
+    said c.args.plan.now (g.T.MetricTable.state c.args.table.now) c.judge-verdict.result
+    (record { settled = e.settled; unsettled = e.unsettled; unclear = e.unclear; no_tables = e.no_tables; arrive = e.arrive })
 
 pub returns-in-Ok-clause-judged : goal.returns-in-Ok-clause-judged
 returns-in-Ok-clause-judged g c =
@@ -23,7 +24,11 @@ returns-in-Ok-clause-prints g c =
     let n = c.args.plan.now in
     let s = g.T.MetricTable.state c.args.table.now in
     let wrote = c.write_verdict-wrote.ensures in
-    finished_prints (VerdictText n s c.args.all) (record { text = wrote.0; status = verdict_status c.judge-verdict.result }) g.K.Sink.taken g.K.Sink.broken c.args.out.now c.write_verdict-wrote.new.out c.write_verdict-wrote.result c.finish.result wrote.1 (c.finish.ensures ∙ ap (finished c.write_verdict-wrote.result) c.status_of.ensures) wrote.2
+    finished_prints (VerdictText n s c.args.all) (record {
+      text = wrote.0;
+      status = verdict_status c.judge-verdict.result;
+    }) g.K.Sink.taken g.K.Sink.broken c.args.out.now c.write_verdict-wrote.new.out c.write_verdict-wrote.result c.finish.result wrote.1
+    (c.finish.ensures ∙ ap (finished c.write_verdict-wrote.result) c.status_of.ensures) wrote.2
 
 pub returns-in-Err-clause-memory : goal.returns-in-Err-clause-memory
 returns-in-Err-clause-memory g c _ =

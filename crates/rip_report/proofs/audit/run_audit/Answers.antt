@@ -8,14 +8,16 @@ use Rattle.rip_check.specs.Told.{told}
 pub returns-clause-headline : goal.returns-clause-headline
 returns-clause-headline g c =
     let e = c.run_report.ensures in
-    λ text given n s accepted. headline n s (VerdictText n s c.args.all) (g.K.Sink.taken c.args.out.now) (g.K.Sink.taken c.run_report.new.out) c.run_report.result.1 (e.meaning text given n s accepted) (e.told text given n s accepted)
+    λ text given n s accepted. headline n s (VerdictText n s c.args.all) (g.K.Sink.taken c.args.out.now) (g.K.Sink.taken c.run_report.new.out) c.run_report.result.1
+    (e.meaning text given n s accepted) (e.told text given n s accepted)
 
 pub returns-clause-known : goal.returns-clause-known
 returns-clause-known g c =
     let e = c.run_report.ensures in
     λ text is n s accepted.
     let given = e.reads.draws.to_come text is in
-    headline n s (VerdictText n s c.args.all) (g.K.Sink.taken c.args.out.now) (g.K.Sink.taken c.run_report.new.out) c.run_report.result.1 (e.meaning text given n s accepted) (e.told text given n s accepted)
+    headline n s (VerdictText n s c.args.all) (g.K.Sink.taken c.args.out.now) (g.K.Sink.taken c.run_report.new.out) c.run_report.result.1 (e.meaning text given n s accepted)
+    (e.told text given n s accepted)
 
 pub returns-clause-one_set : goal.returns-clause-one_set
 returns-clause-one_set g c = λ text given n s accepted.

@@ -11,15 +11,21 @@ pub returns-in-Settled : goal.returns-in-Settled
 returns-in-Settled g c =
     let n = c.args.plan.now in
     let s = g.T.MetricTable.state c.args.table.now in
-    let line = c.as_bytes.ensures ∙ c.settled_text.ensures in
-    (settled_line n s, settled_told n s c.args.all c.args.verdict.now c.in-Settled.is c.requires.verdict, Writes-same g.K.Sink.taken g.K.Sink.broken c.args.out.now c.write_all.new.out c.write_all.result _ _ [] line c.write_all.ensures)
+    let line = c.as_bytes.ensures ∙ c.settled_text.ensures in (
+      settled_line n s,
+      settled_told n s c.args.all c.args.verdict.now c.in-Settled.is c.requires.verdict,
+      Writes-same g.K.Sink.taken g.K.Sink.broken c.args.out.now c.write_all.new.out c.write_all.result _ _ [] line c.write_all.ensures,
+    )
 
 pub returns-in-Unclear : goal.returns-in-Unclear
 returns-in-Unclear g c =
     let n = c.args.plan.now in
     let s = g.T.MetricTable.state c.args.table.now in
-    let line = c.as_bytes-in-Unclear.ensures ∙ c.unclear_text.ensures in
-    (unclear_line n s c.in-Unclear.trouble, unclear_told n s c.args.all c.args.verdict.now c.in-Unclear.trouble c.in-Unclear.is c.requires.verdict, Writes-same g.K.Sink.taken g.K.Sink.broken c.args.out.now c.write_all-in-Unclear.new.out c.write_all-in-Unclear.result _ _ [] line c.write_all-in-Unclear.ensures)
+    let line = c.as_bytes-in-Unclear.ensures ∙ c.unclear_text.ensures in (
+      unclear_line n s c.in-Unclear.trouble,
+      unclear_told n s c.args.all c.args.verdict.now c.in-Unclear.trouble c.in-Unclear.is c.requires.verdict,
+      Writes-same g.K.Sink.taken g.K.Sink.broken c.args.out.now c.write_all-in-Unclear.new.out c.write_all-in-Unclear.result _ _ [] line c.write_all-in-Unclear.ensures,
+    )
 
 pub returns-in-Unsettled : goal.returns-in-Unsettled
 returns-in-Unsettled g c =

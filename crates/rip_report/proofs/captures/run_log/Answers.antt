@@ -20,10 +20,13 @@ returns-in-Ok-clause-prints g c = λ bytes is.
     let reader = c.log_packets-ending.new.reader in
     let link = c.args.link.now in
     let out = c.args.out.now in
-    let text : Begins (start ++ bytes) (S.given (source_of reader)) (S.at_end (source_of reader)) = subst (λ (s : g.row.R.Denot). Begins (start ++ bytes) (S.given s) (S.at_end s)) c.into_source.ensures is in
-    let ends = subst (λ (s : g.row.R.Denot). EndsSo S.given S.at_end c.args.log.now.authentication (S.given s) c.args.log.now.lines logs.carriers reader c.log_packets-ending.new.listing c.log_packets-ending.result) c.in-Ok.ensures.source logs.ends in
+    let text : Begins (start ++ bytes) (S.given (source_of reader)) (S.at_end (source_of reader)) =
+    subst (λ (s : g.row.R.Denot). Begins (start ++ bytes) (S.given s) (S.at_end s)) c.into_source.ensures is in
+    let ends = subst (λ (s : g.row.R.Denot). EndsSo S.given S.at_end c.args.log.now.authentication
+    (S.given s) c.args.log.now.lines logs.carriers reader c.log_packets-ending.new.listing c.log_packets-ending.result) c.in-Ok.ensures.source logs.ends in
     let wrote = logs.adds out [] (writes_none taken broken out c.new-listing.result c.new-listing.ensures.page c.new-listing.ensures.wrote) in
-    adds-file S.given S.at_end start bytes reader text taken broken out c.close_file-answer.new.out c.args.log.now c.close_file-answer.new.log link c.log_packets-ending.new.listing c.early_faults.ensures c.read_captures.ensures logs.carriers logs.carry logs.few c.log_packets-ending.result c.close_file-answer.result ends
+    adds-file S.given S.at_end start bytes reader text taken broken out c.close_file-answer.new.out c.args.log.now c.close_file-answer.new.log link c.log_packets-ending.new.listing
+    c.early_faults.ensures c.read_captures.ensures logs.carriers logs.carry logs.few c.log_packets-ending.result c.close_file-answer.result ends
     (c.close_file-answer.ensures.closes out (packet_lines c.args.log.now.authentication link logs.carriers) wrote)
 
 pub returns-in-Ok-clause-read : goal.returns-in-Ok-clause-read
@@ -36,11 +39,14 @@ returns-in-Ok-clause-read g c = λ bytes is e.
     let reader = c.log_packets-ending.new.reader in
     let link = c.args.link.now in
     let out = c.args.out.now in
-    let text : Begins (start ++ bytes) (S.given (source_of reader)) (S.at_end (source_of reader)) = subst (λ (s : g.row.R.Denot). Begins (start ++ bytes) (S.given s) (S.at_end s)) c.into_source.ensures is in
-    let ends = subst (λ (s : g.row.R.Denot). EndsSo S.given S.at_end c.args.log.now.authentication (S.given s) c.args.log.now.lines logs.carriers reader c.log_packets-ending.new.listing c.log_packets-ending.result) c.in-Ok.ensures.source logs.ends in
+    let text : Begins (start ++ bytes) (S.given (source_of reader)) (S.at_end (source_of reader)) =
+    subst (λ (s : g.row.R.Denot). Begins (start ++ bytes) (S.given s) (S.at_end s)) c.into_source.ensures is in
+    let ends = subst (λ (s : g.row.R.Denot). EndsSo S.given S.at_end c.args.log.now.authentication
+    (S.given s) c.args.log.now.lines logs.carriers reader c.log_packets-ending.new.listing c.log_packets-ending.result) c.in-Ok.ensures.source logs.ends in
     let wrote = logs.adds out [] (writes_none taken broken out c.new-listing.result c.new-listing.ensures.page c.new-listing.ensures.wrote) in
     let closes = c.close_file-answer.ensures.closes out (packet_lines c.args.log.now.authentication link logs.carriers) wrote in
-    let unread = unread-only taken broken out c.close_file-answer.new.out c.args.log.now c.close_file-answer.new.log link (packet_lines c.args.log.now.authentication link logs.carriers) c.log_packets-ending.result c.close_file-answer.result closes e in
+    let unread = unread-only taken broken out c.close_file-answer.new.out c.args.log.now c.close_file-answer.new.log link
+    (packet_lines c.args.log.now.authentication link logs.carriers) c.log_packets-ending.result c.close_file-answer.result closes e in
     elim (logs.unread unread) [
       | inl failed ↦ inl (ap S.broken c.into_source.ensures ∙ failed)
       | inr far ↦ inr (far-bytes S.given S.at_end start bytes reader text c.args.log.now.authentication c.args.log.now.lines c.log_packets-ending.new.listing logs.carriers (rw unread at ends) far)
@@ -72,16 +78,19 @@ returns-in-Err-clause-prints g c = λ bytes is.
 pub returns-in-Ok-clause-to_come : goal.returns-in-Ok-clause-to_come
 returns-in-Ok-clause-to_come g c = λ bytes is.
     let S = g.R.Source in
-    let went = subst (λ (s : g.row.R.Denot). Went S.given S.coming S.at_end s c.into_source.result) c.in-Ok.ensures.source (subst (λ (s : g.row.R.Denot). Went S.given S.coming S.at_end (source_of c.in-Ok.reader) s) (sym c.into_source.ensures) c.log_packets-ending.ensures.went) in
+    let went = subst (λ (s : g.row.R.Denot). Went S.given S.coming S.at_end s c.into_source.result) c.in-Ok.ensures.source
+    (subst (λ (s : g.row.R.Denot). Went S.given S.coming S.at_end (source_of c.in-Ok.reader) s) (sym c.into_source.ensures) c.log_packets-ending.ensures.went) in
     told_given S.given S.coming S.at_end c.args.file c.into_source.result went (g.met.R.Source.nothing_left c.into_source.result) bytes is
 
 pub returns-in-Ok-clause-goes_on : goal.returns-in-Ok-clause-goes_on
 returns-in-Ok-clause-goes_on g c = λ bytes given files text is wrote.
-    log-goes-on g.K.Sink.taken g.K.Sink.broken c.args.out.now c.close_file-answer.new.out c.args.log.now c.close_file-answer.new.log c.args.link.now bytes c.close_file-answer.result (returns-in-Ok-clause-prints g c bytes given) files text is wrote
+    log-goes-on g.K.Sink.taken g.K.Sink.broken c.args.out.now c.close_file-answer.new.out c.args.log.now c.close_file-answer.new.log c.args.link.now bytes c.close_file-answer.result
+    (returns-in-Ok-clause-prints g c bytes given) files text is wrote
 
 pub returns-in-Err-clause-goes_on : goal.returns-in-Err-clause-goes_on
 returns-in-Err-clause-goes_on g c = λ bytes given files text is wrote.
-    log-goes-on g.K.Sink.taken g.K.Sink.broken c.args.out.now c.log_failure.new.out c.args.log.now c.args.log.now c.args.link.now bytes c.log_failure.result (returns-in-Err-clause-prints g c bytes given) files text is wrote
+    log-goes-on g.K.Sink.taken g.K.Sink.broken c.args.out.now c.log_failure.new.out c.args.log.now c.args.log.now c.args.link.now bytes c.log_failure.result
+    (returns-in-Err-clause-prints g c bytes given) files text is wrote
 
 pub returns-in-Ok-clause-unread : goal.returns-in-Ok-clause-unread
 returns-in-Ok-clause-unread g c = λ bytes gave e.
@@ -93,12 +102,15 @@ returns-in-Ok-clause-unread g c = λ bytes gave e.
     let reader = c.log_packets-ending.new.reader in
     let link = c.args.link.now in
     let out = c.args.out.now in
-    let ends = subst (λ (s : g.row.R.Denot). EndsSo S.given S.at_end c.args.log.now.authentication (S.given s) c.args.log.now.lines logs.carriers reader c.log_packets-ending.new.listing c.log_packets-ending.result) c.in-Ok.ensures.source logs.ends in
+    let ends = subst (λ (s : g.row.R.Denot). EndsSo S.given S.at_end c.args.log.now.authentication
+    (S.given s) c.args.log.now.lines logs.carriers reader c.log_packets-ending.new.listing c.log_packets-ending.result) c.in-Ok.ensures.source logs.ends in
     let wrote = logs.adds out [] (writes_none taken broken out c.new-listing.result c.new-listing.ensures.page c.new-listing.ensures.wrote) in
     let closes = c.close_file-answer.ensures.closes out (packet_lines c.args.log.now.authentication link logs.carriers) wrote in
     let gave_so : S.given (source_of reader) ≡ start ++ bytes = ap S.given (sym c.into_source.ensures) ∙ gave in
-    let unread = unread-only taken broken out c.close_file-answer.new.out c.args.log.now c.close_file-answer.new.log link (packet_lines c.args.log.now.authentication link logs.carriers) c.log_packets-ending.result c.close_file-answer.result closes e in
-    adds-unread S.given S.at_end start bytes reader taken broken out c.close_file-answer.new.out c.args.log.now c.close_file-answer.new.log link c.args.log.now.lines c.log_packets-ending.new.listing logs.carriers logs.carry gave_so (rw unread at ends) c.close_file-answer.result (rw unread at closes) e
+    let unread = unread-only taken broken out c.close_file-answer.new.out c.args.log.now c.close_file-answer.new.log link
+    (packet_lines c.args.log.now.authentication link logs.carriers) c.log_packets-ending.result c.close_file-answer.result closes e in
+    adds-unread S.given S.at_end start bytes reader taken broken out c.close_file-answer.new.out c.args.log.now c.close_file-answer.new.log link c.args.log.now.lines
+    c.log_packets-ending.new.listing logs.carriers logs.carry gave_so (rw unread at ends) c.close_file-answer.result (rw unread at closes) e
 
 pub returns-in-Ok-clause-untouched : goal.returns-in-Ok-clause-untouched
 returns-in-Ok-clause-untouched g c = λ e.
@@ -108,4 +120,6 @@ returns-in-Ok-clause-untouched g c = λ e.
     let link = c.args.link.now in
     let out = c.args.out.now in
     let wrote = logs.adds out [] (writes_none taken broken out c.new-listing.result c.new-listing.ensures.page c.new-listing.ensures.wrote) in
-    absurd (never-memory taken broken out c.close_file-answer.new.out c.args.log.now c.close_file-answer.new.log link (packet_lines c.args.log.now.authentication link logs.carriers) c.log_packets-ending.result c.close_file-answer.result (c.close_file-answer.ensures.closes out (packet_lines c.args.log.now.authentication link logs.carriers) wrote) e)
+    absurd (never-memory taken broken out c.close_file-answer.new.out c.args.log.now c.close_file-answer.new.log link
+    (packet_lines c.args.log.now.authentication link logs.carriers) c.log_packets-ending.result c.close_file-answer.result
+    (c.close_file-answer.ensures.closes out (packet_lines c.args.log.now.authentication link logs.carriers) wrote) e)

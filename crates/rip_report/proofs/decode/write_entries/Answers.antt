@@ -15,7 +15,8 @@ loop-i-preserved g c =
     let line = ap (λ l. held c.loop-i.page ++ l) (c.as_bytes.ensures ∙ c.entry_text.ensures) in
     let wrote = Writes-same taken broken c.loop-i.out c.write.new.out (Ok c.in_ok-write.field-0) _ _ (held c.write.new.self) line c.in_ok-write.ensures in
     record {
-      wrote = Writes-line entry_line taken broken c.args.out.now c.loop-i.out c.write.new.out tt (Ok tt) text (held c.loop-i.page) (held c.write.new.self) es c.loop-i.i c.entry.result c.entry.ensures c.loop-i.invariant.wrote wrote;
+      wrote = Writes-line entry_line taken broken c.args.out.now c.loop-i.out c.write.new.out tt (Ok tt) text (held c.loop-i.page)
+          (held c.write.new.self) es c.loop-i.i c.entry.result c.entry.ensures c.loop-i.invariant.wrote wrote;
     }
 
 pub returns-in_err-write : goal.returns-in_err-write
@@ -27,7 +28,8 @@ returns-in_err-write g c =
     let line = ap (λ l. held c.loop-i.page ++ l) (c.as_bytes.ensures ∙ c.entry_text.ensures) in
     let wrote = Writes-same taken broken c.loop-i.out c.write.new.out _ _ _ (held c.write.new.self) line c.in_err-write.ensures in
     Writes-fails taken broken c.args.out.now c.write.new.out _ c.from_residual.result text _ _ c.from_residual.ensures.0
-    (Writes-line entry_line taken broken c.args.out.now c.loop-i.out c.write.new.out tt _ text (held c.loop-i.page) (held c.write.new.self) es c.loop-i.i c.entry.result c.entry.ensures c.loop-i.invariant.wrote wrote)
+    (Writes-line entry_line taken broken c.args.out.now c.loop-i.out c.write.new.out tt _ text (held c.loop-i.page)
+    (held c.write.new.self) es c.loop-i.i c.entry.result c.entry.ensures c.loop-i.invariant.wrote wrote)
 
 pub returns : goal.returns
 returns g c =

@@ -7,7 +7,11 @@ use Rattle.rip_report.proofs.ListingLemmas.{nothing_yet, one_more}
 use Rattle.rip_report.proofs.expect.add_over.Goals as goal
 
 pub loop-i-init : goal.loop-i-init
-loop-i-init g c = record { so_far = nothing_yet g.K.Sink.taken g.K.Sink.broken (λ k. WayLine c.args.plan.now c.args.router c.args.prefix (Over (link_of c.args.plan.now c.args.router k))) c.args.out.now c.args.listing.now }
+loop-i-init g c =
+    record {
+      so_far = nothing_yet g.K.Sink.taken g.K.Sink.broken
+          (λ k. WayLine c.args.plan.now c.args.router c.args.prefix (Over (link_of c.args.plan.now c.args.router k))) c.args.out.now c.args.listing.now;
+    }
 
 pub interface-link-requires : goal.interface-link-requires
 interface-link-requires g c = its_number c.args.plan.now c.args.router c.of_router-numbers.result.now c.of_router-numbers.ensures.exact c.loop-i.i-index c.loop-i-test.true
@@ -18,7 +22,12 @@ add_way-requires-clause-way g c = c.lawful.ensures.link_known _ c.interface-link
 pub loop-i-preserved : goal.loop-i-preserved
 loop-i-preserved g c =
     let more = c.add_way.ensures in
-    record { so_far = one_more g.K.Sink.taken g.K.Sink.broken (λ k. WayLine c.args.plan.now c.args.router c.args.prefix (Over (link_of c.args.plan.now c.args.router k))) c.args.out.now c.loop-i.out c.add_way.new.out c.args.listing.now c.loop-i.listing c.add_way.new.listing c.loop-i.i-index c.loop-i.invariant.so_far more.0 (rw (link_is c.args.plan.now c.args.router c.loop-i.i-index c.of_router-numbers.result.now c.interface-link.result c.of_router-numbers.ensures.value c.interface-link.ensures.exact) more.1) more.2 }
+    record {
+      so_far = one_more g.K.Sink.taken g.K.Sink.broken (λ k. WayLine c.args.plan.now c.args.router c.args.prefix (Over (link_of c.args.plan.now c.args.router k))) c.args.out.now c.loop-i.out
+          c.add_way.new.out c.args.listing.now c.loop-i.listing c.add_way.new.listing c.loop-i.i-index c.loop-i.invariant.so_far more.0
+          (rw (link_is c.args.plan.now c.args.router c.loop-i.i-index c.of_router-numbers.result.now c.interface-link.result c.of_router-numbers.ensures.value c.interface-link.ensures.exact)
+          more.1) more.2;
+    }
 
 pub returns : goal.returns
 returns g c =

@@ -9,7 +9,10 @@ loop-prefix-init g c = record { so_far = nothing_yet g.K.Sink.taken g.K.Sink.bro
 pub loop-prefix-preserved : goal.loop-prefix-preserved
 loop-prefix-preserved g c =
     let more = c.add_pair.ensures in
-    record { so_far = one_more g.K.Sink.taken g.K.Sink.broken (PairLines c.args.plan.now c.args.router) c.args.out.now c.loop-prefix.out c.add_pair.new.out c.args.listing.now c.loop-prefix.listing c.add_pair.new.listing c.loop-prefix.prefix c.loop-prefix.invariant.so_far more.0 more.1 more.2 }
+    record {
+      so_far = one_more g.K.Sink.taken g.K.Sink.broken (PairLines c.args.plan.now c.args.router) c.args.out.now c.loop-prefix.out c.add_pair.new.out c.args.listing.now c.loop-prefix.listing
+          c.add_pair.new.listing c.loop-prefix.prefix c.loop-prefix.invariant.so_far more.0 more.1 more.2;
+    }
 
 pub returns : goal.returns
 returns g c =

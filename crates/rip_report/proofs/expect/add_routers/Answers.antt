@@ -9,7 +9,10 @@ loop-router-init g c = record { so_far = nothing_yet g.K.Sink.taken g.K.Sink.bro
 pub loop-router-preserved : goal.loop-router-preserved
 loop-router-preserved g c =
     let more = c.add_router.ensures in
-    record { so_far = one_more g.K.Sink.taken g.K.Sink.broken (RouterLines c.args.plan.now) c.args.out.now c.loop-router.out c.add_router.new.out c.args.listing.now c.loop-router.listing c.add_router.new.listing c.loop-router.router c.loop-router.invariant.so_far more.0 more.1 more.2 }
+    record {
+      so_far = one_more g.K.Sink.taken g.K.Sink.broken (RouterLines c.args.plan.now) c.args.out.now c.loop-router.out c.add_router.new.out c.args.listing.now c.loop-router.listing
+          c.add_router.new.listing c.loop-router.router c.loop-router.invariant.so_far more.0 more.1 more.2;
+    }
 
 pub returns : goal.returns
 returns g c =

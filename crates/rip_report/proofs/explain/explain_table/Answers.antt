@@ -15,19 +15,37 @@ pub returns-in-Settled-clause-judged : goal.returns-in-Settled-clause-judged
 returns-in-Settled-clause-judged g c =
     let n = c.args.plan.now in
     let s = g.T.MetricTable.state c.args.table.now in
-    let j : Judges n s c.judge.result = record { settled = c.judge.ensures.settled; unsettled = c.judge.ensures.unsettled; unclear = c.judge.ensures.unclear; no_tables = c.judge.ensures.no_tables; arrive = c.judge.ensures.arrive } in
+    let j : Judges n s c.judge.result = record {
+      settled = c.judge.ensures.settled;
+      unsettled = c.judge.ensures.unsettled;
+      unclear = c.judge.ensures.unclear;
+      no_tables = c.judge.ensures.no_tables;
+      arrive = c.judge.ensures.arrive;
+    } in
     explained_out n s c.args.all c.judge.result (g.K.Sink.taken c.args.out.now) (g.K.Sink.taken c.explain_settled.new.out) c.explain_settled.result j (c.explain_settled.ensures.prints c.args.all).text
 
 pub returns-in-Unsettled-clause-judged : goal.returns-in-Unsettled-clause-judged
 returns-in-Unsettled-clause-judged g c =
     let n = c.args.plan.now in
     let s = g.T.MetricTable.state c.args.table.now in
-    let j : Judges n s c.judge.result = record { settled = c.judge.ensures.settled; unsettled = c.judge.ensures.unsettled; unclear = c.judge.ensures.unclear; no_tables = c.judge.ensures.no_tables; arrive = c.judge.ensures.arrive } in
+    let j : Judges n s c.judge.result = record {
+      settled = c.judge.ensures.settled;
+      unsettled = c.judge.ensures.unsettled;
+      unclear = c.judge.ensures.unclear;
+      no_tables = c.judge.ensures.no_tables;
+      arrive = c.judge.ensures.arrive;
+    } in
     explained_out n s c.args.all c.judge.result (g.K.Sink.taken c.args.out.now) (g.K.Sink.taken c.explain_unsettled.new.out) c.explain_unsettled.result j c.explain_unsettled.ensures.prints.text
 
 pub returns-in-Unclear-clause-judged : goal.returns-in-Unclear-clause-judged
 returns-in-Unclear-clause-judged g c =
     let n = c.args.plan.now in
     let s = g.T.MetricTable.state c.args.table.now in
-    let j : Judges n s c.judge.result = record { settled = c.judge.ensures.settled; unsettled = c.judge.ensures.unsettled; unclear = c.judge.ensures.unclear; no_tables = c.judge.ensures.no_tables; arrive = c.judge.ensures.arrive } in
+    let j : Judges n s c.judge.result = record {
+      settled = c.judge.ensures.settled;
+      unsettled = c.judge.ensures.unsettled;
+      unclear = c.judge.ensures.unclear;
+      no_tables = c.judge.ensures.no_tables;
+      arrive = c.judge.ensures.arrive;
+    } in
     explained_out n s c.args.all c.judge.result (g.K.Sink.taken c.args.out.now) (g.K.Sink.taken c.explain_unclear.new.out) c.explain_unclear.result j c.explain_unclear.ensures.prints.text

@@ -12,5 +12,8 @@ pub returns-clause-joined : goal.returns-clause-joined
 returns-clause-joined c = λ how files text answer n s log good table.
     let known = (c.log_texts.ensures.text text table.records).1 table.text in
     let reads : Reads 0 text table.records = cc known in
-    let says = log-says (record { right = c.packet_bytes.ensures.right; fault = c.packet_bytes.ensures.fault }) c.names.ensures.exact c.address_texts.ensures.exact how files text answer table.records good log reads in
+    let says = log-says (record {
+      right = c.packet_bytes.ensures.right;
+      fault = c.packet_bytes.ensures.fault;
+    }) c.names.ensures.exact c.address_texts.ensures.exact how files text answer table.records good log reads in
     (table.records, says.1, table.joined)

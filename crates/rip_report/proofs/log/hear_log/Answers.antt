@@ -20,7 +20,10 @@ returns-in-Ok-clause-told g c text begins =
     let text-is : text_of (rest_of S.given whole) c.in-Ok.reader ≡ Some text = c.in-Ok.ensures.text (rest_of S.given whole) ∙ rest_given S.given c.args.log text in
     let came : said_to_come (rest_of S.given whole) c.in-Ok.reader ≡ Some (all_said text) = rw (c.in-Ok.ensures.front.0, text-is) refl in
     let said = c.collect_all-collected.ensures.collects.said c.in-Ok.ensures.front.1 whole begun in
-    rw c.failure.ensures (heard_of c.said_lines.ensures n text s (holds c.args.listener.now) (holds c.collect_all-collected.new.listener) c.collect_all-collected.result c.requires.new (subst (λ (all : Option AllSaid). SaidOutcome n (new_state n) all s (holds c.args.listener.now) (holds c.collect_all-collected.new.listener) c.collect_all-collected.result) came (subst (λ (old : State). SaidOutcome n old (said_to_come (rest_of S.given whole) c.in-Ok.reader) s (holds c.args.listener.now) (holds c.collect_all-collected.new.listener) c.collect_all-collected.result) c.requires.table said)))
+    rw c.failure.ensures (heard_of c.said_lines.ensures n text s (holds c.args.listener.now) (holds c.collect_all-collected.new.listener) c.collect_all-collected.result c.requires.new
+    (subst (λ (all : Option AllSaid). SaidOutcome n (new_state n) all s (holds c.args.listener.now) (holds c.collect_all-collected.new.listener) c.collect_all-collected.result) came
+    (subst (λ (old : State). SaidOutcome n old (said_to_come (rest_of S.given whole) c.in-Ok.reader) s (holds c.args.listener.now)
+    (holds c.collect_all-collected.new.listener) c.collect_all-collected.result) c.requires.table said)))
 
 pub returns-in-Ok-clause-read : goal.returns-in-Ok-clause-read
 returns-in-Ok-clause-read g c text begins is =

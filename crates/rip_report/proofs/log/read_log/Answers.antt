@@ -15,5 +15,6 @@ returns-in-Ok-clause-told g c = λ text begins.
     let s = g.T.MetricTable.state c.collect-collected.new.table in
     let collected = c.collect-collected.result in
     let words : LogWords = record { text = c.log_texts.ensures.text; fault = c.log_texts.ensures.fault } in
-    let made = made_of words n text s collected (λ log h. subst (λ old. SaidOutcome n old log s collected) c.requires (c.collect-collected.ensures.joined.said c.in-Ok.ensures.front.1 whole begun log (c.in-Ok.ensures.to_come (rest_of S.given whole) ∙ ap log_in (rest_given S.given c.args.log text) ∙ h))) in
+    let made = made_of words n text s collected (λ log h. subst (λ old. SaidOutcome n old log s collected) c.requires
+    (c.collect-collected.ensures.joined.said c.in-Ok.ensures.front.1 whole begun log (c.in-Ok.ensures.to_come (rest_of S.given whole) ∙ ap log_in (rest_given S.given c.args.log text) ∙ h))) in
     rw c.refusal.ensures made

@@ -5,5 +5,6 @@ use Rattle.rip_report.proofs.loops.add_pairs.Given as goal
 
 abbrev pub invariant-loop-router : goal.invariant-loop-router
 invariant-loop-router g l = record {
-  so_far : SoFar g.K.Sink.taken g.K.Sink.broken l.fn.out l.out l.fn.listing l.listing (λ r. TextsBelow (g.E.PairText.is_text l.texts l.plan (g.T.MetricTable.state l.table) r) (length (g.T.MetricTable.state l.table).prefixes)) l.router;
+  so_far : SoFar g.K.Sink.taken g.K.Sink.broken l.fn.out l.out l.fn.listing l.listing
+      (λ r. TextsBelow (g.E.PairText.is_text l.texts l.plan (g.T.MetricTable.state l.table) r) (length (g.T.MetricTable.state l.table).prefixes)) l.router;
 }

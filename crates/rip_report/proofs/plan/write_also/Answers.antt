@@ -22,7 +22,8 @@ returns-in_err-write g c =
     let head = ap (λ l. page ++ l) c.as_bytes.ensures.value in
     let wrote = Writes-same taken broken c.args.out.now c.write.new.out _ _ (page ++ codes " also") (held c.write.new.self) head c.in_err-write.ensures in
     Writes-same taken broken c.args.out.now c.write.new.out c.from_residual.result _ _ _ (some_also page also some)
-    (Writes-cut taken broken c.args.out.now c.write.new.out c.in_err-write.field-0.0 c.from_residual.result (page ++ codes " also") (flat_map address_part also) (held c.write.new.self) _ c.from_residual.ensures.0 wrote)
+    (Writes-cut taken broken c.args.out.now c.write.new.out c.in_err-write.field-0.0 c.from_residual.result (page ++ codes " also") (flat_map address_part also)
+    (held c.write.new.self) _ c.from_residual.ensures.0 wrote)
 
 pub returns : goal.returns
 returns g c =
@@ -34,4 +35,5 @@ returns g c =
     let head = ap (λ l. page ++ l) c.as_bytes.ensures.value in
     let wrote = Writes-same taken broken c.args.out.now c.write.new.out (Ok c.in_ok-write.field-0) _ (page ++ codes " also") (held c.write.new.self) head c.in_ok-write.ensures in
     Writes-same taken broken c.args.out.now c.write_addresses.new.out c.write_addresses.result _ _ _ (some_also page also some)
-    (Writes-more taken broken c.args.out.now c.write.new.out c.write_addresses.new.out _ c.write_addresses.result (page ++ codes " also") (held c.write.new.self) (flat_map address_part also) (held c.write_addresses.new.page) wrote c.write_addresses.ensures)
+    (Writes-more taken broken c.args.out.now c.write.new.out c.write_addresses.new.out _ c.write_addresses.result (page ++ codes " also") (held c.write.new.self) (flat_map address_part also)
+    (held c.write_addresses.new.page) wrote c.write_addresses.ensures)

@@ -46,7 +46,10 @@ returns g c =
     let also = also_text c.args.also.now in
     let same = ap (λ l. page ++ l) (c.as_bytes.ensures ∙ c.interface_text.ensures) in
     let wrote = Writes-same taken broken c.args.out.now c.write.new.out (Ok c.in_ok-write.field-0) _ (page ++ head) _ same c.in_ok-write.ensures in
-    let more = Writes-more taken broken c.args.out.now c.write.new.out c.write_also.new.out _ (Ok c.in_ok-write_also.field-0) (page ++ head) (held c.write.new.self) also (held c.write_also.new.page) wrote c.in_ok-write_also.ensures in
-    let end = Writes-same taken broken c.write_also.new.out c.write-2.new.out c.write-2.result _ (held c.write_also.new.page ++ (10 ∷ [])) _ (ap (λ l. held c.write_also.new.page ++ l) c.as_bytes-2.ensures.value) c.write-2.ensures in
-    let all = Writes-more taken broken c.args.out.now c.write_also.new.out c.write-2.new.out _ c.write-2.result ((page ++ head) ++ also) (held c.write_also.new.page) (10 ∷ []) (held c.write-2.new.self) more end in
+    let more = Writes-more taken broken c.args.out.now c.write.new.out c.write_also.new.out _ (Ok c.in_ok-write_also.field-0) (page ++ head) (held c.write.new.self) also
+    (held c.write_also.new.page) wrote c.in_ok-write_also.ensures in
+    let end = Writes-same taken broken c.write_also.new.out c.write-2.new.out c.write-2.result _ (held c.write_also.new.page ++ (10 ∷ [])) _
+    (ap (λ l. held c.write_also.new.page ++ l) c.as_bytes-2.ensures.value) c.write-2.ensures in
+    let all = Writes-more taken broken c.args.out.now c.write_also.new.out c.write-2.new.out _ c.write-2.result ((page ++ head) ++ also) (held c.write_also.new.page) (10 ∷ [])
+    (held c.write-2.new.self) more end in
     Writes-same taken broken c.args.out.now c.write-2.new.out c.write-2.result _ _ _ (parts page head also (10 ∷ [])) all

@@ -25,7 +25,9 @@ loop-i-preserved g c =
     let same : held c.loop-i.page ++ interface_line n c.interface.result c.also.result.now ≡ held c.loop-i.page ++ line_of_interface n item = rw c.also.ensures in
     let wrote = Writes-same taken broken c.loop-i.out c.write_interface.new.out (Ok c.in_ok-write_interface.field-0) _ _ (held c.write_interface.new.page) same c.in_ok-write_interface.ensures in
     record {
-      wrote = Writes-line (line_of_interface n) taken broken c.args.out.now c.loop-i.out c.write_interface.new.out tt (Ok tt) text (held c.loop-i.page) (held c.write_interface.new.page) numbered c.loop-i.i item (enumerated n.interfaces 0 c.loop-i.i c.loop-i.i c.interface.result (omega arith) c.interface.ensures.exact) c.loop-i.invariant.wrote wrote;
+      wrote = Writes-line (line_of_interface n) taken broken c.args.out.now c.loop-i.out c.write_interface.new.out tt (Ok tt) text (held c.loop-i.page)
+          (held c.write_interface.new.page) numbered c.loop-i.i item (enumerated n.interfaces 0 c.loop-i.i c.loop-i.i c.interface.result
+          (omega arith) c.interface.ensures.exact) c.loop-i.invariant.wrote wrote;
     }
 
 pub returns-in_err-write_interface : goal.returns-in_err-write_interface
@@ -39,7 +41,8 @@ returns-in_err-write_interface g c =
     let same : held c.loop-i.page ++ interface_line n c.interface.result c.also.result.now ≡ held c.loop-i.page ++ line_of_interface n item = rw c.also.ensures in
     let wrote = Writes-same taken broken c.loop-i.out c.write_interface.new.out _ _ _ (held c.write_interface.new.page) same c.in_err-write_interface.ensures in
     Writes-fails taken broken c.args.out.now c.write_interface.new.out _ c.from_residual.result text _ _ c.from_residual.ensures.0
-    (Writes-line (line_of_interface n) taken broken c.args.out.now c.loop-i.out c.write_interface.new.out tt _ text (held c.loop-i.page) (held c.write_interface.new.page) numbered c.loop-i.i item (enumerated n.interfaces 0 c.loop-i.i c.loop-i.i c.interface.result (omega arith) c.interface.ensures.exact) c.loop-i.invariant.wrote wrote)
+    (Writes-line (line_of_interface n) taken broken c.args.out.now c.loop-i.out c.write_interface.new.out tt _ text (held c.loop-i.page) (held c.write_interface.new.page) numbered c.loop-i.i item
+    (enumerated n.interfaces 0 c.loop-i.i c.loop-i.i c.interface.result (omega arith) c.interface.ensures.exact) c.loop-i.invariant.wrote wrote)
 
 pub returns : goal.returns
 returns g c =

@@ -8,5 +8,6 @@ use Rattle.rip_report.proofs.plan.write_interfaces.Given as goal
 abbrev pub invariant-loop-i : goal.invariant-loop-i
 invariant-loop-i g l =
     record {
-      wrote : Writes g.K.Sink.taken g.K.Sink.broken l.fn.out l.out (Ok tt) (held l.fn.page ++ interface_lines l.plan) (held l.page ++ flat_map (line_of_interface l.plan) (drop l.i (enumerate_from 0 l.plan.interfaces)));
+      wrote : Writes g.K.Sink.taken g.K.Sink.broken l.fn.out l.out (Ok tt) (held l.fn.page ++ interface_lines l.plan)
+          (held l.page ++ flat_map (line_of_interface l.plan) (drop l.i (enumerate_from 0 l.plan.interfaces)));
     }

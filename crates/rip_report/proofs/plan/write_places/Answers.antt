@@ -37,7 +37,8 @@ loop-k-preserved g c =
     let line = ap (λ l. held c.loop-k.page ++ l) (c.as_bytes.ensures ∙ c.place_text.ensures) in
     let wrote = Writes-same taken broken c.loop-k.out c.write.new.out (Ok c.in_ok-write.field-0) _ _ (held c.write.new.self) line c.in_ok-write.ensures in
     record {
-      wrote = Writes-line (place_line n) taken broken c.args.out.now c.loop-k.out c.write.new.out tt (Ok tt) text (held c.loop-k.page) (held c.write.new.self) n.places c.loop-k.k c.place.result c.place.ensures.listed c.loop-k.invariant.wrote wrote;
+      wrote = Writes-line (place_line n) taken broken c.args.out.now c.loop-k.out c.write.new.out tt (Ok tt) text (held c.loop-k.page)
+          (held c.write.new.self) n.places c.loop-k.k c.place.result c.place.ensures.listed c.loop-k.invariant.wrote wrote;
     }
 
 pub returns-in_err-write : goal.returns-in_err-write
@@ -49,7 +50,8 @@ returns-in_err-write g c =
     let line = ap (λ l. held c.loop-k.page ++ l) (c.as_bytes.ensures ∙ c.place_text.ensures) in
     let wrote = Writes-same taken broken c.loop-k.out c.write.new.out _ _ _ (held c.write.new.self) line c.in_err-write.ensures in
     Writes-fails taken broken c.args.out.now c.write.new.out _ c.from_residual.result text _ _ c.from_residual.ensures.0
-    (Writes-line (place_line n) taken broken c.args.out.now c.loop-k.out c.write.new.out tt _ text (held c.loop-k.page) (held c.write.new.self) n.places c.loop-k.k c.place.result c.place.ensures.listed c.loop-k.invariant.wrote wrote)
+    (Writes-line (place_line n) taken broken c.args.out.now c.loop-k.out c.write.new.out tt _ text (held c.loop-k.page)
+    (held c.write.new.self) n.places c.loop-k.k c.place.result c.place.ensures.listed c.loop-k.invariant.wrote wrote)
 
 pub returns : goal.returns
 returns g c =

@@ -8,5 +8,6 @@ use Rattle.rip_report.proofs.plan.write_places.Given as goal
 abbrev pub invariant-loop-k : goal.invariant-loop-k
 invariant-loop-k g l =
     record {
-      wrote : Writes g.K.Sink.taken g.K.Sink.broken l.fn.out l.out (Ok tt) (held l.fn.page ++ flat_map (place_line l.plan) l.plan.places) (held l.page ++ flat_map (place_line l.plan) (drop l.k l.plan.places));
+      wrote : Writes g.K.Sink.taken g.K.Sink.broken l.fn.out l.out (Ok tt) (held l.fn.page ++ flat_map (place_line l.plan) l.plan.places)
+          (held l.page ++ flat_map (place_line l.plan) (drop l.k l.plan.places));
     }

@@ -14,7 +14,8 @@ returns-in_err-write g c =
     let places = flat_map (place_line n) n.places in
     let head = first_line (held c.new-page.result) _ counts c.new-page.ensures (c.as_bytes.ensures ∙ c.counts_text.ensures) in
     let wrote = Writes-same g.K.Sink.taken g.K.Sink.broken c.args.out.now c.write.new.out _ _ counts _ head c.in_err-write.ensures in
-    Writes-cut g.K.Sink.taken g.K.Sink.broken c.args.out.now c.write.new.out c.in_err-write.field-0.0 c.from_residual.result (counts ++ interfaces) places (held c.write.new.self) _ c.from_residual.ensures.0
+    Writes-cut g.K.Sink.taken g.K.Sink.broken c.args.out.now c.write.new.out c.in_err-write.field-0.0 c.from_residual.result (counts ++ interfaces) places
+    (held c.write.new.self) _ c.from_residual.ensures.0
     (Writes-cut g.K.Sink.taken g.K.Sink.broken c.args.out.now c.write.new.out _ (Err c.in_err-write.field-0.0) counts interfaces _ _ refl wrote)
 
 pub returns-in_err-write_interfaces : goal.returns-in_err-write_interfaces
@@ -25,7 +26,8 @@ returns-in_err-write_interfaces g c =
     let places = flat_map (place_line n) n.places in
     let head = first_line (held c.new-page.result) _ counts c.new-page.ensures (c.as_bytes.ensures ∙ c.counts_text.ensures) in
     let wrote = Writes-same g.K.Sink.taken g.K.Sink.broken c.args.out.now c.write.new.out (Ok c.in_ok-write.field-0) _ counts _ head c.in_ok-write.ensures in
-    Writes-cut g.K.Sink.taken g.K.Sink.broken c.args.out.now c.write_interfaces.new.out _ c.from_residual-in_err-write_interfaces.result (counts ++ interfaces) places _ _ c.from_residual-in_err-write_interfaces.ensures.0
+    Writes-cut g.K.Sink.taken g.K.Sink.broken c.args.out.now c.write_interfaces.new.out _ c.from_residual-in_err-write_interfaces.result
+    (counts ++ interfaces) places _ _ c.from_residual-in_err-write_interfaces.ensures.0
     (Writes-more g.K.Sink.taken g.K.Sink.broken c.args.out.now c.write.new.out c.write_interfaces.new.out _ _ counts (held c.write.new.self) interfaces _ wrote c.in_err-write_interfaces.ensures)
 
 pub returns-in_err-write_places : goal.returns-in_err-write_places
@@ -36,9 +38,11 @@ returns-in_err-write_places g c =
     let places = flat_map (place_line n) n.places in
     let head = first_line (held c.new-page.result) _ counts c.new-page.ensures (c.as_bytes.ensures ∙ c.counts_text.ensures) in
     let wrote = Writes-same g.K.Sink.taken g.K.Sink.broken c.args.out.now c.write.new.out (Ok c.in_ok-write.field-0) _ counts _ head c.in_ok-write.ensures in
-    let more = Writes-more g.K.Sink.taken g.K.Sink.broken c.args.out.now c.write.new.out c.write_interfaces.new.out _ (Ok c.in_ok-write_interfaces.field-0) counts (held c.write.new.self) interfaces (held c.write_interfaces.new.page) wrote c.in_ok-write_interfaces.ensures in
+    let more = Writes-more g.K.Sink.taken g.K.Sink.broken c.args.out.now c.write.new.out c.write_interfaces.new.out _ (Ok c.in_ok-write_interfaces.field-0) counts (held c.write.new.self) interfaces
+    (held c.write_interfaces.new.page) wrote c.in_ok-write_interfaces.ensures in
     Writes-fails g.K.Sink.taken g.K.Sink.broken c.args.out.now c.write_places.new.out _ c.from_residual-in_err-write_places.result (shown_plan n).text _ _ c.from_residual-in_err-write_places.ensures.0
-    (Writes-more g.K.Sink.taken g.K.Sink.broken c.args.out.now c.write_interfaces.new.out c.write_places.new.out _ _ (counts ++ interfaces) (held c.write_interfaces.new.page) places _ more c.in_err-write_places.ensures)
+    (Writes-more g.K.Sink.taken g.K.Sink.broken c.args.out.now c.write_interfaces.new.out c.write_places.new.out _ _ (counts ++ interfaces)
+    (held c.write_interfaces.new.page) places _ more c.in_err-write_places.ensures)
 
 pub returns : goal.returns
 returns g c =
@@ -48,6 +52,8 @@ returns g c =
     let places = flat_map (place_line n) n.places in
     let head = first_line (held c.new-page.result) _ counts c.new-page.ensures (c.as_bytes.ensures ∙ c.counts_text.ensures) in
     let wrote = Writes-same g.K.Sink.taken g.K.Sink.broken c.args.out.now c.write.new.out (Ok c.in_ok-write.field-0) _ counts _ head c.in_ok-write.ensures in
-    let more = Writes-more g.K.Sink.taken g.K.Sink.broken c.args.out.now c.write.new.out c.write_interfaces.new.out _ (Ok c.in_ok-write_interfaces.field-0) counts (held c.write.new.self) interfaces (held c.write_interfaces.new.page) wrote c.in_ok-write_interfaces.ensures in
-    let all = Writes-more g.K.Sink.taken g.K.Sink.broken c.args.out.now c.write_interfaces.new.out c.write_places.new.out _ (Ok c.in_ok-write_places.field-0) (counts ++ interfaces) (held c.write_interfaces.new.page) places (held c.write_places.new.page) more c.in_ok-write_places.ensures in
+    let more = Writes-more g.K.Sink.taken g.K.Sink.broken c.args.out.now c.write.new.out c.write_interfaces.new.out _ (Ok c.in_ok-write_interfaces.field-0) counts (held c.write.new.self) interfaces
+    (held c.write_interfaces.new.page) wrote c.in_ok-write_interfaces.ensures in
+    let all = Writes-more g.K.Sink.taken g.K.Sink.broken c.args.out.now c.write_interfaces.new.out c.write_places.new.out _ (Ok c.in_ok-write_places.field-0) (counts ++ interfaces)
+    (held c.write_interfaces.new.page) places (held c.write_places.new.page) more c.in_ok-write_places.ensures in
     Writes-held g.K.Sink.taken g.K.Sink.broken c.args.out.now c.write_places.new.out c.flush.new.out _ c.flush.result (shown_plan n).text (held c.write_places.new.page) _ all c.flush.ensures.writes

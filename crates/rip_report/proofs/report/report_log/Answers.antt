@@ -26,7 +26,8 @@ returns-in-Ok-None-clause-told g c = λ text begins.
     let b = g.K.Sink.taken c.write.new.out in
     let told_of = rw (c.in-Ok-None.is, c.in-Ok-None.field-0-is) at c.read_log-source.ensures.told in
     let told = told_of text begins in
-    λ t table. subst (λ (u : State). IfOk c.write.result (WentOut (g.C.Report.is_text c.args.command.now n u) a b)) (same_table (record { text = c.log_texts.ensures.text; fault = c.log_texts.ensures.fault }) c.one_join.ensures n text s t None told table).0 c.write.ensures.prints.text
+    λ t table. subst (λ (u : State). IfOk c.write.result (WentOut (g.C.Report.is_text c.args.command.now n u) a b))
+    (same_table (record { text = c.log_texts.ensures.text; fault = c.log_texts.ensures.fault }) c.one_join.ensures n text s t None told table).0 c.write.ensures.prints.text
 
 pub returns-in-Ok-None-clause-meaning : goal.returns-in-Ok-None-clause-meaning
 returns-in-Ok-None-clause-meaning g c = λ text begins.
@@ -34,7 +35,8 @@ returns-in-Ok-None-clause-meaning g c = λ text begins.
     let s = g.T.MetricTable.state c.read_log-source.new.table in
     let told_of = rw (c.in-Ok-None.is, c.in-Ok-None.field-0-is) at c.read_log-source.ensures.told in
     let told = told_of text begins in
-    λ t table. subst (λ (u : State). IfOk c.write.result (g.C.Report.means c.args.command.now n u)) (same_table (record { text = c.log_texts.ensures.text; fault = c.log_texts.ensures.fault }) c.one_join.ensures n text s t None told table).0 c.write.ensures.meaning
+    λ t table. subst (λ (u : State). IfOk c.write.result (g.C.Report.means c.args.command.now n u))
+    (same_table (record { text = c.log_texts.ensures.text; fault = c.log_texts.ensures.fault }) c.one_join.ensures n text s t None told table).0 c.write.ensures.meaning
 
 pub returns-in-Ok-Some-clause-prints : goal.returns-in-Ok-Some-clause-prints
 returns-in-Ok-Some-clause-prints g c = λ text begins.
@@ -45,19 +47,22 @@ returns-in-Ok-Some-clause-prints g c = λ text begins.
     let told = told_of text begins in
     let line = c.as_bytes.ensures ∙ c.refusal_text.ensures in
     let wrote = Writes-same g.K.Sink.taken g.K.Sink.broken c.args.out.now c.write_all.new.out c.write_all.result _ _ [] line c.write_all.ensures in
-    finished_prints (ReportOf (g.C.Report.is_text c.args.command.now n) n text) (refused_log e) g.K.Sink.taken g.K.Sink.broken c.args.out.now c.write_all.new.out c.write_all.result c.finish.result (a_refusal s e told) c.finish.ensures wrote
+    finished_prints (ReportOf (g.C.Report.is_text c.args.command.now n) n text) (refused_log e) g.K.Sink.taken g.K.Sink.broken c.args.out.now c.write_all.new.out c.write_all.result c.finish.result
+    (a_refusal s e told) c.finish.ensures wrote
 
 pub returns-in-Ok-Some-clause-told : goal.returns-in-Ok-Some-clause-told
 returns-in-Ok-Some-clause-told g c = λ text begins.
     let told_of = rw (c.in-Ok-Some.is, c.in-Ok-Some.field-0-is) at c.read_log-source.ensures.told in
     let told = told_of text begins in
-    λ t table. no_table _ (record { text = c.log_texts.ensures.text; fault = c.log_texts.ensures.fault }) c.one_join.ensures c.args.plan.now text (g.T.MetricTable.state c.read_log-source.new.table) t c.in-Ok-Some.error told table
+    λ t table. no_table _ (record { text = c.log_texts.ensures.text; fault = c.log_texts.ensures.fault }) c.one_join.ensures c.args.plan.now text
+    (g.T.MetricTable.state c.read_log-source.new.table) t c.in-Ok-Some.error told table
 
 pub returns-in-Ok-Some-clause-meaning : goal.returns-in-Ok-Some-clause-meaning
 returns-in-Ok-Some-clause-meaning g c = λ text begins.
     let told_of = rw (c.in-Ok-Some.is, c.in-Ok-Some.field-0-is) at c.read_log-source.ensures.told in
     let told = told_of text begins in
-    λ t table. no_table _ (record { text = c.log_texts.ensures.text; fault = c.log_texts.ensures.fault }) c.one_join.ensures c.args.plan.now text (g.T.MetricTable.state c.read_log-source.new.table) t c.in-Ok-Some.error told table
+    λ t table. no_table _ (record { text = c.log_texts.ensures.text; fault = c.log_texts.ensures.fault }) c.one_join.ensures c.args.plan.now text
+    (g.T.MetricTable.state c.read_log-source.new.table) t c.in-Ok-Some.error told table
 
 pub returns-in-Ok-None-clause-reads : goal.returns-in-Ok-None-clause-reads
 returns-in-Ok-None-clause-reads g c =

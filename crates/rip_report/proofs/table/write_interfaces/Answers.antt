@@ -22,7 +22,9 @@ loop-i-preserved g c =
     let numbered = enumerate_from 0 n.interfaces in
     let text = held c.args.page.now ++ flat_map lines numbered in
     record {
-      wrote = Writes-line lines taken broken c.args.out.now c.loop-i.out c.write_interface.new.out tt (Ok tt) text (held c.loop-i.page) (held c.write_interface.new.page) numbered c.loop-i.i (c.loop-i.i, c.interface.result) (enumerated n.interfaces 0 c.loop-i.i c.loop-i.i c.interface.result (omega arith) c.interface.ensures.exact) c.loop-i.invariant.wrote c.in_ok-write_interface.ensures;
+      wrote = Writes-line lines taken broken c.args.out.now c.loop-i.out c.write_interface.new.out tt (Ok tt) text (held c.loop-i.page) (held c.write_interface.new.page) numbered c.loop-i.i
+          (c.loop-i.i, c.interface.result) (enumerated n.interfaces 0 c.loop-i.i c.loop-i.i c.interface.result
+          (omega arith) c.interface.ensures.exact) c.loop-i.invariant.wrote c.in_ok-write_interface.ensures;
     }
 
 pub returns-in_err-write_interface : goal.returns-in_err-write_interface
@@ -34,7 +36,9 @@ returns-in_err-write_interface g c =
     let numbered = enumerate_from 0 n.interfaces in
     let text = held c.args.page.now ++ flat_map lines numbered in
     Writes-fails taken broken c.args.out.now c.write_interface.new.out _ c.from_residual.result text _ _ c.from_residual.ensures.0
-    (Writes-line lines taken broken c.args.out.now c.loop-i.out c.write_interface.new.out tt _ text (held c.loop-i.page) (held c.write_interface.new.page) numbered c.loop-i.i (c.loop-i.i, c.interface.result) (enumerated n.interfaces 0 c.loop-i.i c.loop-i.i c.interface.result (omega arith) c.interface.ensures.exact) c.loop-i.invariant.wrote c.in_err-write_interface.ensures)
+    (Writes-line lines taken broken c.args.out.now c.loop-i.out c.write_interface.new.out tt _ text (held c.loop-i.page) (held c.write_interface.new.page) numbered c.loop-i.i
+    (c.loop-i.i, c.interface.result) (enumerated n.interfaces 0 c.loop-i.i c.loop-i.i c.interface.result
+    (omega arith) c.interface.ensures.exact) c.loop-i.invariant.wrote c.in_err-write_interface.ensures)
 
 pub returns : goal.returns
 returns g c =

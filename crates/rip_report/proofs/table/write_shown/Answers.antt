@@ -23,9 +23,11 @@ loop-k-preserved g c =
     let lines = λ (q : Block). prefix_lines n i q (s.shows c.args.number q) in
     let text = held c.args.page.now ++ shown_lines n s c.args.number i in
     let line = ap (λ l. held c.loop-k.page ++ l) (shown) in
-    let wrote = Writes-same taken broken c.loop-k.out c.write_prefix.new.out (Ok c.in_ok-write_prefix.field-0) _ _ (held c.write_prefix.new.page) line (c.in_ok-write_prefix.ensures n i p c.front_text-front.ensures.text middle) in
+    let wrote = Writes-same taken broken c.loop-k.out c.write_prefix.new.out (Ok c.in_ok-write_prefix.field-0) _ _ (held c.write_prefix.new.page) line
+    (c.in_ok-write_prefix.ensures n i p c.front_text-front.ensures.text middle) in
     record {
-      wrote = Writes-line lines taken broken c.args.out.now c.loop-k.out c.write_prefix.new.out tt (Ok tt) text (held c.loop-k.page) (held c.write_prefix.new.page) s.prefixes c.loop-k.k p item.1 c.loop-k.invariant.wrote wrote;
+      wrote = Writes-line lines taken broken c.args.out.now c.loop-k.out c.write_prefix.new.out tt (Ok tt) text (held c.loop-k.page)
+          (held c.write_prefix.new.page) s.prefixes c.loop-k.k p item.1 c.loop-k.invariant.wrote wrote;
     }
 
 pub returns-in_err-write_prefix : goal.returns-in_err-write_prefix
@@ -46,4 +48,5 @@ returns-in_err-write_prefix g c =
     let line = ap (λ l. held c.loop-k.page ++ l) (shown) in
     let wrote = Writes-same taken broken c.loop-k.out c.write_prefix.new.out _ _ _ (held c.write_prefix.new.page) line (c.in_err-write_prefix.ensures n i p c.front_text-front.ensures.text middle) in
     Writes-fails taken broken c.args.out.now c.write_prefix.new.out _ c.from_residual.result text _ _ c.from_residual.ensures.0
-    (Writes-line lines taken broken c.args.out.now c.loop-k.out c.write_prefix.new.out tt _ text (held c.loop-k.page) (held c.write_prefix.new.page) s.prefixes c.loop-k.k p item.1 c.loop-k.invariant.wrote wrote)
+    (Writes-line lines taken broken c.args.out.now c.loop-k.out c.write_prefix.new.out tt _ text (held c.loop-k.page)
+    (held c.write_prefix.new.page) s.prefixes c.loop-k.k p item.1 c.loop-k.invariant.wrote wrote)

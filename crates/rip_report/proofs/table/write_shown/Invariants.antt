@@ -9,5 +9,6 @@ abbrev pub invariant-loop-k : goal.invariant-loop-k
 invariant-loop-k g l =
     let s = g.T.MetricTable.state l.table in
     record {
-      wrote : Writes g.K.Sink.taken g.K.Sink.broken l.fn.out l.out (Ok tt) (held l.fn.page ++ shown_lines l.plan s l.number l.interface) (held l.page ++ flat_map (λ p. prefix_lines l.plan l.interface p (s.shows l.number p)) (drop l.k s.prefixes));
+      wrote : Writes g.K.Sink.taken g.K.Sink.broken l.fn.out l.out (Ok tt) (held l.fn.page ++ shown_lines l.plan s l.number l.interface)
+          (held l.page ++ flat_map (λ p. prefix_lines l.plan l.interface p (s.shows l.number p)) (drop l.k s.prefixes));
     }

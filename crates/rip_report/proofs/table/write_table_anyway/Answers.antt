@@ -20,7 +20,8 @@ returns-clause-prints g c =
     let left = left_out_line c.args.left_out in
     let interfaces = flat_map (interface_lines n s) (enumerate_from 0 n.interfaces) in
     let is_first = c.push_left_out_line.ensures ∙ ap (λ (l : List ℕ). l ++ left) (c.counts_text-first.ensures.text ∙ same_counts _ _ _ _ c.interfaces.ensures c.prefix_count.ensures) in
-    let wrote = Writes-same taken broken c.args.out.now c.write_lines.new.out c.write_lines.result _ ((counts ++ left) ++ interfaces) _ (ap (λ (l : List ℕ). l ++ interfaces) is_first) c.write_lines.ensures in
+    let wrote = Writes-same taken broken c.args.out.now c.write_lines.new.out c.write_lines.result _ ((counts ++ left) ++ interfaces) _
+    (ap (λ (l : List ℕ). l ++ interfaces) is_first) c.write_lines.ensures in
     let w : Written = record { text = (counts ++ left) ++ interfaces; status = c.anyway_status-status.result } in
     let told : AnywayTable n s c.args.left_out w = record { rest = interfaces; status = Done; is_text = refl; text = refl; answers = c.anyway_status-status.ensures } in
     finished_prints (AnywayTable n s c.args.left_out) w taken broken c.args.out.now c.write_lines.new.out c.write_lines.result c.finish.result told c.finish.ensures wrote

@@ -14,7 +14,8 @@ loop-router-preserved g c =
     let n = c.args.plan.now in
     let more = c.add_lost_by.ensures in
     record {
-      so_far = one_more g.K.Sink.taken g.K.Sink.broken (λ r. TextsBelow (LostLine n c.args.failure r) (length n.prefixes)) c.args.out.now c.loop-router.out c.add_lost_by.new.out c.args.listing.now c.loop-router.listing c.add_lost_by.new.listing c.loop-router.router
+      so_far = one_more g.K.Sink.taken g.K.Sink.broken (λ r. TextsBelow (LostLine n c.args.failure r)
+          (length n.prefixes)) c.args.out.now c.loop-router.out c.add_lost_by.new.out c.args.listing.now c.loop-router.listing c.add_lost_by.new.listing c.loop-router.router
           c.loop-router.invariant.so_far more.0 more.1 more.2;
     }
 

@@ -13,7 +13,8 @@ loop-prefix-preserved g c =
     let n = c.args.plan.now in
     let more = c.add_if_lost.ensures in
     record {
-      so_far = one_more g.K.Sink.taken g.K.Sink.broken (LostLine n c.args.failure c.args.router) c.args.out.now c.loop-prefix.out c.add_if_lost.new.out c.args.listing.now c.loop-prefix.listing c.add_if_lost.new.listing c.loop-prefix.prefix
+      so_far = one_more g.K.Sink.taken g.K.Sink.broken
+          (LostLine n c.args.failure c.args.router) c.args.out.now c.loop-prefix.out c.add_if_lost.new.out c.args.listing.now c.loop-prefix.listing c.add_if_lost.new.listing c.loop-prefix.prefix
           c.loop-prefix.invariant.so_far more.0 more.1 more.2;
     }
 

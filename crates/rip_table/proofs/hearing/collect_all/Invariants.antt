@@ -16,7 +16,8 @@ invariant-lines g l =
     let holds = g.L.Listener.holds in
     record {
       told : has_stopped l.fn.reader ≡ false → OfWhole S.given S.at_end (source_of l.reader) (λ coming.
-          (events : List EventAt) × HoldsMore (holds l.fn.listener) (holds l.listener) events × ToldKnown l.plan (state l.fn.table) (said_to_come coming l.fn.reader) (state l.table) events (said_to_come coming l.reader));
+          (events : List EventAt) × HoldsMore (holds l.fn.listener) (holds l.listener) events × ToldKnown l.plan (state l.fn.table) (said_to_come coming l.fn.reader) (state l.table) events
+          (said_to_come coming l.reader));
       passed : OfWhole S.given S.at_end (source_of l.reader) (λ coming. PassesLines (text coming l.fn.reader) (lines_behind l.fn.reader) (text coming l.reader) (lines_behind l.reader));
       went : Went S.given S.coming S.at_end (source_of l.fn.reader) (source_of l.reader);
       fits : Fits l.plan (state l.table);

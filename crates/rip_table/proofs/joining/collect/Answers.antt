@@ -25,7 +25,9 @@ records-preserved g c =
       passed = λ was whole begins.
           let coming = rest_of S.given whole in
           let before = begins_back S.given S.coming S.at_end whole (source_of c.records.reader) (source_of now) h.pulls.went begins in
-          PassedKnown-more capture_of line_of c.args.plan.now (g.T.MetricTable.state c.args.table.now) (log_to_come coming c.args.reader.now) (g.T.MetricTable.state c.records.table) (g.T.MetricTable.state c.join.new.table) (log_to_come coming c.records.reader) (log_to_come coming now) c.in-Ok-Some.record (c.records.invariant.passed was whole before) (h.answers.gives run whole begins) joins;
+          PassedKnown-more capture_of line_of c.args.plan.now (g.T.MetricTable.state c.args.table.now) (log_to_come coming c.args.reader.now) (g.T.MetricTable.state c.records.table)
+          (g.T.MetricTable.state c.join.new.table) (log_to_come coming c.records.reader) (log_to_come coming now) c.in-Ok-Some.record (c.records.invariant.passed was whole before)
+          (h.answers.gives run whole begins) joins;
       went = went_on S.given S.coming S.at_end (source_of c.args.reader.now) (source_of c.records.reader) (source_of now) c.records.invariant.went h.pulls.went;
       fits = Fits-joined c.args.plan.now (g.T.MetricTable.state c.records.table) (g.T.MetricTable.state c.join.new.table) (capture_of c.in-Ok-Some.record) c.records.invariant.fits joins;
       running = h.marks.stopped ∙ sym was_run;
@@ -54,7 +56,8 @@ returns-in-Err-join g c =
     let not_read = not_log-not_read cause blame in
     let new = state c.join.new.table in
     let error : CollectError = record { line = c.in-Ok-Some.record.line; cause = cause } in
-    let told : has_stopped c.args.reader.now ≡ false → OfWhole S.given S.at_end (source_of after) (λ coming. ToldOutcome plan old (log_to_come coming c.args.reader.now) new (log_to_come coming after) (Err error)) = λ was whole begins.
+    let told : has_stopped c.args.reader.now ≡ false → OfWhole S.given S.at_end (source_of after)
+    (λ coming. ToldOutcome plan old (log_to_come coming c.args.reader.now) new (log_to_come coming after) (Err error)) = λ was whole begins.
     let coming = rest_of S.given whole in
     let log = log_to_come coming c.args.reader.now in
     let passed = inv.passed was whole (begins_back S.given S.coming S.at_end whole (source_of before) (source_of after) h.pulls.went begins) in
@@ -68,9 +71,13 @@ returns-in-Err-join g c =
     record {
       joined = record {
         told = told;
-        said = λ was whole begins. said_outcome c.refused_logs.ensures.outcome plan old new (log_to_come (rest_of S.given whole) c.args.reader.now) (log_to_come (rest_of S.given whole) after) (Err error) c.lawful.ensures (g.T.MetricTable.is_state c.args.table.now) c.requires (told was whole begins);
+        said = λ was whole begins. said_outcome c.refused_logs.ensures.outcome plan old new (log_to_come (rest_of S.given whole) c.args.reader.now) (log_to_come (rest_of S.given whole) after)
+            (Err error) c.lawful.ensures (g.T.MetricTable.is_state c.args.table.now) c.requires (told was whole begins);
         stopped = λ was. cc (was, was_run);
-        allocates = λ w. (let later = h.answers.onward.1 in let first = inv.lines in omega arith, (entry, subst (λ (s : State). MayAllocateFor plan s entry) (sym joins.0) (when_memory _ (is_memory cause) w joins.1)));
+        allocates = λ w. (
+          let later = h.answers.onward.1 in let first = inv.lines in omega arith,
+          (entry, subst (λ (s : State). MayAllocateFor plan s entry) (sym joins.0) (when_memory _ (is_memory cause) w joins.1)),
+        );
         fits = subst (λ (s : State). Fits plan s) (sym joins.0) inv.fits;
       };
       reader = record {
@@ -79,7 +86,8 @@ returns-in-Err-join g c =
         here = at_last (lines_behind after) c.in-Ok-Some.record.line cause blame h.answers.onward.1;
         behind = λ was is_record whole begins.
             let coming = rest_of S.given whole in
-            stands_behind capture_of line_of plan old (log_to_come coming c.args.reader.now) (state c.records.table) (log_to_come coming before) (log_to_come coming after) c.in-Ok-Some.record (inv.passed was whole (begins_back S.given S.coming S.at_end whole (source_of before) (source_of after) h.pulls.went begins)) (h.answers.gives run whole begins);
+            stands_behind capture_of line_of plan old (log_to_come coming c.args.reader.now) (state c.records.table) (log_to_come coming before) (log_to_come coming after) c.in-Ok-Some.record
+            (inv.passed was whole (begins_back S.given S.coming S.at_end whole (source_of before) (source_of after) h.pulls.went begins)) (h.answers.gives run whole begins);
       };
       marks = record {
         over = λ fine. cc fine;
@@ -98,13 +106,16 @@ returns-in-Ok-None g c =
     let after = c.next.follows.lender-at-none in
     let old = g.T.MetricTable.state c.args.table.now in
     let new = g.T.MetricTable.state c.records.table in
-    let told : has_stopped c.args.reader.now ≡ false → OfWhole S.given S.at_end (source_of after) (λ coming. ToldOutcome c.args.plan.now old (log_to_come coming c.args.reader.now) new (log_to_come coming after) (Ok tt)) = λ was whole begins.
+    let told : has_stopped c.args.reader.now ≡ false → OfWhole S.given S.at_end (source_of after)
+    (λ coming. ToldOutcome c.args.plan.now old (log_to_come coming c.args.reader.now) new (log_to_come coming after) (Ok tt)) = λ was whole begins.
     let coming = rest_of S.given whole in
-    OutcomeKnown-none capture_of line_of c.args.plan.now old (log_to_come coming c.args.reader.now) new (log_to_come coming before) (log_to_come coming after) (c.records.invariant.passed was whole (begins_back S.given S.coming S.at_end whole (source_of before) (source_of after) h.pulls.went begins)) (h.answers.gives run whole begins) in
+    OutcomeKnown-none capture_of line_of c.args.plan.now old (log_to_come coming c.args.reader.now) new (log_to_come coming before) (log_to_come coming after)
+    (c.records.invariant.passed was whole (begins_back S.given S.coming S.at_end whole (source_of before) (source_of after) h.pulls.went begins)) (h.answers.gives run whole begins) in
     record {
       joined = record {
         told = told;
-        said = λ was whole begins. said_outcome c.refused_logs.ensures.outcome c.args.plan.now old new (log_to_come (rest_of S.given whole) c.args.reader.now) (log_to_come (rest_of S.given whole) after) (Ok tt) c.lawful.ensures (g.T.MetricTable.is_state c.args.table.now) c.requires (told was whole begins);
+        said = λ was whole begins. said_outcome c.refused_logs.ensures.outcome c.args.plan.now old new (log_to_come (rest_of S.given whole) c.args.reader.now)
+            (log_to_come (rest_of S.given whole) after) (Ok tt) c.lawful.ensures (g.T.MetricTable.is_state c.args.table.now) c.requires (told was whole begins);
         stopped = λ was. cc (was, was_run);
         allocates = tt;
         fits = c.records.invariant.fits;
@@ -132,13 +143,16 @@ returns-in-Err g c =
     let old = g.T.MetricTable.state c.args.table.now in
     let new = g.T.MetricTable.state c.records.table in
     let error : CollectError = record { line = c.in-Err.error.line; cause = OfLog c.in-Err.error } in
-    let told : has_stopped c.args.reader.now ≡ false → OfWhole S.given S.at_end (source_of after) (λ coming. ToldOutcome c.args.plan.now old (log_to_come coming c.args.reader.now) new (log_to_come coming after) (Err error)) = λ was whole begins.
+    let told : has_stopped c.args.reader.now ≡ false → OfWhole S.given S.at_end (source_of after)
+    (λ coming. ToldOutcome c.args.plan.now old (log_to_come coming c.args.reader.now) new (log_to_come coming after) (Err error)) = λ was whole begins.
     let coming = rest_of S.given whole in
-    told_bad capture_of line_of c.args.plan.now old (log_to_come coming c.args.reader.now) new (log_to_come coming before) (log_to_come coming after) c.in-Err.error (inv.passed was whole (begins_back S.given S.coming S.at_end whole (source_of before) (source_of after) h.pulls.went begins)) (h.answers.gives (inv.running ∙ was) whole begins) in
+    told_bad capture_of line_of c.args.plan.now old (log_to_come coming c.args.reader.now) new (log_to_come coming before) (log_to_come coming after) c.in-Err.error
+    (inv.passed was whole (begins_back S.given S.coming S.at_end whole (source_of before) (source_of after) h.pulls.went begins)) (h.answers.gives (inv.running ∙ was) whole begins) in
     record {
       joined = record {
         told = told;
-        said = λ was whole begins. said_outcome c.refused_logs.ensures.outcome c.args.plan.now old new (log_to_come (rest_of S.given whole) c.args.reader.now) (log_to_come (rest_of S.given whole) after) (Err error) c.lawful.ensures (g.T.MetricTable.is_state c.args.table.now) c.requires (told was whole begins);
+        said = λ was whole begins. said_outcome c.refused_logs.ensures.outcome c.args.plan.now old new (log_to_come (rest_of S.given whole) c.args.reader.now)
+            (log_to_come (rest_of S.given whole) after) (Err error) c.lawful.ensures (g.T.MetricTable.is_state c.args.table.now) c.requires (told was whole begins);
         stopped = λ was. (inv.still was, again c.in-Err.error _ _ (h.answers.ended (inv.running ∙ was)).0 (inv.here was));
         allocates = λ w. cc w;
         fits = inv.fits;

@@ -10,7 +10,8 @@ invariant-records g l =
     let S = g.R.Source in
     let state = g.T.MetricTable.state in
     record {
-      passed : has_stopped l.fn.reader ≡ false → OfWhole S.given S.at_end (source_of l.reader) (λ coming. PassedKnown l.plan (state l.fn.table) (log_to_come coming l.fn.reader) (state l.table) (log_to_come coming l.reader));
+      passed : has_stopped l.fn.reader ≡ false →
+          OfWhole S.given S.at_end (source_of l.reader) (λ coming. PassedKnown l.plan (state l.fn.table) (log_to_come coming l.fn.reader) (state l.table) (log_to_come coming l.reader));
       went : Went S.given S.coming S.at_end (source_of l.fn.reader) (source_of l.reader);
       fits : Fits l.plan (state l.table);
       running : has_stopped l.reader ≡ has_stopped l.fn.reader;

@@ -9,11 +9,13 @@ returns-in-Ok g c =
     let state = g.T.MetricTable.state in
     let is = sym c.find.ensures.value ∙ c.in-Some.is in
     let takes = rw c.in-Ok.is at c.take.ensures.takes in
-    rw c.sender.ensures at (taken_well c.args.plan.now c.in-Some.interface (state c.args.table.now) (state c.take.new.self) (message_of c.args.found.now.datagram) (found_at c.args.plan.now c.args.found.now.link.now c.sender.result) is takes)
+    rw c.sender.ensures at (taken_well c.args.plan.now c.in-Some.interface (state c.args.table.now) (state c.take.new.self) (message_of c.args.found.now.datagram)
+    (found_at c.args.plan.now c.args.found.now.link.now c.sender.result) is takes)
 
 pub returns-in-Err : goal.returns-in-Err
 returns-in-Err g c =
     let state = g.T.MetricTable.state in
     let is = sym c.find.ensures.value ∙ c.in-Some.is in
     let takes = rw c.in-Err.is at c.take.ensures.takes in
-    rw c.sender.ensures at (taken_ill c.args.plan.now c.in-Some.interface (state c.args.table.now) (state c.take.new.self) (message_of c.args.found.now.datagram) (found_at c.args.plan.now c.args.found.now.link.now c.sender.result) c.in-Err.error is takes)
+    rw c.sender.ensures at (taken_ill c.args.plan.now c.in-Some.interface (state c.args.table.now) (state c.take.new.self) (message_of c.args.found.now.datagram)
+    (found_at c.args.plan.now c.args.found.now.link.now c.sender.result) c.in-Err.error is takes)

@@ -60,7 +60,8 @@ loop-j-preserved g c =
       brings = ap (λ (b : Bool). b || c.is_none-brings.result) c.loop-j.invariant.brings
           ∙ ap (λ (b : Bool). list_any test (take c.loop-j.j es) || b) (none-is c.shown-shown.result c.is_none-brings.result c.is_none-brings.ensures ∙ ap is_none shows)
           ∙ any-next test es c.loop-j.j e here;
-      noted = noted-more s.prefixes es c.loop-j.j e c.loop-j.noted.flags c.note-may_repeat.new.self.flags here c.loop-j.invariant.noted c.note-may_repeat.ensures.kept (λ k is. c.note-may_repeat.ensures.noted k (number ∙ is));
+      noted = noted-more s.prefixes es c.loop-j.j e c.loop-j.noted.flags c.note-may_repeat.new.self.flags here c.loop-j.invariant.noted c.note-may_repeat.ensures.kept
+          (λ k is. c.note-may_repeat.ensures.noted k (number ∙ is));
     }
 
 pub known-known-requires-clause-new : goal.known-known-requires-clause-new
@@ -68,7 +69,9 @@ known-known-requires-clause-new g c = λ down e here.
     let s = g.T.KnownMetrics.state c.args.table.now in
     let es = c.args.entries.now in
     let number = number-here s.prefixes es c.args.numbers.now c.loop-j.j e c.requires.numbers here in
-    new-noted s.prefixes (take c.loop-j.j es) e.prefix (slice_index_or c.args.numbers.now c.loop-j.j None) c.loop-j.noted.flags c.note-may_repeat.result c.loop-j.invariant.noted number c.note-may_repeat.ensures.fresh (λ none. (c.note-may_repeat.ensures.unnumbered none).0) down
+    new-noted s.prefixes (take c.loop-j.j es) e.prefix
+    (slice_index_or c.args.numbers.now c.loop-j.j None) c.loop-j.noted.flags c.note-may_repeat.result c.loop-j.invariant.noted number c.note-may_repeat.ensures.fresh
+    (λ none. (c.note-may_repeat.ensures.unnumbered none).0) down
 
 pub returns : goal.returns
 returns g c =

@@ -13,8 +13,10 @@ loop-j-preserved c =
     let here = slice_get_read es (length es) c.loop-j.j c.index-entries-j.result refl c.loop-j-test.true c.index-entries-j.is in
     record {
       joined = λ heard net t h.
-          added-joins heard net c.args.interface c.loop-j.prefixes.items c.add.new.prefixes.items c.loop-j.shown.items c.add.new.shown.items c.index-entries-j.result (drop (c.loop-j.j + 1) es) t c.add.ensures.items
-          (ap (joined_entries net c.args.interface (list_state heard c.loop-j.prefixes.items c.loop-j.shown.items)) (sym (drop-more es c.loop-j.j c.index-entries-j.result here)) ∙ inv.joined heard net t h);
+          added-joins heard net c.args.interface c.loop-j.prefixes.items c.add.new.prefixes.items c.loop-j.shown.items c.add.new.shown.items c.index-entries-j.result
+          (drop (c.loop-j.j + 1) es) t c.add.ensures.items
+          (ap (joined_entries net c.args.interface (list_state heard c.loop-j.prefixes.items c.loop-j.shown.items)) (sym (drop-more es c.loop-j.j c.index-entries-j.result here))
+          ∙ inv.joined heard net t h);
       prefix_room = c.add.ensures.prefix_room ∙ inv.prefix_room;
       prefix_len = omega (arith, c.add.ensures.prefix_len, inv.prefix_len);
       shown_room = c.add.ensures.shown_room ∙ inv.shown_room;

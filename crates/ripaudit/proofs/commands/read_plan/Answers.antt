@@ -45,13 +45,21 @@ pieces-preserved g c =
     let len : c.len-len.result ≡ length old = search in
     let same : take c.len-len.result c.as_mut_slice.result.now ≡ old =
     ap (take c.len-len.result) (c.as_mut_slice.ensures.value ∙ c.in-Ok.ensures.items) ∙ begins old _ _ (c.len-len.result + 4096) len (omega arith) in
-    let most : length buffer ≤ 4096 = omega (arith, c.pull.auto.buffer, length-take (length c.as_mut_slice.result.now - c.len-len.result) (drop c.len-len.result c.as_mut_slice.result.now), c.as_mut_slice.ensures.len, c.in-Ok.ensures.len) in
+    let most : length buffer ≤ 4096 = omega (
+      arith,
+      c.pull.auto.buffer,
+      length-take (length c.as_mut_slice.result.now - c.len-len.result) (drop c.len-len.result c.as_mut_slice.result.now),
+      c.as_mut_slice.ensures.len,
+      c.in-Ok.ensures.len,
+    ) in
     let added : c.truncate.new.self.items ≡ old ++ take count buffer =
     c.truncate.ensures.items ∙ front old _ buffer _ _ _ count _ len same bound (omega (arith, bound, most, c.in-Ok.ensures.len)) in
     let more : length c.truncate.new.self.items ≡ length old + count = ap length added ∙ length-append old (take count buffer) ∙ ap (λ (k : ℕ). length old + k) (length-take-le count buffer bound) in
-    let mark : g.R.Source.broken c.pull.new.self ≡ g.R.Source.broken c.args.file.now = unbroken (g.R.Source.broken c.pieces.file) _ c.in-Ok-pull.ensures.failed c.in-Ok-pull.ensures.fails_on ∙ (same_mark _ _ c.pieces.invariant.failed c.pieces.invariant.fails_on) in
+    let mark : g.R.Source.broken c.pull.new.self ≡ g.R.Source.broken c.args.file.now =
+    unbroken (g.R.Source.broken c.pieces.file) _ c.in-Ok-pull.ensures.failed c.in-Ok-pull.ensures.fails_on ∙ (same_mark _ _ c.pieces.invariant.failed c.pieces.invariant.fails_on) in
     record {
-      given = c.in-Ok-pull.ensures.gave ∙ ap (λ (x : List ℕ). x ++ take count buffer) c.pieces.invariant.given ∙ append_assoc _ old (take count buffer) ∙ ap (λ (x : List ℕ). g.R.Source.given c.args.file.now ++ x) (sym added);
+      given = c.in-Ok-pull.ensures.gave ∙ ap (λ (x : List ℕ). x ++ take count buffer) c.pieces.invariant.given ∙ append_assoc _ old (take count buffer) ∙ ap
+          (λ (x : List ℕ). g.R.Source.given c.args.file.now ++ x) (sym added);
       few = omega (arith, more, bound, most, len, c.pieces-test.true);
       failed = λ broke. sym mark ∙ broke;
       fails_on = λ broke. mark ∙ broke;

@@ -21,12 +21,14 @@ same_all a b h = cc h
 pub returns-in-Audit-clause-headline : goal.returns-in-Audit-clause-headline
 returns-in-Audit-clause-headline g c = λ all is text given n s accepted.
     let same : c.in-Audit.all ≡ all = same_all c.in-Audit.all all (sym c.in-Audit.is ∙ is) in
-    subst (λ (all : Bool). IfOk c.run_audit.result.1 (AnswersRightly n s (VerdictText n s all) (g.K.Sink.taken c.args.out.now) (g.K.Sink.taken c.run_audit.new.out))) same (c.run_audit.ensures.headline text given n s accepted)
+    subst (λ (all : Bool). IfOk c.run_audit.result.1 (AnswersRightly n s (VerdictText n s all) (g.K.Sink.taken c.args.out.now) (g.K.Sink.taken c.run_audit.new.out))) same
+    (c.run_audit.ensures.headline text given n s accepted)
 
 pub returns-in-Audit-clause-known : goal.returns-in-Audit-clause-known
 returns-in-Audit-clause-known g c = λ all is text coming n s accepted.
     let same : c.in-Audit.all ≡ all = same_all c.in-Audit.all all (sym c.in-Audit.is ∙ is) in
-    subst (λ (all : Bool). IfOk c.run_audit.result.1 (AnswersRightly n s (VerdictText n s all) (g.K.Sink.taken c.args.out.now) (g.K.Sink.taken c.run_audit.new.out))) same (c.run_audit.ensures.known text coming n s accepted)
+    subst (λ (all : Bool). IfOk c.run_audit.result.1 (AnswersRightly n s (VerdictText n s all) (g.K.Sink.taken c.args.out.now) (g.K.Sink.taken c.run_audit.new.out))) same
+    (c.run_audit.ensures.known text coming n s accepted)
 
 pub returns-in-Explain-clause-one_set : goal.returns-in-Explain-clause-one_set
 returns-in-Explain-clause-one_set g c = λ text given n s accepted. one_shown c.args.plan.now text n s (c.one_set_of_tables.ensures.tables n (told n s)) accepted

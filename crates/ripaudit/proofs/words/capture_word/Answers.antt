@@ -20,7 +20,8 @@ returns-in-Some-clause-found c link path (file name l d f s named p) =
 pub returns-in_default-clause-named : goal.returns-in_default-clause-named
 returns-in_default-clause-named c =
     let without = lacks 61 _ (split_parts 61 c.args.word.now None c.in-None.ensures.cases (omega arith)) in
-    named_file c.args.word.now c.file_name.result.now c.stem.result.now c.file_of_link-in_default.result without c.in_default.not-text c.file_name.ensures c.stem.ensures c.file_of_link-in_default.ensures.named
+    named_file c.args.word.now c.file_name.result.now c.stem.result.now c.file_of_link-in_default.result without c.in_default.not-text c.file_name.ensures c.stem.ensures
+    c.file_of_link-in_default.ensures.named
 
 pub returns-in_default-clause-found : goal.returns-in_default-clause-found
 returns-in_default-clause-found c link path (both e l named some) =

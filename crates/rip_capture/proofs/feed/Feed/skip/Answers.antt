@@ -35,7 +35,7 @@ returns-in_err-hold-clause-skips g c =
       before.0,
       skips-kept g.R.Source.given c.args.self.now c.parts.self c.hold.new.self before.0 before.2 c.hold.ensures.keeps c.hold.ensures.held,
       subst (λ r. SkipsSo c.args.count before.0 now at_end r) (sym is)
-      (omega (arith, before.1, c.parts-test.true, short.0, length-append before.0 now), short.1),
+          (omega (arith, before.1, c.parts-test.true, short.0, length-append before.0 now), short.1),
     )
 
 pub returns-in_err-hold-clause-went : goal.returns-in_err-hold-clause-went

@@ -21,7 +21,8 @@ returns-in-Err-clause-steps g c =
           let are = subst (λ (f : Option Format). HasRead f (section_by old) taken frames) c.requires s.read in
           let b = found.0 ++ held_by new in
           let front = begun taken b frames (section_by old) are in
-          stops-missing S.given S.at_end before taken b frames (Some (section_by old)) new front.0 front.1 are (found.1.takes (before ++ taken) s.gave ∙ append_assoc (before ++ taken) found.0 (held_by new)) s.position c.in-Err.code old.position s.position found.2;
+          stops-missing S.given S.at_end before taken b frames (Some (section_by old)) new front.0 front.1 are
+          (found.1.takes (before ++ taken) s.gave ∙ append_assoc (before ++ taken) found.0 (held_by new)) s.position c.in-Err.code old.position s.position found.2;
       moves = record {
         went = c.next_block.ensures.went;
         failed = λ bad. inl (c.in-Err.ensures.failed bad);
@@ -71,7 +72,8 @@ returns-in-Err-take_block-clause-steps g c =
     record {
       goes = λ before taken frames s.
           let st = block-stands S.given before taken frames old mid found.0 c.in-Ok-Some.block c.requires refl refl found.1 found.2 s in
-          block-stops S.given S.at_end before taken found.0 frames (section_by old) new c.in-Err-take_block.error st.read (c.in-Err-take_block.ensures.took before taken found.0 frames (Some (section_by old)) st);
+          block-stops S.given S.at_end before taken found.0 frames (section_by old) new c.in-Err-take_block.error st.read
+          (c.in-Err-take_block.ensures.took before taken found.0 frames (Some (section_by old)) st);
       moves = record {
         went = subst (λ (s : g.row.R.Denot). Went S.given S.coming S.at_end old.feed.source s) (sym c.take_block.ensures.source) c.next_block.ensures.went;
         failed = λ bad. inr (c.in-Err-take_block.ensures.far bad);

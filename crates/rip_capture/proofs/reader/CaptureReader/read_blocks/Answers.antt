@@ -14,7 +14,8 @@ returns-in-Ok-Some-Packet-clause-runs g c =
     let new = c.read_block.new.self in
     let steps = rw (c.in-Ok-Some-Packet.field-0-is, c.in-Ok-Some-Packet.field-0-0-is) at c.in-Ok-Some-Packet.ensures.steps in
     record {
-      goes = λ before taken frames s. let at = inv.stands before taken frames s in TakesPacket-block S.given before at.0 frames mid new c.in-Ok-Some-Packet.found inv.format steps.format at.1 (steps.goes before at.0 frames at.1);
+      goes = λ before taken frames s. let at = inv.stands before taken frames s in TakesPacket-block S.given before at.0 frames mid new c.in-Ok-Some-Packet.found inv.format steps.format at.1
+          (steps.goes before at.0 frames at.1);
       moves = record {
         went = went_on S.given S.coming S.at_end (source_of c.args.self.now) (source_of mid) (source_of new) inv.went steps.moves.went;
         failed = λ bad. absurd (false≢true bad);

@@ -13,7 +13,8 @@ returns-in-Err g c =
     let old = c.args.self.now in
     let new : CaptureReader g.row.R.Denot = record { feed = c.next_header.new.feed; format = old.format; section = old.section; position = old.position; refusal = old.refusal } in
     record {
-      goes = λ before taken frames s. StopsAt-front S.given S.at_end before taken frames old new c.in-Err.code c.requires.format c.next_header.ensures.keeps refl c.in-Err.ensures.found c.in-Err.ensures.short s;
+      goes = λ before taken frames s.
+          StopsAt-front S.given S.at_end before taken frames old new c.in-Err.code c.requires.format c.next_header.ensures.keeps refl c.in-Err.ensures.found c.in-Err.ensures.short s;
       moves = record {
         went = c.next_header.ensures.went;
         failed = λ bad. inl (c.in-Err.ensures.failed bad);

@@ -17,7 +17,8 @@ returns-in-Err-clause-runs g c =
     let old = c.args.self.now in
     let new : CaptureReader g.row.R.Denot = record { feed = c.next_record.new.feed; format = old.format; section = old.section; position = old.position; refusal = old.refusal } in
     record {
-      goes = λ before taken frames s. StopsAt-record S.given S.at_end before taken frames old new c.args.header c.in-Err.code c.requires c.next_record.ensures.keeps refl c.in-Err.ensures.found c.in-Err.ensures.short s;
+      goes = λ before taken frames s.
+          StopsAt-record S.given S.at_end before taken frames old new c.args.header c.in-Err.code c.requires c.next_record.ensures.keeps refl c.in-Err.ensures.found c.in-Err.ensures.short s;
       moves = record {
         went = c.next_record.ensures.went;
         failed = λ bad. inl (c.in-Err.ensures.failed bad);
@@ -80,7 +81,8 @@ returns-clause-runs g c =
     let inside : span.from + 16 ≤ span.to = omega (arith, took.ensures.size) in
     let bytes = sym (range-drop took.new.self.buffer.items span.from span.to 16 inside) ∙ ap (drop 16) took.ensures.lies in
     record {
-      goes = λ before taken frames s. TakesPacket-found S.given before taken frames _ old new mid h n (S.at_end mid.source) c.requires c.requires c.next_record.ensures.keeps found took.ensures.takes (omega (arith, c.in-Some.ensures)) (ap made bytes) s;
+      goes = λ before taken frames s. TakesPacket-found S.given before taken frames _ old new mid h n (S.at_end mid.source) c.requires c.requires c.next_record.ensures.keeps found took.ensures.takes
+          (omega (arith, c.in-Some.ensures)) (ap made bytes) s;
       moves = record {
         went = subst (λ (s : g.row.R.Denot). Went S.given S.coming S.at_end old.feed.source s) (sym took.ensures.source) c.next_record.ensures.went;
         failed = λ bad. absurd (false≢true bad);
@@ -88,5 +90,6 @@ returns-clause-runs g c =
       };
       over = λ e. cc e;
       stays_over = λ o. cc (c.in-Ok-Some.ensures.over o.all o.ended);
-      ready = λ holds. took.ensures.source ∙ ap (λ (f : Feed g.row.R.Denot). f.source) (c.next_record.ensures.ready (subst (λ (f : Option Format). HoldsPacket f (section_by old) (held old.feed)) c.requires holds));
+      ready = λ holds. took.ensures.source ∙ ap (λ (f : Feed g.row.R.Denot). f.source) (c.next_record.ensures.ready
+          (subst (λ (f : Option Format). HoldsPacket f (section_by old) (held old.feed)) c.requires holds));
     }

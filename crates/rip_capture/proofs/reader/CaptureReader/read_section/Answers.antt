@@ -19,7 +19,8 @@ returns-in-Err g c =
     let found = c.in-Err.ensures.found in
     record {
       goes = λ before taken frames s.
-          front-missing S.given S.at_end before taken found.0 frames old new (subst (λ (f : Option Format). HasRead f (section_by old) taken frames) c.requires.format s.read) s.gave s.position c.requires.begun c.requires.section found.1 c.in-Err.code found.2;
+          front-missing S.given S.at_end before taken found.0 frames old new (subst
+          (λ (f : Option Format). HasRead f (section_by old) taken frames) c.requires.format s.read) s.gave s.position c.requires.begun c.requires.section found.1 c.in-Err.code found.2;
       moves = record {
         went = c.first_block.ensures.went;
         failed = λ bad. inl (c.in-Err.ensures.failed bad);
@@ -41,7 +42,8 @@ returns-in-Err-take_block g c =
       goes = λ before taken frames s.
           let none = subst (λ (f : Option Format). HasRead f (section_by old) taken frames) c.requires.format s.read in
           let st = front-stands S.given S.at_end before taken found.0 frames old mid none s.gave s.position c.requires.begun c.requires.section found.1 c.in-Ok.block found.2 in
-          front-stops S.given S.at_end before taken found.0 frames old mid none s.gave s.position c.requires.begun c.requires.section found.1 new c.in-Err-take_block.error c.take_block.ensures.source (c.in-Err-take_block.ensures.took before [] found.0 [] None st);
+          front-stops S.given S.at_end before taken found.0 frames old mid none s.gave s.position c.requires.begun c.requires.section found.1 new c.in-Err-take_block.error c.take_block.ensures.source
+          (c.in-Err-take_block.ensures.took before [] found.0 [] None st);
       moves = record {
         went = subst (λ (s : g.row.R.Denot). Went S.given S.coming S.at_end old.feed.source s) (sym c.take_block.ensures.source) c.first_block.ensures.went;
         failed = λ bad. inr (c.in-Err-take_block.ensures.far bad);
@@ -65,7 +67,8 @@ returns-in-Ok-take_block g c =
           let st = front-stands S.given S.at_end before taken found.0 frames old mid none s.gave s.position c.requires.begun c.requires.section found.1 c.in-Ok.block found.2 in
           let took = c.in-Ok-take_block.ensures.took before [] found.0 [] None st in
           let passed : c.in-Ok-take_block.field-0 ≡ Passed = c.in-Ok-take_block.ensures.section (first-kind S.given before [] found.0 [] None mid c.in-Ok.block st refl) in
-          let read : AreBlocks None took.more frames (Some (section_by new)) = subst (λ (fs : List Frame). AreBlocks None took.more fs (Some (section_by new))) (ap (frames_of new) passed ∙ sym none.1) took.read in
+          let read : AreBlocks None took.more frames (Some (section_by new)) =
+          subst (λ (fs : List Frame). AreBlocks None took.more fs (Some (section_by new))) (ap (frames_of new) passed ∙ sym none.1) took.read in
           (took.more, record { gave = took.gave; position = took.position; read = read });
       moves = record {
         went = subst (λ (s : g.row.R.Denot). Went S.given S.coming S.at_end old.feed.source s) (sym c.take_block.ensures.source) c.first_block.ensures.went;

@@ -35,13 +35,15 @@ returns-in-Packet-clause-took g c = λ before taken passed frames s st.
     let span = c.in-Packet.span in
     let reads : ReadsBody block.order (section_by old).interfaces block.kind (take block.held (held_by old)) (Ok (says.Packet t span)) =
     subst (λ (l : List ℕ). ReadsBody block.order (section_by old).interfaces block.kind (take block.held l) (Ok (says.Packet t span))) c.held.ensures
-    (subst (λ (is : List Interface). ReadsBody block.order is block.kind (take block.held c.held.result.now) (Ok (says.Packet t span))) c.as_slice-interfaces.ensures.value (rw c.in-Packet.is at c.in-Ok.ensures)) in
+    (subst (λ (is : List Interface). ReadsBody block.order is block.kind (take block.held c.held.result.now) (Ok (says.Packet t span))) c.as_slice-interfaces.ensures.value
+    (rw c.in-Packet.is at c.in-Ok.ensures)) in
     let made : List ℕ → List Frame = λ l. record { link_type = t; bytes = l } ∷ [] in
     took S.given before taken passed frames s old block st
     (record { feed = c.take-taken.new.self; format = old.format; section = c.enter.new.self; position = c.in-Some.position; refusal = old.refusal }) (says.Packet t span)
     (Packet (record { link_type = t; bytes = record { from = c.take-taken.result.from + span.from; to = c.take-taken.result.from + span.to }; at = old.position }))
     c.take-taken.ensures.takes (omega (arith, c.in-Some.ensures)) (rw c.in-Packet.is at c.enter.ensures)
-    (ap made (packet-framed S.given before taken passed frames s old block st c.take-taken.new.self.buffer.items c.take-taken.result t span (section_by old).interfaces c.take-taken.ensures.lies c.take-taken.ensures.size reads))
+    (ap made (packet-framed S.given before taken passed frames s old block st c.take-taken.new.self.buffer.items c.take-taken.result t span
+    (section_by old).interfaces c.take-taken.ensures.lies c.take-taken.ensures.size reads))
     st.position reads
 
 pub returns-in-Section : goal.returns-in-Section
@@ -58,7 +60,8 @@ returns-in-Section g c =
           took S.given before taken passed frames s old block st
           (record { feed = c.take-taken.new.self; format = old.format; section = c.enter.new.self; position = c.in-Some.position; refusal = old.refusal }) body Passed
           c.take-taken.ensures.takes (omega (arith, c.in-Some.ensures)) c.enter.ensures (sym (frames-none (take block.len (passed ++ held_by old)) body c.in-Section.is)) tt reads;
-      packet = λ form is e. let said = packet-said block.order (section_by old).interfaces (take block.held (held_by old)) block.kind form body is reads in no-packet body said.0 said.1 c.in-Section.is said.2;
+      packet = λ form is e. let said = packet-said block.order (section_by old).interfaces
+          (take block.held (held_by old)) block.kind form body is reads in no-packet body said.0 said.1 c.in-Section.is said.2;
       section = λ is. refl;
       on = (omega (arith, c.in-Some.ensures, c.requires.some), search rules);
       far = λ bad. absurd (false≢true bad);

@@ -9,7 +9,10 @@ invariant_of-self g c =
     let old = c.args.self.now in
     let read = c.read-read in
     let all : all_moved old.noted.history.outcomes ≡ true = subst (λ m. is_marked m old.noted.history.outcomes ≡ true) c.in-Open.is old.marked in
-    record { marked = noted_last is_no_bytes old.noted.history.outcomes read.new.self.history.outcomes read.result read.new.buffer all read.ensures.noted (none_read read.result c.in-Ok-eq0.field-0 read.new.buffer c.in-Ok-eq0.is (cc (c.in-Ok-eq0.field-0-is, c.in-Ok-eq0.field-0-test))) }
+    record {
+      marked = noted_last is_no_bytes old.noted.history.outcomes read.new.self.history.outcomes read.result read.new.buffer all read.ensures.noted
+          (none_read read.result c.in-Ok-eq0.field-0 read.new.buffer c.in-Ok-eq0.is (cc (c.in-Ok-eq0.field-0-is, c.in-Ok-eq0.field-0-test)));
+    }
 
 pub invariant_of-self-in-Ok : goal.invariant_of-self-in-Ok
 invariant_of-self-in-Ok g c =

@@ -9,7 +9,8 @@ use Rattle.rip_log.proofs.window.Window.has_line.Goals as goal
 pub returns-then-self-clause-some : goal.returns-then-self-clause-some
 returns-then-self-clause-some g c = λ whole begins.
     let w = c.args.self.now in
-    HasLine-held (held w) (rest_of g.R.Source.given whole w.source) (omega (arith, c.if-self.true, length-range w.buffer.items w.start w.end w.ordered (omega (arith, w.within, w.room, w.buffer.ok.0))))
+    HasLine-held (held w) (rest_of g.R.Source.given whole w.source) (omega
+    (arith, c.if-self.true, length-range w.buffer.items w.start w.end w.ordered (omega (arith, w.within, w.room, w.buffer.ok.0))))
 
 pub returns-clause-some : goal.returns-clause-some
 returns-clause-some g c = λ whole begins.

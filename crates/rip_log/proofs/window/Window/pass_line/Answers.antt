@@ -17,7 +17,8 @@ returns-in-Some-clause-passed g c = λ whole begins.
     let dropped = c.pulls.invariant.dropped in
     let after : w.start + c.in-Some.at + 1 ≡ w.start + (c.in-Some.at + 1) = omega arith in
     subst (λ k. DropsFirst (text rest c.args.self.now) (prepend_known (slice_range w.buffer.items k w.end) (rest w.source))) after
-    (skip-feed (text rest c.args.self.now) (rest w.source) dropped.0 w.buffer.items w.start w.end c.in-Some.at w.ordered (omega (arith, w.within, w.room, w.buffer.ok.0)) (dropped.3 whole begins) dropped.1 c.in-Some.ensures)
+    (skip-feed (text rest c.args.self.now) (rest w.source) dropped.0 w.buffer.items w.start w.end c.in-Some.at w.ordered (omega (arith, w.within, w.room, w.buffer.ok.0))
+    (dropped.3 whole begins) dropped.1 c.in-Some.ensures)
 
 pub returns-in-Some-clause-ended_others : goal.returns-in-Some-clause-ended_others
 returns-in-Some-clause-ended_others g c = λ some.
@@ -26,7 +27,8 @@ returns-in-Some-clause-ended_others g c = λ some.
       refl,
       ap (λ v. ended_lines (held v)) (sym (c.pulls.invariant.unchanged some))
           ∙ ended-feed (held w) c.in-Some.at c.in-Some.ensures
-          ∙ ap (λ l. ended_lines l + 1) (range-back w.buffer.items w.start w.end c.in-Some.at (omega (arith, c.in-Some.ensures.inside, len)) ∙ ap (λ k. slice_range w.buffer.items k w.end) (omega arith)),
+          ∙ ap (λ l. ended_lines l + 1) (range-back w.buffer.items w.start w.end c.in-Some.at (omega (arith, c.in-Some.ensures.inside, len)) ∙ ap (λ k. slice_range w.buffer.items k w.end)
+          (omega arith)),
     )
 
 pub returns-in_default-checked_add-clause-failed : goal.returns-in_default-checked_add-clause-failed
@@ -35,7 +37,8 @@ returns-in_default-checked_add-clause-failed g c = λ whole begins.
     let rest = rest_of g.R.Source.given whole in
     let dropped = c.pulls.invariant.dropped in
     let len = length-range w.buffer.items w.start w.end w.ordered (omega (arith, w.within, w.room, w.buffer.ok.0)) in
-    inr (skip-endless (text rest c.args.self.now) (rest w.source) dropped.0 (held w) (dropped.3 whole begins) dropped.1 c.in_default.ensures (omega (arith, len, dropped.2, c.in_default-checked_add.ensures)))
+    inr (skip-endless (text rest c.args.self.now) (rest w.source) dropped.0 (held w) (dropped.3 whole begins) dropped.1 c.in_default.ensures
+    (omega (arith, len, dropped.2, c.in_default-checked_add.ensures)))
 
 pub returns-in_default-checked_add-clause-ended_others : goal.returns-in_default-checked_add-clause-ended_others
 returns-in_default-checked_add-clause-ended_others g c = λ some. absurd (none-ended held _ _ (c.pulls.invariant.unchanged some) c.in_default.ensures some)
@@ -63,7 +66,8 @@ returns-then-not-branch-clause-passed g c = λ whole begins.
     let before = begins_back S.given S.coming S.at_end whole w.source now.source c.has_line.ensures.went begins in
     skip-last (text rest c.args.self.now) (rest now.source) (dropped.0 ++ held w) (held now) over.0 (omega (arith, c.pulls.invariant.some, length-append dropped.0 (held w)))
     (none_left S.given S.coming S.at_end whole now.source over.1 begins)
-    (drop-held (text rest c.args.self.now) (rest w.source) (text rest now) dropped.0 (held w) (slice_range w.buffer.items w.end w.end) (range-nothing w.buffer.items w.end) (dropped.3 whole before) (c.has_line.ensures.text whole begins))
+    (drop-held (text rest c.args.self.now) (rest w.source) (text rest now) dropped.0 (held w) (slice_range w.buffer.items w.end w.end) (range-nothing w.buffer.items w.end) (dropped.3 whole before)
+    (c.has_line.ensures.text whole begins))
     (none-append dropped.0 (held w) dropped.1 c.in_default.ensures)
 
 pub pulls-preserved : goal.pulls-preserved

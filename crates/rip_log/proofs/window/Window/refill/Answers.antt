@@ -20,5 +20,6 @@ returns-in_err-count-clause-text g c = λ whole begins.
     let pulled = c.pull_behind in
     let now = c.compact.new.self in
     let end = now.end in
-    held_kept g.R.Source.given g.R.Source.coming g.R.Source.at_end whole c.args.self.now.source pulled.new.source (held c.args.self.now) (slice_range pulled.new.buffer.items now.start end) (rw c.compact.ensures.source at c.in_err-count.ensures.err) begins
+    held_kept g.R.Source.given g.R.Source.coming g.R.Source.at_end whole c.args.self.now.source pulled.new.source (held c.args.self.now) (slice_range pulled.new.buffer.items now.start end)
+    (rw c.compact.ensures.source at c.in_err-count.ensures.err) begins
     (held-same now.buffer.items pulled.new.buffer.items now.start end c.compact.ensures.start pulled.ensures.front ∙ c.compact.ensures.held)

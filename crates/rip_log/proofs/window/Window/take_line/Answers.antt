@@ -17,7 +17,8 @@ pub returns-in-Feed-clause-cut : goal.returns-in-Feed-clause-cut
 returns-in-Feed-clause-cut g c = λ whole begins.
     let w = c.find_end.new.self in
     let rest = rest_of g.R.Source.given whole in
-    feed-cut (text rest c.args.self.now) (rest w.source) w.buffer.items w.start w.end c.in-Feed.at w.ordered (omega (arith, w.within, w.room, w.buffer.ok.0)) (c.find_end.ensures.text whole begins) (rw c.in-Feed.is at c.in_ok-at.ensures.end).0
+    feed-cut (text rest c.args.self.now) (rest w.source) w.buffer.items w.start w.end c.in-Feed.at w.ordered (omega (arith, w.within, w.room, w.buffer.ok.0)) (c.find_end.ensures.text whole begins)
+    (rw c.in-Feed.is at c.in_ok-at.ensures.end).0
 
 pub returns-in-Last-clause-cut : goal.returns-in-Last-clause-cut
 returns-in-Last-clause-cut g c = λ whole begins.
@@ -26,7 +27,8 @@ returns-in-Last-clause-cut g c = λ whole begins.
     let rest = rest_of S.given whole in
     let end = rw c.in-Last.is at c.in_ok-at.ensures.end in
     let len = length-range w.buffer.items w.start w.end w.ordered (omega (arith, w.within, w.room, w.buffer.ok.0)) in
-    last-cut (text rest c.args.self.now) (rest w.source) (slice_range w.buffer.items w.start w.end) (slice_range w.buffer.items w.end w.end) (range-nothing w.buffer.items w.end) (omega (arith, len, c.requires, c.in_ok-at.ensures.more)) (none_left S.given S.coming S.at_end whole w.source end.1 begins) (c.find_end.ensures.text whole begins) end.0
+    last-cut (text rest c.args.self.now) (rest w.source) (slice_range w.buffer.items w.start w.end) (slice_range w.buffer.items w.end w.end) (range-nothing w.buffer.items w.end)
+    (omega (arith, len, c.requires, c.in_ok-at.ensures.more)) (none_left S.given S.coming S.at_end whole w.source end.1 begins) (c.find_end.ensures.text whole begins) end.0
 
 pub returns-in-Long-clause-cut : goal.returns-in-Long-clause-cut
 returns-in-Long-clause-cut g c = λ whole begins.

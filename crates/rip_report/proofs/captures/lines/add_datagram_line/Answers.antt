@@ -12,5 +12,7 @@ returns-clause-adds g c =
     let front = sender_part c.args.link.now c.args.sender in
     let digits = encode_lower (logged_datagram c.args.authentication c.args.datagram.now) in
     let first = adds_same taken broken c.args.out.now c.add.new.out c.args.listing.now c.add.new.self _ front c.sender_text.ensures.text c.add.ensures in
-    let two = adds_then taken broken c.args.out.now c.add.new.out c.add_datagram-omitted.new.out c.args.listing.now c.add.new.self c.add_datagram-omitted.new.listing front digits first c.add_datagram-omitted.ensures.adds in
-    adds_then taken broken c.args.out.now c.add_datagram-omitted.new.out c.add_text.new.out c.args.listing.now c.add_datagram-omitted.new.listing c.add_text.new.self (front ++ digits) (10 ∷ []) two c.add_text.ensures
+    let two = adds_then taken broken c.args.out.now c.add.new.out c.add_datagram-omitted.new.out c.args.listing.now c.add.new.self c.add_datagram-omitted.new.listing front digits first
+    c.add_datagram-omitted.ensures.adds in
+    adds_then taken broken c.args.out.now c.add_datagram-omitted.new.out c.add_text.new.out c.args.listing.now c.add_datagram-omitted.new.listing c.add_text.new.self (front ++ digits)
+    (10 ∷ []) two c.add_text.ensures

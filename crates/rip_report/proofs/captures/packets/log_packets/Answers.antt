@@ -51,7 +51,8 @@ packets-preserved g c =
       counts = logs.counts ∙ ap (λ n. counted n p.carried (omitted_of c.args.authentication p.frame.bytes p.carried)) inv.counts ∙ sym (counts-snoc c.args.authentication cs p);
       lines = omega (arith, logs.lines, inv.lines, line_count-snoc cs p);
       few = logs.few;
-      adds = adds-packet g.K.Sink.taken g.K.Sink.broken c.args.out.now c.packets.out c.log_packet.new.out c.args.listing.now c.packets.listing c.log_packet.new.listing c.args.authentication c.args.link.now cs p inv.adds logs.adds;
+      adds = adds-packet g.K.Sink.taken g.K.Sink.broken c.args.out.now c.packets.out c.log_packet.new.out c.args.listing.now c.packets.listing c.log_packet.new.listing c.args.authentication
+          c.args.link.now cs p inv.adds logs.adds;
       went = went_on S.given S.coming S.at_end (source_of c.args.reader.now) (source_of c.packets.reader) (source_of now) inv.went runs.moves.went;
       running = h.refused;
       marks = runs.moves.marks refl ∙ inv.marks;
@@ -103,8 +104,12 @@ returns-then-has_failed g c =
       carriers = cs ++ p ∷ [];
       carry = all-snoc IsCarrier cs p inv.carry c.log_packet.ensures.carries;
       few = omega (arith, logs.lines, inv.lines, line_count-snoc cs p, logs.few);
-      adds = adds-packet g.K.Sink.taken g.K.Sink.broken c.args.out.now c.packets.out c.log_packet.new.out c.args.listing.now c.packets.listing c.log_packet.new.listing c.args.authentication c.args.link.now cs p inv.adds logs.adds;
-      ends = (sym c.has_failed.ensures ∙ c.if-has_failed.true, (goes.front ++ goes.bytes, subst (λ (fs : List Frame). Stands S.given before now (goes.front ++ goes.bytes) fs) (sym (frames-snoc cs p)) goes.stands));
+      adds = adds-packet g.K.Sink.taken g.K.Sink.broken c.args.out.now c.packets.out c.log_packet.new.out c.args.listing.now c.packets.listing c.log_packet.new.listing c.args.authentication
+          c.args.link.now cs p inv.adds logs.adds;
+      ends = (
+        sym c.has_failed.ensures ∙ c.if-has_failed.true,
+        (goes.front ++ goes.bytes, subst (λ (fs : List Frame). Stands S.given before now (goes.front ++ goes.bytes) fs) (sym (frames-snoc cs p)) goes.stands),
+      );
       went = went_on S.given S.coming S.at_end (source_of c.args.reader.now) (source_of c.packets.reader) (source_of now) inv.went runs.moves.went;
       unread = λ e. cc e;
       marks = λ e. runs.moves.marks refl ∙ inv.marks;
@@ -160,13 +165,18 @@ returns g c =
     let frames = map (λ (c : Carrier). c.frame) inv.carriers in
     let many : c.packets.tally.counts.packets ≡ length inv.carriers = ap (λ n. n.packets) inv.counts in
     let read = c.read_captures.ensures c.packets.reader.format (section_by c.packets.reader) inv.taken frames inv.stands.read in
-    let is_far = far c.packets.reader inv.taken frames c.long_captures.ensures inv.stands.position read (omega (arith, many, length-map inv.carriers (λ (c : Carrier). c.frame), c.packets-test.false)) in
+    let is_far = far c.packets.reader inv.taken frames c.long_captures.ensures inv.stands.position read
+    (omega (arith, many, length-map inv.carriers (λ (c : Carrier). c.frame), c.packets-test.false)) in
     record {
       carriers = inv.carriers;
       carry = inv.carry;
       few = omega (arith, inv.lines, inv.few);
       adds = inv.adds;
-      ends = (record { code = Read; at = position_of c.packets.reader }, stops-far S.given S.at_end (S.given (source_of c.args.reader.now)) inv.taken frames c.packets.reader inv.stands read is_far, refl);
+      ends = (
+        record { code = Read; at = position_of c.packets.reader },
+        stops-far S.given S.at_end (S.given (source_of c.args.reader.now)) inv.taken frames c.packets.reader inv.stands read is_far,
+        refl,
+      );
       went = inv.went;
       unread = λ e. inr is_far;
       marks = λ e. absurd (e refl);

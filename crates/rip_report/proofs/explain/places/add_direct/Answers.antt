@@ -14,4 +14,5 @@ never : (o : Option ℕ) (c : ℕ) → o ≡ None → o ≡ Some c → ⊥
 never o c none some = absurd (cc)
 
 pub returns-in_default : goal.returns-in_default
-returns-in_default g c = ([], not_direct (λ cost is. never c.direct_cost.result cost c.in_default.is ((c.direct_cost.ensures cost).1 is)), adds_none g.K.Sink.taken g.K.Sink.broken c.args.out.now c.args.listing.now)
+returns-in_default g c =
+    ([], not_direct (λ cost is. never c.direct_cost.result cost c.in_default.is ((c.direct_cost.ensures cost).1 is)), adds_none g.K.Sink.taken g.K.Sink.broken c.args.out.now c.args.listing.now)

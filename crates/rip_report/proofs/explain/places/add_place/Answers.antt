@@ -23,7 +23,8 @@ returns g c =
     let least = adds_same taken broken c.add_offers.new.out c.add-3.new.out c.add_offers.new.listing c.add-3.new.self _ (least_line n f.prefix c.args.least) c.least_text.ensures c.add-3.ensures in
     let from_offers = adds_then taken broken c.add_direct.new.out c.add_offers.new.out c.add-3.new.out c.add_direct.new.listing c.add_offers.new.listing c.add-3.new.self offers.0 _ offers.2 least in
     let from_direct = adds_then taken broken c.add-2.new.out c.add_direct.new.out c.add-3.new.out c.add-2.new.self c.add_direct.new.listing c.add-3.new.self direct.0 _ direct.2 from_offers in
-    let from_reading = adds_then taken broken c.add_shown.new.out c.add-2.new.out c.add-3.new.out c.add_shown.new.listing c.add-2.new.self c.add-3.new.self (read_route_line n route f.hidden) _ reading from_direct in
+    let from_reading = adds_then taken broken c.add_shown.new.out c.add-2.new.out c.add-3.new.out c.add_shown.new.listing c.add-2.new.self c.add-3.new.self
+    (read_route_line n route f.hidden) _ reading from_direct in
     let from_shown = adds_then taken broken c.add.new.out c.add_shown.new.out c.add-3.new.out c.add.new.self c.add_shown.new.listing c.add-3.new.self shown.0 _ shown.2 from_reading in (
       unsettled_line n s f ++ (shown.0 ++ (read_route_line n route f.hidden ++ (direct.0 ++ (offers.0 ++ least_line n f.prefix c.args.least)))),
       record {

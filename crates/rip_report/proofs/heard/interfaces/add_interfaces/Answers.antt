@@ -19,7 +19,8 @@ loop-i-preserved g c =
     let x = c.interface.result in
     record {
       so_far = λ events heard.
-          let its : InterfaceLines n events c.loop-i.i more.0 = record { interface = x; listed = c.interface.ensures.exact; lines = subst (λ t. SentLines n x t more.0) (c.interface-tally.ensures events heard) more.1 } in
+          let its : InterfaceLines n events c.loop-i.i more.0 =
+          record { interface = x; listed = c.interface.ensures.exact; lines = subst (λ t. SentLines n x t more.0) (c.interface-tally.ensures events heard) more.1 } in
           one_more g.K.Sink.taken g.K.Sink.broken (InterfaceLines n events) c.args.out.now c.loop-i.out c.add_sent.new.out c.args.listing.now c.loop-i.listing c.add_sent.new.listing c.loop-i.i
           (c.loop-i.invariant.so_far events heard) more.0 its more.2;
     }

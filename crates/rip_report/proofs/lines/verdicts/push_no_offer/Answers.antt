@@ -8,4 +8,5 @@ returns-clause-text c =
     let name = name_of c.args.plan.now.links c.args.link in
     let front = codes ", link " in
     let tail = codes " does not give it" in
-    c.push-2.ensures.text ∙ ap (λ (l : List ℕ). l ++ tail) (c.push_link.ensures.text ∙ ap (λ (l : List ℕ). l ++ name) c.push.ensures.text) ∙ append_assoc (text ++ front) name tail ∙ append_assoc text front (name ++ tail)
+    c.push-2.ensures.text ∙ ap (λ (l : List ℕ). l ++ tail) (c.push_link.ensures.text ∙ ap (λ (l : List ℕ). l ++ name) c.push.ensures.text) ∙ append_assoc (text ++ front) name tail
+    ∙ append_assoc text front (name ++ tail)

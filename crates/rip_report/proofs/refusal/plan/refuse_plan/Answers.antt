@@ -8,4 +8,5 @@ pub returns-clause-prints : goal.returns-clause-prints
 returns-clause-prints g c =
     let line = c.as_bytes.ensures ∙ c.fault_text.ensures in
     let wrote = Writes-same g.K.Sink.taken g.K.Sink.broken c.args.out.now c.write_all.new.out c.write_all.result _ _ [] line c.write_all.ensures in
-    finished_prints (λ w. w ≡ refused_plan c.args.error) (refused_plan c.args.error) g.K.Sink.taken g.K.Sink.broken c.args.out.now c.write_all.new.out c.write_all.result c.finish.result refl c.finish.ensures wrote
+    finished_prints (λ w. w ≡ refused_plan c.args.error)
+    (refused_plan c.args.error) g.K.Sink.taken g.K.Sink.broken c.args.out.now c.write_all.new.out c.write_all.result c.finish.result refl c.finish.ensures wrote

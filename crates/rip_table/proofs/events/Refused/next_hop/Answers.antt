@@ -18,5 +18,6 @@ entries-preserved c =
     elim c.else-eq.branch [
       | else-eq-via-then-eq+else-is_elsewhere w ↦
           c.entries.invariant ∙ hop_local c.args.plan.now c.args.self.now.interface c.in-NextHop.prefix es c.entries.k c.entry-entry.result c.entry-entry.ensures (sym w.if-is_elsewhere.ensures)
-      | else-eq-via-else-eq w ↦ c.entries.invariant ∙ hop_other c.args.plan.now c.args.self.now.interface c.in-NextHop.prefix es c.entries.k c.entry-entry.result c.entry-entry.ensures (sym w.if-eq.ensures)
+      | else-eq-via-else-eq w ↦ c.entries.invariant ∙ hop_other c.args.plan.now c.args.self.now.interface c.in-NextHop.prefix es c.entries.k c.entry-entry.result c.entry-entry.ensures
+          (sym w.if-eq.ensures)
     ]

@@ -44,7 +44,8 @@ returns-in_err-add_new g c =
     let is : c.from_residual-in_err-add_new.result ≡ Err Memory = search rules in
     let checked : AreFaultless c.args.plan.now c.args.interface s es = (c.in_ok-brings.ensures).0 in
     subst (Takes c.args.plan.now c.args.interface s m new) (sym is)
-    (allocating c.args.plan.now c.args.interface s m es new message checked (sym (c.in_ok-brings.ensures).1 ∙ c.in_err-add_new.ensures.allocates) (ap (grid_state heard) c.in_err-add_new.ensures.written.1))
+    (allocating c.args.plan.now c.args.interface s m es new message checked (sym (c.in_ok-brings.ensures).1 ∙ c.in_err-add_new.ensures.allocates)
+    (ap (grid_state heard) c.in_err-add_new.ensures.written.1))
     in
     record {
       takes = takes;
@@ -53,7 +54,8 @@ returns-in_err-add_new g c =
 
 pub invariant_of-self-2-clause-valid : goal.invariant_of-self-2-clause-valid
 invariant_of-self-2-clause-valid g c =
-    let same = taken-is c.args.plan.now c.args.interface c.args.self.now.heard.items (rows_of c.args.self.now.rows.entries) (rows_of c.add_new.new.rows.entries) (take c.read_entries-count.result c.read_entries-count.new.room)
+    let same = taken-is c.args.plan.now c.args.interface c.args.self.now.heard.items (rows_of c.args.self.now.rows.entries) (rows_of c.add_new.new.rows.entries)
+    (take c.read_entries-count.result c.read_entries-count.new.room)
     (omega (arith, c.requires.interface, c.requires.fits.interfaces)) c.args.self.now.valid (c.in_ok-brings.ensures).0 c.in_ok-add_new.ensures.written in
     subst IsState (sym same) ((c.in_ok-brings.ensures).0).2
 
@@ -75,7 +77,8 @@ returns g c =
     let message : m ≡ response es = response-is m kind ∙ ap response (sym c.read_entries-count.ensures.entries) in
     let checked : AreFaultless c.args.plan.now c.args.interface s es = (c.in_ok-brings.ensures).0 in
     taken c.args.plan.now c.args.interface s m es new message checked
-    (taken-is c.args.plan.now c.args.interface heard rows (rows_of c.add_new.new.rows.entries) es (omega (arith, c.requires.interface, c.requires.fits.interfaces)) c.args.self.now.valid checked c.in_ok-add_new.ensures.written)
+    (taken-is c.args.plan.now c.args.interface heard rows (rows_of c.add_new.new.rows.entries) es
+    (omega (arith, c.requires.interface, c.requires.fits.interfaces)) c.args.self.now.valid checked c.in_ok-add_new.ensures.written)
     in
     record {
       takes = takes;

@@ -22,7 +22,13 @@ remember-requires-clause-few g c =
     let ps = heads (rows_of c.args.rows.now.entries) in
     let p = c.args.prefix in
     let found : number_of_prefix p ps ≡ Some c.in-Some-number.k = sym (index-number p c.args.rows.now.entries) ∙ sym c.get_index_of-number.ensures.index ∙ c.in-Some-number.is in
-    omega (arith, slice_get_within ps c.in-Some-number.k p (number-at p ps c.in-Some-number.k found), length-heads (rows_of c.args.rows.now.entries), length-rows c.args.rows.now.entries, c.requires.few)
+    omega (
+      arith,
+      slice_get_within ps c.in-Some-number.k p (number-at p ps c.in-Some-number.k found),
+      length-heads (rows_of c.args.rows.now.entries),
+      length-rows c.args.rows.now.entries,
+      c.requires.few,
+    )
 
 pub returns-in-Some-number-clause-number : goal.returns-in-Some-number-clause-number
 returns-in-Some-number-clause-number g c = sym c.in-Some-number.is ∙ c.get_index_of-number.ensures.index ∙ index-number c.args.prefix c.args.rows.now.entries

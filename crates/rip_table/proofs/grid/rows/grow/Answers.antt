@@ -36,7 +36,8 @@ placed now new es row_numbers j x e room few kept found at here k d lt is = by (
         let same : k ≡ j = omega (arith, ltb-false k j t, lt) in
         let one : Some e ≡ Some d = sym at ∙ ap (slice_get es) (sym same) ∙ is in
         let entry : e ≡ d = cc one in
-        ap (λ (f : Entry). number_of_prefix f.prefix new) (sym entry) ∙ here ∙ ap (λ (v : ℕ). Some v) (sym (get_or-set_same row_numbers j x 0 (omega (arith, few, room))) ∙ ap (λ (m : ℕ). slice_index_or (set row_numbers j x) m 0) (sym same))
+        ap (λ (f : Entry). number_of_prefix f.prefix new) (sym entry) ∙ here ∙ ap (λ (v : ℕ). Some v)
+        (sym (get_or-set_same row_numbers j x 0 (omega (arith, few, room))) ∙ ap (λ (m : ℕ). slice_index_or (set row_numbers j x) m 0) (sym same))
 
 pub loop-j-preserved : goal.loop-j-preserved
 loop-j-preserved g c =
@@ -54,7 +55,8 @@ loop-j-preserved g c =
       told = ap (λ (r : Rows). with_rows c.args.width r (drop (c.loop-j.j + 1) es)) step ∙ ap (with_rows c.args.width rows) (sym here) ∙ inv.told;
       kept = λ q k h. kept q k (inv.kept q k h);
       room = length-set c.loop-j.row_numbers c.loop-j.j c.in_ok-row_numbers.field-0 ∙ inv.room;
-      row_numbers = placed (heads rows) (heads (rows_of c.row_at.new.rows.entries)) es c.loop-j.row_numbers c.loop-j.j c.in_ok-row_numbers.field-0 c.index-entries-j.result inv.room (omega (arith, c.loop-j-test.true, c.requires.few))
+      row_numbers = placed (heads rows) (heads (rows_of c.row_at.new.rows.entries)) es c.loop-j.row_numbers c.loop-j.j c.in_ok-row_numbers.field-0 c.index-entries-j.result inv.room
+          (omega (arith, c.loop-j-test.true, c.requires.few))
           kept inv.row_numbers at c.in_ok-row_numbers.ensures.number;
       longer = omega (arith, few, with_row-longer c.args.width rows p, ap length step, length-rows c.row_at.new.rows.entries);
       front = ap (take (length c.args.rows.now.entries)) step ∙ with_row-front (length c.args.rows.now.entries) c.args.width rows p few ∙ inv.front;

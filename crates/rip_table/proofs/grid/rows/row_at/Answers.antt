@@ -22,7 +22,8 @@ returns-in-Some-get_index_of-clause-number g c = sym (index-number c.args.prefix
 pub returns-in-Some-get_index_of-clause-ok : goal.returns-in-Some-get_index_of-clause-ok
 returns-in-Some-get_index_of-clause-ok g c =
     let rows = rows_of c.args.rows.now.entries in
-    with_row-old c.args.width rows c.args.prefix (number-some c.args.prefix (heads rows) c.in-Some-get_index_of.k (sym (index-number c.args.prefix c.args.rows.now.entries) ∙ sym c.in-Some-get_index_of.ensures.index))
+    with_row-old c.args.width rows c.args.prefix (number-some c.args.prefix (heads rows) c.in-Some-get_index_of.k
+    (sym (index-number c.args.prefix c.args.rows.now.entries) ∙ sym c.in-Some-get_index_of.ensures.index))
 
 absent_from : {X : Type 0} (o : Option X) → is_some o ≡ false → o ≡ None
 absent_from None h = refl

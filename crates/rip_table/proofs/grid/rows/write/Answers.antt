@@ -15,8 +15,14 @@ set_cell-requires-clause-row g c =
     let rows = rows_of c.loop-j.rows.entries in
     let at = slice_get_read c.args.entries.now (length c.args.entries.now) c.loop-j.j c.index-entries-j.result refl c.loop-j-test.true c.index-entries-j.is in
     let p = c.index-entries-j.result.prefix in
-    let number : number_of_prefix p (heads rows) ≡ Some (slice_index_or c.args.row_numbers.now c.loop-j.j 0) = ap (number_of_prefix p) c.loop-j.invariant.heads ∙ c.requires.row_numbers c.loop-j.j c.index-entries-j.result at in
-    omega (arith, slice_get_within (heads rows) (slice_index_or c.args.row_numbers.now c.loop-j.j 0) p (number-at p (heads rows) (slice_index_or c.args.row_numbers.now c.loop-j.j 0) number), length-heads rows, length-rows c.loop-j.rows.entries)
+    let number : number_of_prefix p (heads rows) ≡ Some (slice_index_or c.args.row_numbers.now c.loop-j.j 0) =
+    ap (number_of_prefix p) c.loop-j.invariant.heads ∙ c.requires.row_numbers c.loop-j.j c.index-entries-j.result at in
+    omega (
+      arith,
+      slice_get_within (heads rows) (slice_index_or c.args.row_numbers.now c.loop-j.j 0) p (number-at p (heads rows) (slice_index_or c.args.row_numbers.now c.loop-j.j 0) number),
+      length-heads rows,
+      length-rows c.loop-j.rows.entries,
+    )
 
 pub loop-j-preserved : goal.loop-j-preserved
 loop-j-preserved g c =

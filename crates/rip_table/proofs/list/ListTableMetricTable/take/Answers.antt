@@ -19,7 +19,8 @@ use Rattle.rip_table.proofs.list.ListTableMetricTable.take.Goals as goal
 
 pub returns-in_err-brings : goal.returns-in_err-brings
 returns-in_err-brings c =
-    let takes : Takes c.args.plan.now c.args.interface (list_state c.args.self.now.heard.items c.args.self.now.prefixes.items c.args.self.now.shown.items) (message_of c.args.datagram.now) (list_state c.args.self.now.heard.items c.args.self.now.prefixes.items c.args.self.now.shown.items) c.from_residual.result =
+    let takes : Takes c.args.plan.now c.args.interface (list_state c.args.self.now.heard.items c.args.self.now.prefixes.items c.args.self.now.shown.items) (message_of c.args.datagram.now)
+    (list_state c.args.self.now.heard.items c.args.self.now.prefixes.items c.args.self.now.shown.items) c.from_residual.result =
     let s = list_state c.args.self.now.heard.items c.args.self.now.prefixes.items c.args.self.now.shown.items in
     let m = message_of c.args.datagram.now in
     let kind : kind_of m ≡ Response = search rules in
@@ -31,12 +32,14 @@ returns-in_err-brings c =
     in
     record {
       takes = takes;
-      fits = Fits-taken c.args.plan.now c.args.interface (list_state c.args.self.now.heard.items c.args.self.now.prefixes.items c.args.self.now.shown.items) (list_state c.args.self.now.heard.items c.args.self.now.prefixes.items c.args.self.now.shown.items) (message_of c.args.datagram.now) c.from_residual.result c.requires.fits takes;
+      fits = Fits-taken c.args.plan.now c.args.interface (list_state c.args.self.now.heard.items c.args.self.now.prefixes.items c.args.self.now.shown.items)
+          (list_state c.args.self.now.heard.items c.args.self.now.prefixes.items c.args.self.now.shown.items) (message_of c.args.datagram.now) c.from_residual.result c.requires.fits takes;
     }
 
 pub returns-in_err-add_new : goal.returns-in_err-add_new
 returns-in_err-add_new c =
-    let takes : Takes c.args.plan.now c.args.interface (list_state c.args.self.now.heard.items c.args.self.now.prefixes.items c.args.self.now.shown.items) (message_of c.args.datagram.now) (list_state c.args.self.now.heard.items c.add_new.new.prefixes.items c.add_new.new.shown.items) c.from_residual-in_err-add_new.result =
+    let takes : Takes c.args.plan.now c.args.interface (list_state c.args.self.now.heard.items c.args.self.now.prefixes.items c.args.self.now.shown.items) (message_of c.args.datagram.now)
+    (list_state c.args.self.now.heard.items c.add_new.new.prefixes.items c.add_new.new.shown.items) c.from_residual-in_err-add_new.result =
     let heard = c.args.self.now.heard.items in
     let s = list_state heard c.args.self.now.prefixes.items c.args.self.now.shown.items in
     let m = message_of c.args.datagram.now in
@@ -46,13 +49,15 @@ returns-in_err-add_new c =
     let is : c.from_residual-in_err-add_new.result ≡ Err Memory = search rules in
     let checked : AreFaultless c.args.plan.now c.args.interface s es = (c.in_ok-brings.ensures).0 in
     let new = list_state heard c.add_new.new.prefixes.items c.add_new.new.shown.items in
-    let same : new ≡ s = ap (λ (p : List Block). list_state heard p c.add_new.new.shown.items) c.in_err-add_new.ensures.prefixes ∙ ap (list_state heard c.args.self.now.prefixes.items) c.in_err-add_new.ensures.shown in
+    let same : new ≡ s = ap (λ (p : List Block). list_state heard p c.add_new.new.shown.items) c.in_err-add_new.ensures.prefixes ∙ ap
+    (list_state heard c.args.self.now.prefixes.items) c.in_err-add_new.ensures.shown in
     subst (Takes c.args.plan.now c.args.interface s m new) (sym is)
     (allocating c.args.plan.now c.args.interface s m es new message checked (sym (c.in_ok-brings.ensures).1 ∙ c.in_err-add_new.ensures.allocates) same)
     in
     record {
       takes = takes;
-      fits = Fits-taken c.args.plan.now c.args.interface (list_state c.args.self.now.heard.items c.args.self.now.prefixes.items c.args.self.now.shown.items) (list_state c.args.self.now.heard.items c.add_new.new.prefixes.items c.add_new.new.shown.items) (message_of c.args.datagram.now) c.from_residual-in_err-add_new.result c.requires.fits takes;
+      fits = Fits-taken c.args.plan.now c.args.interface (list_state c.args.self.now.heard.items c.args.self.now.prefixes.items c.args.self.now.shown.items)
+          (list_state c.args.self.now.heard.items c.add_new.new.prefixes.items c.add_new.new.shown.items) (message_of c.args.datagram.now) c.from_residual-in_err-add_new.result c.requires.fits takes;
     }
 
 -- what was taken is the join of the entries
@@ -69,7 +74,8 @@ invariant_of-self-2 c =
 
 pub returns : goal.returns
 returns c =
-    let takes : Takes c.args.plan.now c.args.interface (list_state c.args.self.now.heard.items c.args.self.now.prefixes.items c.args.self.now.shown.items) (message_of c.args.datagram.now) (list_state (set c.args.self.now.heard.items c.args.interface true) c.add_new.new.prefixes.items c.add_new.new.shown.items) (Ok tt) =
+    let takes : Takes c.args.plan.now c.args.interface (list_state c.args.self.now.heard.items c.args.self.now.prefixes.items c.args.self.now.shown.items) (message_of c.args.datagram.now)
+    (list_state (set c.args.self.now.heard.items c.args.interface true) c.add_new.new.prefixes.items c.add_new.new.shown.items) (Ok tt) =
     let heard = c.args.self.now.heard.items in
     let s = list_state heard c.args.self.now.prefixes.items c.args.self.now.shown.items in
     let m = message_of c.args.datagram.now in
@@ -78,9 +84,11 @@ returns c =
     let message : m ≡ response es = response-is m kind ∙ ap response (sym c.entries-entries.ensures.entries) in
     let checked : AreFaultless c.args.plan.now c.args.interface s es = (c.in_ok-brings.ensures).0 in
     taken c.args.plan.now c.args.interface s m es (list_state (set heard c.args.interface true) c.add_new.new.prefixes.items c.add_new.new.shown.items) message checked
-    (joined_is c.args.plan.now c.args.interface heard c.args.self.now.prefixes.items c.add_new.new.prefixes.items c.args.self.now.shown.items c.add_new.new.shown.items es (omega (arith, c.requires.interface, c.requires.fits.interfaces)) checked c.in_ok-add_new.ensures.ok)
+    (joined_is c.args.plan.now c.args.interface heard c.args.self.now.prefixes.items c.add_new.new.prefixes.items c.args.self.now.shown.items c.add_new.new.shown.items es
+    (omega (arith, c.requires.interface, c.requires.fits.interfaces)) checked c.in_ok-add_new.ensures.ok)
     in
     record {
       takes = takes;
-      fits = Fits-taken c.args.plan.now c.args.interface (list_state c.args.self.now.heard.items c.args.self.now.prefixes.items c.args.self.now.shown.items) (list_state (set c.args.self.now.heard.items c.args.interface true) c.add_new.new.prefixes.items c.add_new.new.shown.items) (message_of c.args.datagram.now) (Ok tt) c.requires.fits takes;
+      fits = Fits-taken c.args.plan.now c.args.interface (list_state c.args.self.now.heard.items c.args.self.now.prefixes.items c.args.self.now.shown.items)
+          (list_state (set c.args.self.now.heard.items c.args.interface true) c.add_new.new.prefixes.items c.add_new.new.shown.items) (message_of c.args.datagram.now) (Ok tt) c.requires.fits takes;
     }

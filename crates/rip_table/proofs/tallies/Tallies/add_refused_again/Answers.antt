@@ -21,9 +21,13 @@ refuse_again-requires-clause-runs g c =
     rw (c.index_mut.ensures.value ∙ at) (room c.args.interface c.requires.room.0 MOST_LINES c.requires.room.2).runs
 
 pub refuse_again-requires-clause-again : goal.refuse_again-requires-clause-again
-refuse_again-requires-clause-again g c = c.requires.again c.index_mut.result.now (slice_get-get_or c.args.self.now.interfaces.items c.args.interface _ c.requires.interface ∙ ap Some (sym c.index_mut.ensures.value))
+refuse_again-requires-clause-again g c =
+    c.requires.again c.index_mut.result.now (slice_get-get_or c.args.self.now.interfaces.items c.args.interface _ c.requires.interface ∙ ap Some (sym c.index_mut.ensures.value))
 
 pub returns-clause-heard : goal.returns-clause-heard
 returns-clause-heard g c events error hop h =
     let at = get_or_from_slice_get c.args.self.now.interfaces.items c.args.interface _ _ (h.of_interfaces.at c.args.interface c.requires.interface) in
-    rw (c.add_refused.ensures c.args.interface error hop) (tallied-sent _ _ _ _ _ _ events c.args.interface c.args.line None (Refused (record { error = error; next_hop = hop })) c.refuse_again.new.self h (c.refuse_again.ensures c.args.interface error hop ∙ ap (λ t. with_event c.args.interface t (record { line = c.args.line; event = sent_event c.args.interface None (Refused (record { error = error; next_hop = hop })) })) (c.index_mut.ensures.value ∙ at)))
+    rw (c.add_refused.ensures c.args.interface error hop) (tallied-sent _ _ _ _ _ _ events c.args.interface c.args.line None
+    (Refused (record { error = error; next_hop = hop })) c.refuse_again.new.self h (c.refuse_again.ensures c.args.interface error hop ∙ ap
+    (λ t. with_event c.args.interface t (record { line = c.args.line; event = sent_event c.args.interface None (Refused (record { error = error; next_hop = hop })) }))
+    (c.index_mut.ensures.value ∙ at)))

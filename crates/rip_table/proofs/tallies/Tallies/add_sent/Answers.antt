@@ -17,4 +17,6 @@ add-requires g c =
 pub returns-clause-heard : goal.returns-clause-heard
 returns-clause-heard g c events origin h =
     let at = get_or_from_slice_get c.args.self.now.interfaces.items c.args.interface _ _ (h.of_interfaces.at c.args.interface c.requires.interface) in
-    rw (c.add_sent.ensures c.args.interface origin) (tallied-sent _ _ _ _ _ _ events c.args.interface c.args.line origin c.args.sent c.add.new.self h (c.add.ensures c.args.interface origin ∙ ap (λ t. with_event c.args.interface t (record { line = c.args.line; event = sent_event c.args.interface origin c.args.sent })) (c.index_mut.ensures.value ∙ at)))
+    rw (c.add_sent.ensures c.args.interface origin) (tallied-sent _ _ _ _ _ _ events c.args.interface c.args.line origin c.args.sent c.add.new.self h
+    (c.add.ensures c.args.interface origin ∙ ap (λ t. with_event c.args.interface t (record { line = c.args.line; event = sent_event c.args.interface origin c.args.sent }))
+    (c.index_mut.ensures.value ∙ at)))

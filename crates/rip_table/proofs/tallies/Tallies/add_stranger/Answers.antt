@@ -23,4 +23,6 @@ pub add_stranger-requires : goal.add_stranger-requires
 add_stranger-requires g c = counts-room c.args.self.now.counts c.requires.room.0 MOST_LINES c.requires.room.1.counted c.requires.room.2
 
 pub returns-clause-heard : goal.returns-clause-heard
-returns-clause-heard g c events h = rw (c.add_stranger.ensures (origin_of c.args.link.now c.args.address)) (tallied-stranger _ _ _ _ _ _ _ _ events c.args.line (origin_of c.args.link.now c.args.address) c.args.bad h (c.in_ok-add.ensures.ok events h.of_strangers))
+returns-clause-heard g c events h =
+    rw (c.add_stranger.ensures (origin_of c.args.link.now c.args.address)) (tallied-stranger _ _ _ _ _ _ _ _ events c.args.line (origin_of c.args.link.now c.args.address) c.args.bad h
+    (c.in_ok-add.ensures.ok events h.of_strangers))

@@ -21,9 +21,11 @@ returns-then-router-self g c =
     let x = c.interface-router.result in
     let line = c.offer_text.ensures ∙ ap (λ m. offer_line n own x.router m c.offer-value.result) (shown_metric s j p c.metric-shown.result c.requires.fits.0 c.metric-shown.ensures) in (
       offer_line n own x.router (metric_at s j p) c.offer-value.result,
-      an_offer x c.offer-value.result c.interface-router.ensures.exact (c.offer-value.ensures x.router x.cost (its_own_link n j c.requires.number.0 own.link c.requires.number.1 x c.requires.number.2 c.interface-router.ensures.exact)),
+      an_offer x c.offer-value.result c.interface-router.ensures.exact (c.offer-value.ensures x.router x.cost
+          (its_own_link n j c.requires.number.0 own.link c.requires.number.1 x c.requires.number.2 c.interface-router.ensures.exact)),
       adds_same g.K.Sink.taken g.K.Sink.broken c.args.out.now c.add.new.out c.args.listing.now c.add.new.self _ _ line c.add.ensures,
     )
 
 pub returns-else-router-self : goal.returns-else-router-self
-returns-else-router-self g c = ([], its_own c.interface-router.result c.interface-router.ensures.exact c.if-router-self.false, adds_none g.K.Sink.taken g.K.Sink.broken c.args.out.now c.args.listing.now)
+returns-else-router-self g c =
+    ([], its_own c.interface-router.result c.interface-router.ensures.exact c.if-router-self.false, adds_none g.K.Sink.taken g.K.Sink.broken c.args.out.now c.args.listing.now)

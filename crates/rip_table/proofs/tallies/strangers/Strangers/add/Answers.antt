@@ -17,13 +17,16 @@ returns-in-Some-clause-ok g c events h =
 pub returns-then-len-lt-MOST_STRANGERS-clause-ok :
     goal.returns-then-len-lt-MOST_STRANGERS-clause-ok
 returns-then-len-lt-MOST_STRANGERS-clause-ok g c =
-    OnOk-map c.add_new.result (rows_of_strangers c.add_new.new.self.told.entries ≡ rows_of_strangers c.args.self.now.told.entries ++ new_row (origin_of c.args.link.now c.args.address) c.args.line c.args.bad ∷ []) _ (λ added events h.
+    OnOk-map c.add_new.result (rows_of_strangers c.add_new.new.self.told.entries ≡ rows_of_strangers c.args.self.now.told.entries ++ new_row
+    (origin_of c.args.link.now c.args.address) c.args.line c.args.bad ∷ []) _ (λ added events h.
     let es = c.args.self.now.told.entries in
     let none = ap (λ l. is_origin_of l (origin_of c.args.link.now c.args.address)) (sym (told-is (rows_of_strangers es) c.args.self.now.others events h)) ∙ c.in_default.ensures.none in
-    rw (added, c.add_new.ensures.others) (step-new (rows_of_strangers es) c.args.self.now.others events (origin_of c.args.link.now c.args.address) c.args.line c.args.bad h none (lt-leb MOST_STRANGERS _ (omega (arith, length-is es c.args.self.now.others events h, c.len.ensures.len, c.if-len-lt-MOST_STRANGERS.true))))) c.add_new.ensures.ok
+    rw (added, c.add_new.ensures.others) (step-new (rows_of_strangers es) c.args.self.now.others events (origin_of c.args.link.now c.args.address) c.args.line c.args.bad h none
+    (lt-leb MOST_STRANGERS _ (omega (arith, length-is es c.args.self.now.others events h, c.len.ensures.len, c.if-len-lt-MOST_STRANGERS.true))))) c.add_new.ensures.ok
 
 pub returns-clause-ok : goal.returns-clause-ok
 returns-clause-ok g c events h =
     let es = c.args.self.now.told.entries in
     let none = ap (λ l. is_origin_of l (origin_of c.args.link.now c.args.address)) (sym (told-is (rows_of_strangers es) c.args.self.now.others events h)) ∙ c.in_default.ensures.none in
-    rw c.add.ensures (step-other (rows_of_strangers es) c.args.self.now.others events (origin_of c.args.link.now c.args.address) c.args.line c.args.bad h none (le-leb MOST_STRANGERS _ (omega (arith, length-is es c.args.self.now.others events h, c.len.ensures.len, c.if-len-lt-MOST_STRANGERS.false))))
+    rw c.add.ensures (step-other (rows_of_strangers es) c.args.self.now.others events (origin_of c.args.link.now c.args.address) c.args.line c.args.bad h none
+    (le-leb MOST_STRANGERS _ (omega (arith, length-is es c.args.self.now.others events h, c.len.ensures.len, c.if-len-lt-MOST_STRANGERS.false))))

@@ -9,11 +9,13 @@ use Rattle.rip_table.specs.declared.tallies.strangers.StrangerTally.{StrangerTal
 use Rattle.rip_table.proofs.StrangerLemmas.{found-at, key_origin, none-at}
 use Rattle.rip_table.proofs.tallies.strangers.Strangers.find.Goals as goal
 
-some-of : (o : Origin) (es : List (Stranger × StrangerTally)) (r : Option ℕ) → r ≡ position (λ (s : Stranger). same_origin o (key_origin s)) (keys_of es) → IfSome r (λ k. slice_get (strangers_of (rows_of_strangers es)) k ≡ Some o)
+some-of : (o : Origin) (es : List (Stranger × StrangerTally)) (r : Option ℕ) → r ≡ position (λ (s : Stranger). same_origin o (key_origin s)) (keys_of es) →
+    IfSome r (λ k. slice_get (strangers_of (rows_of_strangers es)) k ≡ Some o)
 some-of o es None h = tt
 some-of o es (Some k) h = found-at o k es (sym h)
 
-none-of : (o : Origin) (es : List (Stranger × StrangerTally)) (r : Option ℕ) → r ≡ position (λ (s : Stranger). same_origin o (key_origin s)) (keys_of es) → IfNone r (is_origin_of (strangers_of (rows_of_strangers es)) o ≡ false)
+none-of : (o : Origin) (es : List (Stranger × StrangerTally)) (r : Option ℕ) → r ≡ position (λ (s : Stranger). same_origin o (key_origin s)) (keys_of es) →
+    IfNone r (is_origin_of (strangers_of (rows_of_strangers es)) o ≡ false)
 none-of o es None h = none-at o es (sym h)
 none-of o es (Some k) h = tt
 
