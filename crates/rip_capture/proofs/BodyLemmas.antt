@@ -1,6 +1,7 @@
 -- What blocks say, what they do, and their faults.
 use Rattle.std.proofs.Common.{◌≡◌, ◌≢◌, ◌+◌, ◌-◌, ◌≤◌, ◌∙◌, ℕ, true, false, List, [], ◌∷◌, ◌++◌, Option, Some, None, Ok, Err, take, ap, sym, refl, inl, inr, subst, arith}
 use Rattle.std.specs.Prelude.{slice_range}
+use Rattle.rip_log.proofs.CutLemmas.{range-front}
 use Rattle.rip_capture.specs.Bodies.{LiesAt, ReadsBody, ReadsPacket, entered}
 use Rattle.rip_capture.specs.Codes.{is_read}
 use Rattle.rip_capture.specs.Pcap.{Frame}
@@ -10,7 +11,7 @@ use Rattle.rip_capture.specs.Pcapng.BodyFault.{version as bad_version, full as t
 use Rattle.rip_capture.specs.Pcapng.Does.{section as does_section, interface as does_interface, packet as does_packet, other as does_nothing}
 use Rattle.rip_capture.specs.Pcapng.OrderedFault.{size as bad_size, old as old_packet, cut as cut_block, end as bad_end, body as bad_body}
 use Rattle.rip_capture.specs.Pcapng.PacketFault.{interface as no_interface, size as bad_length, link_type as no_type}
-use Rattle.rip_capture.proofs.FeedLemmas.{range-drop, range-take}
+use Rattle.rip_capture.proofs.FeedLemmas.{range-drop}
 use Rattle.rip_capture.specs.declared.blocks.BlockKind.{BlockKind}
 use Rattle.rip_capture.specs.declared.blocks.BlockKind.TheVariants as kinds
 use Rattle.rip_capture.specs.declared.blocks.Interface.{Interface}
@@ -148,6 +149,6 @@ packet-said order interfaces b kind form says.Other is (inr old) = absurd (cc (i
 pub range-range : (items : List ℕ) (from to a b : ℕ) → a ≤ b → from + b ≤ to → slice_range items (from + a) (from + b) ≡ slice_range (slice_range items from to) a b
 range-range items from to a b ordered_ab inside =
     let behind = range-drop items from to a (omega (arith, ordered_ab, inside)) in
-    let front = range-take items (from + a) to (b - a) (omega (arith, ordered_ab, inside)) in
+    let front = range-front items (from + a) to (b - a) (omega (arith, ordered_ab, inside)) in
     let end : from + a + (b - a) ≡ from + b = omega (arith, ordered_ab) in
     sym (ap (λ (l : List ℕ). take (b - a) l) behind ∙ front ∙ ap (slice_range items (from + a)) end)

@@ -1,7 +1,7 @@
 -- What is held behind bytes that were taken.
 use Rattle.std.proofs.Common.{◌≡◌, ◌+◌, ◌-◌, ◌<◌, ◌≤◌, ℕ, List, [], ◌++◌, sym, append_assoc, append-nil, take, drop, ap, ◌∙◌, arith, length, slice_range}
 use Rattle.std.proofs.lemmas.List.{drop-take, drop-drop, length-append, take-append-drop, take-take}
-use Rattle.rip_log.proofs.CutLemmas.{length-range}
+use Rattle.rip_log.proofs.CutLemmas.{length-range, range-front}
 use Rattle.rip_capture.specs.Feeds.{Extends, Keeps, Skips, Takes, held}
 use Rattle.rip_capture.specs.declared.feed.Feed.{Feed}
 
@@ -11,10 +11,6 @@ range-drop items start end n h =
     ap (λ m. drop n (take m (drop start items))) split
     ∙ drop-take n (end - (start + n)) (drop start items)
     ∙ ap (take (end - (start + n))) (drop-drop n start items)
-
-pub range-take : (items : List ℕ) (start end n : ℕ) → start + n ≤ end → take n (slice_range items start end) ≡ slice_range items start (start + n)
-range-take items start end n h =
-    take-take n (end - start) (drop start items) (omega arith) ∙ ap (λ m. take m (drop start items)) (omega arith)
 
 pub Extends-none : (xs : List ℕ) → Extends xs xs
 Extends-none xs = record { more = []; whole = sym (append-nil xs) }

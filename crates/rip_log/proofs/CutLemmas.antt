@@ -13,7 +13,7 @@ use Rattle.rip_log.proofs.LineLemmas.{lines_of-feed, lines_of-front, lines_of-la
 pub length-range : (items : List ℕ) (start end : ℕ) → start ≤ end → end ≤ length items → length (slice_range items start end) ≡ end - start
 length-range items start end ordered within = length-take (end - start) (drop start items) ∙ omega (arith, length-drop start items)
 
-range-front : (items : List ℕ) (start end at : ℕ) → start + at ≤ end → take at (slice_range items start end) ≡ slice_range items start (start + at)
+pub range-front : (items : List ℕ) (start end at : ℕ) → start + at ≤ end → take at (slice_range items start end) ≡ slice_range items start (start + at)
 range-front items start end at h =
     take-take at (end - start) (drop start items) (omega arith) ∙ ap (λ n. take n (drop start items)) (omega arith)
 

@@ -6,7 +6,7 @@ use Rattle.rip_log.specs.Lines.{lines_of}
 use Rattle.rip_log.specs.LogText.{HasNoFeed, AreLines, ended_text, last_line}
 use Rattle.rip_log.proofs.LineLemmas.{lines_of-other}
 
-not-eq : (a b : ℕ) → (a == b) ≡ false → a ≢ b
+pub not-eq : (a b : ℕ) → (a == b) ≡ false → a ≢ b
 not-eq a b e = grind arith
 
 onto-last : (b : ℕ) (last : List ℕ) → onto b (last_line last) ≡ last_line (b ∷ last)

@@ -66,10 +66,10 @@ outcome-line n line lines later (Ok (Some capture)) few says t =
 outcome-line n line lines later (Err code) few says t =
     record { before = []; bad = line; after = lines; split = refl; are_records = refl; number = omega arith; fault = bad (omega arith) says }
 
-lt-of : (n : ℕ) → leb 1000000 n ≡ false → n < 1000000
+pub lt-of : (n : ℕ) → leb 1000000 n ≡ false → n < 1000000
 lt-of n h = grind arith
 
-le-of : (n : ℕ) → leb 1000000 n ≡ true → 1000000 ≤ n
+pub le-of : (n : ℕ) → leb 1000000 n ≡ true → 1000000 ≤ n
 le-of n h = grind arith
 
 pub some-log : (a b : Log) → ◌≡◌ {A = Option Log} (Some a) (Some b) → a ≡ b

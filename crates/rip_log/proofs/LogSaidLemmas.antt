@@ -2,6 +2,7 @@
 use Rattle.std.proofs.Common.{◌≡◌, ◌+◌, ◌≤◌, ◌<◌, ℕ, Bool, true, false, cond, List, [], ◌∷◌, Option, Some, None, Result, Ok, Err, refl, sym, ap, ◌∙◌, arith}
 use Rattle.std.proofs.Math.Dec.{leb}
 use Rattle.std.specs.Option.{option_map}
+use Rattle.rip_log.proofs.LogRelations.{lt-of}
 use Rattle.rip_log.specs.Codes.{is_read}
 use Rattle.rip_log.specs.Lines.{Capture, judge, lines_of}
 use Rattle.rip_log.specs.Logs.{Gives, IfElse, Log, faulty_log, log_at, log_of, onto_log, with_line}
@@ -17,9 +18,6 @@ line-said : (n : ℕ) (line : List ℕ) (judged : Result (Option Capture) LogCod
 line-said n line (Ok None) log all e = e
 line-said n line (Ok (Some capture)) log all e = ap (onto_log (record { line = n; capture = capture })) e
 line-said n line (Err code) log all e = refl
-
-lt-of : (n : ℕ) → leb 1000000 n ≡ false → n < 1000000
-lt-of n h = grind arith
 
 all-of : (n : ℕ) → n ≤ 1000000 → leb 1000000 n ≡ true → n ≡ 1000000
 all-of n few h = grind (arith, few, h)

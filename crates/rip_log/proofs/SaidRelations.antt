@@ -15,7 +15,7 @@ use Rattle.rip_log.specs.declared.error.LogCode.TheVariants as codes
 use Rattle.rip_log.proofs.SaidLemmas.{first-said, many-said}
 use Rattle.rip_log.proofs.JudgeRelations.{fields-same}
 use Rattle.rip_log.proofs.LineRelations.{AreLines-lines_of, lines_of-AreLines}
-use Rattle.rip_log.proofs.LogRelations.{Judges}
+use Rattle.rip_log.proofs.LogRelations.{Judges, some-log, lt-of, le-of}
 
 -- the law of the texts of addresses
 abbrev pub Addresses : Type 0
@@ -29,12 +29,6 @@ record AllIn (n : ℕ) (lines : List (List ℕ)) (all : AllSaid) : Type 0 where
   few : n + length front ≤ 1000000
   are : AreSaid n front all.said
   comes : ComesAfter all.too_many (n + length front) after
-
-lt-of : (n : ℕ) → leb 1000000 n ≡ false → n < 1000000
-lt-of n h = grind arith
-
-le-of : (n : ℕ) → leb 1000000 n ≡ true → 1000000 ≤ n
-le-of n h = grind arith
 
 skip-said : (n : ℕ) (line : List ℕ) (lines : List (List ℕ)) (said : List SaidAt) → IsSkipped line → AreSaid (n + 1) lines said → AreSaid n (line ∷ lines) said
 skip-said n line lines [] skipped are = (skipped, are)
@@ -208,9 +202,6 @@ captured-same (r ∷ a) (s ∷ b) e =
 
 some-all : (a b : AllSaid) → ◌≡◌ {A = Option AllSaid} (Some a) (Some b) → a ≡ b
 some-all a b e = cc e
-
-some-log : (a b : Log) → ◌≡◌ {A = Option Log} (Some a) (Some b) → a ≡ b
-some-log a b e = cc e
 
 pub said-log : (n : ℕ) (text : List ℕ) (records : List Numbered) → ◌≡◌ {A = Option Log} (Some (log_of n (lines_of text))) (Some (record { records = records; fault = None }))
     → ◌≡◌ {A = Option AllSaid} (Some (all_of n (lines_of text))) (Some (record { said = captured_all records; too_many = false }))

@@ -12,7 +12,6 @@ pub mod ListingLemmas
 pub mod ExpectLemmas
 pub mod ExplainLemmas
 pub mod GivenLemmas
-pub mod WhatifLemmas
 pub mod HearingLemmas
 pub mod HeardLemmas
 pub mod CaptureLemmas

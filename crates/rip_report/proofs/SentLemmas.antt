@@ -3,6 +3,7 @@ use Rattle.std.proofs.Common.{◌≡◌, ℕ, List, [], ◌++◌, take, drop, Re
 use Rattle.std.proofs.lemmas.Result.{on_err_weaker, on_ok_weaker}
 use Rattle.std.specs.Prelude.{OnErr, OnOk}
 use Rattle.std.proofs.lemmas.List.{take-append-drop}
+use Rattle.rip_table.proofs.RowLemmas.{on_err}
 use Rattle.rip_log.specs.Taken.{Taken, Took}
 use Rattle.rip_log.proofs.TakenLemmas.{Took-both, Took-none}
 use Rattle.rip_log.specs.declared.device.Failed.{Failed}
@@ -51,10 +52,6 @@ Sent-then a b c text part left s t = record {
   sent = Took-both a b c s.front t.front s.sent t.sent;
   whole = s.whole ∙ ap (λ (l : List ℕ). s.front ++ l) t.whole ∙ sym (append_assoc s.front t.front left);
 }
-
-pub onerr : {A E P : Type 0} (r : Result A E) → P → OnErr r P
-onerr (Ok x) p = tt
-onerr (Err e) p = p
 
 -- what succeeds had not failed
 pub unbroken : (a b : Bool) → false ≡ b → (a ≡ true → b ≡ true) → b ≡ a

@@ -3,6 +3,7 @@ use Rattle.std.proofs.Common.{◌≡◌, ◌≢◌, ℕ, zero, suc, ◌+◌, ◌
 use Rattle.std.specs.List.{slice_get}
 use Rattle.std.proofs.lemmas.Bool.{ltb-true, ltb-false}
 use Rattle.std.proofs.lemmas.Option.{get_or_from_slice_get}
+use Rattle.rip_plan.proofs.ItemLemmas.{get_some}
 use Rattle.rip_wire.specs.Prefix.{Block, prefix_text}
 use Rattle.rip_plan.specs.Network.{Network}
 use Rattle.rip_plan.specs.declared.parts.Interface.{Interface}
@@ -49,12 +50,6 @@ pub metric-parts : (n : Network) (i : Interface) (p : Block) (m : ℕ) (front mi
     → front ++ (middle ++ end) ≡ metric_line n i p m
 unfolding metric_line
 metric-parts n i p m front middle end first second third = rw (first, second, third) (simp append_assoc)
-
--- there is an item below the length
-pub item-below : {A : Type 0} (xs : List A) (k : ℕ) → k < length xs → (x : A) × (slice_get xs k ≡ Some x)
-item-below [] k lt = absurd (omega arith)
-item-below (x ∷ xs) zero lt = (x, refl)
-item-below (x ∷ xs) (suc k) lt = item-below xs k (omega arith)
 
 -- the line of the counts, by what they are
 pub same_counts : (i j p q : ℕ) → i ≡ j → p ≡ q → table_line i p ≡ table_line j q

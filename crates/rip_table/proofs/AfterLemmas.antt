@@ -3,6 +3,7 @@ use Rattle.std.proofs.Common.{◌≡◌, ℕ, ◌==◌, ◌<◌, Bool, true, fal
 use Rattle.std.proofs.Math.ListN.{length-set}
 use Rattle.std.proofs.lemmas.Bool.{and_parts, eqb-true}
 use mathlib.Core.Path.{fun_ext}
+use Rattle.rip_plan.proofs.NumberingLemmas.{same_is, same_self}
 use Rattle.rip_wire.specs.Prefix.{Block}
 use Rattle.rip_wire.specs.declared.entry.Entry.{Entry}
 use Rattle.rip_plan.specs.Passes.{same_prefix}
@@ -12,7 +13,7 @@ use Rattle.rip_table.specs.Numbers.{AreFaultless}
 use Rattle.rip_table.specs.Rows.{AreWritten, Rows, cell, grid_state, heads, shown_after, with_row, with_rows}
 use Rattle.rip_table.specs.declared.error.TableError.TheVariants.{Changed, NextHop, TooManyPrefixes}
 use Rattle.rip_table.proofs.TruthLemmas.{or-true, then-split}
-use Rattle.rip_table.proofs.PrefixListLemmas.{is_among-append, same-is, same-self}
+use Rattle.rip_table.proofs.PrefixListLemmas.{is_among-append}
 use Rattle.rip_table.proofs.RowLemmas.{heads-append}
 use Rattle.rip_table.proofs.CheckLemmas.{heard_valid}
 use Rattle.rip_table.proofs.CellLemmas.{cells-with_rows}
@@ -43,13 +44,13 @@ new_among ps p = by (is_among p ps) refl
   where
     by : (b : Bool) → is_among p ps ≡ b → is_among p (cond b ps (ps ++ p ∷ [])) ≡ true
     by true h = h
-    by false h = is_among-append p ps (p ∷ []) ∙ ap (λ (b : Bool). is_among p ps || (b || false)) (same-self p) ∙ or-true (is_among p ps)
+    by false h = is_among-append p ps (p ∷ []) ∙ ap (λ (b : Bool). is_among p ps || (b || false)) (same_self p) ∙ or-true (is_among p ps)
 
 listed_with : (s : State) (i m : ℕ) (p : Block) → Listed s i → Listed (with_metric s i p m) i
 listed_with s i m p listed q v h = by ((i == i) && same_prefix q p) refl h
   where
     by : (b : Bool) → ((i == i) && same_prefix q p) ≡ b → cond b (Some m) (s.shows i q) ≡ Some v → is_among q (with_prefix p s.prefixes) ≡ true
-    by true t e = ap (λ (r : Block). is_among r (with_prefix p s.prefixes)) (same-is q p (and_parts (i == i) (same_prefix q p) t).1) ∙ new_among s.prefixes p
+    by true t e = ap (λ (r : Block). is_among r (with_prefix p s.prefixes)) (same_is q p (and_parts (i == i) (same_prefix q p) t).1) ∙ new_among s.prefixes p
     by false t e = kept_among s.prefixes p q (listed q v e)
 
 -- a metric that stands already adds nothing
@@ -63,7 +64,7 @@ same_with s i m p listed here =
     at : (j : ℕ) (q : Block) (b : Bool) → ((j == i) && same_prefix q p) ≡ b → s.shows j q ≡ cond b (Some m) (s.shows j q)
     at j q true t =
         let parts = and_parts (j == i) (same_prefix q p) t in
-        ap (λ (k : ℕ). s.shows k q) (eqb-true j i parts.0) ∙ ap (s.shows i) (same-is q p parts.1) ∙ here
+        ap (λ (k : ℕ). s.shows k q) (eqb-true j i parts.0) ∙ ap (s.shows i) (same_is q p parts.1) ∙ here
     at j q false t = refl
 
 pub joined_is : (net : Network) (i : ℕ) (s u : State) (e : Entry) → Listed s i → (o : Option ℕ) → s.shows i e.prefix ≡ o → joined_at net i s e o ≡ Ok u → u ≡ with_metric s i e.prefix e.metric

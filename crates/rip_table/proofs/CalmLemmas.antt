@@ -1,6 +1,7 @@
 -- A log of which nothing is left out is one that is accepted.
 use Rattle.std.proofs.Common.{◌≡◌, ◌↔◌, ℕ, Bool, true, false, List, [], ◌∷◌, ◌++◌, Option, Some, None, Result, Ok, Err, refl, sym, ap, ◌∙◌, subst, append-nil}
 use Rattle.std.specs.List.{AllByRecursion}
+use Rattle.rip_log.proofs.LogRelations.{some-log}
 use Rattle.rip_wire.specs.Message.{Message, request as a_request, response}
 use Rattle.rip_wire.specs.declared.entry.Entry.{Entry}
 use Rattle.rip_plan.specs.Network.{Network}
@@ -90,9 +91,6 @@ no_fault n s all calm = record {
 same_all : (a b : AllSaid) → ◌≡◌ {A = Option AllSaid} (Some a) (Some b) → a ≡ b
 same_all a b e = cc e
 
-same_log : (a b : Log) → ◌≡◌ {A = Option Log} (Some a) (Some b) → a ≡ b
-same_log a b e = cc e
-
 -- the laws of lower definitions: of a log without a fault, and of records that are joined
 module _
     (good : (k : ℕ) (text : List ℕ) (records : List Numbered) → (log_at k (Some text) ≡ Some (record {
@@ -115,7 +113,7 @@ module _
   calm-accepted new h =
       let found = (records_of all).0 (no_fault n old all h.0) in
       let records = found.0 in
-      let same : log ≡ record { records = records; fault = None } = same_log _ _ (sym is_log ∙ (good k text records).1 (is_all ∙ ap Some found.1)) in
+      let same : log ≡ record { records = records; fault = None } = some-log _ _ (sym is_log ∙ (good k text records).1 (is_all ∙ ap Some found.1)) in
       let calm : AreCalm (events_of n old (captured_all records)) = calm_front (events_of n old (captured_all records)) [] (subst (λ (a : AllSaid). AreCalm (all_events n old a)) found.1 h.0) in
       let joined : joined_records n old records ≡ Ok new = calm_records n old records calm ∙ ap (λ (s : State). Ok s) (ap (λ (a : AllSaid). state_after n old a.said) (sym found.1) ∙ h.1) in
       (ap (λ (l : Log). l.fault) same, subst (λ (l : List Numbered). IsJoined n old l new) (ap (λ (l : Log). l.records) (sym same)) ((joins records new).0 joined))

@@ -3,6 +3,7 @@ use Rattle.std.proofs.Common.{◌≡◌, ◌≢◌, ℕ, zero, suc, ◌+◌, ◌
 use Rattle.std.proofs.lemmas.Bool.Decides.{nat_tests}
 use Rattle.std.specs.List.{slice_get, position_from}
 use mathlib.Core.Path.{fun_ext}
+use Rattle.rip_plan.proofs.NumberingLemmas.{same_is}
 use Rattle.rip_wire.specs.Prefix.{Block}
 use Rattle.rip_wire.specs.declared.entry.Entry.{Entry}
 use Rattle.rip_plan.specs.Network.{number_of_prefix}
@@ -11,7 +12,6 @@ use Rattle.rip_table.specs.State.{is_among}
 use Rattle.rip_table.specs.Rows.{IsGrid, Rows, cell, heads, planned_rows, shown_after, with_cell, with_row, with_rows}
 use Rattle.rip_table.proofs.TruthLemmas.{and-false, and-true}
 use Rattle.rip_table.proofs.RowLemmas.{grid-tail}
-use Rattle.rip_table.proofs.PrefixListLemmas.{same-is}
 use Rattle.rip_table.proofs.NumberLemmas.{true-false}
 
 -- row k is the first of the prefix
@@ -59,7 +59,7 @@ at_cell w [] p k i x is grid lt j q = absurd is
 at_cell w (row ∷ rows) p zero i x is grid lt j q = by (same_prefix q row.0) refl
   where
     here : p ≡ row.0
-    here = same-is p row.0 is
+    here = same_is p row.0 is
 
     by : (b : Bool) → same_prefix q row.0 ≡ b → cond b (get_or (set row.1 i x) j None) (cell rows j q) ≡ cond ((j == i) && same_prefix q p) x (cond b (get_or row.1 j None) (cell rows j q))
     by true t =
@@ -73,7 +73,7 @@ at_cell w (row ∷ rows) p (suc k) i x is grid lt j q = by (same_prefix q row.0)
     by true t later = apart (same_prefix q p) refl
       where
         apart : (b : Bool) → same_prefix q p ≡ b → get_or row.1 j None ≡ cond ((j == i) && b) x (get_or row.1 j None)
-        apart true s = true-false (same_prefix p row.0) (ap (λ (r : Block). same_prefix r row.0) (sym (same-is q p s)) ∙ t) is.0
+        apart true s = true-false (same_prefix p row.0) (ap (λ (r : Block). same_prefix r row.0) (sym (same_is q p s)) ∙ t) is.0
         apart false s = sym (ap (λ (b : Bool). cond b x (get_or row.1 j None)) (and-false (j == i)))
     by false t later = later
 

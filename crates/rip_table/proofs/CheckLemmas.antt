@@ -2,6 +2,7 @@
 use Rattle.std.proofs.Common.{inl, inr, ◌⊎◌, take, drop, ◌≡◌, ℕ, zero, suc, ◌+◌, ◌<◌, ◌≤◌, ◌==◌, nat_le, nat_lt, Bool, true, false, cond, ◌||◌, ◌&&◌, not, List, [], ◌∷◌, ◌++◌, length, Option, Some, None, is_some, is_none, Result, Ok, Err, refl, sym, ap, ◌∙◌, arith, length-append}
 use Rattle.std.specs.List.{slice_get}
 use Rattle.std.specs.Option.{option_or}
+use Rattle.rip_plan.proofs.NumberingLemmas.{same_is, same_self}
 use Rattle.rip_wire.specs.Prefix.{Block}
 use Rattle.rip_wire.specs.declared.entry.Entry.{Entry}
 use Rattle.rip_plan.specs.Network.{number_of_prefix}
@@ -15,7 +16,7 @@ use Rattle.std.proofs.lemmas.Bool.{eq-eqb, le-ltb, leb-false}
 use Rattle.std.proofs.lemmas.Bool.Decides.{nat_tests}
 use Rattle.std.proofs.lemmas.List.{take-append-drop}
 use Rattle.rip_table.proofs.TruthLemmas.{and-false, and-true, or-false, or-none, or-true}
-use Rattle.rip_table.proofs.PrefixListLemmas.{drop-more, same-is, same-self, is_among-append, is_among-item, take-more}
+use Rattle.rip_table.proofs.PrefixListLemmas.{drop-more, is_among-append, is_among-item, take-more}
 use Rattle.rip_table.proofs.NumberLemmas.{metric_among-snoc, number-none, number-some, true-false}
 use Rattle.rip_plan.specs.Network.{Network}
 
@@ -75,7 +76,7 @@ longer : (ps : List Block) (p q : Block) → is_among q ps ≡ true → is_among
 longer ps p q h = is_among-append q ps (p ∷ []) ∙ ap (λ (b : Bool). b || is_among q (p ∷ [])) h
 
 last_among : (ps : List Block) (p : Block) → is_among p (ps ++ p ∷ []) ≡ true
-last_among ps p = is_among-append p ps (p ∷ []) ∙ ap (λ (b : Bool). is_among p ps || (b || false)) (same-self p) ∙ or-true (is_among p ps)
+last_among ps p = is_among-append p ps (p ∷ []) ∙ ap (λ (b : Bool). is_among p ps || (b || false)) (same_self p) ∙ or-true (is_among p ps)
 
 -- what a table with one more metric shows is a metric of one of its prefixes
 shown_with : (s : State) (i m : ℕ) (p : Block) (ps : List Block) → 1 ≤ m → m ≤ 16 → IsState s
@@ -84,7 +85,7 @@ shown_with : (s : State) (i m : ℕ) (p : Block) (ps : List Block) → 1 ≤ m �
     → (1 ≤ k) × (k ≤ 16) × (is_among q ps ≡ true)
 shown_with s i m p ps low high valid kept there j k q lt true test h =
     let is : m ≡ k = cc h in
-    let same : q ≡ p = same-is q p (right (j == i) (same_prefix q p) test) in
+    let same : q ≡ p = same_is q p (right (j == i) (same_prefix q p) test) in
     (omega (arith, low, is), omega (arith, high, is), ap (λ (x : Block). is_among x ps) same ∙ there)
   where
     right : (a b : Bool) → (a && b) ≡ true → b ≡ true
@@ -243,7 +244,7 @@ module _ (net : Network) (i : ℕ) (s : State) (es : List Entry) (j count : ℕ)
     where
       by : (b : Bool) → same_prefix p e.prefix ≡ b → is_among p ck.state.prefixes ≡ (is_among p ck.state.prefixes || b)
       by true h =
-          let is : is_among p ck.state.prefixes ≡ true = ap (λ (q : Block). is_among q ck.state.prefixes) (same-is p e.prefix h) ∙ there in
+          let is : is_among p ck.state.prefixes ≡ true = ap (λ (q : Block). is_among q ck.state.prefixes) (same_is p e.prefix h) ∙ there in
           is ∙ sym (or-true (is_among p ck.state.prefixes))
       by false h = or-false (is_among p ck.state.prefixes)
 
@@ -261,7 +262,7 @@ module _ (net : Network) (i : ℕ) (s : State) (es : List Entry) (j count : ℕ)
     where
       by : (b : Bool) → same_prefix p e.prefix ≡ b → ck.state.shows i p ≡ option_or (ck.state.shows i p) (cond b (Some e.metric) None)
       by true h =
-          let some : ck.state.shows i p ≡ Some old = ap (ck.state.shows i) (same-is p e.prefix h) ∙ shows_here ∙ is in
+          let some : ck.state.shows i p ≡ Some old = ap (ck.state.shows i) (same_is p e.prefix h) ∙ shows_here ∙ is in
           some ∙ sym (ap (λ (x : Option ℕ). option_or x (Some e.metric)) some)
       by false h = or-none (ck.state.shows i p)
 
@@ -269,7 +270,7 @@ module _ (net : Network) (i : ℕ) (s : State) (es : List Entry) (j count : ℕ)
   shows_new is p = ap (λ (b : Bool). cond (b && same_prefix p e.prefix) (Some e.metric) (ck.state.shows i p)) (eq-eqb i i refl) ∙ by (same_prefix p e.prefix) refl ∙ sym (known_step p)
     where
       by : (b : Bool) → same_prefix p e.prefix ≡ b → cond b (Some e.metric) (ck.state.shows i p) ≡ option_or (ck.state.shows i p) (cond b (Some e.metric) None)
-      by true h = sym (ap (λ (x : Option ℕ). option_or x (Some e.metric)) (ap (ck.state.shows i) (same-is p e.prefix h) ∙ shows_here ∙ is))
+      by true h = sym (ap (λ (x : Option ℕ). option_or x (Some e.metric)) (ap (ck.state.shows i) (same_is p e.prefix h) ∙ shows_here ∙ is))
       by false h = or-none (ck.state.shows i p)
 
   among_new : (b : Bool) → is_among e.prefix ck.state.prefixes ≡ b → (p : Block) →

@@ -1,5 +1,6 @@
 -- What lines come to is what the words say.
 use Rattle.std.proofs.Common.{◌≡◌, ◌+◌, ◌≤◌, ℕ, length, drop, Bool, true, false, ◌&&◌, cond, not, ◌==◌, List, [], ◌∷◌, ◌++◌, Option, Some, None, Result, Ok, Err, refl, sym, ap, ◌∙◌, subst}
+use Rattle.rip_plan.proofs.NumberingLemmas.{same_self}
 use Rattle.rip_wire.specs.Datagram.{message_or_request}
 use Rattle.rip_wire.specs.Prefix.{Block}
 use Rattle.rip_wire.specs.Message.{Message, request as a_request, response, message_in}
@@ -20,7 +21,7 @@ use Rattle.rip_table.specs.declared.error.TableError.TheVariants.{Changed, NextH
 use Rattle.rip_table.proofs.CheckLemmas.{heard_valid}
 use Rattle.rip_table.proofs.FitLemmas.{Fits-joined}
 use Rattle.std.specs.List.{slice_get}
-use Rattle.rip_table.proofs.PrefixListLemmas.{drop-end, drop-more, same-self}
+use Rattle.rip_table.proofs.PrefixListLemmas.{drop-end, drop-more}
 use Rattle.rip_table.proofs.MetricLemmas.{LowerLaws, front_metrics, response_metrics, same_entries}
 use Rattle.rip_table.proofs.RefusedLemmas.{IsElsewhere-foreign, is_joined, joined_is, joined_of_entries, response_refused}
 use Rattle.rip_table.proofs.SaidLemmas.{interface_below}
@@ -63,7 +64,7 @@ hop_front n i s t p (e ∷ front) rest h = by (joined_at n i s e (s.shows i e.pr
 hop_here : (n : Network) (i : ℕ) (p : Block) (e : Entry) (rest : List Entry) → p ≡ e.prefix → is_foreign n i e ≡ true → hop_among n i p (e ∷ rest) ≡ Some e.next_hop
 hop_here n i p e rest same foreign =
     ap (λ (q : Block). cond (same_prefix e.prefix q && is_foreign n i e) (Some e.next_hop) (hop_among n i p rest)) same
-    ∙ ap (λ (c : Bool). cond (c && is_foreign n i e) (Some e.next_hop) (hop_among n i p rest)) (same-self e.prefix)
+    ∙ ap (λ (c : Bool). cond (c && is_foreign n i e) (Some e.next_hop) (hop_among n i p rest)) (same_self e.prefix)
     ∙ ap (λ (c : Bool). cond c (Some e.next_hop) (hop_among n i p rest)) foreign
 
 hop_is : (n : Network) (i : ℕ) (s t : State) (error : TableError) (front rest : List Entry) (e : Entry) → joined_entries n i s front ≡ Ok t → IsBadEntry n i t e error

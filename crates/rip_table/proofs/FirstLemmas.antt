@@ -1,6 +1,7 @@
 -- A log is refused by the first of its events that refuses.
 use Rattle.std.proofs.Common.{◌≡◌, ◌⊎◌, inl, inr, ℕ, Bool, true, false, List, [], ◌∷◌, ◌++◌, Option, Some, None, Result, Ok, Err, refl, sym, ap, ◌∙◌, subst}
 use Rattle.std.specs.Option.{option_map}
+use Rattle.rip_log.proofs.LogRelations.{some-log}
 use Rattle.rip_wire.specs.Message.{Message, request as a_request, response}
 use Rattle.rip_wire.specs.declared.entry.Entry.{Entry}
 use Rattle.rip_plan.specs.Network.{Network}
@@ -98,11 +99,8 @@ first-of n s (l ∷ said) x = by (said-line n s l.line l.said (log_up_to said x)
         subst (UpTo n s (record { said = l ∷ said; too_many = x })) (sym is.1) (goes n s l said x on.state on.fault is.0 later)
     by (inr is) later = subst (UpTo n s (record { said = l ∷ said; too_many = x })) (sym is.2) (ends n s l said x is.0 is.1)
 
-same-log : (a b : Log) → ◌≡◌ {A = Option Log} (Some a) (Some b) → a ≡ b
-same-log a b e = cc e
-
 pub first-refusal : (n : Network) (s : State) (log : Log) (all : AllSaid) {l : Option Log} {a : Option AllSaid}
     → l ≡ option_map log_said a → l ≡ Some log → a ≡ Some all → UpTo n s all (outcome n s log)
 first-refusal n s log all same is_log is_all =
     subst (λ (g : Log). UpTo n s all (outcome n s g))
-    (sym (same-log log (log_said all) (sym is_log ∙ same ∙ ap (option_map log_said) is_all))) (first-of n s all.said all.too_many)
+    (sym (some-log log (log_said all) (sym is_log ∙ same ∙ ap (option_map log_said) is_all))) (first-of n s all.said all.too_many)

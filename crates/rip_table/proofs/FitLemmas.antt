@@ -1,6 +1,7 @@
 -- A table that fits a plan fits it when records have been joined.
 use Rattle.std.proofs.Common.{◌≡◌, ◌==◌, ℕ, Bool, true, false, not, cond, ◌||◌, List, [], ◌∷◌, ◌++◌, Option, Some, None, Result, Ok, Err, refl, sym, ap, ◌∙◌, subst, append_assoc, append-nil}
 use Rattle.std.proofs.lemmas.Bool.{or_from}
+use Rattle.rip_plan.proofs.NumberingLemmas.{same_is}
 use Rattle.rip_wire.specs.Prefix.{Block}
 use Rattle.rip_wire.specs.Message.{Message, request, response}
 use Rattle.rip_wire.specs.declared.entry.Entry.{Entry}
@@ -11,7 +12,7 @@ use Rattle.rip_table.specs.State.{Fits, State, is_among, new_state}
 use Rattle.rip_table.specs.Joined.{and_then, as_cause, interface_of, is_foreign, is_past, joined_at, joined_capture, joined_entries, joined_from, joined_message, message_of_capture, Takes, with_heard, with_metric}
 use Rattle.rip_table.specs.declared.error.TableError.{TableError}
 use Rattle.rip_table.specs.declared.error.TableError.TheVariants.{Changed, Memory, NextHop, TooManyPrefixes}
-use Rattle.rip_table.proofs.PrefixListLemmas.{same-is, is_among-item, is_among-append}
+use Rattle.rip_table.proofs.PrefixListLemmas.{is_among-item, is_among-append}
 
 -- a table goes on as another: as many interfaces, and only new prefixes at the end of the list
 pub record GoesOn (s t : State) : Type 0 where
@@ -40,7 +41,7 @@ GoesOn-trans s t u g h = record {
 -- a prefix that is new is none of the list
 other : (s : State) (q p : Block) → is_among q s.prefixes ≡ false → is_among p s.prefixes ≡ true → (b : Bool) → same_prefix p q ≡ b → (b || false) ≡ false
 other s q p absent among true h =
-    let same : p ≡ q = same-is p q h in
+    let same : p ≡ q = same_is p q h in
     let clash : true ≡ false = sym among ∙ ap (λ (x : Block). is_among x s.prefixes) same ∙ absent in
     absurd (cc clash)
 other s q p absent among false h = refl

@@ -6,6 +6,8 @@ use Rattle.std.specs.List.{list_any, slice_get}
 use Rattle.std.specs.Option.{option_map_or}
 use Rattle.std.proofs.lemmas.Bool.{and_parts, eq-eqb, eqb-true}
 use Rattle.std.proofs.lemmas.Option.{slice_get-get_or}
+use Rattle.rip_plan.proofs.NumberingLemmas.{same_is, same_self}
+use Rattle.rip_plan.proofs.ItemLemmas.{any_finds}
 use Rattle.rip_wire.specs.Prefix.{Block}
 use Rattle.rip_plan.specs.Network.{Network}
 use Rattle.rip_plan.specs.Passes.{same_prefix}
@@ -14,18 +16,8 @@ use Rattle.rip_plan.specs.declared.parts.Interface.{Interface}
 use Rattle.rip_plan.specs.declared.parts.OwnPrefix.{OwnPrefix}
 use Rattle.rip_plan.specs.declared.parts.Seat.{Seat}
 use Rattle.rip_plan.specs.declared.parts.Seat.TheVariants.{Link, Own}
-use Rattle.rip_table.proofs.PrefixListLemmas.{same-is, same-self}
 use Rattle.rip_table.specs.Joined.{has_gateway, holds_address, is_gateway, knows_gateway}
 use Rattle.rip_table.specs.LogJoin.{KnowsGateway}
-
-any_some : {A : Type 0} (test : A → Bool) (xs : List A) → list_any test xs ≡ true → (k : ℕ) × (x : A) × (slice_get xs k ≡ Some x) × (test x ≡ true)
-any_some test [] h = absurd (cc h)
-any_some {A} test (y ∷ ys) h = by (test y) refl h (λ t. any_some test ys t)
-  where
-    by : (b : Bool) → test y ≡ b → (b || list_any test ys) ≡ true → (list_any test ys ≡ true → (k : ℕ) × (x : A) × (slice_get ys k ≡ Some x) × (test x ≡ true)) →
-        (k : ℕ) × (x : A) × (slice_get (y ∷ ys) k ≡ Some x) × (test x ≡ true)
-    by true t k later = (zero, y, refl, t)
-    by false t k later = let (m, x, at, passes) = later k in (suc m, x, at, passes)
 
 -- ---- addresses
 
@@ -51,7 +43,7 @@ held_address n i a h = by (slice_get n.interfaces i) refl (slice_get n.also i) r
     by None e p f t = absurd (cc t)
     by (Some x) e None f t = absurd (cc t)
     by (Some x) e (Some also) f t =
-        let (k, b, at, test) = any_some (λ b. b == a) (x.address ∷ also) t in
+        let (k, b, at, test) = any_finds (λ b. b == a) (x.address ∷ also) t in
         let same : b ≡ a = eqb-true b a test in
         (x.link, (x.address ∷ also, record { interface = x; listed = e; on = refl; also = also; further = f; all = refl }, contained (x.address ∷ also) k a (at ∙ ap (λ (c : ℕ). Some c) same)))
 
@@ -69,12 +61,12 @@ gateway_seat r a (Own own) h =
 
 prefix_is : (p : Block) (o : Option Block) → option_map_or (same_prefix p) o false ≡ true → o ≡ Some p
 prefix_is p None h = absurd (cc h)
-prefix_is p (Some q) h = ap (λ (b : Block). Some b) (sym (same-is p q h))
+prefix_is p (Some q) h = ap (λ (b : Block). Some b) (sym (same_is p q h))
 
 pub gateway_known : (n : Network) (i : ℕ) (p : Block) (a : ℕ) → KnowsGateway n i p a → knows_gateway n i p a ≡ true
 gateway_known n i p a (r, l, c, k, is, prefix, (j, has)) =
     let seat : has_gateway r a (Own has.own) ≡ true = rw (has.router, has.says, eq-eqb r r refl, eq-eqb a a refl) refl in
-    let its : option_map_or (same_prefix p) (slice_get n.prefixes k) false ≡ true = ap (λ (o : Option Block). option_map_or (same_prefix p) o false) prefix ∙ same-self p in
+    let its : option_map_or (same_prefix p) (slice_get n.prefixes k) false ≡ true = ap (λ (o : Option Block). option_map_or (same_prefix p) o false) prefix ∙ same_self p in
     let test : is_gateway n r p a (record { prefix = k; seat = Own has.own }) ≡ true = rw (seat, its) refl in
     ap (λ (o : Option Interface). option_map_or (λ x. list_any (is_gateway n x.router p a) n.places) o false) is.listed
     ∙ any_passes_from_place (is_gateway n r p a) n.places j _ has.place.listed test
@@ -85,7 +77,7 @@ known_gateway n i p a h = by (slice_get n.interfaces i) refl h
     by : (o : Option Interface) → slice_get n.interfaces i ≡ o → option_map_or (λ x. list_any (is_gateway n x.router p a) n.places) o false ≡ true → KnowsGateway n i p a
     by None e t = absurd (cc t)
     by (Some x) e t =
-        let (j, q, at, test) = any_some (is_gateway n x.router p a) n.places t in
+        let (j, q, at, test) = any_finds (is_gateway n x.router p a) n.places t in
         let parts = and_parts (has_gateway x.router a q.seat) (option_map_or (same_prefix p) (slice_get n.prefixes q.prefix) false) test in
         let (own, seat, router, via) = gateway_seat x.router a q.seat parts.0 in
         let placed = at ∙ ap (λ (s : Seat). Some (record { prefix = q.prefix; seat = s })) seat in (
@@ -100,7 +92,7 @@ known_gateway n i p a h = by (slice_get n.interfaces i) refl h
 
 -- ---- as the plan answers
 
-decided : (b c : Bool) → (b ≡ true → c ≡ true) → (c ≡ true → b ≡ true) → b ≡ c
+pub decided : (b c : Bool) → (b ≡ true → c ≡ true) → (c ≡ true → b ≡ true) → b ≡ c
 decided true c f g = sym (f refl)
 decided false true f g = let clash : false ≡ true = g refl in absurd (cc clash)
 decided false false f g = refl
@@ -136,9 +128,9 @@ gateway_decided n i r l c p a b is planned unplanned = decided b (knows_gateway 
       where
         by : (t : Bool) → list_any (same_prefix p) n.prefixes ≡ t → knows_gateway n i p a ≡ true
         by true t =
-            let (k, q, at, same) = any_some (same_prefix p) n.prefixes t in
-            let prefix : IsPrefix n k p = at ∙ ap (λ (d : Block). Some d) (sym (same-is p q same)) in
+            let (k, q, at, same) = any_finds (same_prefix p) n.prefixes t in
+            let prefix : IsPrefix n k p = at ∙ ap (λ (d : Block). Some d) (sym (same_is p q same)) in
             gateway_known n i p a (r, l, c, k, is, prefix, (planned k prefix).0 h)
         by false t =
-            let none : b ≡ false = unplanned (λ k at. let there = any_passes_from_place (same_prefix p) n.prefixes k p at (same-self p) in let clash : true ≡ false = sym there ∙ t in cc clash) in
+            let none : b ≡ false = unplanned (λ k at. let there = any_passes_from_place (same_prefix p) n.prefixes k p at (same_self p) in let clash : true ≡ false = sym there ∙ t in cc clash) in
             let clash : true ≡ false = sym h ∙ none in absurd (cc clash)

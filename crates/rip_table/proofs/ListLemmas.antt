@@ -4,6 +4,7 @@ use Rattle.std.proofs.Math.ListN.{length-set}
 use Rattle.std.specs.Option.{option_or, option_map}
 use Rattle.std.specs.List.{find, list_any}
 use mathlib.Core.Path.{fun_ext}
+use Rattle.rip_plan.proofs.NumberingLemmas.{same_is}
 use Rattle.rip_wire.specs.Prefix.{Block}
 use Rattle.rip_wire.specs.declared.entry.Entry.{Entry}
 use Rattle.rip_plan.specs.Passes.{same_prefix}
@@ -13,7 +14,6 @@ use Rattle.rip_table.specs.ListState.{IsAdded, list_state, metric_in}
 use Rattle.rip_table.specs.declared.error.TableError.TheVariants.{Changed, NextHop, TooManyPrefixes}
 use Rattle.rip_table.specs.declared.list.shown.Shown.{Shown}
 use Rattle.rip_table.proofs.TruthLemmas.{or-none, then-split}
-use Rattle.rip_table.proofs.PrefixListLemmas.{same-is}
 use Rattle.rip_table.proofs.TakingLemmas.{heard-with}
 use Rattle.std.proofs.lemmas.Bool.{and_parts, eqb-true, or_parts}
 use Rattle.rip_plan.specs.Network.{Network}
@@ -43,7 +43,7 @@ shown_with i m p shown none j q = by ((j == i) && same_prefix q p) refl ∙ sym 
     by true h =
         let parts = and_parts (j == i) (same_prefix q p) h in
         let here : j ≡ i = eqb-true j i parts.0 in
-        let same : q ≡ p = same-is q p parts.1 in
+        let same : q ≡ p = same_is q p parts.1 in
         sym (ap (λ (o : Option ℕ). option_or o (Some m)) (ap (λ (k : ℕ). metric_in k q shown) here ∙ ap (λ (r : Block). metric_in i r shown) same ∙ none))
     by false h = or-none (metric_in j q shown)
 

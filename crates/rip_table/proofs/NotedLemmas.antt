@@ -2,12 +2,13 @@
 use Rattle.std.proofs.Common.{take, ◌≡◌, ℕ, ◌+◌, Bool, true, false, cond, List, Option, Some, None, is_some, refl, sym, ap, ◌∙◌}
 use Rattle.std.specs.List.{slice_get}
 use Rattle.std.specs.Option.{option_or}
+use Rattle.rip_plan.proofs.NumberingLemmas.{same_is}
 use Rattle.rip_wire.specs.Prefix.{Block}
 use Rattle.rip_wire.specs.declared.entry.Entry.{Entry}
 use Rattle.rip_plan.specs.Network.{number_of_prefix}
 use Rattle.rip_plan.specs.Passes.{same_prefix}
 use Rattle.rip_table.specs.Numbers.{flag_of, metric_among}
-use Rattle.rip_table.proofs.PrefixListLemmas.{same-is, take-more}
+use Rattle.rip_table.proofs.PrefixListLemmas.{take-more}
 use Rattle.rip_table.proofs.NumberLemmas.{metric_among-snoc, true-false}
 
 -- the flags of the numbers of these entries are up
@@ -26,7 +27,7 @@ noted-more prefixes es j e old new here noted kept up p k number some =
         is_some (option_or (metric_among p (take j es)) (cond (same_prefix p e.prefix) (Some e.metric) None)) ≡ true
         → flag_of new k ≡ true
     by (Some m) is b same known = kept k (noted p k number (ap is_some is))
-    by None is true same known = up k (sym (ap (λ (q : Block). number_of_prefix q prefixes) (same-is p e.prefix same)) ∙ number)
+    by None is true same known = up k (sym (ap (λ (q : Block). number_of_prefix q prefixes) (same_is p e.prefix same)) ∙ number)
     by None is false same known = absurd (cc (rw (is, same) at known))
 
 -- an entry whose number's flag is down has a prefix that none of these has

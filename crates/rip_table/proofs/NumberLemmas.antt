@@ -4,6 +4,7 @@ use Rattle.std.specs.List.{slice_get, slice_index_or, list_any, position_from}
 use Rattle.std.specs.Option.{option_or}
 use Rattle.std.proofs.lemmas.Option.{get_or_from_slice_get, slice_get_cases, slice_get_within}
 use Rattle.std.proofs.lemmas.List.Folds.{list_any-append}
+use Rattle.rip_plan.proofs.NumberingLemmas.{same_is}
 use Rattle.rip_wire.specs.Prefix.{Block}
 use Rattle.rip_wire.specs.Message.{Message, request, response}
 use Rattle.rip_wire.specs.Datagram.{entries_of, kind_of}
@@ -14,7 +15,7 @@ use Rattle.rip_plan.specs.Passes.{same_prefix}
 use Rattle.rip_table.specs.State.{IsState, State, is_among}
 use Rattle.rip_table.specs.Numbers.{AreNumbers, metric_among}
 use Rattle.rip_table.proofs.TruthLemmas.{or-false, or-true}
-use Rattle.rip_table.proofs.PrefixListLemmas.{same-is, is_among-item, take-more}
+use Rattle.rip_table.proofs.PrefixListLemmas.{is_among-item, take-more}
 
 pub true-false : {A : Type 0} (b : Bool) → b ≡ true → b ≡ false → A
 true-false true h k = absurd (cc k)
@@ -38,7 +39,7 @@ pub number-at : (p : Block) (ps : List Block) (k : ℕ) → number_of_prefix p p
 number-at p ps k h =
     let found = placed (same_prefix p) ps 0 k h in
     let here : k ≡ found.0 = omega (arith, found.2) in
-    let same : p ≡ found.1 = same-is p found.1 found.4 in
+    let same : p ≡ found.1 = same_is p found.1 found.4 in
     ap (slice_get ps) here ∙ found.3 ∙ ap (λ (q : Block). Some q) (sym same)
 
 missing : (p : Block) (ps : List Block) (n : ℕ) → position_from (same_prefix p) n ps ≡ None → is_among p ps ≡ false

@@ -3,6 +3,7 @@ use Rattle.std.proofs.Common.{inl, inr, ◌⊎◌, ◌≡◌, ℕ, zero, suc, �
 use Rattle.std.specs.List.{slice_get}
 use Rattle.std.proofs.lemmas.Option.{slice_get_within}
 use mathlib.Core.Path.{fun_ext}
+use Rattle.rip_table.proofs.HopLemmas.{decided}
 use Rattle.rip_wire.specs.Prefix.{Block}
 use Rattle.rip_wire.specs.declared.entry.Entry.{Entry}
 use Rattle.rip_plan.specs.Network.{Network}
@@ -140,11 +141,6 @@ same_option None None to from = refl
 same_option None (Some y) to from = from y refl
 same_option (Some x) b to from = sym (to x refl)
 
-same_bool : (a b : Bool) → (a ≡ true → b ≡ true) → (b ≡ true → a ≡ true) → a ≡ b
-same_bool true b to from = sym (to refl)
-same_bool false true to from = from refl
-same_bool false false to from = refl
-
 same_state : (s t : State) → s.interfaces ≡ t.interfaces → s.prefixes ≡ t.prefixes → s.shows ≡ t.shows → s.heard ≡ t.heard → s ≡ t
 same_state s t interfaces prefixes shows heard =
     ap (λ (k : ℕ). record { interfaces = k; prefixes = s.prefixes; shows = s.shows; heard = s.heard }) interfaces
@@ -173,7 +169,7 @@ one_join n old log s t valid_s valid_t first second =
     (first.interfaces ∙ sym second.interfaces)
     (one_list (IsNamed n log) old.prefixes s.prefixes t.prefixes (log_lists n old s log valid_s first) (log_lists n old t log valid_t second))
     (fun_ext (λ i. fun_ext (λ p. same_option (s.shows i p) (t.shows i p) (λ x h. (second.shown i p x).1 ((first.shown i p x).0 h)) (λ x h. (first.shown i p x).1 ((second.shown i p x).0 h)))))
-    (fun_ext (λ i. same_bool (s.heard i) (t.heard i) (λ h. (second.heard i).1 ((first.heard i).0 h)) (λ h. (first.heard i).1 ((second.heard i).0 h))))
+    (fun_ext (λ i. decided (s.heard i) (t.heard i) (λ h. (second.heard i).1 ((first.heard i).0 h)) (λ h. (first.heard i).1 ((second.heard i).0 h))))
 
 -- ---- of entries
 
@@ -202,4 +198,4 @@ one_taken i old es s t valid_s valid_t first second =
     (first.interfaces ∙ sym second.interfaces)
     (one_list (entry_names es) old.prefixes s.prefixes t.prefixes (entry_lists i old s es valid_s first) (entry_lists i old t es valid_t second))
     (fun_ext (λ j. fun_ext (λ p. same_option (s.shows j p) (t.shows j p) (λ x h. (second.shown j p x).1 ((first.shown j p x).0 h)) (λ x h. (first.shown j p x).1 ((second.shown j p x).0 h)))))
-    (fun_ext (λ j. same_bool (s.heard j) (t.heard j) (λ h. (second.heard j).1 ((first.heard j).0 h)) (λ h. (first.heard j).1 ((second.heard j).0 h))))
+    (fun_ext (λ j. decided (s.heard j) (t.heard j) (λ h. (second.heard j).1 ((first.heard j).0 h)) (λ h. (first.heard j).1 ((second.heard j).0 h))))

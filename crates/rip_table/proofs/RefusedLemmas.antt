@@ -2,6 +2,7 @@
 use Rattle.std.proofs.Common.{◌↔◌, inl, inr, ◌≡◌, ◌≢◌, ℕ, ◌<◌, ◌≤◌, ◌==◌, Bool, true, false, cond, ◌&&◌, ◌||◌, not, nat_le, nat_lt, List, [], ◌∷◌, ◌++◌, length, Option, Some, None, Result, Ok, Err, refl, sym, ap, ◌∙◌, arith, subst, append-nil}
 use Rattle.std.proofs.lemmas.Bool.{and_parts, eq-eqb, eqb-true, false_from_ne_true}
 use Rattle.std.proofs.lemmas.Bool.Decides.{nat_tests}
+use Rattle.rip_log.proofs.LineRelations.{not-eq}
 use Rattle.rip_wire.specs.Prefix.{Block}
 use Rattle.rip_wire.specs.Message.{Message, request, response, message_in}
 use Rattle.rip_wire.specs.Datagram.{message_or_request}
@@ -38,9 +39,6 @@ neither true b h = absurd (cc h)
 neither false true h = absurd (cc h)
 neither false false h = (refl, refl)
 
-apart : (m n : ℕ) → (m == n) ≡ false → m ≢ n
-apart m n h same = true-false (m == n) (eq-eqb m n same) h
-
 differs : (m n : ℕ) → m ≢ n → (m == n) ≡ false
 differs m n h = by (m == n) refl
   where
@@ -56,7 +54,7 @@ foreign-IsElsewhere net i e h =
     let others = neither (holds_address net i e.next_hop) (knows_gateway net i e.prefix e.next_hop) (ap not hops.1) in
     record {
       reachable = grind (arith, nat_tests);
-      unspecified = apart e.next_hop 0 hops.0;
+      unspecified = not-eq e.next_hop 0 hops.0;
       other = λ l has. true-false (holds_address net i e.next_hop) (address_held net i l e.next_hop has) others.0;
       no_gateway = λ knows. true-false (knows_gateway net i e.prefix e.next_hop) (gateway_known net i e.prefix e.next_hop knows) others.1;
     }
@@ -93,7 +91,7 @@ bad_of net i s e error (Some old) shows h = by (old == e.metric) refl (is_foreig
         → IsBadEntry net i s e error
     by false test f foreign k =
         let is : Changed e.prefix old e.metric ≡ error = cc k in
-        subst (IsBadEntry net i s e) is (record { prefix = refl; stands = shows; metric = refl; differ = apart old e.metric test })
+        subst (IsBadEntry net i s e) is (record { prefix = refl; stands = shows; metric = refl; differ = not-eq old e.metric test })
     by true test true foreign k =
         let is : NextHop e.prefix ≡ error = cc k in
         subst (IsBadEntry net i s e) is (record {

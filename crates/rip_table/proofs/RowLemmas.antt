@@ -9,6 +9,7 @@ use Rattle.std.specs.declared.vec.Vec.{Vec}
 use Rattle.std.specs.declared.alloc.Global.{Global}
 use Rattle.std.proofs.lemmas.Option.{same_Some, slice_get_within, get_or_from_slice_get, none-some, slice_get-get_or}
 use Rattle.std.proofs.lemmas.Iterator.Adapters.{position_from-zero}
+use Rattle.rip_plan.proofs.NumberingLemmas.{same_self}
 use Rattle.indexmap.specs.IndexMap.{set_value_at}
 use Rattle.rip_wire.specs.Prefix.{Block}
 use Rattle.rip_wire.specs.declared.entry.Entry.{Entry}
@@ -16,7 +17,7 @@ use Rattle.rip_plan.specs.Network.{number_of_prefix}
 use Rattle.rip_plan.specs.Passes.{same_prefix}
 use Rattle.rip_table.specs.State.{is_among}
 use Rattle.rip_table.specs.Rows.{Rows, IsGrid, heads, planned_rows, rows_of, with_cell, with_row, with_rows}
-use Rattle.rip_table.proofs.PrefixListLemmas.{is_among-item, same-self, take-more}
+use Rattle.rip_table.proofs.PrefixListLemmas.{is_among-item, take-more}
 use Rattle.rip_table.proofs.NumberLemmas.{number-at, number-is, number-none, true-false}
 
 abbrev pub Entries : Type 0
@@ -59,7 +60,7 @@ pub with_row-new : (w : ℕ) (rows : Rows) (p : Block) → is_among p (heads row
 with_row-new w rows p h = sym (ap (λ (b : Bool). cond b rows (rows ++ (p, replicate w None) ∷ [])) h)
 
 number_last : (p : Block) (ps : List Block) (n : ℕ) → position_from (same_prefix p) n ps ≡ None → position_from (same_prefix p) n (ps ++ p ∷ []) ≡ Some (n + length ps)
-number_last p [] n h = ap (λ (b : Bool). cond b (Some n) None) (same-self p) ∙ (let e : n ≡ n + 0 = omega arith in ap (λ (k : ℕ). Some k) e)
+number_last p [] n h = ap (λ (b : Bool). cond b (Some n) None) (same_self p) ∙ (let e : n ≡ n + 0 = omega arith in ap (λ (k : ℕ). Some k) e)
 number_last p (q ∷ ps) n h = by (same_prefix p q) h (λ e. number_last p ps (n + 1) e)
   where
     by : (b : Bool) → cond b (Some n) (position_from (same_prefix p) (n + 1) ps) ≡ None

@@ -4,6 +4,7 @@ use Rattle.std.specs.List.{slice_get}
 use Rattle.std.proofs.lemmas.Option.{slice_get_within}
 use Rattle.std.proofs.lemmas.Bool.{and_parts, eq-eqb, eqb-true}
 use Rattle.std.proofs.lemmas.Bool.Decides.{nat_tests}
+use Rattle.rip_plan.proofs.NumberingLemmas.{same_is, same_self}
 use Rattle.rip_wire.specs.Prefix.{Block}
 use Rattle.rip_wire.specs.Message.{Message, request, response, message_in}
 use Rattle.rip_wire.specs.Datagram.{message_or_request}
@@ -21,7 +22,6 @@ use Rattle.rip_table.specs.LogJoin.{AreTaken, ComesBefore, HasEntry, HasResponse
 use Rattle.rip_table.specs.declared.error.TableError.{TableError}
 use Rattle.rip_table.specs.declared.error.TableError.TheVariants.{Changed, NextHop, TooManyPrefixes}
 use Rattle.rip_table.specs.declared.error.CollectCause.{CollectCause}
-use Rattle.rip_table.proofs.PrefixListLemmas.{same-is, same-self}
 use Rattle.rip_table.proofs.NumberLemmas.{number-at, number-none, true-false}
 use Rattle.rip_table.proofs.FitLemmas.{Fits-joined}
 use Rattle.rip_table.proofs.AfterLemmas.{joined_is, new_among}
@@ -43,14 +43,14 @@ nobody j = ⊥
 
 test_of : (i j : ℕ) (p q : Block) → j ≡ i → p ≡ q → ((j == i) && same_prefix q p) ≡ true
 test_of i j p q here same =
-    ap (λ (k : ℕ). (k == i) && same_prefix q p) here ∙ ap (λ (r : Block). (i == i) && same_prefix r p) (sym same) ∙ ap (λ (b : Bool). b && same_prefix p p) (eq-eqb i i refl) ∙ same-self p
+    ap (λ (k : ℕ). (k == i) && same_prefix q p) here ∙ ap (λ (r : Block). (i == i) && same_prefix r p) (sym same) ∙ ap (λ (b : Bool). b && same_prefix p p) (eq-eqb i i refl) ∙ same_self p
 
 shown_one : (s : State) (i m : ℕ) (p : Block) (j : ℕ) (q : Block) (x : ℕ) → (b : Bool) → ((j == i) && same_prefix q p) ≡ b → cond b (Some m) (s.shows j q) ≡ Some x
     → (s.shows j q ≡ Some x) ⊎ ((k : ℕ) × says_one i p m k j q x)
 shown_one s i m p j q x true t h =
     let parts = and_parts (j == i) (same_prefix q p) t in
     let metric : m ≡ x = cc h in
-    inr (0, (eqb-true j i parts.0, sym (same-is q p parts.1), metric))
+    inr (0, (eqb-true j i parts.0, sym (same_is q p parts.1), metric))
 shown_one s i m p j q x false t h = inl h
 
 kept_one : (s : State) (i m : ℕ) (p : Block) → ((y : ℕ) → s.shows i p ≡ Some y → y ≡ m) → (j : ℕ) (q : Block) (x : ℕ) → (b : Bool) → ((j == i) && same_prefix q p) ≡ b
@@ -58,7 +58,7 @@ kept_one : (s : State) (i m : ℕ) (p : Block) → ((y : ℕ) → s.shows i p �
 kept_one s i m p keeps j q x true t h =
     let parts = and_parts (j == i) (same_prefix q p) t in
     let here : j ≡ i = eqb-true j i parts.0 in
-    let same : q ≡ p = same-is q p parts.1 in
+    let same : q ≡ p = same_is q p parts.1 in
     ap (λ (y : ℕ). Some y) (sym (keeps x (ap (λ (k : ℕ). s.shows k p) (sym here) ∙ ap (s.shows j) (sym same) ∙ h)))
 kept_one s i m p keeps j q x false t h = h
 

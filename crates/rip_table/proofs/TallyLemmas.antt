@@ -6,6 +6,7 @@ use Rattle.std.proofs.lemmas.List.{length-set}
 use Rattle.std.specs.List.{slice_get}
 use Rattle.std.specs.Prelude.{OnErr, slice_set}
 use Rattle.std.specs.Option.{option_map, option_or}
+use Rattle.rip_plan.proofs.NumberingLemmas.{or_nothing}
 use Rattle.rip_table.specs.Events.{Event, EventAt, joined, refused, stranger, request, bad}
 use Rattle.rip_table.specs.Tallies.{lines_where, lines_in, last_of, with_line, if_line, first_of, outcomes_of, last_outcome, runs_in, is_joined, is_refused, is_asked, is_bad, refusal_of, code_of, interface_tally, with_event, sent_event, IsAtMost, AreInterfaceTallies, IsOfStranger}
 use Rattle.rip_log.specs.Said.{Origin}
@@ -55,12 +56,8 @@ or-over : {X : Type 0} (a b c : Option X) → option_or a (option_or b c) ≡ op
 or-over (Some x) b c = refl
 or-over None b c = refl
 
-or-end : {X : Type 0} (a : Option X) → option_or a None ≡ a
-or-end (Some x) = refl
-or-end None = refl
-
 pub first-more : {X : Type 0} (has : Event → Option X) (events : List EventAt) (e : EventAt) → first_of has (events ++ e ∷ []) ≡ option_or (first_of has events) (has e.event)
-first-more has [] e = or-end (has e.event)
+first-more has [] e = or_nothing (has e.event)
 first-more has (d ∷ events) e = rw (first-more has events e) (or-over (has d.event) (first_of has events) (has e.event))
 
 -- ---- outcomes
@@ -189,7 +186,7 @@ and-left false = refl
 
 -- a tally to which nothing is added
 pub other-made : (t : InterfaceTally) → (record t { first_refusal = option_or t.first_refusal None; first_bad = option_or t.first_bad None; in_order = t.in_order && true }) ≡ t
-other-made t = rw (or-end t.first_refusal, or-end t.first_bad, and-left t.in_order) refl
+other-made t = rw (or_nothing t.first_refusal, or_nothing t.first_bad, and-left t.in_order) refl
 
 -- an event of another interface is none of this one
 other-step : (i j : ℕ) (origin : Option Origin) (sent : Sent) (t : InterfaceTally) (line : ℕ) → (i == j) ≡ false → with_event i t (record { line = line; event = sent_event j origin sent }) ≡ t

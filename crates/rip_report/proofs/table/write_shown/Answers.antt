@@ -1,7 +1,8 @@
 use Rattle.std.proofs.Common.{◌++◌, ◌<◌, Ok, length, ap, arith, codes}
+use Rattle.rip_plan.proofs.ItemLemmas.{get_some}
 use Rattle.rip_wire.specs.Prefix.{Block, prefix_text}
 use Rattle.rip_report.specs.TableText.{prefix_lines, shown_lines}
-use Rattle.rip_report.proofs.TextLemmas.{item-below, text-at}
+use Rattle.rip_report.proofs.TextLemmas.{text-at}
 use Rattle.rip_report.specs.Held.{held}
 use Rattle.rip_report.proofs.SentLemmas.{Writes-fails, Writes-same}
 use Rattle.rip_report.proofs.LineLemmas.{Writes-line}
@@ -16,7 +17,7 @@ loop-k-preserved g c =
     let i = c.args.interface.now in
     let k = c.loop-k.k in
     let within : k < length s.prefixes = omega (arith, c.loop-k-test.true, c.prefix_count-k-end.ensures) in
-    let item = item-below s.prefixes k within in
+    let item = get_some s.prefixes k within in
     let p = item.0 in
     let middle = text-at c.args.texts.now.prefixes k _ (prefix_text p ++ codes " ") (c.requires.texts.prefixes k p item.1) in
     let shown = ap (prefix_lines n i p) (c.metric-metric.ensures p item.1) in
@@ -39,7 +40,7 @@ returns-in_err-write_prefix g c =
     let i = c.args.interface.now in
     let k = c.loop-k.k in
     let within : k < length s.prefixes = omega (arith, c.loop-k-test.true, c.prefix_count-k-end.ensures) in
-    let item = item-below s.prefixes k within in
+    let item = get_some s.prefixes k within in
     let p = item.0 in
     let middle = text-at c.args.texts.now.prefixes k _ (prefix_text p ++ codes " ") (c.requires.texts.prefixes k p item.1) in
     let shown = ap (prefix_lines n i p) (c.metric-metric.ensures p item.1) in

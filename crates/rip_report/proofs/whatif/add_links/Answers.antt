@@ -1,10 +1,10 @@
 use Rattle.std.proofs.Common.{◌≡◌, ℕ, length, refl, arith}
 use Rattle.std.proofs.lemmas.Bool.Decides.{not_from_Decides}
+use Rattle.rip_check.proofs.CountLemmas.{counts, passes_by}
 use Rattle.rip_check.specs.Losses.{Loses}
 use Rattle.rip_check.specs.declared.failures.Failure.TheVariants.{Link}
 use Rattle.rip_report.specs.WhatifText.{FailureText}
 use Rattle.rip_report.proofs.ListingLemmas.{nothing_yet, one_more}
-use Rattle.rip_report.proofs.WhatifLemmas.{counts, passes_by}
 use Rattle.rip_report.proofs.whatif.add_links.Goals as goal
 use Rattle.rip_report.proofs.whatif.add_links.Goals.{then-add_failure, else-add_failure}
 
