@@ -1,5 +1,6 @@
 -- What is left of a network after a failure.
 use Rattle.std.proofs.Common.{◌≡◌, ℕ, zero, suc, ◌<◌, ◌≤◌, ◌⊎◌, ◌↔◌, inl, inr, Bool, true, false, not, cond, List, [], ◌∷◌, length, Option, None, Some, slice_get, refl, ap, ◌∙◌, arith}
+use Rattle.rip_plan.proofs.LookupLemmas.{one_seat, own_says}
 use Rattle.std.specs.List.{filter}
 use Rattle.std.specs.Prelude.{eqb}
 use Rattle.std.proofs.lemmas.Bool.{eqb-true, eq-eqb, and_parts, and_from}
@@ -9,7 +10,7 @@ use Rattle.rip_plan.specs.declared.parts.Seat.{Seat}
 use Rattle.rip_plan.specs.declared.parts.Seat.TheVariants.{Link, Own}
 use Rattle.rip_plan.specs.Network.{Network}
 use Rattle.rip_plan.specs.Relations.{Carries, HasCost, IsAttached, IsConnected, IsDirect, IsKept, IsLawful, IsOn, IsOwnWith, IsPlace, Touches}
-use Rattle.rip_check.proofs.PlanLemmas.{one_seat, own_moved, own_says}
+use Rattle.rip_check.proofs.PlanLemmas.{own_moved}
 use Rattle.rip_check.proofs.TellingLemmas.{IsSound, reached_most}
 use Rattle.rip_check.specs.declared.failures.Failure.{Failure}
 use Rattle.rip_check.specs.declared.failures.Failure.TheVariants as failures

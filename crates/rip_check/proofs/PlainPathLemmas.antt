@@ -1,5 +1,6 @@
 -- The paths and the right routes of a plan that says nothing beside what RFC 2453 does.
 use Rattle.std.proofs.Common.{◌≡◌, ℕ, ◌⊎◌, inl, inr, List, [], ◌∷◌}
+use Rattle.rip_plan.proofs.LookupLemmas.{interface_of}
 use Rattle.rip_plan.specs.Network.{Network}
 use Rattle.rip_plan.specs.Relations.{HasCost, IsConnected, IsDirect, IsOwnAt, IsPlace, IsPlain, Touches}
 use Rattle.rip_plan.specs.declared.parts.Seat.TheVariants.{Link}
@@ -8,7 +9,7 @@ use Rattle.rip_check.specs.Settled.{GoesPlainly, GoesRight, IsPlainRight, IsRigh
 use Rattle.rip_check.specs.Tables.{Route}
 use Rattle.rip_check.specs.declared.way.Way.{Way}
 use Rattle.rip_check.specs.declared.way.Way.TheVariants.{Unreachable, Here, Over}
-use Rattle.rip_check.proofs.PlanLemmas.{attached_kept, its_cost, its_direct}
+use Rattle.rip_check.proofs.PlanLemmas.{attached_kept, its_direct}
 
 module _ (n : Network) (plain : IsPlain n) where
   direct_plain : (r p v : ℕ) → IsDirect n r p v → HasAtCost n r p v
@@ -17,7 +18,7 @@ module _ (n : Network) (plain : IsPlain n) where
       go : Touches n d.0 p r v → ((l : ℕ) × IsPlace n d.0 p (Link l) × HasCost n r l v) ⊎ IsOwnAt n d.0 p r v
       go (inl h) =
           let at = h.2.1 in
-          let its = its_cost n h.2.0 r h.0 v at in
+          let its = interface_of n h.2.0 r h.0 v at in
           let same : v ≡ at.cost = plain.direct h.2.0 r h.0 at.cost v its at in
           inl (h.0, h.1, (h.2.0, rw same its))
       go (inr h) = inr h

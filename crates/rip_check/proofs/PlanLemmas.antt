@@ -1,5 +1,6 @@
 -- What a plan says of the prefixes of links and of those that routers keep.
 use Rattle.std.proofs.Common.{◌≡◌, ℕ, zero, suc, length, slice_get, ◌<◌, ◌≤◌, ◌⊎◌, ◌↔◌, Decides, Bool, true, false, not, inl, inr, Option, None, Some, refl, sym, ◌∙◌, ap, arith}
+use Rattle.rip_plan.proofs.LookupLemmas.{interface_of, one_seat, own_says}
 use Rattle.std.specs.Option.{option_eq}
 use Rattle.std.specs.Prelude.{eqb}
 use Rattle.std.proofs.lemmas.Bool.{cases_eq, eqb-true, eq-eqb}
@@ -26,15 +27,7 @@ find_below P test (suc b) = go (test b) (find_below P test b)
         last k lt h (inl e) = not (rw e at h)
         last k lt h (inr differs) = none k (omega arith) h
 
--- a place has one seat
-pub one_seat : (n : Network) (k p : ℕ) (s t : Seat) → IsPlace n k p s → IsPlace n k p t → s ≡ t
-one_seat n k p s t a b = ap (λ (x : Place). x.seat) (same_Some _ _ (sym a.listed ∙ b.listed))
-
--- of a router's own prefix something else is said
-abbrev pub own_says : {n : Network} {k p r : ℕ} {Says Other : OwnPrefix → Type 0} → (h : IsOwnWith n k p r Says) → Other h.own → IsOwnWith n k p r Other
-own_says h other = record { own = h.own; place = h.place; router = h.router; says = other }
-
--- the same of another place
+-- a router's own prefix at another place
 abbrev pub own_moved : {n m : Network} {k j p r : ℕ} {Says : OwnPrefix → Type 0} → (h : IsOwnWith n k p r Says) → IsPlace m j p (Own h.own) → IsOwnWith m j p r Says
 own_moved h place = record { own = h.own; place = place; router = h.router; says = h.says }
 
@@ -137,10 +130,6 @@ attached_ne n r p l o b exact e = go (option_eq eqb o (Some l)) refl e
 pub its_direct : (n : Network) (i r l c : ℕ) → (h : IsInterface n i r l c) → IsConnected n i r l h.direct
 its_direct n i r l c h = record { address = h.address; cost = c; poison = h.poison; listed = h.listed }
 
--- the cost of an interface
-pub its_cost : (n : Network) (i r l d : ℕ) → (h : IsConnected n i r l d) → IsInterface n i r l h.cost
-its_cost n i r l d h = record { address = h.address; direct = d; poison = h.poison; listed = h.listed }
-
 -- on a link of the prefix a router has it at no more than the link costs it
 pub carried_direct : (n : Network) → IsLawful n → (r l c p : ℕ) → HasCost n r l c → Carries n l p → (d : ℕ) × IsDirect n r p d × (d ≤ c)
 carried_direct n plan r l c p has on =
@@ -210,6 +199,6 @@ module _ (n : Network) (plan : IsLawful n) where
     where
       go : Touches n h.0 p r d → d ≤ 15
       go (inl x) =
-          let its = its_cost n x.2.0 r x.0 d x.2.1 in
+          let its = interface_of n x.2.0 r x.0 d x.2.1 in
           omega (arith, plan.direct_most x.2.0 r x.0 x.2.1.cost d its x.2.1, plan.cost_most x.2.0 r x.0 x.2.1.cost its)
       go (inr x) = plan.own_cost_most h.0 p r d x

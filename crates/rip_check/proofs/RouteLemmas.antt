@@ -1,13 +1,12 @@
 -- What is shown tells of the routes: never two sets of tables, and one set where each place has a route that fits.
 use Rattle.std.proofs.Common.{◌≡◌, ◌≢◌, ℕ, length, slice_get, ◌<◌, ◌≤◌, ◌⊎◌, inl, inr, Option, None, Some, unwrap_or, refl, sym, ◌∙◌, ap, arith}
+use Rattle.rip_plan.proofs.LookupLemmas.{direct_once}
 use Rattle.std.proofs.lemmas.Bool.{cases_lt, cases_eq}
 use Rattle.std.proofs.lemmas.Option.{slice_get_within, same_Some}
-use Rattle.rip_check.proofs.PlanLemmas.{find_below, held_back_once, holds_back_or_not, its_cost, one_seat}
+use Rattle.rip_check.proofs.PlanLemmas.{find_below, held_back_once, holds_back_or_not}
 use Rattle.rip_plan.specs.declared.parts.Interface.{Interface}
-use Rattle.rip_plan.specs.declared.parts.OwnPrefix.{OwnPrefix}
-use Rattle.rip_plan.specs.declared.parts.Seat.TheVariants.{Link, Own}
 use Rattle.rip_plan.specs.Network.{Network}
-use Rattle.rip_plan.specs.Relations.{IsConnected, IsDirect, IsInterface, IsLawful, IsLeaf, Touches}
+use Rattle.rip_plan.specs.Relations.{IsInterface, IsLawful, IsLeaf}
 use Rattle.rip_table.specs.State.{State}
 use Rattle.rip_check.specs.Tables.{Tables, FitsShown, Route, FitsWay, MayHoldBack, MayShow, IsSilent, IsLeastOffer}
 use Rattle.rip_check.specs.declared.way.Way.{Way}
@@ -18,13 +17,6 @@ use Rattle.rip_check.specs.Metrics.{metric_at}
 -- router r has more than one interface
 abbrev pub TwoInterfaces : Network → ℕ → Type 0
 TwoInterfaces n r = (i j l k c d : ℕ) × IsInterface n i r l c × IsInterface n j r k d × (i ≢ j)
-
--- an interface has one direct metric
-one_direct : (n : Network) (i r l c d : ℕ) → IsConnected n i r l c → IsConnected n i r l d → c ≡ d
-one_direct n i r l c d a b = ap (λ (x : Interface). x.direct) (the_same (sym a.listed ∙ b.listed))
-  where
-    the_same : {x y : Interface} → Some x ≡ Some y → x ≡ y
-    the_same e = cc e
 
 -- interface j is another one of router r
 record IsAnother (n : Network) (r i j : ℕ) : Type 0 where
@@ -164,32 +156,6 @@ module _ (n : Network) (plan : IsLawful n) (shown : State) where
       let e' = same_way r p t.metric t.way u.way ft.told.way_fits gu ft.told.as_told tu in
       λ i. record { metric = e i; way = e' i }
 
-  -- a direct cost is one
-  direct_once : (r p c d : ℕ) → IsDirect n r p c → IsDirect n r p d → c ≡ d
-  direct_once r p c d a b =
-      let same : a.0 ≡ b.0 = plan.touched_once a.0 b.0 p r c d a.1 b.1 in
-      let at : Touches n b.0 p r c = rw same at a.1 in
-      go b.0 at b.1
-    where
-      go : (k : ℕ) → Touches n k p r c → Touches n k p r d → c ≡ d
-      go k (inl x) (inl y) =
-          let seats : Link x.0 ≡ Link y.0 = one_seat n k p (Link x.0) (Link y.0) x.1 y.1 in
-          let link : x.0 ≡ y.0 = cc seats in
-          let x' : IsConnected n x.2.0 r y.0 c = rw link at x.2.1 in
-          let number = plan.one_on_link x.2.0 y.2.0 r y.0 x'.cost y.2.1.cost (its_cost n x.2.0 r y.0 c x') (its_cost n y.2.0 r y.0 d y.2.1) in
-          let x'' : IsConnected n y.2.0 r y.0 c = rw number at x' in
-          one_direct n y.2.0 r y.0 c d x'' y.2.1
-      go k (inl x) (inr y) =
-          let seats : Link x.0 ≡ Own y.own = one_seat n k p _ _ x.1 y.place in
-          cc seats
-      go k (inr x) (inl y) =
-          let seats : Own x.own ≡ Link y.0 = one_seat n k p _ _ x.place y.1 in
-          cc seats
-      go k (inr x) (inr y) =
-          let seats : Own x.own ≡ Own y.own = one_seat n k p _ _ x.place y.place in
-          let one : x.own ≡ y.own = cc seats in
-          sym x.says ∙ ap (λ (o : OwnPrefix). o.cost) one ∙ y.says
-
   -- what is not below 16 is silence
   silent_from : (l p m : ℕ) (r : ℕ) (w : Way) (x : Option ℕ) → FitsWay n r p m w → MayShow n r l p m w x → 16 ≤ unwrap_or x 16 → IsSilent x
   silent_from l p m r Unreachable x fits told big = told
@@ -219,7 +185,7 @@ module _ (n : Network) (plan : IsLawful n) (shown : State) where
   leaf_metric r i l c p t u leaf ft fu (inl on) silent =
       let a = (ft.hidden i l c leaf).held_back on silent in
       let b = (fu.hidden i l c leaf).held_back on silent in
-      direct_once r p t.metric u.metric a.1 b.1
+      direct_once n plan r p t.metric u.metric a.1 b.1
   leaf_metric r i l c p t u leaf ft fu (inr off) (inl is) =
       let a = unreachable_from l p t.metric r t.way (metric_at shown i p) ft.told.way_fits (ft.told.as_told i l c leaf.has) off is in
       let b = unreachable_from l p u.metric r u.way (metric_at shown i p) fu.told.way_fits (fu.told.as_told i l c leaf.has) off is in

@@ -28,7 +28,6 @@ pub mod TableLemmas
 pub mod DocumentTableLemmas
 pub mod PlanMatchLemmas
 pub mod OnePlanLemmas
-pub mod NoMemoryLemmas
 pub mod OrderLemmas
 pub mod FindingLemmas
 pub mod SpotLemmas

@@ -237,7 +237,7 @@ find_past {A} test n (x ∷ xs) h = by_test (test x) refl h (λ f. find_past tes
     by_test false t f later = rw t (later f)
 
 -- the same of another thing that the plan says
-pub own_says : {n : Network} {k p r : ℕ} {Says Other : OwnPrefix → Type 0} → (h : IsOwnWith n k p r Says) → Other h.own → IsOwnWith n k p r Other
+abbrev pub own_says : {n : Network} {k p r : ℕ} {Says Other : OwnPrefix → Type 0} → (h : IsOwnWith n k p r Says) → Other h.own → IsOwnWith n k p r Other
 own_says h other = record { own = h.own; place = h.place; router = h.router; says = other }
 
 -- the seat of a router's own prefix

@@ -405,3 +405,20 @@ plan_stands laws bytes none = by_sketch (sketch_of bytes) refl
     by_sketch : (r : Result Sketch PlanError) → sketch_of bytes ≡ r → (n : Network) × IsPlanOfText bytes n × IsLawful n
     by_sketch (Ok s) h = (network_of_sketch s, network_matches laws bytes (network_of_sketch s) (ap (λ (r : Result Sketch PlanError). r >>= (λ t. Ok (network_of_sketch t))) h), lawful laws bytes s h)
     by_sketch (Err d) h = let told = fault_first laws bytes d h in absurd (none d (told.pass, told.found))
+
+-- no code of a fault is Memory
+pub never_memory : (bytes : List ℕ) (e : PlanError) → PlanFault bytes e → e.code ≢ codes.Memory
+never_memory bytes e p memory =
+    elim p.found [
+      | inl f ↦ by_place e.place (subst (λ (c : PlanCode). FaultAt bytes c e.place) memory f.0)
+      | inr f ↦ let clash : codes.UnknownLink ≡ codes.Memory = sym f.1 ∙ memory in absurd cc
+    ]
+  where
+    by_place : (place : At) → FaultAt bytes codes.Memory place → ⊥
+    by_place Text f = f.4
+    by_place Version f = f.4
+    by_place (Link i) f = f.4
+    by_place (LinkPrefix i j) f = f.4
+    by_place (Router r) f = f.4
+    by_place (RouterInterface r j) f = f.4
+    by_place (RouterOwn r j) f = f.4

@@ -1,6 +1,4 @@
-use Rattle.rip_plan.proofs.NoMemoryLemmas.{never_memory}
-use Rattle.rip_plan.proofs.TextLemmas.{TextLaws}
-use Rattle.rip_plan.proofs.TextFaultLemmas.{fault_told, none_told, plan_stands}
+use Rattle.rip_plan.proofs.TextFaultLemmas.{fault_told, never_memory, none_told, plan_stands}
 use Rattle.rip_plan.proofs.laws.first_faults.Goals as goal
 
 pub returns-clause-told : goal.returns-clause-told
@@ -13,6 +11,4 @@ pub returns-clause-plan : goal.returns-clause-plan
 returns-clause-plan c = plan_stands (record { name = c.names.ensures.exact; address = c.address_texts.ensures.exact; prefix = c.prefix_texts.ensures.exact })
 
 pub returns-clause-memory : goal.returns-clause-memory
-returns-clause-memory c =
-    let laws : TextLaws = record { name = c.names.ensures.exact; address = c.address_texts.ensures.exact; prefix = c.prefix_texts.ensures.exact } in
-    λ bytes e fault. never_memory bytes e ((fault_told laws bytes e).1 fault)
+returns-clause-memory c = never_memory
