@@ -130,11 +130,4 @@ pub record IsFirstUnclear
 -- the first trouble: an interface not heard, else a place that can't be read
 abbrev pub IsFirstTrouble : Network → State → Unclear → Type 0
 IsFirstTrouble n shown (NotHeard r l) = IsFirstUnheard n shown r l
-IsFirstTrouble n shown (TwoMetrics r p) =
-    IsHeard n shown × IsFirstUnclear n shown (TwoMetrics r p)
-IsFirstTrouble n shown (Missing r p l) =
-    IsHeard n shown × IsFirstUnclear n shown (Missing r p l)
-IsFirstTrouble n shown (ShownOn r p l) =
-    IsHeard n shown × IsFirstUnclear n shown (ShownOn r p l)
-IsFirstTrouble n shown (TwoWays r p) =
-    IsHeard n shown × IsFirstUnclear n shown (TwoWays r p)
+IsFirstTrouble n shown unclear = IsHeard n shown × IsFirstUnclear n shown unclear
