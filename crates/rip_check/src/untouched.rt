@@ -33,8 +33,9 @@ fn is_step(
     metric < 16 && u32::from(cost) + before.number(plan, next, prefix) == metric
 }
 
-/// Whether a neighbour on a link that has not failed gives a router this metric, over an interface of
-/// this cost, by the least metrics of before.
+/// Whether a neighbour on a link that has not failed gives a router this metric, over an interface
+/// of this cost, by the least metrics of before. Its parts come apart: a struct of borrows would
+/// have to promise what the clauses ask of each.
 fn is_given_over(
     plan: &Plan,
     before: &Expected,

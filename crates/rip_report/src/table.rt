@@ -87,7 +87,8 @@ fn write_prefix<K: Sink>(
     page.write_line(out, front.as_bytes(), prefix.as_bytes(), end.as_bytes())
 }
 
-/// Writes the lines of the prefixes that the interface of a number shows.
+/// Writes the lines of the prefixes that the interface of a number shows. Its parts come apart: a
+/// struct of borrows would have to promise what the clauses ask of each.
 fn write_shown<T: MetricTable, K: Sink>(
     page: &mut Page,
     plan: &Plan,
@@ -120,7 +121,8 @@ fn write_shown<T: MetricTable, K: Sink>(
     Ok(())
 }
 
-/// Writes the lines of the interface of a number.
+/// Writes the lines of the interface of a number. Its parts come apart: a struct of borrows would
+/// have to promise what the clauses ask of each.
 fn write_interface<T: MetricTable, K: Sink>(
     page: &mut Page,
     plan: &Plan,

@@ -237,7 +237,8 @@ pub(crate) fn run_on_log<R: Source, K: Sink, S: BuildHasher + Drop>(
 }
 
 /// Runs a command on the bytes of a plan and on a log, which is read to its end. The source comes
-/// back.
+/// back. Its parts come apart: a struct of borrows would have to promise what the clauses ask of
+/// each.
 pub(crate) fn run_anyway<R: Source, K: Sink, S: BuildHasher + Drop>(
     alloc: Global,
     command: AnywayCommand,
