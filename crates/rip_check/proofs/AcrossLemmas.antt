@@ -87,7 +87,8 @@ module _ (n : Network) (l : ℕ) (numbers : List ℕ) (exact : (i : ℕ) → Con
         omega (arith, le', o.value, same)
 
 -- the best so far stays a choice
-pub still_chosen : (n : Network) (shown : State) (r p l best next : ℕ) → (IsKept n r p → ⊥) → IsChoice n shown r p best → (next ≡ best) ⊎ ((s : ℕ) × Offers n shown r l s p next) → IsChoice n shown r p next
+pub still_chosen : (n : Network) (shown : State) (r p l best next : ℕ) → (IsKept n r p → ⊥) → IsChoice n shown r p best → (next ≡ best) ⊎ ((s : ℕ) × Offers n shown r l s p next) →
+    IsChoice n shown r p next
 still_chosen n shown r p l best next takes chosen (inl e) = rw e chosen
 still_chosen n shown r p l best next takes chosen (inr o) = inr (inr (takes, (l, o.0, o.1)))
 

@@ -27,7 +27,8 @@ told_same (Some m) = refl
 
 pub told_is_shown : (n : Network) (s : State) → EachPoisons n → told n s ≡ s
 told_is_shown n s each =
-    ap (λ (f : ℕ → Block → Option ℕ). record s { shows = f }) (fun_ext (λ i. fun_ext (λ p. ap (λ (b : Bool). told_of b (s.shows i p)) (on i (slice_get n.interfaces i) refl) ∙ told_same (s.shows i p))))
+    ap (λ (f : ℕ → Block → Option ℕ). record s { shows = f }) (fun_ext
+    (λ i. fun_ext (λ p. ap (λ (b : Bool). told_of b (s.shows i p)) (on i (slice_get n.interfaces i) refl) ∙ told_same (s.shows i p))))
   where
     on : (i : ℕ) (o : Option Interface) → slice_get n.interfaces i ≡ o → poisons n i ≡ true
     on i None at = ap (λ (o : Option Interface). option_map_or (λ x. x.poison) o true) at
@@ -68,7 +69,8 @@ nowhere n r l p m Here tells fits x e (inr h) = absurd (tells h.0)
 nowhere n r l p m (Over k) tells fits x e (inl h) = absurd (none-some 16 (sym e ∙ h.1))
 nowhere n r l p m (Over k) tells fits x e (inr h) = absurd (none-some m (sym e ∙ h.1))
 
-module _ (n : Network) (s : State) (more fewer : ℕ → Bool) (T : Tables) (plan : IsLawful n) (less : (i : ℕ) → fewer i ≡ true → more i ≡ true) (was : Shows n (told_where more s) T) (right : AllRight n (length s.prefixes) T) where
+module _ (n : Network) (s : State) (more fewer : ℕ → Bool) (T : Tables) (plan : IsLawful n) (less : (i : ℕ) → fewer i ≡ true → more i ≡ true) (was : Shows n (told_where more s) T)
+    (right : AllRight n (length s.prefixes) T) where
   changed : (i p : ℕ) → p < length s.prefixes → Change (metric_at (told_where more s) i p) (metric_at (told_where fewer s) i p)
   changed i p lt =
       subst (λ (x : Option ℕ). Change x (metric_at (told_where fewer s) i p)) (sym (told_metric more s i p lt))

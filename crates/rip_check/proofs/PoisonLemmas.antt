@@ -91,7 +91,8 @@ givers k settled r l c s p known has near is =
     giver k r l c s p has near (k.tables s p).way is (k.shows.fits s p s_known known).told.way_fits (settled s p s_known known).given
 
 -- a direct route that is silent on a link is one of the link
-direct_there : (k : Case) (r l c s p j : ℕ) → HasCost k.net r l c → (w : Way) → w ≡ Here → MayShow k.net s l p (k.tables s p).metric w (metric_at k.shown j p) → FitsWay k.net s p (k.tables s p).metric w
+direct_there : (k : Case) (r l c s p j : ℕ) → HasCost k.net r l c → (w : Way) → w ≡ Here → MayShow k.net s l p (k.tables s p).metric w (metric_at k.shown j p) →
+    FitsWay k.net s p (k.tables s p).metric w
     → IsSilent (metric_at k.shown j p) → (IsAttached k.net s p l → ⊥) → (m : ℕ) × IsDirect k.net r p m × (m ≤ c)
 direct_there k r l c s p j has Unreachable is told fits silent off = absurd (cc is)
 direct_there k r l c s p j has (Over m) is told fits silent off = absurd (cc is)

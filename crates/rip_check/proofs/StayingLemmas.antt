@@ -16,7 +16,8 @@ use Rattle.rip_check.proofs.OwnedLemmas.{its_link}
 
 module _ (n : Network) (f : Failure) (p : ℕ) (un : IsUntouched n f p) where
   -- the rest of a least path is one
-  rest_least : (r l s c w : ℕ) (hops : List Hop) → HasCost n r l c → IsLeast n p r (c + w) → c + w < 16 → (path : IsPath n p r (record { link = l; to = s } ∷ hops) (c + w)) → path.1 ≡ w → IsLeast n p s w
+  rest_least : (r l s c w : ℕ) (hops : List Hop) → HasCost n r l c → IsLeast n p r (c + w) → c + w < 16 → (path : IsPath n p r (record { link = l; to = s } ∷ hops) (c + w)) → path.1 ≡ w →
+      IsLeast n p s w
   rest_least r l s c w hops has least small path is = record {
     reached = inr (omega (arith, small), (hops, rw is at path.4));
     least = λ others v other.
@@ -100,7 +101,8 @@ failed_far n f p r v down is = record {
     none (h ∷ hops) w path = let up = (was_cost n (Some f) r h.link path.0 path.2).1 in cc (up, down)
 
 -- so what is written of a router is its least metric
-pub stays : (n : Network) → IsLawful n → (f : Failure) (p r v : ℕ) → IsUntouched n f p → (is_router_up (Some f) r ≡ true → IsLeast n p r v) → (is_router_up (Some f) r ≡ false → v ≡ 16) → IsLeast (network_after n f) p r v
+pub stays : (n : Network) → IsLawful n → (f : Failure) (p r v : ℕ) → IsUntouched n f p → (is_router_up (Some f) r ≡ true → IsLeast n p r v) → (is_router_up (Some f) r ≡ false → v ≡ 16) →
+    IsLeast (network_after n f) p r v
 stays n plan f p r v un up down = go (is_router_up (Some f) r) refl
   where
     go : (b : Bool) → is_router_up (Some f) r ≡ b → IsLeast (network_after n f) p r v
@@ -110,7 +112,8 @@ stays n plan f p r v un up down = go (is_router_up (Some f) r) refl
 -- ---- what the tests say
 
 -- where no least path goes over the link that has failed
-pub link_untouched : (n : Network) (p x : ℕ) → (Carries n x p → ⊥) → ((r : ℕ) → IsAttached n r p x → ⊥) → ((r c s : ℕ) → HasCost n r x c → IsOn n s x → IsStep n p r c s → KeepsWay n (failures.Link x) p r) → IsUntouched n (failures.Link x) p
+pub link_untouched : (n : Network) (p x : ℕ) → (Carries n x p → ⊥) → ((r : ℕ) → IsAttached n r p x → ⊥) →
+    ((r c s : ℕ) → HasCost n r x c → IsOn n s x → IsStep n p r c s → KeepsWay n (failures.Link x) p r) → IsUntouched n (failures.Link x) p
 link_untouched n p x off loose keeps = record {
   steps = λ r l c s has on step. elim (cases_eq l x) [
     | inl same ↦ inr (keeps r c s (rw same at has) (rw same at on) step)

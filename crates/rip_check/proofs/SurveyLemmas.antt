@@ -171,7 +171,8 @@ module _ (n : Network) (shown : State) (r p i l c : ℕ) (its : IsInterface n i 
             cc (none, h.1)
 
     -- a silence beside the silent
-    pub more_silence : IsLawful n → (silent : Option ℕ) (blocked : Bool) → IsSilence n shown r p i silent blocked → ((silent ≡ None → ⊥) ⊎ MayHoldBack n r p l) → IsSilence n shown r p (i + 1) silent true
+    pub more_silence : IsLawful n → (silent : Option ℕ) (blocked : Bool) → IsSilence n shown r p i silent blocked → ((silent ≡ None → ⊥) ⊎ MayHoldBack n r p l) →
+        IsSilence n shown r p (i + 1) silent true
     more_silence plan silent blocked was beside =
         record {
           some = λ k e. let h = was.some k e in (h.0, h.1, omega (arith, h.2), h.3, h.4, h.5);

@@ -68,7 +68,8 @@ module _ (n : Network) (f : Option Failure) (p r : ℕ) (numbers : List ℕ) (ex
   IsMarkedBefore marks k =
       (j l c : ℕ) → j < k → IsInterface n (get_or numbers j 0) r l c → is_router_up f r ≡ true → is_link_up f l ≡ true → (IsAttached n r p l → ⊥) → slice_get marks l ≡ Some true
 
-  pub one_marked : (marks next : List Bool) (k : ℕ) (x : Interface) → IsInterface n (get_or numbers k 0) x.router x.link x.cost → ((l : ℕ) → slice_get marks l ≡ Some true → slice_get next l ≡ Some true) →
+  pub one_marked : (marks next : List Bool) (k : ℕ) (x : Interface) → IsInterface n (get_or numbers k 0) x.router x.link x.cost →
+      ((l : ℕ) → slice_get marks l ≡ Some true → slice_get next l ≡ Some true) →
       (is_router_up f r ≡ true → is_link_up f x.link ≡ true → (IsAttached n r p x.link → ⊥) → slice_get next x.link ≡ Some true) → IsMarkedBefore marks k → IsMarkedBefore next (k + 1)
   one_marked marks next k x its kept here before j l c lt at r_up l_up off =
       elim (cases_lt j k) [

@@ -6,8 +6,8 @@ use Rattle.rip_check.specs.Paths.{IsLeast}
 use Rattle.rip_check.specs.Tables.{Route, FitsWay}
 use Rattle.rip_check.specs.Settled.{IsRight}
 
--- A right route of router r for prefix p: its metric is the least cost of a path, its way begins such
--- a path, and the two go together.
+-- A right route of router r for prefix p: its metric is the least cost of a path, its way begins
+-- such a path, and the two go together.
 pub record IsExpected (n : Network) (r p : ℕ) (route : Route) : Type 0 where
   pub right : IsRight n r p route
   pub way_fits : FitsWay n r p route.metric route.way

@@ -44,7 +44,8 @@ IsFirstOf bound Fine None = (s : ℕ) → s < bound → Fine s
 IsFirstOf bound Fine (Some r) =
     (r < bound) × ((s : ℕ) → s < r → Fine s) × (Fine r → ⊥)
 
--- exactly one route fits what router r shows of prefix p; of a router with one interface, at least one
+-- exactly one route fits what router r shows of prefix p; of a router with one interface, at least
+-- one
 abbrev pub IsReadable : Network → State → ℕ → ℕ → Type 0
 IsReadable n shown r p =
     (t : Route) × Tells n shown r p t
@@ -97,8 +98,8 @@ abbrev pub ShowsWhereAttached : Network → State → ℕ → ℕ → ℕ → Ty
 ShowsWhereAttached n shown r p l = IsAttached n r p l × ShowsEverywhere n shown r p
 
 -- why no route of router r for prefix p can be read: it shows two metrics; else it shows nothing on
--- a link; else it shows the prefix everywhere, also where it is attached; else it does none of these,
--- and would need two ways
+-- a link; else it shows the prefix everywhere, also where it is attached; else it does none of
+-- these, and would need two ways
 abbrev pub IsReason : Network → State → ℕ → ℕ → Unclear → Type 0
 IsReason n shown r p (NotHeard s l) = ⊥
 IsReason n shown r p (TwoMetrics s q) = (s ≡ r) × (q ≡ p) × ShowsTwo n shown r p

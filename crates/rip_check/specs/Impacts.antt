@@ -17,7 +17,8 @@ pub record HasRoom (n : Network) (aftermath : Aftermath) : Type 0 where
   pub metrics : length aftermath.metrics.items ≡ length n.routers * length n.prefixes
   pub gone : length aftermath.gone.items ≡ length n.prefixes
 
--- the least metric of each router for each prefix after the failure, and whether each prefix is gone
+-- the least metric of each router for each prefix after the failure, and whether each prefix is
+-- gone
 pub record AreLeft (n : Network) (f : Failure) (aftermath : Aftermath) : Type 0 where
   pub room : HasRoom n aftermath
   pub least : (r p : ℕ) → r < length n.routers → p < length n.prefixes

@@ -57,8 +57,8 @@ GiversAreNear k =
     → (k.tables s p).way ≡ Over l
     → ((t : ℕ) × IsGiver k l s t p) × ((t : ℕ) → IsGiver k l s t p → IsNear k r l c s t p)
 
--- where a neighbour has a prefix itself and is silent of it on the link, and it is not attached there,
--- the router has it at no more than the link costs it
+-- where a neighbour has a prefix itself and is silent of it on the link, and it is not attached
+-- there, the router has it at no more than the link costs it
 abbrev pub SilenceIsShared : Case → Type 0
 SilenceIsShared k =
     (r l c s p j d : ℕ) → p < length k.shown.prefixes → HasCost k.net r l c

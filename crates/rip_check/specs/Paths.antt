@@ -16,9 +16,9 @@ pub record MayHop (n : Network) (p r l s : ℕ) : Type 0 where
   pub goes_on : IsKept n r p → ⊥
   pub tells : IsAttached n s p l → ⊥
 
--- The hops lead from router r to a router that has prefix p, each one allowed, and v is what the path
--- costs: the sum of the costs of the interfaces on which the datagrams that tell of p come in, from
--- each next router, and of what the last router has the prefix for (RFC 2453, 3.9.2).
+-- The hops lead from router r to a router that has prefix p, each one allowed, and v is what the
+-- path costs: the sum of the costs of the interfaces on which the datagrams that tell of p come in,
+-- from each next router, and of what the last router has the prefix for (RFC 2453, 3.9.2).
 abbrev pub IsPath : Network → ℕ → ℕ → List Hop → ℕ → Type 0
 IsPath n p r [] v = IsDirect n r p v
 IsPath n p r (h ∷ hops) v =

@@ -12,8 +12,8 @@ use Rattle.rip_check.specs.declared.way.Way.TheVariants.{Unreachable, Here, Over
 abbrev pub MayTake : Network → State → ℕ → ℕ → ℕ → Type 0
 MayTake n shown r p v = (IsKept n r p → ⊥) × ((l s : ℕ) × Offers n shown r l s p v)
 
--- what router r can choose its metric from: 16, its direct cost, and each offer where it does not keep
--- the prefix
+-- what router r can choose its metric from: 16, its direct cost, and each offer where it does not
+-- keep the prefix
 abbrev pub IsChoice : Network → State → ℕ → ℕ → ℕ → Type 0
 IsChoice n shown r p v = (v ≡ 16) ⊎ (IsDirect n r p v ⊎ MayTake n shown r p v)
 

@@ -25,8 +25,8 @@ pub record IsSpeech
   pub two : another ≡ true → (metric < 16) × (i v : ℕ) × IsShownBelow n shown r p i v × (v ≢ metric)
   pub one : another ≡ false → (i v : ℕ) → i < bound → IsShownBelow n shown r p i v → v ≡ metric
 
--- a link where the router may not hold back its own route and on which it is silent, if there is one,
--- and whether no route over such a link may show what the router shows
+-- a link where the router may not hold back its own route and on which it is silent, if there is
+-- one, and whether no route over such a link may show what the router shows
 pub record IsSilence
     (n : Network) (shown : State) (r p bound : ℕ) (silent : Option ℕ) (blocked : Bool)
     : Type 0 where
@@ -45,8 +45,8 @@ pub record IsShownThere (n : Network) (shown : State) (r p i : ℕ) : Type 0 whe
   pub below : IsShownBelow n shown r p i metric
   pub attached : IsAttached n r p below.link
 
--- whether the router shows a metric below 16 on the link to which the prefix is attached, so that its
--- route is not its own
+-- whether the router shows a metric below 16 on the link to which the prefix is attached, so that
+-- its route is not its own
 pub record IsTelling
     (n : Network) (shown : State) (r p bound : ℕ) (not_here : Bool)
     : Type 0 where

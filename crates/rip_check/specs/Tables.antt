@@ -17,13 +17,13 @@ pub record Route : Type 0 where
 abbrev pub Tables : Type 0
 Tables = ℕ → ℕ → Route
 
--- router r may hold back its own route for prefix p on link l, where all know of it: the link carries
--- the prefix, or the router has it attached there
+-- router r may hold back its own route for prefix p on link l, where all know of it: the link
+-- carries the prefix, or the router has it attached there
 abbrev pub MayHoldBack : Network → ℕ → ℕ → ℕ → Type 0
 MayHoldBack n r p l = Carries n l p ⊎ IsAttached n r p l
 
--- the metric and the way go together; a router never goes over a link where it may hold back its own
--- route
+-- the metric and the way go together; a router never goes over a link where it may hold back its
+-- own route
 abbrev pub FitsWay : Network → ℕ → ℕ → ℕ → Way → Type 0
 FitsWay n r p m Unreachable = m ≡ 16
 FitsWay n r p m Here = (1 ≤ m) × (m < 16)

@@ -8,8 +8,8 @@ use Rattle.rip_plan.specs.Relations.{IsInterface, Poisons}
 use Rattle.rip_table.specs.State.{State}
 use Rattle.rip_check.specs.Metrics.{metric_at}
 
--- what an interface tells that shows this: simple split horizon leaves out what poisoned reverse shows
--- with 16 (RFC 2453, 3.4.3)
+-- what an interface tells that shows this: simple split horizon leaves out what poisoned reverse
+-- shows with 16 (RFC 2453, 3.4.3)
 unfoldable pub told_of : Bool → Option ℕ → Option ℕ
 told_of poison None = if poison then None else Some 16
 told_of poison (Some m) = Some m
@@ -22,8 +22,8 @@ told_where poison s = record s { shows = λ i p. told_of (poison i) (s.shows i p
 abbrev pub poisons : Network → ℕ → Bool
 poisons n i = option_map_or (λ x. x.poison) (slice_get n.interfaces i) true
 
--- interface i tells metric m of prefix p: it shows it, or it shows nothing and does not poison, and m is
--- 16
+-- interface i tells metric m of prefix p: it shows it, or it shows nothing and does not poison, and
+-- m is 16
 abbrev pub TellsMetric : Network → State → ℕ → ℕ → ℕ → Type 0
 TellsMetric n s i p m =
     (metric_at s i p ≡ Some m)

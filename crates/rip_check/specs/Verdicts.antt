@@ -53,8 +53,8 @@ IsVerdict n shown (Unsettled place) =
     ShowsTables n shown × IsNextUnsettled n shown None place
 IsVerdict n shown (IsUnclear unclear) = IsFirstTrouble n shown unclear
 
--- of the first prefixes: a place is the first that can't be read, or each can be read, and the first
--- that does not hold is this, if there is one
+-- of the first prefixes: a place is the first that can't be read, or each can be read, and the
+-- first that does not hold is this, if there is one
 abbrev pub IsFirstPlace : Network → State → ℕ → Result (Option (ℕ × ℕ)) (ℕ × ℕ) → Type 0
 IsFirstPlace n shown count (Err a) = IsFirstAt n count (IsReadable n shown) (Some a)
 IsFirstPlace n shown count (Ok failing) =

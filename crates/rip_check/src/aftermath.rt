@@ -15,8 +15,8 @@ use crate::untouched::{fill_before, touches};
 use rip_plan::{MOST_ROUTERS, Plan};
 use std::alloc::{AllocError, Global};
 
-/// The right routes that a failure leaves: the least metrics of all routers, and the prefixes that are
-/// gone.
+/// The right routes that a failure leaves: the least metrics of all routers, and the prefixes that
+/// are gone.
 #[derive(Drop)]
 pub struct Aftermath {
     // Router by router a byte for each prefix: its least metric.
@@ -25,8 +25,8 @@ pub struct Aftermath {
     gone: Vec<bool>,
 }
 
-/// What a failure costs: how many pairs of a router and a prefix are lost, how many prefixes are gone,
-/// and how many pairs go a longer way.
+/// What a failure costs: how many pairs of a router and a prefix are lost, how many prefixes are
+/// gone, and how many pairs go a longer way.
 #[derive(Clone, Copy)]
 pub struct Impact {
     /// The pairs that are lost.
@@ -101,8 +101,8 @@ fn find_after(plan: &Plan, before: &Expected, failure: Failure, prefix: usize, r
 }
 
 impl Aftermath {
-    /// Room for what failures leave of a plan's routes. It fails where there is no memory for a byte
-    /// for each router and prefix, and one for each prefix.
+    /// Room for what failures leave of a plan's routes. It fails where there is no memory for a
+    /// byte for each router and prefix, and one for each prefix.
     pub fn new(alloc: Global, plan: &Plan) -> Result<Aftermath, AllocError>
         ensures { IfOk result (λ aftermath. HasRoom plan.now aftermath) }
     {

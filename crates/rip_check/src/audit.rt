@@ -107,8 +107,9 @@ fn first_unreadable<T: MetricTable>(
     None
 }
 
-/// The first router below a bound whose place of a prefix does not hold. If any router's place can't be
-/// read, the error is the first such router of all, and it does not matter which places hold.
+/// The first router below a bound whose place of a prefix does not hold. If any router's place
+/// can't be read, the error is the first such router of all, and it does not matter which places
+/// hold.
 fn first_failing<T: MetricTable>(
     plan: &Plan,
     table: &T,
@@ -144,8 +145,8 @@ fn first_failing<T: MetricTable>(
     Ok(first)
 }
 
-/// The first place that can't be read, as the error, or else the first that does not hold, if there is
-/// one: a router and a prefix, by router and then by prefix.
+/// The first place that can't be read, as the error, or else the first that does not hold, if there
+/// is one: a router and a prefix, by router and then by prefix.
 type FirstPlace = Result<Option<(usize, usize)>, (usize, usize)>;
 
 /// The first place, with the places of one more prefix.
@@ -183,8 +184,8 @@ fn with_prefix<T: MetricTable>(
     }
 }
 
-/// The first place of a table. This goes prefix by prefix, so that the two least metrics of each link
-/// are found once for all routers.
+/// The first place of a table. This goes prefix by prefix, so that the two least metrics of each
+/// link are found once for all routers.
 fn first_place<T: MetricTable>(plan: &Plan, table: &T) -> FirstPlace
     requires { Fits plan.now (T.state table.now) }
     ensures { IsFirstPlace plan.now (told plan.now (T.state table.now))
@@ -224,10 +225,10 @@ fn decide<T: MetricTable>(plan: &Plan, table: &T) -> Verdict
     }
 }
 
-/// The verdict on a table that fits a plan, by what its interfaces tell: the metric that is shown, and
-/// where nothing is, 16 of an interface that does not poison. Settled is answered exactly where right
-/// tables are told; then what follows them arrives. Unsettled names the first place that does not hold,
-/// by router and then by prefix, and Unclear the first reason why no tables are told.
+/// The verdict on a table that fits a plan, by what its interfaces tell: the metric that is shown,
+/// and where nothing is, 16 of an interface that does not poison. Settled is answered exactly where
+/// right tables are told; then what follows them arrives. Unsettled names the first place that does
+/// not hold, by router and then by prefix, and Unclear the first reason why no tables are told.
 pub fn judge<T: MetricTable>(plan: &Plan, table: &T) -> Verdict
     requires { Fits plan.now (T.state table.now) }
     ensures settled { (result ≡ Verdict.Settled)

@@ -35,8 +35,8 @@ pub(crate) fn keep(row: &[u8], prefix: usize, count: usize, metrics: &mut [u8])
 }
 
 impl Expected {
-    /// Finds the right routes, in at most a pass over the interfaces for each hop of a path that costs
-    /// less than 16. It fails where there is no memory for a byte for each router and prefix.
+    /// Finds the right routes, in at most a pass over the interfaces for each hop of a path that
+    /// costs less than 16. It fails where there is no memory for a byte for each router and prefix.
     pub fn find(alloc: Global, plan: &Plan) -> Result<Expected, AllocError>
         ensures { IfOk result (λ expected. AreExpected plan.now expected) }
     {
@@ -63,8 +63,8 @@ impl Expected {
         u32::from(self.metrics[router * plan.prefixes() + prefix])
     }
 
-    /// The least metric of a router for a prefix, both by their numbers: the cost of the cheapest path,
-    /// or 16 where none costs less (RFC 2453, section 3.6).
+    /// The least metric of a router for a prefix, both by their numbers: the cost of the cheapest
+    /// path, or 16 where none costs less (RFC 2453, section 3.6).
     pub fn metric(&self, plan: &Plan, router: usize, prefix: usize) -> Metric
         requires expected { AreExpected plan.now self.now }
         requires router { router < length plan.now.routers }
@@ -75,7 +75,8 @@ impl Expected {
         metric_of(self.number(plan, router, prefix))
     }
 
-    /// The least metric of a router for a prefix of any number: 16 where the plan does not have the prefix.
+    /// The least metric of a router for a prefix of any number: 16 where the plan does not have the
+    /// prefix.
     pub fn least(&self, plan: &Plan, router: usize, prefix: usize) -> Metric
         requires expected { AreExpected plan.now self.now }
         requires router { router < length plan.now.routers }
@@ -118,8 +119,8 @@ impl Expected {
         total
     }
 
-    /// Whether a neighbour over the link of an interface tells the metric of the router, less the cost of
-    /// the interface: the first that does is enough. The router does not keep the prefix.
+    /// Whether a neighbour over the link of an interface tells the metric of the router, less the
+    /// cost of the interface: the first that does is enough. The router does not keep the prefix.
     fn is_over(&self, plan: &Plan, own: Interface, prefix: usize, metric: u32) -> bool
         requires expected { AreExpected plan.now self.now }
         requires prefix { prefix < length plan.now.prefixes }
@@ -172,9 +173,10 @@ impl Expected {
         false
     }
 
-    /// Whether a way is right for a router and a prefix: the route of the least metric that goes this
-    /// way is one of the right ones. There may be several, and there is none over a link that carries
-    /// the prefix or that the router is not on, nor over any link where the router keeps the prefix.
+    /// Whether a way is right for a router and a prefix: the route of the least metric that goes
+    /// this way is one of the right ones. There may be several, and there is none over a link that
+    /// carries the prefix or that the router is not on, nor over any link where the router keeps
+    /// the prefix.
     pub fn is_right(&self, plan: &Plan, router: usize, prefix: usize, way: Way) -> bool
         requires expected { AreExpected plan.now self.now }
         requires router { router < length plan.now.routers }

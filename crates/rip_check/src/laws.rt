@@ -22,21 +22,23 @@ ghost use Rattle.rip_check.specs.declared.way.Way.{Way};
 pub mod examples;
 
 /// Poison hides no better route: where every place holds, no neighbour is nearer to a prefix than a
-/// router by more than the link costs, though what it shows there may be 16 (RFC 2453, section 3.4.3).
+/// router by more than the link costs, though what it shows there may be 16 (RFC 2453, section
+/// 3.4.3).
 pub fn poison_hides_nothing()
     ensures { (k : Case) → IsSettled k → PoisonHidesNothing k }
 {}
 
 /// What a neighbour may hide behind a 16 is no better for the router: where the neighbour goes over
-/// their link, a router gives it its metric there, and each that does is the router itself or offers
-/// it less; where the neighbour has the prefix itself, on that link, so has the router, at no more than
-/// the link costs it.
+/// their link, a router gives it its metric there, and each that does is the router itself or
+/// offers it less; where the neighbour has the prefix itself, on that link, so has the router, at
+/// no more than the link costs it.
 pub fn poisoned_is_no_better()
     ensures over { (k : Case) → IsSettled k → GiversAreNear k }
     ensures here { (k : Case) → SilenceIsShared k }
 {}
 
-/// Where every equation holds, the metrics are the least costs of paths that begin as the routes say.
+/// Where every equation holds, the metrics are the least costs of paths that begin as the routes
+/// say.
 pub fn equations_give_least_paths()
     ensures reached { (k : Case) → IsSettled k → MetricsAreReached k }
     ensures least { (k : Case) → IsSettled k → NoPathIsCheaper k }
@@ -67,8 +69,9 @@ pub fn settled_places()
         EachPlaceHolds n shown ↔ ShowsRightTables n shown }
 {}
 
-/// A packet that follows the tables comes nearer with each router, and arrives after at most fifteen:
-/// one that has not arrived has a next router, and where it arrives the router has the prefix.
+/// A packet that follows the tables comes nearer with each router, and arrives after at most
+/// fifteen: one that has not arrived has a next router, and where it arrives the router has the
+/// prefix.
 pub fn walks_arrive()
     ensures fall { (k : Case) → WalksFall k }
     ensures end { (k : Case) → EachIsShort k.net k.shown k.tables }
@@ -76,8 +79,8 @@ pub fn walks_arrive()
     ensures there { (k : Case) → IsSettled k → EachEndsThere k.net k.shown k.tables }
 {}
 
-/// Where a log shows tables, they are right exactly where each planned prefix's route is an expected
-/// one and each other prefix is unreachable at every router.
+/// Where a log shows tables, they are right exactly where each planned prefix's route is an
+/// expected one and each other prefix is unreachable at every router.
 pub fn expected_routes()
     ensures { (k : Case) → HasRightTables k ↔ EachIsExpected k }
 {}
@@ -95,9 +98,9 @@ pub fn some_route()
         (way : Way) × IsExpected n r p (record { metric = m; way = way }) }
 {}
 
-/// Where the plan says nothing beside what RFC 2453 does, a path goes over any neighbours, and its last
-/// router has the prefix at the cost of its interface: right routes are those of the least sums of
-/// costs.
+/// Where the plan says nothing beside what RFC 2453 does, a path goes over any neighbours, and its
+/// last router has the prefix at the cost of its interface: right routes are those of the least
+/// sums of costs.
 pub fn plain_paths()
     ensures paths { (n : Network) (p r : ℕ) (hops : List Hop) (v : ℕ) → IsPlain n →
         IsPath n p r hops v ↔ IsPlainPath n p r hops v }
@@ -105,9 +108,9 @@ pub fn plain_paths()
         IsRight n r p route ↔ IsPlainRight n r p route }
 {}
 
-/// In a plan in which no prefix is attached to a link no metric is smaller after a failure, since each
-/// path after it is one before it. Where one is attached, its router may keep it no longer, and so go a
-/// shorter way.
+/// In a plan in which no prefix is attached to a link no metric is smaller after a failure, since
+/// each path after it is one before it. Where one is attached, its router may keep it no longer,
+/// and so go a shorter way.
 pub fn failures_bring_nothing_nearer()
     ensures { (n : Network) (f : Failure) (p r v w : ℕ) →
         ((s q l : ℕ) → IsAttached n s q l → ⊥) → IsLeast n p r v →
@@ -126,8 +129,8 @@ pub fn told_is_shown()
     ensures { (n : Network) (s : State) → EachPoisons n → told n s ≡ s }
 {}
 
-/// Less poison takes nothing away: where a table shows right routes by a plan, it shows the same ones, as
-/// right, by the plan with less poison.
+/// Less poison takes nothing away: where a table shows right routes by a plan, it shows the same
+/// ones, as right, by the plan with less poison.
 pub fn less_poison()
     ensures shows { (n m : Network) (s : State) (T : Tables) → IsLawful n → HasLessPoison n m →
         Shows n (told n s) T → AllRight n (length s.prefixes) T → Shows m (told m s) T }
@@ -141,8 +144,8 @@ pub fn told_offers()
         Offers n (told n s) r l t p v ↔ Offers n s r l t p v }
 {}
 
-/// Where `two ways` is the reason why no route can be read, the router shows 16 on two of its interfaces
-/// and a metric below 16 on another.
+/// Where `two ways` is the reason why no route can be read, the router shows 16 on two of its
+/// interfaces and a metric below 16 on another.
 pub fn two_ways()
     ensures { (n : Network) (shown : State) (r p : ℕ) → IsLawful n → IsInRange n shown →
         r < length n.routers → IsReason n shown r p (TwoWays r p) →

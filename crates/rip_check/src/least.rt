@@ -25,8 +25,8 @@ fn fill_direct(plan: &Plan, failure: Option<Failure>, prefix: usize, metrics: &m
     }
 }
 
-/// Tells a metric on a link: each router there that takes offers has no more than it and the cost of
-/// its interface from then on (RFC 2453, section 3.9.2).
+/// Tells a metric on a link: each router there that takes offers has no more than it and the cost
+/// of its interface from then on (RFC 2453, section 3.9.2).
 fn tell(
     plan: &Plan,
     failure: Option<Failure>,
@@ -134,9 +134,9 @@ fn has_more(metrics: &[u8], metric: u32) -> bool
     false
 }
 
-/// Writes the least metric of each router for a prefix, after a failure where there is one. It begins
-/// with the metrics at which routers have the prefix themselves. Routers tell their metrics in ascending
-/// order, so that the first that is told on a link is the least one there.
+/// Writes the least metric of each router for a prefix, after a failure where there is one. It
+/// begins with the metrics at which routers have the prefix themselves. Routers tell their metrics
+/// in ascending order, so that the first that is told on a link is the least one there.
 pub(crate) fn find_least(plan: &Plan, failure: Option<Failure>, prefix: usize, metrics: &mut [u8])
     requires { length metrics.old ≡ length plan.now.routers }
     ensures { (r : ℕ) → r < length plan.now.routers →
@@ -153,9 +153,9 @@ pub(crate) fn find_least(plan: &Plan, failure: Option<Failure>, prefix: usize, m
     }
 }
 
-/// The least metric of a router for a prefix, both by their numbers: the cost of the cheapest path, or
-/// 16 where none costs less (RFC 2453, section 3.6) or the plan does not have the prefix. It allocates
-/// nothing; [`Expected`](crate::Expected) has the least metrics of all.
+/// The least metric of a router for a prefix, both by their numbers: the cost of the cheapest path,
+/// or 16 where none costs less (RFC 2453, section 3.6) or the plan does not have the prefix. It
+/// allocates nothing; [`Expected`](crate::Expected) has the least metrics of all.
 pub fn least_metric(plan: &Plan, router: usize, prefix: usize) -> Metric
     requires { router < length plan.now.routers }
     ensures { IsLeast plan.now prefix router result }

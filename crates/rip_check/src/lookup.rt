@@ -20,8 +20,8 @@ pub(crate) fn metric_of(number: u32) -> Metric
     Metric::new(number).unwrap()
 }
 
-/// What the interfaces of the plan tell is a metric. This does nothing when it runs: the plan and the
-/// table are what its contract speaks of.
+/// What the interfaces of the plan tell is a metric. This does nothing when it runs: the plan and
+/// the table are what its contract speaks of.
 pub(crate) fn in_range<T: MetricTable>(plan: &Plan, table: &T)
     requires { Fits plan.now (T.state table.now) }
     ensures { IsInRange plan.now (told plan.now (T.state table.now)) }
@@ -30,8 +30,8 @@ pub(crate) fn in_range<T: MetricTable>(plan: &Plan, table: &T)
     let _ = table;
 }
 
-/// The metric that an interface shows for a prefix. The plan is there for the contract alone, which asks
-/// that the table is one of the plan's.
+/// The metric that an interface shows for a prefix. The plan is there for the contract alone, which
+/// asks that the table is one of the plan's.
 pub(crate) fn shown_at<T: MetricTable>(
     plan: &Plan,
     table: &T,
@@ -51,8 +51,8 @@ pub(crate) fn shown_at<T: MetricTable>(
     }
 }
 
-/// The metric that an interface tells of a prefix: what it shows, or 16 where it shows nothing and does
-/// not poison.
+/// The metric that an interface tells of a prefix: what it shows, or 16 where it shows nothing and
+/// does not poison.
 pub(crate) fn told_at<T: MetricTable>(
     plan: &Plan,
     table: &T,
@@ -77,8 +77,8 @@ pub(crate) fn told_at<T: MetricTable>(
     }
 }
 
-/// Whether a router may hold back its own route for a prefix on a link, by the link to which it has the
-/// prefix attached.
+/// Whether a router may hold back its own route for a prefix on a link, by the link to which it has
+/// the prefix attached.
 pub(crate) fn may_hold_back(
     plan: &Plan,
     attached: Option<usize>,

@@ -27,7 +27,8 @@ fn offer_of(cost: u8, shown: Option<u32>) -> u32
     (u32::from(cost) + metric).min(16)
 }
 
-/// The least of `best` and of what the neighbours over the link of an interface offer, by asking each.
+/// The least of `best` and of what the neighbours over the link of an interface offer, by asking
+/// each.
 fn least_asked<T: MetricTable>(
     plan: &Plan,
     table: &T,
@@ -60,8 +61,8 @@ fn least_asked<T: MetricTable>(
     least
 }
 
-/// The least of `best` and of what the neighbours over a link give, by the two least metrics there: the
-/// cost of the interface and a neighbour's metric.
+/// The least of `best` and of what the neighbours over a link give, by the two least metrics there:
+/// the cost of the interface and a neighbour's metric.
 pub(crate) fn least_told(own: Interface, two: TwoLeast, best: u32) -> u32
     requires most { best ≤ 16 }
     requires least { two.least ≤ 16 }
@@ -83,8 +84,9 @@ pub(crate) fn least_told(own: Interface, two: TwoLeast, best: u32) -> u32
     (u32::from(own.cost) + u32::from(shown)).min(best)
 }
 
-/// The least of `best` and of what the neighbours over the link of an interface offer: by the two least
-/// metrics that are told on each link, where they are known, or else by asking each neighbour.
+/// The least of `best` and of what the neighbours over the link of an interface offer: by the two
+/// least metrics that are told on each link, where they are known, or else by asking each
+/// neighbour.
 pub(crate) fn best_over<T: MetricTable>(
     plan: &Plan,
     table: &T,
@@ -129,7 +131,8 @@ pub(crate) fn direct_or_16(plan: &Plan, router: usize, prefix: usize) -> u32
     }
 }
 
-/// The least of 16, the direct cost and all offers; the direct cost where the router keeps the prefix.
+/// The least of 16, the direct cost and all offers; the direct cost where the router keeps the
+/// prefix.
 pub(crate) fn least_choice<T: MetricTable>(
     plan: &Plan,
     table: &T,
@@ -162,8 +165,8 @@ pub(crate) fn least_choice<T: MetricTable>(
 }
 
 /// What a neighbour offers a router: the sum of what the neighbour's interface `across` shows of a
-/// prefix, or of 16 where it shows nothing, and of the cost of the router's own interface on the same
-/// link; 16 where that is more (RFC 2453, section 3.9.2).
+/// prefix, or of 16 where it shows nothing, and of the cost of the router's own interface on the
+/// same link; 16 where that is more (RFC 2453, section 3.9.2).
 pub fn offer<T: MetricTable>(
     plan: &Plan,
     table: &T,

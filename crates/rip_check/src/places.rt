@@ -179,8 +179,9 @@ pub(crate) fn failing_place<T: MetricTable>(
     }
 }
 
-/// The route of a router for a prefix, both by their numbers, or why none can be read. At a place of a
-/// leaf that is hidden, several routes may fit what is shown; the answer is then the defined one.
+/// The route of a router for a prefix, both by their numbers, or why none can be read. At a place
+/// of a leaf that is hidden, several routes may fit what is shown; the answer is then the defined
+/// one.
 pub fn route<T: MetricTable>(
     plan: &Plan,
     table: &T,

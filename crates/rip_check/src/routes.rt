@@ -33,7 +33,8 @@ const UNREACHABLE: ReadRoute = ReadRoute {
     hidden: false,
 };
 
-/// The one metric and way that can be behind what a router with two interfaces shows, if there is one.
+/// The one metric and way that can be behind what a router with two interfaces shows, if there is
+/// one.
 fn read_route<T: MetricTable>(
     plan: &Plan,
     table: &T,
@@ -138,8 +139,8 @@ pub(crate) fn reason<T: MetricTable>(
     }
 }
 
-/// The route of a router with one interface, if one can be read: there is none where it shows a metric
-/// below 16 on the link to which the prefix is attached.
+/// The route of a router with one interface, if one can be read: there is none where it shows a
+/// metric below 16 on the link to which the prefix is attached.
 fn leaf_route<T: MetricTable>(
     plan: &Plan,
     table: &T,

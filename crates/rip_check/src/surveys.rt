@@ -20,21 +20,21 @@ pub(crate) struct Survey {
     pub metric: u32,
     /// Whether another metric below 16 is told.
     pub another: bool,
-    /// The link of the first silent interface (nothing or 16) on a link that does not carry the prefix
-    /// and to which it is not attached. Where there is none the route may be the router's own, which
-    /// may be held back on those links.
+    /// The link of the first silent interface (nothing or 16) on a link that does not carry the
+    /// prefix and to which it is not attached. Where there is none the route may be the router's
+    /// own, which may be held back on those links.
     pub silent: Option<usize>,
     /// Whether this cannot come from a route over one link, which is poisoned there and told
-    /// everywhere else: two interfaces are silent, or one on a link that carries the prefix or to which
-    /// it is attached, or the interface on the link of `silent` tells nothing, and not 16.
+    /// everywhere else: two interfaces are silent, or one on a link that carries the prefix or to
+    /// which it is attached, or the interface on the link of `silent` tells nothing, and not 16.
     pub blocked: bool,
     /// Whether a metric below 16 is told on the link to which the prefix is attached, so that the
     /// route is not the router's own.
     pub not_here: bool,
 }
 
-/// Adds an interface that tells this metric below 16, on the link to which the prefix is attached or on
-/// another.
+/// Adds an interface that tells this metric below 16, on the link to which the prefix is attached
+/// or on another.
 fn add_speech(found: &mut Survey, on_attached: bool, metric: u32)
     requires low { 1 ≤ metric }
     requires high { metric < 16 }
@@ -50,8 +50,8 @@ fn add_speech(found: &mut Survey, on_attached: bool, metric: u32)
     }
 }
 
-/// Adds an interface that is on this link and tells nothing or 16, by the link to which the prefix is
-/// attached.
+/// Adds an interface that is on this link and tells nothing or 16, by the link to which the prefix
+/// is attached.
 fn add_silence(
     plan: &Plan,
     found: &mut Survey,
@@ -75,7 +75,8 @@ fn add_silence(
     }
 }
 
-/// Adds an interface that is on this link and tells this, by the link to which the prefix is attached.
+/// Adds an interface that is on this link and tells this, by the link to which the prefix is
+/// attached.
 fn add_shown(
     plan: &Plan,
     found: &mut Survey,

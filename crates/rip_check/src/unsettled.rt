@@ -19,7 +19,8 @@ use std::alloc::{AllocError, Global};
 /// The places of a plan and a table that do not hold.
 #[derive(Drop)]
 pub struct Unsettled {
-    // Router by router a mark for each prefix: what the equation of a place gives that does not hold.
+    // Router by router a mark for each prefix: what the equation of a place gives that does not
+    // hold.
     marks: Vec<Option<u8>>,
 }
 
@@ -98,7 +99,8 @@ impl Unsettled {
         Ok(Unsettled { marks })
     }
 
-    /// The place of a router and a prefix, both by their numbers, if it can be read and does not hold.
+    /// The place of a router and a prefix, both by their numbers, if it can be read and does not
+    /// hold.
     pub fn at<T: MetricTable>(
         &self,
         plan: &Plan,

@@ -1,5 +1,5 @@
-//! Whether a failure may change a least metric of a prefix: where each router keeps a way, the metrics
-//! of before stay.
+//! Whether a failure may change a least metric of a prefix: where each router keeps a way, the
+//! metrics of before stay.
 
 ghost use Rattle.std.specs.Prelude.{◌≡◌, ◌≢◌, ◌+◌, ℕ, ◌<◌, Some, false, length, slice_index, true};
 ghost use Rattle.rip_plan.specs.Relations.{HasCost, IsAttached, IsKept, IsOn};
@@ -13,8 +13,8 @@ use crate::expected::Expected;
 use crate::failures::{Failure, direct_left, is_link_up, is_router_up, takes};
 use rip_plan::Plan;
 
-/// Whether a least path of a router may begin over an interface of this cost, to another one: the cost
-/// and the least metric there come to the router's.
+/// Whether a least path of a router may begin over an interface of this cost, to another one: the
+/// cost and the least metric there come to the router's.
 fn is_step(
     plan: &Plan,
     before: &Expected,
@@ -141,8 +141,8 @@ fn leads_over(
     false
 }
 
-/// Whether the failure of a link may cut off a router there: a least path may begin over the link, and
-/// the router keeps no other way.
+/// Whether the failure of a link may cut off a router there: a least path may begin over the link,
+/// and the router keeps no other way.
 fn is_cut_over(
     plan: &Plan,
     before: &Expected,
@@ -182,8 +182,8 @@ fn is_any_cut(plan: &Plan, before: &Expected, link: usize, prefix: usize) -> boo
     false
 }
 
-/// Whether the failure of a router may cut off another one: a least path may begin over an interface
-/// of this cost, to the router that fails, and the other one keeps no other way.
+/// Whether the failure of a router may cut off another one: a least path may begin over an
+/// interface of this cost, to the router that fails, and the other one keeps no other way.
 fn is_cut_from(
     plan: &Plan,
     before: &Expected,
@@ -278,8 +278,8 @@ pub(crate) fn touches(plan: &Plan, before: &Expected, failure: Failure, prefix: 
     }
 }
 
-/// Writes the least metric of each router for a prefix that a failure does not touch: that of before,
-/// or 16 of a router that has failed.
+/// Writes the least metric of each router for a prefix that a failure does not touch: that of
+/// before, or 16 of a router that has failed.
 pub(crate) fn fill_before(
     plan: &Plan,
     before: &Expected,

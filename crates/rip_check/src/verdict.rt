@@ -29,38 +29,40 @@ pub enum Unclear {
         router: usize,
         prefix: usize,
     },
-    /// A router shows nothing of a prefix on a link where it poisons, and no route of it can be read.
+    /// A router shows nothing of a prefix on a link where it poisons, and no route of it can be
+    /// read.
     Missing {
         router: usize,
         prefix: usize,
         /// The first link on which it poisons and shows nothing.
         link: usize,
     },
-    /// A router shows a metric below 16 for a prefix on each of its links, also on the one to which the
-    /// plan says that the prefix is attached, and no route of it can be read.
+    /// A router shows a metric below 16 for a prefix on each of its links, also on the one to which
+    /// the plan says that the prefix is attached, and no route of it can be read.
     ShownOn {
         router: usize,
         prefix: usize,
         /// The link to which the prefix is attached.
         link: usize,
     },
-    /// A router shows 16, or nothing where it does not poison, for a prefix on two links and a metric below
-    /// 16 on another, as if it had two ways.
+    /// A router shows 16, or nothing where it does not poison, for a prefix on two links and a
+    /// metric below 16 on another, as if it had two ways.
     TwoWays {
         router: usize,
         prefix: usize,
     },
 }
 
-/// A place that does not hold: a router and a prefix, by their numbers, with what was compared there.
+/// A place that does not hold: a router and a prefix, by their numbers, with what was compared
+/// there.
 #[derive(Clone, Copy, Debug, PartialEq, Eq)]
 pub struct Place2 {
     pub router: usize,
     pub prefix: usize,
     /// The metric of the router's route.
     pub metric: Metric,
-    /// The least of 16, of the router's direct cost and of what its neighbours offer; the direct cost
-    /// where the router keeps the prefix.
+    /// The least of 16, of the router's direct cost and of what its neighbours offer; the direct
+    /// cost where the router keeps the prefix.
     pub equation: Metric,
     /// The way of the router's route.
     pub way: Way,

@@ -48,11 +48,13 @@ each_below_set {A} n f g l within others = same_lists (set (each_below n f) l (g
         ]
 
 -- one more item
-pub numbers_where_push : {A : Type 0} (test : A → Bool) (n : ℕ) (xs : List A) (x : A) → numbers_where test n (xs ++ x ∷ []) ≡ cond (test x) (numbers_where test n xs ++ (n + length xs) ∷ []) (numbers_where test n xs)
+pub numbers_where_push : {A : Type 0} (test : A → Bool) (n : ℕ) (xs : List A) (x : A) →
+    numbers_where test n (xs ++ x ∷ []) ≡ cond (test x) (numbers_where test n xs ++ (n + length xs) ∷ []) (numbers_where test n xs)
 numbers_where_push test n [] x = let same : n + 0 ≡ n = omega arith in rw same refl
 numbers_where_push test n (y ∷ ys) x = by_tests (test y) (test x) refl refl (numbers_where_push test (n + 1) ys x)
   where
-    by_tests : (a b : Bool) → test y ≡ a → test x ≡ b → numbers_where test (n + 1) (ys ++ x ∷ []) ≡ cond (test x) (numbers_where test (n + 1) ys ++ (n + 1 + length ys) ∷ []) (numbers_where test (n + 1) ys)
+    by_tests : (a b : Bool) → test y ≡ a → test x ≡ b →
+        numbers_where test (n + 1) (ys ++ x ∷ []) ≡ cond (test x) (numbers_where test (n + 1) ys ++ (n + 1 + length ys) ∷ []) (numbers_where test (n + 1) ys)
         → numbers_where test n (y ∷ ys ++ x ∷ []) ≡ cond (test x) (numbers_where test n (y ∷ ys) ++ (n + length (y ∷ ys)) ∷ []) (numbers_where test n (y ∷ ys))
     by_tests true true e f later = let same : n + 1 + length ys ≡ n + suc (length ys) = omega arith in rw (e, later, f, same) refl
     by_tests true false e f later = rw (e, later, f) refl

@@ -18,7 +18,8 @@ module _ {A : Type 0} (clash : A → A → Bool) (xs : List A) (k : ℕ) (x : A)
   clash_here total found so_far = let here : first_clash clash (take k xs) (drop k xs) ≡ Some x = rw (rest_from xs k x lt is, found) refl in sym here ∙ so_far
 
   -- after one that does not, the search goes on
-  pub clash_later : (total : Option A) → list_any (λ y. clash y x) (take k xs) ≡ false → first_clash clash (take k xs) (drop k xs) ≡ total → first_clash clash (take (k + 1) xs) (drop (k + 1) xs) ≡ total
+  pub clash_later : (total : Option A) → list_any (λ y. clash y x) (take k xs) ≡ false → first_clash clash (take k xs) (drop k xs) ≡ total →
+      first_clash clash (take (k + 1) xs) (drop (k + 1) xs) ≡ total
   clash_later total none so_far =
       let front : take (k + 1) xs ≡ take k xs ++ x ∷ [] = take_more xs k x lt ∙ ap (λ y. take k xs ++ y ∷ []) (sym is) in
       let here : first_clash clash (take k xs) (drop k xs) ≡ first_clash clash (take k xs ++ x ∷ []) (drop (k + 1) xs) = rw (rest_from xs k x lt is, none) refl in
@@ -33,18 +34,24 @@ map_push : {A B : Type 0} (see : A → B) (xs : List A) (x : A) → map see (xs 
 map_push see [] x = refl
 map_push see (y ∷ ys) x = ap (λ l. see y ∷ l) (map_push see ys x)
 
-pub first_clash-map : {A B : Type 0} (see : A → B) (clash : B → B → Bool) (earlier xs : List A) → option_map see (first_clash (λ x y. clash (see x) (see y)) earlier xs) ≡ first_clash clash (map see earlier) (map see xs)
+pub first_clash-map : {A B : Type 0} (see : A → B) (clash : B → B → Bool) (earlier xs : List A) →
+    option_map see (first_clash (λ x y. clash (see x) (see y)) earlier xs) ≡ first_clash clash (map see earlier) (map see xs)
 first_clash-map see clash earlier [] = refl
 first_clash-map see clash earlier (x ∷ xs) = by_test (list_any (λ y. clash (see y) (see x)) earlier) refl (first_clash-map see clash (earlier ++ x ∷ []) xs)
   where
-    by_test : (t : Bool) → list_any (λ y. clash (see y) (see x)) earlier ≡ t → option_map see (first_clash (λ x y. clash (see x) (see y)) (earlier ++ x ∷ []) xs) ≡ first_clash clash (map see (earlier ++ x ∷ [])) (map see xs)
+    by_test : (t : Bool) → list_any (λ y. clash (see y) (see x)) earlier ≡ t →
+        option_map see (first_clash (λ x y. clash (see x) (see y)) (earlier ++ x ∷ []) xs) ≡ first_clash clash (map see (earlier ++ x ∷ [])) (map see xs)
         → option_map see (first_clash (λ x y. clash (see x) (see y)) earlier (x ∷ xs)) ≡ first_clash clash (map see earlier) (map see (x ∷ xs))
     by_test true e later = rw (e, any_seen see (λ y. clash y (see x)) earlier, e) refl
     by_test false e later = rw (e, any_seen see (λ y. clash y (see x)) earlier, e, ← map_push see earlier x) later
 
 -- the places that meet, with the routers that they touch
-pub meeting_seen : (interfaces : List DraftInterface) (places : List DraftPlace) → option_map (λ p. p.at) (first_clash (λ p q. do_meet (touching interfaces p) (touching interfaces q)) [] places) ≡ option_map (λ t. t.place.at) (first_clash do_meet [] (map (touching interfaces) places))
-meeting_seen interfaces places = by_option (first_clash (λ p q. do_meet (touching interfaces p) (touching interfaces q)) [] places) (first_clash do_meet [] (map (touching interfaces) places)) (first_clash-map (touching interfaces) do_meet [] places)
+pub meeting_seen : (interfaces : List DraftInterface) (places : List DraftPlace) →
+    option_map (λ p. p.at) (first_clash (λ p q. do_meet (touching interfaces p) (touching interfaces q)) [] places) ≡ option_map (λ t. t.place.at)
+    (first_clash do_meet [] (map (touching interfaces) places))
+meeting_seen interfaces places =
+    by_option (first_clash (λ p q. do_meet (touching interfaces p) (touching interfaces q)) [] places) (first_clash do_meet [] (map (touching interfaces) places))
+    (first_clash-map (touching interfaces) do_meet [] places)
   where
     by_option : (o : Option DraftPlace) (t : Option Touching) → option_map (touching interfaces) o ≡ t → option_map (λ p. p.at) o ≡ option_map (λ t. t.place.at) t
     by_option None t h = rw (← h) refl
@@ -55,7 +62,8 @@ pub any_listed : {A B : Type 0} (see : A → B) (test : A → Bool) (p : B → B
 any_listed see test p [] = refl
 any_listed see test p (x ∷ xs) = by_test (test x) refl (any_listed see test p xs)
   where
-    by_test : (t : Bool) → test x ≡ t → list_any p (map see (filter test xs)) ≡ list_any (λ y. test y && p (see y)) xs → list_any p (map see (filter test (x ∷ xs))) ≡ list_any (λ y. test y && p (see y)) (x ∷ xs)
+    by_test : (t : Bool) → test x ≡ t → list_any p (map see (filter test xs)) ≡ list_any (λ y. test y && p (see y)) xs →
+        list_any p (map see (filter test (x ∷ xs))) ≡ list_any (λ y. test y && p (see y)) (x ∷ xs)
     by_test true e later = rw (e, later) refl
     by_test false e later = rw (e, later) refl
 
@@ -67,7 +75,8 @@ any_kept see test (x ∷ xs) = by_test (test x) refl (any_kept see test xs)
     by_test true e later = rw e refl
     by_test false e later = rw e later
 
-pub listed_push : {A B : Type 0} (see : A → B) (test : A → Bool) (xs : List A) (x : A) → map see (filter test (xs ++ x ∷ [])) ≡ cond (test x) (map see (filter test xs) ++ see x ∷ []) (map see (filter test xs))
+pub listed_push : {A B : Type 0} (see : A → B) (test : A → Bool) (xs : List A) (x : A) →
+    map see (filter test (xs ++ x ∷ [])) ≡ cond (test x) (map see (filter test xs) ++ see x ∷ []) (map see (filter test xs))
 listed_push see test [] x = by_test (test x) refl
   where
     by_test : (t : Bool) → test x ≡ t → map see (filter test (x ∷ [])) ≡ cond (test x) (see x ∷ []) []
@@ -118,7 +127,8 @@ bare_here interfaces n k total lt bare so_far =
     let here : first_bare interfaces k (n - k) ≡ Some k = rw (left, bare) refl in
     sym here ∙ so_far
 
-pub bare_later : (interfaces : List DraftInterface) (n k : ℕ) (total : Option ℕ) → k < n → is_bare interfaces k ≡ false → first_bare interfaces k (n - k) ≡ total → first_bare interfaces (k + 1) (n - (k + 1)) ≡ total
+pub bare_later : (interfaces : List DraftInterface) (n k : ℕ) (total : Option ℕ) → k < n → is_bare interfaces k ≡ false → first_bare interfaces k (n - k) ≡ total →
+    first_bare interfaces (k + 1) (n - (k + 1)) ≡ total
 bare_later interfaces n k total lt bare so_far =
     let left : n - k ≡ suc (n - (k + 1)) = omega arith in
     let here : first_bare interfaces k (n - k) ≡ first_bare interfaces (k + 1) (n - (k + 1)) = rw (left, bare) refl in

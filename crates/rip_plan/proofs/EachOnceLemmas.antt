@@ -63,7 +63,8 @@ filter_away : (p : Block) (qs : List Block) → AllByRecursion (λ q. same_prefi
 filter_away p [] = tt
 filter_away p (q ∷ qs) = by_test (same_prefix p q) refl (filter_away p qs)
   where
-    by_test : (b : Bool) → same_prefix p q ≡ b → AllByRecursion (λ r. same_prefix p r ≡ false) (filter (λ r. not (same_prefix p r)) qs) → AllByRecursion (λ r. same_prefix p r ≡ false) (filter (λ r. not (same_prefix p r)) (q ∷ qs))
+    by_test : (b : Bool) → same_prefix p q ≡ b → AllByRecursion (λ r. same_prefix p r ≡ false) (filter (λ r. not (same_prefix p r)) qs) →
+        AllByRecursion (λ r. same_prefix p r ≡ false) (filter (λ r. not (same_prefix p r)) (q ∷ qs))
     by_test true e later = rw e later
     by_test false e later = rw e (e, later)
 

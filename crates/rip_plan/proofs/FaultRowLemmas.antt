@@ -78,7 +78,8 @@ abbrev pub interface_from_outside : ℕ → ℕ → Rows
 interface_from_outside r j = row_then (row_at codes.OutsidePrefix (RouterInterface r j)) (interface_from_limit r j) (by_code (RouterInterface r j) codes.OutsidePrefix codes.Limit refl (omega arith))
 
 abbrev pub interface_from_link : ℕ → ℕ → Rows
-interface_from_link r j = row_then (row_at codes.UnknownLink (RouterInterface r j)) (interface_from_outside r j) (by_code (RouterInterface r j) codes.UnknownLink codes.OutsidePrefix refl (omega arith))
+interface_from_link r j =
+    row_then (row_at codes.UnknownLink (RouterInterface r j)) (interface_from_outside r j) (by_code (RouterInterface r j) codes.UnknownLink codes.OutsidePrefix refl (omega arith))
 
 abbrev pub interface_from_cost : ℕ → ℕ → Rows
 interface_from_cost r j = row_then (row_at codes.Cost (RouterInterface r j)) (interface_from_link r j) (by_code (RouterInterface r j) codes.Cost codes.UnknownLink refl (omega arith))
@@ -231,8 +232,10 @@ module _ (document : Members) (links routers : List Data) where
   want_told c place v rows b f told clear rest = want_finds IsTold (row_at c place) v rows b f (λ h. (told h, refl)) (λ x h g. clear x h g.0) rest
 
   pub both_told : {A B C : Type 0} (c : PlanCode) (place : At) (v : Option A) (w : A → Option B) (rows : Rows) → Before (ranked (row_at c place)) rows.floor → (f : A → B → Result C PlanError)
-      → (v ≡ None → TableFault document links routers c place) → ((x : A) → v ≡ Some x → w x ≡ None → TableFault document links routers c place) → ((x : A) (y : B) → v ≡ Some x → w x ≡ Some y → TableFault document links routers c place → ⊥)
-      → ((x : A) (y : B) → v ≡ Some x → w x ≡ Some y → Finds IsTold rows.has (f x y)) → Finds IsTold (λ o. (o ≡ row_at c place) ⊎ rows.has o) (wanted (fault c place) v >>= (λ x. wanted (fault c place) (w x) >>= f x))
+      → (v ≡ None → TableFault document links routers c place) → ((x : A) → v ≡ Some x → w x ≡ None → TableFault document links routers c place)
+      → ((x : A) (y : B) → v ≡ Some x → w x ≡ Some y → TableFault document links routers c place → ⊥)
+      → ((x : A) (y : B) → v ≡ Some x → w x ≡ Some y → Finds IsTold rows.has (f x y))
+      → Finds IsTold (λ o. (o ≡ row_at c place) ⊎ rows.has o) (wanted (fault c place) v >>= (λ x. wanted (fault c place) (w x) >>= f x))
   both_told c place v w rows b f told also clear rest = want_both IsTold (row_at c place) v w rows b f (λ h. (told h, refl)) (λ x h k. (also x h k, refl)) (λ x y h k g. clear x y h k g.0) rest
 
   -- what is found before the last pass

@@ -63,7 +63,8 @@ Finds F R (Ok x) = (o : Found) → R o → F o → ⊥
 Finds F R (Err e) = (pass : ℕ) × F (record { pass = pass; error = e }) × R (record { pass = pass; error = e }) × ((o : Found) → R o → F o → Before (ranked o) (rank pass e) → ⊥)
 
 -- other words for the faults and for the rows
-pub finds_in : {A : Type 0} (F G R S : Found → Type 0) (r : Result A PlanError) → ((e : Found) → F e → G e) → ((e : Found) → R e → S e) → ((o : Found) → S o → G o → F o × R o) → Finds F R r → Finds G S r
+pub finds_in : {A : Type 0} (F G R S : Found → Type 0) (r : Result A PlanError) → ((e : Found) → F e → G e) → ((e : Found) → R e → S e) → ((o : Found) → S o → G o → F o × R o) → Finds F R r →
+    Finds G S r
 finds_in F G R S (Ok x) give name take h = λ o s g. let (f, r) = take o s g in h o r f
 finds_in F G R S (Err e) give name take h = let o : Found = record { pass = h.0; error = e } in (h.0, give o h.1, name o h.2, λ o s g before. let (f, r) = take o s g in h.3 o r f before)
 
@@ -109,7 +110,8 @@ bind_rows F R rows r f until h rest = bind_finds F R rows.has r f (λ e o here l
 -- ---- steps
 
 -- a step more
-steps_push : {S A : Type 0} (step : ℕ → A → S → Result S PlanError) (n : ℕ) (xs : List A) (x : A) (s t u : S) (m : ℕ) → m ≡ n + length xs → steps step n xs s ≡ Ok t → step m x t ≡ Ok u → steps step n (xs ++ x ∷ []) s ≡ Ok u
+steps_push : {S A : Type 0} (step : ℕ → A → S → Result S PlanError) (n : ℕ) (xs : List A) (x : A) (s t u : S) (m : ℕ) → m ≡ n + length xs → steps step n xs s ≡ Ok t → step m x t ≡ Ok u →
+    steps step n (xs ++ x ∷ []) s ≡ Ok u
 steps_push step n [] x s t u m e h k =
     let same : s ≡ t = cc in
     let here : m ≡ n = omega arith in
@@ -136,7 +138,8 @@ steps_from {S} {A} F step R p starts all s each past (x ∷ xs) done u k e split
     (bind_finds F (R k) (Each R (k + 1)) (step k x u) (steps step (k + 1) xs)
     (λ d o here later before. let (m, le, row) = later in starts_apart p k m (ranked d) (ranked o) (omega arith) (starts k d here) (starts m o row) before)
     (subst (λ (n : ℕ). Finds F (R n) (step n x u)) (sym e) (each done x xs u split taken))
-    (λ t is. steps_from F step R p starts all s each past xs (done ++ x ∷ []) t (k + 1) (omega (arith, length-append done (x ∷ []))) (split ∙ sym (append_assoc done (x ∷ []) xs)) (steps_push step 1 done x s u t k e taken is)))
+    (λ t is. steps_from F step R p starts all s each past xs (done ++ x ∷ []) t (k + 1) (omega (arith, length-append done (x ∷ []))) (split ∙ sym (append_assoc done (x ∷ []) xs))
+    (steps_push step 1 done x s u t k e taken is)))
   where
     name : (o : Found) → R k o ⊎ Each R (k + 1) o → Each R k o
     name o (inl here) = (k, omega arith, here)

@@ -21,7 +21,8 @@ matched_same {A} R S f (x ∷ xs) (y ∷ ys) (z ∷ zs) m k =
     ap (λ (w : A). w ∷ xs) (f x y z m.0 k.0) ∙ ap (λ (ws : List A). y ∷ ws) (matched_same R S f xs ys zs m.1 k.1)
 
 -- lists of one length are matched where their items are
-pub matched_at : {A B : Type 0} (R : A → B → Type 0) (xs : List A) (ys : List B) → length xs ≡ length ys → ((k : ℕ) (x : A) (y : B) → slice_get xs k ≡ Some x → slice_get ys k ≡ Some y → R x y) → Matched R xs ys
+pub matched_at : {A B : Type 0} (R : A → B → Type 0) (xs : List A) (ys : List B) → length xs ≡ length ys → ((k : ℕ) (x : A) (y : B) → slice_get xs k ≡ Some x → slice_get ys k ≡ Some y → R x y) →
+    Matched R xs ys
 matched_at R [] [] e f = tt
 matched_at R [] (y ∷ ys) e f = absurd (omega arith)
 matched_at R (x ∷ xs) [] e f = absurd (omega arith)

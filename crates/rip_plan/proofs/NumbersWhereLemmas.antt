@@ -13,7 +13,8 @@ pub at_contains : {A : Type 0} (xs : List A) (x : A) → Contains xs x → (k : 
 at_contains {A} xs x c = (c.0, slice_get-get_or xs c.0 x c.1 ∙ ap (λ (y : A). Some y) c.2)
 
 -- each number is that of an item that passes
-pub number_passes : {A : Type 0} (test : A → Bool) (n : ℕ) (xs : List A) (k m : ℕ) → slice_get (numbers_where test n xs) k ≡ Some m → (i : ℕ) × (x : A) × (m ≡ n + i) × (slice_get xs i ≡ Some x) × (test x ≡ true)
+pub number_passes : {A : Type 0} (test : A → Bool) (n : ℕ) (xs : List A) (k m : ℕ) → slice_get (numbers_where test n xs) k ≡ Some m →
+    (i : ℕ) × (x : A) × (m ≡ n + i) × (slice_get xs i ≡ Some x) × (test x ≡ true)
 number_passes test n [] k m h = absurd (none-some m h)
 number_passes {A} test n (x ∷ xs) k m h = by_head (test x) refl k h (λ j e. number_passes test (n + 1) xs j m e)
   where

@@ -69,7 +69,8 @@ links_stand i (x ∷ xs) s t h =
     let taken = link_taken i x s u first in
     let fields = link_table x taken.name taken.prefixes taken.fields in
     let inner = prefixes_stand i 1 taken.prefixes (with_link taken.name s) u taken.others in
-    let here : Stands s u (spots_of (LinkPrefix i) 1 (items_in (get (codes_of "prefixes") x))) [] 0 = rw fields.prefixes_are (record { places = inner.places; interfaces = inner.interfaces; also = inner.also }) in
+    let here : Stands s u (spots_of (LinkPrefix i) 1 (items_in (get (codes_of "prefixes") x))) [] 0 =
+    rw fields.prefixes_are (record { places = inner.places; interfaces = inner.interfaces; also = inner.also }) in
     stands_both s u t (spots_of (LinkPrefix i) 1 (items_in (get (codes_of "prefixes") x))) [] (spots_under (codes_of "prefixes") LinkPrefix (i + 1) xs) [] 0 0 here (links_stand (i + 1) xs u t others)
 
 pub interfaces_stand : (r j : ℕ) (xs : List Data) (s t : Sketch) → steps (interface_step r) j xs s ≡ Ok t → Stands s t [] (spots_of (RouterInterface r) j xs) (also_in xs)
@@ -79,7 +80,8 @@ interfaces_stand r j (x ∷ xs) s t h =
     let taken = interface_taken r j x s u first in
     let fields = interface_texts x taken.given taken.fields in
     let new : DraftInterface = record { interface = _; at = RouterInterface r j } in
-    let count : length taken.also ≡ length (also_items x) = matched_length IsReadOf taken.also taken.given.also (addresses_read taken.given.also taken.also taken.others) ∙ ap length (sym fields.also_are) in
+    let count : length taken.also ≡ length (also_items x) = matched_length IsReadOf taken.also taken.given.also (addresses_read taken.given.also taken.also taken.others) ∙ ap length
+    (sym fields.also_are) in
     let here : Stands s u [] (RouterInterface r j ∷ []) (length (also_items x)) = record {
       places = ap place_ats taken.made ∙ sym (append-nil (place_ats s));
       interfaces = ap interface_ats taken.made ∙ map_append (λ (i : DraftInterface). i.at) s.interfaces (new ∷ []);
@@ -100,7 +102,8 @@ owns_stand r j (x ∷ xs) s t h =
     } in
     stands_both s u t (RouterOwn r j ∷ []) [] (spots_of (RouterOwn r) (j + 1) xs) [] 0 0 here (owns_stand r (j + 1) xs u t others)
 
-pub routers_stand : (r : ℕ) (xs : List Data) (s t : Sketch) → steps router_step r xs s ≡ Ok t → Stands s t (spots_under (codes_of "own") RouterOwn r xs) (spots_under (codes_of "interface") RouterInterface r xs) (also_under xs)
+pub routers_stand : (r : ℕ) (xs : List Data) (s t : Sketch) → steps router_step r xs s ≡ Ok t →
+    Stands s t (spots_under (codes_of "own") RouterOwn r xs) (spots_under (codes_of "interface") RouterInterface r xs) (also_under xs)
 routers_stand r [] s t h = stands_none s t (ok_same s t h)
 routers_stand r (x ∷ xs) s t h =
     let (u, first, others) = bind_ok (router_step r x s) (steps router_step (r + 1) xs) t h in
@@ -114,4 +117,5 @@ routers_stand r (x ∷ xs) s t h =
     let one : Stands s taken.between [] theirs more = rw fields.interfaces_are (record { places = inner.places; interfaces = inner.interfaces; also = inner.also }) in
     let two : Stands taken.between u ours [] 0 = rw fields.owns_are (record { places = own.places; interfaces = own.interfaces; also = own.also }) in
     let here : Stands s u ours theirs more = stands_same s u ours theirs (more + 0) more (omega arith) (rw (← append-nil theirs) (stands_both s taken.between u [] theirs ours [] more 0 one two)) in
-    stands_both s u t ours theirs (spots_under (codes_of "own") RouterOwn (r + 1) xs) (spots_under (codes_of "interface") RouterInterface (r + 1) xs) more (also_under xs) here (routers_stand (r + 1) xs u t others)
+    stands_both s u t ours theirs (spots_under (codes_of "own") RouterOwn (r + 1) xs) (spots_under (codes_of "interface") RouterInterface (r + 1) xs) more (also_under xs) here
+    (routers_stand (r + 1) xs u t others)

@@ -1,4 +1,5 @@
--- The addresses of the interfaces, in one list: of each interface its own, and then its further ones.
+-- The addresses of the interfaces, in one list: of each interface its own, and then its further
+-- ones.
 use Rattle.std.specs.Prelude.{ℕ, ◌+◌, ◌==◌, ◌&&◌, Bool, List, [], ◌∷◌, ◌++◌, map, Option, None, Some, if◌then◌else◌}
 use Rattle.rip_plan.specs.declared.addresses.Held.{Held}
 use Rattle.rip_plan.specs.declared.parts.Interface.{Interface}

@@ -29,8 +29,8 @@ pub(crate) struct DraftPlace {
 }
 
 /// What was read of a plan so far, and whether interfaces poison that do not say it. Beside the
-/// interfaces stand the further addresses of each and how many these are; beside the links the numbers
-/// of their names and, by link, the prefixes on them.
+/// interfaces stand the further addresses of each and how many these are; beside the links the
+/// numbers of their names and, by link, the prefixes on them.
 #[derive(Drop)]
 pub(crate) struct Draft {
     pub links: Vec<String>,

@@ -28,7 +28,8 @@ pub enum PlanCode {
     Prefix,
     /// The cost is below 1 or above 15, or the direct metric is below 1 or above the cost.
     Cost,
-    /// An earlier place of the prefix is on the same link, or touches a router that this one touches.
+    /// An earlier place of the prefix is on the same link, or touches a router that this one
+    /// touches.
     DuplicatePrefix,
     /// No link has the name that an interface or an own prefix gives, or the own prefix's router
     /// has no interface on the link.

@@ -255,8 +255,8 @@ pub(crate) fn fields_of_router<'a>(table: &'a Table) -> Option<(&'a str, &'a [Va
     Some((name, interfaces, owns))
 }
 
-/// The links and the routers of the document, at least one of each, and whether interfaces poison that
-/// do not say it.
+/// The links and the routers of the document, at least one of each, and whether interfaces poison
+/// that do not say it.
 #[tactic(auto, unfolding(crate::specs::Fields::root_fields))]
 pub(crate) fn fields_of_root<'a>(table: &'a Table) -> Option<(&'a [Value], &'a [Value], bool)>
     ensures { option_map (λ f. (map view f.0.now, map view f.1.now, f.2)) result

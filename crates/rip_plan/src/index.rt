@@ -100,8 +100,8 @@ pub(crate) fn carriers_of(
     Ok(carriers)
 }
 
-/// Writes the metric at which each router has the prefix by its first interface among the numbers. It
-/// goes backwards, so that the first one is written last.
+/// Writes the metric at which each router has the prefix by its first interface among the numbers.
+/// It goes backwards, so that the first one is written last.
 fn write_costs_on(
     costs: &mut [u8],
     interfaces: &[Interface],

@@ -27,8 +27,8 @@ pub fn limits()
     ensures cost { MOST_COST ≡ 15 }
 {}
 
-/// The interface that is found for a link and a sender is the one that has the address there, its own
-/// or a further one.
+/// The interface that is found for a link and a sender is the one that has the address there, its
+/// own or a further one.
 pub fn senders()
     ensures gives { (n : Network) (name : List ℕ) (a i : ℕ) →
         found_at n name a ≡ Some i → IsAt n name a i }
@@ -45,8 +45,8 @@ pub fn one_plan()
     rip_wire::laws::prefix_texts();
 }
 
-/// Bytes are refused exactly by the first of their faults, which is never Memory; and where they have
-/// none, they have a plan, which is lawful.
+/// Bytes are refused exactly by the first of their faults, which is never Memory; and where they
+/// have none, they have a plan, which is lawful.
 pub fn first_faults()
     ensures told { (bytes : List ℕ) (e : PlanError) →
         (first_fault bytes ≡ Some e) ↔ PlanFault bytes e }
@@ -61,8 +61,8 @@ pub fn first_faults()
     rip_wire::laws::prefix_texts();
 }
 
-/// Bytes have no fault exactly where they are well formed: a document of version 1 with the known keys,
-/// not too long, whose plan keeps the laws.
+/// Bytes have no fault exactly where they are well formed: a document of version 1 with the known
+/// keys, not too long, whose plan keeps the laws.
 pub fn well_formed_texts()
     ensures { (bytes : List ℕ) →
         ((e : PlanError) → IsFault bytes e → ⊥) ↔ IsWellFormed bytes }

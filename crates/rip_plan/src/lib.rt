@@ -1,4 +1,5 @@
-//! The plan of a RIP-2 network: routers, links, interfaces with their costs, and where prefixes stand.
+//! The plan of a RIP-2 network: routers, links, interfaces with their costs, and where prefixes
+//! stand.
 #![tactic(auto)]
 
 mod addresses;

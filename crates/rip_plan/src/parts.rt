@@ -18,8 +18,8 @@ pub struct Interface {
     pub cost: u8,
     /// The metric at which the router has the prefixes of the link, 1 to the cost.
     pub direct: u8,
-    /// Whether the router shows 16 on the link for what it has over it (RFC 2453, section 3.4.3: split
-    /// horizon with poisoned reverse); else it may leave that out there.
+    /// Whether the router shows 16 on the link for what it has over it (RFC 2453, section 3.4.3:
+    /// split horizon with poisoned reverse); else it may leave that out there.
     pub poison: bool,
 }
 
@@ -33,7 +33,8 @@ pub struct OwnPrefix {
     /// Whether the plan says that the router never gives the prefix up for an offer.
     pub kept: bool,
     /// The link of the router to which the prefix is attached: a connected network of the interface
-    /// there, beside the link's prefixes. The router keeps it, and does not tell of it on that link.
+    /// there, beside the link's prefixes. The router keeps it, and does not tell of it on that
+    /// link.
     pub link: Option<usize>,
     /// A gateway outside of the plan that the router may tell as next hop of the prefix.
     pub via: Option<Address>,

@@ -28,8 +28,8 @@ use std::collections::HashMap;
 use std::marker::Model;
 
 /// The plan of a RIP-2 network. Its links, routers and interfaces are numbered from 0 in the order
-/// of the plan's text, its places likewise, those of links before those of routers, and its prefixes
-/// in the order of their first place.
+/// of the plan's text, its places likewise, those of links before those of routers, and its
+/// prefixes in the order of their first place.
 #[derive(Drop)]
 pub struct Plan {
     links: Vec<String>,
@@ -38,10 +38,10 @@ pub struct Plan {
     also: Vec<Vec<Address>>,
     prefixes: Vec<Prefix>,
     places: Vec<Place>,
-    // Look-ups, so that no answer walks over the parts: the interfaces of each link and router, links
-    // by name, interfaces by link and address, prefixes, in rows one after another whether each link
-    // has each prefix, at which metric each router has it, and at which place as its own, and whether
-    // any router keeps a prefix.
+    // Look-ups, so that no answer walks over the parts: the interfaces of each link and router,
+    // links by name, interfaces by link and address, prefixes, in rows one after another whether
+    // each link has each prefix, at which metric each router has it, and at which place as its own,
+    // and whether any router keeps a prefix.
     on_link: Vec<Vec<usize>>,
     of_router: Vec<Vec<usize>>,
     names: HashMap<String, usize>,
@@ -128,8 +128,8 @@ fn read_plan(alloc: Global, bytes: &[u8]) -> Result<Plan, ReadError>
 
 impl Plan {
     /// Reads the text of a plan: a TOML document of at most 1,048,576 bytes. The answer is the plan
-    /// of the document where the text has no fault; else the first fault with its place, or Memory at
-    /// the text where a growth was refused. A text that is too long or not UTF-8 is refused as
+    /// of the document where the text has no fault; else the first fault with its place, or Memory
+    /// at the text where a growth was refused. A text that is too long or not UTF-8 is refused as
     /// such, and never with Memory.
     pub fn read(alloc: Global, bytes: &[u8]) -> Result<Plan, PlanError>
         ensures plan { IfOk result (λ plan. IsPlanOfText bytes.now plan) }
@@ -341,8 +341,8 @@ impl Plan {
         }
     }
 
-    /// The metric at which a router has a prefix of the plan, both by their numbers: on a link of its
-    /// own, or as its own prefix. `None` also where the plan has no such number.
+    /// The metric at which a router has a prefix of the plan, both by their numbers: on a link of
+    /// its own, or as its own prefix. `None` also where the plan has no such number.
     pub fn direct_cost(&self, router: usize, prefix: usize) -> Option<u8>
         ensures { (c : ℕ) → (result ≡ Some c) ↔ IsDirect self.now router prefix c }
     {

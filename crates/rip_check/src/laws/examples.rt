@@ -35,8 +35,8 @@ pub fn two_exits()
     rip_wire::laws::names();
 }
 
-/// A router that keeps a default route for which it is offered less: it is settled with its own, and
-/// not with the better one.
+/// A router that keeps a default route for which it is offered less: it is settled with its own,
+/// and not with the better one.
 pub fn keeper()
     ensures settled { IsSettledNetwork net.keeper (keeper_shown 5 5)
         (keeper_tables (route 5 Here)) }
@@ -55,7 +55,8 @@ pub fn second_prefix()
     rip_wire::laws::names();
 }
 
-/// A leaf, which can only show 16 of what it learned: its route is what it is offered, and no other.
+/// A leaf, which can only show 16 of what it learned: its route is what it is offered, and no
+/// other.
 pub fn leaf()
     ensures settled { IsSettledNetwork with_leaf leaf_shown leaf_tables }
     ensures hidden { FitsShown with_leaf leaf_shown 3 0 (route 2 (Over 1)) }
@@ -64,8 +65,8 @@ pub fn leaf()
     rip_wire::laws::names();
 }
 
-/// A link that costs its two routers differently: the cost of the interface on which a datagram comes
-/// in counts.
+/// A link that costs its two routers differently: the cost of the interface on which a datagram
+/// comes in counts.
 pub fn slope()
     ensures settled { IsSettledNetwork net.slope (slope_shown 6) (slope_tables 6) }
     ensures unsettled { IsUnsettledNetwork net.slope (slope_shown 2) (slope_tables 2) }
@@ -74,7 +75,8 @@ pub fn slope()
     rip_wire::laws::names();
 }
 
-/// Routers in a row, the first of which has a prefix: the fifteenth has metric 15, the sixteenth 16.
+/// Routers in a row, the first of which has a prefix: the fifteenth has metric 15, the sixteenth
+/// 16.
 pub fn chains()
     ensures fifteen { IsSettledNetwork (chain 15) (chain_shown 15) chain_tables }
     ensures metric_15 { IsLeast (chain 15) 0 14 15 }

@@ -10,7 +10,8 @@ pub returns-in-Some : goal.returns-in-Some
 returns-in-Some g c =
     let n = c.args.plan.now in
     let was = rw c.in-Err.is at c.requires.found in
-    next_some n c.args.prefix (IsReadable n (told c.args.plan.now (g.T.MetricTable.state c.args.table.now))) (Some (c.in-Err.router, c.in-Err.first)) c.in-Err.router refl was c.in-Some.sooner c.in-Some.ensures
+    next_some n c.args.prefix (IsReadable n (told c.args.plan.now (g.T.MetricTable.state c.args.table.now)))
+    (Some (c.in-Err.router, c.in-Err.first)) c.in-Err.router refl was c.in-Some.sooner c.in-Some.ensures
 
 pub returns-in-None : goal.returns-in-None
 returns-in-None g c =
@@ -22,7 +23,8 @@ pub returns-in-Err-first_failing : goal.returns-in-Err-first_failing
 returns-in-Err-first_failing g c =
     let n = c.args.plan.now in
     let was = rw c.in-Ok.is at c.requires.found in
-    next_some n c.args.prefix (IsReadable n (told c.args.plan.now (g.T.MetricTable.state c.args.table.now))) None (length n.routers) refl was.0 c.in-Err-first_failing.router c.in-Err-first_failing.ensures.unreadable
+    next_some n c.args.prefix (IsReadable n (told c.args.plan.now (g.T.MetricTable.state c.args.table.now))) None
+    (length n.routers) refl was.0 c.in-Err-first_failing.router c.in-Err-first_failing.ensures.unreadable
 
 pub returns-in-Ok-Some : goal.returns-in-Ok-Some
 returns-in-Ok-Some g c =

@@ -87,6 +87,7 @@ returns-then-not-has_more c = λ r lt.
     let telling = c.tell_metric.ensures.telling in
     let settled = settled_more left p sound m xs ys c.tell_metric.new.marks was.settled telling (c.tell_metric.ensures.told was.told)
     (λ r lt e. c.tell_metric.ensures.all r (omega (arith, lt, left_routers n f)) e) in
-    let all = settled_all left p sound m ys settled (λ r lt more. c.has_more.ensures c.if-not-has_more.true r (omega (arith, lt, left_routers n f, c.tell_metric.auto.metrics, c.loop-metric.auto.metrics, c.fill_direct.auto.metrics, c.requires)) more) in
+    let all = settled_all left p sound m ys settled (λ r lt more. c.has_more.ensures c.if-not-has_more.true r
+    (omega (arith, lt, left_routers n f, c.tell_metric.auto.metrics, c.loop-metric.auto.metrics, c.fill_direct.auto.metrics, c.requires)) more) in
     settled_least left p sound ys all (telling_reached left p sound m xs ys (omega (arith, c.loop-metric-test.true, c.loop-metric.auto.metric-end)) telling was.reached)
     (λ r d direct. omega (arith, telling.at_most r, was.direct r d direct)) r (omega (arith, lt, left_routers n f))

@@ -16,13 +16,15 @@ blank = record { least = 0; by = 0; next = 0 }
 known_there : (n : Network) (shown : State) (r l c p : ℕ) (links : List TwoLeast) → IsLawful n → HasCost n r l c → AreLeastShown n shown p links → l < length links
 known_there n shown r l c p links lawful cost known = omega (arith, lawful.link_known cost.0 r l c cost.1, known.0)
 
-least_there : (n : Network) (shown : State) (r l c p : ℕ) (links : List TwoLeast) → IsLawful n → HasCost n r l c → AreLeastShown n shown p links → IsTwoLeast n (shown_of shown p) l (length n.interfaces) (get_or links l blank)
+least_there : (n : Network) (shown : State) (r l c p : ℕ) (links : List TwoLeast) → IsLawful n → HasCost n r l c → AreLeastShown n shown p links →
+    IsTwoLeast n (shown_of shown p) l (length n.interfaces) (get_or links l blank)
 least_there n shown r l c p links lawful cost known = known.1 l _ (slice_get-get_or links l blank (known_there n shown r l c p links lawful cost known))
 
 pub bounds-links-own : goal.bounds-links-own
 bounds-links-own g c =
     let own = c.args.own in
-    known_there c.args.plan.now (told c.args.plan.now (g.T.MetricTable.state c.args.table.now)) own.router own.link own.cost c.args.prefix c.in-Some.links.now c.lawful.ensures c.requires.own (rw c.in-Some.is at c.requires.links)
+    known_there c.args.plan.now (told c.args.plan.now (g.T.MetricTable.state c.args.table.now)) own.router own.link own.cost c.args.prefix c.in-Some.links.now c.lawful.ensures c.requires.own
+    (rw c.in-Some.is at c.requires.links)
 
 pub offset_bounds-links-own : goal.offset_bounds-links-own
 offset_bounds-links-own g c =
@@ -32,13 +34,15 @@ offset_bounds-links-own g c =
 pub least_told-requires-clause-least : goal.least_told-requires-clause-least
 least_told-requires-clause-least g c =
     let own = c.args.own in
-    let is = least_there c.args.plan.now (told c.args.plan.now (g.T.MetricTable.state c.args.table.now)) own.router own.link own.cost c.args.prefix c.in-Some.links.now c.lawful.ensures c.requires.own (rw c.in-Some.is at c.requires.links) in
+    let is = least_there c.args.plan.now (told c.args.plan.now (g.T.MetricTable.state c.args.table.now)) own.router own.link own.cost c.args.prefix c.in-Some.links.now c.lawful.ensures c.requires.own
+    (rw c.in-Some.is at c.requires.links) in
     omega (arith, is.order, is.most)
 
 pub least_told-requires-clause-next : goal.least_told-requires-clause-next
 least_told-requires-clause-next g c =
     let own = c.args.own in
-    (least_there c.args.plan.now (told c.args.plan.now (g.T.MetricTable.state c.args.table.now)) own.router own.link own.cost c.args.prefix c.in-Some.links.now c.lawful.ensures c.requires.own (rw c.in-Some.is at c.requires.links)).most
+    (least_there c.args.plan.now (told c.args.plan.now (g.T.MetricTable.state c.args.table.now)) own.router own.link own.cost c.args.prefix c.in-Some.links.now c.lawful.ensures c.requires.own
+    (rw c.in-Some.is at c.requires.links)).most
 
 pub returns-in-Some-clause-least : goal.returns-in-Some-clause-least
 returns-in-Some-clause-least g c = λ s v o.

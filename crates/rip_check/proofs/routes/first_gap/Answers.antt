@@ -35,4 +35,5 @@ loop-i-preserved g c =
 pub returns-clause-none : goal.returns-clause-none
 returns-clause-none g c =
     let cell = metric_at (told c.args.plan.now (g.T.MetricTable.state c.args.table.now)) in
-    every c.args.plan.now c.args.router c.of_router-numbers.result.now c.of_router-numbers.ensures.exact (λ j k. cell j c.args.prefix ≡ None → ⊥) c.loop-i.i-index c.loop-i-test.false c.loop-i.invariant
+    every c.args.plan.now c.args.router c.of_router-numbers.result.now c.of_router-numbers.ensures.exact
+    (λ j k. cell j c.args.prefix ≡ None → ⊥) c.loop-i.i-index c.loop-i-test.false c.loop-i.invariant

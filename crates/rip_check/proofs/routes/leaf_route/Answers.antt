@@ -18,10 +18,12 @@ bounds-of_router-0 g c =
 
 pub interface-own-requires : goal.interface-own-requires
 interface-own-requires g c =
-    its_number c.args.plan.now c.args.router c.of_router.result.now c.of_router.ensures.exact 0 (some_number c.args.plan.now c.args.router c.of_router.result.now c.of_router.ensures.exact c.requires.leaf.0 c.requires.leaf.1 c.requires.leaf.2 c.requires.leaf.3)
+    its_number c.args.plan.now c.args.router c.of_router.result.now c.of_router.ensures.exact 0
+    (some_number c.args.plan.now c.args.router c.of_router.result.now c.of_router.ensures.exact c.requires.leaf.0 c.requires.leaf.1 c.requires.leaf.2 c.requires.leaf.3)
 
 pub told_at-told-requires-clause-interface : goal.told_at-told-requires-clause-interface
-told_at-told-requires-clause-interface g c = within c.args.plan.now (get_or c.of_router.result.now 0 0) c.interface-own.result.router c.interface-own.result.link c.interface-own.result.cost c.interface-own.ensures.is
+told_at-told-requires-clause-interface g c =
+    within c.args.plan.now (get_or c.of_router.result.now 0 0) c.interface-own.result.router c.interface-own.result.link c.interface-own.result.cost c.interface-own.ensures.is
 
 pub returns-then-eq : goal.returns-then-eq
 returns-then-eq g c =
@@ -128,7 +130,8 @@ returns-then-least-lt16 g c =
     let e : metric_at shown i c.args.prefix ≡ Some 16 =
     poison_is (metric_at shown i c.args.prefix) c.in-Some-2.field-0 silent (sym {b = metric_at shown i c.args.prefix} c.told_at-told.ensures.metric ∙ same ∙ c.in-Some-2.is) in
     let off = not_from_Decides c.may_hold_back.result (c.may_hold_back.ensures c.args.router c.attached_link-attached.ensures) c.if-may_hold_back.false in
-    let so = least_offer n shown c.args.router i c.args.prefix own only.0 only.1 c.best_over-least.result c.best_over-least.ensures.at_most c.best_over-least.ensures.least c.best_over-least.ensures.chosen in
+    let so = least_offer n shown c.args.router i c.args.prefix own only.0 only.1 c.best_over-least.result c.best_over-least.ensures.at_most c.best_over-least.ensures.least
+    c.best_over-least.ensures.chosen in
     record {
       most = c.best_over-least.ensures.at_most;
       fits = over_fits n shown c.args.router i c.args.prefix own only.0 only.1 c.lawful.ensures e off c.best_over-least.result so c.if-least-lt16.true;
@@ -156,7 +159,8 @@ returns-else-least-lt16 g c =
     let e : metric_at shown i c.args.prefix ≡ Some 16 =
     poison_is (metric_at shown i c.args.prefix) c.in-Some-2.field-0 silent (sym {b = metric_at shown i c.args.prefix} c.told_at-told.ensures.metric ∙ same ∙ c.in-Some-2.is) in
     let off = not_from_Decides c.may_hold_back.result (c.may_hold_back.ensures c.args.router c.attached_link-attached.ensures) c.if-may_hold_back.false in
-    let so = least_offer n shown c.args.router i c.args.prefix own only.0 only.1 c.best_over-least.result c.best_over-least.ensures.at_most c.best_over-least.ensures.least c.best_over-least.ensures.chosen in
+    let so = least_offer n shown c.args.router i c.args.prefix own only.0 only.1 c.best_over-least.result c.best_over-least.ensures.at_most c.best_over-least.ensures.least
+    c.best_over-least.ensures.chosen in
     let is : c.best_over-least.result ≡ 16 = omega (arith, c.best_over-least.ensures.at_most, c.if-least-lt16.false) in
     let so' : IsLeastOffer n shown c.args.router c.args.prefix 16 = rw is at so in
     record {

@@ -28,7 +28,8 @@ module _ (n : Network) (plan : IsLawful n) (shown : State) (range : IsInRange n 
   only known (Some t) h =
       inr (λ u tells. one_route n plan shown r p u (route_of t) known (two_fits n plan shown range r p u two tells) (two_fits n plan shown range r p (route_of t) two h))
 
-unreadable : (n : Network) → IsLawful n → (shown : State) → IsInRange n shown → (r p : ℕ) (o : Option ReadRoute) → IfNone o ((t : Route) → Tells n shown r p t → ⊥) → IfNone o (IsReadable n shown r p → ⊥)
+unreadable : (n : Network) → IsLawful n → (shown : State) → IsInRange n shown → (r p : ℕ) (o : Option ReadRoute) → IfNone o ((t : Route) → Tells n shown r p t → ⊥) →
+    IfNone o (IsReadable n shown r p → ⊥)
 unreadable n plan shown range r p None h = not_readable n plan shown range r p h
 unreadable n plan shown range r p (Some t) h = tt
 

@@ -4,7 +4,9 @@ use Rattle.rip_check.proofs.surveys.add_shown.Goals as goal
 use Rattle.rip_check.proofs.surveys.add_shown.Goals.{in_default-via-in-Some+else-metric-lt16, in_default-via-in_default}
 
 pub returns-in-Some : goal.returns-in-Some
-returns-in-Some c = λ t r i d was its seen exact. c.add_speech.ensures c.args.plan.now t r i c.args.link d c.args.prefix was its (seen ∙ c.in-Some.is) (attached_test c.args.plan.now r c.args.prefix c.args.link c.args.attached c.eq.result exact c.eq.ensures)
+returns-in-Some c =
+    λ t r i d was its seen exact. c.add_speech.ensures c.args.plan.now t r i c.args.link d c.args.prefix was its (seen ∙ c.in-Some.is)
+    (attached_test c.args.plan.now r c.args.prefix c.args.link c.args.attached c.eq.result exact c.eq.ensures)
 
 pub returns-in_default : goal.returns-in_default
 returns-in_default c = λ t r i d was its seen exact.

@@ -16,9 +16,11 @@ is_cut_from-requires-clause-router c =
 pub loop-j-preserved : goal.loop-j-preserved
 loop-j-preserved c =
     let Q : ℕ → ℕ → Type 0 = λ r d. IsStep c.args.plan.now c.args.prefix r d c.args.failed → KeepsWay c.args.plan.now (Router c.args.failed) c.args.prefix r in
-    one_across c.args.plan.now c.args.link c.on_link-numbers.result.now c.on_link-numbers.ensures.exact Q c.loop-j.j-index c.interface-own.result c.interface-own.ensures.is (c.is_cut_from.ensures c.if-is_cut_from.false) c.loop-j.invariant
+    one_across c.args.plan.now c.args.link c.on_link-numbers.result.now c.on_link-numbers.ensures.exact Q c.loop-j.j-index c.interface-own.result c.interface-own.ensures.is
+    (c.is_cut_from.ensures c.if-is_cut_from.false) c.loop-j.invariant
 
 pub returns : goal.returns
 returns c =
     let Q : ℕ → ℕ → Type 0 = λ r d. IsStep c.args.plan.now c.args.prefix r d c.args.failed → KeepsWay c.args.plan.now (Router c.args.failed) c.args.prefix r in
-    λ e r d has. all_across c.args.plan.now c.args.link c.on_link-numbers.result.now c.on_link-numbers.ensures.exact Q c.loop-j.j-index (omega (arith, c.loop-j-test.false, c.loop-j.auto.j-index-end)) c.loop-j.invariant r d has
+    λ e r d has. all_across c.args.plan.now c.args.link c.on_link-numbers.result.now c.on_link-numbers.ensures.exact Q c.loop-j.j-index
+    (omega (arith, c.loop-j-test.false, c.loop-j.auto.j-index-end)) c.loop-j.invariant r d has

@@ -15,9 +15,11 @@ is_step-requires-clause-next c =
 pub loop-j-preserved : goal.loop-j-preserved
 loop-j-preserved c =
     let Q : ℕ → ℕ → Type 0 = λ s d. IsStep c.args.plan.now c.args.prefix c.args.router c.args.cost s → ⊥ in
-    one_across c.args.plan.now c.args.link c.on_link-numbers.result.now c.on_link-numbers.ensures.exact Q c.loop-j.j-index c.interface-across.result c.interface-across.ensures.is (c.is_step.ensures c.if-is_step.false) c.loop-j.invariant
+    one_across c.args.plan.now c.args.link c.on_link-numbers.result.now c.on_link-numbers.ensures.exact Q c.loop-j.j-index c.interface-across.result c.interface-across.ensures.is
+    (c.is_step.ensures c.if-is_step.false) c.loop-j.invariant
 
 pub returns : goal.returns
 returns c =
     let Q : ℕ → ℕ → Type 0 = λ s d. IsStep c.args.plan.now c.args.prefix c.args.router c.args.cost s → ⊥ in
-    λ e s on. all_across c.args.plan.now c.args.link c.on_link-numbers.result.now c.on_link-numbers.ensures.exact Q c.loop-j.j-index (omega (arith, c.loop-j-test.false, c.loop-j.auto.j-index-end)) c.loop-j.invariant s on.0 on.1
+    λ e s on. all_across c.args.plan.now c.args.link c.on_link-numbers.result.now c.on_link-numbers.ensures.exact Q c.loop-j.j-index
+    (omega (arith, c.loop-j-test.false, c.loop-j.auto.j-index-end)) c.loop-j.invariant s on.0 on.1

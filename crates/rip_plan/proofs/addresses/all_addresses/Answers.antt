@@ -22,7 +22,8 @@ loop-i-preserved c =
     let read : items further ≡ get_or also i (items further) = ap items c.index-also-i.is ∙ sym (get_or-map items c.args.also.now i further (items further) within) in
     let two : drop i also ≡ items further ∷ drop (i + 1) also = next also i (items further) (omega (arith, within, length-map c.args.also.now items)) read in
     let rest = held_from (i + 1) (drop (i + 1) is) (drop (i + 1) also) in
-    let front : held_from i (drop i is) (drop i also) ≡ held_by i x (items further) ++ rest = ap (λ (xs : List Interface). held_from i xs (drop i also)) one ∙ ap (held_from i (x ∷ drop (i + 1) is)) two in
+    let front : held_from i (drop i is) (drop i also) ≡ held_by i x (items further) ++ rest =
+    ap (λ (xs : List Interface). held_from i xs (drop i also)) one ∙ ap (held_from i (x ∷ drop (i + 1) is)) two in
     ap (λ hs. hs ++ rest) c.in_ok-add_addresses.ensures
     ∙ ap (λ (own : List ℕ). (c.loop-i.held.items ++ held_by i x own) ++ rest) c.as_slice.ensures.value
     ∙ append_assoc c.loop-i.held.items (held_by i x (items further)) rest
@@ -33,4 +34,5 @@ pub returns : goal.returns
 returns c =
     let items = λ (w : Vec ℕ Global). w.items in
     let none : drop c.loop-i.i c.args.interfaces.now ≡ [] = drop_all c.loop-i.i c.args.interfaces.now c.loop-i-test.false in
-    sym (append-nil c.loop-i.held.items) ∙ ap (λ (rest : List Interface). c.loop-i.held.items ++ held_from c.loop-i.i rest (drop c.loop-i.i (map items c.args.also.now))) (sym none) ∙ c.loop-i.invariant
+    sym (append-nil c.loop-i.held.items) ∙ ap (λ (rest : List Interface). c.loop-i.held.items ++ held_from c.loop-i.i rest (drop c.loop-i.i (map items c.args.also.now))) (sym none)
+    ∙ c.loop-i.invariant

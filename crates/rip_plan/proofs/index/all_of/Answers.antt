@@ -8,7 +8,8 @@ pub index_mut-requires : goal.index_mut-requires
 index_mut-requires c =
     let x = c.index-interfaces-i.result in
     let below : x.router < c.args.routers = rw (← c.index-interfaces-i.is) at (c.requires c.loop-i.i x (omega arith)) in
-    let within = kept_within (λ (w : Vec ℕ Global). w.items) c.loop-i.all.items c.args.routers (λ k. numbers_where (is_of k) 0 (take c.loop-i.i c.args.interfaces.now)) x.router c.loop-i.invariant below in
+    let within = kept_within (λ (w : Vec ℕ Global). w.items) c.loop-i.all.items c.args.routers
+    (λ k. numbers_where (is_of k) 0 (take c.loop-i.i c.args.interfaces.now)) x.router c.loop-i.invariant below in
     omega arith
 
 pub loop-i-preserved : goal.loop-i-preserved

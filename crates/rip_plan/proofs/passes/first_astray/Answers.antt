@@ -9,7 +9,8 @@ use Rattle.rip_plan.proofs.passes.first_astray.Goals as goal
 pub returns-then-is_astray : goal.returns-then-is_astray
 returns-then-is_astray c =
     let test = λ (p : DraftPlace). is_astray c.args.interfaces.now p.seat in
-    ap (option_map (λ (p : DraftPlace). p.at)) (found_here test c.args.places.now c.loop-k.k c.index-places-k.result c.loop-k-test.true c.index-places-k.is _ (sym c.is_astray.ensures ∙ c.if-is_astray.true) c.loop-k.invariant)
+    ap (option_map (λ (p : DraftPlace). p.at)) (found_here test c.args.places.now c.loop-k.k c.index-places-k.result c.loop-k-test.true c.index-places-k.is _
+    (sym c.is_astray.ensures ∙ c.if-is_astray.true) c.loop-k.invariant)
 
 pub loop-k-preserved : goal.loop-k-preserved
 loop-k-preserved c =

@@ -11,7 +11,8 @@ pub returns-then-not-branch : goal.returns-then-not-branch
 returns-then-not-branch c =
     let x = c.index-interfaces-k.result in
     let seen : contains pair_eq c.loop-k.seen (x.interface.router, x.interface.link) ≡ true = not_added _ c.in_ok-insert.field-0 c.in_ok-insert.ensures.added c.if-not-branch.true in
-    ap (option_map (λ (i : DraftInterface). i.at)) (clash_here are_twice c.args.interfaces.now c.loop-k.k x c.loop-k-test.true c.index-interfaces-k.is _ (sym (c.loop-k.invariant.1 x.interface.router x.interface.link) ∙ seen) c.loop-k.invariant.0)
+    ap (option_map (λ (i : DraftInterface). i.at)) (clash_here are_twice c.args.interfaces.now c.loop-k.k x c.loop-k-test.true c.index-interfaces-k.is _
+    (sym (c.loop-k.invariant.1 x.interface.router x.interface.link) ∙ seen) c.loop-k.invariant.0)
 
 pub loop-k-preserved : goal.loop-k-preserved
 loop-k-preserved c =

@@ -6,7 +6,8 @@ use Rattle.rip_plan.proofs.passes.first_without_interface.Goals as goal
 
 pub returns-then-not-has_interface : goal.returns-then-not-has_interface
 returns-then-not-has_interface c =
-    ap (option_map (λ r. Router (r + 1))) (bare_here c.args.interfaces.now c.args.routers c.loop-r.r _ c.loop-r-test.true (ap not (sym c.has_interface.ensures ∙ c.if-not-has_interface.true)) c.loop-r.invariant)
+    ap (option_map (λ r. Router (r + 1))) (bare_here c.args.interfaces.now c.args.routers c.loop-r.r _ c.loop-r-test.true
+    (ap not (sym c.has_interface.ensures ∙ c.if-not-has_interface.true)) c.loop-r.invariant)
 
 pub loop-r-preserved : goal.loop-r-preserved
 loop-r-preserved c = bare_later c.args.interfaces.now c.args.routers c.loop-r.r _ c.loop-r-test.true (ap not (sym c.has_interface.ensures ∙ c.if-not-has_interface.false)) c.loop-r.invariant

@@ -11,7 +11,12 @@ pub overflow_add-impact : goal.overflow_add-impact
 overflow_add-impact c =
     let n = c.args.plan.now in
     let part : c.part_of-part.result.lost ≤ 1024 =
-    omega (arith, count_most (IsLost n c.args.failure c.loop-router.router) (length n.prefixes) c.part_of-part.result.lost c.part_of-part.ensures.lost, few_prefixes n c.lawful.ensures, c.lawful.ensures.few_places) in
+    omega (
+      arith,
+      count_most (IsLost n c.args.failure c.loop-router.router) (length n.prefixes) c.part_of-part.result.lost c.part_of-part.ensures.lost,
+      few_prefixes n c.lawful.ensures,
+      c.lawful.ensures.few_places,
+    ) in
     let routers : c.loop-router.router ≤ 128 = omega (arith, c.loop-router-test.true, c.routers-router-end.ensures, c.lawful.ensures.few_routers) in
     omega (arith, part, routers, c.loop-router.invariant.few_lost)
 
@@ -19,7 +24,12 @@ pub overflow_add-impact-in-loop-router : goal.overflow_add-impact-in-loop-router
 overflow_add-impact-in-loop-router c =
     let n = c.args.plan.now in
     let part : c.part_of-part.result.longer ≤ 1024 =
-    omega (arith, count_most (λ p. (w : ℕ) × IsLonger n c.args.failure c.loop-router.router p w) (length n.prefixes) c.part_of-part.result.longer c.part_of-part.ensures.longer, few_prefixes n c.lawful.ensures, c.lawful.ensures.few_places) in
+    omega (
+      arith,
+      count_most (λ p. (w : ℕ) × IsLonger n c.args.failure c.loop-router.router p w) (length n.prefixes) c.part_of-part.result.longer c.part_of-part.ensures.longer,
+      few_prefixes n c.lawful.ensures,
+      c.lawful.ensures.few_places,
+    ) in
     let routers : c.loop-router.router ≤ 128 = omega (arith, c.loop-router-test.true, c.routers-router-end.ensures, c.lawful.ensures.few_routers) in
     omega (arith, part, routers, c.loop-router.invariant.few_longer)
 

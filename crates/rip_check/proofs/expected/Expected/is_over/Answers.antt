@@ -44,7 +44,8 @@ loop-j-preserved c =
           more (λ other v least e off.
           let same : w.number.result ≡ v = one_least n c.args.prefix x.router w.number.result v w.number.ensures least in
           w.if-from-number.false (omega (arith, w.from.ensures, same, e))) c.loop-j.invariant
-      | else-across-own-via-then-across-own+then-from-number+else-ne w ↦ more (λ other v least e off. off ((attached_ne n x.router c.args.prefix own.link w.attached_link.result w.ne.result w.attached_link.ensures w.ne.ensures).1 w.if-ne.false)) c.loop-j.invariant
+      | else-across-own-via-then-across-own+then-from-number+else-ne w ↦ more (λ other v least e off. off
+          ((attached_ne n x.router c.args.prefix own.link w.attached_link.result w.ne.result w.attached_link.ensures w.ne.ensures).1 w.if-ne.false)) c.loop-j.invariant
       | else-across-own-via-else-across-own w ↦ more (λ other. absurd (other w.if-across-own.false)) c.loop-j.invariant
     ]
 

@@ -17,6 +17,7 @@ loop-router-preserved c =
     let n = c.args.plan.now in
     let part : c.unreachable_of-total.result ≤ 1024 = omega (arith, c.unreachable_of-total.ensures.most, few_prefixes n c.lawful.ensures, c.lawful.ensures.few_places) in
     record {
-      summed = adds (λ r. IsCount (λ p. IsLeast n p r 16) (length n.prefixes)) c.loop-router.router c.loop-router.total c.unreachable_of-total.result c.unreachable_of-total.ensures.count c.loop-router.invariant.summed;
+      summed = adds (λ r. IsCount (λ p. IsLeast n p r 16)
+          (length n.prefixes)) c.loop-router.router c.loop-router.total c.unreachable_of-total.result c.unreachable_of-total.ensures.count c.loop-router.invariant.summed;
       few = omega (arith, part, c.loop-router.invariant.few);
     }

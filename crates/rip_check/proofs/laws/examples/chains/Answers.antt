@@ -45,4 +45,35 @@ hop r a b here there way value =
     record { link = suc r; way = way; offer = record { neighbour = neighbour; cost = 1; here = (2 * r + 2, own); interface = 2 * r + 1; its_cost = 1; there = its; value = value } }
 
 pub returns-clause-walk : goal.returns-clause-walk
-returns-clause-walk c = (omega arith, omega arith, (hop 13 _ _ refl refl refl refl, (hop 12 _ _ refl refl refl refl, (hop 11 _ _ refl refl refl refl, (hop 10 _ _ refl refl refl refl, (hop 9 _ _ refl refl refl refl, (hop 8 _ _ refl refl refl refl, (hop 7 _ _ refl refl refl refl, (hop 6 _ _ refl refl refl refl, (hop 5 _ _ refl refl refl refl, (hop 4 _ _ refl refl refl refl, (hop 3 _ _ refl refl refl refl, (hop 2 _ _ refl refl refl refl, (hop 1 _ _ refl refl refl refl, (hop 0 _ _ refl refl refl refl, tt)))))))))))))))
+returns-clause-walk c = (
+  omega arith,
+  omega arith,
+  (
+    hop 13 _ _ refl refl refl refl,
+    (
+      hop 12 _ _ refl refl refl refl,
+      (
+        hop 11 _ _ refl refl refl refl,
+        (
+          hop 10 _ _ refl refl refl refl,
+          (
+            hop 9 _ _ refl refl refl refl,
+            (
+              hop 8 _ _ refl refl refl refl,
+              (
+                hop 7 _ _ refl refl refl refl,
+                (
+                  hop 6 _ _ refl refl refl refl,
+                  (
+                    hop 5 _ _ refl refl refl refl,
+                    (hop 4 _ _ refl refl refl refl, (hop 3 _ _ refl refl refl refl, (hop 2 _ _ refl refl refl refl, (hop 1 _ _ refl refl refl refl, (hop 0 _ _ refl refl refl refl, tt))))),
+                  ),
+                ),
+              ),
+            ),
+          ),
+        ),
+      ),
+    ),
+  ),
+)

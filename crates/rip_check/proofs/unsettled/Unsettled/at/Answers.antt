@@ -34,14 +34,16 @@ pub returns-in_default-clause-none : goal.returns-in_default-clause-none
 returns-in_default-clause-none g c =
     let n = c.args.plan.now in
     let s = told c.args.plan.now (g.T.MetricTable.state c.args.table.now) in
-    let is = mark_at n s c.args.self.now c.requires.places c.args.router c.args.prefix c.prefix_count.result c.index.result.now c.prefix_count.ensures c.requires.router c.requires.prefix c.index.ensures in
+    let is = mark_at n s c.args.self.now c.requires.places c.args.router c.args.prefix c.prefix_count.result c.index.result.now c.prefix_count.ensures c.requires.router c.requires.prefix
+    c.index.ensures in
     rw c.in_default.is at is.sound
 
 pub unwrap-route-requires : goal.unwrap-route-requires
 unwrap-route-requires g c =
     let n = c.args.plan.now in
     let s = told c.args.plan.now (g.T.MetricTable.state c.args.table.now) in
-    let is = mark_at n s c.args.self.now c.requires.places c.args.router c.args.prefix c.prefix_count.result c.index.result.now c.prefix_count.ensures c.requires.router c.requires.prefix c.index.ensures in
+    let is = mark_at n s c.args.self.now c.requires.places c.args.router c.args.prefix c.prefix_count.result c.index.result.now c.prefix_count.ensures c.requires.router c.requires.prefix
+    c.index.ensures in
     let failing = failing_at n s c.args.router c.args.prefix c.in-Some.equation c.index.result.now c.in-Some.is is in
     there _ c.read.result c.read.ensures.none (fits_readable n c.lawful.ensures s c.in_range.ensures c.args.router c.args.prefix failing.2.route c.requires.router failing.2.fits)
 
@@ -49,7 +51,8 @@ pub place_of-requires-clause-equation : goal.place_of-requires-clause-equation
 place_of-requires-clause-equation g c =
     let n = c.args.plan.now in
     let s = told c.args.plan.now (g.T.MetricTable.state c.args.table.now) in
-    let is = mark_at n s c.args.self.now c.requires.places c.args.router c.args.prefix c.prefix_count.result c.index.result.now c.prefix_count.ensures c.requires.router c.requires.prefix c.index.ensures in
+    let is = mark_at n s c.args.self.now c.requires.places c.args.router c.args.prefix c.prefix_count.result c.index.result.now c.prefix_count.ensures c.requires.router c.requires.prefix
+    c.index.ensures in
     let failing = failing_at n s c.args.router c.args.prefix c.in-Some.equation c.index.result.now c.in-Some.is is in
     (omega (arith, failing.0, c.from.ensures), omega (arith, failing.1, c.from.ensures))
 

@@ -17,8 +17,10 @@ invariant_of-draft-2 c =
     let key = c.in_ok-key.key in
     let same : c.reserve.new.self.items ≡ links = c.reserve.ensures.items in
     let room = c.push.ensures.succeeds (omega (arith, c.in_ok-reserve.ensures.ok)) in
-    let pushed : c.push.new.self.items ≡ c.reserve.new.self.items ++ kept ∷ [] = when_ok c.push.result (c.reserve.new.self.items ++ kept ∷ []) c.reserve.new.self.items c.push.new.self.items room c.push.ensures.items in
-    let seen : map string_bytes c.push.new.self.items ≡ names ++ name ∷ [] = ap (map string_bytes) pushed ∙ map_push string_bytes c.reserve.new.self.items kept ∙ rw (same, c.in_ok-kept.ensures.ok) refl in
+    let pushed : c.push.new.self.items ≡ c.reserve.new.self.items ++ kept ∷ [] =
+    when_ok c.push.result (c.reserve.new.self.items ++ kept ∷ []) c.reserve.new.self.items c.push.new.self.items room c.push.ensures.items in
+    let seen : map string_bytes c.push.new.self.items ≡ names ++ name ∷ [] =
+    ap (map string_bytes) pushed ∙ map_push string_bytes c.reserve.new.self.items kept ∙ rw (same, c.in_ok-kept.ensures.ok) refl in
     let number : c.len.result ≡ length names = omega (arith, length-map links string_bytes, ap length same) in
     record {
       listed = c.args.draft.now.listed;

@@ -17,7 +17,8 @@ outside_by : (l a : ℕ) (places : List DraftPlace) (blocks : List Block) → bl
 outside_by l a places blocks h =
     let test = λ (p : DraftPlace). is_on l p.seat in
     let some : list_any test places ≡ list_any (λ b. true) blocks = any_kept (λ (p : DraftPlace). p.prefix) test places ∙ ap (list_any (λ b. true)) (sym h) in
-    let inside : list_any (λ b. has_address b a) blocks ≡ list_any (λ p. test p && has_address p.prefix a) places = ap (list_any (λ b. has_address b a)) h ∙ any_listed (λ (p : DraftPlace). p.prefix) test (λ b. has_address b a) places in
+    let inside : list_any (λ b. has_address b a) blocks ≡ list_any (λ p. test p && has_address p.prefix a) places =
+    ap (list_any (λ b. has_address b a)) h ∙ any_listed (λ (p : DraftPlace). p.prefix) test (λ b. has_address b a) places in
     rw (← some, inside) refl
 
 any_some : (blocks : List Block) → (length blocks ≡ 0 → ⊥) → list_any (λ b. true) blocks ≡ true
@@ -27,7 +28,8 @@ any_some (b ∷ bs) h = refl
 pub returns-then-not-is_empty : goal.returns-then-not-is_empty
 returns-then-not-is_empty c =
     let blocks = c.in-Some.prefixes.now.items in
-    let kept : blocks ≡ map (λ p. p.prefix) (filter (λ p. is_on c.args.link p.seat) c.args.draft.now.places.items) = ap (λ (o : Option (Vec Block Global)). option_map_or (λ v. v.items) o []) c.in-Some.ensures.value ∙ c.args.draft.now.blocked c.args.link in
+    let kept : blocks ≡ map (λ p. p.prefix) (filter (λ p. is_on c.args.link p.seat) c.args.draft.now.places.items) =
+    ap (λ (o : Option (Vec Block Global)). option_map_or (λ v. v.items) o []) c.in-Some.ensures.value ∙ c.args.draft.now.blocked c.args.link in
     let len : c.in-Some.prefixes.now.len ≡ length blocks = omega (arith, ap length c.as_slice.ensures.value, c.as_slice.ensures.len) in
     let some : list_any (λ b. true) blocks ≡ true = any_some blocks (λ e. let zero : c.in-Some.prefixes.now.len ≡ 0 = len ∙ e in grind (arith, nat_tests)) in
     let has : c.has_address_in.result ≡ list_any (λ b. has_address b c.args.address) blocks = c.has_address_in.ensures ∙ ap (list_any (λ b. has_address b c.args.address)) c.as_slice.ensures.value in
@@ -36,11 +38,14 @@ returns-then-not-is_empty c =
 pub returns-else-not-is_empty : goal.returns-else-not-is_empty
 returns-else-not-is_empty c =
     let blocks = c.in-Some.prefixes.now.items in
-    let kept : blocks ≡ map (λ p. p.prefix) (filter (λ p. is_on c.args.link p.seat) c.args.draft.now.places.items) = ap (λ (o : Option (Vec Block Global)). option_map_or (λ v. v.items) o []) c.in-Some.ensures.value ∙ c.args.draft.now.blocked c.args.link in
+    let kept : blocks ≡ map (λ p. p.prefix) (filter (λ p. is_on c.args.link p.seat) c.args.draft.now.places.items) =
+    ap (λ (o : Option (Vec Block Global)). option_map_or (λ v. v.items) o []) c.in-Some.ensures.value ∙ c.args.draft.now.blocked c.args.link in
     let zero : c.in-Some.prefixes.now.len ≡ 0 = grind (arith, nat_tests) in
     let none : blocks ≡ [] = nil_from_length blocks (omega (arith, c.in-Some.prefixes.now.ok)) in
-    rw c.if-not-is_empty.false (ap (λ bs. list_any (λ b. true) bs && not (list_any (λ b. has_address b c.args.address) bs)) (sym none) ∙ outside_by c.args.link c.args.address c.args.draft.now.places.items blocks kept)
+    rw c.if-not-is_empty.false (ap (λ bs. list_any (λ b. true) bs && not (list_any (λ b. has_address b c.args.address) bs)) (sym none)
+    ∙ outside_by c.args.link c.args.address c.args.draft.now.places.items blocks kept)
 
 pub returns-in-None : goal.returns-in-None
 returns-in-None c =
-    outside_by c.args.link c.args.address c.args.draft.now.places.items [] (ap (λ (o : Option (Vec Block Global)). option_map_or (λ v. v.items) o []) c.in-None.ensures.value ∙ c.args.draft.now.blocked c.args.link)
+    outside_by c.args.link c.args.address c.args.draft.now.places.items [] (ap (λ (o : Option (Vec Block Global)). option_map_or (λ v. v.items) o []) c.in-None.ensures.value
+    ∙ c.args.draft.now.blocked c.args.link)

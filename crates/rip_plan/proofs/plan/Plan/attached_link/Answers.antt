@@ -18,4 +18,5 @@ returns-in-None c =
 pub returns-then-not-self : goal.returns-then-not-self
 returns-then-not-self c =
     let none = none_attached c.args.router c.args.prefix c.self.inside.places.items (sym c.self.invariant.any_kept ∙ c.if-not-self.true) in
-    attached_exact c.args.self.now c.lawful.ensures c.args.router c.args.prefix None (sym (subst (λ (n : Network). option_and_then link_of (own_seat c.args.router c.args.prefix n.places) ≡ None) c.self.view_is none))
+    attached_exact c.args.self.now c.lawful.ensures c.args.router c.args.prefix None (sym
+    (subst (λ (n : Network). option_and_then link_of (own_seat c.args.router c.args.prefix n.places) ≡ None) c.self.view_is none))

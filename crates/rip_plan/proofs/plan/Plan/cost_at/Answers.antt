@@ -29,7 +29,9 @@ returns-in-0 c =
     let row : c.len-2.result ≡ w = omega arith in
     let column : c.args.prefix < w = omega (arith, c.len-else-len-router.ensures) in
     let router : c.args.router < length inside.routers.items = omega (arith, c.if-len-router.false) in
-    let room : c.args.router * c.len-2.result + c.args.prefix < length inside.costs.items = rw row (omega (arith, c.self.invariant.costs_room, mul-add-lt c.args.router w c.args.prefix (length inside.routers.items) router column)) in
-    let here : cell w inside.costs.items c.args.router c.args.prefix ≡ 0 = rw row at (sym (get_or_read inside.costs.items (c.args.router * c.len-2.result + c.args.prefix) c.index.result.now room c.index.ensures 0)) ∙ c.in-0.is in
+    let room : c.args.router * c.len-2.result + c.args.prefix < length inside.costs.items =
+    rw row (omega (arith, c.self.invariant.costs_room, mul-add-lt c.args.router w c.args.prefix (length inside.routers.items) router column)) in
+    let here : cell w inside.costs.items c.args.router c.args.prefix ≡ 0 =
+    rw row at (sym (get_or_read inside.costs.items (c.args.router * c.len-2.result + c.args.prefix) c.index.result.now room c.index.ensures 0)) ∙ c.in-0.is in
     let zero : unwrap_or (direct_at c.args.router c.args.prefix n.interfaces n.places) 0 ≡ 0 = rw (← c.self.view_is) (sym (c.self.invariant.costs c.args.router c.args.prefix column) ∙ here) in
     sym (direct_zero n laws c.args.router c.args.prefix zero)

@@ -13,7 +13,8 @@ use Rattle.rip_plan.proofs.plan.Plan.own_seat.Goals as goal
 use Rattle.rip_plan.proofs.plan.Plan.own_seat.Goals.{then-len-router-via-then-len-router, then-len-router-via-else-len-router+then-len-prefix}
 
 -- the number that the rows have for a router and a prefix
-number_at : (cells : List (Option ℕ)) (places : List Place) (rows w r k : ℕ) (o : Option ℕ) → AreOwners w places cells → length cells ≡ rows * w → r < rows → k < w → o ≡ get_or cells (r * w + k) o → o ≡ first_owned r k 0 places
+number_at : (cells : List (Option ℕ)) (places : List Place) (rows w r k : ℕ) (o : Option ℕ) → AreOwners w places cells → length cells ≡ rows * w → r < rows → k < w → o ≡ get_or cells (r * w + k) o →
+    o ≡ first_owned r k 0 places
 number_at cells places rows w r k o are room router column is =
     let within : r * w + k < length cells = omega (arith, room, mul-add-lt r w k rows router column) in
     get_or_read cells (r * w + k) o within is None ∙ are r k column
@@ -35,7 +36,8 @@ index-requires-in-Some c =
     let w = length inside.prefixes.items in
     let row : c.len-2.result ≡ w = omega arith in
     let cell : c.index.result.now ≡ get_or inside.owners.items (c.args.router * w + c.args.prefix) c.index.result.now = rw row at c.index.ensures in
-    let number = number_at inside.owners.items inside.places.items (length inside.routers.items) w c.args.router c.args.prefix c.index.result.now c.self.invariant.owners c.self.invariant.owners_room (omega arith) (omega (arith, c.len-else-len-router.ensures)) cell in
+    let number = number_at inside.owners.items inside.places.items (length inside.routers.items) w c.args.router c.args.prefix c.index.result.now c.self.invariant.owners c.self.invariant.owners_room
+    (omega arith) (omega (arith, c.len-else-len-router.ensures)) cell in
     let (q, at, owned) = at_first (is_owned c.args.router c.args.prefix) inside.places.items c.in-Some.place (sym number ∙ c.in-Some.is) in
     omega (arith, slice_get_within inside.places.items c.in-Some.place q at, c.from.ensures)
 
@@ -45,11 +47,13 @@ returns-in-Some c =
     let w = length inside.prefixes.items in
     let row : c.len-2.result ≡ w = omega arith in
     let cell : c.index.result.now ≡ get_or inside.owners.items (c.args.router * w + c.args.prefix) c.index.result.now = rw row at c.index.ensures in
-    let number = number_at inside.owners.items inside.places.items (length inside.routers.items) w c.args.router c.args.prefix c.index.result.now c.self.invariant.owners c.self.invariant.owners_room (omega arith) (omega (arith, c.len-else-len-router.ensures)) cell in
+    let number = number_at inside.owners.items inside.places.items (length inside.routers.items) w c.args.router c.args.prefix c.index.result.now c.self.invariant.owners c.self.invariant.owners_room
+    (omega arith) (omega (arith, c.len-else-len-router.ensures)) cell in
     let (q, at, owned) = at_first (is_owned c.args.router c.args.prefix) inside.places.items c.in-Some.place (sym number ∙ c.in-Some.is) in
     let x = c.index-in-Some.result.now in
     let within : c.from.result < length inside.places.items = omega (arith, slice_get_within inside.places.items c.in-Some.place q at, c.from.ensures) in
-    let listed : slice_get inside.places.items c.in-Some.place ≡ Some x = ap (slice_get inside.places.items) (sym c.from.ensures) ∙ slice_get-get_or inside.places.items c.from.result x within ∙ ap (λ (y : Place). Some y) (sym c.index-in-Some.ensures) in
+    let listed : slice_get inside.places.items c.in-Some.place ≡ Some x =
+    ap (slice_get inside.places.items) (sym c.from.ensures) ∙ slice_get-get_or inside.places.items c.from.result x within ∙ ap (λ (y : Place). Some y) (sym c.index-in-Some.ensures) in
     let found = find_at (is_owned c.args.router c.args.prefix) 0 inside.places.items c.in-Some.place c.in-Some.place (sym number ∙ c.in-Some.is) (omega arith) in
     rw (← c.self.view_is) (sym (ap (option_map (λ (y : Place). y.seat)) (found ∙ listed)))
 
@@ -59,5 +63,6 @@ returns-in-None c =
     let w = length inside.prefixes.items in
     let row : c.len-2.result ≡ w = omega arith in
     let cell : c.index.result.now ≡ get_or inside.owners.items (c.args.router * w + c.args.prefix) c.index.result.now = rw row at c.index.ensures in
-    let number = number_at inside.owners.items inside.places.items (length inside.routers.items) w c.args.router c.args.prefix c.index.result.now c.self.invariant.owners c.self.invariant.owners_room (omega arith) (omega (arith, c.len-else-len-router.ensures)) cell in
+    let number = number_at inside.owners.items inside.places.items (length inside.routers.items) w c.args.router c.args.prefix c.index.result.now c.self.invariant.owners c.self.invariant.owners_room
+    (omega arith) (omega (arith, c.len-else-len-router.ensures)) cell in
     rw (← c.self.view_is) (sym (ap (option_map (λ (y : Place). y.seat)) (find_past (is_owned c.args.router c.args.prefix) 0 inside.places.items (sym number ∙ c.in-None.is))))
