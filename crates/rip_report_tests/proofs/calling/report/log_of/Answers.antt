@@ -23,8 +23,9 @@ module _ (how : Authentication) (lines after : ℕ) (status : Status) (so_far : 
   file = record { link = link; bytes = bytes }
 
   whole : (told : Status) → told ≢ Refused → FileText how 1 lines link bytes text after (Ok told) → LogOf how (file ∷ []) text (Ok told)
-  whole told not has = all after (worse status told) (more [] file [] text lines after status told so_far not has)
-  (ap (λ (s : Status). answered (worse s told)) (sym (done how [] [] lines status so_far refl)))
+  whole told not has =
+      all after (worse status told) (more [] file [] text lines after status told so_far not has)
+      (ap (λ (s : Status). answered (worse s told)) (sym (done how [] [] lines status so_far refl)))
 
   log-of : (answer : Result Status RunError) → FileText how 1 lines link bytes text after answer → LogOf how (file ∷ []) text answer
   log-of (Ok Refused) has = stopped [] [] file [] text lines after status so_far has (inl refl) refl refl
