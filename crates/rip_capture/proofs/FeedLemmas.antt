@@ -1,7 +1,7 @@
 -- What is held behind bytes that were taken.
 use Rattle.std.proofs.Common.{◌≡◌, ◌+◌, ◌-◌, ◌<◌, ◌≤◌, ℕ, List, [], ◌++◌, sym, append_assoc, append-nil, take, drop, ap, ◌∙◌, arith, length, slice_range}
-use Rattle.std.proofs.lemmas.List.{drop-take, drop-drop, length-append, take-append-drop, take-take}
-use Rattle.rip_log.proofs.CutLemmas.{length-range, range-front}
+use Rattle.std.proofs.lemmas.List.{drop-take, drop-drop, length-append, take-append-drop}
+use Rattle.rip_log.proofs.CutLemmas.{length-range}
 use Rattle.rip_capture.specs.Feeds.{Extends, Keeps, Skips, Takes, held}
 use Rattle.rip_capture.specs.declared.feed.Feed.{Feed}
 

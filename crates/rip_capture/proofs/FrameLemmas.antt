@@ -1,5 +1,5 @@
 -- A frame holds one thing alone.
-use Rattle.std.proofs.Common.{◌≡◌, ◌≢◌, ◌+◌, ◌⊎◌, ◌∙◌, ℕ, Bool, true, false, List, ap, arith, inl, inr, refl, sym}
+use Rattle.std.proofs.Common.{◌≡◌, ◌≢◌, ◌+◌, ◌⊎◌, ◌∙◌, ℕ, true, List, ap, arith, inl, inr, refl, sym}
 use Rattle.std.proofs.lemmas.Bool.{both_ways, false≢true}
 use Rattle.rip_wire.specs.Fields.{number_at}
 use Rattle.rip_capture.specs.Frames.{Holds, HoldsLoop, HoldsTyped, Leads, is_tag}

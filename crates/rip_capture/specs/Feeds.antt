@@ -1,5 +1,5 @@
 -- Where a feed stands in what its source has given.
-use Rattle.std.specs.Prelude.{◌≡◌, ◌⊎◌, ◌<◌, ◌+◌, ℕ, Bool, true, List, ◌++◌, length, Result, Ok, Err, slice_range}
+use Rattle.std.specs.Prelude.{◌≡◌, ◌⊎◌, ◌<◌, ℕ, Bool, true, List, ◌++◌, length, Result, Ok, Err, slice_range}
 use Rattle.rip_capture.specs.declared.error.CaptureCode.{CaptureCode}
 use Rattle.rip_capture.specs.declared.error.CaptureCode.TheVariants.{Cut, Read}
 use Rattle.rip_capture.specs.declared.feed.Feed.{Feed}

@@ -1,6 +1,5 @@
 -- What the first of several lines gives.
-use Rattle.std.proofs.Common.{◌≡◌, ◌+◌, ◌≤◌, ◌<◌, ℕ, false, List, ◌∷◌, Option, Result, ap, arith}
-use Rattle.std.proofs.Math.Dec.{leb}
+use Rattle.std.proofs.Common.{◌≡◌, ◌+◌, ◌≤◌, ◌<◌, ℕ, List, ◌∷◌, Option, Result, ap}
 use Rattle.std.proofs.lemmas.Bool.{le-leb, lt-leb}
 use Rattle.rip_log.specs.Lines.{Capture, judge}
 use Rattle.rip_log.specs.Logs.{log_of, with_line, faulty_log}

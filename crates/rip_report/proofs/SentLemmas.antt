@@ -1,9 +1,7 @@
 -- Texts that go out in parts.
 use Rattle.std.proofs.Common.{◌≡◌, ℕ, List, [], ◌++◌, take, drop, Result, Ok, Err, Bool, true, false, is_err, refl, sym, ap, subst, ◌∙◌, append_assoc, append-nil}
 use Rattle.std.proofs.lemmas.Result.{on_err_weaker, on_ok_weaker}
-use Rattle.std.specs.Prelude.{OnErr, OnOk}
 use Rattle.std.proofs.lemmas.List.{take-append-drop}
-use Rattle.rip_table.proofs.RowLemmas.{on_err}
 use Rattle.rip_log.specs.Taken.{Taken, Took}
 use Rattle.rip_log.proofs.TakenLemmas.{Took-both, Took-none}
 use Rattle.rip_log.specs.declared.device.Failed.{Failed}

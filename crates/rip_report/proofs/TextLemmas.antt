@@ -1,9 +1,7 @@
 -- Texts that are made one after the other.
-use Rattle.std.proofs.Common.{◌≡◌, ◌≢◌, ℕ, zero, suc, ◌+◌, ◌<◌, nat_lt, Bool, true, false, List, [], ◌∷◌, length, set, Some, refl, ap, ◌∙◌, ◌++◌, arith, codes, decimal, get_or, append_assoc}
-use Rattle.std.specs.List.{slice_get}
+use Rattle.std.proofs.Common.{◌≡◌, ◌≢◌, ℕ, zero, suc, ◌+◌, ◌<◌, nat_lt, Bool, true, false, List, [], ◌∷◌, length, set, refl, ap, ◌∙◌, ◌++◌, arith, codes, decimal, get_or, append_assoc}
 use Rattle.std.proofs.lemmas.Bool.{ltb-true, ltb-false}
 use Rattle.std.proofs.lemmas.Option.{get_or_from_slice_get}
-use Rattle.rip_plan.proofs.ItemLemmas.{get_some}
 use Rattle.rip_wire.specs.Prefix.{Block, prefix_text}
 use Rattle.rip_plan.specs.Network.{Network}
 use Rattle.rip_plan.specs.declared.parts.Interface.{Interface}

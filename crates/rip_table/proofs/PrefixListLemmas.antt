@@ -1,9 +1,8 @@
 -- Prefixes in a list.
-use Rattle.std.proofs.Common.{◌≡◌, ℕ, zero, suc, ◌+◌, ◌≤◌, ◌==◌, take, drop, length, arith, Bool, true, ◌||◌, List, [], ◌∷◌, ◌++◌, Some, refl, ap, ◌∙◌}
+use Rattle.std.proofs.Common.{◌≡◌, ℕ, zero, suc, ◌+◌, ◌≤◌, take, drop, length, arith, Bool, true, ◌||◌, List, [], ◌∷◌, ◌++◌, Some, refl, ap, ◌∙◌}
 use Rattle.std.specs.List.{slice_get}
-use Rattle.std.proofs.lemmas.Bool.{and_parts, eq-eqb, eqb-true}
 use Rattle.std.proofs.lemmas.List.Folds.{list_any-append}
-use Rattle.rip_plan.proofs.NumberingLemmas.{same_is, same_self}
+use Rattle.rip_plan.proofs.NumberingLemmas.{same_self}
 use Rattle.rip_wire.specs.Prefix.{Block}
 use Rattle.rip_plan.specs.Passes.{same_prefix}
 use Rattle.rip_table.proofs.TruthLemmas.{or-true}

@@ -1,6 +1,5 @@
 -- Truth values, options and results: small facts that several proofs use.
 use Rattle.std.proofs.Common.{◌≡◌, ℕ, Bool, true, false, ◌&&◌, ◌||◌, Option, Some, None, Result, Ok, Err, refl}
-use Rattle.std.proofs.lemmas.Bool.{and_parts, or_parts}
 use Rattle.std.specs.Option.{option_or}
 use Rattle.rip_table.specs.State.{State}
 use Rattle.rip_table.specs.Joined.{and_then}
