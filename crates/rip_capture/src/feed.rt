@@ -1,6 +1,6 @@
 //! The bytes of a source, taken in parts of known size.
 
-ghost use Rattle.std.specs.Prelude.{◌≡◌, ◌<◌, ◌≤◌, ◌+◌, ◌++◌, ◌↔◌, ℕ, List, [], Ok, true, false, take, drop, length, vec_len, is_err, IfOk, IfErr, OnOk, OnErr};
+ghost use Rattle.std.specs.Prelude.{◌≡◌, ◌<◌, ◌≤◌, ◌+◌, ◌++◌, ◌↔◌, ℕ, List, [], Ok, true, false, take, drop, length, vec_len, is_err, IfOk, IfErr, OnErr};
 ghost use Rattle.rip_log.specs.Wholes.{Went};
 ghost use Rattle.rip_capture.specs.declared.error.CaptureCode.TheVariants.{Cut, Read};
 ghost use Rattle.rip_capture.specs.declared.feed.TheConstants.{BUFFER_LEN};

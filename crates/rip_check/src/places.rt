@@ -31,8 +31,7 @@ pub(crate) fn is_direct(plan: &Plan, router: usize, prefix: usize, metric: u32) 
 }
 
 /// Whether a neighbour on the link offers this metric, the least choice of a router that does not
-/// keep the prefix. Its parts come apart: a struct of borrows would have to promise what the
-/// clauses ask of each.
+/// keep the prefix. (Why so many arguments: DECISIONS.md.)
 fn is_offered<T: MetricTable>(
     plan: &Plan,
     table: &T,
@@ -64,8 +63,8 @@ fn is_offered<T: MetricTable>(
     false
 }
 
-/// Whether the way of a route gives its metric, which is the least choice of the router. Its parts
-/// come apart: a struct of borrows would have to promise what the clauses ask of each.
+/// Whether the way of a route gives its metric, which is the least choice of the router. (Why so
+/// many arguments: DECISIONS.md.)
 fn is_given<T: MetricTable>(
     plan: &Plan,
     table: &T,

@@ -34,8 +34,7 @@ fn is_step(
 }
 
 /// Whether a neighbour on a link that has not failed gives a router this metric, over an interface
-/// of this cost, by the least metrics of before. Its parts come apart: a struct of borrows would
-/// have to promise what the clauses ask of each.
+/// of this cost, by the least metrics of before. (Why so many arguments: DECISIONS.md.)
 fn is_given_over(
     plan: &Plan,
     before: &Expected,

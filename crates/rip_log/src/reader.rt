@@ -87,6 +87,7 @@ fn name_text(name: &[u8]) -> &str
     ensures { result.now ≡ name.now }
 {
     laws::names();
+    // To test these bytes again takes a twentieth of the instructions of a line of one entry.
     // SAFETY: a name is ASCII (`laws::names`), so it is UTF-8, as this call's proved `requires`
     // asks.
     unsafe { str::from_utf8_unchecked(name) }

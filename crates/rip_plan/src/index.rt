@@ -138,6 +138,7 @@ fn write_costs_at(
     ensures { WritesCosts prefixes place.prefix (λ r. cost_at r interfaces.now place.seat) costs.old
         costs.new }
 {
+    // (The borrow checker does not cover a match on the field itself.)
     let seat = place.seat;
     match seat {
         Seat::Link(link) => {

@@ -103,7 +103,8 @@ fn meets_earlier(
     }
 }
 
-/// Adds a value to those at a prefix.
+/// Adds a value to those at a prefix. (Generic, since the check does not find the type of an enum
+/// with a struct in it behind a map.)
 fn add_at<V: Drop>(
     alloc: Global,
     all: &mut HashMap<Prefix, Vec<V>>,

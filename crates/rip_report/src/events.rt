@@ -46,7 +46,7 @@ pub(crate) trait EventReport<L: Listener> {
 }
 
 /// Writes the report on a log by its plan. The table is new, and the listener has heard nothing.
-/// Its parts come apart: a struct of borrows would have to promise what the clauses ask of each.
+/// (Why so many arguments: DECISIONS.md.)
 fn report_to<C: EventReport<L>, L: Listener, R: Source, K: Sink, T: MetricTable>(
     alloc: Global,
     command: &C,
@@ -72,8 +72,8 @@ fn report_to<C: EventReport<L>, L: Listener, R: Source, K: Sink, T: MetricTable>
 }
 
 /// Writes the report on a log by its plan, for a listener that has heard nothing. The source comes
-/// back. The log chooses the prefixes, so the hasher should be seeded at random. Its parts come
-/// apart: a struct of borrows would have to promise what the clauses ask of each.
+/// back. The log chooses the prefixes, so the hasher should be seeded at random. (Why so many
+/// arguments: DECISIONS.md.)
 pub(crate) fn report_events<
     C: EventReport<L>,
     L: Listener,

@@ -68,8 +68,7 @@ fn route_text(plan: &Plan, router: usize, prefix: usize, metric: Metric, way: Wa
     text
 }
 
-/// Adds the line of a way, where it is right. Its parts come apart: a struct of borrows would have
-/// to promise what the clauses ask of each.
+/// Adds the line of a way, where it is right. (Why so many arguments: DECISIONS.md.)
 fn add_way<K: Sink>(
     listing: &mut Listing,
     plan: &Plan,

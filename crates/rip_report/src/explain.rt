@@ -270,7 +270,7 @@ pub fn run_explain<R: Source, K: Sink, S: BuildHasher + Drop>(
         (ReportText (λ n s. ExplainText n s all) plan.now text) }
     // What is printed of a table comes only at the source's end, and Read only where it has failed.
     ensures reads { Reads R.given R.coming R.broken R.at_end log result.0 result.1 }
-    // If the plan is refused, the log is not touched, and the error is not Read.
+    // If the plan is refused, the log is not touched; one that is no text never gives Memory.
     ensures refuses { RefusesPlan plan.now log result.0 result.1 }
 {
     one_set_of_tables();

@@ -146,7 +146,7 @@ pub fn run_heard<R: Source, K: Sink, S: BuildHasher + Drop>(
         Prints K.taken K.broken out.old out.new result.1 (HeardOf plan.now text) }
     // Read only where the source has failed, or a line has more than 2^64 - 1 bytes.
     ensures reads { ReadsOn R.given R.coming R.broken R.at_end log result.0 result.1 }
-    // If the plan is refused, the log is not touched, and the error is not Read.
+    // If the plan is refused, the log is not touched; one that is no text never gives Memory.
     ensures refuses { RefusesPlan plan.now log result.0 result.1 }
 {
     let plan = match Plan::read(alloc, plan) {

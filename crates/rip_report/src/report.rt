@@ -108,7 +108,7 @@ pub(crate) fn run_report<C: Report, R: Source, K: Sink, S: BuildHasher + Drop>(
     ensures meaning { (text : List ℕ) → IsGiven R.given R.at_end log result.0 text →
         (n : Network) (s : State) → IsAccepted plan.now text n s →
         IfOk result.1 (C.means command.now n s) }
-    // If the plan is refused, the log is not touched, and the error is not Read.
+    // If the plan is refused, the log is not touched; one that is no text never gives Memory.
     ensures refuses { RefusesPlan plan.now log result.0 result.1 }
 {
     one_plan();

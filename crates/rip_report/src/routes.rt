@@ -307,7 +307,7 @@ pub fn run_routes<R: Source, K: Sink, S: BuildHasher + Drop>(
     ensures told { (text : List ℕ) → IsGiven R.given R.at_end log result.0 text →
         (n : Network) (s : State) → IsAccepted plan.now text n s →
         IfOk result.1 (WentOut (RoutesText n s) (K.taken out.old) (K.taken out.new)) }
-    // If the plan is refused, the log is not touched, and the error is not Read.
+    // If the plan is refused, the log is not touched; one that is no text never gives Memory.
     ensures refuses { RefusesPlan plan.now log result.0 result.1 }
 {
     run_report(alloc, &Routes, plan, log, out, hasher)
@@ -334,7 +334,7 @@ pub fn run_routes_anyway<R: Source, K: Sink, S: BuildHasher + Drop>(
         (n : Network) (s : State) → IsAccepted plan.now text n s →
         IfOk result.1
         (WentOut (RoutesText n s) (K.taken out.old) (K.taken out.new)) }
-    // If the plan is refused, the log is not touched, and the error is not Read.
+    // If the plan is refused, the log is not touched; one that is no text never gives Memory.
     ensures refuses { RefusesPlan plan.now log result.0 result.1 }
 {
     run_counted(alloc, &Routes, plan, log, out, hasher)

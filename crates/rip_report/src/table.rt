@@ -87,8 +87,8 @@ fn write_prefix<K: Sink>(
     page.write_line(out, front.as_bytes(), prefix.as_bytes(), end.as_bytes())
 }
 
-/// Writes the lines of the prefixes that the interface of a number shows. Its parts come apart: a
-/// struct of borrows would have to promise what the clauses ask of each.
+/// Writes the lines of the prefixes that the interface of a number shows. (Why so many arguments:
+/// DECISIONS.md.)
 fn write_shown<T: MetricTable, K: Sink>(
     page: &mut Page,
     plan: &Plan,
@@ -121,8 +121,7 @@ fn write_shown<T: MetricTable, K: Sink>(
     Ok(())
 }
 
-/// Writes the lines of the interface of a number. Its parts come apart: a struct of borrows would
-/// have to promise what the clauses ask of each.
+/// Writes the lines of the interface of a number. (Why so many arguments: DECISIONS.md.)
 fn write_interface<T: MetricTable, K: Sink>(
     page: &mut Page,
     plan: &Plan,
@@ -272,7 +271,7 @@ pub fn run_table<R: Source, K: Sink, S: BuildHasher + Drop>(
         (n : Network) (s : State) → IsAccepted plan.now text n s →
         IfOk result.1
         (WentOut (λ w. w ≡ shown_table n s) (K.taken out.old) (K.taken out.new)) }
-    // If the plan is refused, the log is not touched, and the error is not Read.
+    // If the plan is refused, the log is not touched; one that is no text never gives Memory.
     ensures refuses { RefusesPlan plan.now log result.0 result.1 }
 {
     run_report(alloc, &Table, plan, log, out, hasher)
@@ -299,7 +298,7 @@ pub fn run_table_anyway<R: Source, K: Sink, S: BuildHasher + Drop>(
         (n : Network) (s : State) → IsAccepted plan.now text n s →
         IfOk result.1
         (WentOut (λ w. w ≡ shown_table n s) (K.taken out.old) (K.taken out.new)) }
-    // If the plan is refused, the log is not touched, and the error is not Read.
+    // If the plan is refused, the log is not touched; one that is no text never gives Memory.
     ensures refuses { RefusesPlan plan.now log result.0 result.1 }
 {
     run_counted(alloc, &Table, plan, log, out, hasher)

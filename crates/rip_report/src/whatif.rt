@@ -156,8 +156,8 @@ fn gone_text(plan: &Plan, prefix: usize) -> Line
     text
 }
 
-/// Adds the line of a router and a prefix, where the router loses it. Its parts come apart: a
-/// struct of borrows would have to promise what the clauses ask of each.
+/// Adds the line of a router and a prefix, where the router loses it. (Why so many arguments:
+/// DECISIONS.md.)
 fn add_if_lost<K: Sink>(
     listing: &mut Listing,
     plan: &Plan,
@@ -180,8 +180,7 @@ fn add_if_lost<K: Sink>(
     }
 }
 
-/// Adds the lines of the prefixes that a router loses. Its parts come apart: a struct of borrows
-/// would have to promise what the clauses ask of each.
+/// Adds the lines of the prefixes that a router loses. (Why so many arguments: DECISIONS.md.)
 fn add_lost_by<K: Sink>(
     listing: &mut Listing,
     plan: &Plan,
@@ -263,8 +262,8 @@ fn add_gone<K: Sink>(
     }
 }
 
-/// Adds what stands under the line of a failure, where all is asked for. Its parts come apart: a
-/// struct of borrows would have to promise what the clauses ask of each.
+/// Adds what stands under the line of a failure, where all is asked for. (Why so many arguments:
+/// DECISIONS.md.)
 fn add_under<K: Sink>(
     listing: &mut Listing,
     plan: &Plan,
@@ -285,8 +284,8 @@ fn add_under<K: Sink>(
     }
 }
 
-/// Adds the lines of a failure, and tells whether it loses something. Its parts come apart: a
-/// struct of borrows would have to promise what the clauses ask of each.
+/// Adds the lines of a failure, and tells whether it loses something. (Why so many arguments:
+/// DECISIONS.md.)
 fn add_failure<K: Sink>(
     listing: &mut Listing,
     plan: &Plan,

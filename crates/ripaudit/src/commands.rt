@@ -198,7 +198,7 @@ pub(crate) fn run_on_log<R: Source, K: Sink, S: BuildHasher + Drop>(
     ensures prints { (text : List ℕ) → IsGiven R.given R.at_end log result.0 text →
         Prints K.taken K.broken out.old out.new result.1 (LogCommandText command plan.now text) }
     ensures reads { Reads R.given R.coming R.broken R.at_end log result.0 result.1 }
-    // If the plan is refused, the log is not touched, and the error is not Read.
+    // If the plan is refused, the log is not touched; one that is no text never gives Memory.
     ensures refuses { RefusesPlan plan.now log result.0 result.1 }
     // `audit` answers Settled exactly where the log shows right tables, and then packets arrive.
     ensures headline { (all : Bool) → command ≡ LogCommand.Audit all →
@@ -237,8 +237,7 @@ pub(crate) fn run_on_log<R: Source, K: Sink, S: BuildHasher + Drop>(
 }
 
 /// Runs a command on the bytes of a plan and on a log, which is read to its end. The source comes
-/// back. Its parts come apart: a struct of borrows would have to promise what the clauses ask of
-/// each.
+/// back. (Why so many arguments: DECISIONS.md.)
 pub(crate) fn run_anyway<R: Source, K: Sink, S: BuildHasher + Drop>(
     alloc: Global,
     command: AnywayCommand,
@@ -252,7 +251,7 @@ pub(crate) fn run_anyway<R: Source, K: Sink, S: BuildHasher + Drop>(
         Prints K.taken K.broken out.old out.new result.1 (AnywayCommandText command plan.now text) }
     // Read only where the source has failed, or a line has more than 2^64 - 1 bytes.
     ensures reads { ReadsOn R.given R.coming R.broken R.at_end log result.0 result.1 }
-    // If the plan is refused, the log is not touched, and the error is not Read.
+    // If the plan is refused, the log is not touched; one that is no text never gives Memory.
     ensures refuses { RefusesPlan plan.now log result.0 result.1 }
 {
     match command {

@@ -185,8 +185,7 @@ fn add<S: BuildHasher>(
 }
 
 /// Writes what the entries of a response show, where they bring any pair, or leaves the rows as
-/// they were. Its parts come apart: a struct of borrows would have to promise what the clauses ask
-/// of each.
+/// they were. (Why so many arguments: DECISIONS.md.)
 pub(crate) fn add_new<S: BuildHasher>(
     alloc: Global,
     rows: &mut Rows<S>,
