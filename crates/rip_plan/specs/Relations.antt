@@ -138,14 +138,6 @@ IsOwnAt n k p r c = IsOwnWith n k p r (λ own. own.cost ≡ c)
 abbrev pub IsAttachedAt : Network → ℕ → ℕ → ℕ → ℕ → Type 0
 IsAttachedAt n k p r l = IsOwnWith n k p r (λ own. own.link ≡ Some l)
 
--- place k of the plan is prefix p as router r's own, and the plan says that the router keeps it
-abbrev pub IsKeptAt : Network → ℕ → ℕ → ℕ → Type 0
-IsKeptAt n k p r = IsOwnWith n k p r (λ own. own.kept ≡ true)
-
--- place k of the plan is prefix p as router r's own, with gateway a
-abbrev pub HasGatewayAt : Network → ℕ → ℕ → ℕ → ℕ → Type 0
-HasGatewayAt n k p r a = IsOwnWith n k p r (λ own. own.via ≡ Some a)
-
 -- place k of prefix p touches router r, which has the prefix there at metric c: the router is on
 -- the link, or owns the prefix
 abbrev pub Touches : Network → ℕ → ℕ → ℕ → ℕ → Type 0
@@ -165,11 +157,12 @@ IsAttached n r p l = (k : ℕ) × IsAttachedAt n k p r l
 -- router r never gives its own prefix p up for an offer: a static route, by its administrative
 -- distance, or a connected network
 abbrev pub IsKept : Network → ℕ → ℕ → Type 0
-IsKept n r p = ((k : ℕ) × IsKeptAt n k p r) ⊎ ((l : ℕ) × IsAttached n r p l)
+IsKept n r p =
+    ((k : ℕ) × IsOwnWith n k p r (λ own. own.kept ≡ true)) ⊎ ((l : ℕ) × IsAttached n r p l)
 
 -- router r may tell a, a gateway outside of the plan, as next hop of its own prefix p
 abbrev pub IsGateway : Network → ℕ → ℕ → ℕ → Type 0
-IsGateway n r p a = (k : ℕ) × HasGatewayAt n k p r a
+IsGateway n r p a = (k : ℕ) × IsOwnWith n k p r (λ own. own.via ≡ Some a)
 
 -- the plan says no more of metrics and routes than RFC 2453 does: the prefixes of a link have the
 -- interface's cost, and no router keeps a prefix or has one attached

@@ -57,24 +57,16 @@ metric_part hidden metric equation =
     (if hidden then codes "leaf " else []) ++ codes "metric " ++ decimal metric
     ++ codes ", equation " ++ decimal equation
 
--- `, link c does not give it`
-abbrev pub no_offer_part : Network → ℕ → List ℕ
-no_offer_part n l = codes ", link " ++ name_of n.links l ++ codes " does not give it"
-
--- the way that does not give what is expected of it
+-- `, link c does not give it`: the way, which gives another metric
 abbrev pub wrong_way_part : Network → Way → List ℕ
-wrong_way_part n (Over l) = no_offer_part n l
+wrong_way_part n (Over l) = codes ", link " ++ name_of n.links l ++ codes " does not give it"
 wrong_way_part n Here = codes ", no planned place gives it"
 wrong_way_part n Unreachable = codes ", no planned place gives it"
 
--- `metric 2, link c does not give it`, where the metric is the equation's but the way gives another
-abbrev pub wrong_metric_part : Network → ℕ → Way → List ℕ
-wrong_metric_part n metric way = codes "metric " ++ decimal metric ++ wrong_way_part n way
-
--- what fails at a place
+-- what fails at a place: its way, where the metric is the equation's, or else the metric
 abbrev pub unsettled_part : Network → Place2 → List ℕ
 unsettled_part n f =
-    if f.metric == f.equation then wrong_metric_part n f.metric f.way
+    if f.metric == f.equation then codes "metric " ++ decimal f.metric ++ wrong_way_part n f.way
     else metric_part f.hidden f.metric f.equation
 
 -- the router, the prefix and the link of a place are known
@@ -101,10 +93,6 @@ subject_part n s (Missing r p l) = place_part n s r p
 subject_part n s (ShownOn r p l) = place_part n s r p
 subject_part n s (TwoWays r p) = place_part n s r p
 
--- `router r1 link a: not heard`, or a place and why its route can't be read
-abbrev pub trouble_part : Network → State → Unclear → List ℕ
-trouble_part n s trouble = subject_part n s trouble ++ reason_part n trouble
-
 -- the router, the prefix and the link of a trouble are known
 abbrev pub IsTroubleOf : Network → State → Unclear → Type 0
 IsTroubleOf n s (NotHeard r l) = (r < length n.routers) × (l < length n.links)
@@ -115,9 +103,10 @@ IsTroubleOf n s (ShownOn r p l) =
     (r < length n.routers) × (p < length s.prefixes) × (l < length n.links)
 IsTroubleOf n s (TwoWays r p) = (r < length n.routers) × (p < length s.prefixes)
 
--- `unclear: router r1 link a: not heard`
+-- `unclear: router r1 link a: not heard`, or a place and why its route can't be read
 unfoldable pub unclear_line : Network → State → Unclear → List ℕ
-unclear_line n s trouble = line (codes "unclear: " ++ trouble_part n s trouble)
+unclear_line n s trouble =
+    line (codes "unclear: " ++ subject_part n s trouble ++ reason_part n trouble)
 
 -- ---- Texts
 

@@ -36,8 +36,6 @@ pub(crate) const PLACE: usize = NAME + PREFIX + WORDS;
 pub(crate) const ROUTE: usize = NUMBER + NAMED + WORDS;
 /// A metric, and the way that does not give it.
 pub(crate) const WRONG_METRIC: usize = NUMBER + NAMED + WORDS;
-/// A trouble: an interface or a pair, and the reason.
-pub(crate) const TROUBLE: usize = INTERFACE + NAMED;
 /// What a neighbour offers, as a sum.
 pub(crate) const SUM: usize = 3 * NUMBER + WORDS;
 /// The word of a code of a plan's faults.

@@ -19,7 +19,7 @@ use Rattle.rip_table.specs.declared.tallies.strangers.Stranger.{Stranger}
 use Rattle.rip_table.specs.declared.tallies.strangers.StrangerTally.{StrangerTally}
 use Rattle.rip_table.specs.declared.tallies.strangers.TheConstants.{MOST_STRANGERS}
 use Rattle.rip_table.proofs.TallyLemmas.{kind-more, first-more}
-use Rattle.rip_table.proofs.TruthLemmas.{or-true}
+use Rattle.rip_table.proofs.TruthLemmas.{or-false, or-true}
 
 -- ---- origins that are the same
 
@@ -129,11 +129,7 @@ same-other o p h = not-same p o (λ e. absurd (cc (h, same-self o, ap (same_orig
 -- ---- among others
 
 among-more : (told : List Origin) (o p : Origin) → is_origin_of (told ++ p ∷ []) o ≡ (is_origin_of told o || same_origin o p)
-among-more told o p = list_any-append (same_origin o) told (p ∷ []) ∙ ap (λ (b : Bool). is_origin_of told o || b) (or-end (same_origin o p))
-  where
-    or-end : (b : Bool) → (b || false) ≡ b
-    or-end true = refl
-    or-end false = refl
+among-more told o p = list_any-append (same_origin o) told (p ∷ []) ∙ ap (λ (b : Bool). is_origin_of told o || b) (sym (or-false (same_origin o p)))
 
 among-at : (told : List Origin) (k : ℕ) (o p : Origin) → is_origin_of told p ≡ false → slice_get told k ≡ Some o → same_origin p o ≡ false
 among-at [] k o p none h = absurd (cc h)

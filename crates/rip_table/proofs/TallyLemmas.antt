@@ -16,6 +16,7 @@ use Rattle.rip_table.specs.declared.events.Sender.{Sender}
 use Rattle.rip_table.specs.declared.tallies.interface.InterfaceTally.{InterfaceTally}
 use Rattle.rip_table.specs.declared.tallies.interface.Sent.{Sent}
 use Rattle.rip_table.specs.declared.tallies.interface.Sent.TheVariants.{Joined, Refused, Bad, Asked}
+use Rattle.rip_table.proofs.TruthLemmas.{and-false}
 
 -- ---- lines
 
@@ -92,11 +93,7 @@ order-more was j r (b ∷ outcomes) = order-more b j r outcomes
 
 -- no event is both
 apart : (i : ℕ) (e : Event) → (is_joined i e && is_refused i e) ≡ false
-apart i (joined j) = and-none (i == j)
-  where
-    and-none : (b : Bool) → (b && false) ≡ false
-    and-none true = refl
-    and-none false = refl
+apart i (joined j) = and-false (i == j)
 apart i (refused j error hop) = refl
 apart i (stranger o) = refl
 apart i (request o) = refl

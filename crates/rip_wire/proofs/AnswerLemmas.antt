@@ -14,7 +14,7 @@ use Rattle.std.proofs.lemmas.Bool.Decides.{nat_tests}
 use Rattle.rip_wire.specs.declared.datagram.Kind.{Kind}
 use Rattle.rip_wire.specs.Message.{kind_in}
 use Rattle.rip_wire.proofs.MessageLemmas.{headed, kind_fault, request_bytes, response_bytes, request_again, response_again}
-use Rattle.rip_wire.proofs.FaultLemmas.{wire_fault, wire_fault_told}
+use Rattle.rip_wire.proofs.FaultLemmas.{same_error, wire_fault, wire_fault_told}
 
 -- what is readable has the message that it stands for
 pub read_exact : (b : List ℕ) → is_ok (message_in b) ≡ true → message_in b ≡ Ok (message_or_request (message_in b))
@@ -52,9 +52,6 @@ refused_fault {X = X} b e code at h = (
   λ is. let same : e ≡ record { code = code; at = at } = cc is in wire_fault b (record { code = code; at = at }) (h ∙ ap Err same),
   λ fault. ap Err (same_error e (record { code = code; at = at }) (sym h ∙ wire_fault_told b code at fault)),
 )
-  where
-    same_error : (d f : WireError) → ◌≡◌ {A = Result Message WireError} (Err d) (Err f) → d ≡ f
-    same_error d f g = cc
 
 -- ---- Past the longest datagram
 

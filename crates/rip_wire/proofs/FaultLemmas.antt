@@ -352,7 +352,7 @@ message_fails b = fails_bind (λ e. IsFault b e.code e.at) (kind_in b) (message_
         fails_bind (λ e. IsFault b e.code e.at) (entries_at (groups_in b) 4 b) _ (entries_fail (groups_in b) 0 b (headed b Response is).command (omega arith)) (λ es is_es.
         fails_not (λ e. IsFault b e.code e.at) (response es))
 
-same_error : (d e : WireError) → ◌≡◌ {A = Result Message WireError} (Err d) (Err e) → d ≡ e
+pub same_error : (d e : WireError) → ◌≡◌ {A = Result Message WireError} (Err d) (Err e) → d ≡ e
 same_error d e h = cc
 
 -- the fault that is told is the first

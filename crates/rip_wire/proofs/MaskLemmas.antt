@@ -1,6 +1,6 @@
 -- The 33 masks.
 use Rattle.std.proofs.Common.{◌≡◌, ℕ, zero, suc, ◌-◌, ◌*◌, ◌/◌, ◌^◌, ◌<◌, ◌≤◌, Bool, true, false, ◌&&◌, eqb, Option, Some, None, is_some, List, [], ◌∷◌, refl, sym, ap, ◌∙◌, arith, ◌⊎◌, inl, inr, cond}
-use Rattle.std.proofs.lemmas.Bool.{eqb-true}
+use Rattle.std.proofs.lemmas.Bool.{and_parts, eqb-true}
 use lib.Count.{count_leading_zeros}
 use Rattle.std.specs.Int.{w32, leading_ones}
 use Rattle.std.specs.List.{find}
@@ -15,14 +15,10 @@ abbrev pub holds_below : (ℕ → Bool) → ℕ → Bool
 holds_below p zero = true
 holds_below p (suc n) = p n && holds_below p n
 
-both : (a b : Bool) → (a && b) ≡ true → (a ≡ true) × (b ≡ true)
-both true b h = (refl, h)
-both false b h = absurd (cc)
-
 pub holds_at : (p : ℕ → Bool) (n k : ℕ) → holds_below p n ≡ true → k < n → p k ≡ true
 holds_at p zero k h lt = absurd (omega arith)
 holds_at p (suc n) k h lt =
-    let parts = both (p n) (holds_below p n) h in
+    let parts = and_parts (p n) (holds_below p n) h in
     let two : (k ≡ n) ⊎ (k < n) = grind arith in
     elim two [ inl e ↦ rw e parts.0 | inr less ↦ holds_at p n k parts.1 less ]
 

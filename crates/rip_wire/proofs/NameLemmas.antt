@@ -1,15 +1,12 @@
 -- The test of a name and what a name is.
 use Rattle.std.proofs.Common.{◌≡◌, ◌∙◌, ◌<◌, ℕ, Bool, true, false, ◌&&◌, leb, List, length, get_or, map, slice_index_or, refl, ap, arith, rules, tests}
 use Rattle.std.specs.List.{list_all, range_with_len}
+use Rattle.std.proofs.lemmas.Bool.{and_parts}
 use Rattle.std.proofs.lemmas.Bool.Decides.{nat_tests}
 use Rattle.std.proofs.lemmas.List.Sums.{AllPass-from_list_all, list_all-from_AllPass}
 use Rattle.rip_wire.specs.Name.{IsNameByte, IsName, is_name_byte, is_name}
 use Rattle.rip_wire.specs.declared.name.TheConstants.{NAME_BYTES}
 use Rattle.std.proofs.lemmas.List.FromFn.{get_or-map-range_with_len}
-
-both : (a b : Bool) → (a && b) ≡ true → (a ≡ true) × (b ≡ true)
-both true b h = (refl, h)
-both false b h = absurd (cc)
 
 byte-gives : (c : ℕ) → is_name_byte c ≡ true → IsNameByte c
 byte-gives c h = search (rules, tests)
@@ -19,8 +16,8 @@ byte-holds c h = search (rules, tests)
 
 pub is_name-gives : (text : List ℕ) → is_name text ≡ true → IsName text
 is_name-gives text h =
-    let low : (leb 1 (length text) ≡ true) × ((leb (length text) 32 && list_all is_name_byte text) ≡ true) = both _ _ h in
-    let high : (leb (length text) 32 ≡ true) × (list_all is_name_byte text ≡ true) = both _ _ low.1 in
+    let low : (leb 1 (length text) ≡ true) × ((leb (length text) 32 && list_all is_name_byte text) ≡ true) = and_parts _ _ h in
+    let high : (leb (length text) 32 ≡ true) × (list_all is_name_byte text ≡ true) = and_parts _ _ low.1 in
     record {
       some = grind (arith, nat_tests, low.0);
       few = grind (arith, nat_tests, high.0);

@@ -1,8 +1,8 @@
 //! The lines of verdicts.
 
 ghost use Rattle.std.specs.Prelude.{◌≡◌, ◌+◌, ◌≤◌, ◌<◌, ◌++◌, length};
-ghost use Rattle.rip_report.specs.declared.limits.TheConstants.{INTERFACE, LINE_BYTES, NAMED, NUMBERED, PLACE, TROUBLE, TWO_NUMBERS, WRONG_METRIC};
-ghost use Rattle.rip_report.specs.AuditText.{AreKnown, IsTroubleOf, has_one_interface, interface_part, leaf_part, leaves_of, metric_part, no_offer_part, place_part, settled_line, subject_part, trouble_part, unclear_line, unsettled_line, unsettled_part, wrong_metric_part, wrong_way_part};
+ghost use Rattle.rip_report.specs.declared.limits.TheConstants.{INTERFACE, LINE_BYTES, NAMED, NUMBERED, PLACE, TWO_NUMBERS, WRONG_METRIC};
+ghost use Rattle.rip_report.specs.AuditText.{AreKnown, IsTroubleOf, has_one_interface, interface_part, leaf_part, leaves_of, metric_part, place_part, settled_line, subject_part, unclear_line, unsettled_line, unsettled_part, wrong_way_part};
 ghost use Rattle.rip_report.specs.Lines.{IsKnownReason, reason_part};
 ghost use Rattle.rip_report.specs.Names.{IsKnownWay};
 
@@ -83,18 +83,6 @@ fn push_metrics(text: &mut Line, hidden: bool, metric: Metric, equation: Metric)
     text.push_metric(equation);
 }
 
-/// Adds the link that does not give a metric.
-fn push_no_offer(text: &mut Line, plan: &Plan, link: usize)
-    requires known { link < length plan.now.links }
-    requires room { length text.old + NAMED ≤ LINE_BYTES }
-    ensures text { text.new ≡ text.old ++ no_offer_part plan.now link }
-    ensures size { length text.new ≤ length text.old + NAMED }
-{
-    text.push(", link ");
-    push_link(text, plan, link);
-    text.push(" does not give it");
-}
-
 /// Adds the way that does not give a metric.
 fn push_wrong_way(text: &mut Line, plan: &Plan, way: Way)
     requires way { IsKnownWay plan.now way }
@@ -103,22 +91,14 @@ fn push_wrong_way(text: &mut Line, plan: &Plan, way: Way)
     ensures size { length text.new ≤ length text.old + NAMED }
 {
     match way {
-        Way::Over(link) => push_no_offer(text, plan, link),
+        Way::Over(link) => {
+            text.push(", link ");
+            push_link(text, plan, link);
+            text.push(" does not give it");
+        }
         Way::Here => text.push(", no planned place gives it"),
         Way::Unreachable => text.push(", no planned place gives it"),
     }
-}
-
-/// Adds a metric and the way that does not give it.
-fn push_wrong_metric(text: &mut Line, plan: &Plan, metric: Metric, way: Way)
-    requires way { IsKnownWay plan.now way }
-    requires room { length text.old + WRONG_METRIC ≤ LINE_BYTES }
-    ensures text { text.new ≡ text.old ++ wrong_metric_part plan.now metric way }
-    ensures size { length text.new ≤ length text.old + WRONG_METRIC }
-{
-    text.push("metric ");
-    text.push_metric(metric);
-    push_wrong_way(text, plan, way);
 }
 
 /// Adds what fails at a place.
@@ -129,7 +109,9 @@ fn push_unsettled(text: &mut Line, plan: &Plan, place: &Place2)
     ensures size { length text.new ≤ length text.old + WRONG_METRIC }
 {
     if place.metric == place.equation {
-        push_wrong_metric(text, plan, place.metric, place.way);
+        text.push("metric ");
+        text.push_metric(place.metric);
+        push_wrong_way(text, plan, place.way);
     } else {
         push_metrics(text, place.hidden, place.metric, place.equation);
     }
@@ -202,17 +184,6 @@ pub(crate) fn push_reason(text: &mut Line, plan: &Plan, trouble: &Unclear)
     }
 }
 
-/// Adds a trouble.
-fn push_trouble<T: MetricTable>(text: &mut Line, plan: &Plan, table: &T, trouble: &Unclear)
-    requires known { IsTroubleOf plan.now (T.state table.now) trouble.now }
-    requires room { length text.old + TROUBLE ≤ LINE_BYTES }
-    ensures text { text.new ≡ text.old ++ trouble_part plan.now (T.state table.now) trouble.now }
-    ensures size { length text.new ≤ length text.old + TROUBLE }
-{
-    push_subject(text, plan, table, trouble);
-    push_reason(text, plan, trouble);
-}
-
 /// The line of a log that shows no tables.
 #[tactic(auto, unfolding(crate::specs::AuditText::unclear_line))]
 pub(crate) fn unclear_text<T: MetricTable>(plan: &Plan, table: &T, trouble: &Unclear) -> Line
@@ -221,7 +192,8 @@ pub(crate) fn unclear_text<T: MetricTable>(plan: &Plan, table: &T, trouble: &Unc
 {
     let mut text = Line::new();
     text.push("unclear: ");
-    push_trouble(&mut text, plan, table, trouble);
+    push_subject(&mut text, plan, table, trouble);
+    push_reason(&mut text, plan, trouble);
     text.end();
     text
 }

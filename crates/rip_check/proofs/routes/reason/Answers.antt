@@ -1,16 +1,9 @@
-use Rattle.std.proofs.Common.{◌≡◌, ℕ, true, false, Option, None, Some, ap, is_some, not, refl, ◌∙◌}
+use Rattle.std.proofs.Common.{◌≡◌, ℕ, Option, None, Some, ap, not, refl, ◌∙◌}
 use Rattle.rip_check.proofs.OnePlaceLemmas.{two_shown, not_two}
+use Rattle.rip_check.proofs.SilenceLemmas.{none_there, some_there}
 use Rattle.rip_check.proofs.SurveyedLemmas.{mute, one_metric, silent_nowhere, tells_there, told_everywhere}
 use Rattle.rip_check.proofs.routes.reason.Goals as goal
 use Rattle.rip_check.specs.Told.{told}
-
-none_there : (o : Option ℕ) → is_some o ≡ false → o ≡ None
-none_there None e = refl
-none_there (Some l) e = cc e
-
-some_there : (o : Option ℕ) → is_some o ≡ true → o ≡ None → ⊥
-some_there None e none = cc e
-some_there (Some l) e none = cc none
 
 nothing : (o : Option ℕ) (l : ℕ) → o ≡ None → o ≡ Some l → ⊥
 nothing o l none some = cc (none, some)

@@ -1,19 +1,12 @@
-use Rattle.std.proofs.Common.{◌≡◌, ℕ, inl, inr, true, false, Option, None, Some, ap, is_some, not, refl, sym, ◌∙◌}
+use Rattle.std.proofs.Common.{◌≡◌, ℕ, inl, inr, true, Option, None, Some, ap, is_some, not, sym, ◌∙◌}
 use Rattle.std.proofs.lemmas.Bool.Decides.{not_from_Decides}
 use Rattle.rip_table.specs.State.{State}
 use Rattle.rip_check.specs.Metrics.{metric_at}
 use Rattle.rip_check.specs.Tables.{IsSilent, MayHoldBack}
+use Rattle.rip_check.proofs.SilenceLemmas.{none_there, some_there}
 use Rattle.rip_check.proofs.SurveyLemmas.{no_speech, no_telling, first_silent_link, more_silence}
 use Rattle.rip_check.proofs.surveys.add_silence.Goals as goal
 use Rattle.rip_check.proofs.surveys.add_silence.Goals.{then-is_some, else-is_some, then-found, else-found}
-
-some_there : (o : Option ℕ) → is_some o ≡ true → o ≡ None → ⊥
-some_there None e none = cc e
-some_there (Some l) e none = cc none
-
-none_there : (o : Option ℕ) → is_some o ≡ false → o ≡ None
-none_there None e = refl
-none_there (Some l) e = cc e
 
 is_poison : (o : Option ℕ) → IsSilent o → is_some o ≡ true → o ≡ Some 16
 is_poison o (inl none) e = absurd (some_there o e none)
