@@ -11,7 +11,7 @@ use Rattle.std.proofs.lemmas.Option.{none-some, same_Some, cond_some}
 use Rattle.std.proofs.lemmas.Slice.Eq.{bytes_eq-Decides}
 use Rattle.toml.specs.Data.{Data, Members, no_members, member, string, array, table, get_member, as_array, as_bool, as_integer, as_str, as_table}
 use Rattle.rip_plan.specs.DocumentTables.{HasOnly, IsFlag, IsInteger, IsInterfaceTable, IsLinkTable, IsList, IsOwnTable, IsRoot, IsRouterTable, IsSomeList, IsString, IsTextList}
-use Rattle.rip_plan.specs.Keys.{interface_keys, link_keys, own_keys, root_keys, router_keys}
+use Rattle.rip_plan.specs.Keys.{keys_of, the_root, a_link, a_router, an_interface, an_own}
 use Rattle.rip_plan.specs.Fields.{InterfaceFields, OwnFields, ◌&>◌, flag_if, has_only, integer_if, interface_fields, items_at, items_if, link_fields, list_of, own_fields, root_fields, router_fields, some_items, text_at, text_if, texts_of}
 use Rattle.rip_plan.specs.Names.{is_one_of}
 use Rattle.rip_plan.proofs.ItemLemmas.{any_at, any_finds}
@@ -178,12 +178,12 @@ not_read fields d ms is (f, read) none = none-some f (sym none ∙ ap (λ (x : D
 pub root_told : (document : Members) (f : List Data × List Data × Bool) → root_fields document ≡ Some f → IsRoot document
 unfolding root_fields
 root_told ms f h =
-    let h2 = chosen (has_only root_keys ms) _ f h in
+    let h2 = chosen (has_only (keys_of the_root) ms) _ f h in
     let (a, first, h3) = then_some (items_at (codes_of "link") ms &> some_items) _ f h2 in
     let (b, second, h4) = then_some (items_at (codes_of "router") ms &> some_items) _ f h3 in
     let (c, third, h5) = then_some (flag_if (get_member (codes_of "poison") ms)) _ f h4 in
     record {
-      keys = keys_only root_keys ms (guarded (has_only root_keys ms) _ f h);
+      keys = keys_only (keys_of the_root) ms (guarded (has_only (keys_of the_root) ms) _ f h);
       link = some_has (get_member (codes_of "link") ms) a first;
       router = some_has (get_member (codes_of "router") ms) b second;
       poison = flag_may (get_member (codes_of "poison") ms) c third;
@@ -195,20 +195,20 @@ root_given ms is =
     let (a, first) = some_given (get_member (codes_of "link") ms) is.link in
     let (b, second) = some_given (get_member (codes_of "router") ms) is.router in
     let (c, third) = flag_given (get_member (codes_of "poison") ms) is.poison in
-    ((a, b, unwrap_or c true), rw (only_keys root_keys ms is.keys, first, second, third) refl)
+    ((a, b, unwrap_or c true), rw (only_keys (keys_of the_root) ms is.keys, first, second, third) refl)
 
 pub link_told : (d : Data) (f : List ℕ × List Data) → (as_table d &> link_fields) ≡ Some f → IsLinkTable d
 unfolding link_fields
 link_told d f h =
     let (ms, is, h1) = then_some (as_table d) link_fields f h in
-    let h2 = chosen (has_only link_keys ms) _ f h1 in
+    let h2 = chosen (has_only (keys_of a_link) ms) _ f h1 in
     let (a, first, h3) = then_some (text_at (codes_of "name") ms) _ f h2 in
     let (b, second, h4) = then_some (items_at (codes_of "prefixes") ms) _ f h3 in
     let there : d ≡ table ms = table_is d ms is in
     subst IsLinkTable (sym there) (record {
       members = ms;
       is_table = refl;
-      keys = keys_only link_keys ms (guarded (has_only link_keys ms) _ f h1);
+      keys = keys_only (keys_of a_link) ms (guarded (has_only (keys_of a_link) ms) _ f h1);
       name = text_has (get_member (codes_of "name") ms) a first;
       prefixes = list_has (get_member (codes_of "prefixes") ms) b second;
     })
@@ -218,7 +218,7 @@ unfolding link_fields
 link_read ms its =
     let (a, first) = text_given (get_member (codes_of "name") ms) its.name in
     let (b, second) = list_given (get_member (codes_of "prefixes") ms) its.prefixes in
-    ((a, b), rw (only_keys link_keys ms its.keys, first, second) refl)
+    ((a, b), rw (only_keys (keys_of a_link) ms its.keys, first, second) refl)
 
 pub link_not : (d : Data) → (as_table d &> link_fields) ≡ None → IsLinkTable d → ⊥
 link_not d none is = not_read link_fields d is.members is.is_table (link_read is.members (subst IsLinkTable is.is_table is)) none
@@ -227,7 +227,7 @@ pub router_told : (d : Data) (f : List ℕ × List Data × List Data) → (as_ta
 unfolding router_fields
 router_told d f h =
     let (ms, is, h1) = then_some (as_table d) router_fields f h in
-    let h2 = chosen (has_only router_keys ms) _ f h1 in
+    let h2 = chosen (has_only (keys_of a_router) ms) _ f h1 in
     let (a, first, h3) = then_some (text_at (codes_of "name") ms) _ f h2 in
     let (b, second, h4) = then_some (items_at (codes_of "interface") ms) _ f h3 in
     let (c, third, h5) = then_some (items_if (get_member (codes_of "own") ms)) _ f h4 in
@@ -235,7 +235,7 @@ router_told d f h =
     subst IsRouterTable (sym there) (record {
       members = ms;
       is_table = refl;
-      keys = keys_only router_keys ms (guarded (has_only router_keys ms) _ f h1);
+      keys = keys_only (keys_of a_router) ms (guarded (has_only (keys_of a_router) ms) _ f h1);
       name = text_has (get_member (codes_of "name") ms) a first;
       interface = list_has (get_member (codes_of "interface") ms) b second;
       own = list_may (get_member (codes_of "own") ms) c third;
@@ -247,7 +247,7 @@ router_read ms its =
     let (a, first) = text_given (get_member (codes_of "name") ms) its.name in
     let (b, second) = list_given (get_member (codes_of "interface") ms) its.interface in
     let (c, third) = list_if_given (get_member (codes_of "own") ms) its.own in
-    ((a, b, c), rw (only_keys router_keys ms its.keys, first, second, third) refl)
+    ((a, b, c), rw (only_keys (keys_of a_router) ms its.keys, first, second, third) refl)
 
 pub router_not : (d : Data) → (as_table d &> router_fields) ≡ None → IsRouterTable d → ⊥
 router_not d none is = not_read router_fields d is.members is.is_table (router_read is.members (subst IsRouterTable is.is_table is)) none
@@ -256,7 +256,7 @@ pub interface_told : (d : Data) (f : InterfaceFields) → (as_table d &> interfa
 unfolding interface_fields
 interface_told d f h =
     let (ms, is, h1) = then_some (as_table d) interface_fields f h in
-    let h2 = chosen (has_only interface_keys ms) _ f h1 in
+    let h2 = chosen (has_only (keys_of an_interface) ms) _ f h1 in
     let (a, first, h3) = then_some (text_at (codes_of "link") ms) _ f h2 in
     let (b, second, h4) = then_some (text_at (codes_of "address") ms) _ f h3 in
     let (c, third, h5) = then_some (integer_if (get_member (codes_of "cost") ms)) _ f h4 in
@@ -267,7 +267,7 @@ interface_told d f h =
     subst IsInterfaceTable (sym there) (record {
       members = ms;
       is_table = refl;
-      keys = keys_only interface_keys ms (guarded (has_only interface_keys ms) _ f h1);
+      keys = keys_only (keys_of an_interface) ms (guarded (has_only (keys_of an_interface) ms) _ f h1);
       link = text_has (get_member (codes_of "link") ms) a first;
       address = text_has (get_member (codes_of "address") ms) b second;
       cost = integer_may (get_member (codes_of "cost") ms) c third;
@@ -285,7 +285,7 @@ interface_read ms its =
     let (e, fourth) = integer_given (get_member (codes_of "direct") ms) its.direct in
     let (g, fifth) = texts_given (get_member (codes_of "also") ms) its.also in
     let (p, sixth) = flag_given (get_member (codes_of "poison") ms) its.poison in
-    (record { link = a; address = b; cost = c; direct = e; also = g; poison = p }, rw (only_keys interface_keys ms its.keys, first, second, third, fourth, fifth, sixth) refl)
+    (record { link = a; address = b; cost = c; direct = e; also = g; poison = p }, rw (only_keys (keys_of an_interface) ms its.keys, first, second, third, fourth, fifth, sixth) refl)
 
 pub interface_not : (d : Data) → (as_table d &> interface_fields) ≡ None → IsInterfaceTable d → ⊥
 interface_not d none is = not_read interface_fields d is.members is.is_table (interface_read is.members (subst IsInterfaceTable is.is_table is)) none
@@ -294,7 +294,7 @@ pub own_told : (d : Data) (f : OwnFields) → (as_table d &> own_fields) ≡ Som
 unfolding own_fields
 own_told d f h =
     let (ms, is, h1) = then_some (as_table d) own_fields f h in
-    let h2 = chosen (has_only own_keys ms) _ f h1 in
+    let h2 = chosen (has_only (keys_of an_own) ms) _ f h1 in
     let (a, first, h3) = then_some (text_at (codes_of "prefix") ms) _ f h2 in
     let (b, second, h4) = then_some (integer_if (get_member (codes_of "cost") ms)) _ f h3 in
     let (c, third, h5) = then_some (flag_if (get_member (codes_of "kept") ms)) _ f h4 in
@@ -304,7 +304,7 @@ own_told d f h =
     subst IsOwnTable (sym there) (record {
       members = ms;
       is_table = refl;
-      keys = keys_only own_keys ms (guarded (has_only own_keys ms) _ f h1);
+      keys = keys_only (keys_of an_own) ms (guarded (has_only (keys_of an_own) ms) _ f h1);
       prefix = text_has (get_member (codes_of "prefix") ms) a first;
       cost = integer_may (get_member (codes_of "cost") ms) b second;
       kept = flag_may (get_member (codes_of "kept") ms) c third;
@@ -320,7 +320,7 @@ own_read ms its =
     let (c, third) = flag_given (get_member (codes_of "kept") ms) its.kept in
     let (e, fourth) = text_if_given (get_member (codes_of "link") ms) its.link in
     let (g, fifth) = text_if_given (get_member (codes_of "via") ms) its.via in
-    (record { prefix = a; cost = b; kept = unwrap_or c false; link = e; via = g }, rw (only_keys own_keys ms its.keys, first, second, third, fourth, fifth) refl)
+    (record { prefix = a; cost = b; kept = unwrap_or c false; link = e; via = g }, rw (only_keys (keys_of an_own) ms its.keys, first, second, third, fourth, fifth) refl)
 
 pub own_not : (d : Data) → (as_table d &> own_fields) ≡ None → IsOwnTable d → ⊥
 own_not d none is = not_read own_fields d is.members is.is_table (own_read is.members (subst IsOwnTable is.is_table is)) none

@@ -19,7 +19,7 @@ use Rattle.rip_plan.specs.declared.draft.DraftPlace.{DraftPlace}
 use Rattle.rip_plan.specs.declared.parts.Interface.{Interface}
 use Rattle.rip_plan.specs.declared.parts.Seat.{Seat}
 use Rattle.rip_plan.specs.declared.parts.Seat.TheVariants as seats
-use Rattle.rip_plan.specs.Keys.{root_keys}
+use Rattle.rip_plan.specs.Keys.{keys_of, the_root}
 use Rattle.rip_plan.specs.Fields.{flag_if, some_items, root_fields, items_at, has_only, ◌&>◌}
 use Rattle.rip_plan.specs.Seats.{is_on}
 use Rattle.rip_plan.specs.Draft.{Sketch, link_step, router_step, is_outside, has_address}
@@ -250,7 +250,7 @@ some_of_both (Some (x ∷ xs)) (Some (y ∷ ys)) (Some z) f h =
 
 some_of_root : (doc : Members) (f : List Data × List Data × Bool) → root_fields doc ≡ Some f → (1 ≤ length f.0) × (1 ≤ length f.1)
 unfolding root_fields
-some_of_root doc f h = some_of_both (items_at (codes_of "link") doc) (items_at (codes_of "router") doc) (flag_if (get_member (codes_of "poison") doc)) f (chosen (has_only root_keys doc) _ f h)
+some_of_root doc f h = some_of_both (items_at (codes_of "link") doc) (items_at (codes_of "router") doc) (flag_if (get_member (codes_of "poison") doc)) f (chosen (has_only (keys_of the_root) doc) _ f h)
 
 good_document : (laws : TextLaws) (doc : Members) (s : Sketch) → DocumentTaken doc s → Good s
 unfolding IsDistinct

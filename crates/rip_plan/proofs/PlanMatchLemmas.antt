@@ -11,7 +11,7 @@ use Rattle.rip_plan.specs.declared.parts.Interface.{Interface}
 use Rattle.rip_plan.specs.declared.parts.Seat.TheVariants as seats
 use Rattle.rip_plan.specs.declared.error.At.TheVariants.{LinkPrefix, RouterInterface, RouterOwn}
 use Rattle.rip_plan.specs.Fault.{steps}
-use Rattle.rip_plan.specs.Keys.{root_keys}
+use Rattle.rip_plan.specs.Keys.{keys_of, the_root}
 use Rattle.rip_plan.specs.Fields.{◌&>◌, flag_if, items_at, has_only, some_items, root_fields}
 use Rattle.rip_plan.specs.Draft.{Sketch, prefix_step, link_step, interface_step, own_step, router_step}
 use Rattle.rip_plan.specs.PlanText.{empty, sketch_of}
@@ -263,7 +263,7 @@ pub root_table : (doc : Members) (links routers : List Data) (poison : Bool) →
 unfolding root_fields
 root_table doc links routers poison h =
     let root : List Data × List Data × Bool = (links, routers, poison) in
-    let h1 = chosen (has_only root_keys doc) _ root h in
+    let h1 = chosen (has_only (keys_of the_root) doc) _ root h in
     let (a, first, h2) = then_some (items_at (codes_of "link") doc &> some_items) _ root h1 in
     let (b, second, h3) = then_some (items_at (codes_of "router") doc &> some_items) _ root h2 in
     let (p, third, h4) = then_some (flag_if (get_member (codes_of "poison") doc)) _ root h3 in

@@ -7,7 +7,7 @@ use Rattle.std.proofs.lemmas.Bool.Decides.{nat_tests}
 use Rattle.toml.specs.Data.{Data, Items, Members, string, integer, float, boolean, datetime, array, table, get, get_member, as_bool, as_str, as_integer, as_array, as_table}
 use Rattle.rip_wire.specs.Address.{address_in}
 use Rattle.rip_plan.specs.declared.parts.OwnPrefix.{OwnPrefix}
-use Rattle.rip_plan.specs.Keys.{interface_keys, link_keys, own_keys, router_keys}
+use Rattle.rip_plan.specs.Keys.{keys_of, a_link, a_router, an_interface, an_own}
 use Rattle.rip_plan.specs.Fields.{InterfaceFields, OwnFields, ◌&>◌, has_only, list_of, text_at, items_at, items_if, integer_if, texts_of, flag_if, text_if, address_if, link_if, addresses_in, is_between, link_fields, interface_fields, own_fields, router_fields, cost_of, direct_of}
 use Rattle.rip_plan.specs.Names.{number_of_name}
 use Rattle.rip_plan.specs.PlanOf.{HasText, IsAddressOf, IsCostOf, IsDirectOf, IsGatewayOf, IsKeptOf, IsLinkOf, IsNameOf, IsPoisonOf, Matched, items_in}
@@ -149,7 +149,7 @@ pub link_table : (d : Data) (name : List ℕ) (prefixes : List Data) → (as_tab
 unfolding link_fields
 link_table d name prefixes h =
     let (ms, is, h1) = then_some (as_table d) link_fields (name, prefixes) h in
-    let h2 = chosen (has_only link_keys ms) _ (name, prefixes) h1 in
+    let h2 = chosen (has_only (keys_of a_link) ms) _ (name, prefixes) h1 in
     let (a, first, h3) = then_some (text_at (codes_of "name") ms) _ (name, prefixes) h2 in
     let (b, second, h4) = then_some (items_at (codes_of "prefixes") ms) _ (name, prefixes) h3 in
     let same = same_Some (a, b) (name, prefixes) h4 in
@@ -173,7 +173,7 @@ pub interface_texts : (d : Data) (f : InterfaceFields) → (as_table d &> interf
 unfolding interface_fields
 interface_texts d f h =
     let (ms, is, h1) = then_some (as_table d) interface_fields f h in
-    let h2 = chosen (has_only interface_keys ms) _ f h1 in
+    let h2 = chosen (has_only (keys_of an_interface) ms) _ f h1 in
     let (a, first, h3) = then_some (text_at (codes_of "link") ms) _ f h2 in
     let (b, second, h4) = then_some (text_at (codes_of "address") ms) _ f h3 in
     let (c, third, h5) = then_some (integer_if (get_member (codes_of "cost") ms)) _ f h4 in
@@ -223,7 +223,7 @@ pub own_texts : (d : Data) (f : OwnFields) → (as_table d &> own_fields) ≡ So
 unfolding own_fields
 own_texts d f h =
     let (ms, is, h1) = then_some (as_table d) own_fields f h in
-    let h2 = chosen (has_only own_keys ms) _ f h1 in
+    let h2 = chosen (has_only (keys_of an_own) ms) _ f h1 in
     let (a, first, h3) = then_some (text_at (codes_of "prefix") ms) _ f h2 in
     let (b, second, h4) = then_some (integer_if (get_member (codes_of "cost") ms)) _ f h3 in
     let (c, third, h5) = then_some (flag_if (get_member (codes_of "kept") ms)) _ f h4 in
@@ -282,7 +282,7 @@ pub router_table : (d : Data) (name : List ℕ) (interfaces owns : List Data) �
 unfolding router_fields
 router_table d name interfaces owns h =
     let (ms, is, h1) = then_some (as_table d) router_fields (name, interfaces, owns) h in
-    let h2 = chosen (has_only router_keys ms) _ (name, interfaces, owns) h1 in
+    let h2 = chosen (has_only (keys_of a_router) ms) _ (name, interfaces, owns) h1 in
     let (a, first, h3) = then_some (text_at (codes_of "name") ms) _ (name, interfaces, owns) h2 in
     let (b, second, h4) = then_some (items_at (codes_of "interface") ms) _ (name, interfaces, owns) h3 in
     let (c, third, h5) = then_some (items_if (get_member (codes_of "own") ms)) _ (name, interfaces, owns) h4 in

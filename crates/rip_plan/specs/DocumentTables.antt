@@ -2,7 +2,7 @@
 use Rattle.std.specs.Prelude.{◌≡◌, ◌≢◌, ℕ, ℤ, List, [], Bool, codes, Some, slice_get}
 use Rattle.toml.specs.Data.{Data, Items, Members, array, boolean, get, integer, string, table}
 use Rattle.rip_plan.specs.Fields.{list_of}
-use Rattle.rip_plan.specs.Keys.{interface_keys, link_keys, own_keys, root_keys, router_keys}
+use Rattle.rip_plan.specs.Keys.{keys_of, the_root, a_link, a_router, an_interface, an_own}
 
 -- the table has no key but these
 abbrev pub HasOnly : List (List ℕ) → Data → Type 0
@@ -46,7 +46,7 @@ IsTextList d =
 
 -- the document itself; its version is judged apart
 pub record IsRoot (document : Members) : Type 0 where
-  pub keys : HasOnly root_keys (table document)
+  pub keys : HasOnly (keys_of the_root) (table document)
   pub link : Has (codes "link") (table document) IsSomeList
   pub router : Has (codes "router") (table document) IsSomeList
   pub poison : MayHave (codes "poison") (table document) IsFlag
@@ -54,14 +54,14 @@ pub record IsRoot (document : Members) : Type 0 where
 pub record IsLinkTable (d : Data) : Type 0 where
   pub members : Members
   pub is_table : d ≡ table members
-  pub keys : HasOnly link_keys d
+  pub keys : HasOnly (keys_of a_link) d
   pub name : Has (codes "name") d IsString
   pub prefixes : Has (codes "prefixes") d IsList
 
 pub record IsRouterTable (d : Data) : Type 0 where
   pub members : Members
   pub is_table : d ≡ table members
-  pub keys : HasOnly router_keys d
+  pub keys : HasOnly (keys_of a_router) d
   pub name : Has (codes "name") d IsString
   pub interface : Has (codes "interface") d IsList
   pub own : MayHave (codes "own") d IsList
@@ -69,7 +69,7 @@ pub record IsRouterTable (d : Data) : Type 0 where
 pub record IsInterfaceTable (d : Data) : Type 0 where
   pub members : Members
   pub is_table : d ≡ table members
-  pub keys : HasOnly interface_keys d
+  pub keys : HasOnly (keys_of an_interface) d
   pub link : Has (codes "link") d IsString
   pub address : Has (codes "address") d IsString
   pub cost : MayHave (codes "cost") d IsInteger
@@ -80,7 +80,7 @@ pub record IsInterfaceTable (d : Data) : Type 0 where
 pub record IsOwnTable (d : Data) : Type 0 where
   pub members : Members
   pub is_table : d ≡ table members
-  pub keys : HasOnly own_keys d
+  pub keys : HasOnly (keys_of an_own) d
   pub prefix : Has (codes "prefix") d IsString
   pub cost : MayHave (codes "cost") d IsInteger
   pub kept : MayHave (codes "kept") d IsFlag

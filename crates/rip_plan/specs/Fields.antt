@@ -4,7 +4,7 @@ use Rattle.std.specs.List.{list_all}
 use Rattle.toml.specs.Data.{Data, integer, Items, no_items, item, Members, no_members, member, get_member, as_bool, as_str, as_integer, as_array}
 use Rattle.rip_wire.specs.Address.{address_in}
 use Rattle.rip_plan.specs.declared.limits.TheConstants.{MOST_COST}
-use Rattle.rip_plan.specs.Keys.{interface_keys, link_keys, own_keys, root_keys, router_keys}
+use Rattle.rip_plan.specs.Keys.{keys_of, the_root, a_link, a_router, an_interface, an_own}
 use Rattle.rip_plan.specs.Names.{is_one_of, number_of_name}
 
 infixl 10 ◌&>◌
@@ -45,7 +45,7 @@ flag_if (Some d) = option_map Some (as_bool d)
 -- the name and the prefixes of a link's table
 unfoldable pub link_fields : Members → Option (List ℕ × List Data)
 link_fields ms =
-    if has_only link_keys ms then
+    if has_only (keys_of a_link) ms then
     (text_at (codes "name") ms &> (λ name.
     items_at (codes "prefixes") ms &> (λ prefixes.
     Some (name, prefixes))))
@@ -68,7 +68,7 @@ pub record InterfaceFields : Type 0 where
 -- table, and whether it poisons
 unfoldable pub interface_fields : Members → Option InterfaceFields
 interface_fields ms =
-    if has_only interface_keys ms then
+    if has_only (keys_of an_interface) ms then
     (text_at (codes "link") ms &> (λ link.
     text_at (codes "address") ms &> (λ address.
     integer_if (get_member (codes "cost") ms) &> (λ cost.
@@ -122,7 +122,7 @@ text_if (Some d) = option_map Some (as_str d)
 -- the prefix, the cost, whether it is kept, the link and the gateway of an own prefix's table
 unfoldable pub own_fields : Members → Option OwnFields
 own_fields ms =
-    if has_only own_keys ms then
+    if has_only (keys_of an_own) ms then
     (text_at (codes "prefix") ms &> (λ prefix.
     integer_if (get_member (codes "cost") ms) &> (λ cost.
     flag_if (get_member (codes "kept") ms) &> (λ kept.
@@ -150,7 +150,7 @@ link_if (Some name) links = option_map Some (number_of_name name links)
 -- the name, the interfaces and the own prefixes of a router's table
 unfoldable pub router_fields : Members → Option (List ℕ × List Data × List Data)
 router_fields ms =
-    if has_only router_keys ms then
+    if has_only (keys_of a_router) ms then
     (text_at (codes "name") ms &> (λ name.
     items_at (codes "interface") ms &> (λ interfaces.
     items_if (get_member (codes "own") ms) &> (λ owns.
@@ -165,7 +165,7 @@ some_items (d ∷ ds) = Some (d ∷ ds)
 -- the links and the routers of the document, and whether interfaces poison that do not say it
 unfoldable pub root_fields : Members → Option (List Data × List Data × Bool)
 root_fields ms =
-    if has_only root_keys ms then
+    if has_only (keys_of the_root) ms then
     (items_at (codes "link") ms &> some_items &> (λ links.
     items_at (codes "router") ms &> some_items &> (λ routers.
     flag_if (get_member (codes "poison") ms) &> (λ poison.
