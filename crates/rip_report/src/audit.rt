@@ -164,7 +164,7 @@ fn places_of<T: MetricTable>(
         (all ≡ true) × (verdict_status verdict.now ≡ Status.Unsettled) }
 {
     match verdict {
-        Verdict::Unsettled(_) if all => Ok(Some(Unsettled::find(alloc, plan, table)?)),
+        Verdict::Unsettled(_) if all => Unsettled::find(alloc, plan, table).map(Some),
         _ => Ok(None),
     }
 }
