@@ -113,3 +113,15 @@ returns-in-Ok-clause-steps g c =
           (c.take_block.ensures.source ∙ ap (λ (f : Feed g.row.R.Denot). f.source) (c.next_block.ensures.ready is.block), λ e. c.in-Ok.ensures.packet is.form kind (cc e));
       refusal = c.take_block.ensures.refusal;
     }
+
+pub returns-in-Err-clause-good : goal.returns-in-Err-clause-good
+returns-in-Err-clause-good g c = tt
+
+pub returns-in-Ok-None-clause-good : goal.returns-in-Ok-None-clause-good
+returns-in-Ok-None-clause-good g c = tt
+
+pub returns-in-Err-take_block-clause-good : goal.returns-in-Err-take_block-clause-good
+returns-in-Err-take_block-clause-good g c = tt
+
+pub returns-in-Ok-clause-good : goal.returns-in-Ok-clause-good
+returns-in-Ok-clause-good g c = c.in-Ok.ensures.good
