@@ -89,3 +89,8 @@ pub once_distinct : (ps : List Block) → IsDistinct same_prefix (each_once ps)
 unfolding IsDistinct
 once_distinct [] = tt
 once_distinct (p ∷ ps) = (filter_away p (each_once ps), filter_distinct (λ q. not (same_prefix p q)) (each_once ps) (once_distinct ps))
+
+-- what holds of each holds of each once
+pub once_kept : (P : Block → Type 0) (ps : List Block) → AllByRecursion P ps → AllByRecursion P (each_once ps)
+once_kept P [] h = tt
+once_kept P (p ∷ ps) h = (h.0, filter_kept P (λ q. not (same_prefix p q)) (each_once ps) (once_kept P ps h.1))

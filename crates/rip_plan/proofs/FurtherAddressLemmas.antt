@@ -34,23 +34,23 @@ of_spot at j (d ∷ ds) k a h =
       | inr e ↦ let (m, x, is, there) = of_spot at (j + 1) ds e.0 a e.2 in (suc m, x, is ∙ ap at (omega arith), there)
     ]
 
-also_spot : (r : ℕ) (ds : List Data) (k : ℕ) (a : At) → slice_get (also_spots_from r ds) k ≡ Some a → IsSpot (codes_of "interface") RouterInterface r ds a
+pub also_spot : (r : ℕ) (ds : List Data) (k : ℕ) (a : At) → slice_get (also_spots_from r ds) k ≡ Some a → IsSpot (codes_of "interface") RouterInterface r ds a
 also_spot r [] k a h = absurd (none-some a h)
 also_spot r (d ∷ ds) k a h =
     elim (get_split (also_spots_of (RouterInterface r) 1 (items_in (get (codes_of "interface") d))) (also_spots_from (r + 1) ds) k a h) [
       | inl e ↦
           let (m, x, is, there) = of_spot (RouterInterface r) 1 (items_in (get (codes_of "interface") d)) k a e.0 in
-          record { n = zero; j = m; is = is ∙ ap (RouterInterface r) (omega arith) ∙ ap (λ (q : ℕ). RouterInterface q (suc m)) (omega arith); d = d; table = refl; x = x; item = there }
+          record { n = zero; j = m; is = is ∙ ap (RouterInterface r) (omega arith) ∙ ap (λ (q : ℕ). RouterInterface q (suc m)) (omega arith); x = x; item = (d, refl, there) }
       | inr e ↦
           let s = also_spot (r + 1) ds e.0 a e.2 in
-          record { n = suc s.n; j = s.j; is = s.is ∙ ap (λ (q : ℕ). RouterInterface q (suc s.j)) (omega arith); d = s.d; table = s.table; x = s.x; item = s.item }
+          record { n = suc s.n; j = s.j; is = s.is ∙ ap (λ (q : ℕ). RouterInterface q (suc s.j)) (omega arith); x = s.x; item = s.item }
     ]
 
 pub also_item : (routers : List Data) (k i j : ℕ) → slice_get (also_spots routers) k ≡ Some (RouterInterface i j) → (x : Data) × IsItem (codes_of "interface") routers i j x
 also_item routers k i j h =
     let s = also_spot 1 routers k (RouterInterface i j) h in
     let same : RouterInterface i j ≡ RouterInterface (1 + s.n) (suc s.j) = s.is in
-    (s.x, item_of (codes_of "interface") routers s.n s.j s.d s.x s.table s.item i j (cc) (cc))
+    (s.x, item_of (codes_of "interface") routers s.n s.j s.x s.item i j (cc) (cc))
 
 -- ---- how many there are
 

@@ -57,13 +57,9 @@ pub all_push : {A : Type 0} (P : A → Type 0) (xs : List A) (x : A) → AllByRe
 all_push P [] x h p = (p, tt)
 all_push P (y ∷ xs) x h p = (h.0, all_push P xs x h.1 p)
 
-pub all_none : {A : Type 0} (P : A → Type 0) (xs : List A) → xs ≡ [] → AllByRecursion P xs
-all_none P [] h = tt
-all_none P (x ∷ xs) h = absurd cc
-
-pub all_weaker : {A : Type 0} (P Q : A → Type 0) → ((x : A) → P x → Q x) → (xs : List A) → AllByRecursion P xs → AllByRecursion Q xs
-all_weaker P Q f [] h = tt
-all_weaker P Q f (x ∷ xs) h = (f x h.0, all_weaker P Q f xs h.1)
+pub all_here : {A : Type 0} (P : A → Type 0) (xs : List A) → ((k : ℕ) (x : A) → slice_get xs k ≡ Some x → P x) → AllByRecursion P xs
+all_here P [] f = tt
+all_here P (x ∷ xs) f = (f 0 x refl, all_here P xs (λ k y h. f (suc k) y h))
 
 pub distinct_push : {A : Type 0} (clash : A → A → Bool) (xs : List A) (x : A) → IsDistinct clash xs → list_any (λ y. clash y x) xs ≡ false → IsDistinct clash (xs ++ x ∷ [])
 unfolding IsDistinct

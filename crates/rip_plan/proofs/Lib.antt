@@ -9,11 +9,9 @@ pub mod TakenStepLemmas
 pub mod ItemLemmas
 pub mod FirstFoundLemmas
 pub mod TextLemmas
-pub mod FirstPassLemmas
 pub mod NumberingLemmas
 pub mod SecondPassLemmas
 pub mod SketchPlanLemmas
-pub mod LawfulPlanLemmas
 pub mod CellLemmas
 pub mod NumbersWhereLemmas
 pub mod HeldAddressLemmas
@@ -32,10 +30,12 @@ pub mod OrderLemmas
 pub mod FindingLemmas
 pub mod SpotLemmas
 pub mod FurtherAddressLemmas
+pub mod PlanPartLemmas
 pub mod FaultRowLemmas
 pub mod TakenSpotLemmas
 pub mod LinkFaultLemmas
 pub mod RouterFaultLemmas
 pub mod PassFaultLemmas
 pub mod TextFaultLemmas
+pub mod LawfulPlanLemmas
 pub mod WellFormedTextLemmas

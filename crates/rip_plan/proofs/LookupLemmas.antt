@@ -60,13 +60,13 @@ number_of_planned n laws p k h =
 -- ---- direct costs
 
 -- an interface of the list with this router, this link and this direct metric
-abbrev IsConnectedIn : List Interface → ℕ → ℕ → ℕ → ℕ → Type 0
+abbrev pub IsConnectedIn : List Interface → ℕ → ℕ → ℕ → ℕ → Type 0
 IsConnectedIn is i r l d = (a c : ℕ) × (b : Bool) × (slice_get is i ≡ Some (record { router = r; link = l; address = a; cost = c; direct = d; poison = b }))
 
 same_interface : (x : Interface) (r l d : ℕ) → x.router ≡ r → x.link ≡ l → x.direct ≡ d → x ≡ record { router = r; link = l; address = x.address; cost = x.cost; direct = d; poison = x.poison }
 same_interface x r l d e f g = rw (← e, ← f, ← g) refl
 
-cost_found : (r l d : ℕ) (is : List Interface) → cost_on r l is ≡ Some d → (i : ℕ) × IsConnectedIn is i r l d
+pub cost_found : (r l d : ℕ) (is : List Interface) → cost_on r l is ≡ Some d → (i : ℕ) × IsConnectedIn is i r l d
 cost_found r l d [] h = absurd (none-some d h)
 cost_found r l d (x ∷ xs) h = by_test (x.router == r && x.link == l) refl h (λ e. cost_found r l d xs e)
   where
@@ -80,7 +80,7 @@ cost_found r l d (x ∷ xs) h = by_test (x.router == r && x.link == l) refl h (�
         (zero, (x.address, x.cost, x.poison, ap (λ (y : Interface). Some y) (same_interface x r l d router link direct)))
     by_test false e f later = let (i, (a, c, p, at)) = later f in (suc i, (a, c, p, at))
 
-cost_there : (r l d a c i : ℕ) (b : Bool) (is : List Interface) → slice_get is i ≡ Some (record { router = r; link = l; address = a; cost = c; direct = d; poison = b }) → cost_on r l is ≡ None → ⊥
+pub cost_there : (r l d a c i : ℕ) (b : Bool) (is : List Interface) → slice_get is i ≡ Some (record { router = r; link = l; address = a; cost = c; direct = d; poison = b }) → cost_on r l is ≡ None → ⊥
 cost_there r l d a c i b [] h e = absurd (none-some _ h)
 cost_there r l d a c zero b (x ∷ xs) h e =
     let same = same_Some x _ h in

@@ -1,8 +1,8 @@
 -- What the later passes find of the faults of a plan.
-use Rattle.std.proofs.Common.{◌≡◌, ℕ, suc, ◌+◌, ◌<◌, ◌≤◌, ◌⊎◌, inl, inr, List, [], ◌∷◌, ◌++◌, length, true, false, not, ◌||◌, Option, Some, None, Result, refl, sym, ap, subst, ◌∙◌, arith}
+use Rattle.std.proofs.Common.{◌≡◌, ℕ, ◌+◌, ◌<◌, ◌≤◌, ◌⊎◌, inl, inr, List, [], ◌∷◌, ◌++◌, length, true, false, not, ◌||◌, Option, Some, None, Result, refl, sym, ap, subst, ◌∙◌, arith}
 use Rattle.rip_plan.proofs.FirstFoundLemmas.{Clashes, FirstSo, Passes, first_clashing, first_passing}
 use Rattle.rip_plan.proofs.SketchPlanLemmas.{interface_in, interface_from, listed_as, place_in, place_from, touch, touches, there_on, on_there}
-use Rattle.std.specs.Prelude.{slice_get, find, option_map, unwrap_or, map, ◌==◌, codes as codes_of}
+use Rattle.std.specs.Prelude.{slice_get, find, option_map, unwrap_or, map, ◌==◌}
 use Rattle.std.specs.List.{list_any}
 use Rattle.std.specs.Option.{option_map_or}
 use Rattle.std.proofs.lemmas.Option.{same_Some, slice_get_within}
@@ -18,7 +18,6 @@ use Rattle.rip_plan.specs.declared.addresses.Held.{Held}
 use Rattle.rip_plan.specs.declared.draft.DraftPlace.{DraftPlace}
 use Rattle.rip_plan.specs.declared.draft.DraftInterface.{DraftInterface}
 use Rattle.rip_plan.specs.declared.parts.Interface.{Interface}
-use Rattle.rip_plan.specs.declared.parts.OwnPrefix.{OwnPrefix}
 use Rattle.rip_plan.specs.declared.parts.Seat.{Seat}
 use Rattle.rip_plan.specs.declared.parts.Seat.TheVariants as seats
 use Rattle.rip_plan.specs.Codes.{number_of_code}
@@ -28,18 +27,18 @@ use Rattle.rip_plan.specs.Passes.{Touching, first_clash, touched, touching, same
 use Rattle.rip_plan.specs.Addresses.{have_one_address}
 use Rattle.rip_plan.specs.Network.{Network, network_of_sketch}
 use Rattle.rip_plan.specs.Relations.{HasAddresses, IsInterface, IsPlace}
-use Rattle.rip_plan.specs.PlanOf.{IsOnLink, IsPlaceOf, PlanOf, items_under}
-use Rattle.rip_plan.specs.PlanFaults.{TableFault, IsAstray, IsClash, IsBare, IsSo, DoMeet, AreTwice, HasOneTwice, HaveOneAddress, Before, pass_of, rank, position, place_spots, interface_spots, spots_under}
+use Rattle.rip_plan.specs.PlanOf.{PlanOf}
+use Rattle.rip_plan.specs.PlanFaults.{TableFault, IsAstray, IsClash, IsBare, IsSo, DoMeet, AreTwice, HasOneTwice, HaveOneAddress, Before, pass_of, rank, position, place_spots, interface_spots}
 use Rattle.rip_plan.proofs.OrderLemmas.{before_trans, before_not}
 use Rattle.rip_plan.proofs.FindingLemmas.{Found, ranked, Finds, finds_in, bind_rows}
 use Rattle.rip_plan.proofs.FaultRowLemmas.{IsAstrayAt, IsLast, IsOfTables, IsTold, told_finds, code_rows, code_high, last_two, last_three, last_four, pass_rows}
 use Rattle.rip_plan.proofs.HeldAddressLemmas.{address_held, held_address}
 use Rattle.rip_plan.proofs.HeldOrderLemmas.{held_order, stands_from}
-use Rattle.rip_plan.proofs.MatchingLemmas.{matched_left, matched_length}
 use Rattle.rip_plan.proofs.OnePlanLemmas.{one_plan}
-use Rattle.rip_plan.proofs.SpotLemmas.{place_ahead, interface_ahead, place_spot, interface_spot, spot_under, spots_count}
+use Rattle.rip_plan.proofs.PlanPartLemmas.{own_spot}
+use Rattle.rip_plan.proofs.SpotLemmas.{place_ahead, interface_ahead, place_spot, interface_spot}
 use Rattle.rip_plan.proofs.TakenSpotLemmas.{place_ats, interface_ats}
-use Rattle.rip_plan.proofs.ItemLemmas.{any_at, any_finds, distinct_at, get_seen, get_split, see_got, get_some}
+use Rattle.rip_plan.proofs.ItemLemmas.{any_at, any_finds, distinct_at, get_seen, see_got, get_some}
 use Rattle.rip_plan.proofs.NumberingLemmas.{numbers, same_is, same_from}
 use Rattle.rip_plan.proofs.SecondPassLemmas.{address_spot, held, held_spot, taken_address, common, FoundBare, search_bare}
 use Rattle.rip_plan.proofs.TextLemmas.{TextLaws}
@@ -301,7 +300,7 @@ module _ (s : Sketch) where
 -- ---- all later passes
 
 module _ (laws : TextLaws) (document : Members) (links routers : List Data) (s : Sketch) (plan : PlanOf document (network_of_sketch s)) (placed : place_ats s ≡ place_spots links routers)
-    (listed : interface_ats s ≡ interface_spots routers) (tables : plan.links ≡ links) where
+    (listed : interface_ats s ≡ interface_spots routers) (spots : place_spots plan.links plan.routers ≡ place_spots links routers) where
   place_at : (k : ℕ) (d : DraftPlace) → slice_get s.places k ≡ Some d → slice_get (place_spots links routers) k ≡ Some d.at
   place_at k d h = ap (λ (l : List At). slice_get l k) (sym placed) ∙ see_got (λ (p : DraftPlace). p.at) s.places k d h
 
@@ -322,12 +321,12 @@ module _ (laws : TextLaws) (document : Members) (links routers : List Data) (s :
   duplicate_told place c =
       let (j, k, at, less, meet) = c in
       elim (place_spot links routers k place at) [
-        | inl (i, n, e) ↦
-            subst (λ (p : At). TableFault document links routers codes.DuplicatePrefix p) (sym e)
-            (network_of_sketch s, plan, subst (IsClash (DoMeet (network_of_sketch s)) (place_spots links routers)) e c)
-        | inr (i, n, e) ↦
-            subst (λ (p : At). TableFault document links routers codes.DuplicatePrefix p) (sym e)
-            (network_of_sketch s, plan, subst (IsClash (DoMeet (network_of_sketch s)) (place_spots links routers)) e c)
+        | inl t ↦
+            subst (λ (p : At). TableFault document links routers codes.DuplicatePrefix p) (sym t.is)
+            (network_of_sketch s, plan, subst (IsClash (DoMeet (network_of_sketch s)) (place_spots links routers)) t.is c)
+        | inr t ↦
+            subst (λ (p : At). TableFault document links routers codes.DuplicatePrefix p) (sym t.is)
+            (network_of_sketch s, plan, subst (IsClash (DoMeet (network_of_sketch s)) (place_spots links routers)) t.is c)
       ]
 
   -- of a network that is the plan too
@@ -371,8 +370,8 @@ module _ (laws : TextLaws) (document : Members) (links routers : List Data) (s :
   twice_told : (place : At) → IsClash (AreTwice (network_of_sketch s)) (interface_spots routers) place → TableFault document links routers codes.TwiceOnLink place
   twice_told place c =
       let (j, k, at, less, meet) = c in
-      let (i, n, e) = interface_spot routers k place at in
-      subst (λ (p : At). TableFault document links routers codes.TwiceOnLink p) (sym e) (network_of_sketch s, plan, subst (IsClash (AreTwice (network_of_sketch s)) (interface_spots routers)) e c)
+      let t = interface_spot routers k place at in
+      subst (λ (p : At). TableFault document links routers codes.TwiceOnLink p) (sym t.is) (network_of_sketch s, plan, subst (IsClash (AreTwice (network_of_sketch s)) (interface_spots routers)) t.is c)
 
   twice_clear : (place : At) → TableFault document links routers codes.TwiceOnLink place → IsClash (AreTwice (network_of_sketch s)) (interface_spots routers) place
   twice_clear (RouterInterface r j) f = of_plan (λ n. IsClash (AreTwice n) (interface_spots routers) (RouterInterface r j)) f.0 f.1 f.2
@@ -404,8 +403,8 @@ module _ (laws : TextLaws) (document : Members) (links routers : List Data) (s :
   address_told : (place : At) → (k : ℕ) → slice_get (interface_spots routers) k ≡ Some place → IsAddressClash (network_of_sketch s) place
       → TableFault document links routers codes.DuplicateAddress place
   address_told place k at c =
-      let (i, n, e) = interface_spot routers k place at in
-      subst (λ (p : At). TableFault document links routers codes.DuplicateAddress p) (sym e) (network_of_sketch s, plan, subst (IsAddressClash (network_of_sketch s)) e c)
+      let t = interface_spot routers k place at in
+      subst (λ (p : At). TableFault document links routers codes.DuplicateAddress p) (sym t.is) (network_of_sketch s, plan, subst (IsAddressClash (network_of_sketch s)) t.is c)
 
   address_clear : (place : At) → TableFault document links routers codes.DuplicateAddress place → IsAddressClash (network_of_sketch s) place
   address_clear (RouterInterface r j) f = of_plan (λ n. IsAddressClash n (RouterInterface r j)) f.0 f.1 f.2
@@ -456,38 +455,13 @@ module _ (laws : TextLaws) (document : Members) (links routers : List Data) (s :
           record { k = k; x = x; at = at; so = clashes; stands = seen ∙ ap (λ (y : DraftInterface). y.at) same ∙ stands }
 
   -- own prefixes
-  own_spot : (k i j p : ℕ) (own : OwnPrefix) → IsPlace (network_of_sketch s) k p (seats.Own own) → slice_get (place_spots links routers) k ≡ Some (LinkPrefix i j) → ⊥
-  own_spot k i j p own place spot =
-      let n = network_of_sketch s in
-      let on_links = spots_under (codes_of "prefixes") LinkPrefix 1 links in
-      let count : length on_links ≡ length plan.on_links =
-      spots_count (codes_of "prefixes") LinkPrefix 1 0 links
-      ∙ ap (λ (ds : List Data). length (items_under (codes_of "prefixes") 0 ds)) (sym tables)
-      ∙ sym (matched_length IsOnLink plan.on_links (items_under (codes_of "prefixes") 0 plan.links) plan.link_prefixes) in
-      let (q, at, of) = matched_left (IsPlaceOf n) n.places (plan.on_links ++ plan.owned) k _ plan.places place.listed in
-      elim (get_split plan.on_links plan.owned k q at) [
-        | inl here ↦
-            let (x, is, on) = matched_left IsOnLink plan.on_links (items_under (codes_of "prefixes") 0 plan.links) k q plan.link_prefixes here.0 in
-            let seat : seats.Own own ≡ seats.Link x.0 = of.seat ∙ on.seat in
-            absurd cc
-        | inr there ↦
-            let past : k ≡ length plan.on_links + there.0 = there.1 in
-            elim (get_split on_links (spots_under (codes_of "own") RouterOwn 1 routers) k (LinkPrefix i j) spot) [
-              | inl early ↦ let less : k < length on_links = early.1 in absurd (omega arith)
-              | inr late ↦
-                  let its = spot_under (codes_of "own") RouterOwn 1 routers late.0 (LinkPrefix i j) late.2 in
-                  let wrong : LinkPrefix i j ≡ RouterOwn (1 + its.n) (suc its.j) = its.is in
-                  absurd cc
-            ]
-      ]
-
   astray_told : (place : At) → IsSo (IsAstray (network_of_sketch s)) (place_spots links routers) place → IsAstrayAt document links routers place
   astray_told place c =
       let (k, at, (p, r, l, h, none)) = c in
-      elim (place_spot links routers k place at) [
-        | inl (i, j, is) ↦ absurd (own_spot k i j p h.own h.place (at ∙ ap (λ (x : At). Some x) is))
-        | inr (i, j, is) ↦ subst (IsAstrayAt document links routers) (sym is) (network_of_sketch s, plan, subst (IsSo (IsAstray (network_of_sketch s)) (place_spots links routers)) is c)
-      ]
+      let (i, j, spot) = own_spot document (network_of_sketch s) plan k p h.own h.place in
+      let here : slice_get (place_spots links routers) k ≡ Some (RouterOwn i j) = subst (λ (spots : List At). slice_get spots k ≡ Some (RouterOwn i j)) spots spot in
+      let is : place ≡ RouterOwn i j = same_Some place (RouterOwn i j) (sym at ∙ here) in
+      subst (IsAstrayAt document links routers) (sym is) (network_of_sketch s, plan, subst (IsSo (IsAstray (network_of_sketch s)) (place_spots links routers)) is c)
 
   astray_clear : (place : At) → IsAstrayAt document links routers place → IsSo (IsAstray (network_of_sketch s)) (place_spots links routers) place
   astray_clear (RouterOwn r j) f = of_plan (λ n. IsSo (IsAstray n) (place_spots links routers) (RouterOwn r j)) f.0 f.1 f.2

@@ -23,6 +23,7 @@ use Rattle.rip_plan.proofs.NumberingLemmas.{numbers}
 use Rattle.rip_plan.proofs.MatchingLemmas.{matched_append, matched_at, map_append}
 use Rattle.rip_plan.proofs.EachOnceLemmas.{numbered_once}
 use Rattle.rip_plan.proofs.ItemLemmas.{get_seen}
+use Rattle.rip_plan.proofs.SpotLemmas.{with_number}
 use Rattle.rip_plan.proofs.TableLemmas.{addresses_are, flag_if_is, flag_meant, link_table, interface_table, own_table, router_table, then_some, chosen, items_there, text_is}
 use Rattle.rip_plan.proofs.TextLemmas.{TextLaws, address_is, prefix_is, first_named}
 
@@ -31,9 +32,6 @@ placement d = record { prefix = d.prefix; seat = d.seat }
 
 abbrev pub its_interface : DraftInterface → Interface
 its_interface d = d.interface
-
-abbrev pub with_number : ℕ → Data → ℕ × Data
-with_number n d = (n, d)
 
 pub back : (n : ℕ) → n + 1 - 1 ≡ n
 back n = omega arith

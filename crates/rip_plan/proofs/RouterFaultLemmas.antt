@@ -1,6 +1,6 @@
 -- What is found of the faults of a document's routers.
 use Rattle.std.proofs.Common.{◌≡◌, ℕ, ◌+◌, ◌-◌, ◌<◌, ◌≤◌, ◌⊎◌, inl, inr, List, [], ◌∷◌, ◌++◌, length, Bool, true, false, not, ◌&&◌, ◌||◌, Option, Some, None, Ok, refl, sym, ap, subst, ◌∙◌, arith, length-append}
-use Rattle.std.proofs.lemmas.Bool.{and_parts, and_from}
+use Rattle.std.proofs.lemmas.Bool.{and_parts, and_from, or_parts}
 use Rattle.std.specs.Prelude.{slice_get, nat_le, nat_lt, option_map, codes as codes_of, map}
 use Rattle.std.specs.List.{list_any, IsDistinct}
 use Rattle.std.specs.Str.{bytes_eq}
@@ -30,7 +30,6 @@ use Rattle.rip_plan.specs.PlanFaults.{nth, IsItem, IsPast, NamesNoLink, IsOutsid
 use Rattle.rip_plan.proofs.FindingLemmas.{Finds, no_rows, ranked, steps_finds, bind_rows}
 use Rattle.rip_plan.proofs.FaultRowLemmas.{by_code, IsTold, guard_told, want_told, both_told, interface_from_address, interface_from_cost, interface_from_link, interface_from_outside, interface_from_limit, interface_rows, interface_starts, interfaces_rows, own_from_via, own_from_prefix, own_from_cost, own_from_link, own_from_limit, own_rows, own_starts, owns_rows, router_lists, router_from_duplicate, router_from_name, router_rows, router_starts, routers_rows, interface_row_item, own_row_item, router_row_within, starts_shorter}
 use Rattle.rip_plan.proofs.FurtherAddressLemmas.{also_here, also_in, also_items, also_under, also_within}
-use Rattle.rip_plan.proofs.FirstPassLemmas.{room_for}
 use Rattle.rip_plan.proofs.OrderLemmas.{starts_high}
 use Rattle.rip_plan.proofs.SpotLemmas.{nth_from, place_once, interface_once, own_here, under_here, nth_here, item_once, count_of}
 use Rattle.rip_plan.proofs.TakenSpotLemmas.{further, place_ats, interface_ats, links_stand, interfaces_stand, owns_stand, routers_stand}
@@ -53,6 +52,10 @@ past_most n e le = grind (arith, nat_tests)
 
 most_most : (n : ℕ) → nat_le 1024 n ≡ true → 1024 ≤ n
 most_most n e = grind (arith, nat_tests)
+
+-- there is room for one more interface with these addresses
+room_for : (s : Sketch) (also : List ℕ) → is_full s also ≡ false → (length s.interfaces + 1 ≤ 1024) × (further s + length also ≤ 1024)
+room_for s also h = let parts = or_parts (nat_le 1024 (length s.interfaces)) (nat_lt 1024 (further s + length also)) h in (grind (arith, nat_tests, parts.0), grind (arith, nat_tests, parts.1))
 
 -- ---- links by their names
 

@@ -1,42 +1,22 @@
--- What stands where the second passes found nothing.
-use Rattle.std.proofs.Common.{◌≡◌, ℕ, zero, suc, ◌+◌, ◌<◌, ◌≤◌, inl, inr, List, [], length, map, Bool, true, false, cond, Option, Some, None, Ok, refl, sym, ◌∙◌, ap, arith, subst}
+-- What the passes over addresses and over routers find.
+use Rattle.std.proofs.Common.{◌≡◌, ℕ, zero, suc, ◌+◌, ◌<◌, ◌≤◌, inl, inr, List, [], map, Bool, true, false, cond, Option, Some, None, refl, sym, ◌∙◌, ap, arith, subst}
 use Rattle.rip_plan.proofs.FirstFoundLemmas.{Clashes, FirstSo, first_clashing}
-use Rattle.std.specs.Prelude.{slice_get, find, option_and_then, option_map, unwrap_or, ◌==◌}
+use Rattle.std.specs.Prelude.{slice_get, option_and_then, option_map, unwrap_or, ◌==◌}
 use Rattle.std.specs.List.{list_any}
-use Rattle.std.proofs.lemmas.Bool.{cases_lt, not-false}
+use Rattle.std.proofs.lemmas.Bool.{cases_lt}
 use Rattle.std.proofs.lemmas.Bool.Decides.{nat_tests}
-use Rattle.rip_plan.specs.declared.error.PlanCode.{PlanCode}
-use Rattle.rip_plan.specs.declared.error.PlanCode.TheVariants as codes
 use Rattle.rip_plan.specs.declared.error.At.{At}
-use Rattle.rip_plan.specs.declared.error.At.TheVariants.{Router, Text}
+use Rattle.rip_plan.specs.declared.error.At.TheVariants.{Text}
 use Rattle.rip_plan.specs.declared.addresses.Held.{Held}
 use Rattle.rip_plan.specs.declared.draft.DraftInterface.{DraftInterface}
-use Rattle.rip_plan.specs.declared.draft.DraftPlace.{DraftPlace}
-use Rattle.rip_plan.specs.Draft.{Sketch}
-use Rattle.rip_plan.specs.Passes.{Touching, first_clash, touching, do_meet, have_common, are_twice, is_astray, is_bare, first_bare, none_found, second_passes, spot_of, taken_address_in}
+use Rattle.rip_plan.specs.Passes.{first_clash, have_common, is_bare, first_bare, spot_of, taken_address_in}
 use Rattle.rip_plan.specs.Addresses.{have_one_address, held_from}
 use Rattle.rip_plan.proofs.HeldAddressLemmas.{held_is}
-use Rattle.rip_plan.proofs.BindLemmas.{none_found_ok}
 use Rattle.rip_plan.proofs.ItemLemmas.{any_at, any_finds, get_seen}
 
 -- the addresses of all interfaces
 abbrev pub held : List DraftInterface → List (List ℕ) → List Held
 held interfaces also = held_from 0 (map (λ i. i.interface) interfaces) also
-
-pub record Clear (s : Sketch) : Type 0 where
-  pub meetings : first_clash do_meet [] (map (touching s.interfaces) s.places) ≡ None
-  pub links : first_clash are_twice [] s.interfaces ≡ None
-  pub addresses : first_clash have_one_address [] (held s.interfaces s.also) ≡ None
-  pub bare : first_bare s.interfaces 0 (length s.routers) ≡ None
-  pub astray : find (λ p. is_astray s.interfaces p.seat) s.places ≡ None
-
-map_none : {A B : Type 0} (f : A → B) (o : Option A) → option_map f o ≡ None → o ≡ None
-map_none f None h = refl
-map_none f (Some x) h = absurd cc
-
-last_none : (code : PlanCode) (o : Option At) → none_found code o ≡ Ok tt → o ≡ None
-last_none code None h = refl
-last_none code (Some place) h = absurd cc
 
 -- ---- an address stands at an interface
 
@@ -62,27 +42,6 @@ taken_address interfaces also = by_found (first_clash have_one_address [] (held 
         let (k, at, is, before) = subst (FirstSo (Clashes have_one_address (held interfaces also)) (held interfaces also)) e (first_clashing have_one_address (held interfaces also)) in
         let (d, there) = held_spot interfaces also k h at in
         rw there refl
-
-pub passes_clear : (s : Sketch) → second_passes s ≡ Ok tt → Clear s
-unfolding second_passes
-passes_clear s h =
-    let meetings = option_map (λ (t : Touching). t.place.at) (first_clash do_meet [] (map (touching s.interfaces) s.places)) in
-    let twice = option_map (λ (i : DraftInterface). i.at) (first_clash are_twice [] s.interfaces) in
-    let taken = taken_address_in s.interfaces s.also in
-    let bare = option_map (λ r. Router (r + 1)) (first_bare s.interfaces 0 (length s.routers)) in
-    let astray = option_map (λ (p : DraftPlace). p.at) (find (λ p. is_astray s.interfaces p.seat) s.places) in
-    let (one, h1) = none_found_ok codes.DuplicatePrefix meetings _ tt h in
-    let (two, h2) = none_found_ok codes.TwiceOnLink twice _ tt h1 in
-    let (three, h3) = none_found_ok codes.DuplicateAddress taken _ tt h2 in
-    let (four, h4) = none_found_ok codes.NoInterface bare _ tt h3 in
-    let five = last_none codes.UnknownLink astray h4 in
-    record {
-      meetings = map_none _ _ one;
-      links = map_none _ _ two;
-      addresses = map_none _ _ (sym (taken_address s.interfaces s.also) ∙ three);
-      bare = map_none _ _ four;
-      astray = map_none _ _ five;
-    }
 
 -- ---- each router has an interface
 
@@ -117,13 +76,6 @@ search_bare is k (suc n) = by_test (is_bare is k) refl (first_bare is (k + 1) n)
                 | inr here ↦ same_bare m (omega arith) e
               ],
         )
-
-pub has_one : (is : List DraftInterface) (n r : ℕ) → first_bare is 0 n ≡ None → r < n → (i : ℕ) × (x : DraftInterface) × (slice_get is i ≡ Some x) × (x.interface.router ≡ r)
-has_one is n r h lt =
-    let some = not-false (list_any (λ (i : DraftInterface). i.interface.router == r) is) (subst (FoundBare is 0 n) h (search_bare is 0 n) r (omega arith) (omega arith)) in
-    let found = any_finds (λ (i : DraftInterface). i.interface.router == r) is some in
-    let test : (found.1.interface.router == r) ≡ true = found.3 in
-    (found.0, found.1, found.2, grind (arith, nat_tests))
 
 -- two seats touch a router
 pub common : (rs ss : List ℕ) (r : ℕ) → list_any (λ s. s == r) rs ≡ true → list_any (λ s. s == r) ss ≡ true → have_common rs ss ≡ true

@@ -1,7 +1,7 @@
 -- Where the items of lists stand, and in which order.
-use Rattle.std.proofs.Common.{◌≡◌, ℕ, zero, suc, ◌+◌, ◌<◌, ◌≤◌, ◌⊎◌, inl, inr, List, [], ◌∷◌, ◌++◌, length, length-append, append_assoc, map, Some, refl, sym, ap, ◌∙◌, arith}
+use Rattle.std.proofs.Common.{◌≡◌, ℕ, zero, suc, ◌+◌, ◌<◌, ◌≤◌, ◌⊎◌, inl, inr, List, [], ◌∷◌, ◌++◌, length, length-append, map, Some, refl, sym, ap, ◌∙◌, arith}
 use Rattle.std.specs.Prelude.{slice_get, codes as codes_of}
-use Rattle.std.proofs.lemmas.Option.{none-some, same_Some}
+use Rattle.std.proofs.lemmas.Option.{none-some, same_Some, slice_get_within}
 use Rattle.std.proofs.lemmas.Bool.{cases_lt}
 use Rattle.std.proofs.lemmas.List.{length-map}
 use Rattle.toml.specs.Data.{Data, get}
@@ -9,7 +9,7 @@ use Rattle.rip_plan.specs.declared.error.At.{At}
 use Rattle.rip_plan.specs.declared.error.At.TheVariants.{LinkPrefix, RouterInterface, RouterOwn}
 use Rattle.rip_plan.specs.PlanOf.{items_in, items_under}
 use Rattle.rip_plan.specs.PlanFaults.{nth, IsItem, spots_of, spots_under, place_spots, interface_spots, position, Before}
-use Rattle.rip_plan.proofs.ItemLemmas.{get_split, get_left, get_past}
+use Rattle.rip_plan.proofs.ItemLemmas.{get_split, get_left, get_past, get_seen, get_some}
 use Rattle.rip_plan.proofs.OrderLemmas.{before_not}
 
 pub nth_from : {A : Type 0} (xs : List A) (i : ℕ) (x : A) → nth xs i ≡ Some x → (1 ≤ i) × (i ≤ length xs)
@@ -28,32 +28,86 @@ pub get_front : {A : Type 0} (xs : List A) (a : A) (ys : List A) → slice_get (
 get_front [] a ys = refl
 get_front (x ∷ xs) a ys = get_front xs a ys
 
-spot_at : (at : ℕ → At) (j : ℕ) (ds : List Data) (k : ℕ) (a : At) → slice_get (spots_of at j ds) k ≡ Some a → (a ≡ at (j + k)) × ((x : Data) × (slice_get ds k ≡ Some x))
-spot_at at j [] k a h = absurd (none-some a h)
-spot_at at j (d ∷ ds) zero a h = (sym (same_Some (at j) a h) ∙ ap at (omega arith), (d, refl))
-spot_at at j (d ∷ ds) (suc k) a h = let more = spot_at at (j + 1) ds k a h in (more.0 ∙ ap at (omega arith), more.1)
+-- the spot of an item has its number
+spot_here : (at : ℕ → At) (j : ℕ) (ds : List Data) (k : ℕ) (x : Data) → slice_get ds k ≡ Some x → slice_get (spots_of at j ds) k ≡ Some (at (j + k))
+spot_here at j [] k x h = absurd (none-some x h)
+spot_here at j (d ∷ ds) zero x h = ap (λ (n : ℕ). Some (at n)) (omega arith)
+spot_here at j (d ∷ ds) (suc k) x h = spot_here at (j + 1) ds k x h ∙ ap (λ (n : ℕ). Some (at n)) (omega arith)
+
+pub count_of : (at : ℕ → At) (j : ℕ) (ds : List Data) → length (spots_of at j ds) ≡ length ds
+count_of at j [] = refl
+count_of at j (d ∷ ds) = let more : length (spots_of at (j + 1) ds) ≡ length ds = count_of at (j + 1) ds in omega arith
+
+spot_at : (at : ℕ → At) (j : ℕ) (ds : List Data) (k : ℕ) (a : At) → slice_get (spots_of at j ds) k ≡ Some a → a ≡ at (j + k)
+spot_at at j ds k a h =
+    let (x, is) = get_some ds k (omega (arith, slice_get_within (spots_of at j ds) k a h, count_of at j ds)) in
+    same_Some a (at (j + k)) (sym h ∙ spot_here at j ds k x is)
+
+abbrev pub with_number : ℕ → Data → ℕ × Data
+with_number n d = (n, d)
+
+pub spots_count : (key : List ℕ) (at : ℕ → ℕ → At) (i n : ℕ) (ds : List Data) → length (spots_under key at i ds) ≡ length (items_under key n ds)
+spots_count key at i n [] = refl
+spots_count key at i n (d ∷ ds) =
+    omega (
+      arith,
+      spots_count key at (i + 1) (n + 1) ds,
+      count_of (at i) 1 (items_in (get key d)),
+      length-map (items_in (get key d)) (with_number n),
+      length-append (spots_of (at i) 1 (items_in (get key d))) (spots_under key at (i + 1) ds),
+      length-append (map (with_number n) (items_in (get key d))) (items_under key (n + 1) ds),
+    )
+
+-- an item of the lists at a key stands in a table, and its spot has the same number
+pub record IsUnder (key : List ℕ) (at : ℕ → ℕ → At) (i n : ℕ) (ds : List Data) (k m : ℕ) (x : Data) : Type 0 where
+  pub t : ℕ
+  pub j : ℕ
+  pub number : m ≡ n + t
+  pub item : IsItem key ds (suc t) (suc j) x
+  pub spot : slice_get (spots_under key at i ds) k ≡ Some (at (i + t) (suc j))
+
+pub under_item : (key : List ℕ) (at : ℕ → ℕ → At) (i n : ℕ) (ds : List Data) (k m : ℕ) (x : Data) → slice_get (items_under key n ds) k ≡ Some (m, x) → IsUnder key at i n ds k m x
+under_item key at i n [] k m x h = absurd (none-some (m, x) h)
+under_item key at i n (d ∷ ds) k m x h =
+    let items = items_in (get key d) in
+    let next : 1 + k ≡ suc k = omega arith in
+    elim (get_split (map (with_number n) items) (items_under key (n + 1) ds) k (m, x) h) [
+      | inl e ↦
+          let (y, is, same) = get_seen (with_number n) items k (m, x) e.0 in
+          let number : n ≡ m = ap (λ (p : ℕ × Data). p.0) same in
+          record {
+            t = zero;
+            j = k;
+            number = omega arith;
+            item = (d, refl, is ∙ ap (λ (p : ℕ × Data). Some p.1) same);
+            spot = get_left (spots_of (at i) 1 items) (spots_under key at (i + 1) ds) k (at i (1 + k)) (spot_here (at i) 1 items k y is)
+                ∙ ap (λ (q : ℕ). Some (at i q)) next ∙ ap (λ (q : ℕ). Some (at q (suc k))) (omega arith);
+          }
+      | inr e ↦
+          let u = under_item key at (i + 1) (n + 1) ds e.0 m x e.2 in
+          let past : k ≡ length (spots_of (at i) 1 items) + e.0 = omega (arith, e.1, count_of (at i) 1 items, length-map items (with_number n)) in
+          record {
+            t = suc u.t;
+            j = u.j;
+            number = omega (arith, u.number);
+            item = u.item;
+            spot = get_past (spots_of (at i) 1 items) (spots_under key at (i + 1) ds) e.0 k past ∙ u.spot ∙ ap (λ (q : ℕ). Some (at q (suc u.j))) (omega arith);
+          }
+    ]
 
 -- a spot is that of an item
 pub record IsSpot (key : List ℕ) (at : ℕ → ℕ → At) (i : ℕ) (ds : List Data) (a : At) : Type 0 where
   pub n : ℕ
   pub j : ℕ
   pub is : a ≡ at (i + n) (suc j)
-  pub d : Data
-  pub table : slice_get ds n ≡ Some d
   pub x : Data
-  pub item : slice_get (items_in (get key d)) j ≡ Some x
+  pub item : IsItem key ds (suc n) (suc j) x
 
 pub spot_under : (key : List ℕ) (at : ℕ → ℕ → At) (i : ℕ) (ds : List Data) (k : ℕ) (a : At) → slice_get (spots_under key at i ds) k ≡ Some a → IsSpot key at i ds a
-spot_under key at i [] k a h = absurd (none-some a h)
-spot_under key at i (d ∷ ds) k a h =
-    elim (get_split (spots_of (at i) 1 (items_in (get key d))) (spots_under key at (i + 1) ds) k a h) [
-      | inl e ↦
-          let s = spot_at (at i) 1 (items_in (get key d)) k a e.0 in
-          record { n = zero; j = k; is = s.0 ∙ ap (at i) (omega arith) ∙ ap (λ (m : ℕ). at m (suc k)) (omega arith); d = d; table = refl; x = s.1.0; item = s.1.1 }
-      | inr e ↦
-          let s = spot_under key at (i + 1) ds e.0 a e.2 in
-          record { n = suc s.n; j = s.j; is = s.is ∙ ap (λ (m : ℕ). at m (suc s.j)) (omega arith); d = s.d; table = s.table; x = s.x; item = s.item }
-    ]
+spot_under key at i ds k a h =
+    let ((m, x), listed) = get_some (items_under key 0 ds) k (omega (arith, slice_get_within (spots_under key at i ds) k a h, spots_count key at i 0 ds)) in
+    let u = under_item key at i 0 ds k m x listed in
+    record { n = u.t; j = u.j; is = same_Some a (at (i + u.t) (suc u.j)) (sym h ∙ u.spot); x = x; item = u.item }
 
 -- in one table before the other, or in one and the same before it
 abbrev Sooner : ℕ → ℕ → ℕ → ℕ → Type 0
@@ -77,10 +131,10 @@ under_ahead key at order i (d ∷ ds) k m a b less h g =
           elim (get_split here later m b g) [
             | inl f ↦
                 let t = spot_at (at i) 1 (items_in (get key d)) m b f.0 in
-                rw (s.0, t.0) (order i (1 + k) i (1 + m) (inr (refl, omega arith)))
+                rw (s, t) (order i (1 + k) i (1 + m) (inr (refl, omega arith)))
             | inr f ↦
                 let t = spot_under key at (i + 1) ds f.0 b f.2 in
-                rw (s.0, t.is) (order i (1 + k) (i + 1 + t.n) (suc t.j) (inl (omega arith)))
+                rw (s, t.is) (order i (1 + k) (i + 1 + t.n) (suc t.j) (inl (omega arith)))
           ]
       | inr e ↦
           elim (get_split here later m b g) [
@@ -152,65 +206,46 @@ interface_once routers k m a h g = spot_once (interface_spots routers) (interfac
 
 -- ---- the item of a spot
 
-pub item_of : (key : List ℕ) (ds : List Data) (n j : ℕ) (d x : Data) → slice_get ds n ≡ Some d → slice_get (items_in (get key d)) j ≡ Some x → (i m : ℕ) → i ≡ 1 + n → m ≡ suc j → IsItem key ds i m x
-item_of key ds n j d x h g i m e f =
-    let one : i ≡ suc n = omega arith in
-    rw (one, f) (d, h, g)
+pub item_of : (key : List ℕ) (ds : List Data) (n j : ℕ) (x : Data) → IsItem key ds (suc n) (suc j) x → (i m : ℕ) → i ≡ 1 + n → m ≡ suc j → IsItem key ds i m x
+item_of key ds n j x h i m e f = let one : i ≡ suc n = omega arith in rw (one, f) h
+
+pub place_spot : (links routers : List Data) (k : ℕ) (a : At) → slice_get (place_spots links routers) k ≡ Some a
+    → IsSpot (codes_of "prefixes") LinkPrefix 1 links a ⊎ IsSpot (codes_of "own") RouterOwn 1 routers a
+place_spot links routers k a h =
+    elim (get_split (spots_under (codes_of "prefixes") LinkPrefix 1 links) (spots_under (codes_of "own") RouterOwn 1 routers) k a h) [
+      | inl e ↦ inl (spot_under (codes_of "prefixes") LinkPrefix 1 links k a e.0)
+      | inr e ↦ inr (spot_under (codes_of "own") RouterOwn 1 routers e.0 a e.2)
+    ]
+
+pub interface_spot : (routers : List Data) (k : ℕ) (a : At) → slice_get (interface_spots routers) k ≡ Some a → IsSpot (codes_of "interface") RouterInterface 1 routers a
+interface_spot routers k a h = spot_under (codes_of "interface") RouterInterface 1 routers k a h
 
 pub prefix_item : (links routers : List Data) (k i j : ℕ) → slice_get (place_spots links routers) k ≡ Some (LinkPrefix i j) → (x : Data) × IsItem (codes_of "prefixes") links i j x
 prefix_item links routers k i j h =
-    elim (get_split (spots_under (codes_of "prefixes") LinkPrefix 1 links) (spots_under (codes_of "own") RouterOwn 1 routers) k (LinkPrefix i j) h) [
-      | inl e ↦
-          let s = spot_under (codes_of "prefixes") LinkPrefix 1 links k (LinkPrefix i j) e.0 in
-          let same : LinkPrefix i j ≡ LinkPrefix (1 + s.n) (suc s.j) = s.is in
-          (s.x, item_of (codes_of "prefixes") links s.n s.j s.d s.x s.table s.item i j (cc) (cc))
-      | inr e ↦
-          let s = spot_under (codes_of "own") RouterOwn 1 routers e.0 (LinkPrefix i j) e.2 in
-          let same : LinkPrefix i j ≡ RouterOwn (1 + s.n) (suc s.j) = s.is in
-          absurd cc
+    elim (place_spot links routers k (LinkPrefix i j) h) [
+      | inl s ↦ let same : LinkPrefix i j ≡ LinkPrefix (1 + s.n) (suc s.j) = s.is in (s.x, item_of (codes_of "prefixes") links s.n s.j s.x s.item i j (cc) (cc))
+      | inr s ↦ let same : LinkPrefix i j ≡ RouterOwn (1 + s.n) (suc s.j) = s.is in absurd cc
     ]
 
 pub own_item : (links routers : List Data) (k i j : ℕ) → slice_get (place_spots links routers) k ≡ Some (RouterOwn i j) → (x : Data) × IsItem (codes_of "own") routers i j x
 own_item links routers k i j h =
-    elim (get_split (spots_under (codes_of "prefixes") LinkPrefix 1 links) (spots_under (codes_of "own") RouterOwn 1 routers) k (RouterOwn i j) h) [
-      | inl e ↦
-          let s = spot_under (codes_of "prefixes") LinkPrefix 1 links k (RouterOwn i j) e.0 in
-          let same : RouterOwn i j ≡ LinkPrefix (1 + s.n) (suc s.j) = s.is in
-          absurd cc
-      | inr e ↦
-          let s = spot_under (codes_of "own") RouterOwn 1 routers e.0 (RouterOwn i j) e.2 in
-          let same : RouterOwn i j ≡ RouterOwn (1 + s.n) (suc s.j) = s.is in
-          (s.x, item_of (codes_of "own") routers s.n s.j s.d s.x s.table s.item i j (cc) (cc))
+    elim (place_spot links routers k (RouterOwn i j) h) [
+      | inl s ↦ let same : RouterOwn i j ≡ LinkPrefix (1 + s.n) (suc s.j) = s.is in absurd cc
+      | inr s ↦ let same : RouterOwn i j ≡ RouterOwn (1 + s.n) (suc s.j) = s.is in (s.x, item_of (codes_of "own") routers s.n s.j s.x s.item i j (cc) (cc))
     ]
 
 pub interface_item : (routers : List Data) (k i j : ℕ) → slice_get (interface_spots routers) k ≡ Some (RouterInterface i j) → (x : Data) × IsItem (codes_of "interface") routers i j x
 interface_item routers k i j h =
     let s = spot_under (codes_of "interface") RouterInterface 1 routers k (RouterInterface i j) h in
     let same : RouterInterface i j ≡ RouterInterface (1 + s.n) (suc s.j) = s.is in
-    (s.x, item_of (codes_of "interface") routers s.n s.j s.d s.x s.table s.item i j (cc) (cc))
-
--- ---- spots of lists that are appended
-
-pub spots_of_append : (at : ℕ → At) (j : ℕ) (xs ys : List Data) (n : ℕ) → n ≡ j + length xs → spots_of at j (xs ++ ys) ≡ spots_of at j xs ++ spots_of at n ys
-spots_of_append at j [] ys n e = ap (λ (m : ℕ). spots_of at m ys) (omega arith)
-spots_of_append at j (x ∷ xs) ys n e = ap (λ (spots : List At). at j ∷ spots) (spots_of_append at (j + 1) xs ys n (omega arith))
-
-pub spots_under_append : (key : List ℕ) (at : ℕ → ℕ → At) (i : ℕ) (xs ys : List Data) (n : ℕ) → n ≡ i + length xs → spots_under key at i (xs ++ ys) ≡ spots_under key at i xs ++ spots_under key at n ys
-spots_under_append key at i [] ys n e = ap (λ (m : ℕ). spots_under key at m ys) (omega arith)
-spots_under_append key at i (x ∷ xs) ys n e =
-    ap (λ (spots : List At). spots_of (at i) 1 (items_in (get key x)) ++ spots) (spots_under_append key at (i + 1) xs ys n (omega arith))
-    ∙ sym (append_assoc (spots_of (at i) 1 (items_in (get key x))) (spots_under key at (i + 1) xs) (spots_under key at n ys))
-
-of_here : (at : ℕ → At) (j : ℕ) (done : List Data) (x : Data) (rest : List Data) → slice_get (spots_of at j (done ++ x ∷ rest)) (length done) ≡ Some (at (j + length done))
-of_here at j [] x rest = ap (λ (n : ℕ). Some (at n)) (omega arith)
-of_here at j (d ∷ done) x rest = of_here at (j + 1) done x rest ∙ ap (λ (n : ℕ). Some (at n)) (omega arith)
+    (s.x, item_of (codes_of "interface") routers s.n s.j s.x s.item i j (cc) (cc))
 
 -- the spot of an item has the number of the items before it
 pub under_here : (key : List ℕ) (at : ℕ → ℕ → At) (i : ℕ) (done : List Data) (d : Data) (rest : List Data) (front : List Data) (x : Data) (back : List Data) → items_in (get key d) ≡ front ++ x ∷ back
     → (n : ℕ) → n ≡ length (spots_under key at i done) + length front → slice_get (spots_under key at i (done ++ d ∷ rest)) n ≡ Some (at (i + length done) (1 + length front))
 under_here key at i [] d rest front x back e n h =
     let same : n ≡ length front = omega arith in
-    let here : slice_get (spots_of (at i) 1 (items_in (get key d))) (length front) ≡ Some (at i (1 + length front)) = rw e (of_here (at i) 1 front x back) in
+    let here : slice_get (spots_of (at i) 1 (items_in (get key d))) (length front) ≡ Some (at i (1 + length front)) = rw e (spot_here (at i) 1 (front ++ x ∷ back) (length front) x (get_front front x back)) in
     rw same (get_left (spots_of (at i) 1 (items_in (get key d))) (spots_under key at (i + 1) rest) (length front) (at i (1 + length front)) here
     ∙ ap (λ (m : ℕ). Some (at m (1 + length front))) (omega arith))
 under_here key at i (y ∷ done) d rest front x back e n h =
@@ -243,31 +278,3 @@ pub item_once : (key : List ℕ) (ds : List Data) (i j : ℕ) (x y : Data) → I
 item_once key ds i j x y (d, is, it) (e, js, jt) =
     let same : d ≡ e = same_Some d e (sym is ∙ js) in
     same_Some x y (sym it ∙ ap (λ (z : Data). nth (items_in (get key z)) j) same ∙ jt)
-
-pub count_of : (at : ℕ → At) (j : ℕ) (ds : List Data) → length (spots_of at j ds) ≡ length ds
-count_of at j [] = refl
-count_of at j (d ∷ ds) = let more : length (spots_of at (j + 1) ds) ≡ length ds = count_of at (j + 1) ds in omega arith
-
-pub spots_count : (key : List ℕ) (at : ℕ → ℕ → At) (i n : ℕ) (ds : List Data) → length (spots_under key at i ds) ≡ length (items_under key n ds)
-spots_count key at i n [] = refl
-spots_count key at i n (d ∷ ds) =
-    omega (
-      arith,
-      spots_count key at (i + 1) (n + 1) ds,
-      count_of (at i) 1 (items_in (get key d)),
-      length-map {B = ℕ × Data} (items_in (get key d)) (λ (x : Data). (n, x)),
-      length-append (spots_of (at i) 1 (items_in (get key d))) (spots_under key at (i + 1) ds),
-      length-append (map (λ (x : Data). (n, x)) (items_in (get key d))) (items_under key (n + 1) ds),
-    )
-
--- ---- what stands among places and interfaces
-
-pub place_spot : (links routers : List Data) (k : ℕ) (a : At) → slice_get (place_spots links routers) k ≡ Some a → ((i j : ℕ) × (a ≡ LinkPrefix i j)) ⊎ ((i j : ℕ) × (a ≡ RouterOwn i j))
-place_spot links routers k a h =
-    elim (get_split (spots_under (codes_of "prefixes") LinkPrefix 1 links) (spots_under (codes_of "own") RouterOwn 1 routers) k a h) [
-      | inl e ↦ let s = spot_under (codes_of "prefixes") LinkPrefix 1 links k a e.0 in inl (1 + s.n, suc s.j, s.is)
-      | inr e ↦ let s = spot_under (codes_of "own") RouterOwn 1 routers e.0 a e.2 in inr (1 + s.n, suc s.j, s.is)
-    ]
-
-pub interface_spot : (routers : List Data) (k : ℕ) (a : At) → slice_get (interface_spots routers) k ≡ Some a → (i j : ℕ) × (a ≡ RouterInterface i j)
-interface_spot routers k a h = let s = spot_under (codes_of "interface") RouterInterface 1 routers k a h in (1 + s.n, suc s.j, s.is)

@@ -348,13 +348,6 @@ cost_within (Some (pos n)) c h =
     (grind (arith, nat_tests), grind (arith, nat_tests))
 cost_within (Some (negsuc n)) c h = absurd (none-some c h)
 
-pub direct_within : (cost : ℕ) (o : Option ℤ) (c : ℕ) → 1 ≤ cost → direct_of cost o ≡ Some c → (1 ≤ c) × (c ≤ cost)
-direct_within cost None c least h = let e : cost ≡ c = cc in (omega arith, omega arith)
-direct_within cost (Some (pos n)) c least h =
-    let (between, same) = cond_some (is_between 1 cost n) n c h in
-    (grind (arith, nat_tests), grind (arith, nat_tests))
-direct_within cost (Some (negsuc n)) c least h = absurd (none-some c h)
-
 -- ---- a gateway that is no address
 
 pub gateway_told : (laws : TextLaws) (d : Data) (text : Option (List ℕ)) → IsTextIf (get (codes_of "via") d) text → address_if text ≡ None → HasNoAddress (codes_of "via") d

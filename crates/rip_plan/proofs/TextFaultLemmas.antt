@@ -16,21 +16,19 @@ use Rattle.rip_plan.specs.Codes.{number_of_code}
 use Rattle.rip_plan.specs.Draft.{Sketch, link_step, router_step}
 use Rattle.rip_plan.specs.Fault.{fault, ◌>>=◌, steps, wanted}
 use Rattle.rip_plan.specs.Fields.{is_version, root_fields}
-use Rattle.rip_plan.specs.Network.{Network, network_of_sketch}
+use Rattle.rip_plan.specs.Network.{network_of_sketch}
 use Rattle.rip_plan.specs.Passes.{second_passes}
-use Rattle.rip_plan.specs.PlanOf.{HasItems, PlanOf, IsPlanOfText}
+use Rattle.rip_plan.specs.PlanOf.{HasItems, PlanOf}
 use Rattle.rip_plan.specs.PlanText.{empty, document_of, sketch_of_document, sketch_of}
 use Rattle.rip_plan.specs.PlanFaults.{IsText, HasTables, TableFault, FaultAt, AstrayAt, IsFound, IsFault, PlanFault, Before, pass_of, rank, place_spots, interface_spots, spots_under}
-use Rattle.rip_plan.specs.Relations.{IsLawful}
 use Rattle.rip_plan.proofs.BindLemmas.{bind_ok}
 use Rattle.rip_plan.proofs.FaultRowLemmas.{IsAstrayAt, IsOfTables, IsTold, covers, told_finds, first_rows, first_high, first_sooner, links_rows, links_high, routers_rows, pass_rows, table_rows}
 use Rattle.rip_plan.proofs.FindingLemmas.{Found, ranked, row_at, Rows, row_then, Finds, finds_in, guard_finds, want_finds, bind_rows}
-use Rattle.rip_plan.proofs.LawfulPlanLemmas.{lawful}
 use Rattle.rip_plan.proofs.LinkFaultLemmas.{links_find}
 use Rattle.rip_plan.proofs.OnePlanLemmas.{items_same}
 use Rattle.rip_plan.proofs.OrderLemmas.{before_not, before_trans, before_or}
 use Rattle.rip_plan.proofs.PassFaultLemmas.{passes_find}
-use Rattle.rip_plan.proofs.PlanMatchLemmas.{root_table, document_matches, network_matches}
+use Rattle.rip_plan.proofs.PlanMatchLemmas.{root_table, document_matches}
 use Rattle.rip_plan.proofs.RouterFaultLemmas.{routers_find}
 use Rattle.rip_plan.proofs.TakenSpotLemmas.{place_ats, interface_ats, links_stand, routers_stand}
 use Rattle.rip_plan.proofs.TextLemmas.{TextLaws}
@@ -56,8 +54,11 @@ module _ (laws : TextLaws) (document : Members) (links routers : List Data) (poi
       let two = routers_stand 1 routers w s second in
       let placed : place_ats s ≡ place_spots links routers = two.places ∙ ap (λ (l : List At). l ++ spots_under (codes_of "own") RouterOwn 1 routers) one.places in
       let listed : interface_ats s ≡ interface_spots routers = two.interfaces ∙ ap (λ (l : List At). l ++ spots_under (codes_of "interface") RouterInterface 1 routers) one.interfaces in
-      let tables : plan.links ≡ links = items_same (codes_of "link") (table document) plan.links links plan.has_links (root_table document links routers poison root).has_links in
-      then_ok F s (second_passes s) (passes_find laws document links routers s plan placed listed tables))
+      let root_is = root_table document links routers poison root in
+      let tables : plan.links ≡ links = items_same (codes_of "link") (table document) plan.links links plan.has_links root_is.has_links in
+      let others : plan.routers ≡ routers = items_same (codes_of "router") (table document) plan.routers routers plan.has_routers root_is.has_routers in
+      let spots : place_spots plan.links plan.routers ≡ place_spots links routers = ap (λ (ds : List Data). place_spots ds plan.routers) tables ∙ ap (place_spots links) others in
+      then_ok F s (second_passes s) (passes_find laws document links routers s plan placed listed spots))
     where
       then_ok : (F : Found → Type 0) (s : Sketch) (r : Result (Unit {0}) PlanError) → Finds F pass_rows.has r → Finds F pass_rows.has (r >>= (λ _. Ok s))
       then_ok F s (Ok x) h = h
@@ -126,6 +127,13 @@ module _ (bytes : List ℕ) (document : Members) (links routers : List Data) (ha
       let its_routers : HasItems (codes_of "router") (table document) rs = subst (λ (m : Members). HasItems (codes_of "router") (table m) rs) same h.has_routers in
       (same, items_same (codes_of "link") (table document) ls links its_links has.has_links, items_same (codes_of "router") (table document) rs routers its_routers has.has_routers)
 
+  pub whole_fault : (c : PlanCode) (place : At) → TableFault document links routers c place → FaultAt bytes c place
+  whole_fault codes.Syntax Text h = absurd h
+  whole_fault codes.Version Version h = absurd h
+  whole_fault codes.Key Text h = absurd h
+  whole_fault codes.Limit Text h = absurd h
+  whole_fault c place h = (document, links, routers, has, h)
+
   pub one_fault : (c : PlanCode) (place : At) (other : Members) (ls rs : List Data) → HasTables bytes other ls rs → TableFault other ls rs c place → TableFault document links routers c place
   one_fault c place other ls rs h f =
       let (one, two, three) = one_tables other ls rs h in
@@ -161,19 +169,12 @@ module _ (laws : TextLaws) (bytes : List ℕ) (document : Members) (short : leng
     split_fault pass c place (inr h) = absurd h.0
 
     -- a fault of the tables is a fault of the bytes
-    whole_fault : (c : PlanCode) (place : At) → TableFault document links routers c place → FaultAt bytes c place
-    whole_fault codes.Syntax Text h = absurd h
-    whole_fault codes.Version Version h = absurd h
-    whole_fault codes.Key Text h = absurd h
-    whole_fault codes.Limit Text h = absurd h
-    whole_fault c place h = (document, links, routers, tables, h)
-
     whole_astray : (place : At) → IsAstrayAt document links routers place → AstrayAt bytes place
     whole_astray (RouterOwn r j) h = (document, links, routers, tables, h)
     whole_astray place h = absurd h
 
     whole : (o : Found) → IsOfTables document links routers o → IsTextFault bytes o
-    whole o (inl h) = inl (whole_fault o.error.code o.error.place h.0, h.1)
+    whole o (inl h) = inl (whole_fault bytes document links routers tables o.error.code o.error.place h.0, h.1)
     whole o (inr h) = inr (whole_astray o.error.place h.0, h.1, h.2)
 
   abbrev from_limit : Rows
@@ -398,13 +399,6 @@ none_told laws bytes = by_sketch (sketch_of bytes) refl
       λ f. absurd (none-some d (sym f ∙ ap (λ (r : Result Sketch PlanError). result_err (r >>= (λ s. Ok (network_of_sketch s)))) h)),
       λ p. let told = fault_first laws bytes d h in absurd (p d (told.pass, told.found)),
     )
-
-pub plan_stands : (laws : TextLaws) (bytes : List ℕ) → ((e : PlanError) → IsFault bytes e → ⊥) → (n : Network) × IsPlanOfText bytes n × IsLawful n
-plan_stands laws bytes none = by_sketch (sketch_of bytes) refl
-  where
-    by_sketch : (r : Result Sketch PlanError) → sketch_of bytes ≡ r → (n : Network) × IsPlanOfText bytes n × IsLawful n
-    by_sketch (Ok s) h = (network_of_sketch s, network_matches laws bytes (network_of_sketch s) (ap (λ (r : Result Sketch PlanError). r >>= (λ t. Ok (network_of_sketch t))) h), lawful laws bytes s h)
-    by_sketch (Err d) h = let told = fault_first laws bytes d h in absurd (none d (told.pass, told.found))
 
 -- no code of a fault is Memory
 pub never_memory : (bytes : List ℕ) (e : PlanError) → PlanFault bytes e → e.code ≢ codes.Memory

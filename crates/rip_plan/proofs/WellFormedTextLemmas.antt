@@ -1,9 +1,7 @@
 -- Bytes without a fault are the well-formed ones.
-use Rattle.std.proofs.Common.{◌≡◌, ℕ, zero, suc, ◌+◌, ◌<◌, ◌≤◌, ◌⊎◌, inl, inr, List, [], ◌∷◌, ◌++◌, map, length, length-append, sum, Bool, true, false, not, Option, None, Some, refl, sym, ◌∙◌, ap, subst, arith}
+use Rattle.std.proofs.Common.{◌≡◌, ℕ, zero, suc, ◌+◌, ◌<◌, ◌≤◌, ◌⊎◌, inl, inr, List, map, length, sum, Bool, true, false, not, Option, None, Some, refl, sym, ◌∙◌, ap, subst, arith}
 use Rattle.std.specs.Prelude.{pos, slice_get, get_or, codes as codes_of}
-use Rattle.std.specs.List.{All, sum_by}
-use Rattle.std.proofs.lemmas.Bool.{cases_lt}
-use Rattle.std.proofs.lemmas.List.Sums.{sum-map, sum_by-cons}
+use Rattle.std.specs.List.{All}
 use Rattle.std.proofs.lemmas.Option.{none-some, same_Some, slice_get_within, get_or_from_slice_get, slice_get-get_or}
 use Rattle.toml.specs.Data.{Data, Members, get, integer, string, table}
 use Rattle.rip_wire.specs.Name.{IsName}
@@ -13,21 +11,20 @@ use Rattle.rip_plan.specs.declared.error.PlanCode.TheVariants as codes
 use Rattle.rip_plan.specs.declared.error.PlanError.{PlanError}
 use Rattle.rip_plan.specs.declared.error.At.{At}
 use Rattle.rip_plan.specs.declared.error.At.TheVariants.{Text, Version, Link, LinkPrefix, Router, RouterInterface, RouterOwn}
-use Rattle.rip_plan.specs.declared.parts.Interface.{Interface}
-use Rattle.rip_plan.specs.declared.parts.Seat.TheVariants as seats
 use Rattle.rip_plan.specs.Fault.{fault}
 use Rattle.rip_plan.specs.Fields.{interface_fields, is_version, link_fields, own_fields, router_fields}
 use Rattle.rip_plan.specs.Network.{Network}
-use Rattle.rip_plan.specs.PlanFaults.{AreTwice, AstrayAt, DoMeet, FaultAt, HasNoAddress, HasOneTwice, HasPrefix, HasTables, HasWrongAlso, HasWrongCost, HasWrongDirect, HaveOneAddress, IsAstray, IsBare, IsClash, IsFault, IsFound, IsItem, IsMisnamed, IsNamedAgain, IsOutside, IsPast, IsSo, IsText, NamesNoLink, TableFault, also_spots, interface_spots, nth, pass_of, place_spots, spots_under}
-use Rattle.rip_plan.specs.PlanOf.{AreAlsoOf, IsAddressOf, IsCostOf, IsDirectOf, IsGatewayOf, IsLinkOf, IsInterfaceOf, IsNameOf, IsOnLink, IsOwned, IsPlaceOf, IsPlanOfText, Matched, Placement, PlanOf, items_in, items_under}
-use Rattle.rip_plan.specs.Relations.{Carries, HasOwnAddress, IsConnected, IsInterface, IsLawful, IsOwnAt, IsPlace, IsPrefix}
+use Rattle.rip_plan.specs.PlanFaults.{AreTwice, AstrayAt, DoMeet, FaultAt, HasNoAddress, HasOneTwice, HasTables, HasWrongAlso, HasWrongCost, HasWrongDirect, HaveOneAddress, IsAstray, IsBare, IsClash, IsFault, IsFound, IsItem, IsMisnamed, IsNamedAgain, IsOutside, IsPast, IsSo, IsText, NamesNoLink, TableFault, also_spots, interface_spots, nth, pass_of, place_spots}
+use Rattle.rip_plan.specs.PlanOf.{AreAlsoOf, IsAddressOf, IsCostOf, IsDirectOf, IsGatewayOf, IsLinkOf, IsNameOf, IsOnLink, IsPlanOfText, Matched, PlanOf, items_under}
+use Rattle.rip_plan.specs.Relations.{Carries, HasOwnAddress, IsConnected, IsInterface, IsLawful, IsOwnAt, IsPlace}
 use Rattle.rip_plan.specs.WellFormed.{IsWellFormed}
-use Rattle.rip_plan.proofs.FurtherAddressLemmas.{also_count, also_in, also_items, also_under}
-use Rattle.rip_plan.proofs.ItemLemmas.{get_seen, get_split, see_got, get_left, get_past}
+use Rattle.rip_plan.proofs.FurtherAddressLemmas.{also_items}
+use Rattle.rip_plan.proofs.LawfulPlanLemmas.{not_long}
+use Rattle.rip_plan.proofs.ItemLemmas.{get_left, get_past}
 use Rattle.rip_plan.proofs.MatchingLemmas.{matched_left, matched_length, matched_right}
 use Rattle.rip_plan.proofs.OnePlanLemmas.{cost_same, one_plan, text_same}
-use Rattle.rip_plan.proofs.PlanMatchLemmas.{with_number}
-use Rattle.rip_plan.proofs.SpotLemmas.{spots_count}
+use Rattle.rip_plan.proofs.PlanPartLemmas.{HasInterface, HasOwn, also_counted, carrier_has, has_carrier, interfaces_count, item_under, its_interface, its_own, its_place, names_good, places_count}
+use Rattle.rip_plan.proofs.SpotLemmas.{under_item}
 use Rattle.rip_plan.proofs.TextFaultLemmas.{one_astray, one_fault, one_tables, same_document, version_is, version_told}
 use Rattle.rip_plan.proofs.TextLemmas.{TextLaws, one_address}
 use Rattle.rip_plan.specs.Texts.{IsAddressText, IsPrefixText, IsNoPrefix}
@@ -41,51 +38,6 @@ all_at P xs k x all h = subst P (get_or_from_slice_get xs k x x h) (all k x (sli
 
 all_from : {A : Type 0} (P : A → Type 0) (xs : List A) → ((k : ℕ) (x : A) → slice_get xs k ≡ Some x → P x) → All P xs
 all_from P xs f = λ k d less. f k (get_or xs k d) (slice_get-get_or xs k d less)
-
--- an item of the lists at a key stands in a table
-under_item : (key : List ℕ) (n : ℕ) (ds : List Data) (k m : ℕ) (x : Data) → slice_get (items_under key n ds) k ≡ Some (m, x) → (i j : ℕ) × (m ≡ n + i) × IsItem key ds (suc i) (suc j) x
-under_item key n [] k m x h = absurd (none-some (m, x) h)
-under_item key n (d ∷ ds) k m x h =
-    elim (get_split (map (with_number n) (items_in (get key d))) (items_under key (n + 1) ds) k (m, x) h) [
-      | inl e ↦
-          let (y, at, same) = get_seen (with_number n) (items_in (get key d)) k (m, x) e.0 in
-          let number : n ≡ m = ap (λ (p : ℕ × Data). p.0) same in
-          (zero, k, omega arith, (d, refl, at ∙ ap (λ (p : ℕ × Data). Some p.1) same))
-      | inr e ↦
-          let (i, j, number, item) = under_item key (n + 1) ds e.0 m x e.2 in
-          (suc i, j, omega arith, item)
-    ]
-
-under_at : (key : List ℕ) (n : ℕ) (ds : List Data) (i j : ℕ) (d x : Data) → slice_get ds i ≡ Some d → slice_get (items_in (get key d)) j ≡ Some x
-    → (k : ℕ) × (slice_get (items_under key n ds) k ≡ Some (n + i, x))
-under_at key n [] i j d x h g = absurd (none-some d h)
-under_at key n (e ∷ ds) zero j d x h g =
-    let same : e ≡ d = same_Some e d h in
-    let here : slice_get (items_in (get key e)) j ≡ Some x = ap (λ (t : Data). slice_get (items_in (get key t)) j) same ∙ g in (
-      j,
-      get_left (map (with_number n) (items_in (get key e))) (items_under key (n + 1) ds) j (n, x) (see_got (with_number n) (items_in (get key e)) j x here)
-          ∙ ap (λ (m : ℕ). Some (m, x)) (omega arith),
-    )
-under_at key n (e ∷ ds) (suc i) j d x h g =
-    let (k, at) = under_at key (n + 1) ds i j d x h g in (
-      length (map (with_number n) (items_in (get key e))) + k,
-      get_past (map (with_number n) (items_in (get key e))) (items_under key (n + 1) ds) k _ refl ∙ at
-          ∙ ap (λ (m : ℕ). Some (m, x)) (omega arith),
-    )
-
--- where an item of a table stands in the lists at a key
-record StandsUnder (key : List ℕ) (ds : List Data) (i : ℕ) (x : Data) : Type 0 where
-  k : ℕ
-  m : ℕ
-  number : i ≡ suc m
-  at : slice_get (items_under key 0 ds) k ≡ Some (m, x)
-
-item_under : (key : List ℕ) (ds : List Data) (i j : ℕ) (x : Data) → IsItem key ds i j x → StandsUnder key ds i x
-item_under key ds zero j x (d, is, item) = absurd (none-some d is)
-item_under key ds (suc m) zero x (d, is, item) = absurd (none-some x item)
-item_under key ds (suc m) (suc j) x (d, is, item) =
-    let (k, at) = under_at key 0 ds m j d x is item in
-    record { k = k; m = m; number = refl; at = at ∙ ap (λ (n : ℕ). Some (n, x)) (omega arith) }
 
 -- ---- costs
 
@@ -112,43 +64,7 @@ gateways d (Some a) (other, its, parsed) (text, has, none) =
     let same : text ≡ other = text_same (codes_of "via") d text other has its in
     none a (subst (λ (t : List ℕ). IsAddressText t a) (sym same) parsed)
 
--- ---- further addresses
-
--- how many further addresses these items have
-abbrev also_at : List (ℕ × Data) → ℕ
-also_at [] = 0
-also_at (x ∷ xs) = length (also_items x.1) + also_at xs
-
-also_sum : (also : List (List ℕ)) (xs : List (ℕ × Data)) → Matched AreAlsoOf also xs → sum_by length also ≡ also_at xs
-also_sum [] [] m = refl
-also_sum [] (x ∷ xs) m = absurd m
-also_sum (a ∷ also) [] m = absurd m
-also_sum (a ∷ also) (x ∷ xs) m = omega (arith, sum_by-cons length a also, also_sum also xs m.1, matched_length IsAddressOf a (also_items x.1) m.0)
-
-also_append : (xs ys : List (ℕ × Data)) → also_at (xs ++ ys) ≡ also_at xs + also_at ys
-also_append [] ys = omega arith
-also_append (x ∷ xs) ys = omega (arith, also_append xs ys)
-
-also_numbered : (n : ℕ) (ds : List Data) → also_at (map (with_number n) ds) ≡ also_in ds
-also_numbered n [] = refl
-also_numbered n (d ∷ ds) = omega (arith, also_numbered n ds)
-
-also_flat : (n : ℕ) (ds : List Data) → also_at (items_under (codes_of "interface") n ds) ≡ also_under ds
-also_flat n [] = refl
-also_flat n (d ∷ ds) =
-    let here = items_in (get (codes_of "interface") d) in
-    omega (arith, also_flat (n + 1) ds, also_append (map (with_number n) here) (items_under (codes_of "interface") (n + 1) ds), also_numbered n here)
-
 -- ---- names
-
-names_good : (names : List (List ℕ)) (ds : List Data) → Matched IsNameOf names ds → (i k : ℕ) (name : List ℕ) (d : Data) → i ≡ suc k → nth ds i ≡ Some d → IsNameOf name d
-    → slice_get names k ≡ Some name
-names_good names ds named (suc i) k name d number at its =
-    let same : i ≡ k = omega arith in
-    let (other, listed, of) = matched_right IsNameOf names ds i d named at in
-    let one : other ≡ name = text_same (codes_of "name") d other name of its in
-    ap (slice_get names) (sym same) ∙ listed ∙ ap (λ (t : List ℕ). Some t) one
-names_good names ds named zero k name d number at its = absurd (omega arith)
 
 misnamed_not : (names : List (List ℕ)) (ds : List Data) → Matched IsNameOf names ds → (P : List ℕ → Type 0) → ((k : ℕ) (name : List ℕ) → slice_get names k ≡ Some name → P name)
     → (i : ℕ) (name : List ℕ) (d : Data) → nth ds i ≡ Some d → IsNameOf name d → P name
@@ -166,87 +82,13 @@ again_not names ds named differ (suc i) (d, earlier, suc k, name, at, its, less,
 -- ---- a plan that keeps the laws
 
 module _ (laws : TextLaws) (document : Members) (n : Network) (plan : PlanOf document n) (lawful : IsLawful n) where
-  places_count : length n.places ≡ length (place_spots plan.links plan.routers)
-  places_count =
-      omega (
-        arith,
-        matched_length (IsPlaceOf n) n.places (plan.on_links ++ plan.owned) plan.places,
-        length-append plan.on_links plan.owned,
-        matched_length IsOnLink plan.on_links (items_under (codes_of "prefixes") 0 plan.links) plan.link_prefixes,
-        matched_length (IsOwned n.links) plan.owned (items_under (codes_of "own") 0 plan.routers) plan.own_prefixes,
-        spots_count (codes_of "prefixes") LinkPrefix 1 0 plan.links,
-        spots_count (codes_of "own") RouterOwn 1 0 plan.routers,
-        length-append (spots_under (codes_of "prefixes") LinkPrefix 1 plan.links) (spots_under (codes_of "own") RouterOwn 1 plan.routers),
-      )
-
-  interfaces_count : length n.interfaces ≡ length (interface_spots plan.routers)
-  interfaces_count = matched_length (IsInterfaceOf n.links plan.poison) n.interfaces (items_under (codes_of "interface") 0 plan.routers) plan.interfaces
-      ∙ sym (spots_count (codes_of "interface") RouterInterface 1 0 plan.routers)
-
-  -- the interface of an item
-  record HasInterface (x : Data) : Type 0 where
-    k : ℕ
-    i : Interface
-    listed : slice_get n.interfaces k ≡ Some i
-    m : ℕ
-    of : IsInterfaceOf n.links plan.poison i (m, x)
-
-  its_interface : (r j : ℕ) (x : Data) → IsItem (codes_of "interface") plan.routers r j x → HasInterface x
-  its_interface r j x item =
-      let u = item_under (codes_of "interface") plan.routers r j x item in
-      let (i, listed, of) = matched_right (IsInterfaceOf n.links plan.poison) n.interfaces (items_under (codes_of "interface") 0 plan.routers) u.k (u.m, x) plan.interfaces u.at in
-      record { k = u.k; i = i; listed = listed; m = u.m; of = of }
-
-  -- the own prefix of an item
-  record HasOwn (x : Data) : Type 0 where
-    k : ℕ
-    q : Placement
-    m : ℕ
-    listed : slice_get plan.owned k ≡ Some q
-    of : IsOwned n.links q (m, x)
-
-  its_own : (r j : ℕ) (x : Data) → IsItem (codes_of "own") plan.routers r j x → HasOwn x
-  its_own r j x item =
-      let u = item_under (codes_of "own") plan.routers r j x item in
-      let (q, listed, of) = matched_right (IsOwned n.links) plan.owned (items_under (codes_of "own") 0 plan.routers) u.k (u.m, x) plan.own_prefixes u.at in
-      record { k = u.k; q = q; m = u.m; listed = listed; of = of }
-
-  -- the place of a placement
-  its_place : (k : ℕ) (q : Placement) → slice_get (plan.on_links ++ plan.owned) k ≡ Some q → (p : ℕ) × IsPlace n k p q.seat × IsPrefix n p q.prefix
-  its_place k q h =
-      let (y, listed, of) = matched_right (IsPlaceOf n) n.places (plan.on_links ++ plan.owned) k q plan.places h in
-      (y.prefix, record { listed = listed ∙ ap (λ s. Some (record { prefix = y.prefix; seat = s })) of.seat }, of.prefix)
-
-  -- prefixes on links
-  has_carrier : (l : ℕ) (p : Block) → HasPrefix plan.links l p → (k : ℕ) × Carries n l k
-  has_carrier l p (k, text, at, parsed) =
-      let (q, listed, of) = matched_right IsOnLink plan.on_links (items_under (codes_of "prefixes") 0 plan.links) k (l, string text) plan.link_prefixes at in
-      let (number, place, prefix) = its_place k q (get_left plan.on_links plan.owned k q listed) in
-      (number, (k, subst (IsPlace n k number) of.seat place))
-
-  carrier_has : (l p : ℕ) (block : Block) → Carries n l p → IsPrefix n p block → HasPrefix plan.links l block
-  carrier_has l p block (k, place) prefix =
-      let (q, at, of) = matched_left (IsPlaceOf n) n.places (plan.on_links ++ plan.owned) k _ plan.places place.listed in
-      let same : block ≡ q.prefix = same_Some block q.prefix (sym prefix ∙ of.prefix) in
-      elim (get_split plan.on_links plan.owned k q at) [
-        | inl here ↦
-            let ((m, item), is, on) = matched_left IsOnLink plan.on_links (items_under (codes_of "prefixes") 0 plan.links) k q plan.link_prefixes here.0 in
-            let seat : seats.Link l ≡ seats.Link m = of.seat ∙ on.seat in
-            let number : m ≡ l = cc in
-            (k, on.text, is ∙ ap (λ (y : ℕ × Data). Some y) (ap (λ (v : ℕ). (v, item)) number ∙ ap (λ (y : Data). (l, y)) on.is_text), subst (IsPrefixText on.text) (sym same) on.prefix)
-        | inr there ↦
-            let ((m, item), is, own) = matched_left (IsOwned n.links) plan.owned (items_under (codes_of "own") 0 plan.routers) there.0 q plan.own_prefixes there.2 in
-            let seat : seats.Link l ≡ seats.Own own.own = of.seat ∙ own.seat in
-            absurd cc
-      ]
-
   -- a link of the plan has the name
   link_there : (name : List ℕ) (l : ℕ) → slice_get n.links l ≡ Some name → ((m : ℕ) (link : Data) → slice_get plan.links m ≡ Some link → IsNameOf name link → ⊥) → ⊥
   link_there name l known none =
       let (link, listed, its) = matched_left IsNameOf n.links plan.links l name plan.link_names known in
       none l link listed its
 
-  unknown_not : (x : Data) → HasInterface x → NamesNoLink plan.links x → ⊥
+  unknown_not : (x : Data) → HasInterface document n plan x → NamesNoLink plan.links x → ⊥
   unknown_not x h (name, has, none) =
       let same : h.of.link_name ≡ name = text_same (codes_of "link") x h.of.link_name name h.of.has_link has in
       link_there name h.i.link (h.of.link.0 ∙ ap (λ (t : List ℕ). Some t) same) none
@@ -257,7 +99,7 @@ module _ (laws : TextLaws) (document : Members) (n : Network) (plan : PlanOf doc
       let same : other ≡ name = text_same (codes_of "link") x other name its has in
       link_there name l (known.0 ∙ ap (λ (t : List ℕ). Some t) same) none
 
-  outside_not : (x : Data) → HasInterface x → IsOutside plan.links x → ⊥
+  outside_not : (x : Data) → HasInterface document n plan x → IsOutside plan.links x → ⊥
   outside_not x h o =
       let same : h.of.link_name ≡ o.name = text_same (codes_of "link") x h.of.link_name o.name h.of.has_link o.has_link in
       let one : slice_get n.links h.i.link ≡ Some o.name = h.of.link.0 ∙ ap (λ (t : List ℕ). Some t) same in
@@ -265,7 +107,9 @@ module _ (laws : TextLaws) (document : Members) (n : Network) (plan : PlanOf doc
       let link : h.i.link ≡ o.link = lawful.link_names_differ h.i.link o.link o.name one two in
       let text : h.of.text ≡ o.text = text_same (codes_of "address") x h.of.text o.text h.of.has_address o.has_address in
       let address : h.i.address ≡ o.address = one_address laws h.of.text o.text h.i.address o.address text h.of.address o.spelled in
-      let (p, carries) = has_carrier o.link o.some.0 o.some.1 in
+      let (k, q, at, seat, read) = has_carrier document n plan o.link o.some.0 o.some.1 in
+      let (p, place, prefix) = its_place document n plan k q (get_left plan.on_links plan.owned k q at) in
+      let carries : Carries n o.link p = (k, subst (IsPlace n k p) seat place) in
       let is : HasOwnAddress n h.k o.link o.address = record {
         router = h.i.router;
         cost = h.i.cost;
@@ -273,8 +117,8 @@ module _ (laws : TextLaws) (document : Members) (n : Network) (plan : PlanOf doc
         poison = h.i.poison;
         listed = h.listed ∙ ap (λ (l : ℕ). Some (record h.i { link = l })) link ∙ ap (λ (a : ℕ). Some (record h.i { link = o.link; address = a })) address;
       } in
-      let (q, block, on, prefix, contains) = lawful.inside h.k o.link o.address p is carries in
-      o.none block (carrier_has o.link q block on prefix) contains
+      let (other, block, on, its, contains) = lawful.inside h.k o.link o.address p is carries in
+      o.none block (carrier_has document n plan o.link other block on its) contains
 
   -- two items that clash
   clash_not : (Clash : Network → ℕ → ℕ → Type 0) (spots : List At) (place : At) → ((j k : ℕ) → Clash n j k → j ≡ k) → (m : Network) → PlanOf document m → IsClash (Clash m) spots place → ⊥
@@ -317,21 +161,19 @@ module _ (laws : TextLaws) (document : Members) (n : Network) (plan : PlanOf doc
   past_not spots place k few at past = let within : k < length spots = slice_get_within spots k place at in omega arith
 
   few_places : length (place_spots plan.links plan.routers) ≤ 1024
-  few_places = let few : length n.places ≤ 1024 = lawful.few_places in omega (arith, places_count)
+  few_places = let few : length n.places ≤ 1024 = lawful.few_places in omega (arith, places_count document n plan)
 
   few_interfaces : length (interface_spots plan.routers) ≤ 1024
-  few_interfaces = let few : length n.interfaces ≤ 1024 = lawful.few_interfaces in omega (arith, interfaces_count)
+  few_interfaces = let few : length n.interfaces ≤ 1024 = lawful.few_interfaces in omega (arith, interfaces_count document n plan)
 
   few_also : length (also_spots plan.routers) ≤ 1024
-  few_also =
-      let few : sum (map length n.also) ≤ 1024 = lawful.few_also in
-      omega (arith, also_count 1 plan.routers, sum-map length n.also, also_sum n.also (items_under (codes_of "interface") 0 plan.routers) plan.also, also_flat 0 plan.routers)
+  few_also = let few : sum (map length n.also) ≤ 1024 = lawful.few_also in omega (arith, also_counted document n plan)
 
   interface_limit : (r j : ℕ) → IsPast 1024 (interface_spots plan.routers) (RouterInterface r j) ⊎ IsPast 1024 (also_spots plan.routers) (RouterInterface r j) → ⊥
   interface_limit r j (inl f) = past_not (interface_spots plan.routers) (RouterInterface r j) f.0 few_interfaces f.1 f.2
   interface_limit r j (inr f) = past_not (also_spots plan.routers) (RouterInterface r j) f.0 few_also f.1 f.2
 
-  interface_cost : (x : Data) → HasInterface x → HasWrongCost x ⊎ HasWrongDirect x → ⊥
+  interface_cost : (x : Data) → HasInterface document n plan x → HasWrongCost x ⊎ HasWrongDirect x → ⊥
   interface_cost x h wrong =
       let is : IsInterface n h.k h.i.router h.i.link h.i.cost = record { address = h.i.address; direct = h.i.direct; poison = h.i.poison; listed = h.listed } in
       let on : IsConnected n h.k h.i.router h.i.link h.i.direct = record { address = h.i.address; cost = h.i.cost; poison = h.i.poison; listed = h.listed } in
@@ -342,10 +184,10 @@ module _ (laws : TextLaws) (document : Members) (n : Network) (plan : PlanOf doc
             (lawful.direct_most h.k h.i.router h.i.link h.i.cost h.i.direct is on) direct
       ]
 
-  own_cost : (x : Data) → HasOwn x → HasWrongCost x → ⊥
+  own_cost : (x : Data) → HasOwn document n plan x → HasWrongCost x → ⊥
   own_cost x h wrong =
       let k = length plan.on_links + h.k in
-      let (p, place, prefix) = its_place k h.q (get_past plan.on_links plan.owned h.k k refl ∙ h.listed) in
+      let (p, place, prefix) = its_place document n plan k h.q (get_past plan.on_links plan.owned h.k k refl ∙ h.listed) in
       let own : IsOwnAt n k p h.m h.of.own.cost = record { own = h.of.own; place = subst (IsPlace n k p) h.of.seat place; router = h.of.router; says = refl } in
       costs x h.of.own.cost h.of.cost (lawful.own_cost_least k p h.m h.of.own.cost own) (lawful.own_cost_most k p h.m h.of.own.cost own) wrong
 
@@ -387,7 +229,7 @@ module _ (laws : TextLaws) (bytes : List ℕ) (w : IsWellFormed bytes) where
 
   address_told : (r j : ℕ) (x : Data) → IsItem (codes_of "interface") w.plan.routers r j x → HasNoAddress (codes_of "address") x ⊎ HasWrongAlso x → ⊥
   address_told r j x item (inl (text, has, none)) =
-      let h = its_interface laws w.document w.network w.plan w.lawful r j x item in
+      let h = its_interface w.document w.network w.plan r j x item in
       let same : text ≡ h.of.text = text_same (codes_of "address") x text h.of.text has h.of.has_address in
       none h.i.address (subst (λ (t : List ℕ). IsAddressText t h.i.address) (sym same) h.of.address)
   address_told r j x item (inr (k, text, at, none)) =
@@ -400,7 +242,7 @@ module _ (laws : TextLaws) (bytes : List ℕ) (w : IsWellFormed bytes) where
 
   own_prefix_told : (r j : ℕ) (x : Data) (text : List ℕ) → IsItem (codes_of "own") w.plan.routers r j x → get (codes_of "prefix") x ≡ Some (string text) → IsNoPrefix text → ⊥
   own_prefix_told r j x text item has none =
-      let h = its_own laws w.document w.network w.plan w.lawful r j x item in
+      let h = its_own w.document w.network w.plan r j x item in
       let same : text ≡ h.of.text = text_same (codes_of "prefix") x text h.of.text has h.of.has_prefix in
       none h.q.prefix (subst (λ (t : List ℕ). IsPrefixText t h.q.prefix) (sym same) h.of.prefix)
 
@@ -418,17 +260,17 @@ module _ (laws : TextLaws) (bytes : List ℕ) (w : IsWellFormed bytes) where
   table_not codes.DuplicateName (Router r) f = again_not w.network.routers w.plan.routers w.plan.router_names w.lawful.router_names_differ r f
   table_not codes.Key (RouterInterface r j) f = item_fields IsInterfaceTable (codes_of "interface") w.plan.routers r j f.0 w.interface_tables f.1 f.2
   table_not codes.Address (RouterInterface r j) f = address_told r j f.0 f.1 f.2
-  table_not codes.Cost (RouterInterface r j) f = interface_cost laws w.document w.network w.plan w.lawful f.0 (its_interface laws w.document w.network w.plan w.lawful r j f.0 f.1) f.2
-  table_not codes.UnknownLink (RouterInterface r j) f = unknown_not laws w.document w.network w.plan w.lawful f.0 (its_interface laws w.document w.network w.plan w.lawful r j f.0 f.1) f.2
-  table_not codes.OutsidePrefix (RouterInterface r j) f = outside_not laws w.document w.network w.plan w.lawful f.0 (its_interface laws w.document w.network w.plan w.lawful r j f.0 f.1) f.2
+  table_not codes.Cost (RouterInterface r j) f = interface_cost laws w.document w.network w.plan w.lawful f.0 (its_interface w.document w.network w.plan r j f.0 f.1) f.2
+  table_not codes.UnknownLink (RouterInterface r j) f = unknown_not laws w.document w.network w.plan w.lawful f.0 (its_interface w.document w.network w.plan r j f.0 f.1) f.2
+  table_not codes.OutsidePrefix (RouterInterface r j) f = outside_not laws w.document w.network w.plan w.lawful f.0 (its_interface w.document w.network w.plan r j f.0 f.1) f.2
   table_not codes.Limit (RouterInterface r j) f = interface_limit laws w.document w.network w.plan w.lawful r j f
   table_not codes.Key (RouterOwn r j) f = item_fields IsOwnTable (codes_of "own") w.plan.routers r j f.0 w.own_tables f.1 f.2
-  table_not codes.Address (RouterOwn r j) f = let h = its_own laws w.document w.network w.plan w.lawful r j f.0 f.1 in gateways f.0 h.of.own.via h.of.via f.2
+  table_not codes.Address (RouterOwn r j) f = let h = its_own w.document w.network w.plan r j f.0 f.1 in gateways f.0 h.of.own.via h.of.via f.2
   table_not codes.UnknownLink (RouterOwn r j) f =
-      let h = its_own laws w.document w.network w.plan w.lawful r j f.0 f.1 in
+      let h = its_own w.document w.network w.plan r j f.0 f.1 in
       attached_not laws w.document w.network w.plan w.lawful f.0 h.of.own.link h.of.link f.2
   table_not codes.Prefix (RouterOwn r j) f = own_prefix_told r j f.0 f.1 f.2 f.3 f.4
-  table_not codes.Cost (RouterOwn r j) f = own_cost laws w.document w.network w.plan w.lawful f.0 (its_own laws w.document w.network w.plan w.lawful r j f.0 f.1) f.2
+  table_not codes.Cost (RouterOwn r j) f = own_cost laws w.document w.network w.plan w.lawful f.0 (its_own w.document w.network w.plan r j f.0 f.1) f.2
   table_not codes.Limit (RouterOwn r j) f = past_not laws w.document w.network w.plan w.lawful (place_spots w.plan.links w.plan.routers) (RouterOwn r j) f.0
       (few_places laws w.document w.network w.plan w.lawful) f.1 f.2
   table_not codes.DuplicatePrefix (LinkPrefix i j) f = clash_not laws w.document w.network w.plan w.lawful DoMeet (place_spots w.plan.links w.plan.routers) (LinkPrefix i j)
@@ -477,13 +319,6 @@ module _ (bytes : List ℕ) (none : (e : PlanError) → IsFault bytes e → ⊥)
   none_at : (c : PlanCode) (place : At) → FaultAt bytes c place → ⊥
   none_at c place f = none (fault c place) (pass_of c, inl (f, refl))
 
-  not_long : length bytes ≤ 1048576
-  not_long =
-      elim (cases_lt 1048576 (length bytes)) [
-        | inl more ↦ absurd (none_at codes.Limit Text (inl more))
-        | inr few ↦ few
-      ]
-
   module _ (document : Members) (text : IsText bytes document) (n : Network) (plan : PlanOf document n) where
     its_version : get (codes_of "version") (table document) ≡ Some (integer (pos 1))
     its_version = by_test (is_version (get (codes_of "version") (table document))) refl
@@ -507,17 +342,17 @@ module _ (bytes : List ℕ) (none : (e : PlanError) → IsFault bytes e → ⊥)
     its_interfaces =
         all_from (λ (at : ℕ × Data). IsInterfaceTable at.1) (items_under (codes_of "interface") 0 plan.routers)
         (λ k d at.
-        let (i, j, number, item) = under_item (codes_of "interface") 0 plan.routers k d.0 d.1 at in
+        let u = under_item (codes_of "interface") RouterInterface 1 0 plan.routers k d.0 d.1 at in
         by_table IsInterfaceTable interface_fields interface_told d.1
-        (λ lacks. none_at codes.Key (RouterInterface (suc i) (suc j)) (document, plan.links, plan.routers, its_tables, (d.1, item, lacks))) (interface_not d.1))
+        (λ lacks. none_at codes.Key (RouterInterface (suc u.t) (suc u.j)) (document, plan.links, plan.routers, its_tables, (d.1, u.item, lacks))) (interface_not d.1))
 
     its_owns : All (λ (at : ℕ × Data). IsOwnTable at.1) (items_under (codes_of "own") 0 plan.routers)
     its_owns =
         all_from (λ (at : ℕ × Data). IsOwnTable at.1) (items_under (codes_of "own") 0 plan.routers)
         (λ k d at.
-        let (i, j, number, item) = under_item (codes_of "own") 0 plan.routers k d.0 d.1 at in
+        let u = under_item (codes_of "own") RouterOwn 1 0 plan.routers k d.0 d.1 at in
         by_table IsOwnTable own_fields own_told d.1
-        (λ lacks. none_at codes.Key (RouterOwn (suc i) (suc j)) (document, plan.links, plan.routers, its_tables, (d.1, item, lacks))) (own_not d.1))
+        (λ lacks. none_at codes.Key (RouterOwn (suc u.t) (suc u.j)) (document, plan.links, plan.routers, its_tables, (d.1, u.item, lacks))) (own_not d.1))
 
 pub faultless_is : ((bytes : List ℕ) → ((e : PlanError) → IsFault bytes e → ⊥) → (n : Network) × IsPlanOfText bytes n × IsLawful n)
     → (bytes : List ℕ) → ((e : PlanError) → IsFault bytes e → ⊥) → IsWellFormed bytes
