@@ -5,7 +5,7 @@ use Rattle.std.specs.List.{IsDistinct, list_any}
 use Rattle.std.proofs.lemmas.Bool.{and_parts, cases_lt}
 use Rattle.std.proofs.lemmas.Bool.Decides.{nat_tests}
 use Rattle.std.proofs.lemmas.Option.{same_Some, slice_get_within}
-use Rattle.toml.specs.Data.{Data, Members, get, table}
+use Rattle.toml.specs.Data.{Data, Members, get, string, table}
 use Rattle.rip_wire.specs.Name.{IsName, is_name}
 use Rattle.rip_wire.specs.Prefix.{Block, IsBlock}
 use Rattle.rip_plan.specs.declared.error.PlanCode.{PlanCode}
@@ -24,7 +24,7 @@ use Rattle.rip_plan.specs.Fields.{list_of}
 use Rattle.rip_plan.specs.Network.{Network, cost_on, is_of, network_of_sketch}
 use Rattle.rip_plan.specs.Passes.{same_prefix}
 use Rattle.rip_plan.specs.Seats.{is_on}
-use Rattle.rip_plan.specs.PlanFaults.{AreTwice, DoMeet, HasTables, HasWrongCost, HasWrongDirect, HaveOneAddress, IsAstray, IsClash, IsFault, IsMisnamed, IsNamedAgain, IsOutsideOf, IsText, TableFault, also_spots, interface_spots, pass_of, place_spots}
+use Rattle.rip_plan.specs.PlanFaults.{AreTwice, DoMeet, HasTables, HasWrongCost, HasWrongDirect, HaveOneAddress, IsAstray, IsClash, IsFault, IsMisnamed, IsOutsideOf, IsText, TableFault, also_spots, interface_spots, pass_of, place_spots}
 use Rattle.rip_plan.specs.PlanOf.{AreAlsoOf, HasItems, IsAddressOf, IsCostOf, IsDirectOf, IsGatewayOf, IsInterfaceOf, IsNameOf, IsOnLink, IsOwned, IsPlaceOf, IsPlanOfText, Matched, Placement, PlanOf, each_once, items_in, items_under}
 use Rattle.rip_plan.specs.PlanText.{sketch_of}
 use Rattle.rip_plan.specs.Relations.{Carries, HasAddress, HasAddresses, HasOwnAddress, IsAttached, IsConnected, IsEachOnce, IsGateway, IsInside, IsInterface, IsLawful, IsOn, IsOwnAt, IsPlace, IsPrefix}
@@ -38,7 +38,7 @@ use Rattle.rip_plan.proofs.NumberingLemmas.{same_self}
 use Rattle.rip_plan.proofs.NumbersWhereLemmas.{at_contains}
 use Rattle.rip_plan.proofs.OnePlanLemmas.{items_same}
 use Rattle.rip_plan.proofs.PlanMatchLemmas.{network_matches}
-use Rattle.rip_plan.proofs.PlanPartLemmas.{also_counted, carrier_has, has_carrier, interface_table, interfaces_count, its_place, on_link_item, own_table, places_count}
+use Rattle.rip_plan.proofs.PlanPartLemmas.{apart, names_differ, also_counted, carrier_has, prefix_place, interface_table, interfaces_count, its_place, own_table, places_count}
 use Rattle.rip_plan.proofs.SpotLemmas.{interface_spot, place_spot, under_item}
 use Rattle.rip_plan.proofs.TextFaultLemmas.{fault_first, faultless, whole_fault}
 use Rattle.rip_plan.proofs.TextLemmas.{TextLaws, one_prefix}
@@ -54,16 +54,6 @@ names_good laws names ds named none k name h = by_test (is_name name) refl
     by_test false e =
         let (d, at, its) = matched_left IsNameOf names ds k name named h in
         absurd (none (suc k) (d, name, at, its, λ good. let clash : true ≡ false = sym ((laws.name name).1 good) ∙ e in cc))
-
-apart : (i j : ℕ) → (i < j → ⊥) → (j < i → ⊥) → i ≡ j
-apart i j h k = elim (cases_lt i j) [ inl less ↦ absurd (h less) | inr ge ↦ elim (cases_lt j i) [ inl more ↦ absurd (k more) | inr le ↦ omega arith ] ]
-
-pub names_differ : (names : List (List ℕ)) (ds : List Data) → Matched IsNameOf names ds → ((i : ℕ) → IsNamedAgain ds i → ⊥) → (l m : ℕ) (name : List ℕ) → slice_get names l ≡ Some name
-    → slice_get names m ≡ Some name → l ≡ m
-names_differ names ds named none l m name h k =
-    let (d, at, its) = matched_left IsNameOf names ds l name named h in
-    let (e, there, theirs) = matched_left IsNameOf names ds m name named k in
-    apart l m (λ less. none (suc m) (e, d, suc l, name, there, theirs, omega arith, at, its)) (λ more. none (suc l) (d, e, suc m, name, at, its, omega arith, there, theirs))
 
 -- ---- costs
 
@@ -100,6 +90,9 @@ module _ (laws : TextLaws) (bytes : List ℕ) (document : Members) (n : Network)
     (none : (e : PlanError) → IsFault bytes e → ⊥) where
   not : (c : PlanCode) (place : At) → TableFault document plan.links plan.routers c place → ⊥
   not c place f = none (fault c place) (pass_of c, inl (whole_fault bytes document plan.links plan.routers has c place f, refl))
+
+  prefix_known : (k p : ℕ) (seat : Seat) → IsPlace n k p seat → p < length n.prefixes
+  prefix_known k p seat h = let (q, at, of) = matched_left (IsPlaceOf n) n.places (plan.on_links ++ plan.owned) k _ plan.places h.listed in slice_get_within n.prefixes p q.prefix of.prefix
 
   -- ---- interfaces
 
@@ -193,7 +186,7 @@ module _ (laws : TextLaws) (bytes : List ℕ) (document : Members) (n : Network)
       by_test false e =
           let t = interface_table document n plan i _ own.listed in
           let (d, listed, named) = matched_left IsNameOf n.links plan.links l t.of.link_name plan.link_names t.of.link.0 in
-          let first = on_link_item document n plan k p l place in
+          let (block, prefix) = get_some n.prefixes p (prefix_known k p (seats.Link l) place) in
           absurd (not codes.OutsidePrefix (RouterInterface (suc t.r) (suc t.j)) (
             t.x,
             t.item,
@@ -208,9 +201,9 @@ module _ (laws : TextLaws) (bytes : List ℕ) (document : Members) (n : Network)
               link_table = d;
               listed = listed;
               named = named;
-              some = (first.q.prefix, carrier_has document n plan l p first.q.prefix (k, place) first.prefix);
+              some = (block, carrier_has document n plan l p block (k, place) prefix);
               none = λ block its holds.
-                  let (m, q, at, seat, (text, read, same)) = has_carrier document n plan l block its in
+                  let (m, q, at, seat, (text, read, same)) = prefix_place plan.links plan.on_links plan.link_prefixes l block its in
                   let one : q.prefix ≡ block = one_prefix laws text text q.prefix block refl read same in
                   let off : (is_on l q.seat && has_address q.prefix a) ≡ false = none_at (λ (q : Placement). is_on l q.seat && has_address q.prefix a) plan.on_links m q e at in
                   let here : is_on l (seats.Link l) ≡ true = grind (arith, nat_tests) in
@@ -255,15 +248,13 @@ module _ (laws : TextLaws) (bytes : List ℕ) (document : Members) (n : Network)
       let (m, place, prefix) = its_place document n plan k q at in
       (k, q.seat, subst (λ (i : ℕ). IsPlace n k i q.seat) (prefixes_differ m p b (prefix ∙ ap (λ (x : Block). Some x) same) h) place)
 
-  prefix_known : (k p : ℕ) (seat : Seat) → IsPlace n k p seat → p < length n.prefixes
-  prefix_known k p seat h = let (q, at, of) = matched_left (IsPlaceOf n) n.places (plan.on_links ++ plan.owned) k _ plan.places h.listed in slice_get_within n.prefixes p q.prefix of.prefix
-
   -- ---- places
 
   seat_known : (k p l : ℕ) → IsPlace n k p (seats.Link l) → l < length n.links
   seat_known k p l h =
-      let i = on_link_item document n plan k p l h in
-      let u = under_item (codes_of "prefixes") LinkPrefix 1 0 plan.links k l i.x i.listed in
+      let (block, prefix) = get_some n.prefixes p (prefix_known k p (seats.Link l) h) in
+      let (m, text, at, read) = carrier_has document n plan l p block (k, h) prefix in
+      let u = under_item (codes_of "prefixes") LinkPrefix 1 0 plan.links m l (string text) at in
       omega (arith, u.number, slice_get_within plan.links u.t u.item.0 u.item.1, matched_length IsNameOf n.links plan.links plan.link_names)
 
   owner_known : (k p r c : ℕ) → IsOwnAt n k p r c → r < length n.routers

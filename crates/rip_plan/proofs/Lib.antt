@@ -32,7 +32,6 @@ pub mod SpotLemmas
 pub mod FurtherAddressLemmas
 pub mod PlanPartLemmas
 pub mod FaultRowLemmas
-pub mod TakenSpotLemmas
 pub mod LinkFaultLemmas
 pub mod RouterFaultLemmas
 pub mod PassFaultLemmas

@@ -37,7 +37,7 @@ use Rattle.rip_plan.proofs.HeldOrderLemmas.{held_order, stands_from}
 use Rattle.rip_plan.proofs.OnePlanLemmas.{one_plan}
 use Rattle.rip_plan.proofs.PlanPartLemmas.{own_spot}
 use Rattle.rip_plan.proofs.SpotLemmas.{place_ahead, interface_ahead, place_spot, interface_spot}
-use Rattle.rip_plan.proofs.TakenSpotLemmas.{place_ats, interface_ats}
+use Rattle.rip_plan.proofs.PlanMatchLemmas.{place_ats, interface_ats}
 use Rattle.rip_plan.proofs.ItemLemmas.{any_at, any_finds, distinct_at, get_seen, see_got, get_some}
 use Rattle.rip_plan.proofs.NumberingLemmas.{numbers, same_is, same_from}
 use Rattle.rip_plan.proofs.SecondPassLemmas.{address_spot, held, held_spot, taken_address, common, FoundBare, search_bare}
@@ -299,8 +299,8 @@ module _ (s : Sketch) where
 
 -- ---- all later passes
 
-module _ (laws : TextLaws) (document : Members) (links routers : List Data) (s : Sketch) (plan : PlanOf document (network_of_sketch s)) (placed : place_ats s ≡ place_spots links routers)
-    (listed : interface_ats s ≡ interface_spots routers) (spots : place_spots plan.links plan.routers ≡ place_spots links routers) where
+module _ (laws : TextLaws) (document : Members) (links routers : List Data) (s : Sketch) (plan : PlanOf document (network_of_sketch s)) (placed : place_ats s.places ≡ place_spots links routers)
+    (listed : interface_ats s.interfaces ≡ interface_spots routers) (spots : place_spots plan.links plan.routers ≡ place_spots links routers) where
   place_at : (k : ℕ) (d : DraftPlace) → slice_get s.places k ≡ Some d → slice_get (place_spots links routers) k ≡ Some d.at
   place_at k d h = ap (λ (l : List At). slice_get l k) (sym placed) ∙ see_got (λ (p : DraftPlace). p.at) s.places k d h
 

@@ -1,9 +1,10 @@
 -- What each item of a document is in its plan, and what each part of the plan is in the document.
-use Rattle.std.proofs.Common.{◌≡◌, ℕ, zero, suc, ◌+◌, inl, inr, List, [], ◌∷◌, ◌++◌, map, length, length-append, sum, Some, refl, sym, ◌∙◌, ap, subst, arith}
+use Rattle.std.proofs.Common.{◌≡◌, ℕ, zero, suc, ◌+◌, inl, inr, List, [], ◌∷◌, ◌++◌, map, length, length-append, sum, ◌<◌, Some, refl, sym, ◌∙◌, ap, subst, arith}
 use Rattle.std.specs.Prelude.{slice_get, codes as codes_of}
 use Rattle.std.specs.List.{sum_by}
 use Rattle.std.proofs.lemmas.List.Sums.{sum-map, sum_by-cons}
 use Rattle.std.proofs.lemmas.Option.{none-some, same_Some}
+use Rattle.std.proofs.lemmas.Bool.{cases_lt}
 use Rattle.toml.specs.Data.{Data, Members, get, string}
 use Rattle.rip_wire.specs.Prefix.{Block}
 use Rattle.rip_plan.specs.declared.error.At.TheVariants.{LinkPrefix, RouterInterface, RouterOwn}
@@ -11,7 +12,7 @@ use Rattle.rip_plan.specs.declared.parts.Interface.{Interface}
 use Rattle.rip_plan.specs.declared.parts.OwnPrefix.{OwnPrefix}
 use Rattle.rip_plan.specs.declared.parts.Seat.TheVariants as seats
 use Rattle.rip_plan.specs.Network.{Network}
-use Rattle.rip_plan.specs.PlanFaults.{HasPrefix, IsItem, also_spots, interface_spots, nth, place_spots, spots_under}
+use Rattle.rip_plan.specs.PlanFaults.{HasPrefix, IsItem, IsNamedAgain, also_spots, interface_spots, nth, place_spots, spots_under}
 use Rattle.rip_plan.specs.PlanOf.{AreAlsoOf, IsAddressOf, IsInterfaceOf, IsNameOf, IsOnLink, IsOwned, IsPlaceOf, Matched, Placement, PlanOf, items_in, items_under}
 use Rattle.rip_plan.specs.Relations.{Carries, IsPlace, IsPrefix}
 use Rattle.rip_plan.specs.Texts.{IsPrefixText}
@@ -57,11 +58,11 @@ item_under key ds (suc m) (suc j) x (d, is, item) =
 -- ---- further addresses
 
 -- how many further addresses these items have
-abbrev also_at : List (ℕ × Data) → ℕ
+abbrev pub also_at : List (ℕ × Data) → ℕ
 also_at [] = 0
 also_at (x ∷ xs) = length (also_items x.1) + also_at xs
 
-also_sum : (also : List (List ℕ)) (xs : List (ℕ × Data)) → Matched AreAlsoOf also xs → sum_by length also ≡ also_at xs
+pub also_sum : (also : List (List ℕ)) (xs : List (ℕ × Data)) → Matched AreAlsoOf also xs → sum_by length also ≡ also_at xs
 also_sum [] [] m = refl
 also_sum [] (x ∷ xs) m = absurd m
 also_sum (a ∷ also) [] m = absurd m
@@ -71,11 +72,11 @@ also_append : (xs ys : List (ℕ × Data)) → also_at (xs ++ ys) ≡ also_at xs
 also_append [] ys = omega arith
 also_append (x ∷ xs) ys = omega (arith, also_append xs ys)
 
-also_numbered : (n : ℕ) (ds : List Data) → also_at (map (with_number n) ds) ≡ also_in ds
+pub also_numbered : (n : ℕ) (ds : List Data) → also_at (map (with_number n) ds) ≡ also_in ds
 also_numbered n [] = refl
 also_numbered n (d ∷ ds) = omega (arith, also_numbered n ds)
 
-also_flat : (n : ℕ) (ds : List Data) → also_at (items_under (codes_of "interface") n ds) ≡ also_under ds
+pub also_flat : (n : ℕ) (ds : List Data) → also_at (items_under (codes_of "interface") n ds) ≡ also_under ds
 also_flat n [] = refl
 also_flat n (d ∷ ds) =
     let here = items_in (get (codes_of "interface") d) in
@@ -91,6 +92,44 @@ names_good names ds named (suc i) k name d number at its =
     let one : other ≡ name = text_same (codes_of "name") d other name of its in
     ap (slice_get names) (sym same) ∙ listed ∙ ap (λ (t : List ℕ). Some t) one
 names_good names ds named zero k name d number at its = absurd (omega arith)
+
+pub apart : (i j : ℕ) → (i < j → ⊥) → (j < i → ⊥) → i ≡ j
+apart i j h k = elim (cases_lt i j) [ inl less ↦ absurd (h less) | inr ge ↦ elim (cases_lt j i) [ inl more ↦ absurd (k more) | inr le ↦ omega arith ] ]
+
+pub names_differ : (names : List (List ℕ)) (ds : List Data) → Matched IsNameOf names ds → ((i : ℕ) → IsNamedAgain ds i → ⊥) → (l m : ℕ) (name : List ℕ) → slice_get names l ≡ Some name
+    → slice_get names m ≡ Some name → l ≡ m
+names_differ names ds named none l m name h k =
+    let (d, at, its) = matched_left IsNameOf names ds l name named h in
+    let (e, there, theirs) = matched_left IsNameOf names ds m name named k in
+    apart l m (λ less. none (suc m) (e, d, suc l, name, there, theirs, omega arith, at, its)) (λ more. none (suc l) (d, e, suc m, name, at, its, omega arith, there, theirs))
+
+-- ---- places
+
+-- a prefix on a link stands in the link's list
+pub link_prefix : (links routers : List Data) (names : List (List ℕ)) (on_links owned : List Placement)
+    → Matched IsOnLink on_links (items_under (codes_of "prefixes") 0 links) → Matched (IsOwned names) owned (items_under (codes_of "own") 0 routers)
+    → (l k : ℕ) (q : Placement) → slice_get (on_links ++ owned) k ≡ Some q → q.seat ≡ seats.Link l → HasPrefix links l q.prefix
+link_prefix links routers names on_links owned link_prefixes own_prefixes l k q at seat =
+    elim (get_split on_links owned k q at) [
+      | inl here ↦
+          let ((m, x), is, on) = matched_left IsOnLink on_links (items_under (codes_of "prefixes") 0 links) k q link_prefixes here.0 in
+          let one : seats.Link l ≡ seats.Link m = sym seat ∙ on.seat in
+          let number : m ≡ l = cc in
+          (k, on.text, is ∙ ap (λ (v : ℕ). Some (v, x)) number ∙ ap (λ (y : Data). Some (l, y)) on.is_text, on.prefix)
+      | inr there ↦
+          let (x, is, own) = matched_left (IsOwned names) owned (items_under (codes_of "own") 0 routers) there.0 q own_prefixes there.2 in
+          let clash : seats.Link l ≡ seats.Own own.own = sym seat ∙ own.seat in
+          absurd cc
+    ]
+
+-- and each of the list is on the link
+pub prefix_place : (links : List Data) (on_links : List Placement) → Matched IsOnLink on_links (items_under (codes_of "prefixes") 0 links) → (l : ℕ) (p : Block) → HasPrefix links l p
+    → (k : ℕ) × (q : Placement) × (slice_get on_links k ≡ Some q) × (q.seat ≡ seats.Link l) × ((text : List ℕ) × IsPrefixText text q.prefix × IsPrefixText text p)
+prefix_place links on_links link_prefixes l p (k, text, at, parsed) =
+    let (q, listed, of) = matched_right IsOnLink on_links (items_under (codes_of "prefixes") 0 links) k (l, string text) link_prefixes at in
+    let strings : string text ≡ string of.text = of.is_text in
+    let same : text ≡ of.text = cc in
+    (k, q, listed, of.seat, (of.text, of.prefix, subst (λ (t : List ℕ). IsPrefixText t p) same parsed))
 
 -- ---- a plan
 
@@ -165,29 +204,6 @@ module _ (document : Members) (n : Network) (plan : PlanOf document n) where
       let same : r ≡ u.t = omega (arith, u.number) in
       record { r = r; j = u.j; x = x; item = rw (← same) at u.item; of = of }
 
-  -- the item of a place on a link
-  pub record OnLinkItem (k p l : ℕ) : Type 0 where
-    pub q : Placement
-    pub x : Data
-    pub prefix : IsPrefix n p q.prefix
-    pub listed : slice_get (items_under (codes_of "prefixes") 0 plan.links) k ≡ Some (l, x)
-    pub of : IsOnLink q (l, x)
-
-  pub on_link_item : (k p l : ℕ) → IsPlace n k p (seats.Link l) → OnLinkItem k p l
-  on_link_item k p l place =
-      let (q, at, of) = matched_left (IsPlaceOf n) n.places (plan.on_links ++ plan.owned) k _ plan.places place.listed in
-      elim (get_split plan.on_links plan.owned k q at) [
-        | inl here ↦
-            let ((m, x), is, on) = matched_left IsOnLink plan.on_links (items_under (codes_of "prefixes") 0 plan.links) k q plan.link_prefixes here.0 in
-            let seat : seats.Link l ≡ seats.Link m = of.seat ∙ on.seat in
-            let number : m ≡ l = cc in
-            record { q = q; x = x; prefix = of.prefix; listed = is ∙ ap (λ (v : ℕ). Some (v, x)) number; of = subst (λ (v : ℕ). IsOnLink q (v, x)) number on }
-        | inr there ↦
-            let (x, is, own) = matched_left (IsOwned n.links) plan.owned (items_under (codes_of "own") 0 plan.routers) there.0 q plan.own_prefixes there.2 in
-            let seat : seats.Link l ≡ seats.Own own.own = of.seat ∙ own.seat in
-            absurd cc
-      ]
-
   -- the table of a router's own prefix
   pub record OwnTable (k p : ℕ) (own : OwnPrefix) : Type 0 where
     pub q : Placement
@@ -231,16 +247,8 @@ module _ (document : Members) (n : Network) (plan : PlanOf document n) where
   pub own_spot : (k p : ℕ) (own : OwnPrefix) → IsPlace n k p (seats.Own own) → (r j : ℕ) × (slice_get (place_spots plan.links plan.routers) k ≡ Some (RouterOwn r j))
   own_spot k p own place = let t = own_table k p own place in (1 + t.r, suc t.j, t.spot)
 
-  -- prefixes on links
-  pub has_carrier : (l : ℕ) (p : Block) → HasPrefix plan.links l p → (k : ℕ) × (q : Placement) × (slice_get plan.on_links k ≡ Some q) × (q.seat ≡ seats.Link l) × ((text : List ℕ) × IsPrefixText text q.prefix × IsPrefixText text p)
-  has_carrier l p (k, text, at, parsed) =
-      let (q, listed, of) = matched_right IsOnLink plan.on_links (items_under (codes_of "prefixes") 0 plan.links) k (l, string text) plan.link_prefixes at in
-      let strings : string text ≡ string of.text = of.is_text in
-      let same : text ≡ of.text = cc in
-      (k, q, listed, of.seat, (of.text, of.prefix, subst (λ (t : List ℕ). IsPrefixText t p) same parsed))
-
   pub carrier_has : (l p : ℕ) (block : Block) → Carries n l p → IsPrefix n p block → HasPrefix plan.links l block
   carrier_has l p block (k, place) prefix =
-      let i = on_link_item k p l place in
-      let same : i.q.prefix ≡ block = same_Some i.q.prefix block (sym i.prefix ∙ prefix) in
-      (k, i.of.text, i.listed ∙ ap (λ (y : Data). Some (l, y)) i.of.is_text, subst (IsPrefixText i.of.text) same i.of.prefix)
+      let (q, at, of) = matched_left (IsPlaceOf n) n.places (plan.on_links ++ plan.owned) k _ plan.places place.listed in
+      let same : q.prefix ≡ block = same_Some q.prefix block (sym of.prefix ∙ prefix) in
+      subst (HasPrefix plan.links l) same (link_prefix plan.links plan.routers n.links plan.on_links plan.owned plan.link_prefixes plan.own_prefixes l k q at (sym of.seat))

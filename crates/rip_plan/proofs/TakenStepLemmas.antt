@@ -1,5 +1,8 @@
 -- What each step of the first pass found where it ended with no fault.
-use Rattle.std.proofs.Common.{◌≡◌, ℕ, ◌-◌, List, [], ◌∷◌, ◌++◌, length, Bool, false, not, ◌||◌, Some, Ok, refl, sym, ap, ◌∙◌}
+use Rattle.std.proofs.Common.{◌≡◌, ◌-◌, List, [], ◌∷◌, ◌++◌, length, Bool, false, not, ◌||◌, Some, Ok, refl, sym, ap, ◌∙◌, ℕ, ◌+◌, ◌≤◌, arith}
+use Rattle.std.specs.List.{sum_by}
+use Rattle.std.proofs.lemmas.Bool.{or_parts}
+use Rattle.std.proofs.lemmas.Bool.Decides.{nat_tests}
 use Rattle.std.specs.Prelude.{nat_le, nat_lt, unwrap_or, codes as codes_of}
 use Rattle.toml.specs.Data.{Data, Members, as_str, as_table, get_member}
 use Rattle.rip_wire.specs.Address.{address_in}
@@ -172,51 +175,44 @@ router_taken r d s t h =
     let (u, first, second) = bind_ok (steps (interface_step r) 1 f.1 (with_router f.0 s)) (steps (own_step r) 1 f.2) t h3 in
     record { name = f.0; interfaces = f.1; owns = f.2; fields = fields; named = named; fresh = fresh; between = u; first = first; second = second }
 
-pub record DocumentTaken (doc : Members) (t : Sketch) : Type 0 where
-  pub version : not (is_version (get_member (codes_of "version") doc)) ≡ false
+-- there is room for one more interface with these addresses
+pub room_for : (s : Sketch) (also : List ℕ) → is_full s also ≡ false → (length s.interfaces + 1 ≤ 1024) × (sum_by length s.also + length also ≤ 1024)
+room_for s also h =
+    let parts = or_parts (nat_le 1024 (length s.interfaces)) (nat_lt 1024 (sum_by length s.also + length also)) h in
+    (grind (arith, nat_tests, parts.0), grind (arith, nat_tests, parts.1))
+
+-- ---- the document
+
+pub record TextTaken (bytes : List ℕ) (t : Sketch) : Type 0 where
+  pub document : Members
+  pub read : document_of bytes ≡ Some document
   pub links : List Data
   pub routers : List Data
   pub poison : Bool
-  pub root : root_fields doc ≡ Some (links, routers, poison)
-  pub room : (nat_lt 512 (length links) || nat_lt 128 (length routers)) ≡ false
+  pub root : root_fields document ≡ Some (links, routers, poison)
   pub between : Sketch
   pub first : steps link_step 1 links (empty poison) ≡ Ok between
   pub second : steps router_step 1 routers between ≡ Ok t
-  pub passed : second_passes t ≡ Ok tt
 
-pub document_taken : (doc : Members) (t : Sketch) → sketch_of_document doc ≡ Ok t → DocumentTaken doc t
-unfolding sketch_of_document
-document_taken doc t h =
-    let (version, h1) = guard_ok (not (is_version (get_member (codes_of "version") doc))) (fault codes.Version Version) _ t h in
-    let (root, is, h2) = wanted_ok (fault codes.Key Text) (root_fields doc) _ t h1 in
-    let (room, h3) = guard_ok (nat_lt 512 (length root.0) || nat_lt 128 (length root.1)) (fault codes.Limit Text) _ t h2 in
-    let (v, both, h4) = bind_ok (steps link_step 1 root.0 (empty root.2) >>= steps router_step 1 root.1) (λ s. second_passes s >>= (λ _. Ok s)) t h3 in
+pub text_taken : (bytes : List ℕ) (t : Sketch) → sketch_of bytes ≡ Ok t → TextTaken bytes t
+unfolding sketch_of sketch_of_document
+text_taken bytes t h =
+    let (long, h1) = guard_ok (nat_lt 1048576 (length bytes)) (fault codes.Limit Text) _ t h in
+    let (doc, read, h2) = wanted_ok (fault codes.Syntax Text) (document_of bytes) sketch_of_document t h1 in
+    let (version, h3) = guard_ok (not (is_version (get_member (codes_of "version") doc))) (fault codes.Version Version) _ t h2 in
+    let (root, is, h4) = wanted_ok (fault codes.Key Text) (root_fields doc) _ t h3 in
+    let (room, h5) = guard_ok (nat_lt 512 (length root.0) || nat_lt 128 (length root.1)) (fault codes.Limit Text) _ t h4 in
+    let (v, both, h6) = bind_ok (steps link_step 1 root.0 (empty root.2) >>= steps router_step 1 root.1) (λ s. second_passes s >>= (λ _. Ok s)) t h5 in
     let (u, first, second) = bind_ok (steps link_step 1 root.0 (empty root.2)) (steps router_step 1 root.1) v both in
-    let (done, passed, h5) = bind_ok (second_passes v) (λ _. Ok v) t h4 in
-    let same : v ≡ t = ok_same v t h5 in
+    let (done, passed, h7) = bind_ok (second_passes v) (λ _. Ok v) t h6 in
     record {
-      version = version;
+      document = doc;
+      read = read;
       links = root.0;
       routers = root.1;
       poison = root.2;
       root = is;
-      room = room;
       between = u;
       first = first;
-      second = second
-          ∙ ap (λ (x : Sketch). Ok x) same;
-      passed = ap second_passes (sym same) ∙ passed;
+      second = second ∙ ap (λ (x : Sketch). Ok x) (ok_same v t h7);
     }
-
-pub record TextTaken (bytes : List ℕ) (t : Sketch) : Type 0 where
-  pub room : nat_lt 1048576 (length bytes) ≡ false
-  pub document : Members
-  pub read : document_of bytes ≡ Some document
-  pub taken : DocumentTaken document t
-
-pub text_taken : (bytes : List ℕ) (t : Sketch) → sketch_of bytes ≡ Ok t → TextTaken bytes t
-unfolding sketch_of
-text_taken bytes t h =
-    let (room, h1) = guard_ok (nat_lt 1048576 (length bytes)) (fault codes.Limit Text) _ t h in
-    let (doc, read, h2) = wanted_ok (fault codes.Syntax Text) (document_of bytes) sketch_of_document t h1 in
-    record { room = room; document = doc; read = read; taken = document_taken doc t h2 }

@@ -1,5 +1,5 @@
 -- The first fault of a text is the one that is told, and a text that is read has none.
-use Rattle.std.proofs.Common.{◌≡◌, ◌≢◌, ℕ, ◌<◌, ◌≤◌, ◌⊎◌, ◌↔◌, inl, inr, List, [], ◌∷◌, ◌++◌, length, Bool, true, false, cond, not, ◌||◌, Option, Some, None, Result, Ok, Err, refl, sym, ap, subst, ◌∙◌, arith}
+use Rattle.std.proofs.Common.{◌≡◌, ◌≢◌, ℕ, ◌<◌, ◌≤◌, ◌⊎◌, ◌↔◌, inl, inr, List, [], ◌∷◌, length, Bool, true, false, cond, not, ◌||◌, Option, Some, None, Result, Ok, Err, refl, sym, ap, subst, ◌∙◌, arith}
 use Rattle.std.proofs.lemmas.Bool.{or_parts, not-false}
 use Rattle.std.specs.Prelude.{pos, negsuc, nat_lt, ◌==◌, codes as codes_of}
 use Rattle.std.specs.Result.{result_err}
@@ -20,7 +20,7 @@ use Rattle.rip_plan.specs.Network.{network_of_sketch}
 use Rattle.rip_plan.specs.Passes.{second_passes}
 use Rattle.rip_plan.specs.PlanOf.{HasItems, PlanOf}
 use Rattle.rip_plan.specs.PlanText.{empty, document_of, sketch_of_document, sketch_of}
-use Rattle.rip_plan.specs.PlanFaults.{IsText, HasTables, TableFault, FaultAt, AstrayAt, IsFound, IsFault, PlanFault, Before, pass_of, rank, place_spots, interface_spots, spots_under}
+use Rattle.rip_plan.specs.PlanFaults.{IsText, HasTables, TableFault, FaultAt, AstrayAt, IsFound, IsFault, PlanFault, Before, pass_of, rank, place_spots}
 use Rattle.rip_plan.proofs.BindLemmas.{bind_ok}
 use Rattle.rip_plan.proofs.FaultRowLemmas.{IsAstrayAt, IsOfTables, IsTold, covers, told_finds, first_rows, first_high, first_sooner, links_rows, links_high, routers_rows, pass_rows, table_rows}
 use Rattle.rip_plan.proofs.FindingLemmas.{Found, ranked, row_at, Rows, row_then, Finds, finds_in, guard_finds, want_finds, bind_rows}
@@ -28,9 +28,8 @@ use Rattle.rip_plan.proofs.LinkFaultLemmas.{links_find}
 use Rattle.rip_plan.proofs.OnePlanLemmas.{items_same}
 use Rattle.rip_plan.proofs.OrderLemmas.{before_not, before_trans, before_or}
 use Rattle.rip_plan.proofs.PassFaultLemmas.{passes_find}
-use Rattle.rip_plan.proofs.PlanMatchLemmas.{root_table, document_matches}
+use Rattle.rip_plan.proofs.PlanMatchLemmas.{root_table, document_matches, tables_read}
 use Rattle.rip_plan.proofs.RouterFaultLemmas.{routers_find}
-use Rattle.rip_plan.proofs.TakenSpotLemmas.{place_ats, interface_ats, links_stand, routers_stand}
 use Rattle.rip_plan.proofs.TextLemmas.{TextLaws}
 use Rattle.rip_plan.specs.DocumentTables.{IsRoot}
 use Rattle.rip_plan.proofs.DocumentTableLemmas.{root_told, root_not}
@@ -48,17 +47,13 @@ module _ (laws : TextLaws) (document : Members) (links routers : List Data) (poi
       (λ w is. routers_find laws document links routers poison w is)))
       (λ s taken.
       let (w, first, second) = bind_ok (steps link_step 1 links (empty poison)) (steps router_step 1 routers) s taken in
-      let plan : PlanOf document (network_of_sketch s) =
-      document_matches laws document s (record { links = links; routers = routers; poison = poison; root = root; between = w; first = first; second = second }) in
-      let one = links_stand 1 links (empty poison) w first in
-      let two = routers_stand 1 routers w s second in
-      let placed : place_ats s ≡ place_spots links routers = two.places ∙ ap (λ (l : List At). l ++ spots_under (codes_of "own") RouterOwn 1 routers) one.places in
-      let listed : interface_ats s ≡ interface_spots routers = two.interfaces ∙ ap (λ (l : List At). l ++ spots_under (codes_of "interface") RouterInterface 1 routers) one.interfaces in
+      let read = tables_read laws links routers poison w s first second in
+      let plan : PlanOf document (network_of_sketch s) = document_matches laws document links routers poison s root read in
       let root_is = root_table document links routers poison root in
       let tables : plan.links ≡ links = items_same (codes_of "link") (table document) plan.links links plan.has_links root_is.has_links in
       let others : plan.routers ≡ routers = items_same (codes_of "router") (table document) plan.routers routers plan.has_routers root_is.has_routers in
       let spots : place_spots plan.links plan.routers ≡ place_spots links routers = ap (λ (ds : List Data). place_spots ds plan.routers) tables ∙ ap (place_spots links) others in
-      then_ok F s (second_passes s) (passes_find laws document links routers s plan placed listed spots))
+      then_ok F s (second_passes s) (passes_find laws document links routers s plan read.places_stand read.interfaces_stand spots))
     where
       then_ok : (F : Found → Type 0) (s : Sketch) (r : Result (Unit {0}) PlanError) → Finds F pass_rows.has r → Finds F pass_rows.has (r >>= (λ _. Ok s))
       then_ok F s (Ok x) h = h

@@ -23,7 +23,7 @@ use Rattle.rip_plan.proofs.LawfulPlanLemmas.{not_long}
 use Rattle.rip_plan.proofs.ItemLemmas.{get_left, get_past}
 use Rattle.rip_plan.proofs.MatchingLemmas.{matched_left, matched_length, matched_right}
 use Rattle.rip_plan.proofs.OnePlanLemmas.{cost_same, one_plan, text_same}
-use Rattle.rip_plan.proofs.PlanPartLemmas.{HasInterface, HasOwn, also_counted, carrier_has, has_carrier, interfaces_count, item_under, its_interface, its_own, its_place, names_good, places_count}
+use Rattle.rip_plan.proofs.PlanPartLemmas.{HasInterface, HasOwn, also_counted, carrier_has, prefix_place, interfaces_count, item_under, its_interface, its_own, its_place, names_good, places_count}
 use Rattle.rip_plan.proofs.SpotLemmas.{under_item}
 use Rattle.rip_plan.proofs.TextFaultLemmas.{one_astray, one_fault, one_tables, same_document, version_is, version_told}
 use Rattle.rip_plan.proofs.TextLemmas.{TextLaws, one_address}
@@ -107,7 +107,7 @@ module _ (laws : TextLaws) (document : Members) (n : Network) (plan : PlanOf doc
       let link : h.i.link ≡ o.link = lawful.link_names_differ h.i.link o.link o.name one two in
       let text : h.of.text ≡ o.text = text_same (codes_of "address") x h.of.text o.text h.of.has_address o.has_address in
       let address : h.i.address ≡ o.address = one_address laws h.of.text o.text h.i.address o.address text h.of.address o.spelled in
-      let (k, q, at, seat, read) = has_carrier document n plan o.link o.some.0 o.some.1 in
+      let (k, q, at, seat, read) = prefix_place plan.links plan.on_links plan.link_prefixes o.link o.some.0 o.some.1 in
       let (p, place, prefix) = its_place document n plan k q (get_left plan.on_links plan.owned k q at) in
       let carries : Carries n o.link p = (k, subst (IsPlace n k p) seat place) in
       let is : HasOwnAddress n h.k o.link o.address = record {
