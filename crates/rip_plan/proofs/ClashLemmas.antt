@@ -102,9 +102,8 @@ added false b h e = refl
 
 pub or_turned : (a b : Bool) → cond a true b ≡ (b || a)
 or_turned true true = refl
-or_turned true false = refl
 or_turned false true = refl
-or_turned false false = refl
+or_turned a b = refl
 
 -- one more item that a set was given
 pub seen_more : {A : Type 0} (test : A → Bool) (xs : List A) (k : ℕ) (x : A) → k < length xs → x ≡ get_or xs k x → cond (test x) true (list_any test (take k xs)) ≡ list_any test (take (k + 1) xs)

@@ -20,9 +20,8 @@ use Rattle.rip_plan.proofs.TableLemmas.{array_is, boolean_is, chosen, integer_is
 -- ---- keys
 
 is_equal : (o : Ordering) → is_eq o ≡ true → o ≡ Equal
-is_equal Less h = absurd cc
 is_equal Equal h = refl
-is_equal Greater h = absurd cc
+is_equal o h = absurd cc
 
 same_order : (k : List ℕ) → slice_cmp nat_cmp k k ≡ Equal
 same_order k = is_equal (slice_cmp nat_cmp k k) (is_eq-slice_cmp k k ∙ (bytes_eq-Decides k k).1 refl)

@@ -6,9 +6,8 @@ use Rattle.rip_plan.specs.PlanOf.{Matched}
 
 pub matched_append : {A B : Type 0} (R : A → B → Type 0) (xs us : List A) (ys vs : List B) → Matched R xs ys → Matched R us vs → Matched R (xs ++ us) (ys ++ vs)
 matched_append R [] us [] vs m k = k
-matched_append R [] us (y ∷ ys) vs m k = absurd m
-matched_append R (x ∷ xs) us [] vs m k = absurd m
 matched_append R (x ∷ xs) us (y ∷ ys) vs m k = (m.0, matched_append R xs us ys vs m.1 k)
+matched_append R xs us ys vs m k = absurd m
 
 -- two lists that are matched with one list are equal, where each item has one partner
 pub matched_same : {A B : Type 0} (R S : A → B → Type 0) → ((x y : A) (z : B) → R x z → S y z → x ≡ y) → (xs ys : List A) (zs : List B) → Matched R xs zs → Matched S ys zs → xs ≡ ys
@@ -24,9 +23,8 @@ matched_same {A} R S f (x ∷ xs) (y ∷ ys) (z ∷ zs) m k =
 pub matched_at : {A B : Type 0} (R : A → B → Type 0) (xs : List A) (ys : List B) → length xs ≡ length ys → ((k : ℕ) (x : A) (y : B) → slice_get xs k ≡ Some x → slice_get ys k ≡ Some y → R x y) →
     Matched R xs ys
 matched_at R [] [] e f = tt
-matched_at R [] (y ∷ ys) e f = absurd (omega arith)
-matched_at R (x ∷ xs) [] e f = absurd (omega arith)
 matched_at R (x ∷ xs) (y ∷ ys) e f = (f 0 x y refl refl, matched_at R xs ys (omega arith) (λ k a b p q. f (suc k) a b p q))
+matched_at R xs ys e f = absurd (omega arith)
 
 pub map_append : {A B : Type 0} (see : A → B) (xs ys : List A) → map see (xs ++ ys) ≡ map see xs ++ map see ys
 map_append see [] ys = refl
@@ -34,9 +32,8 @@ map_append {A} {B} see (x ∷ xs) ys = ap (λ (l : List B). see x ∷ l) (map_ap
 
 pub matched_weaker : {A B : Type 0} (R S : A → B → Type 0) → ((x : A) (y : B) → R x y → S x y) → (xs : List A) (ys : List B) → Matched R xs ys → Matched S xs ys
 matched_weaker R S f [] [] m = tt
-matched_weaker R S f [] (y ∷ ys) m = absurd m
-matched_weaker R S f (x ∷ xs) [] m = absurd m
 matched_weaker R S f (x ∷ xs) (y ∷ ys) m = (f x y m.0, matched_weaker R S f xs ys m.1)
+matched_weaker R S f xs ys m = absurd m
 
 -- ---- partners
 
@@ -54,9 +51,8 @@ matched_right R (x ∷ xs) (z ∷ zs) (suc k) y m h = matched_right R xs zs k y 
 
 pub matched_length : {A B : Type 0} (R : A → B → Type 0) (xs : List A) (ys : List B) → Matched R xs ys → length xs ≡ length ys
 matched_length R [] [] m = refl
-matched_length R [] (y ∷ ys) m = absurd m
-matched_length R (x ∷ xs) [] m = absurd m
 matched_length R (x ∷ xs) (y ∷ ys) m = let more : length xs ≡ length ys = matched_length R xs ys m.1 in omega arith
+matched_length R xs ys m = absurd m
 
 -- ---- filters
 

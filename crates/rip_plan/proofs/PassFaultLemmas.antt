@@ -46,10 +46,9 @@ use Rattle.rip_plan.proofs.TextLemmas.{TextLaws}
 -- ---- one pass
 
 before_more : (xs ys us vs : List ℕ) → Before xs ys → Before (xs ++ us) (ys ++ vs)
-before_more [] ys us vs h = absurd h
-before_more (x ∷ xs) [] us vs h = absurd h
 before_more (x ∷ xs) (y ∷ ys) us vs (inl h) = inl h
 before_more (x ∷ xs) (y ∷ ys) us vs (inr h) = inr (h.0, before_more xs ys us vs h.1)
+before_more xs ys us vs h = absurd h
 
 -- an item that is so, and where it stands
 record Stood {A : Type 0} (Is : ℕ → A → Type 0) (see : A → At) (xs : List A) (place : At) : Type 0 where
@@ -112,8 +111,7 @@ pass_finds {A} F n c Is see xs r first ahead told clear = by_search r first
 module _ (s : Sketch) where
   on_one : (seat other : Seat) → is_same_link seat other ≡ true → (l : ℕ) × (seat ≡ seats.Link l) × (other ≡ seats.Link l)
   on_one (seats.Link l) (seats.Link m) h = let same : l ≡ m = grind (arith, nat_tests) in (l, refl, ap seats.Link (sym same))
-  on_one (seats.Link l) (seats.Own own) h = absurd cc
-  on_one (seats.Own own) other h = absurd cc
+  on_one seat other h = absurd cc
 
   meet_gives : (j k : ℕ) (y x : DraftPlace) → slice_get s.places j ≡ Some y → slice_get s.places k ≡ Some x → do_meet (touching s.interfaces y) (touching s.interfaces x) ≡ true
       → DoMeet (network_of_sketch s) j k

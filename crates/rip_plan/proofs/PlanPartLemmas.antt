@@ -64,9 +64,8 @@ also_at (x ∷ xs) = length (also_items x.1) + also_at xs
 
 pub also_sum : (also : List (List ℕ)) (xs : List (ℕ × Data)) → Matched AreAlsoOf also xs → sum_by length also ≡ also_at xs
 also_sum [] [] m = refl
-also_sum [] (x ∷ xs) m = absurd m
-also_sum (a ∷ also) [] m = absurd m
 also_sum (a ∷ also) (x ∷ xs) m = omega (arith, sum_by-cons length a also, also_sum also xs m.1, matched_length IsAddressOf a (also_items x.1) m.0)
+also_sum also xs m = absurd m
 
 also_append : (xs ys : List (ℕ × Data)) → also_at (xs ++ ys) ≡ also_at xs + also_at ys
 also_append [] ys = omega arith

@@ -197,13 +197,11 @@ self_on l q e = rw e (grind (arith, nat_tests))
 
 not_both : (a b : Bool) → (a && not b) ≡ false → a ≡ true → b ≡ true
 not_both true true e h = refl
-not_both true false e h = absurd cc
-not_both false b e h = absurd cc
+not_both a b e h = absurd cc
 
 both_not : (a b : Bool) → (a && not b) ≡ true → (a ≡ true) × (b ≡ false)
-both_not true true e = absurd cc
 both_not true false e = (refl, refl)
-both_not false b e = absurd cc
+both_not a b e = absurd cc
 
 contains_test : (p : Block) (a : ℕ) → ContainsAddress p a → has_address p a ≡ true
 contains_test p a h = grind (arith, nat_tests)

@@ -26,39 +26,19 @@ chosen false o x h = absurd (none-some x h)
 
 pub table_is : (d : Data) (ms : Members) → as_table d ≡ Some ms → d ≡ table ms
 table_is (table ms) ns h = ap table (same_Some ms ns h)
-table_is (string s) ns h = absurd (none-some ns h)
-table_is (integer z) ns h = absurd (none-some ns h)
-table_is (float x) ns h = absurd (none-some ns h)
-table_is (boolean b) ns h = absurd (none-some ns h)
-table_is (datetime t) ns h = absurd (none-some ns h)
-table_is (array ds) ns h = absurd (none-some ns h)
+table_is d ns h = absurd (none-some ns h)
 
 pub text_is : (d : Data) (t : List ℕ) → as_str d ≡ Some t → d ≡ string t
 text_is (string s) t h = ap string (same_Some s t h)
-text_is (table ms) t h = absurd (none-some t h)
-text_is (integer z) t h = absurd (none-some t h)
-text_is (float x) t h = absurd (none-some t h)
-text_is (boolean b) t h = absurd (none-some t h)
-text_is (datetime u) t h = absurd (none-some t h)
-text_is (array ds) t h = absurd (none-some t h)
+text_is d t h = absurd (none-some t h)
 
 pub integer_is : (d : Data) (z : ℤ) → as_integer d ≡ Some z → d ≡ integer z
 integer_is (integer y) z h = ap integer (same_Some y z h)
-integer_is (string s) z h = absurd (none-some z h)
-integer_is (table ms) z h = absurd (none-some z h)
-integer_is (float x) z h = absurd (none-some z h)
-integer_is (boolean b) z h = absurd (none-some z h)
-integer_is (datetime u) z h = absurd (none-some z h)
-integer_is (array ds) z h = absurd (none-some z h)
+integer_is d z h = absurd (none-some z h)
 
 pub array_is : (d : Data) (xs : List Data) → option_map list_of (as_array d) ≡ Some xs → (items : Items) × (d ≡ array items) × (list_of items ≡ xs)
 array_is (array ds) xs h = (ds, refl, same_Some (list_of ds) xs h)
-array_is (string s) xs h = absurd (none-some xs h)
-array_is (integer z) xs h = absurd (none-some xs h)
-array_is (table ms) xs h = absurd (none-some xs h)
-array_is (float x) xs h = absurd (none-some xs h)
-array_is (boolean b) xs h = absurd (none-some xs h)
-array_is (datetime u) xs h = absurd (none-some xs h)
+array_is d xs h = absurd (none-some xs h)
 
 pub text_there : (o : Option Data) (t : List ℕ) → option_and_then as_str o ≡ Some t → o ≡ Some (string t)
 text_there None t h = absurd (none-some t h)
@@ -103,12 +83,7 @@ direct_is o cost given c h e = given_is o given (direct_of cost) c cost refl wit
 
 pub boolean_is : (d : Data) (b : Bool) → as_bool d ≡ Some b → d ≡ boolean b
 boolean_is (boolean a) b h = ap boolean (same_Some a b h)
-boolean_is (string s) b h = absurd (none-some b h)
-boolean_is (table ms) b h = absurd (none-some b h)
-boolean_is (integer z) b h = absurd (none-some b h)
-boolean_is (float x) b h = absurd (none-some b h)
-boolean_is (datetime u) b h = absurd (none-some b h)
-boolean_is (array ds) b h = absurd (none-some b h)
+boolean_is d b h = absurd (none-some b h)
 
 -- a flag stands there, or nothing
 abbrev pub IsFlagIf : Option Data → Option Bool → Type 0

@@ -22,7 +22,7 @@ use Rattle.rip_plan.specs.PlanOf.{HasItems, PlanOf}
 use Rattle.rip_plan.specs.PlanText.{empty, document_of, sketch_of_document, sketch_of}
 use Rattle.rip_plan.specs.PlanFaults.{IsText, HasTables, TableFault, FaultAt, AstrayAt, IsFound, IsFault, PlanFault, Before, pass_of, rank, place_spots}
 use Rattle.rip_plan.proofs.BindLemmas.{bind_ok}
-use Rattle.rip_plan.proofs.FaultRowLemmas.{IsAstrayAt, IsOfTables, IsTold, covers, told_finds, first_rows, first_high, first_sooner, links_rows, links_high, routers_rows, pass_rows, table_rows}
+use Rattle.rip_plan.proofs.FaultRowLemmas.{by_code, IsAstrayAt, IsOfTables, IsTold, covers, told_finds, first_rows, first_high, first_sooner, links_rows, links_high, routers_rows, pass_rows, table_rows}
 use Rattle.rip_plan.proofs.FindingLemmas.{Found, ranked, row_at, Rows, row_then, Finds, finds_in, guard_finds, want_finds, bind_rows}
 use Rattle.rip_plan.proofs.LinkFaultLemmas.{links_find}
 use Rattle.rip_plan.proofs.OnePlanLemmas.{items_same}
@@ -91,15 +91,8 @@ in_table bytes pass c place none (inr h) = absurd (none h.0)
 -- ---- the version
 
 pub version_is : (o : Option Data) → is_version o ≡ true → o ≡ Some (integer (pos 1))
-version_is None h = absurd cc
 version_is (Some (integer (pos n))) h = let one : n ≡ 1 = grind (arith, nat_tests) in ap (λ (m : ℕ). Some (integer (pos m))) one
-version_is (Some (integer (negsuc n))) h = absurd cc
-version_is (Some (string t)) h = absurd cc
-version_is (Some (table ms)) h = absurd cc
-version_is (Some (float x)) h = absurd cc
-version_is (Some (boolean b)) h = absurd cc
-version_is (Some (datetime t)) h = absurd cc
-version_is (Some (array ds)) h = absurd cc
+version_is o h = absurd cc
 
 pub version_told : (o : Option Data) → not (is_version o) ≡ true → o ≢ Some (integer (pos 1))
 version_told o h same = by_test (is_version o) (ap is_version same) h
@@ -260,13 +253,9 @@ text_finds laws bytes = by_length (nat_lt 1048576 (length bytes)) refl
     past_long more o (of_document d t) before = let short : length bytes ≤ 1048576 = t.short in omega arith
 
     not_first : Before (ranked (row_at codes.Limit Text)) (ranked (row_at codes.Syntax Text)) → ⊥
-    not_first (inl b) = omega arith
-    not_first (inr (e, inl b)) = omega arith
-    not_first (inr (e, inr (e1, inl b))) = omega arith
-    not_first (inr (e, inr (e1, inr (e2, inl b)))) = omega arith
-    not_first (inr (e, inr (e1, inr (e2, inr (e3, inl b))))) = omega arith
-    not_first (inr (e, inr (e1, inr (e2, inr (e3, inr (e4, inl b)))))) = omega arith
-    not_first (inr (e, inr (e1, inr (e2, inr (e3, inr (e4, inr (e5, b))))))) = b
+    not_first b =
+        let late = ranked (row_at codes.Limit Text) in
+        before_not late (before_trans late (ranked (row_at codes.Syntax Text)) late b (by_code Text codes.Syntax codes.Limit refl (omega arith)))
 
     past_syntax : document_of bytes ≡ None → (o : Found) → Kind bytes o → Before (ranked o) (ranked (row_at codes.Syntax Text)) → ⊥
     past_syntax none o (long same) before = not_first (subst (λ (e : Found). Before (ranked e) (ranked (row_at codes.Syntax Text))) same before)
@@ -305,28 +294,14 @@ error_from (pass ∷ part ∷ i ∷ group ∷ j ∷ code ∷ []) =
     cond (group == 0) (Router i) (cond (group == 1) (RouterInterface i j) (RouterOwn i j)))))
 error_from ns = fault codes.Memory Text
 
-table_rank : (bytes : List ℕ) (pass : ℕ) (c : PlanCode) (place : At) → FaultAt bytes c place → error_from (rank pass (fault c place)) ≡ fault c place
+from_rank : (bytes : List ℕ) (pass : ℕ) (c : PlanCode) (place : At) → IsFound bytes pass (fault c place) → error_from (rank pass (fault c place)) ≡ fault c place
 unfolding error_from
-table_rank bytes pass c (Link i) h = ap (λ (d : PlanCode). fault d (Link i)) (code_back c)
-table_rank bytes pass c (LinkPrefix i j) h = ap (λ (d : PlanCode). fault d (LinkPrefix i j)) (code_back c)
-table_rank bytes pass c (Router r) h = ap (λ (d : PlanCode). fault d (Router r)) (code_back c)
-table_rank bytes pass c (RouterInterface r j) h = ap (λ (d : PlanCode). fault d (RouterInterface r j)) (code_back c)
-table_rank bytes pass c (RouterOwn r j) h = ap (λ (d : PlanCode). fault d (RouterOwn r j)) (code_back c)
-table_rank bytes pass codes.Version Text h = absurd h.4
-table_rank bytes pass codes.Version Version h = ap (λ (d : PlanCode). fault d Version) (code_back codes.Version)
-table_rank bytes pass codes.Syntax Text h = ap (λ (d : PlanCode). fault d Text) (code_back codes.Syntax)
-table_rank bytes pass codes.Key Text h = ap (λ (d : PlanCode). fault d Text) (code_back codes.Key)
-table_rank bytes pass codes.Limit Text h = ap (λ (d : PlanCode). fault d Text) (code_back codes.Limit)
-table_rank bytes pass c place h = absurd h.4
-
-astray_rank : (bytes : List ℕ) (pass : ℕ) (c : PlanCode) (place : At) → AstrayAt bytes place → error_from (rank pass (fault c place)) ≡ fault c place
-unfolding error_from
-astray_rank bytes pass c (RouterOwn r j) h = ap (λ (d : PlanCode). fault d (RouterOwn r j)) (code_back c)
-astray_rank bytes pass c place h = absurd h
-
-from_rank : (bytes : List ℕ) (pass : ℕ) (o : PlanError) → IsFound bytes pass o → error_from (rank pass o) ≡ o
-from_rank bytes pass o (inl h) = table_rank bytes pass o.code o.place h.0
-from_rank bytes pass o (inr h) = astray_rank bytes pass o.code o.place h.0
+from_rank bytes pass codes.Version Text (inl h) = absurd h.0.4
+from_rank bytes pass codes.Version Version (inl h) = ap (λ (d : PlanCode). fault d Version) (code_back codes.Version)
+from_rank bytes pass c Version (inl h) = absurd h.0.4
+from_rank bytes pass c Version (inr h) = absurd h.0
+from_rank bytes pass c Text (inr h) = absurd h.0
+from_rank bytes pass c place h = ap (λ (d : PlanCode). fault d place) (code_back c)
 
 rank_length : (pass : ℕ) (c : PlanCode) (place : At) → length (rank pass (fault c place)) ≡ 6
 rank_length pass c (Link i) = omega arith
@@ -343,7 +318,7 @@ fault_first laws bytes e h =
           elim (before_or (rank found.0 e) (rank other o) lengths) [
             | inl either ↦
                 elim either [
-                  | inl same ↦ inl (sym (from_rank bytes other o f) ∙ ap error_from (sym same) ∙ from_rank bytes found.0 e found.1)
+                  | inl same ↦ inl (sym (from_rank bytes other o.code o.place f) ∙ ap error_from (sym same) ∙ from_rank bytes found.0 e.code e.place found.1)
                   | inr later ↦ inr later
                 ]
             | inr sooner ↦ absurd (found.3 (record { pass = other; error = o }) tt f sooner)
@@ -405,9 +380,4 @@ never_memory bytes e p memory =
   where
     by_place : (place : At) → FaultAt bytes codes.Memory place → ⊥
     by_place Text f = f.4
-    by_place Version f = f.4
-    by_place (Link i) f = f.4
-    by_place (LinkPrefix i j) f = f.4
-    by_place (Router r) f = f.4
-    by_place (RouterInterface r j) f = f.4
-    by_place (RouterOwn r j) f = f.4
+    by_place place f = f.4
