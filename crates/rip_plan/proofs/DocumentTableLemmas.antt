@@ -1,5 +1,5 @@
 -- The tables whose fields are read are those that have the keys, each of its kind.
-use Rattle.std.proofs.Common.{◌≡◌, ◌≢◌, ℕ, zero, suc, List, [], ◌∷◌, Bool, true, false, cond, Option, Some, None, Ordering, Less, Equal, Greater, nat_cmp, is_eq, refl, sym, ◌∙◌, ap, subst}
+use Rattle.std.proofs.Common.{◌≡◌, ◌≢◌, ℕ, zero, suc, inl, inr, List, [], ◌∷◌, Bool, true, false, cond, Option, Some, None, Ordering, Less, Equal, Greater, nat_cmp, is_eq, refl, sym, ◌∙◌, ap, subst}
 use Rattle.std.proofs.lemmas.Bool.{and_parts}
 use Rattle.std.specs.Prelude.{ℤ, is_some, option_and_then, option_map, slice_get, unwrap_or, codes as codes_of}
 use Rattle.std.specs.List.{list_all}
@@ -14,8 +14,8 @@ use Rattle.rip_plan.specs.DocumentTables.{HasOnly, IsFlag, IsInteger, IsInterfac
 use Rattle.rip_plan.specs.Keys.{interface_keys, link_keys, own_keys, root_keys, router_keys}
 use Rattle.rip_plan.specs.Fields.{InterfaceFields, OwnFields, ◌&>◌, flag_if, has_only, integer_if, interface_fields, items_at, items_if, link_fields, list_of, own_fields, root_fields, router_fields, some_items, text_at, text_if, texts_of}
 use Rattle.rip_plan.specs.Names.{is_one_of}
-use Rattle.rip_plan.proofs.ItemLemmas.{any_at, any_finds}
-use Rattle.rip_plan.proofs.TableLemmas.{array_is, boolean_is, chosen, integer_is, items_there, table_is, text_is, text_there, then_some}
+use Rattle.rip_plan.proofs.ItemLemmas.{any_at, any_finds, cases_option}
+use Rattle.rip_plan.proofs.TableLemmas.{array_is, boolean_is, chosen, integer_is, items_there, map_some, table_is, text_is, text_there, then_some}
 
 -- ---- keys
 
@@ -79,36 +79,24 @@ some_has o xs h =
     not_empty (y ∷ ys) xs g e = let clash : y ∷ ys ≡ [] = e in cc
 
 integer_may : (o : Option Data) (given : Option ℤ) → integer_if o ≡ Some given → MayHaveAt o IsInteger
-integer_may o given h d is = by_given (as_integer d) refl (ap integer_if (sym is) ∙ h)
-  where
-    by_given : (i : Option ℤ) → as_integer d ≡ i → option_map Some i ≡ Some given → IsInteger d
-    by_given None k g = absurd (none-some given g)
-    by_given (Some z) k g = (z, integer_is d z k)
+integer_may o given h d is = let (z, k, same) = map_some (as_integer d) given (ap integer_if (sym is) ∙ h) in (z, integer_is d z k)
 
 flag_may : (o : Option Data) (given : Option Bool) → flag_if o ≡ Some given → MayHaveAt o IsFlag
-flag_may o given h d is = by_given (as_bool d) refl (ap flag_if (sym is) ∙ h)
-  where
-    by_given : (i : Option Bool) → as_bool d ≡ i → option_map Some i ≡ Some given → IsFlag d
-    by_given None k g = absurd (none-some given g)
-    by_given (Some b) k g = (b, boolean_is d b k)
+flag_may o given h d is = let (b, k, same) = map_some (as_bool d) given (ap flag_if (sym is) ∙ h) in (b, boolean_is d b k)
 
 text_may : (o : Option Data) (given : Option (List ℕ)) → text_if o ≡ Some given → MayHaveAt o IsString
-text_may o given h d is = by_given (as_str d) refl (ap text_if (sym is) ∙ h)
-  where
-    by_given : (i : Option (List ℕ)) → as_str d ≡ i → option_map Some i ≡ Some given → IsString d
-    by_given None k g = absurd (none-some given g)
-    by_given (Some t) k g = (t, text_is d t k)
+text_may o given h d is = let (t, k, same) = map_some (as_str d) given (ap text_if (sym is) ∙ h) in (t, text_is d t k)
 
 list_may : (o : Option Data) (xs : List Data) → items_if o ≡ Some xs → MayHaveAt o IsList
 list_may o xs h d is = let (items, array_of, same) = array_is d xs (ap items_if (sym is) ∙ h) in (items, array_of)
 
 each_text : (ds : List Data) → list_all (λ x. is_some (as_str x)) ds ≡ true → (k : ℕ) (x : Data) → slice_get ds k ≡ Some x → IsString x
 each_text [] h k x at = absurd (none-some x at)
-each_text (d ∷ ds) h zero x at = by_text (as_str d) refl (and_parts (is_some (as_str d)) (list_all (λ x. is_some (as_str x)) ds) h).0
-  where
-    by_text : (o : Option (List ℕ)) → as_str d ≡ o → is_some o ≡ true → IsString x
-    by_text None e t = absurd cc
-    by_text (Some s) e t = (s, sym (same_Some d x at) ∙ text_is d s e)
+each_text (d ∷ ds) h zero x at =
+    elim (cases_option (as_str d)) [
+      | inl e ↦ let clash = rw e at (and_parts (is_some (as_str d)) (list_all (λ x. is_some (as_str x)) ds) h).0 in absurd cc
+      | inr (s, e) ↦ (s, sym (same_Some d x at) ∙ text_is d s e)
+    ]
 each_text (d ∷ ds) h (suc k) x at = each_text ds (and_parts (is_some (as_str d)) (list_all (λ x. is_some (as_str x)) ds) h).1 k x at
 
 texts_may : (o : Option Data) (also : List Data) → (items_if o &> texts_of) ≡ Some also → MayHaveAt o IsTextList
@@ -333,15 +321,7 @@ root_not document none is = let (f, read) = root_given document is in none-some 
 -- a table is what was read, or was not read
 pub by_table : {A : Type 0} (Is : Data → Type 0) (fields : Members → Option A) → ((d : Data) (f : A) → (as_table d &> fields) ≡ Some f → Is d) → (d : Data) → ((Is d → ⊥) → ⊥)
     → ((as_table d &> fields) ≡ None → Is d → ⊥) → Is d
-by_table {A} Is fields told d not_lacks not = by_option (as_table d &> fields) refl
-  where
-    by_option : (o : Option A) → (as_table d &> fields) ≡ o → Is d
-    by_option (Some f) e = told d f e
-    by_option None e = absurd (not_lacks (λ is. not e is))
+by_table Is fields told d not_lacks not = elim (cases_option (as_table d &> fields)) [ inl e ↦ absurd (not_lacks (λ is. not e is)) | inr (f, e) ↦ told d f e ]
 
 pub by_root : (document : Members) → ((IsRoot document → ⊥) → ⊥) → IsRoot document
-by_root document not_lacks = by_option (root_fields document) refl
-  where
-    by_option : (o : Option (List Data × List Data × Bool)) → root_fields document ≡ o → IsRoot document
-    by_option (Some f) e = root_told document f e
-    by_option None e = absurd (not_lacks (root_not document e))
+by_root document not_lacks = elim (cases_option (root_fields document)) [ inl e ↦ absurd (not_lacks (root_not document e)) | inr (f, e) ↦ root_told document f e ]

@@ -1,6 +1,7 @@
 -- The prefixes that are numbered are those of the places, each once.
-use Rattle.std.proofs.Common.{◌≡◌, ℕ, List, [], ◌∷◌, ◌++◌, map, filter, append_assoc, Bool, true, false, not, ◌&&◌, ◌||◌, Option, Some, None, refl, sym, ◌∙◌, ap}
+use Rattle.std.proofs.Common.{◌≡◌, ℕ, inl, inr, List, [], ◌∷◌, ◌++◌, map, filter, append_assoc, Bool, true, false, not, ◌&&◌, ◌||◌, Option, Some, None, refl, sym, ◌∙◌, ap}
 use Rattle.std.specs.List.{AllByRecursion, IsDistinct, list_any}
+use Rattle.std.proofs.lemmas.Bool.{cases_Bool}
 use Rattle.std.proofs.lemmas.List.{append-nil}
 use Rattle.std.proofs.lemmas.List.Folds.{list_any-append}
 use Rattle.rip_wire.specs.Prefix.{Block}
@@ -28,11 +29,7 @@ new_push ps b q = ap not (list_any-append (λ p. same_prefix p q) ps (b ∷ []))
 
 -- a prefix that is new among prefixes that have b is not b
 new_other : (ps : List Block) (b q : Block) → is_new ps b ≡ false → is_new ps q ≡ (not (same_prefix b q) && is_new ps q)
-new_other ps b q old = by_test (same_prefix b q) refl
-  where
-    by_test : (c : Bool) → same_prefix b q ≡ c → is_new ps q ≡ (not (same_prefix b q) && is_new ps q)
-    by_test true e = ap (is_new ps) (sym (same_is b q e)) ∙ old ∙ rw e refl
-    by_test false e = rw e refl
+new_other ps b q old = elim (cases_Bool (same_prefix b q)) [ inl e ↦ ap (is_new ps) (sym (same_is b q e)) ∙ old ∙ rw e refl | inr e ↦ rw e refl ]
 
 step : (ps : List Block) (b : Block) (o : Option ℕ) → number_of_prefix b ps ≡ o → (rest : List Block)
     → with_prefix ps b o ++ filter (is_new (with_prefix ps b o)) (each_once rest) ≡ ps ++ filter (is_new ps) (each_once (b ∷ rest))
@@ -61,29 +58,20 @@ numbered_once ds = once_after [] [] ds ∙ filter_all (is_new []) (λ q. refl) (
 
 filter_away : (p : Block) (qs : List Block) → AllByRecursion (λ q. same_prefix p q ≡ false) (filter (λ q. not (same_prefix p q)) qs)
 filter_away p [] = tt
-filter_away p (q ∷ qs) = by_test (same_prefix p q) refl (filter_away p qs)
-  where
-    by_test : (b : Bool) → same_prefix p q ≡ b → AllByRecursion (λ r. same_prefix p r ≡ false) (filter (λ r. not (same_prefix p r)) qs) →
-        AllByRecursion (λ r. same_prefix p r ≡ false) (filter (λ r. not (same_prefix p r)) (q ∷ qs))
-    by_test true e later = rw e later
-    by_test false e later = rw e (e, later)
+filter_away p (q ∷ qs) = elim (cases_Bool (same_prefix p q)) [ inl e ↦ rw e (filter_away p qs) | inr e ↦ rw e (e, filter_away p qs) ]
 
 filter_kept : (P : Block → Type 0) (test : Block → Bool) (qs : List Block) → AllByRecursion P qs → AllByRecursion P (filter test qs)
 filter_kept P test [] h = tt
-filter_kept P test (q ∷ qs) h = by_test (test q) refl (filter_kept P test qs h.1)
-  where
-    by_test : (b : Bool) → test q ≡ b → AllByRecursion P (filter test qs) → AllByRecursion P (filter test (q ∷ qs))
-    by_test true e later = rw e (h.0, later)
-    by_test false e later = rw e later
+filter_kept P test (q ∷ qs) h = elim (cases_Bool (test q)) [ inl e ↦ rw e (h.0, filter_kept P test qs h.1) | inr e ↦ rw e (filter_kept P test qs h.1) ]
 
 filter_distinct : (test : Block → Bool) (qs : List Block) → IsDistinct same_prefix qs → IsDistinct same_prefix (filter test qs)
 unfolding IsDistinct
 filter_distinct test [] d = tt
-filter_distinct test (q ∷ qs) d = by_test (test q) refl (filter_distinct test qs d.1)
-  where
-    by_test : (b : Bool) → test q ≡ b → IsDistinct same_prefix (filter test qs) → IsDistinct same_prefix (filter test (q ∷ qs))
-    by_test true e later = rw e (filter_kept (λ r. same_prefix q r ≡ false) test qs d.0, later)
-    by_test false e later = rw e later
+filter_distinct test (q ∷ qs) d =
+    elim (cases_Bool (test q)) [
+      | inl e ↦ rw e (filter_kept (λ r. same_prefix q r ≡ false) test qs d.0, filter_distinct test qs d.1)
+      | inr e ↦ rw e (filter_distinct test qs d.1)
+    ]
 
 pub once_distinct : (ps : List Block) → IsDistinct same_prefix (each_once ps)
 unfolding IsDistinct

@@ -4,7 +4,7 @@ use Rattle.std.specs.Prelude.{slice_get, ◌==◌}
 use Rattle.std.specs.List.{IsDistinct, list_any, position_from}
 use Rattle.std.specs.Option.{option_or}
 use Rattle.std.proofs.lemmas.Option.{none-some}
-use Rattle.std.proofs.lemmas.Bool.{cases_lt, and_parts, or_parts}
+use Rattle.std.proofs.lemmas.Bool.{both_ways, cases_Bool, cases_lt, and_parts, false_from_ne_true, or_parts}
 use Rattle.std.proofs.lemmas.List.{append-nil}
 use Rattle.std.proofs.lemmas.Bool.Decides.{nat_tests}
 use Rattle.rip_wire.specs.Prefix.{Block, block}
@@ -36,12 +36,11 @@ pub record AreNumbered (ps : List Block) (qs : List Place) (ds : List DraftPlace
   pub used : (p : ℕ) → p < length ps → (k : ℕ) × (seat : Seat) × (slice_get qs k ≡ Some (record { prefix = p; seat = seat }))
 
 pub same_flips : (p q : Block) → same_prefix p q ≡ same_prefix q p
-same_flips p q = by_tests (same_prefix p q) (same_prefix q p) refl refl
-  where
-    by_tests : (a b : Bool) → same_prefix p q ≡ a → same_prefix q p ≡ b → same_prefix p q ≡ same_prefix q p
-    by_tests true b e f = e ∙ sym (same_from q p (sym (same_is p q e)))
-    by_tests false true e f = same_from p q (sym (same_is q p f)) ∙ sym f
-    by_tests false false e f = e ∙ sym f
+same_flips p q =
+    elim (cases_Bool (same_prefix p q)) [
+      | inl e ↦ e ∙ sym (same_from q p (sym (same_is p q e)))
+      | inr e ↦ e ∙ sym (false_from_ne_true (same_prefix q p) (λ f. both_ways (same_prefix p q) e (same_from p q (sym (same_is q p f)))))
+    ]
 
 pub none_same : (p : Block) (ps : List Block) → list_any (same_prefix p) ps ≡ false → list_any (λ q. same_prefix q p) ps ≡ false
 none_same p [] h = refl
@@ -109,16 +108,10 @@ numbers ds =
 -- ---- a look-up of numbers, as prefixes come in
 
 pub position_push : {A : Type 0} (test : A → Bool) (n : ℕ) (xs : List A) (x : A) → position_from test n (xs ++ x ∷ []) ≡ option_or (position_from test n xs) (cond (test x) (Some (n + length xs)) None)
-position_push test n [] x = let same : n + 0 ≡ n = omega arith in rw same (by_test (test x))
-  where
-    by_test : (b : Bool) → cond b (Some n) None ≡ cond b (Some n) None
-    by_test b = refl
-position_push test n (y ∷ ys) x = by_test (test y) refl (position_push test (n + 1) ys x)
-  where
-    by_test : (b : Bool) → test y ≡ b → position_from test (n + 1) (ys ++ x ∷ []) ≡ option_or (position_from test (n + 1) ys) (cond (test x) (Some (n + 1 + length ys)) None)
-        → position_from test n (y ∷ ys ++ x ∷ []) ≡ option_or (position_from test n (y ∷ ys)) (cond (test x) (Some (n + length (y ∷ ys))) None)
-    by_test true e later = rw e refl
-    by_test false e later = let same : n + 1 + length ys ≡ n + suc (length ys) = omega arith in rw (e, later, same) refl
+position_push test n [] x = let same : n + 0 ≡ n = omega arith in rw same refl
+position_push test n (y ∷ ys) x =
+    let same : n + 1 + length ys ≡ n + suc (length ys) = omega arith in
+    elim (cases_Bool (test y)) [ inl e ↦ rw e refl | inr e ↦ rw (e, position_push test (n + 1) ys x, same) refl ]
 
 pub or_nothing : {A : Type 0} (o : Option A) → option_or o None ≡ o
 or_nothing None = refl
@@ -126,13 +119,10 @@ or_nothing (Some x) = refl
 
 -- a prefix that is new gets the next number
 pub new_number : (ps : List Block) (d p : Block) → number_of_prefix d ps ≡ None → cond (same_prefix d p) (Some (length ps)) (number_of_prefix p ps) ≡ number_of_prefix p (ps ++ d ∷ [])
-new_number ps d p new = by_test (same_prefix d p) refl
-  where
-    by_test : (b : Bool) → same_prefix d p ≡ b → cond (same_prefix d p) (Some (length ps)) (number_of_prefix p ps) ≡ number_of_prefix p (ps ++ d ∷ [])
-    by_test true e =
-        let one : d ≡ p = same_is d p e in
-        let here : number_of_prefix d (ps ++ d ∷ []) ≡ Some (length ps) = position_push (same_prefix d) 0 ps d ∙ rw (new, same_self d) (ap (λ (m : ℕ). Some m) (omega arith)) in
-        rw e (sym here ∙ ap (λ q. number_of_prefix q (ps ++ d ∷ [])) one)
-    by_test false e =
-        let off : same_prefix p d ≡ false = same_flips p d ∙ e in
-        rw e (sym (position_push (same_prefix p) 0 ps d ∙ rw off (or_nothing (number_of_prefix p ps))))
+new_number ps d p new =
+    elim (cases_Bool (same_prefix d p)) [
+      | inl e ↦
+          let here : number_of_prefix d (ps ++ d ∷ []) ≡ Some (length ps) = position_push (same_prefix d) 0 ps d ∙ rw (new, same_self d) (ap (λ (m : ℕ). Some m) (omega arith)) in
+          rw e (sym here ∙ ap (λ q. number_of_prefix q (ps ++ d ∷ [])) (same_is d p e))
+      | inr e ↦ let off : same_prefix p d ≡ false = same_flips p d ∙ e in rw e (sym (position_push (same_prefix p) 0 ps d ∙ rw off (or_nothing (number_of_prefix p ps))))
+    ]

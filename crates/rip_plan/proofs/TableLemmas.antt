@@ -12,6 +12,8 @@ use Rattle.rip_plan.specs.Fields.{InterfaceFields, OwnFields, ◌&>◌, has_only
 use Rattle.rip_plan.specs.Names.{number_of_name}
 use Rattle.rip_plan.specs.PlanOf.{HasText, IsAddressOf, IsCostOf, IsDirectOf, IsGatewayOf, IsKeptOf, IsLinkOf, IsNameOf, IsPoisonOf, Matched, items_in}
 use Rattle.rip_plan.specs.PlanFaults.{HasNoAddress, IsOutsideOf}
+use Rattle.std.proofs.lemmas.Bool.{and_parts}
+use Rattle.rip_plan.proofs.ItemLemmas.{cases_option}
 use Rattle.rip_plan.proofs.MatchingLemmas.{matched_right, matched_weaker}
 use Rattle.rip_plan.proofs.TextLemmas.{TextLaws, address_is, no_address, first_named}
 use Rattle.rip_plan.specs.Texts.{IsAddressText, IsNoAddress}
@@ -56,16 +58,22 @@ items_are : (o : Option Data) (xs : List Data) → option_map list_of (option_an
 items_are o xs h = let (items, is, same) = items_there o xs h in rw is same
 
 -- an integer that stands there, or the one that is meant where nothing stands
+-- a value that was read, or is none
+pub map_some : {A : Type 0} (o : Option A) (given : Option A) → option_map Some o ≡ Some given → (x : A) × (o ≡ Some x) × (Some x ≡ given)
+map_some None given h = absurd (none-some given h)
+map_some (Some x) given h = (x, refl, same_Some (Some x) given h)
+
+pub map_none : {A : Type 0} (o : Option A) → ◌≡◌ {A = Option (Option A)} (option_map Some o) None → o ≡ None
+map_none None h = refl
+map_none {A} (Some x) h = absurd (none-some {A = Option A} (Some x) (sym h))
+
+-- an integer that stands there, or the one that is meant where nothing stands
 given_is : (o : Option Data) (given : Option ℤ) (f : Option ℤ → Option ℕ) (c none : ℕ) → f None ≡ Some none → ((z : ℤ) → f (Some z) ≡ Some c → z ≡ pos c) → integer_if o ≡ Some given → f given ≡ Some c
     → (o ≡ Some (integer (pos c))) ⊎ ((o ≡ None) × (c ≡ none))
 given_is None given f c none empty within h e = let same : None ≡ given = same_Some None given h in inr (refl, sym (same_Some none c (sym empty ∙ ap f same ∙ e)))
-given_is (Some d) given f c none empty within h e = by_given (as_integer d) refl h
-  where
-    by_given : (i : Option ℤ) → as_integer d ≡ i → option_map Some i ≡ Some given → (Some d ≡ Some (integer (pos c))) ⊎ ((Some d ≡ None) × (c ≡ none))
-    by_given None k g = absurd (none-some given g)
-    by_given (Some z) k g =
-        let same : Some z ≡ given = same_Some (Some z) given g in
-        inl (ap (λ (x : Data). Some x) (integer_is d z k ∙ ap integer (within z (ap f same ∙ e))))
+given_is (Some d) given f c none empty within h e =
+    let (z, k, same) = map_some (as_integer d) given h in
+    inl (ap (λ (x : Data). Some x) (integer_is d z k ∙ ap integer (within z (ap f same ∙ e))))
 
 pub cost_is : (o : Option Data) (given : Option ℤ) (c : ℕ) → integer_if o ≡ Some given → cost_of given ≡ Some c → (o ≡ Some (integer (pos c))) ⊎ ((o ≡ None) × (c ≡ 1))
 cost_is o given c h e = given_is o given cost_of c 1 refl within h e
@@ -92,11 +100,7 @@ IsFlagIf o (Some b) = o ≡ Some (boolean b)
 
 pub flag_if_is : (o : Option Data) (given : Option Bool) → flag_if o ≡ Some given → IsFlagIf o given
 flag_if_is None given h = let same : None ≡ given = same_Some None given h in subst (IsFlagIf None) same refl
-flag_if_is (Some d) given h = by_flag (as_bool d) refl h
-  where
-    by_flag : (b : Option Bool) → as_bool d ≡ b → option_map Some b ≡ Some given → IsFlagIf (Some d) given
-    by_flag None k g = absurd (none-some given g)
-    by_flag (Some b) k g = subst (IsFlagIf (Some d)) (same_Some (Some b) given g) (ap (λ (x : Data). Some x) (boolean_is d b k))
+flag_if_is (Some d) given h = let (b, k, same) = map_some (as_bool d) given h in subst (IsFlagIf (Some d)) same (ap (λ (x : Data). Some x) (boolean_is d b k))
 
 -- the flag that is meant: the one that stands there, or the other one
 pub flag_meant : (o : Option Data) (given : Option Bool) (other : Bool) → IsFlagIf o given → (o ≡ Some (boolean (unwrap_or given other))) ⊎ ((o ≡ None) × (unwrap_or given other ≡ other))
@@ -110,11 +114,7 @@ IsTextIf o (Some t) = o ≡ Some (string t)
 
 text_if_is : (o : Option Data) (t : Option (List ℕ)) → text_if o ≡ Some t → IsTextIf o t
 text_if_is None t h = let same : None ≡ t = same_Some None t h in subst (IsTextIf None) same refl
-text_if_is (Some d) t h = by_text (as_str d) refl h
-  where
-    by_text : (s : Option (List ℕ)) → as_str d ≡ s → option_map Some s ≡ Some t → IsTextIf (Some d) t
-    by_text None k g = absurd (none-some t g)
-    by_text (Some s) k g = subst (IsTextIf (Some d)) (same_Some (Some s) t g) (ap (λ (x : Data). Some x) (text_is d s k))
+text_if_is (Some d) t h = let (s, k, same) = map_some (as_str d) t h in subst (IsTextIf (Some d)) same (ap (λ (x : Data). Some x) (text_is d s k))
 
 pub record IsLinkTable (d : Data) (name : List ℕ) (prefixes : List Data) : Type 0 where
   pub named : IsNameOf name d
@@ -223,19 +223,11 @@ pub record IsOwnTable (d : Data) (links : List (List ℕ)) (f : OwnFields) (own 
 
 link_is : (links : List (List ℕ)) (d : Data) (name : Option (List ℕ)) (link : Option ℕ) → IsTextIf (get (codes_of "link") d) name → link_if name links ≡ Some link → IsLinkOf links d link
 link_is links d None link has h = let same : None ≡ link = same_Some None link h in subst (IsLinkOf links d) same has
-link_is links d (Some name) link has h = by_number (number_of_name name links) refl h
-  where
-    by_number : (o : Option ℕ) → number_of_name name links ≡ o → option_map Some o ≡ Some link → IsLinkOf links d link
-    by_number None e g = absurd (none-some link g)
-    by_number (Some l) e g = subst (IsLinkOf links d) (same_Some (Some l) link g) (name, has, first_named name links l e)
+link_is links d (Some name) link has h = let (l, e, same) = map_some (number_of_name name links) link h in subst (IsLinkOf links d) same (name, has, first_named name links l e)
 
 gateway_is : (laws : TextLaws) (d : Data) (text : Option (List ℕ)) (via : Option ℕ) → IsTextIf (get (codes_of "via") d) text → address_if text ≡ Some via → IsGatewayOf d via
 gateway_is laws d None via has h = let same : None ≡ via = same_Some None via h in subst (IsGatewayOf d) same has
-gateway_is laws d (Some text) via has h = by_address (address_in text) refl h
-  where
-    by_address : (o : Option ℕ) → address_in text ≡ o → option_map Some o ≡ Some via → IsGatewayOf d via
-    by_address None e g = absurd (none-some via g)
-    by_address (Some a) e g = subst (IsGatewayOf d) (same_Some (Some a) via g) (text, has, address_is laws text a e)
+gateway_is laws d (Some text) via has h = let (a, e, same) = map_some (address_in text) via h in subst (IsGatewayOf d) same (text, has, address_is laws text a e)
 
 pub own_table : (laws : TextLaws) (d : Data) (links : List (List ℕ)) (f : OwnFields) (own : OwnPrefix)
     → (as_table d &> own_fields) ≡ Some f → cost_of f.cost ≡ Some own.cost → link_if f.link links ≡ Some own.link → address_if f.via ≡ Some own.via → IsOwnTable d links f own
@@ -274,13 +266,7 @@ router_table d name interfaces owns h =
 integer_told : (f : Option ℤ → Option ℕ) (c : ℕ) (o : Option Data) (given : Option ℤ) → f None ≡ Some c → integer_if o ≡ Some given → f given ≡ None
     → (z : ℤ) × (o ≡ Some (integer z)) × (f (Some z) ≡ None)
 integer_told f c None given some h e = let same : None ≡ given = same_Some None given h in absurd (none-some c (sym e ∙ ap f (sym same) ∙ some))
-integer_told f c (Some d) given some h e = by_given (as_integer d) refl h
-  where
-    by_given : (i : Option ℤ) → as_integer d ≡ i → option_map Some i ≡ Some given → (z : ℤ) × (Some d ≡ Some (integer z)) × (f (Some z) ≡ None)
-    by_given None k g = absurd (none-some given g)
-    by_given (Some z) k g =
-        let same : Some z ≡ given = same_Some (Some z) given g in
-        (z, ap (λ (x : Data). Some x) (integer_is d z k), ap f same ∙ e)
+integer_told f c (Some d) given some h e = let (z, k, same) = map_some (as_integer d) given h in (z, ap (λ (x : Data). Some x) (integer_is d z k), ap f same ∙ e)
 
 integer_clear : (f : Option ℤ → Option ℕ) (o : Option Data) (given : Option ℤ) (c : ℕ) → integer_if o ≡ Some given → f given ≡ Some c → (z : ℤ) → o ≡ Some (integer z) → f (Some z) ≡ Some c
 integer_clear f o given c h e z is =
@@ -327,11 +313,7 @@ cost_within (Some (negsuc n)) c h = absurd (none-some c h)
 
 pub gateway_told : (laws : TextLaws) (d : Data) (text : Option (List ℕ)) → IsTextIf (get (codes_of "via") d) text → address_if text ≡ None → HasNoAddress (codes_of "via") d
 gateway_told laws d None has h = absurd (none-some None (sym h))
-gateway_told laws d (Some text) has h = by_address (address_in text) refl h
-  where
-    by_address : (o : Option ℕ) → address_in text ≡ o → option_map Some o ≡ None → HasNoAddress (codes_of "via") d
-    by_address None e g = (text, has, no_address laws text e)
-    by_address (Some a) e g = absurd (none-some (Some a) (sym g))
+gateway_told laws d (Some text) has h = (text, has, no_address laws text (map_none (address_in text) h))
 
 pub gateway_clear : (laws : TextLaws) (d : Data) (text : Option (List ℕ)) (via : Option ℕ) → IsTextIf (get (codes_of "via") d) text → address_if text ≡ Some via → HasNoAddress (codes_of "via") d → ⊥
 gateway_clear laws d None via has h (t, there, none) = none-some (string t) (sym has ∙ there)
@@ -366,22 +348,20 @@ addresses_are laws ds also h = matched_weaker IsReadOf IsAddressOf (λ a d read.
 pub addresses_told : (ds : List Data) → list_all (λ x. is_some (as_str x)) ds ≡ true → addresses_in ds ≡ None
     → (k : ℕ) × (text : List ℕ) × (slice_get ds k ≡ Some (string text)) × (address_in text ≡ None)
 addresses_told [] all h = absurd (none-some [] (sym h))
-addresses_told (d ∷ ds) all h = by_text (as_str d) refl all h (addresses_told ds)
-  where
-    by_text : (o : Option (List ℕ)) → as_str d ≡ o → (is_some o && list_all (λ x. is_some (as_str x)) ds) ≡ true → (o &> address_in &> (λ a. addresses_in ds &> (λ others. Some (a ∷ others)))) ≡ None
-        → (list_all (λ x. is_some (as_str x)) ds ≡ true → addresses_in ds ≡ None → (k : ℕ) × (text : List ℕ) × (slice_get ds k ≡ Some (string text)) × (address_in text ≡ None))
-        → (k : ℕ) × (text : List ℕ) × (slice_get (d ∷ ds) k ≡ Some (string text)) × (address_in text ≡ None)
-    by_text None e texts g later = absurd cc
-    by_text (Some text) e texts g later = by_address (address_in text) refl g
-      where
-        by_rest : (r : Option (List ℕ)) → addresses_in ds ≡ r → (a : ℕ) → (r &> (λ others. Some (a ∷ others))) ≡ None → addresses_in ds ≡ None
-        by_rest None i a k = i
-        by_rest (Some others) i a k = absurd (none-some (a ∷ others) (sym k))
-
-        by_address : (o : Option ℕ) → address_in text ≡ o → (o &> (λ a. addresses_in ds &> (λ others. Some (a ∷ others)))) ≡ None
-            → (k : ℕ) × (t : List ℕ) × (slice_get (d ∷ ds) k ≡ Some (string t)) × (address_in t ≡ None)
-        by_address None i k = (zero, text, ap (λ (x : Data). Some x) (text_is d text e), i)
-        by_address (Some a) i k = let (m, t, at, none) = later texts (by_rest (addresses_in ds) refl a k) in (suc m, t, at, none)
+addresses_told (d ∷ ds) all h =
+    let (is, others) = and_parts (is_some (as_str d)) (list_all (λ x. is_some (as_str x)) ds) all in
+    elim (cases_option (as_str d)) [
+      | inl e ↦ let clash = rw e at is in absurd cc
+      | inr (text, e) ↦
+          elim (cases_option (address_in text)) [
+            | inl none ↦ (zero, text, ap (λ (x : Data). Some x) (text_is d text e), none)
+            | inr (a, i) ↦
+                elim (cases_option (addresses_in ds)) [
+                  | inl none ↦ let (m, t, at, bad) = addresses_told ds others none in (suc m, t, at, bad)
+                  | inr (more, j) ↦ absurd (none-some (a ∷ more) (sym (rw (e, i, j) at h)))
+                ]
+          ]
+    ]
 
 pub addresses_clear : (laws : TextLaws) (ds : List Data) (also : List ℕ) → addresses_in ds ≡ Some also → (k : ℕ) (text : List ℕ) → slice_get ds k ≡ Some (string text) → IsNoAddress text → ⊥
 addresses_clear laws ds also h k text at none =
