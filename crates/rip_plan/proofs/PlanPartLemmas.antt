@@ -1,25 +1,26 @@
 -- What each item of a document is in its plan, and what each part of the plan is in the document.
-use Rattle.std.proofs.Common.{◌≡◌, ℕ, zero, suc, ◌+◌, inl, inr, List, [], ◌∷◌, ◌++◌, map, length, length-append, sum, ◌<◌, Some, refl, sym, ◌∙◌, ap, subst, arith}
+use Rattle.std.proofs.Common.{◌≡◌, ℕ, zero, suc, ◌+◌, inl, inr, List, [], ◌∷◌, ◌++◌, map, length, length-append, sum, ◌<◌, Some, refl, sym, ◌∙◌, ap, subst, arith, Option, None}
 use Rattle.std.specs.Prelude.{slice_get, codes as codes_of}
 use Rattle.std.specs.List.{sum_by}
 use Rattle.std.proofs.lemmas.List.Sums.{sum-map, sum_by-cons}
 use Rattle.std.proofs.lemmas.Option.{none-some, same_Some}
 use Rattle.std.proofs.lemmas.Bool.{cases_lt}
 use Rattle.toml.specs.Data.{Data, Members, get, string}
-use Rattle.rip_wire.specs.Prefix.{Block}
+use Rattle.rip_wire.specs.Prefix.{Block, ContainsAddress}
 use Rattle.rip_plan.specs.declared.error.At.TheVariants.{LinkPrefix, RouterInterface, RouterOwn}
 use Rattle.rip_plan.specs.declared.parts.Interface.{Interface}
 use Rattle.rip_plan.specs.declared.parts.OwnPrefix.{OwnPrefix}
 use Rattle.rip_plan.specs.declared.parts.Seat.TheVariants as seats
 use Rattle.rip_plan.specs.Network.{Network}
-use Rattle.rip_plan.specs.PlanFaults.{HasPrefix, IsItem, IsNamedAgain, also_spots, interface_spots, nth, place_spots, spots_under}
-use Rattle.rip_plan.specs.PlanOf.{AreAlsoOf, IsAddressOf, IsInterfaceOf, IsNameOf, IsOnLink, IsOwned, IsPlaceOf, Matched, Placement, PlanOf, items_in, items_under}
+use Rattle.rip_plan.specs.PlanFaults.{HasPrefix, IsItem, IsNamedAgain, IsOutside, NamesNoLink, also_spots, interface_spots, nth, place_spots, spots_under}
+use Rattle.rip_plan.specs.PlanOf.{AreAlsoOf, HasText, IsLinkOf, IsAddressOf, IsInterfaceOf, IsNameOf, IsOnLink, IsOwned, IsPlaceOf, Matched, Placement, PlanOf, items_in, items_under}
 use Rattle.rip_plan.specs.Relations.{Carries, IsPlace, IsPrefix}
-use Rattle.rip_plan.specs.Texts.{IsPrefixText}
+use Rattle.rip_plan.specs.Texts.{IsAddressText, IsPrefixText}
 use Rattle.rip_plan.proofs.FurtherAddressLemmas.{also_count, also_in, also_items, also_under}
 use Rattle.rip_plan.proofs.ItemLemmas.{get_split, see_got, get_left, get_past}
 use Rattle.rip_plan.proofs.MatchingLemmas.{matched_left, matched_length, matched_right}
 use Rattle.rip_plan.proofs.OnePlanLemmas.{text_same}
+use Rattle.rip_plan.proofs.TextLemmas.{TextLaws, one_address}
 use Rattle.rip_plan.proofs.SpotLemmas.{spots_count, under_item, with_number}
 
 -- ---- items of the document
@@ -101,6 +102,30 @@ names_differ names ds named none l m name h k =
     let (d, at, its) = matched_left IsNameOf names ds l name named h in
     let (e, there, theirs) = matched_left IsNameOf names ds m name named k in
     apart l m (λ less. none (suc m) (e, d, suc l, name, there, theirs, omega arith, at, its)) (λ more. none (suc l) (d, e, suc m, name, at, its, omega arith, there, theirs))
+
+-- a link of the list has the name
+pub known_not : (names : List (List ℕ)) (ds : List Data) → Matched IsNameOf names ds → (x : Data) (name : List ℕ) (l : ℕ) → HasText (codes_of "link") x name → slice_get names l ≡ Some name
+    → NamesNoLink ds x → ⊥
+known_not names ds named x name l has known (other, its, none) =
+    let (d, listed, of) = matched_left IsNameOf names ds l name named known in
+    none l d listed (subst (λ (t : List ℕ). IsNameOf t d) (text_same (codes_of "link") x name other has its) of)
+
+pub attached_not : (names : List (List ℕ)) (ds : List Data) → Matched IsNameOf names ds → (x : Data) (link : Option ℕ) → IsLinkOf names x link → NamesNoLink ds x → ⊥
+attached_not names ds named x None is (name, has, none) = none-some (string name) (sym is ∙ has)
+attached_not names ds named x (Some l) (name, has, known) bad = known_not names ds named x name l has known.0 bad
+
+-- a prefix of the link contains the address, if the link has prefixes
+pub inside_not : (laws : TextLaws) (names : List (List ℕ)) (ds : List Data) → Matched IsNameOf names ds
+    → ((l m : ℕ) (name : List ℕ) → slice_get names l ≡ Some name → slice_get names m ≡ Some name → l ≡ m)
+    → (x : Data) (name text : List ℕ) (l a : ℕ) → HasText (codes_of "link") x name → slice_get names l ≡ Some name → HasText (codes_of "address") x text → IsAddressText text a
+    → ((p : Block) → HasPrefix ds l p → (q : Block) × HasPrefix ds l q × ContainsAddress q a) → IsOutside ds x → ⊥
+inside_not laws names ds named differ x name text l a has known has_text spelled within o =
+    let same : name ≡ o.name = text_same (codes_of "link") x name o.name has o.has_link in
+    let number : l ≡ o.link =
+    differ l o.link o.name (known ∙ ap (λ (t : List ℕ). Some t) same) (names_good names ds named (suc o.link) o.link o.name o.link_table refl o.listed o.named) in
+    let address : a ≡ o.address = one_address laws text o.text a o.address (text_same (codes_of "address") x text o.text has_text o.has_address) spelled o.spelled in
+    let (q, its, holds) = within o.some.0 (subst (λ (i : ℕ). HasPrefix ds i o.some.0) (sym number) o.some.1) in
+    o.none q (subst (λ (i : ℕ). HasPrefix ds i q) number its) (subst (ContainsAddress q) address holds)
 
 -- ---- places
 

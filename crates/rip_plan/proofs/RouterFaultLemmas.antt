@@ -32,15 +32,15 @@ use Rattle.rip_plan.proofs.FurtherAddressLemmas.{also_here, also_in, also_items,
 use Rattle.rip_plan.proofs.OrderLemmas.{starts_high}
 use Rattle.rip_plan.proofs.SpotLemmas.{with_number, nth_from, place_once, interface_once, own_here, under_here, nth_here, item_once, count_of}
 use Rattle.rip_plan.proofs.ItemLemmas.{any_at, any_finds, position_finds, position_none, get_seen, see_got, get_left}
-use Rattle.rip_plan.proofs.TableLemmas.{HasInterfaceFields, IsTextIf, router_table, interface_texts, own_texts, addresses_told, addresses_clear, cost_is, cost_within, cost_told, cost_clear, direct_told, direct_clear, gateway_told, gateway_clear, IsReadOf, addresses_read}
+use Rattle.rip_plan.proofs.TableLemmas.{HasInterfaceFields, IsTextIf, router_table, interface_texts, own_texts, addresses_told, addresses_clear, cost_fits, direct_fits, direct_is, direct_within, gateway_fits, gateway_is, link_is, map_none, cost_is, cost_within, cost_told, direct_told, gateway_told, IsReadOf, addresses_read}
 use Rattle.rip_plan.proofs.MatchingLemmas.{map_append, matched_left, matched_length, matched_right}
 use Rattle.rip_plan.proofs.OnePlanLemmas.{cost_same, text_same}
 use Rattle.rip_plan.proofs.PlanMatchLemmas.{TablesRead, placement, interfaces_added, owns_added, stood, tables_read}
-use Rattle.rip_plan.proofs.PlanPartLemmas.{also_flat, also_numbered, also_sum, link_prefix, names_differ, prefix_place}
+use Rattle.rip_plan.proofs.PlanPartLemmas.{also_flat, also_numbered, also_sum, link_prefix, names_differ, attached_not, inside_not, known_not, prefix_place}
 use Rattle.rip_plan.proofs.TakenStepLemmas.{room_for, with_router}
 use Rattle.rip_plan.proofs.LookupLemmas.{name_same, on_seat}
 use Rattle.rip_plan.proofs.LinkFaultLemmas.{links_find, table_here, table_same, misnamed_told, misnamed_clear, again_told, again_clear}
-use Rattle.rip_plan.proofs.TextLemmas.{TextLaws, address_is, prefix_is, no_address, no_prefix, one_address, one_prefix}
+use Rattle.rip_plan.proofs.TextLemmas.{TextLaws, first_named, address_is, prefix_is, no_address, no_prefix, one_address, one_prefix}
 use Rattle.rip_plan.specs.Texts.{IsAddressText, IsPrefixText}
 use Rattle.rip_plan.specs.DocumentTables.{IsRouterTable, IsInterfaceTable, IsOwnTable}
 use Rattle.rip_plan.proofs.DocumentTableLemmas.{router_told, router_not, interface_told, interface_not, own_told, own_not}
@@ -67,46 +67,11 @@ unknown_told links v matched x name has none = (
       cc,
 )
 
--- the link of the number has the name
-record NamedAt (links : List Data) (v : Sketch) (name : List ℕ) (l : ℕ) : Type 0 where
-  table : Data
-  listed : slice_get links l ≡ Some table
-  its : IsNameOf name table
-  kept : slice_get v.links l ≡ Some name
-
-named_at : (links : List Data) (v : Sketch) → Matched IsNameOf v.links links → (name : List ℕ) (l : ℕ) → number_of_name name v.links ≡ Some l → NamedAt links v name l
-named_at links v matched name l h =
-    let (k, m, number, at, test) = position_finds (λ (y : List ℕ). bytes_eq y name) 0 v.links l h in
-    let same : m ≡ name = (bytes_eq-Decides m name).0 test in
-    let here : k ≡ l = omega arith in
-    let (table, listed, its) = matched_left IsNameOf v.links links k m matched at in
-    rw (← here) (record { table = table; listed = listed; its = subst (λ (t : List ℕ). IsNameOf t table) same its; kept = at ∙ ap (λ (t : List ℕ). Some t) same })
-
-unknown_clear : (links : List Data) (v : Sketch) → Matched IsNameOf v.links links → (x : Data) (name : List ℕ) → get (codes_of "link") x ≡ Some (string name) → (l : ℕ)
-    → number_of_name name v.links ≡ Some l → NamesNoLink links x → ⊥
-unknown_clear links v matched x name has l h (other, has_other, none) =
-    let found = named_at links v matched name l h in
-    let same : name ≡ other = text_same (codes_of "link") x name other has has_other in
-    none l found.table found.listed (subst (λ (t : List ℕ). IsNameOf t found.table) same found.its)
-
 -- the same of a link that may be given
 attached_told : (links : List Data) (v : Sketch) → Matched IsNameOf v.links links → (x : Data) (name : Option (List ℕ)) → IsTextIf (get (codes_of "link") x) name → link_if name v.links ≡ None
     → NamesNoLink links x
 attached_told links v matched x None has h = absurd (none-some None (sym h))
-attached_told links v matched x (Some name) has h = by_number (number_of_name name v.links) refl h
-  where
-    by_number : (o : Option ℕ) → number_of_name name v.links ≡ o → option_map Some o ≡ None → NamesNoLink links x
-    by_number None e g = unknown_told links v matched x name has e
-    by_number (Some l) e g = absurd (none-some (Some l) (sym g))
-
-attached_clear : (links : List Data) (v : Sketch) → Matched IsNameOf v.links links → (x : Data) (name : Option (List ℕ)) (link : Option ℕ) → IsTextIf (get (codes_of "link") x) name
-    → link_if name v.links ≡ Some link → NamesNoLink links x → ⊥
-attached_clear links v matched x None link has h n = none-some (string n.0) (sym has ∙ n.1)
-attached_clear links v matched x (Some name) link has h n = by_number (number_of_name name v.links) refl h
-  where
-    by_number : (o : Option ℕ) → number_of_name name v.links ≡ o → option_map Some o ≡ Some link → ⊥
-    by_number None e g = none-some link g
-    by_number (Some l) e g = unknown_clear links v matched x name has l e n
+attached_told links v matched x (Some name) has h = unknown_told links v matched x name has (map_none (number_of_name name v.links) h)
 
 -- ---- own prefixes
 
@@ -123,7 +88,7 @@ module _ (document : Members) (links routers done : List Data) (d : Data) (rest 
       let fields = own_texts x f is in
       want_told document links routers codes.Address (RouterOwn r j) (address_if f.via) (own_from_prefix r j) (by_code (RouterOwn r j) codes.Address codes.Prefix refl (omega arith)) _
       (λ none. (x, item, gateway_told laws x f.via fields.via none))
-      (λ via gateway h. gateway_clear laws x f.via via fields.via gateway (subst (HasNoAddress (codes_of "via")) (one h.0 h.1) h.2))
+      (λ via gateway h. gateway_fits x via (gateway_is laws x f.via via fields.via gateway) (subst (HasNoAddress (codes_of "via")) (one h.0 h.1) h.2))
       (λ via gateway.
       want_told document links routers codes.Prefix (RouterOwn r j) (prefix_in f.prefix) (own_from_cost r j) (by_code (RouterOwn r j) codes.Prefix codes.Cost refl (omega arith)) _
       (λ none. (x, f.prefix, item, fields.has_prefix, no_prefix laws f.prefix none))
@@ -133,11 +98,11 @@ module _ (document : Members) (links routers done : List Data) (d : Data) (rest 
       (λ p parsed.
       want_told document links routers codes.Cost (RouterOwn r j) (cost_of f.cost) (own_from_link r j) (by_code (RouterOwn r j) codes.Cost codes.UnknownLink refl (omega arith)) _
       (λ none. (x, item, cost_told (get (codes_of "cost") x) f.cost fields.cost none))
-      (λ c costs h. let (z, is_z, bad) = h.2 in cost_clear (get (codes_of "cost") x) f.cost c fields.cost costs z (ap (get (codes_of "cost")) (sym (one h.0 h.1)) ∙ is_z) bad)
+      (λ c costs h. cost_fits x c (cost_is (get (codes_of "cost") x) f.cost c fields.cost costs) (cost_within f.cost c costs) (subst HasWrongCost (one h.0 h.1) h.2))
       (λ c costs.
       want_told document links routers codes.UnknownLink (RouterOwn r j) (link_if f.link v.links) (own_from_limit r j) (by_code (RouterOwn r j) codes.UnknownLink codes.Limit refl (omega arith)) _
       (λ none. (x, item, attached_told links v named x f.link fields.link none))
-      (λ l known h. attached_clear links v named x f.link l fields.link known (subst (NamesNoLink links) (one h.0 h.1) h.2))
+      (λ l known h. attached_not v.links links named x l (link_is v.links x f.link l fields.link known) (subst (NamesNoLink links) (one h.0 h.1) h.2))
       (λ l known.
       guard_told document links routers (nat_le 1024 (length v.places)) codes.Limit (RouterOwn r j) (no_rows (1 ∷ [])) (inl (omega arith)) _
       (λ full. (length v.places, here, most_most (length v.places) full))
@@ -185,10 +150,13 @@ metric_told x f fields c costs none =
     (c, z, cost_is (get (codes_of "cost") x) f.cost c fields.cost costs, least, most, is, bad)
 
 costs_clear : (x : Data) (f : InterfaceFields) → HasInterfaceFields x f → (c e : ℕ) → cost_of f.cost ≡ Some c → direct_of c f.direct ≡ Some e → HasWrongCost x ⊎ HasWrongDirect x → ⊥
-costs_clear x f fields c e costs directs (inl (z, is, bad)) = cost_clear (get (codes_of "cost") x) f.cost c fields.cost costs z is bad
-costs_clear x f fields c e costs directs (inr (b, z, is_cost, least, most, is, bad)) =
-    let same : b ≡ c = cost_same x b c is_cost (cost_is (get (codes_of "cost") x) f.cost c fields.cost costs) in
-    direct_clear c (get (codes_of "direct") x) f.direct e fields.direct directs z is (subst (λ (n : ℕ). IsOutsideOf n z) same bad)
+costs_clear x f fields c e costs directs wrong =
+    let cost = cost_is (get (codes_of "cost") x) f.cost c fields.cost costs in
+    let good = cost_within f.cost c costs in
+    elim wrong [
+      | inl bad ↦ cost_fits x c cost good bad
+      | inr bad ↦ direct_fits x c e cost (direct_is (get (codes_of "direct") x) c f.direct e fields.direct directs) (direct_within c f.direct e good.0 directs) bad
+    ]
 
 -- ---- interfaces
 
@@ -233,7 +201,7 @@ module _ (laws : TextLaws) (links done : List Data) (poison : Bool) (v : Sketch)
       → get (codes_of "address") x ≡ Some (string text) → address_in text ≡ Some a
       → number_of_name name v.links ≡ Some l → is_outside l a v.places ≡ true → IsOutside links x
   outside_told x name text a l has has_text parsed h out =
-      let found = named_at links v read.link_names name l h in
+      let (d, listed, named) = matched_left IsNameOf v.links links l name read.link_names (first_named name v.links l h).0 in
       let (some, none) = both_not (list_any (λ (p : DraftPlace). is_on l p.seat) v.places) (list_any (λ (p : DraftPlace). is_on l p.seat && has_address p.prefix a) v.places) out in
       let (k, q, at, on) = any_finds (λ (p : DraftPlace). is_on l p.seat) v.places some in
       record {
@@ -244,9 +212,9 @@ module _ (laws : TextLaws) (links done : List Data) (poison : Bool) (v : Sketch)
         name = name;
         has_link = has;
         link = l;
-        link_table = found.table;
-        listed = found.listed;
-        named = found.its;
+        link_table = d;
+        listed = listed;
+        named = named;
         some = (q.prefix, has_prefix l k q at on);
         none = λ p its holds.
             let (m, w, there, seat, block) = place_has l p its in
@@ -260,21 +228,15 @@ module _ (laws : TextLaws) (links done : List Data) (poison : Bool) (v : Sketch)
   outside_clear : (x : Data) (name text : List ℕ) (a l : ℕ) → get (codes_of "link") x ≡ Some (string name)
       → get (codes_of "address") x ≡ Some (string text) → address_in text ≡ Some a
       → number_of_name name v.links ≡ Some l → is_outside l a v.places ≡ false → IsOutside links x → ⊥
-  outside_clear x name text a l has has_text parsed h inside o =
-      let found = named_at links v read.link_names name l h in
-      let one : o.name ≡ name = text_same (codes_of "link") x o.name name o.has_link has in
-      let two : o.text ≡ text = text_same (codes_of "address") x o.text text o.has_address has_text in
-      let address : o.address ≡ a = one_address laws o.text text o.address a two o.spelled (address_is laws text a parsed) in
-      let (m, at, of) = matched_right IsNameOf v.links links o.link o.link_table read.link_names o.listed in
-      let named : m ≡ name = text_same (codes_of "name") o.link_table m o.name of o.named ∙ one in
-      let number : o.link ≡ l = differ o.link l name (at ∙ ap (λ (t : List ℕ). Some t) named) found.kept in
-      let (k, w, there, seat, block) = place_has l o.some.0 (subst (λ (n : ℕ). HasPrefix links n o.some.0) number o.some.1) in
+  outside_clear x name text a l has has_text parsed h inside =
+      inside_not laws v.links links read.link_names differ x name text l a has (first_named name v.links l h).0 has_text (address_is laws text a parsed)
+      (λ p its.
+      let (k, w, there, seat, block) = place_has l p its in
       let some : list_any (λ (p : DraftPlace). is_on l p.seat) v.places ≡ true = any_at (λ (p : DraftPlace). is_on l p.seat) v.places k w there (self_on l w seat) in
       let holds = not_both (list_any (λ (p : DraftPlace). is_on l p.seat) v.places) (list_any (λ (p : DraftPlace). is_on l p.seat && has_address p.prefix a) v.places) inside some in
-      let (n, q, its, tests) = any_finds (λ (p : DraftPlace). is_on l p.seat && has_address p.prefix a) v.places holds in
+      let (n, q, listed, tests) = any_finds (λ (p : DraftPlace). is_on l p.seat && has_address p.prefix a) v.places holds in
       let (on, within) = and_parts (is_on l q.seat) (has_address q.prefix a) tests in
-      o.none q.prefix (subst (λ (i : ℕ). HasPrefix links i q.prefix) (sym number) (has_prefix l n q its on))
-      (subst (λ (i : ℕ). ContainsAddress q.prefix i) (sym address) (test_contains q.prefix a within))
+      (q.prefix, has_prefix l n q listed on, test_contains q.prefix a within))
 
 module _ (document : Members) (links routers done : List Data) (d : Data) (rest : List Data) (split : routers ≡ done ++ d ∷ rest) where
   interface_finds : (laws : TextLaws) (front : List Data) (x : Data) (back : List Data) (poison : Bool) (u v : Sketch) → items_in (get (codes_of "interface") d) ≡ front ++ x ∷ back
@@ -305,7 +267,7 @@ module _ (document : Members) (links routers done : List Data) (d : Data) (rest 
       want_told document links routers codes.UnknownLink (RouterInterface r j) (number_of_name f.link v.links) (interface_from_outside r j)
       (by_code (RouterInterface r j) codes.UnknownLink codes.OutsidePrefix refl (omega arith)) _
       (λ none. (x, item, unknown_told links v named x f.link fields.has_link none))
-      (λ l known h. unknown_clear links v named x f.link fields.has_link l known (subst (NamesNoLink links) (one h.0 h.1) h.2))
+      (λ l known h. known_not v.links links named x f.link l fields.has_link (first_named f.link v.links l known).0 (subst (NamesNoLink links) (one h.0 h.1) h.2))
       (λ l known.
       guard_told document links routers (is_outside l a v.places) codes.OutsidePrefix (RouterInterface r j) (interface_from_limit r j)
       (by_code (RouterInterface r j) codes.OutsidePrefix codes.Limit refl (omega arith)) _

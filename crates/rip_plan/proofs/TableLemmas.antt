@@ -11,10 +11,11 @@ use Rattle.rip_plan.specs.Keys.{interface_keys, link_keys, own_keys, router_keys
 use Rattle.rip_plan.specs.Fields.{InterfaceFields, OwnFields, ◌&>◌, has_only, list_of, text_at, items_at, items_if, integer_if, texts_of, flag_if, text_if, address_if, link_if, addresses_in, is_between, link_fields, interface_fields, own_fields, router_fields, cost_of, direct_of}
 use Rattle.rip_plan.specs.Names.{number_of_name}
 use Rattle.rip_plan.specs.PlanOf.{HasText, IsAddressOf, IsCostOf, IsDirectOf, IsGatewayOf, IsKeptOf, IsLinkOf, IsNameOf, IsPoisonOf, Matched, items_in}
-use Rattle.rip_plan.specs.PlanFaults.{HasNoAddress, IsOutsideOf}
+use Rattle.rip_plan.specs.PlanFaults.{HasNoAddress, HasWrongCost, HasWrongDirect, IsOutsideOf}
 use Rattle.std.proofs.lemmas.Bool.{and_parts}
 use Rattle.rip_plan.proofs.ItemLemmas.{cases_option}
 use Rattle.rip_plan.proofs.MatchingLemmas.{matched_right, matched_weaker}
+use Rattle.rip_plan.proofs.OnePlanLemmas.{cost_same, text_same}
 use Rattle.rip_plan.proofs.TextLemmas.{TextLaws, address_is, no_address, first_named}
 use Rattle.rip_plan.specs.Texts.{IsAddressText, IsNoAddress}
 
@@ -82,7 +83,7 @@ cost_is o given c h e = given_is o given cost_of c 1 refl within h e
     within (pos n) f = ap pos (cond_some (is_between 1 15 n) n c f).1
     within (negsuc n) f = absurd (none-some c f)
 
-direct_is : (o : Option Data) (cost : ℕ) (given : Option ℤ) (c : ℕ) → integer_if o ≡ Some given → direct_of cost given ≡ Some c → (o ≡ Some (integer (pos c))) ⊎ ((o ≡ None) × (c ≡ cost))
+pub direct_is : (o : Option Data) (cost : ℕ) (given : Option ℤ) (c : ℕ) → integer_if o ≡ Some given → direct_of cost given ≡ Some c → (o ≡ Some (integer (pos c))) ⊎ ((o ≡ None) × (c ≡ cost))
 direct_is o cost given c h e = given_is o given (direct_of cost) c cost refl within h e
   where
     within : (z : ℤ) → direct_of cost (Some z) ≡ Some c → z ≡ pos c
@@ -221,11 +222,11 @@ pub record IsOwnTable (d : Data) (links : List (List ℕ)) (f : OwnFields) (own 
   pub link : IsLinkOf links d own.link
   pub via : IsGatewayOf d own.via
 
-link_is : (links : List (List ℕ)) (d : Data) (name : Option (List ℕ)) (link : Option ℕ) → IsTextIf (get (codes_of "link") d) name → link_if name links ≡ Some link → IsLinkOf links d link
+pub link_is : (links : List (List ℕ)) (d : Data) (name : Option (List ℕ)) (link : Option ℕ) → IsTextIf (get (codes_of "link") d) name → link_if name links ≡ Some link → IsLinkOf links d link
 link_is links d None link has h = let same : None ≡ link = same_Some None link h in subst (IsLinkOf links d) same has
 link_is links d (Some name) link has h = let (l, e, same) = map_some (number_of_name name links) link h in subst (IsLinkOf links d) same (name, has, first_named name links l e)
 
-gateway_is : (laws : TextLaws) (d : Data) (text : Option (List ℕ)) (via : Option ℕ) → IsTextIf (get (codes_of "via") d) text → address_if text ≡ Some via → IsGatewayOf d via
+pub gateway_is : (laws : TextLaws) (d : Data) (text : Option (List ℕ)) (via : Option ℕ) → IsTextIf (get (codes_of "via") d) text → address_if text ≡ Some via → IsGatewayOf d via
 gateway_is laws d None via has h = let same : None ≡ via = same_Some None via h in subst (IsGatewayOf d) same has
 gateway_is laws d (Some text) via has h = let (a, e, same) = map_some (address_in text) via h in subst (IsGatewayOf d) same (text, has, address_is laws text a e)
 
@@ -268,11 +269,6 @@ integer_told : (f : Option ℤ → Option ℕ) (c : ℕ) (o : Option Data) (give
 integer_told f c None given some h e = let same : None ≡ given = same_Some None given h in absurd (none-some c (sym e ∙ ap f (sym same) ∙ some))
 integer_told f c (Some d) given some h e = let (z, k, same) = map_some (as_integer d) given h in (z, ap (λ (x : Data). Some x) (integer_is d z k), ap f same ∙ e)
 
-integer_clear : (f : Option ℤ → Option ℕ) (o : Option Data) (given : Option ℤ) (c : ℕ) → integer_if o ≡ Some given → f given ≡ Some c → (z : ℤ) → o ≡ Some (integer z) → f (Some z) ≡ Some c
-integer_clear f o given c h e z is =
-    let same : Some z ≡ given = same_Some (Some z) given (ap integer_if (sym is) ∙ h) in
-    ap f same ∙ e
-
 cost_direct : (z : ℤ) → cost_of (Some z) ≡ direct_of 15 (Some z)
 cost_direct (pos n) = refl
 cost_direct (negsuc n) = refl
@@ -282,32 +278,39 @@ outside most z none c is least few =
     let within : is_between 1 most c ≡ true = grind (arith, nat_tests) in
     none-some c (sym none ∙ ap (λ (y : ℤ). direct_of most (Some y)) is ∙ ap (λ (b : Bool). cond b (Some c) None) within)
 
-not_outside : (most : ℕ) (z : ℤ) (c : ℕ) → direct_of most (Some z) ≡ Some c → IsOutsideOf most z → ⊥
-not_outside most (pos n) c h bad =
-    let (between, same) = cond_some (is_between 1 most n) n c h in
-    bad n refl (grind (arith, nat_tests)) (grind (arith, nat_tests))
-not_outside most (negsuc n) c h bad = none-some c h
-
 pub cost_told : (o : Option Data) (given : Option ℤ) → integer_if o ≡ Some given → cost_of given ≡ None → (z : ℤ) × (o ≡ Some (integer z)) × IsOutsideOf 15 z
 cost_told o given h e = let (z, is, none) = integer_told cost_of 1 o given refl h e in (z, is, outside 15 z (sym (cost_direct z) ∙ none))
-
-pub cost_clear : (o : Option Data) (given : Option ℤ) (c : ℕ) → integer_if o ≡ Some given → cost_of given ≡ Some c → (z : ℤ) → o ≡ Some (integer z) → IsOutsideOf 15 z → ⊥
-cost_clear o given c h e z is bad = not_outside 15 z c (sym (cost_direct z) ∙ integer_clear cost_of o given c h e z is) bad
 
 pub direct_told : (cost : ℕ) (o : Option Data) (given : Option ℤ) → integer_if o ≡ Some given → direct_of cost given ≡ None → (z : ℤ) × (o ≡ Some (integer z)) × IsOutsideOf cost z
 direct_told cost o given h e = let (z, is, none) = integer_told (direct_of cost) cost o given refl h e in (z, is, outside cost z none)
 
-pub direct_clear : (cost : ℕ) (o : Option Data) (given : Option ℤ) (c : ℕ) → integer_if o ≡ Some given → direct_of cost given ≡ Some c → (z : ℤ) → o ≡ Some (integer z) → IsOutsideOf cost z → ⊥
-direct_clear cost o given c h e z is bad = not_outside cost z c (integer_clear (direct_of cost) o given c h e z is) bad
-
 -- ---- costs that may stand
+
+given_within : (most : ℕ) (z : ℤ) (c : ℕ) → direct_of most (Some z) ≡ Some c → (1 ≤ c) × (c ≤ most)
+given_within most (pos n) c h =
+    let (between, same) = cond_some (is_between 1 most n) n c h in
+    (grind (arith, nat_tests), grind (arith, nat_tests))
+given_within most (negsuc n) c h = absurd (none-some c h)
 
 pub cost_within : (o : Option ℤ) (c : ℕ) → cost_of o ≡ Some c → (1 ≤ c) × (c ≤ 15)
 cost_within None c h = let e : 1 ≡ c = cc in (omega arith, omega arith)
-cost_within (Some (pos n)) c h =
-    let (between, same) = cond_some (is_between 1 15 n) n c h in
-    (grind (arith, nat_tests), grind (arith, nat_tests))
-cost_within (Some (negsuc n)) c h = absurd (none-some c h)
+cost_within (Some z) c h = given_within 15 z c (sym (cost_direct z) ∙ h)
+
+pub direct_within : (cost : ℕ) (o : Option ℤ) (c : ℕ) → 1 ≤ cost → direct_of cost o ≡ Some c → (1 ≤ c) × (c ≤ cost)
+direct_within cost None c least h = let e : cost ≡ c = cc in (omega arith, omega arith)
+direct_within cost (Some z) c least h = given_within cost z c h
+
+pub cost_fits : (d : Data) (c : ℕ) → IsCostOf d c → (1 ≤ c) × (c ≤ 15) → HasWrongCost d → ⊥
+cost_fits d c (inr given) (least, most) (z, is, none) = none-some (integer z) (sym given.0 ∙ is)
+cost_fits d c (inl given) (least, most) (z, is, none) = let same : Some (integer z) ≡ Some (integer (pos c)) = sym is ∙ given in none c (cc) least most
+
+-- a direct metric that may stand beside the cost
+pub direct_fits : (d : Data) (c e : ℕ) → IsCostOf d c → IsDirectOf d c e → (1 ≤ e) × (e ≤ c) → HasWrongDirect d → ⊥
+direct_fits d c e cost (inr given) (least, most) (b, z, is_cost, one, fifteen, is, none) = none-some (integer z) (sym given.0 ∙ is)
+direct_fits d c e cost (inl given) (least, most) (b, z, is_cost, one, fifteen, is, none) =
+    let same : Some (integer z) ≡ Some (integer (pos e)) = sym is ∙ given in
+    let its : c ≡ b = cost_same d c b cost is_cost in
+    none e (cc) least (omega arith)
 
 -- ---- a gateway that is no address
 
@@ -315,15 +318,9 @@ pub gateway_told : (laws : TextLaws) (d : Data) (text : Option (List ℕ)) → I
 gateway_told laws d None has h = absurd (none-some None (sym h))
 gateway_told laws d (Some text) has h = (text, has, no_address laws text (map_none (address_in text) h))
 
-pub gateway_clear : (laws : TextLaws) (d : Data) (text : Option (List ℕ)) (via : Option ℕ) → IsTextIf (get (codes_of "via") d) text → address_if text ≡ Some via → HasNoAddress (codes_of "via") d → ⊥
-gateway_clear laws d None via has h (t, there, none) = none-some (string t) (sym has ∙ there)
-gateway_clear laws d (Some text) via has h (t, there, none) =
-    let same : string text ≡ string t = same_Some (string text) (string t) (sym has ∙ there) in
-    by_address (address_in text) refl h cc
-  where
-    by_address : (o : Option ℕ) → address_in text ≡ o → option_map Some o ≡ Some via → text ≡ t → ⊥
-    by_address None e g one = none-some via g
-    by_address (Some a) e g one = none a (subst (λ (s : List ℕ). IsAddressText s a) one (address_is laws text a e))
+pub gateway_fits : (d : Data) (via : Option ℕ) → IsGatewayOf d via → HasNoAddress (codes_of "via") d → ⊥
+gateway_fits d None is (text, has, none) = none-some (string text) (sym is ∙ has)
+gateway_fits d (Some a) (other, its, parsed) (text, has, none) = none a (subst (λ (t : List ℕ). IsAddressText t a) (text_same (codes_of "via") d other text its has) parsed)
 
 -- ---- further addresses
 

@@ -23,7 +23,8 @@ use Rattle.rip_plan.proofs.LawfulPlanLemmas.{not_long}
 use Rattle.rip_plan.proofs.ItemLemmas.{get_left, get_past}
 use Rattle.rip_plan.proofs.MatchingLemmas.{matched_left, matched_length, matched_right}
 use Rattle.rip_plan.proofs.OnePlanLemmas.{cost_same, one_plan, text_same}
-use Rattle.rip_plan.proofs.PlanPartLemmas.{HasInterface, HasOwn, also_counted, carrier_has, prefix_place, interfaces_count, item_under, its_interface, its_own, its_place, names_good, places_count}
+use Rattle.rip_plan.proofs.TableLemmas.{cost_fits, direct_fits, gateway_fits}
+use Rattle.rip_plan.proofs.PlanPartLemmas.{attached_not, inside_not, known_not, HasInterface, HasOwn, also_counted, carrier_has, prefix_place, interfaces_count, item_under, its_interface, its_own, its_place, names_good, places_count}
 use Rattle.rip_plan.proofs.SpotLemmas.{under_item}
 use Rattle.rip_plan.proofs.TextFaultLemmas.{one_astray, one_fault, one_tables, same_document, version_is, version_told}
 use Rattle.rip_plan.proofs.TextLemmas.{TextLaws, one_address}
@@ -38,31 +39,6 @@ all_at P xs k x all h = subst P (get_or_from_slice_get xs k x x h) (all k x (sli
 
 all_from : {A : Type 0} (P : A → Type 0) (xs : List A) → ((k : ℕ) (x : A) → slice_get xs k ≡ Some x → P x) → All P xs
 all_from P xs f = λ k d less. f k (get_or xs k d) (slice_get-get_or xs k d less)
-
--- ---- costs
-
-costs : (d : Data) (c : ℕ) → IsCostOf d c → 1 ≤ c → c ≤ 15 → HasWrongCost d → ⊥
-costs d c (inr given) least most (z, is, none) = none-some (integer z) (sym given.0 ∙ is)
-costs d c (inl given) least most (z, is, none) =
-    let same : integer (pos c) ≡ integer z = same_Some (integer (pos c)) (integer z) (sym given ∙ is) in
-    let number : z ≡ pos c = cc in
-    none c number least most
-
--- a direct metric that may stand beside the cost
-directs : (d : Data) (c e : ℕ) → IsCostOf d c → IsDirectOf d c e → 1 ≤ e → e ≤ c → HasWrongDirect d → ⊥
-directs d c e cost (inr given) least most (b, z, is_cost, one, fifteen, is, none) = none-some (integer z) (sym given.0 ∙ is)
-directs d c e cost (inl given) least most (b, z, is_cost, one, fifteen, is, none) =
-    let same : integer (pos e) ≡ integer z = same_Some (integer (pos e)) (integer z) (sym given ∙ is) in
-    let its : b ≡ c = cost_same d b c is_cost cost in
-    let number : z ≡ pos e = cc in
-    none e number least (subst (λ (n : ℕ). e ≤ n) (sym its) most)
-
--- a gateway that is an address
-gateways : (d : Data) (via : Option ℕ) → IsGatewayOf d via → HasNoAddress (codes_of "via") d → ⊥
-gateways d None is (text, has, none) = none-some (string text) (sym is ∙ has)
-gateways d (Some a) (other, its, parsed) (text, has, none) =
-    let same : text ≡ other = text_same (codes_of "via") d text other has its in
-    none a (subst (λ (t : List ℕ). IsAddressText t a) (sym same) parsed)
 
 -- ---- names
 
@@ -82,43 +58,17 @@ again_not names ds named differ (suc i) (d, earlier, suc k, name, at, its, less,
 -- ---- a plan that keeps the laws
 
 module _ (laws : TextLaws) (document : Members) (n : Network) (plan : PlanOf document n) (lawful : IsLawful n) where
-  -- a link of the plan has the name
-  link_there : (name : List ℕ) (l : ℕ) → slice_get n.links l ≡ Some name → ((m : ℕ) (link : Data) → slice_get plan.links m ≡ Some link → IsNameOf name link → ⊥) → ⊥
-  link_there name l known none =
-      let (link, listed, its) = matched_left IsNameOf n.links plan.links l name plan.link_names known in
-      none l link listed its
-
-  unknown_not : (x : Data) → HasInterface document n plan x → NamesNoLink plan.links x → ⊥
-  unknown_not x h (name, has, none) =
-      let same : h.of.link_name ≡ name = text_same (codes_of "link") x h.of.link_name name h.of.has_link has in
-      link_there name h.i.link (h.of.link.0 ∙ ap (λ (t : List ℕ). Some t) same) none
-
-  attached_not : (x : Data) (link : Option ℕ) → IsLinkOf n.links x link → NamesNoLink plan.links x → ⊥
-  attached_not x None is (name, has, none) = none-some (string name) (sym is ∙ has)
-  attached_not x (Some l) (other, its, known) (name, has, none) =
-      let same : other ≡ name = text_same (codes_of "link") x other name its has in
-      link_there name l (known.0 ∙ ap (λ (t : List ℕ). Some t) same) none
-
   outside_not : (x : Data) → HasInterface document n plan x → IsOutside plan.links x → ⊥
   outside_not x h o =
-      let same : h.of.link_name ≡ o.name = text_same (codes_of "link") x h.of.link_name o.name h.of.has_link o.has_link in
-      let one : slice_get n.links h.i.link ≡ Some o.name = h.of.link.0 ∙ ap (λ (t : List ℕ). Some t) same in
-      let two : slice_get n.links o.link ≡ Some o.name = names_good n.links plan.links plan.link_names (suc o.link) o.link o.name o.link_table refl o.listed o.named in
-      let link : h.i.link ≡ o.link = lawful.link_names_differ h.i.link o.link o.name one two in
-      let text : h.of.text ≡ o.text = text_same (codes_of "address") x h.of.text o.text h.of.has_address o.has_address in
-      let address : h.i.address ≡ o.address = one_address laws h.of.text o.text h.i.address o.address text h.of.address o.spelled in
-      let (k, q, at, seat, read) = prefix_place plan.links plan.on_links plan.link_prefixes o.link o.some.0 o.some.1 in
-      let (p, place, prefix) = its_place document n plan k q (get_left plan.on_links plan.owned k q at) in
-      let carries : Carries n o.link p = (k, subst (IsPlace n k p) seat place) in
-      let is : HasOwnAddress n h.k o.link o.address = record {
-        router = h.i.router;
-        cost = h.i.cost;
-        direct = h.i.direct;
-        poison = h.i.poison;
-        listed = h.listed ∙ ap (λ (l : ℕ). Some (record h.i { link = l })) link ∙ ap (λ (a : ℕ). Some (record h.i { link = o.link; address = a })) address;
-      } in
-      let (other, block, on, its, contains) = lawful.inside h.k o.link o.address p is carries in
-      o.none block (carrier_has document n plan o.link other block on its) contains
+      inside_not laws n.links plan.links plan.link_names lawful.link_names_differ x h.of.link_name h.of.text h.i.link h.i.address h.of.has_link h.of.link.0 h.of.has_address h.of.address
+      (λ p its.
+      let (k, q, at, seat, read) = prefix_place plan.links plan.on_links plan.link_prefixes h.i.link p its in
+      let (number, place, prefix) = its_place document n plan k q (get_left plan.on_links plan.owned k q at) in
+      let carries : Carries n h.i.link number = (k, subst (IsPlace n k number) seat place) in
+      let is : HasOwnAddress n h.k h.i.link h.i.address = record { router = h.i.router; cost = h.i.cost; direct = h.i.direct; poison = h.i.poison; listed = h.listed } in
+      let (other, block, on, its, contains) = lawful.inside h.k h.i.link h.i.address number is carries in
+      (block, carrier_has document n plan h.i.link other block on its, contains))
+      o
 
   -- two items that clash
   clash_not : (Clash : Network → ℕ → ℕ → Type 0) (spots : List At) (place : At) → ((j k : ℕ) → Clash n j k → j ≡ k) → (m : Network) → PlanOf document m → IsClash (Clash m) spots place → ⊥
@@ -178,10 +128,8 @@ module _ (laws : TextLaws) (document : Members) (n : Network) (plan : PlanOf doc
       let is : IsInterface n h.k h.i.router h.i.link h.i.cost = record { address = h.i.address; direct = h.i.direct; poison = h.i.poison; listed = h.listed } in
       let on : IsConnected n h.k h.i.router h.i.link h.i.direct = record { address = h.i.address; cost = h.i.cost; poison = h.i.poison; listed = h.listed } in
       elim wrong [
-        | inl cost ↦ costs x h.i.cost h.of.cost (lawful.cost_least h.k h.i.router h.i.link h.i.cost is) (lawful.cost_most h.k h.i.router h.i.link h.i.cost is) cost
-        | inr direct ↦
-            directs x h.i.cost h.i.direct h.of.cost h.of.direct (lawful.direct_least h.k h.i.router h.i.link h.i.direct on)
-            (lawful.direct_most h.k h.i.router h.i.link h.i.cost h.i.direct is on) direct
+        | inl cost ↦ cost_fits x h.i.cost h.of.cost (lawful.cost_least h.k _ _ _ is, lawful.cost_most h.k _ _ _ is) cost
+        | inr direct ↦ direct_fits x h.i.cost h.i.direct h.of.cost h.of.direct (lawful.direct_least h.k _ _ _ on, lawful.direct_most h.k _ _ _ _ is on) direct
       ]
 
   own_cost : (x : Data) → HasOwn document n plan x → HasWrongCost x → ⊥
@@ -189,7 +137,7 @@ module _ (laws : TextLaws) (document : Members) (n : Network) (plan : PlanOf doc
       let k = length plan.on_links + h.k in
       let (p, place, prefix) = its_place document n plan k h.q (get_past plan.on_links plan.owned h.k k refl ∙ h.listed) in
       let own : IsOwnAt n k p h.m h.of.own.cost = record { own = h.of.own; place = subst (IsPlace n k p) h.of.seat place; router = h.of.router; says = refl } in
-      costs x h.of.own.cost h.of.cost (lawful.own_cost_least k p h.m h.of.own.cost own) (lawful.own_cost_most k p h.m h.of.own.cost own) wrong
+      cost_fits x h.of.own.cost h.of.cost (lawful.own_cost_least k p h.m h.of.own.cost own, lawful.own_cost_most k p h.m h.of.own.cost own) wrong
 
 -- ---- bytes that are well formed
 
@@ -261,14 +209,15 @@ module _ (laws : TextLaws) (bytes : List ℕ) (w : IsWellFormed bytes) where
   table_not codes.Key (RouterInterface r j) f = item_fields IsInterfaceTable (codes_of "interface") w.plan.routers r j f.0 w.interface_tables f.1 f.2
   table_not codes.Address (RouterInterface r j) f = address_told r j f.0 f.1 f.2
   table_not codes.Cost (RouterInterface r j) f = interface_cost laws w.document w.network w.plan w.lawful f.0 (its_interface w.document w.network w.plan r j f.0 f.1) f.2
-  table_not codes.UnknownLink (RouterInterface r j) f = unknown_not laws w.document w.network w.plan w.lawful f.0 (its_interface w.document w.network w.plan r j f.0 f.1) f.2
+  table_not codes.UnknownLink (RouterInterface r j) f = let h = its_interface w.document w.network w.plan r j f.0 f.1 in
+      known_not w.network.links w.plan.links w.plan.link_names f.0 h.of.link_name h.i.link h.of.has_link h.of.link.0 f.2
   table_not codes.OutsidePrefix (RouterInterface r j) f = outside_not laws w.document w.network w.plan w.lawful f.0 (its_interface w.document w.network w.plan r j f.0 f.1) f.2
   table_not codes.Limit (RouterInterface r j) f = interface_limit laws w.document w.network w.plan w.lawful r j f
   table_not codes.Key (RouterOwn r j) f = item_fields IsOwnTable (codes_of "own") w.plan.routers r j f.0 w.own_tables f.1 f.2
-  table_not codes.Address (RouterOwn r j) f = let h = its_own w.document w.network w.plan r j f.0 f.1 in gateways f.0 h.of.own.via h.of.via f.2
+  table_not codes.Address (RouterOwn r j) f = let h = its_own w.document w.network w.plan r j f.0 f.1 in gateway_fits f.0 h.of.own.via h.of.via f.2
   table_not codes.UnknownLink (RouterOwn r j) f =
       let h = its_own w.document w.network w.plan r j f.0 f.1 in
-      attached_not laws w.document w.network w.plan w.lawful f.0 h.of.own.link h.of.link f.2
+      attached_not w.network.links w.plan.links w.plan.link_names f.0 h.of.own.link h.of.link f.2
   table_not codes.Prefix (RouterOwn r j) f = own_prefix_told r j f.0 f.1 f.2 f.3 f.4
   table_not codes.Cost (RouterOwn r j) f = own_cost laws w.document w.network w.plan w.lawful f.0 (its_own w.document w.network w.plan r j f.0 f.1) f.2
   table_not codes.Limit (RouterOwn r j) f = past_not laws w.document w.network w.plan w.lawful (place_spots w.plan.links w.plan.routers) (RouterOwn r j) f.0
