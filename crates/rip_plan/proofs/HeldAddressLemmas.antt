@@ -1,6 +1,6 @@
 -- The addresses of interfaces in one list, and what is found there.
 use Rattle.std.proofs.Common.{◌≡◌, ℕ, zero, suc, ◌+◌, inl, inr, List, [], ◌∷◌, length, Bool, true, false, cond, Some, None, refl, sym, ◌∙◌, ap, arith}
-use Rattle.std.proofs.lemmas.Bool.{and_parts}
+use Rattle.std.proofs.lemmas.Bool.{and_from, and_parts, cases_Bool, eq-eqb, eqb-true}
 use Rattle.std.specs.Prelude.{slice_get, ◌==◌}
 use Rattle.std.proofs.lemmas.Option.{none-some, same_Some}
 use Rattle.std.proofs.lemmas.Bool.Decides.{nat_tests}
@@ -85,35 +85,24 @@ is_held n (y ∷ is) (front ∷ rest) (suc i) x further j a h its at =
 
 same_held : (h : Held) (l a : ℕ) → is_at l a h ≡ true → h ≡ record { interface = h.interface; link = l; address = a }
 same_held h l a e =
-    let tests = and_parts (h.link == l) (h.address == a) e in
-    let link : h.link ≡ l = grind (arith, nat_tests) in
-    let address : h.address ≡ a = grind (arith, nat_tests) in
-    rw (← link, ← address) refl
+    let (link, address) = and_parts (h.link == l) (h.address == a) e in
+    rw (← eqb-true h.link l link, ← eqb-true h.address a address) refl
 
 holder_found : (l a i : ℕ) (hs : List Held) → holder_at l a hs ≡ Some i → (k : ℕ) × (slice_get hs k ≡ Some (record { interface = i; link = l; address = a }))
 holder_found l a i [] e = absurd (none-some i e)
-holder_found l a i (h ∷ hs) e = by_test (is_at l a h) refl e (λ f. holder_found l a i hs f)
-  where
-    by_test : (b : Bool) → is_at l a h ≡ b → cond b (Some h.interface) (holder_at l a hs) ≡ Some i
-        → (holder_at l a hs ≡ Some i → (k : ℕ) × (slice_get hs k ≡ Some (record { interface = i; link = l; address = a })))
-        → (k : ℕ) × (slice_get (h ∷ hs) k ≡ Some (record { interface = i; link = l; address = a }))
-    by_test true t f later =
-        let number : h.interface ≡ i = same_Some h.interface i f in
-        (zero, ap (λ (g : Held). Some g) (same_held h l a t) ∙ ap (λ (m : ℕ). Some (record { interface = m; link = l; address = a })) number)
-    by_test false t f later = let (k, at) = later f in (suc k, at)
+holder_found l a i (h ∷ hs) e =
+    elim (cases_Bool (is_at l a h)) [
+      | inl t ↦ (zero, ap (λ (g : Held). Some g) (same_held h l a t) ∙ ap (λ (m : ℕ). Some (record { interface = m; link = l; address = a })) (same_Some h.interface i (rw t at e)))
+      | inr t ↦ let (k, at) = holder_found l a i hs (rw t at e) in (suc k, at)
+    ]
 
 holder_there : (l a i k : ℕ) (hs : List Held) → slice_get hs k ≡ Some (record { interface = i; link = l; address = a }) → holder_at l a hs ≡ None → ⊥
 holder_there l a i k [] at e = absurd (none-some _ at)
 holder_there l a i zero (h ∷ hs) at e =
     let same = same_Some h _ at in
-    let test : is_at l a h ≡ true = rw same (let one : (l == l) ≡ true = grind (arith, nat_tests) in let two : (a == a) ≡ true = grind (arith, nat_tests) in rw (one, two) refl) in
-    let here : holder_at l a (h ∷ hs) ≡ Some h.interface = rw test refl in
-    none-some h.interface (sym e ∙ here)
-holder_there l a i (suc k) (h ∷ hs) at e = by_test (is_at l a h) e (λ f. holder_there l a i k hs at f)
-  where
-    by_test : (b : Bool) → cond b (Some h.interface) (holder_at l a hs) ≡ None → (holder_at l a hs ≡ None → ⊥) → ⊥
-    by_test true f later = absurd cc
-    by_test false f later = later f
+    let test : is_at l a h ≡ true = rw same (and_from (l == l) (a == a) (eq-eqb l l refl) (eq-eqb a a refl)) in
+    none-some h.interface (sym (rw test at e))
+holder_there l a i (suc k) (h ∷ hs) at e = elim (cases_Bool (is_at l a h)) [ inl t ↦ none-some h.interface (sym (rw t at e)) | inr t ↦ holder_there l a i k hs at (rw t at e) ]
 
 -- ---- of a network
 

@@ -1,6 +1,7 @@
 -- Lists that are matched item by item.
-use Rattle.std.proofs.Common.{◌≡◌, ℕ, zero, suc, List, [], ◌∷◌, ◌++◌, length, map, filter, Bool, true, false, ◌&&◌, Some, refl, ◌∙◌, ap, subst, arith}
+use Rattle.std.proofs.Common.{◌≡◌, ℕ, inl, inr, zero, suc, List, [], ◌∷◌, ◌++◌, length, map, filter, Bool, true, false, ◌&&◌, Some, refl, ◌∙◌, ap, subst, arith}
 use Rattle.std.specs.Prelude.{slice_get}
+use Rattle.std.proofs.lemmas.Bool.{cases_Bool}
 use Rattle.std.proofs.lemmas.Option.{none-some, same_Some}
 use Rattle.rip_plan.specs.PlanOf.{Matched}
 
@@ -25,10 +26,6 @@ pub matched_at : {A B : Type 0} (R : A → B → Type 0) (xs : List A) (ys : Lis
 matched_at R [] [] e f = tt
 matched_at R (x ∷ xs) (y ∷ ys) e f = (f 0 x y refl refl, matched_at R xs ys (omega arith) (λ k a b p q. f (suc k) a b p q))
 matched_at R xs ys e f = absurd (omega arith)
-
-pub map_append : {A B : Type 0} (see : A → B) (xs ys : List A) → map see (xs ++ ys) ≡ map see xs ++ map see ys
-map_append see [] ys = refl
-map_append {A} {B} see (x ∷ xs) ys = ap (λ (l : List B). see x ∷ l) (map_append see xs ys)
 
 pub matched_weaker : {A B : Type 0} (R S : A → B → Type 0) → ((x : A) (y : B) → R x y → S x y) → (xs : List A) (ys : List B) → Matched R xs ys → Matched S xs ys
 matched_weaker R S f [] [] m = tt
@@ -58,12 +55,11 @@ matched_length R xs ys m = absurd m
 
 pub filter_both : {A : Type 0} (p q r : A → Bool) → ((x : A) → r x ≡ (q x && p x)) → (xs : List A) → filter p (filter q xs) ≡ filter r xs
 filter_both p q r f [] = refl
-filter_both {A} p q r f (x ∷ xs) = by_tests (q x) (p x) refl refl (filter_both p q r f xs)
-  where
-    by_tests : (a b : Bool) → q x ≡ a → p x ≡ b → filter p (filter q xs) ≡ filter r xs → filter p (filter q (x ∷ xs)) ≡ filter r (x ∷ xs)
-    by_tests true true e g later = rw (f x, e, g) (ap (λ (l : List A). x ∷ l) later)
-    by_tests true false e g later = rw (f x, e, g) later
-    by_tests false b e g later = rw (f x, e) later
+filter_both {A} p q r f (x ∷ xs) =
+    elim (cases_Bool (q x)) [
+      | inl e ↦ elim (cases_Bool (p x)) [ inl g ↦ rw (f x, e, g) (ap (λ (l : List A). x ∷ l) (filter_both p q r f xs)) | inr g ↦ rw (f x, e, g) (filter_both p q r f xs) ]
+      | inr e ↦ rw (f x, e) (filter_both p q r f xs)
+    ]
 
 pub filter_all : {A : Type 0} (p : A → Bool) → ((x : A) → p x ≡ true) → (xs : List A) → filter p xs ≡ xs
 filter_all p f [] = refl

@@ -2,7 +2,7 @@
 use Rattle.std.proofs.Common.{◌≡◌, ℕ, ◌+◌, ◌-◌, List, [], ◌∷◌, ◌++◌, map, append_assoc, Bool, true, Some, Ok, refl, sym, ◌∙◌, ap, subst, arith, length, ◌≤◌}
 use Rattle.std.specs.Prelude.{unwrap_or, codes as codes_of}
 use Rattle.std.proofs.lemmas.Option.{none-some, same_Some}
-use Rattle.std.proofs.lemmas.List.{append-nil, length-map}
+use Rattle.std.proofs.lemmas.List.{append-nil, length-map, map-append}
 use Rattle.toml.specs.Data.{Data, Members, get_member, table}
 use Rattle.rip_wire.specs.Prefix.{Block}
 use Rattle.rip_plan.specs.declared.draft.DraftInterface.{DraftInterface}
@@ -20,7 +20,7 @@ use Rattle.rip_plan.specs.PlanOf.{Matched, HasItems, IsAddressOf, AreAlsoOf, IsN
 use Rattle.rip_plan.proofs.BindLemmas.{bind_ok, ok_same}
 use Rattle.rip_plan.proofs.TakenStepLemmas.{with_link, with_router, prefix_taken, link_taken, interface_taken, own_taken, room_for, router_taken, text_taken}
 use Rattle.rip_plan.proofs.NumberingLemmas.{numbers}
-use Rattle.rip_plan.proofs.MatchingLemmas.{matched_append, matched_at, map_append}
+use Rattle.rip_plan.proofs.MatchingLemmas.{matched_append, matched_at}
 use Rattle.rip_plan.proofs.EachOnceLemmas.{numbered_once}
 use Rattle.rip_plan.proofs.ItemLemmas.{get_seen}
 use Rattle.rip_plan.proofs.SpotLemmas.{with_number}
@@ -111,10 +111,10 @@ links_added laws k (x ∷ xs) s t h =
           ∙ ap (λ (ls : List (List ℕ)). record s { links = ls; places = (s.places ++ inner.added) ++ rest.added }) (append_assoc s.links (taken.name ∷ []) rest.names)
           ∙ ap (λ (ps : List DraftPlace). record s { links = s.links ++ taken.name ∷ rest.names; places = ps }) (append_assoc s.places inner.added rest.added);
       named = (fields.named, rest.named);
-      placed = rw (map_append placement inner.added rest.added, fields.prefixes_are)
+      placed = rw (map-append placement inner.added rest.added, fields.prefixes_are)
           (matched_append IsOnLink (map placement inner.added) (map placement rest.added) (map (with_number k) taken.prefixes) (items_under (codes_of "prefixes") (k + 1) xs) (rw (back k) at inner.match)
           rest.placed);
-      stand = rw (map_append (λ (p : DraftPlace). p.at) inner.added rest.added, fields.prefixes_are, inner.stand, rest.stand) refl;
+      stand = rw (map-append (λ (p : DraftPlace). p.at) inner.added rest.added, fields.prefixes_are, inner.stand, rest.stand) refl;
     }
 
 -- ---- the interfaces and the own prefixes of a router
@@ -279,18 +279,18 @@ routers_added laws k (x ∷ xs) s t h =
             places = v.places ++ rest.owned;
           }) here);
       named = (fields.named, rest.named);
-      on_links = rw (map_append its_interface inner.added rest.interfaces, fields.interfaces_are)
+      on_links = rw (map-append its_interface inner.added rest.interfaces, fields.interfaces_are)
           (matched_append (IsInterfaceOf s.links s.poison) (map its_interface inner.added) (map its_interface rest.interfaces) (map (with_number k) taken.interfaces)
           (items_under (codes_of "interface") (k + 1) xs) (rw (back k) at inner.match)
           (subst (λ (v : Sketch). Matched (IsInterfaceOf v.links v.poison) (map its_interface rest.interfaces) (items_under (codes_of "interface") (k + 1) xs)) here rest.on_links));
       further = rw fields.interfaces_are (matched_append AreAlsoOf inner.further rest.also (map (with_number k) taken.interfaces)
           (items_under (codes_of "interface") (k + 1) xs) (rw (back k) at inner.also_match) rest.further);
-      own = rw (map_append placement own.added rest.owned, fields.owns_are)
+      own = rw (map-append placement own.added rest.owned, fields.owns_are)
           (matched_append (IsOwned s.links) (map placement own.added) (map placement rest.owned) (map (with_number k) taken.owns) (items_under (codes_of "own") (k + 1) xs)
           (subst (λ (names : List (List ℕ)). Matched (IsOwned names) (map placement own.added) (map (with_number k) taken.owns)) between (rw (back k) at own.match))
           (subst (λ (names : List (List ℕ)). Matched (IsOwned names) (map placement rest.owned) (items_under (codes_of "own") (k + 1) xs)) (ap (λ (v : Sketch). v.links) here) rest.own));
-      interfaces_stand = rw (map_append (λ (i : DraftInterface). i.at) inner.added rest.interfaces, fields.interfaces_are, inner.stand, rest.interfaces_stand) refl;
-      own_stand = rw (map_append (λ (p : DraftPlace). p.at) own.added rest.owned, fields.owns_are, own.stand, rest.own_stand) refl;
+      interfaces_stand = rw (map-append (λ (i : DraftInterface). i.at) inner.added rest.interfaces, fields.interfaces_are, inner.stand, rest.interfaces_stand) refl;
+      own_stand = rw (map-append (λ (p : DraftPlace). p.at) own.added rest.owned, fields.owns_are, own.stand, rest.own_stand) refl;
       few = λ few. rest.few (rw (ap (λ (v : Sketch). v.also) own.made) (inner.few few));
     }
 
@@ -374,7 +374,7 @@ tables_read laws links routers poison between s first second =
       owned = more.owned;
       own_prefixes = subst (λ (v : Sketch). Matched (IsOwned v.links) (map placement more.owned) (items_under (codes_of "own") 0 routers)) read.made more.own;
       places = refl;
-      places_stand = rw (map_append (λ (p : DraftPlace). p.at) read.added more.owned, read.stand, more.own_stand) refl;
+      places_stand = rw (map-append (λ (p : DraftPlace). p.at) read.added more.owned, read.stand, more.own_stand) refl;
       interfaces_stand = more.interfaces_stand;
       few = few;
     })
@@ -383,7 +383,7 @@ pub document_matches : (laws : TextLaws) (doc : Members) (links routers : List D
     → PlanOf doc (network_of_sketch s)
 document_matches laws doc links routers poison s is read =
     let root = root_table doc links routers poison is in
-    let split : map placement s.places ≡ map placement read.on_links ++ map placement read.owned = ap (map placement) read.places ∙ map_append placement read.on_links read.owned in
+    let split : map placement s.places ≡ map placement read.on_links ++ map placement read.owned = ap (map placement) read.places ∙ map-append placement read.on_links read.owned in
     record {
       links = links;
       has_links = root.has_links;

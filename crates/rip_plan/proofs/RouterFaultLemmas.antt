@@ -33,7 +33,8 @@ use Rattle.rip_plan.proofs.OrderLemmas.{starts_high}
 use Rattle.rip_plan.proofs.SpotLemmas.{with_number, nth_from, place_once, interface_once, own_here, under_here, nth_here, item_once, count_of}
 use Rattle.rip_plan.proofs.ItemLemmas.{any_at, any_finds, position_finds, position_none, get_seen, see_got, get_left}
 use Rattle.rip_plan.proofs.TableLemmas.{HasInterfaceFields, IsTextIf, router_table, interface_texts, own_texts, addresses_told, addresses_clear, cost_fits, direct_fits, direct_is, direct_within, gateway_fits, gateway_is, link_is, map_none, cost_is, cost_within, cost_told, direct_told, gateway_told, IsReadOf, addresses_read}
-use Rattle.rip_plan.proofs.MatchingLemmas.{map_append, matched_left, matched_length, matched_right}
+use Rattle.std.proofs.lemmas.List.{map-append}
+use Rattle.rip_plan.proofs.MatchingLemmas.{matched_left, matched_length, matched_right}
 use Rattle.rip_plan.proofs.OnePlanLemmas.{cost_same, text_same}
 use Rattle.rip_plan.proofs.PlanMatchLemmas.{TablesRead, placement, interfaces_added, owns_added, stood, tables_read}
 use Rattle.rip_plan.proofs.PlanPartLemmas.{also_flat, also_numbered, also_sum, link_prefix, names_differ, attached_not, inside_not, known_not, prefix_place}
@@ -182,7 +183,7 @@ module _ (laws : TextLaws) (links done : List Data) (poison : Bool) (v : Sketch)
     (differ : (l m : ℕ) (name : List ℕ) → slice_get v.links l ≡ Some name → slice_get v.links m ≡ Some name → l ≡ m) where
   has_prefix : (l k : ℕ) (q : DraftPlace) → slice_get v.places k ≡ Some q → is_on l q.seat ≡ true → HasPrefix links l q.prefix
   has_prefix l k q h on =
-      let split : map placement v.places ≡ map placement read.on_links ++ map placement read.owned = ap (map placement) read.places ∙ map_append placement read.on_links read.owned in
+      let split : map placement v.places ≡ map placement read.on_links ++ map placement read.owned = ap (map placement) read.places ∙ map-append placement read.on_links read.owned in
       let at = ap (λ (ps : List Placement). slice_get ps k) (sym split) ∙ see_got placement v.places k q h in
       link_prefix links done v.links (map placement read.on_links) (map placement read.owned) read.link_prefixes read.own_prefixes l k (placement q) at (on_seat l q.seat on)
 
