@@ -1,12 +1,12 @@
 -- What the later passes find of the faults of a plan.
-use Rattle.std.proofs.Common.{◌≡◌, ℕ, ◌+◌, ◌<◌, ◌≤◌, ◌⊎◌, inl, inr, List, [], ◌∷◌, ◌++◌, length, true, false, not, ◌||◌, Option, Some, None, Result, refl, sym, ap, subst, ◌∙◌, arith}
+use Rattle.std.proofs.Common.{◌≡◌, ℕ, ◌+◌, ◌<◌, ◌⊎◌, inl, inr, List, [], ◌∷◌, ◌++◌, length, true, false, not, ◌||◌, Option, Some, None, Result, refl, sym, ap, subst, ◌∙◌, arith, Bool}
 use Rattle.rip_plan.proofs.FirstFoundLemmas.{Clashes, FirstSo, Passes, first_clashing, first_passing}
 use Rattle.rip_plan.proofs.SketchPlanLemmas.{interface_in, interface_from, listed_as, place_in, place_from, touch, touches, there_on, on_there}
 use Rattle.std.specs.Prelude.{slice_get, find, option_map, unwrap_or, map, ◌==◌}
 use Rattle.std.specs.List.{list_any}
 use Rattle.std.specs.Option.{option_map_or}
 use Rattle.std.proofs.lemmas.Option.{same_Some, slice_get_within}
-use Rattle.std.proofs.lemmas.Bool.{cases_lt, and_parts, or_cases, or_right, not-true, not-false, both_ways, false_from_ne_true}
+use Rattle.std.proofs.lemmas.Bool.{cases_lt, cases_order, true_from_ne_false, and_parts, or_cases, or_right, not-true, not-false, both_ways, false_from_ne_true}
 use Rattle.std.proofs.lemmas.Bool.Decides.{nat_tests}
 use Rattle.toml.specs.Data.{Data, Members}
 use Rattle.rip_plan.specs.declared.error.PlanCode.{PlanCode}
@@ -23,14 +23,14 @@ use Rattle.rip_plan.specs.declared.parts.Seat.TheVariants as seats
 use Rattle.rip_plan.specs.Codes.{number_of_code}
 use Rattle.rip_plan.specs.Fault.{fault}
 use Rattle.rip_plan.specs.Draft.{Sketch}
-use Rattle.rip_plan.specs.Passes.{Touching, first_clash, touched, touching, same_prefix, do_meet, is_same_link, have_common, are_twice, is_astray, is_bare, is_there, first_bare, none_found, second_passes, spot_of, duplicate_in, twice_in, taken_address_in, bare_in, astray_in}
+use Rattle.rip_plan.specs.Passes.{first_clash, touched, touching, same_prefix, do_meet, is_same_link, have_common, are_twice, is_astray, is_bare, is_there, none_found, second_passes, spot_of, duplicate_in, twice_in, taken_address_in, bare_in, astray_in}
 use Rattle.rip_plan.specs.Addresses.{have_one_address}
 use Rattle.rip_plan.specs.Network.{Network, network_of_sketch}
 use Rattle.rip_plan.specs.Relations.{HasAddresses, IsInterface, IsPlace}
 use Rattle.rip_plan.specs.PlanOf.{PlanOf}
 use Rattle.rip_plan.specs.PlanFaults.{TableFault, IsAstray, IsClash, IsBare, IsSo, DoMeet, AreTwice, HasOneTwice, HaveOneAddress, Before, pass_of, rank, position, place_spots, interface_spots}
 use Rattle.rip_plan.proofs.OrderLemmas.{before_trans, before_not}
-use Rattle.rip_plan.proofs.FindingLemmas.{Found, ranked, Finds, finds_in, bind_rows}
+use Rattle.rip_plan.proofs.FindingLemmas.{Found, Finds, finds_in, bind_rows}
 use Rattle.rip_plan.proofs.FaultRowLemmas.{IsAstrayAt, IsLast, IsOfTables, IsTold, told_finds, code_rows, code_high, last_two, last_three, last_four, pass_rows}
 use Rattle.rip_plan.proofs.HeldAddressLemmas.{address_held, held_address}
 use Rattle.rip_plan.proofs.HeldOrderLemmas.{held_order, stands_from}
@@ -40,7 +40,8 @@ use Rattle.rip_plan.proofs.SpotLemmas.{place_ahead, interface_ahead, place_spot,
 use Rattle.rip_plan.proofs.PlanMatchLemmas.{place_ats, interface_ats}
 use Rattle.rip_plan.proofs.ItemLemmas.{any_at, any_finds, distinct_at, get_seen, see_got, get_some}
 use Rattle.rip_plan.proofs.NumberingLemmas.{numbers, same_is, same_from}
-use Rattle.rip_plan.proofs.SecondPassLemmas.{address_spot, held, held_spot, taken_address, common, FoundBare, search_bare}
+use Rattle.rip_plan.proofs.SecondPassLemmas.{address_spot, at_number, bare_found, common, held, held_spot, number_at, numbers_from, taken_address}
+use Rattle.rip_plan.proofs.ClashLemmas.{meeting_seen}
 use Rattle.rip_plan.proofs.TextLemmas.{TextLaws}
 
 -- ---- one pass
@@ -85,26 +86,43 @@ pass_finds {A} F n c Is see xs r first ahead told clear = by_search r first
           let mine : Before (rank n (fault c o.error.place)) (rank n (fault c (see x))) =
           subst (λ (d : PlanCode). Before (rank n (fault d o.error.place)) (rank n (fault c (see x)))) same.1 (subst (λ (m : ℕ). Before (rank m o.error) (rank n (fault c (see x)))) same.0 before) in
           let at_one : o.error.place ≡ see x → ⊥ = λ place. before_not (rank n (fault c (see x))) (subst (λ (p : At). Before (rank n (fault c p)) (rank n (fault c (see x)))) place mine) in
-          elim (cases_lt h.k s.0) [
-            | inl sooner ↦ s.3 h.k h.x sooner h.at h.so
-            | inr ge ↦
-                elim (cases_lt s.0 h.k) [
-                  | inl later ↦
-                      elim (ahead s.0 h.k x h.x later s.1 h.at) [
-                        | inl one ↦ at_one (sym h.stands ∙ sym one)
-                        | inr past ↦
-                            let after : Before (position (see x)) (position o.error.place) = subst (λ (p : At). Before (position (see x)) (position p)) h.stands past in
-                            let ranked_after : Before (rank n (fault c (see x))) (rank n (fault c o.error.place)) =
-                            inr (refl, before_more (position (see x)) (position o.error.place) (number_of_code c ∷ []) (number_of_code c ∷ []) after) in
-                            before_not (rank n (fault c o.error.place)) (before_trans (rank n (fault c o.error.place)) (rank n (fault c (see x))) (rank n (fault c o.error.place)) mine ranked_after)
-                      ]
-                  | inr le ↦
-                      let one : h.k ≡ s.0 = omega arith in
-                      let item : h.x ≡ x = same_Some h.x x (sym h.at ∙ ap (slice_get xs) one ∙ s.1) in
-                      at_one (sym h.stands ∙ ap see item)
+          elim (cases_order h.k s.0) [
+            | inl one ↦ let item : h.x ≡ x = same_Some h.x x (sym h.at ∙ ap (slice_get xs) one ∙ s.1) in at_one (sym h.stands ∙ ap see item)
+            | inr (inl sooner) ↦ s.3 h.k h.x sooner h.at h.so
+            | inr (inr later) ↦
+                elim (ahead s.0 h.k x h.x later s.1 h.at) [
+                  | inl one ↦ at_one (sym h.stands ∙ sym one)
+                  | inr past ↦
+                      let after : Before (position (see x)) (position o.error.place) = subst (λ (p : At). Before (position (see x)) (position p)) h.stands past in
+                      let ranked_after : Before (rank n (fault c (see x))) (rank n (fault c o.error.place)) =
+                      inr (refl, before_more (position (see x)) (position o.error.place) (number_of_code c ∷ []) (number_of_code c ∷ []) after) in
+                      before_not (rank n (fault c o.error.place)) (before_trans (rank n (fault c o.error.place)) (rank n (fault c (see x))) (rank n (fault c o.error.place)) mine ranked_after)
                 ]
           ],
     )
+
+-- the same of an item that clashes with an earlier one, where the items stand at spots
+clash_finds : {A : Type 0} (F : Found → Type 0) (n : ℕ) (c : PlanCode) (see : A → At) (xs : List A) (spots : List At) → map see xs ≡ spots
+    → ((k m : ℕ) (a b : At) → k < m → slice_get spots k ≡ Some a → slice_get spots m ≡ Some b → Before (position a) (position b))
+    → (clash : A → A → Bool) (Clash : ℕ → ℕ → Type 0)
+    → ((j k : ℕ) (y x : A) → slice_get xs j ≡ Some y → slice_get xs k ≡ Some x → clash y x ≡ true → Clash j k)
+    → ((j k : ℕ) (y x : A) → slice_get xs j ≡ Some y → slice_get xs k ≡ Some x → Clash j k → clash y x ≡ true)
+    → ((place : At) → IsClash Clash spots place → F (in_pass n c place)) → ((place : At) → F (in_pass n c place) → IsClash Clash spots place)
+    → Finds F (code_rows n c).has (none_found c (option_map see (first_clash clash [] xs)))
+clash_finds {A} F n c see xs spots stand ahead clash Clash gives takes told clear =
+    pass_finds F n c (Clashes clash xs) see xs (first_clash clash [] xs) (first_clashing clash xs)
+    (λ k m x y less h g. inr (ahead k m (see x) (see y) less (spot k x h) (spot m y g)))
+    (λ place t.
+    let (j, y, less, there, meets) = t.so in
+    told place (j, t.k, spot t.k t.x t.at ∙ ap (λ (p : At). Some p) t.stands, less, gives j t.k y t.x there t.at meets))
+    (λ place f.
+    let (j, k, at, less, meet) = clear place f in
+    let (x, here, stands) = get_seen see xs k place (ap (λ (l : List At). slice_get l k) stand ∙ at) in
+    let (y, there) = get_some xs j (omega (arith, less, slice_get_within xs k x here)) in
+    record { k = k; x = x; at = here; so = (j, y, less, there, takes j k y x there here meet); stands = stands })
+  where
+    spot : (k : ℕ) (x : A) → slice_get xs k ≡ Some x → slice_get spots k ≡ Some (see x)
+    spot k x h = ap (λ (l : List At). slice_get l k) (sym stand) ∙ see_got see xs k x h
 
 -- ---- two places that meet
 
@@ -316,16 +334,9 @@ module _ (laws : TextLaws) (document : Members) (links routers : List Data) (s :
 
   -- prefixes
   duplicate_told : (place : At) → IsClash (DoMeet (network_of_sketch s)) (place_spots links routers) place → TableFault document links routers codes.DuplicatePrefix place
-  duplicate_told place c =
-      let (j, k, at, less, meet) = c in
-      elim (place_spot links routers k place at) [
-        | inl t ↦
-            subst (λ (p : At). TableFault document links routers codes.DuplicatePrefix p) (sym t.is)
-            (network_of_sketch s, plan, subst (IsClash (DoMeet (network_of_sketch s)) (place_spots links routers)) t.is c)
-        | inr t ↦
-            subst (λ (p : At). TableFault document links routers codes.DuplicatePrefix p) (sym t.is)
-            (network_of_sketch s, plan, subst (IsClash (DoMeet (network_of_sketch s)) (place_spots links routers)) t.is c)
-      ]
+  duplicate_told (LinkPrefix i j) c = (network_of_sketch s, plan, c)
+  duplicate_told (RouterOwn r j) c = (network_of_sketch s, plan, c)
+  duplicate_told place (j, k, at, less, meet) = elim (place_spot links routers k place at) [ inl t ↦ let is = t.is in absurd cc | inr t ↦ let is = t.is in absurd cc ]
 
   -- of a network that is the plan too
   of_plan : (P : Network → Type 0) → (n : Network) → PlanOf document n → P n → P (network_of_sketch s)
@@ -338,38 +349,15 @@ module _ (laws : TextLaws) (document : Members) (links routers : List Data) (s :
 
   duplicates_find : Finds (IsTold document links routers) (code_rows 1 codes.DuplicatePrefix).has (none_found codes.DuplicatePrefix (duplicate_in s.interfaces s.places))
   duplicates_find =
-      let items : List Touching = map (touching s.interfaces) s.places in
-      pass_finds (IsTold document links routers) 1 codes.DuplicatePrefix (Clashes do_meet items) (λ (t : Touching). t.place.at) items (first_clash do_meet [] items) (first_clashing do_meet items)
-      (λ k m x y less h g.
-      let (a, at, same) = get_seen (touching s.interfaces) s.places k x h in
-      let (b, there, also) = get_seen (touching s.interfaces) s.places m y g in
-      inr (subst (λ (t : Touching). Before (position t.place.at) (position y.place.at)) same
-      (subst (λ (t : Touching). Before (position a.at) (position t.place.at)) also (place_ahead links routers k m a.at b.at less (place_at k a at) (place_at m b there)))))
-      (λ place c.
-      let (j, y, less, there, meets) = c.so in
-      let (a, at, same) = get_seen (touching s.interfaces) s.places c.k c.x c.at in
-      let (b, its, also) = get_seen (touching s.interfaces) s.places j y there in
-      let meet : do_meet (touching s.interfaces b) (touching s.interfaces a) ≡ true = ap (λ (t : Touching). do_meet t (touching s.interfaces a)) also ∙ ap (do_meet y) same ∙ meets in
-      let stands : a.at ≡ place = ap (λ (t : Touching). t.place.at) same ∙ c.stands in
-      (duplicate_told place (j, c.k, place_at c.k a at ∙ ap (λ (p : At). Some p) stands, less, meet_gives s j c.k b a its at meet), refl))
-      (λ place f.
-      let (j, k, spot, less, meet) = duplicate_clear place f.0 in
-      let (a, at, stands) = at_place k place spot in
-      let (b, there) = get_some s.places j (omega (arith, less, slice_get_within s.places k a at)) in
-      record {
-        k = k;
-        x = touching s.interfaces a;
-        at = see_got (touching s.interfaces) s.places k a at;
-        so = (j, touching s.interfaces b, less, see_got (touching s.interfaces) s.places j b there, meet_takes s j k b a there at meet);
-        stands = stands;
-      })
+      rw (← meeting_seen s.interfaces s.places)
+      (clash_finds (IsTold document links routers) 1 codes.DuplicatePrefix (λ (p : DraftPlace). p.at) s.places (place_spots links routers) placed (place_ahead links routers)
+      (λ p q. do_meet (touching s.interfaces p) (touching s.interfaces q)) (DoMeet (network_of_sketch s)) (meet_gives s) (meet_takes s) (λ place c. (duplicate_told place c, refl))
+      (λ place f. duplicate_clear place f.0))
 
   -- interfaces
   twice_told : (place : At) → IsClash (AreTwice (network_of_sketch s)) (interface_spots routers) place → TableFault document links routers codes.TwiceOnLink place
-  twice_told place c =
-      let (j, k, at, less, meet) = c in
-      let t = interface_spot routers k place at in
-      subst (λ (p : At). TableFault document links routers codes.TwiceOnLink p) (sym t.is) (network_of_sketch s, plan, subst (IsClash (AreTwice (network_of_sketch s)) (interface_spots routers)) t.is c)
+  twice_told (RouterInterface r j) c = (network_of_sketch s, plan, c)
+  twice_told place (j, k, at, less, meet) = let is = (interface_spot routers k place at).is in absurd cc
 
   twice_clear : (place : At) → TableFault document links routers codes.TwiceOnLink place → IsClash (AreTwice (network_of_sketch s)) (interface_spots routers) place
   twice_clear (RouterInterface r j) f = of_plan (λ n. IsClash (AreTwice n) (interface_spots routers) (RouterInterface r j)) f.0 f.1 f.2
@@ -380,19 +368,8 @@ module _ (laws : TextLaws) (document : Members) (links routers : List Data) (s :
 
   twice_find : Finds (IsTold document links routers) (code_rows 2 codes.TwiceOnLink).has (none_found codes.TwiceOnLink (twice_in s.interfaces))
   twice_find =
-      pass_finds (IsTold document links routers) 2 codes.TwiceOnLink (Clashes are_twice s.interfaces) (λ (i : DraftInterface). i.at) s.interfaces (first_clash are_twice [] s.interfaces)
-      (first_clashing are_twice s.interfaces)
-      (λ k m x y less h g. inr (interfaces_ahead k m x y less h g))
-      (λ place c. let (j, y, less, there, meets) = c.so in (
-        twice_told place
-            (j, c.k, interface_at c.k c.x c.at ∙ ap (λ (p : At). Some p) c.stands, less, twice_gives s j c.k y c.x there c.at meets),
-        refl,
-      ))
-      (λ place f.
-      let (j, k, spot, less, meet) = twice_clear place f.0 in
-      let (a, at, stands) = at_interface k place spot in
-      let (b, there) = get_some s.interfaces j (omega (arith, less, slice_get_within s.interfaces k a at)) in
-      record { k = k; x = a; at = at; so = (j, b, less, there, twice_takes s j k b a there at meet); stands = stands })
+      clash_finds (IsTold document links routers) 2 codes.TwiceOnLink (λ (i : DraftInterface). i.at) s.interfaces (interface_spots routers) listed (interface_ahead routers) are_twice
+      (AreTwice (network_of_sketch s)) (twice_gives s) (twice_takes s) (λ place c. (twice_told place c, refl)) (λ place f. twice_clear place f.0)
 
   -- addresses
   abbrev IsAddressClash : Network → At → Type 0
@@ -400,9 +377,8 @@ module _ (laws : TextLaws) (document : Members) (links routers : List Data) (s :
 
   address_told : (place : At) → (k : ℕ) → slice_get (interface_spots routers) k ≡ Some place → IsAddressClash (network_of_sketch s) place
       → TableFault document links routers codes.DuplicateAddress place
-  address_told place k at c =
-      let t = interface_spot routers k place at in
-      subst (λ (p : At). TableFault document links routers codes.DuplicateAddress p) (sym t.is) (network_of_sketch s, plan, subst (IsAddressClash (network_of_sketch s)) t.is c)
+  address_told (RouterInterface r j) k at c = (network_of_sketch s, plan, c)
+  address_told place k at c = let is = (interface_spot routers k place at).is in absurd cc
 
   address_clear : (place : At) → TableFault document links routers codes.DuplicateAddress place → IsAddressClash (network_of_sketch s) place
   address_clear (RouterInterface r j) f = of_plan (λ n. IsAddressClash n (RouterInterface r j)) f.0 f.1 f.2
@@ -480,43 +456,23 @@ module _ (laws : TextLaws) (document : Members) (links routers : List Data) (s :
 
   -- routers
   bare_clear : (place : At) → TableFault document links routers codes.NoInterface place → (r : ℕ) × (place ≡ Router r) × IsBare (network_of_sketch s) r
-  bare_clear (Router r) f = (r, refl, subst (λ (m : Network). IsBare m r) (one_plan laws document f.0 (network_of_sketch s) f.1 plan) f.2)
+  bare_clear (Router r) f = (r, refl, of_plan (λ n. IsBare n r) f.0 f.1 f.2)
   bare_clear place f = absurd f
 
   bare_finds : Finds (IsTold document links routers) (code_rows 4 codes.NoInterface).has (none_found codes.NoInterface (bare_in s.interfaces (length s.routers)))
-  bare_finds = by_search (first_bare s.interfaces 0 (length s.routers)) (search_bare s.interfaces 0 (length s.routers))
-    where
-      as_fault : (o : Found) → (o.pass ≡ 4) × (o.error.code ≡ codes.NoInterface) → IsTold document links routers o → TableFault document links routers codes.NoInterface o.error.place
-      as_fault o same f = subst (λ (d : PlanCode). TableFault document links routers d o.error.place) same.1 f.0
-
-      by_search : (o : Option ℕ) → FoundBare s.interfaces 0 (length s.routers) o
-          → Finds (IsTold document links routers) (code_rows 4 codes.NoInterface).has (none_found codes.NoInterface (option_map (λ r. Router (r + 1)) o))
-      by_search None found = λ o same f.
-          let (r, at, (k, number, less, none)) = bare_clear o.error.place (as_fault o same f) in
-          bare_takes s k (found k (omega arith) (omega arith)) none
-      by_search (Some k) found = (
-        4,
-        ((network_of_sketch s, plan, (k, refl, omega (arith, found.1), bare_gives s k found.2)), refl),
-        (refl, refl),
-        λ o same f before.
-            let (r, at, (m, number, less, none)) = bare_clear o.error.place (as_fault o same f) in
-            let is : o ≡ in_pass 4 codes.NoInterface (Router r) = rw (← at, ← same.1, ← same.0) refl in
-            let mine : Before (ranked (in_pass 4 codes.NoInterface (Router r))) (ranked (in_pass 4 codes.NoInterface (Router (k + 1)))) =
-            subst (λ (e : Found). Before (ranked e) (ranked (in_pass 4 codes.NoInterface (Router (k + 1))))) is before in
-            elim (cases_lt m k) [
-              | inl sooner ↦ bare_takes s m (found.3 m (omega arith) sooner) none
-              | inr ge ↦ not_sooner r (k + 1) (omega arith) mine
-            ],
-      )
-        where
-          not_sooner : (i j : ℕ) → j ≤ i → Before (ranked (in_pass 4 codes.NoInterface (Router i))) (ranked (in_pass 4 codes.NoInterface (Router j))) → ⊥
-          not_sooner i j le (inl b) = omega arith
-          not_sooner i j le (inr (e, inl b)) = omega arith
-          not_sooner i j le (inr (e, inr (e1, inl b))) = omega arith
-          not_sooner i j le (inr (e, inr (e1, inr (e2, inl b)))) = omega arith
-          not_sooner i j le (inr (e, inr (e1, inr (e2, inr (e3, inl b))))) = omega arith
-          not_sooner i j le (inr (e, inr (e1, inr (e2, inr (e3, inr (e4, inl b)))))) = omega arith
-          not_sooner i j le (inr (e, inr (e1, inr (e2, inr (e3, inr (e4, inr (e5, b))))))) = b
+  bare_finds =
+      let test = is_bare s.interfaces in
+      let numbers : List ℕ = numbers_from 0 (length s.routers) in
+      rw (bare_found s.interfaces 0 (length s.routers))
+      (pass_finds (IsTold document links routers) 4 codes.NoInterface (Passes test) (λ (r : ℕ). Router (r + 1)) numbers (find test numbers) (first_passing test numbers)
+      (λ k m x y less h g. inr (inr (refl, inl (omega (arith, (number_at 0 (length s.routers) k x h).0, (number_at 0 (length s.routers) m y g).0)))))
+      (λ place t.
+      let (number, within) = number_at 0 (length s.routers) t.k t.x t.at in
+      (subst (TableFault document links routers codes.NoInterface) t.stands (network_of_sketch s, plan, (t.x, refl, omega arith, bare_gives s t.x t.so)), refl))
+      (λ place f.
+      let (r, is, (k, number, within, none)) = bare_clear place f.0 in
+      let bare = true_from_ne_false (test k) (λ off. bare_takes s k off none) in
+      record { k = k; x = k; at = at_number 0 (length s.routers) k within ∙ ap (λ (m : ℕ). Some m) (omega arith); so = bare; stands = ap Router (sym number) ∙ sym is }))
 
   -- one pass, in the words of all passes
   of_pass : {A : Type 0} (n : ℕ) (c : PlanCode) (r : Result A PlanError) → n < 5 → Finds (IsTold document links routers) (code_rows n c).has r

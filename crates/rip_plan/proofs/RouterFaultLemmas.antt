@@ -1,14 +1,13 @@
 -- What is found of the faults of a document's routers.
 use Rattle.std.proofs.Common.{◌≡◌, ℕ, ◌+◌, ◌-◌, ◌<◌, ◌≤◌, ◌⊎◌, inl, inr, List, [], ◌∷◌, ◌++◌, length, Bool, true, false, not, ◌&&◌, ◌||◌, Option, Some, None, Result, Ok, refl, sym, ap, subst, ◌∙◌, arith, length-append}
 use Rattle.std.proofs.lemmas.Bool.{and_parts, and_from}
-use Rattle.std.specs.Prelude.{slice_get, nat_le, nat_lt, option_map, codes as codes_of, map}
+use Rattle.std.specs.Prelude.{slice_get, nat_le, nat_lt, codes as codes_of, map}
 use Rattle.std.specs.List.{list_any, sum_by}
 use Rattle.std.proofs.lemmas.List.Sums.{sum_by-append}
 use Rattle.rip_plan.specs.declared.error.PlanError.{PlanError}
 use Rattle.std.specs.Str.{bytes_eq}
 use Rattle.std.proofs.lemmas.Option.{none-some, same_Some}
 use Rattle.std.proofs.lemmas.Bool.Decides.{nat_tests}
-use Rattle.std.proofs.lemmas.Slice.Eq.{bytes_eq-Decides}
 use Rattle.toml.specs.Data.{Data, Members, string, get, as_table}
 use Rattle.rip_wire.specs.Address.{address_in}
 use Rattle.rip_wire.specs.Name.{is_name}
@@ -25,23 +24,23 @@ use Rattle.rip_plan.specs.Seats.{is_on}
 use Rattle.rip_plan.specs.Draft.{Sketch, link_step, interface_step, own_step, router_step, is_full, is_outside, has_address}
 use Rattle.rip_plan.specs.PlanOf.{Matched, IsNameOf, items_in, items_under, Placement}
 use Rattle.rip_plan.specs.PlanText.{empty}
-use Rattle.rip_plan.specs.PlanFaults.{nth, IsItem, IsPast, NamesNoLink, IsOutside, HasNoAddress, HasPrefix, HasWrongAlso, HasWrongCost, HasWrongDirect, spots_of, spots_under, place_spots, interface_spots, also_spots, IsOutsideOf}
+use Rattle.rip_plan.specs.PlanFaults.{nth, IsItem, IsPast, NamesNoLink, IsOutside, HasNoAddress, HasPrefix, HasWrongAlso, HasWrongCost, HasWrongDirect, spots_of, spots_under, place_spots, interface_spots, also_spots}
 use Rattle.rip_plan.proofs.FindingLemmas.{Finds, row_at, no_rows, ranked, steps_finds, bind_rows}
 use Rattle.rip_plan.proofs.FaultRowLemmas.{by_code, IsTold, links_rows, guard_told, want_told, both_told, interface_from_address, interface_from_cost, interface_from_link, interface_from_outside, interface_from_limit, interface_rows, interface_starts, interfaces_rows, own_from_via, own_from_prefix, own_from_cost, own_from_link, own_from_limit, own_rows, own_starts, owns_rows, router_lists, router_from_duplicate, router_from_name, router_rows, router_starts, routers_rows, interface_row_item, own_row_item, router_row_within, starts_shorter}
 use Rattle.rip_plan.proofs.FurtherAddressLemmas.{also_here, also_in, also_items, also_under, also_within}
 use Rattle.rip_plan.proofs.OrderLemmas.{starts_high}
 use Rattle.rip_plan.proofs.SpotLemmas.{with_number, nth_from, place_once, interface_once, own_here, under_here, nth_here, item_once, count_of}
-use Rattle.rip_plan.proofs.ItemLemmas.{any_at, any_finds, position_finds, position_none, get_seen, see_got, get_left}
+use Rattle.rip_plan.proofs.ItemLemmas.{any_at, any_finds, position_none, get_seen, see_got, get_left}
 use Rattle.rip_plan.proofs.TableLemmas.{HasInterfaceFields, IsTextIf, router_table, interface_texts, own_texts, addresses_told, addresses_clear, cost_fits, direct_fits, direct_is, direct_within, gateway_fits, gateway_is, link_is, map_none, cost_is, cost_within, cost_told, direct_told, gateway_told, IsReadOf, addresses_read}
 use Rattle.std.proofs.lemmas.List.{map-append}
 use Rattle.rip_plan.proofs.MatchingLemmas.{matched_left, matched_length, matched_right}
-use Rattle.rip_plan.proofs.OnePlanLemmas.{cost_same, text_same}
+use Rattle.rip_plan.proofs.OnePlanLemmas.{text_same}
 use Rattle.rip_plan.proofs.PlanMatchLemmas.{TablesRead, placement, interfaces_added, owns_added, stood, tables_read}
 use Rattle.rip_plan.proofs.PlanPartLemmas.{also_flat, also_numbered, also_sum, link_prefix, names_differ, attached_not, inside_not, known_not, prefix_place}
 use Rattle.rip_plan.proofs.TakenStepLemmas.{room_for, with_router}
 use Rattle.rip_plan.proofs.LookupLemmas.{name_same, on_seat}
 use Rattle.rip_plan.proofs.LinkFaultLemmas.{links_find, table_here, table_same, misnamed_told, misnamed_clear, again_told, again_clear}
-use Rattle.rip_plan.proofs.TextLemmas.{TextLaws, first_named, address_is, prefix_is, no_address, no_prefix, one_address, one_prefix}
+use Rattle.rip_plan.proofs.TextLemmas.{TextLaws, first_named, address_is, prefix_is, no_address, no_prefix, one_prefix}
 use Rattle.rip_plan.specs.Texts.{IsAddressText, IsPrefixText}
 use Rattle.rip_plan.specs.DocumentTables.{IsRouterTable, IsInterfaceTable, IsOwnTable}
 use Rattle.rip_plan.proofs.DocumentTableLemmas.{router_told, router_not, interface_told, interface_not, own_told, own_not}

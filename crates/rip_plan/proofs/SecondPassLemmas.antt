@@ -1,9 +1,9 @@
 -- What the passes over addresses and over routers find.
-use Rattle.std.proofs.Common.{◌≡◌, ℕ, zero, suc, ◌+◌, ◌<◌, ◌≤◌, inl, inr, List, [], map, Bool, true, false, cond, Option, Some, None, refl, sym, ◌∙◌, ap, arith, subst}
+use Rattle.std.proofs.Common.{◌≡◌, ℕ, zero, suc, ◌+◌, ◌<◌, List, [], ◌∷◌, map, true, Option, Some, None, refl, sym, ◌∙◌, ap, arith, subst}
 use Rattle.rip_plan.proofs.FirstFoundLemmas.{Clashes, FirstSo, first_clashing}
-use Rattle.std.specs.Prelude.{slice_get, option_and_then, option_map, unwrap_or, ◌==◌}
+use Rattle.std.specs.Prelude.{find, slice_get, option_and_then, option_map, unwrap_or, ◌==◌}
 use Rattle.std.specs.List.{list_any}
-use Rattle.std.proofs.lemmas.Bool.{cases_lt}
+use Rattle.std.proofs.lemmas.Option.{none-some, same_Some}
 use Rattle.std.proofs.lemmas.Bool.Decides.{nat_tests}
 use Rattle.rip_plan.specs.declared.error.At.{At}
 use Rattle.rip_plan.specs.declared.error.At.TheVariants.{Text}
@@ -45,37 +45,23 @@ taken_address interfaces also = by_found (first_clash have_one_address [] (held 
 
 -- ---- each router has an interface
 
--- no router from k on that has no interface, or the first
-abbrev pub FoundBare : List DraftInterface → ℕ → ℕ → Option ℕ → Type 0
-FoundBare is k n None = (m : ℕ) → k ≤ m → m < k + n → is_bare is m ≡ false
-FoundBare is k n (Some r) = (k ≤ r) × (r < k + n) × (is_bare is r ≡ true) × ((m : ℕ) → k ≤ m → m < r → is_bare is m ≡ false)
+abbrev pub numbers_from : ℕ → ℕ → List ℕ
+numbers_from k zero = []
+numbers_from k (suc n) = k ∷ numbers_from (k + 1) n
 
-pub search_bare : (is : List DraftInterface) (k n : ℕ) → FoundBare is k n (first_bare is k n)
-search_bare is k zero = λ m le less. absurd (omega arith)
-search_bare is k (suc n) = by_test (is_bare is k) refl (first_bare is (k + 1) n) (search_bare is (k + 1) n)
-  where
-    same_bare : (m : ℕ) → k ≡ m → is_bare is k ≡ false → is_bare is m ≡ false
-    same_bare m e h = ap (is_bare is) (sym e) ∙ h
+pub number_at : (k n m r : ℕ) → slice_get (numbers_from k n) m ≡ Some r → (r ≡ k + m) × (m < n)
+number_at k zero m r h = absurd (none-some r h)
+number_at k (suc n) zero r h = let same : k ≡ r = same_Some k r h in (omega arith, omega arith)
+number_at k (suc n) (suc m) r h = let later = number_at (k + 1) n m r h in (omega (arith, later.0), omega (arith, later.1))
 
-    by_test : (b : Bool) → is_bare is k ≡ b → (o : Option ℕ) → FoundBare is (k + 1) n o → FoundBare is k (suc n) (cond b (Some k) o)
-    by_test true e o found = (omega arith, omega arith, e, λ m le less. absurd (omega arith))
-    by_test false e None found = λ m le less.
-        elim (cases_lt k m) [
-          | inl more ↦ found m (omega arith) (omega arith)
-          | inr here ↦ ap (is_bare is) (omega arith) ∙ e
-        ]
-    by_test false e (Some r) found =
-        let low : k + 1 ≤ r = found.0 in
-        let high : r < k + 1 + n = found.1 in (
-          omega arith,
-          omega arith,
-          found.2,
-          λ m le less.
-              elim (cases_lt k m) [
-                | inl more ↦ found.3 m (omega arith) less
-                | inr here ↦ same_bare m (omega arith) e
-              ],
-        )
+pub at_number : (k n m : ℕ) → m < n → slice_get (numbers_from k n) m ≡ Some (k + m)
+at_number k zero m h = absurd (omega arith)
+at_number k (suc n) zero h = ap (λ (r : ℕ). Some r) (omega arith)
+at_number k (suc n) (suc m) h = at_number (k + 1) n m (omega arith) ∙ ap (λ (r : ℕ). Some r) (omega arith)
+
+pub bare_found : (is : List DraftInterface) (k n : ℕ) → first_bare is k n ≡ find (is_bare is) (numbers_from k n)
+bare_found is k zero = refl
+bare_found is k (suc n) = rw (bare_found is (k + 1) n) refl
 
 -- two seats touch a router
 pub common : (rs ss : List ℕ) (r : ℕ) → list_any (λ s. s == r) rs ≡ true → list_any (λ s. s == r) ss ≡ true → have_common rs ss ≡ true

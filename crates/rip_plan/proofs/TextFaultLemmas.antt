@@ -1,11 +1,11 @@
 -- The first fault of a text is the one that is told, and a text that is read has none.
 use Rattle.std.proofs.Common.{◌≡◌, ◌≢◌, ℕ, ◌<◌, ◌≤◌, ◌⊎◌, ◌↔◌, inl, inr, List, [], ◌∷◌, length, Bool, true, false, cond, not, ◌||◌, Option, Some, None, Result, Ok, Err, refl, sym, ap, subst, ◌∙◌, arith}
 use Rattle.std.proofs.lemmas.Bool.{or_parts, not-false}
-use Rattle.std.specs.Prelude.{pos, negsuc, nat_lt, ◌==◌, codes as codes_of}
+use Rattle.std.specs.Prelude.{pos, nat_lt, ◌==◌, codes as codes_of}
 use Rattle.std.specs.Result.{result_err}
 use Rattle.std.proofs.lemmas.Option.{none-some, same_Some}
 use Rattle.std.proofs.lemmas.Bool.Decides.{nat_tests}
-use Rattle.toml.specs.Data.{Data, Members, get_member, table, string, integer, float, boolean, datetime, array}
+use Rattle.toml.specs.Data.{Data, Members, get_member, table, integer}
 use Rattle.rip_plan.specs.declared.error.PlanCode.{PlanCode}
 use Rattle.rip_plan.specs.declared.error.PlanCode.TheVariants as codes
 use Rattle.rip_plan.specs.declared.error.PlanError.{PlanError}
