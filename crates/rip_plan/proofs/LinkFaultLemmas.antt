@@ -23,7 +23,7 @@ use Rattle.rip_plan.proofs.FindingLemmas.{Finds, no_rows, steps_finds}
 use Rattle.rip_plan.proofs.FaultRowLemmas.{by_code, IsTold, guard_told, want_told, prefix_from_limit, prefix_from_prefix, prefix_rows, prefix_starts, prefixes_rows, link_from_duplicate, link_from_name, link_rows, link_starts, links_rows, prefix_row_item, link_row_within}
 use Rattle.rip_plan.proofs.SpotLemmas.{nth_from, place_once, prefix_here, nth_here, item_once, count_of}
 use Rattle.rip_plan.proofs.ItemLemmas.{any_at, any_finds, get_split, get_left}
-use Rattle.rip_plan.proofs.TableLemmas.{text_is, link_table}
+use Rattle.rip_plan.proofs.TableLemmas.{text_is}
 use Rattle.rip_plan.proofs.MatchingLemmas.{matched_left, matched_right}
 use Rattle.rip_plan.proofs.OnePlanLemmas.{text_same}
 use Rattle.rip_plan.proofs.PlanMatchLemmas.{links_added, prefixes_added, stood}
@@ -32,7 +32,7 @@ use Rattle.rip_plan.proofs.LookupLemmas.{name_same}
 use Rattle.rip_plan.proofs.TextLemmas.{TextLaws, prefix_is, no_prefix}
 use Rattle.rip_plan.specs.Texts.{IsPrefixText}
 use Rattle.rip_plan.specs.DocumentTables.{IsLinkTable, IsString}
-use Rattle.rip_plan.proofs.DocumentTableLemmas.{link_told, link_not, string_not}
+use Rattle.rip_plan.proofs.DocumentTableLemmas.{link_not, link_table, string_not}
 
 -- ---- names
 
@@ -162,7 +162,7 @@ module _ (document : Members) (links routers done : List Data) (d : Data) (rest 
       let named : Matched IsNameOf u.links done = subst (λ (l : List (List ℕ)). Matched IsNameOf l done) (sym names) added.named in
       want_told document links routers codes.Key (Link i) (as_table d &> link_fields) (link_from_name i) (by_code (Link i) codes.Key codes.Name refl (omega arith)) _
       (λ none. (d, table_here laws links done d rest split, link_not d none))
-      (λ f is h. h.2 (subst IsLinkTable (sym (table_same laws links done d rest split h.0 h.1)) (link_told d f is)))
+      (λ f is h. h.2 (subst IsLinkTable (sym (table_same laws links done d rest split h.0 h.1)) (link_table d f.0 f.1 is).shape))
       (λ f is.
       let table = link_table d f.0 f.1 is in
       guard_told document links routers (not (is_name f.0)) codes.Name (Link i) (link_from_duplicate i) (by_code (Link i) codes.Name codes.DuplicateName refl (omega arith)) _

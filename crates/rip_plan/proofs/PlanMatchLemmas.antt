@@ -28,7 +28,8 @@ use Rattle.std.specs.List.{sum_by}
 use Rattle.std.proofs.lemmas.List.Sums.{sum_by_push}
 use Rattle.rip_plan.specs.PlanFaults.{interface_spots, place_spots, spots_of, spots_under}
 use Rattle.rip_plan.specs.declared.error.At.{At}
-use Rattle.rip_plan.proofs.TableLemmas.{addresses_are, flag_if_is, flag_meant, link_table, interface_table, own_table, router_table, then_some, chosen, items_there, text_is}
+use Rattle.rip_plan.proofs.DocumentTableLemmas.{interface_table, link_table, own_table, root_table, router_table}
+use Rattle.rip_plan.proofs.TableLemmas.{addresses_are, text_is}
 use Rattle.rip_plan.proofs.TextLemmas.{TextLaws, address_is, prefix_is, first_named}
 
 abbrev pub placement : DraftPlace → Placement
@@ -295,34 +296,6 @@ routers_added laws k (x ∷ xs) s t h =
     }
 
 -- ---- the document
-
-pub some_items_same : (xs ys : List Data) → some_items xs ≡ Some ys → xs ≡ ys
-some_items_same [] ys h = absurd (none-some ys h)
-some_items_same (x ∷ xs) ys h = same_Some (x ∷ xs) ys h
-
-pub record IsRoot (doc : Members) (links routers : List Data) (poison : Bool) : Type 0 where
-  pub has_links : HasItems (codes_of "link") (table doc) links
-  pub has_routers : HasItems (codes_of "router") (table doc) routers
-  pub has_poison : IsPoisonOf true (table doc) poison
-
-pub root_table : (doc : Members) (links routers : List Data) (poison : Bool) → root_fields doc ≡ Some (links, routers, poison) → IsRoot doc links routers poison
-unfolding root_fields
-root_table doc links routers poison h =
-    let root : List Data × List Data × Bool = (links, routers, poison) in
-    let h1 = chosen (has_only root_keys doc) _ root h in
-    let (a, first, h2) = then_some (items_at (codes_of "link") doc &> some_items) _ root h1 in
-    let (b, second, h3) = then_some (items_at (codes_of "router") doc &> some_items) _ root h2 in
-    let (p, third, h4) = then_some (flag_if (get_member (codes_of "poison") doc)) _ root h3 in
-    let same = same_Some (a, b, unwrap_or p true) root h4 in
-    let (c, given, some) = then_some (items_at (codes_of "link") doc) some_items a first in
-    let (d, given', some') = then_some (items_at (codes_of "router") doc) some_items b second in
-    record {
-      has_links = items_there (get_member (codes_of "link") doc) links (given ∙ ap (λ (xs : List Data). Some xs) (some_items_same c a some ∙ ap (λ (f : List Data × List Data × Bool). f.0) same));
-      has_routers = items_there (get_member (codes_of "router") doc) routers
-          (given' ∙ ap (λ (xs : List Data). Some xs) (some_items_same d b some' ∙ ap (λ (f : List Data × List Data × Bool). f.1) same));
-      has_poison = subst (IsPoisonOf true (table doc)) (ap (λ (f : List Data × List Data × Bool). f.2) same)
-          (flag_meant (get_member (codes_of "poison") doc) p true (flag_if_is (get_member (codes_of "poison") doc) p third));
-    }
 
 places_match : (s : Sketch) → Matched (IsPlaceOf (network_of_sketch s)) (network_of_sketch s).places (map placement s.places)
 places_match s =

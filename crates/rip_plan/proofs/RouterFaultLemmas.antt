@@ -31,7 +31,7 @@ use Rattle.rip_plan.proofs.FurtherAddressLemmas.{also_here, also_in, also_items,
 use Rattle.rip_plan.proofs.OrderLemmas.{starts_high}
 use Rattle.rip_plan.proofs.SpotLemmas.{with_number, nth_from, place_once, interface_once, own_here, under_here, nth_here, item_once, count_of}
 use Rattle.rip_plan.proofs.ItemLemmas.{any_at, any_finds, position_none, get_seen, see_got, get_left}
-use Rattle.rip_plan.proofs.TableLemmas.{HasInterfaceFields, IsTextIf, router_table, interface_texts, own_texts, addresses_told, addresses_clear, cost_fits, direct_fits, direct_is, direct_within, gateway_fits, gateway_is, link_is, map_none, cost_is, cost_within, cost_told, direct_told, gateway_told, IsReadOf, addresses_read}
+use Rattle.rip_plan.proofs.TableLemmas.{IsTextIf, addresses_told, addresses_clear, cost_fits, direct_fits, direct_is, direct_within, gateway_fits, gateway_is, link_is, map_none, cost_is, cost_within, cost_told, direct_told, gateway_told, IsReadOf, addresses_read}
 use Rattle.std.proofs.lemmas.List.{map-append}
 use Rattle.rip_plan.proofs.MatchingLemmas.{matched_left, matched_length, matched_right}
 use Rattle.rip_plan.proofs.OnePlanLemmas.{text_same}
@@ -43,7 +43,7 @@ use Rattle.rip_plan.proofs.LinkFaultLemmas.{links_find, table_here, table_same, 
 use Rattle.rip_plan.proofs.TextLemmas.{TextLaws, first_named, address_is, prefix_is, no_address, no_prefix, one_prefix}
 use Rattle.rip_plan.specs.Texts.{IsAddressText, IsPrefixText}
 use Rattle.rip_plan.specs.DocumentTables.{IsRouterTable, IsInterfaceTable, IsOwnTable}
-use Rattle.rip_plan.proofs.DocumentTableLemmas.{router_told, router_not, interface_told, interface_not, own_told, own_not}
+use Rattle.rip_plan.proofs.DocumentTableLemmas.{HasInterfaceFields, interface_not, interface_texts, own_not, own_texts, router_not, router_table}
 
 past_most : (n : ℕ) → nat_le 1024 n ≡ false → 1024 ≤ n → ⊥
 past_most n e le = grind (arith, nat_tests)
@@ -83,7 +83,7 @@ module _ (document : Members) (links routers done : List Data) (d : Data) (rest 
   own_finds laws front x back v items named count =
       want_told document links routers codes.Key (RouterOwn r j) (as_table x &> own_fields) (own_from_via r j) (by_code (RouterOwn r j) codes.Key codes.Address refl (omega arith)) _
       (λ none. (x, item, own_not x none))
-      (λ f is h. h.2 (subst IsOwnTable (sym (one h.0 h.1)) (own_told x f is)))
+      (λ f is h. h.2 (subst IsOwnTable (sym (one h.0 h.1)) (own_texts x f is).shape))
       (λ f is.
       let fields = own_texts x f is in
       want_told document links routers codes.Address (RouterOwn r j) (address_if f.via) (own_from_prefix r j) (by_code (RouterOwn r j) codes.Address codes.Prefix refl (omega arith)) _
@@ -249,7 +249,7 @@ module _ (document : Members) (links routers done : List Data) (d : Data) (rest 
       want_told document links routers codes.Key (RouterInterface r j) (as_table x &> interface_fields) (interface_from_address r j)
       (by_code (RouterInterface r j) codes.Key codes.Address refl (omega arith)) _
       (λ none. (x, item, interface_not x none))
-      (λ f is h. h.2 (subst IsInterfaceTable (sym (one h.0 h.1)) (interface_told x f is)))
+      (λ f is h. h.2 (subst IsInterfaceTable (sym (one h.0 h.1)) (interface_texts x f is).shape))
       (λ f is.
       let fields = interface_texts x f is in
       both_told document links routers codes.Address (RouterInterface r j) (address_in f.address) (λ a. addresses_in f.also) (interface_from_cost r j)
@@ -419,7 +419,7 @@ module _ (document : Members) (links routers done : List Data) (d : Data) (rest 
       let named = (tables_read laws links done poison w u first second).router_names in
       want_told document links routers codes.Key (Router r) (as_table d &> router_fields) (router_from_name r) (by_code (Router r) codes.Key codes.Name refl (omega arith)) _
       (λ none. (d, table_here laws routers done d rest split, router_not d none))
-      (λ f is h. h.2 (subst IsRouterTable (sym (table_same laws routers done d rest split h.0 h.1)) (router_told d f is)))
+      (λ f is h. h.2 (subst IsRouterTable (sym (table_same laws routers done d rest split h.0 h.1)) (router_table d f.0 f.1 f.2 is).shape))
       (λ f is.
       let table = router_table d f.0 f.1 f.2 is in
       guard_told document links routers (not (is_name f.0)) codes.Name (Router r) (router_from_duplicate r) (by_code (Router r) codes.Name codes.DuplicateName refl (omega arith)) _

@@ -23,8 +23,8 @@ pub then_some : {A B : Type 0} (o : Option A) (f : A → Option B) (y : B) → (
 then_some None f y h = absurd (none-some y h)
 then_some (Some x) f y h = (x, refl, h)
 
-pub chosen : {A : Type 0} (b : Bool) (o : Option A) (x : A) → cond b o None ≡ Some x → o ≡ Some x
-chosen true o x h = h
+pub chosen : {A : Type 0} (b : Bool) (o : Option A) (x : A) → cond b o None ≡ Some x → (b ≡ true) × (o ≡ Some x)
+chosen true o x h = (refl, h)
 chosen false o x h = absurd (none-some x h)
 
 pub table_is : (d : Data) (ms : Members) → as_table d ≡ Some ms → d ≡ table ms
@@ -51,11 +51,11 @@ pub items_there : (o : Option Data) (xs : List Data) → option_map list_of (opt
 items_there None xs h = absurd (none-some xs h)
 items_there (Some d) xs h = let (items, is, same) = array_is d xs h in (items, ap (λ (x : Data). Some x) is, same)
 
-items_given : (o : Option Data) (xs : List Data) → items_if o ≡ Some xs → items_in o ≡ xs
+pub items_given : (o : Option Data) (xs : List Data) → items_if o ≡ Some xs → items_in o ≡ xs
 items_given None xs h = same_Some [] xs h
 items_given (Some d) xs h = let (items, is, same) = array_is d xs h in rw is same
 
-items_are : (o : Option Data) (xs : List Data) → option_map list_of (option_and_then as_array o) ≡ Some xs → items_in o ≡ xs
+pub items_are : (o : Option Data) (xs : List Data) → option_map list_of (option_and_then as_array o) ≡ Some xs → items_in o ≡ xs
 items_are o xs h = let (items, is, same) = items_there o xs h in rw is same
 
 -- an integer that stands there, or the one that is meant where nothing stands
@@ -113,114 +113,9 @@ abbrev pub IsTextIf : Option Data → Option (List ℕ) → Type 0
 IsTextIf o None = o ≡ None
 IsTextIf o (Some t) = o ≡ Some (string t)
 
-text_if_is : (o : Option Data) (t : Option (List ℕ)) → text_if o ≡ Some t → IsTextIf o t
+pub text_if_is : (o : Option Data) (t : Option (List ℕ)) → text_if o ≡ Some t → IsTextIf o t
 text_if_is None t h = let same : None ≡ t = same_Some None t h in subst (IsTextIf None) same refl
 text_if_is (Some d) t h = let (s, k, same) = map_some (as_str d) t h in subst (IsTextIf (Some d)) same (ap (λ (x : Data). Some x) (text_is d s k))
-
-pub record IsLinkTable (d : Data) (name : List ℕ) (prefixes : List Data) : Type 0 where
-  pub named : IsNameOf name d
-  pub prefixes_are : items_in (get (codes_of "prefixes") d) ≡ prefixes
-
-pub link_table : (d : Data) (name : List ℕ) (prefixes : List Data) → (as_table d &> link_fields) ≡ Some (name, prefixes) → IsLinkTable d name prefixes
-unfolding link_fields
-link_table d name prefixes h =
-    let (ms, is, h1) = then_some (as_table d) link_fields (name, prefixes) h in
-    let h2 = chosen (has_only link_keys ms) _ (name, prefixes) h1 in
-    let (a, first, h3) = then_some (text_at (codes_of "name") ms) _ (name, prefixes) h2 in
-    let (b, second, h4) = then_some (items_at (codes_of "prefixes") ms) _ (name, prefixes) h3 in
-    let same = same_Some (a, b) (name, prefixes) h4 in
-    let there : d ≡ table ms = table_is d ms is in
-    rw there (record {
-      named = text_there (get_member (codes_of "name") ms) name (first ∙ ap (λ (f : List ℕ × List Data). Some f.0) same);
-      prefixes_are = items_are (get_member (codes_of "prefixes") ms) prefixes (second ∙ ap (λ (f : List ℕ × List Data). Some f.1) same);
-    })
-
--- what an interface's table holds
-pub record HasInterfaceFields (d : Data) (f : InterfaceFields) : Type 0 where
-  pub has_link : HasText (codes_of "link") d f.link
-  pub has_address : HasText (codes_of "address") d f.address
-  pub cost : integer_if (get (codes_of "cost") d) ≡ Some f.cost
-  pub direct : integer_if (get (codes_of "direct") d) ≡ Some f.direct
-  pub also_are : items_in (get (codes_of "also") d) ≡ f.also
-  pub also_texts : list_all (λ x. is_some (as_str x)) f.also ≡ true
-  pub poison : IsFlagIf (get (codes_of "poison") d) f.poison
-
-pub interface_texts : (d : Data) (f : InterfaceFields) → (as_table d &> interface_fields) ≡ Some f → HasInterfaceFields d f
-unfolding interface_fields
-interface_texts d f h =
-    let (ms, is, h1) = then_some (as_table d) interface_fields f h in
-    let h2 = chosen (has_only interface_keys ms) _ f h1 in
-    let (a, first, h3) = then_some (text_at (codes_of "link") ms) _ f h2 in
-    let (b, second, h4) = then_some (text_at (codes_of "address") ms) _ f h3 in
-    let (c, third, h5) = then_some (integer_if (get_member (codes_of "cost") ms)) _ f h4 in
-    let (e, fourth, h6) = then_some (integer_if (get_member (codes_of "direct") ms)) _ f h5 in
-    let (g, fifth, h7) = then_some (items_if (get_member (codes_of "also") ms) &> texts_of) _ f h6 in
-    let (xs, given, texts) = then_some (items_if (get_member (codes_of "also") ms)) texts_of g fifth in
-    let (p, sixth, h8) = then_some (flag_if (get_member (codes_of "poison") ms)) _ f h7 in
-    let given_fields : InterfaceFields = record { link = a; address = b; cost = c; direct = e; also = g; poison = p } in
-    let same : given_fields ≡ f = same_Some given_fields f h8 in
-    let all = cond_some (list_all (λ (x : Data). is_some (as_str x)) xs) xs g texts in
-    let there : d ≡ table ms = table_is d ms is in
-    subst (λ (x : Data). HasInterfaceFields x f) (sym there) (subst (HasInterfaceFields (table ms)) same (record {
-      has_link = text_there (get_member (codes_of "link") ms) a first;
-      has_address = text_there (get_member (codes_of "address") ms) b second;
-      cost = third;
-      direct = fourth;
-      also_are = items_given (get_member (codes_of "also") ms) g (given ∙ ap (λ (l : List Data). Some l) all.1);
-      also_texts = ap (list_all (λ (x : Data). is_some (as_str x))) (sym all.1) ∙ all.0;
-      poison = flag_if_is (get_member (codes_of "poison") ms) p sixth;
-    }))
-
-pub record IsInterfaceTable (d : Data) (f : InterfaceFields) (c e : ℕ) : Type 0 where
-  pub has : HasInterfaceFields d f
-  pub cost : IsCostOf d c
-  pub direct : IsDirectOf d c e
-  pub poisons : (other : Bool) → IsPoisonOf other d (unwrap_or f.poison other)
-
-pub interface_table : (d : Data) (f : InterfaceFields) (c e : ℕ) → (as_table d &> interface_fields) ≡ Some f → cost_of f.cost ≡ Some c → direct_of c f.direct ≡ Some e → IsInterfaceTable d f c e
-interface_table d f c e h costs directs =
-    let has = interface_texts d f h in
-    record {
-      has = has;
-      cost = cost_is (get (codes_of "cost") d) f.cost c has.cost costs;
-      direct = direct_is (get (codes_of "direct") d) c f.direct e has.direct directs;
-      poisons = λ other. flag_meant (get (codes_of "poison") d) f.poison other has.poison;
-    }
-
--- what an own prefix's table holds
-pub record HasOwnFields (d : Data) (f : OwnFields) : Type 0 where
-  pub has_prefix : HasText (codes_of "prefix") d f.prefix
-  pub cost : integer_if (get (codes_of "cost") d) ≡ Some f.cost
-  pub kept : IsKeptOf d f.kept
-  pub link : IsTextIf (get (codes_of "link") d) f.link
-  pub via : IsTextIf (get (codes_of "via") d) f.via
-
-pub own_texts : (d : Data) (f : OwnFields) → (as_table d &> own_fields) ≡ Some f → HasOwnFields d f
-unfolding own_fields
-own_texts d f h =
-    let (ms, is, h1) = then_some (as_table d) own_fields f h in
-    let h2 = chosen (has_only own_keys ms) _ f h1 in
-    let (a, first, h3) = then_some (text_at (codes_of "prefix") ms) _ f h2 in
-    let (b, second, h4) = then_some (integer_if (get_member (codes_of "cost") ms)) _ f h3 in
-    let (c, third, h5) = then_some (flag_if (get_member (codes_of "kept") ms)) _ f h4 in
-    let (e, fourth, h6) = then_some (text_if (get_member (codes_of "link") ms)) _ f h5 in
-    let (g, fifth, h7) = then_some (text_if (get_member (codes_of "via") ms)) _ f h6 in
-    let given_fields : OwnFields = record { prefix = a; cost = b; kept = unwrap_or c false; link = e; via = g } in
-    let same : given_fields ≡ f = same_Some given_fields f h7 in
-    let there : d ≡ table ms = table_is d ms is in
-    subst (λ (x : Data). HasOwnFields x f) (sym there) (subst (HasOwnFields (table ms)) same (record {
-      has_prefix = text_there (get_member (codes_of "prefix") ms) a first;
-      cost = second;
-      kept = flag_meant (get_member (codes_of "kept") ms) c false (flag_if_is (get_member (codes_of "kept") ms) c third);
-      link = text_if_is (get_member (codes_of "link") ms) e fourth;
-      via = text_if_is (get_member (codes_of "via") ms) g fifth;
-    }))
-
-pub record IsOwnTable (d : Data) (links : List (List ℕ)) (f : OwnFields) (own : OwnPrefix) : Type 0 where
-  pub has : HasOwnFields d f
-  pub cost : IsCostOf d own.cost
-  pub link : IsLinkOf links d own.link
-  pub via : IsGatewayOf d own.via
 
 pub link_is : (links : List (List ℕ)) (d : Data) (name : Option (List ℕ)) (link : Option ℕ) → IsTextIf (get (codes_of "link") d) name → link_if name links ≡ Some link → IsLinkOf links d link
 link_is links d None link has h = let same : None ≡ link = same_Some None link h in subst (IsLinkOf links d) same has
@@ -229,38 +124,6 @@ link_is links d (Some name) link has h = let (l, e, same) = map_some (number_of_
 pub gateway_is : (laws : TextLaws) (d : Data) (text : Option (List ℕ)) (via : Option ℕ) → IsTextIf (get (codes_of "via") d) text → address_if text ≡ Some via → IsGatewayOf d via
 gateway_is laws d None via has h = let same : None ≡ via = same_Some None via h in subst (IsGatewayOf d) same has
 gateway_is laws d (Some text) via has h = let (a, e, same) = map_some (address_in text) via h in subst (IsGatewayOf d) same (text, has, address_is laws text a e)
-
-pub own_table : (laws : TextLaws) (d : Data) (links : List (List ℕ)) (f : OwnFields) (own : OwnPrefix)
-    → (as_table d &> own_fields) ≡ Some f → cost_of f.cost ≡ Some own.cost → link_if f.link links ≡ Some own.link → address_if f.via ≡ Some own.via → IsOwnTable d links f own
-own_table laws d links f own h costs known gateway =
-    let has = own_texts d f h in
-    record {
-      has = has;
-      cost = cost_is (get (codes_of "cost") d) f.cost own.cost has.cost costs;
-      link = link_is links d f.link own.link has.link known;
-      via = gateway_is laws d f.via own.via has.via gateway;
-    }
-
-pub record IsRouterTable (d : Data) (name : List ℕ) (interfaces owns : List Data) : Type 0 where
-  pub named : IsNameOf name d
-  pub interfaces_are : items_in (get (codes_of "interface") d) ≡ interfaces
-  pub owns_are : items_in (get (codes_of "own") d) ≡ owns
-
-pub router_table : (d : Data) (name : List ℕ) (interfaces owns : List Data) → (as_table d &> router_fields) ≡ Some (name, interfaces, owns) → IsRouterTable d name interfaces owns
-unfolding router_fields
-router_table d name interfaces owns h =
-    let (ms, is, h1) = then_some (as_table d) router_fields (name, interfaces, owns) h in
-    let h2 = chosen (has_only router_keys ms) _ (name, interfaces, owns) h1 in
-    let (a, first, h3) = then_some (text_at (codes_of "name") ms) _ (name, interfaces, owns) h2 in
-    let (b, second, h4) = then_some (items_at (codes_of "interface") ms) _ (name, interfaces, owns) h3 in
-    let (c, third, h5) = then_some (items_if (get_member (codes_of "own") ms)) _ (name, interfaces, owns) h4 in
-    let same = same_Some (a, b, c) (name, interfaces, owns) h5 in
-    let there : d ≡ table ms = table_is d ms is in
-    rw there (record {
-      named = text_there (get_member (codes_of "name") ms) name (first ∙ ap (λ (f : List ℕ × List Data × List Data). Some f.0) same);
-      interfaces_are = items_are (get_member (codes_of "interface") ms) interfaces (second ∙ ap (λ (f : List ℕ × List Data × List Data). Some f.1) same);
-      owns_are = items_given (get_member (codes_of "own") ms) owns (third ∙ ap (λ (f : List ℕ × List Data × List Data). Some f.2) same);
-    })
 
 -- ---- an integer that is given, and is none that may stand there
 

@@ -28,11 +28,11 @@ use Rattle.rip_plan.proofs.LinkFaultLemmas.{links_find}
 use Rattle.rip_plan.proofs.OnePlanLemmas.{items_same}
 use Rattle.rip_plan.proofs.OrderLemmas.{before_not, before_trans, before_or}
 use Rattle.rip_plan.proofs.PassFaultLemmas.{passes_find}
-use Rattle.rip_plan.proofs.PlanMatchLemmas.{root_table, document_matches, tables_read}
+use Rattle.rip_plan.proofs.PlanMatchLemmas.{document_matches, tables_read}
 use Rattle.rip_plan.proofs.RouterFaultLemmas.{routers_find}
 use Rattle.rip_plan.proofs.TextLemmas.{TextLaws}
 use Rattle.rip_plan.specs.DocumentTables.{IsRoot}
-use Rattle.rip_plan.proofs.DocumentTableLemmas.{root_told, root_not}
+use Rattle.rip_plan.proofs.DocumentTableLemmas.{root_not, root_table}
 
 -- ---- the tables
 
@@ -204,7 +204,7 @@ module _ (laws : TextLaws) (bytes : List ℕ) (document : Members) (short : leng
       (λ none. inl ((document, text, root_not document none), refl))
       (λ r is f.
       let h = in_table bytes 0 codes.Key Text (λ a. a) f in
-      h.2 (subst IsRoot (sym (same_document bytes document h.0 reads h.1)) (root_told document r is)))
+      h.2 (subst IsRoot (sym (same_document bytes document h.0 reads h.1)) (root_table document r.0 r.1 r.2 is).shape))
       (λ r is.
       guard_finds (IsTextFault bytes) (nat_lt 512 (length r.0) || nat_lt 128 (length r.1)) (row_at codes.Limit Text) table_rows (inr (refl, inl (omega arith))) _
       (λ over. inl (inr (document, r.0, r.1, tables r.0 r.1 r.2 is, over_told r.0 r.1 over), refl))

@@ -30,7 +30,7 @@ use Rattle.rip_plan.proofs.TextFaultLemmas.{one_astray, one_fault, one_tables, s
 use Rattle.rip_plan.proofs.TextLemmas.{TextLaws}
 use Rattle.rip_plan.specs.Texts.{IsAddressText, IsPrefixText, IsNoPrefix}
 use Rattle.rip_plan.specs.DocumentTables.{IsLinkTable, IsRouterTable, IsInterfaceTable, IsOwnTable, IsRoot, IsString}
-use Rattle.rip_plan.proofs.DocumentTableLemmas.{link_told, link_not, router_told, router_not, interface_told, interface_not, own_not, by_table, by_root, own_told}
+use Rattle.rip_plan.proofs.DocumentTableLemmas.{by_root, by_table, interface_not, interface_texts, link_not, link_table, own_not, own_texts, router_not, router_table}
 
 -- ---- lists
 
@@ -280,11 +280,11 @@ module _ (bytes : List ℕ) (none : (e : PlanError) → IsFault bytes e → ⊥)
     its_tables = record { text = text; has_links = plan.has_links; has_routers = plan.has_routers }
 
     its_links : All IsLinkTable plan.links
-    its_links = all_from IsLinkTable plan.links (λ k d at. by_table IsLinkTable link_fields link_told d
+    its_links = all_from IsLinkTable plan.links (λ k d at. by_table IsLinkTable link_fields (λ e f h. (link_table e f.0 f.1 h).shape) d
         (λ lacks. none_at codes.Key (Link (suc k)) (document, plan.links, plan.routers, its_tables, (d, at, lacks))) (link_not d))
 
     its_routers : All IsRouterTable plan.routers
-    its_routers = all_from IsRouterTable plan.routers (λ k d at. by_table IsRouterTable router_fields router_told d
+    its_routers = all_from IsRouterTable plan.routers (λ k d at. by_table IsRouterTable router_fields (λ e f h. (router_table e f.0 f.1 f.2 h).shape) d
         (λ lacks. none_at codes.Key (Router (suc k)) (document, plan.links, plan.routers, its_tables, (d, at, lacks))) (router_not d))
 
     its_interfaces : All (λ (at : ℕ × Data). IsInterfaceTable at.1) (items_under (codes_of "interface") 0 plan.routers)
@@ -292,7 +292,7 @@ module _ (bytes : List ℕ) (none : (e : PlanError) → IsFault bytes e → ⊥)
         all_from (λ (at : ℕ × Data). IsInterfaceTable at.1) (items_under (codes_of "interface") 0 plan.routers)
         (λ k d at.
         let u = under_item (codes_of "interface") RouterInterface 1 0 plan.routers k d.0 d.1 at in
-        by_table IsInterfaceTable interface_fields interface_told d.1
+        by_table IsInterfaceTable interface_fields (λ e f h. (interface_texts e f h).shape) d.1
         (λ lacks. none_at codes.Key (RouterInterface (suc u.t) (suc u.j)) (document, plan.links, plan.routers, its_tables, (d.1, u.item, lacks))) (interface_not d.1))
 
     its_owns : All (λ (at : ℕ × Data). IsOwnTable at.1) (items_under (codes_of "own") 0 plan.routers)
@@ -300,7 +300,7 @@ module _ (bytes : List ℕ) (none : (e : PlanError) → IsFault bytes e → ⊥)
         all_from (λ (at : ℕ × Data). IsOwnTable at.1) (items_under (codes_of "own") 0 plan.routers)
         (λ k d at.
         let u = under_item (codes_of "own") RouterOwn 1 0 plan.routers k d.0 d.1 at in
-        by_table IsOwnTable own_fields own_told d.1
+        by_table IsOwnTable own_fields (λ e f h. (own_texts e f h).shape) d.1
         (λ lacks. none_at codes.Key (RouterOwn (suc u.t) (suc u.j)) (document, plan.links, plan.routers, its_tables, (d.1, u.item, lacks))) (own_not d.1))
 
 pub faultless_is : ((bytes : List ℕ) → ((e : PlanError) → IsFault bytes e → ⊥) → (n : Network) × IsPlanOfText bytes n × IsLawful n)
