@@ -1,8 +1,8 @@
 -- A plan without a fault keeps the laws.
 use Rattle.std.proofs.Common.{◌≡◌, ℕ, zero, suc, ◌+◌, ◌^◌, ◌<◌, ◌≤◌, ◌⊎◌, inl, inr, List, [], ◌∷◌, ◌++◌, length, map, Bool, true, false, ◌&&◌, Option, None, Some, Result, Ok, Err, refl, sym, ◌∙◌, ap, subst, arith}
-use Rattle.std.specs.Prelude.{pos, slice_get, codes as codes_of}
+use Rattle.std.specs.Prelude.{◌==◌, pos, slice_get, codes as codes_of}
 use Rattle.std.specs.List.{IsDistinct, list_any}
-use Rattle.std.proofs.lemmas.Bool.{and_parts, cases_lt}
+use Rattle.std.proofs.lemmas.Bool.{and_parts, cases_lt, both_ways, cases_Bool, eq-eqb, eqb-true}
 use Rattle.std.proofs.lemmas.Bool.Decides.{nat_tests}
 use Rattle.std.proofs.lemmas.Option.{same_Some, slice_get_within}
 use Rattle.toml.specs.Data.{Data, Members, get, string, table}
@@ -31,7 +31,7 @@ use Rattle.rip_plan.specs.Relations.{Carries, HasAddress, HasAddresses, HasOwnAd
 use Rattle.rip_plan.proofs.DocumentTableLemmas.{by_root}
 use Rattle.rip_plan.proofs.EachOnceLemmas.{once_distinct, once_kept}
 use Rattle.rip_plan.proofs.FurtherAddressLemmas.{also_spot}
-use Rattle.rip_plan.proofs.ItemLemmas.{all_at, all_here, any_finds, distinct_at, get_left, get_seen, get_some, get_split, none_at}
+use Rattle.rip_plan.proofs.ItemLemmas.{all_at, all_here, any_finds, cases_option, distinct_at, get_left, get_seen, get_some, get_split, none_at}
 use Rattle.rip_plan.proofs.LookupLemmas.{cost_found, cost_there, on_seat}
 use Rattle.rip_plan.proofs.MatchingLemmas.{matched_left, matched_length}
 use Rattle.rip_plan.proofs.NumberingLemmas.{same_self}
@@ -40,20 +40,19 @@ use Rattle.rip_plan.proofs.OnePlanLemmas.{items_same}
 use Rattle.rip_plan.proofs.PlanMatchLemmas.{network_matches}
 use Rattle.rip_plan.proofs.PlanPartLemmas.{apart, names_differ, also_counted, carrier_has, prefix_place, interface_table, interfaces_count, its_place, own_table, places_count}
 use Rattle.rip_plan.proofs.SpotLemmas.{interface_spot, place_spot, under_item}
-use Rattle.rip_plan.proofs.TextFaultLemmas.{fault_first, faultless, whole_fault}
+use Rattle.rip_plan.proofs.TextFaultLemmas.{faultless, read_or_told, whole_fault}
 use Rattle.rip_plan.proofs.TextLemmas.{TextLaws, one_prefix}
 
 -- ---- names
 
 names_good : (laws : TextLaws) (names : List (List ℕ)) (ds : List Data) → Matched IsNameOf names ds → ((i : ℕ) → IsMisnamed ds i → ⊥) → (k : ℕ) (name : List ℕ) → slice_get names k ≡ Some name
     → IsName name
-names_good laws names ds named none k name h = by_test (is_name name) refl
-  where
-    by_test : (b : Bool) → is_name name ≡ b → IsName name
-    by_test true e = (laws.name name).0 e
-    by_test false e =
-        let (d, at, its) = matched_left IsNameOf names ds k name named h in
-        absurd (none (suc k) (d, name, at, its, λ good. let clash : true ≡ false = sym ((laws.name name).1 good) ∙ e in cc))
+names_good laws names ds named none k name h =
+    let (d, at, its) = matched_left IsNameOf names ds k name named h in
+    elim (cases_Bool (is_name name)) [
+      | inl e ↦ (laws.name name).0 e
+      | inr e ↦ absurd (none (suc k) (d, name, at, its, λ good. both_ways (is_name name) e ((laws.name name).1 good)))
+    ]
 
 -- ---- costs
 
@@ -134,15 +133,15 @@ module _ (laws : TextLaws) (bytes : List ℕ) (document : Members) (n : Network)
   link_known i r l c h = let t = interface_table document n plan i _ h.listed in slice_get_within n.links l t.of.link_name t.of.link.0
 
   one_interface : (r : ℕ) → r < length n.routers → (i l c : ℕ) × IsInterface n i r l c
-  one_interface r less = by_test (list_any (is_of r) n.interfaces) refl
-    where
-      by_test : (b : Bool) → list_any (is_of r) n.interfaces ≡ b → (i l c : ℕ) × IsInterface n i r l c
-      by_test true e =
-          let (i, x, at, test) = any_finds (is_of r) n.interfaces e in
-          let router : x.router ≡ r = grind (arith, nat_tests) in
-          (i, x.link, x.cost, record { address = x.address; direct = x.direct; poison = x.poison; listed = at ∙ ap (λ (m : ℕ). Some (record x { router = m })) router })
-      by_test false e =
-          absurd (not codes.NoInterface (Router (r + 1)) (n, plan, (r, refl, less, λ i l c is. let off = none_at (is_of r) n.interfaces i _ e is.listed in grind (arith, nat_tests))))
+  one_interface r less =
+      elim (cases_Bool (list_any (is_of r) n.interfaces)) [
+        | inl e ↦
+            let (i, x, at, test) = any_finds (is_of r) n.interfaces e in
+            let listed = at ∙ ap (λ (m : ℕ). Some (record x { router = m })) (eqb-true x.router r test) in
+            (i, x.link, x.cost, record { address = x.address; direct = x.direct; poison = x.poison; listed = listed })
+        | inr e ↦
+            absurd (not codes.NoInterface (Router (r + 1)) (n, plan, (r, refl, less, λ i l c is. both_ways (r == r) (none_at (is_of r) n.interfaces i _ e is.listed) (eq-eqb r r refl))))
+      ]
 
   one_on_link : (i j r l c d : ℕ) → IsInterface n i r l c → IsInterface n j r l d → i ≡ j
   one_on_link i j r l c d h k =
@@ -275,14 +274,14 @@ module _ (laws : TextLaws) (bytes : List ℕ) (document : Members) (n : Network)
       its.2.0
 
   attached_there : (r p l : ℕ) → IsAttached n r p l → IsOn n r l
-  attached_there r p l (k, h) = by_option (cost_on r l n.interfaces) refl
-    where
-      by_option : (o : Option ℕ) → cost_on r l n.interfaces ≡ o → IsOn n r l
-      by_option (Some d) e = let (i, (a, c, b, at)) = cost_found r l d n.interfaces e in (c, (i, record { address = a; direct = d; poison = b; listed = at }))
-      by_option None e =
-          let t = own_table document n plan k p h.own h.place in
-          let astray : IsAstray n k = (p, r, l, h, λ (c, (i, on)). cost_there r l on.direct on.address c i on.poison n.interfaces on.listed e) in
-          absurd (none (fault codes.UnknownLink (RouterOwn (1 + t.r) (suc t.j))) (5, inr ((document, plan.links, plan.routers, has, (n, plan, (k, t.spot, astray))), refl, refl)))
+  attached_there r p l (k, h) =
+      elim (cases_option (cost_on r l n.interfaces)) [
+        | inl e ↦
+            let t = own_table document n plan k p h.own h.place in
+            let astray : IsAstray n k = (p, r, l, h, λ (c, (i, on)). cost_there r l on.direct on.address c i on.poison n.interfaces on.listed e) in
+            absurd (none (fault codes.UnknownLink (RouterOwn (1 + t.r) (suc t.j))) (5, inr ((document, plan.links, plan.routers, has, (n, plan, (k, t.spot, astray))), refl, refl)))
+        | inr (d, e) ↦ let (i, (a, c, b, at)) = cost_found r l d n.interfaces e in (c, (i, record { address = a; direct = d; poison = b; listed = at }))
+      ]
 
   meet_within : (j k : ℕ) → DoMeet n j k → k < length n.places
   meet_within j k (p, inl (l, h, h')) = slice_get_within n.places k _ h'.listed
@@ -391,8 +390,8 @@ pub lawful : (laws : TextLaws) (bytes : List ℕ) (s : Sketch) → sketch_of byt
 lawful laws bytes s h = lawful_text laws bytes (network_of_sketch s) (read_text laws bytes s h) (faultless laws bytes s h)
 
 pub plan_stands : (laws : TextLaws) (bytes : List ℕ) → ((e : PlanError) → IsFault bytes e → ⊥) → (n : Network) × IsPlanOfText bytes n × IsLawful n
-plan_stands laws bytes none = by_sketch (sketch_of bytes) refl
-  where
-    by_sketch : (r : Result Sketch PlanError) → sketch_of bytes ≡ r → (n : Network) × IsPlanOfText bytes n × IsLawful n
-    by_sketch (Ok s) h = (network_of_sketch s, read_text laws bytes s h, lawful laws bytes s h)
-    by_sketch (Err d) h = let told = fault_first laws bytes d h in absurd (none d (told.pass, told.found))
+plan_stands laws bytes none =
+    elim (read_or_told laws bytes) [
+      | inl (s, h) ↦ (network_of_sketch s, read_text laws bytes s h, lawful laws bytes s h)
+      | inr (d, h, told) ↦ absurd (none d (told.pass, told.found))
+    ]

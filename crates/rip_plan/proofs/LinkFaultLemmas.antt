@@ -2,6 +2,7 @@
 use Rattle.std.proofs.Common.{◌≡◌, ℕ, zero, suc, ◌+◌, ◌<◌, ◌≤◌, inl, inr, List, [], ◌∷◌, ◌++◌, length, Bool, true, false, not, Some, Ok, refl, sym, ap, subst, ◌∙◌, arith, length-append}
 use Rattle.std.specs.Prelude.{slice_get, nat_le, codes as codes_of}
 use Rattle.std.specs.Str.{bytes_eq}
+use Rattle.std.proofs.lemmas.Bool.{both_ways, not-false, not-true}
 use Rattle.std.proofs.lemmas.Option.{none-some, same_Some, slice_get_within}
 use Rattle.std.proofs.lemmas.Bool.Decides.{nat_tests}
 use Rattle.std.proofs.lemmas.Slice.Eq.{bytes_eq-Decides}
@@ -44,21 +45,13 @@ module _ (laws : TextLaws) (ds done : List Data) (d : Data) (rest : List Data) (
   table_same e h = same_Some e d (sym h ∙ table_here)
 
   pub misnamed_told : (name : List ℕ) → IsNameOf name d → not (is_name name) ≡ true → IsMisnamed ds (1 + length done)
-  misnamed_told name named bad = (d, name, table_here, named, λ good. let tested : is_name name ≡ true = (laws.name name).1 good in absurd (by_test (is_name name) tested bad))
-    where
-      by_test : (b : Bool) → b ≡ true → not b ≡ true → ⊥
-      by_test true e f = cc
-      by_test false e f = cc
+  misnamed_told name named bad = (d, name, table_here, named, λ good. both_ways (is_name name) (not-true (is_name name) bad) ((laws.name name).1 good))
 
   pub misnamed_clear : (name : List ℕ) → IsNameOf name d → not (is_name name) ≡ false → IsMisnamed ds (1 + length done) → ⊥
   misnamed_clear name named good (e, other, is, its, bad) =
       let same : e ≡ d = table_same e is in
       let one : other ≡ name = text_same (codes_of "name") d other name (subst (IsNameOf other) same its) named in
-      bad ((laws.name other).0 (by_test (is_name other) (ap (λ (t : List ℕ). not (is_name t)) one ∙ good)))
-    where
-      by_test : (b : Bool) → not b ≡ false → b ≡ true
-      by_test true e' = refl
-      by_test false e' = absurd cc
+      bad ((laws.name other).0 (not-false (is_name other) (ap (λ (t : List ℕ). not (is_name t)) one ∙ good)))
 
   pub again_told : (names : List (List ℕ)) → Matched IsNameOf names done → (name : List ℕ) → IsNameOf name d → is_one_of name names ≡ true → IsNamedAgain ds (1 + length done)
   again_told names named name its taken =

@@ -18,6 +18,7 @@ use Rattle.rip_plan.specs.declared.addresses.Held.{Held}
 use Rattle.rip_plan.specs.declared.draft.DraftPlace.{DraftPlace}
 use Rattle.rip_plan.specs.declared.draft.DraftInterface.{DraftInterface}
 use Rattle.rip_plan.specs.declared.parts.Interface.{Interface}
+use Rattle.rip_plan.specs.declared.parts.OwnPrefix.{OwnPrefix}
 use Rattle.rip_plan.specs.declared.parts.Seat.{Seat}
 use Rattle.rip_plan.specs.declared.parts.Seat.TheVariants as seats
 use Rattle.rip_plan.specs.Codes.{number_of_code}
@@ -26,7 +27,7 @@ use Rattle.rip_plan.specs.Draft.{Sketch}
 use Rattle.rip_plan.specs.Passes.{first_clash, touched, touching, same_prefix, do_meet, is_same_link, have_common, are_twice, is_astray, is_bare, is_there, none_found, second_passes, spot_of, duplicate_in, twice_in, taken_address_in, bare_in, astray_in}
 use Rattle.rip_plan.specs.Addresses.{have_one_address}
 use Rattle.rip_plan.specs.Network.{Network, network_of_sketch}
-use Rattle.rip_plan.specs.Relations.{HasAddresses, IsInterface, IsPlace}
+use Rattle.rip_plan.specs.Relations.{HasAddresses, IsAttachedAt, IsInterface, IsPlace}
 use Rattle.rip_plan.specs.PlanOf.{PlanOf}
 use Rattle.rip_plan.specs.PlanFaults.{TableFault, IsAstray, IsClash, IsBare, IsSo, DoMeet, AreTwice, HasOneTwice, HaveOneAddress, Before, pass_of, rank, position, place_spots, interface_spots}
 use Rattle.rip_plan.proofs.OrderLemmas.{before_trans, before_not}
@@ -38,7 +39,7 @@ use Rattle.rip_plan.proofs.OnePlanLemmas.{one_plan}
 use Rattle.rip_plan.proofs.PlanPartLemmas.{own_spot}
 use Rattle.rip_plan.proofs.SpotLemmas.{place_ahead, interface_ahead, place_spot, interface_spot}
 use Rattle.rip_plan.proofs.PlanMatchLemmas.{place_ats, interface_ats}
-use Rattle.rip_plan.proofs.ItemLemmas.{any_at, any_finds, distinct_at, get_seen, see_got, get_some}
+use Rattle.rip_plan.proofs.ItemLemmas.{cases_option, any_at, any_finds, distinct_at, get_seen, see_got, get_some}
 use Rattle.rip_plan.proofs.NumberingLemmas.{numbers, same_is, same_from}
 use Rattle.rip_plan.proofs.SecondPassLemmas.{address_spot, at_number, bare_found, common, held, held_spot, number_at, numbers_from, taken_address}
 use Rattle.rip_plan.proofs.ClashLemmas.{meeting_seen}
@@ -270,22 +271,20 @@ module _ (s : Sketch) where
       taken_of i l a (stands.first + j) (stands.first + k) i (omega arith) (as_held j one) (as_held k two)
 
   -- an own prefix whose router is not on its link
+  astray_own : (seat : Seat) → is_astray s.interfaces seat ≡ true → (own : OwnPrefix) × (l : ℕ) × (seat ≡ seats.Own own) × (own.link ≡ Some l) × (is_there s.interfaces own.router l ≡ false)
+  astray_own (seats.Link l) h = absurd cc
+  astray_own (seats.Own own) h =
+      elim (cases_option own.link) [
+        | inl e ↦ let clash = rw e at h in absurd cc
+        | inr (l, e) ↦ (own, l, refl, e, not-true (is_there s.interfaces own.router l) (rw e at h))
+      ]
+
   astray_gives : (k : ℕ) (d : DraftPlace) → slice_get s.places k ≡ Some d → is_astray s.interfaces d.seat ≡ true → IsAstray (network_of_sketch s) k
-  astray_gives k d at h = let (p, place, prefix) = place_from s k d at in by_seat d.seat p place h
-    where
-      by_seat : (seat : Seat) (p : ℕ) → IsPlace (network_of_sketch s) k p seat → is_astray s.interfaces seat ≡ true → IsAstray (network_of_sketch s) k
-      by_seat (seats.Link l) p place e = absurd cc
-      by_seat (seats.Own own) p place e = by_link own.link refl e
-        where
-          by_link : (link : Option ℕ) → own.link ≡ link → option_map_or (λ l. not (is_there s.interfaces own.router l)) link false ≡ true → IsAstray (network_of_sketch s) k
-          by_link None is f = absurd cc
-          by_link (Some l) is f = (
-            p,
-            own.router,
-            l,
-            record { own = own; place = place; router = refl; says = is },
-            λ on. both_ways (is_there s.interfaces own.router l) (not-true _ f) (on_there s own.router l on),
-          )
+  astray_gives k d at h =
+      let (p, place, prefix) = place_from s k d at in
+      let (own, l, seat, is, off) = astray_own d.seat h in
+      let its : IsAttachedAt (network_of_sketch s) k p own.router l = record { own = own; place = subst (IsPlace (network_of_sketch s) k p) seat place; router = refl; says = is } in
+      (p, own.router, l, its, λ on. both_ways (is_there s.interfaces own.router l) off (on_there s own.router l on))
 
   astray_takes : (k : ℕ) → IsAstray (network_of_sketch s) k → (d : DraftPlace) × (slice_get s.places k ≡ Some d) × (is_astray s.interfaces d.seat ≡ true)
   astray_takes k (p, r, l, h, none) =

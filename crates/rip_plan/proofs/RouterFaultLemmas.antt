@@ -1,6 +1,6 @@
 -- What is found of the faults of a document's routers.
 use Rattle.std.proofs.Common.{◌≡◌, ℕ, ◌+◌, ◌-◌, ◌<◌, ◌≤◌, ◌⊎◌, inl, inr, List, [], ◌∷◌, ◌++◌, length, Bool, true, false, not, ◌&&◌, ◌||◌, Option, Some, None, Result, Ok, refl, sym, ap, subst, ◌∙◌, arith, length-append}
-use Rattle.std.proofs.lemmas.Bool.{and_parts, and_from}
+use Rattle.std.proofs.lemmas.Bool.{cases_Bool, and_parts, and_from}
 use Rattle.std.specs.Prelude.{slice_get, nat_le, nat_lt, codes as codes_of, map}
 use Rattle.std.specs.List.{list_any, sum_by}
 use Rattle.std.proofs.lemmas.List.Sums.{sum_by-append}
@@ -302,16 +302,15 @@ module _ (document : Members) (links routers done : List Data) (d : Data) (rest 
 
       full_told : (also : List ℕ) → length also ≡ length (also_items x) → is_full v also ≡ true
           → IsPast 1024 (interface_spots routers) (RouterInterface (1 + length done) (1 + length front)) ⊎ IsPast 1024 (also_spots routers) (RouterInterface (1 + length done) (1 + length front))
-      full_told also same full = by_test (nat_le 1024 (length v.interfaces)) refl full
-        where
-          by_test : (b : Bool) → nat_le 1024 (length v.interfaces) ≡ b → (b || nat_lt 1024 (sum_by length v.also + length also)) ≡ true
-              → IsPast 1024 (interface_spots routers) (RouterInterface (1 + length done) (1 + length front)) ⊎ IsPast 1024 (also_spots routers) (RouterInterface (1 + length done) (1 + length front))
-          by_test true e h = inl (length v.interfaces, here, most_most (length v.interfaces) e)
-          by_test false e h =
-              let over : 1024 < sum_by length v.also + length also = grind (arith, nat_tests) in
-              let last : ℕ = length (also_items x) - 1 in
-              let at = also_here 1 done d rest front x back items last (omega arith) (also_under done + (also_in front + last)) refl in
-              inr (also_under done + (also_in front + last), rw split at, omega arith)
+      full_told also same full =
+          elim (cases_Bool (nat_le 1024 (length v.interfaces))) [
+            | inl e ↦ inl (length v.interfaces, here, most_most (length v.interfaces) e)
+            | inr e ↦
+                let over : 1024 < sum_by length v.also + length also = grind (arith, nat_tests, rw e at full) in
+                let last : ℕ = length (also_items x) - 1 in
+                let at = also_here 1 done d rest front x back items last (omega arith) (also_under done + (also_in front + last)) refl in
+                inr (also_under done + (also_in front + last), rw split at, omega arith)
+          ]
 
       full_clear : (also : List ℕ) → length also ≡ length (also_items x) → is_full v also ≡ false
           → IsPast 1024 (interface_spots routers) (RouterInterface (1 + length done) (1 + length front)) ⊎ IsPast 1024 (also_spots routers) (RouterInterface (1 + length done) (1 + length front)) → ⊥

@@ -1,5 +1,5 @@
 -- What the passes over addresses and over routers find.
-use Rattle.std.proofs.Common.{◌≡◌, ℕ, zero, suc, ◌+◌, ◌<◌, List, [], ◌∷◌, map, true, Option, Some, None, refl, sym, ◌∙◌, ap, arith, subst}
+use Rattle.std.proofs.Common.{◌≡◌, ℕ, zero, suc, ◌+◌, ◌<◌, List, [], ◌∷◌, map, true, Option, Some, None, refl, sym, ◌∙◌, ap, arith, subst, inl, inr}
 use Rattle.rip_plan.proofs.FirstFoundLemmas.{Clashes, FirstSo, first_clashing}
 use Rattle.std.specs.Prelude.{find, slice_get, option_and_then, option_map, unwrap_or, ◌==◌}
 use Rattle.std.specs.List.{list_any}
@@ -12,7 +12,7 @@ use Rattle.rip_plan.specs.declared.draft.DraftInterface.{DraftInterface}
 use Rattle.rip_plan.specs.Passes.{first_clash, have_common, is_bare, first_bare, spot_of, taken_address_in}
 use Rattle.rip_plan.specs.Addresses.{have_one_address, held_from}
 use Rattle.rip_plan.proofs.HeldAddressLemmas.{held_is}
-use Rattle.rip_plan.proofs.ItemLemmas.{any_at, any_finds, get_seen}
+use Rattle.rip_plan.proofs.ItemLemmas.{cases_option, any_at, any_finds, get_seen}
 
 -- the addresses of all interfaces
 abbrev pub held : List DraftInterface → List (List ℕ) → List Held
@@ -34,14 +34,14 @@ address_spot interfaces h = unwrap_or (spot_of interfaces h.interface) Text
 
 pub taken_address : (interfaces : List DraftInterface) (also : List (List ℕ))
     → taken_address_in interfaces also ≡ option_map (address_spot interfaces) (first_clash have_one_address [] (held interfaces also))
-taken_address interfaces also = by_found (first_clash have_one_address [] (held interfaces also)) refl
-  where
-    by_found : (o : Option Held) → first_clash have_one_address [] (held interfaces also) ≡ o → option_and_then (λ h. spot_of interfaces h.interface) o ≡ option_map (address_spot interfaces) o
-    by_found None e = refl
-    by_found (Some h) e =
-        let (k, at, is, before) = subst (FirstSo (Clashes have_one_address (held interfaces also)) (held interfaces also)) e (first_clashing have_one_address (held interfaces also)) in
-        let (d, there) = held_spot interfaces also k h at in
-        rw there refl
+taken_address interfaces also =
+    elim (cases_option (first_clash have_one_address [] (held interfaces also))) [
+      | inl e ↦ rw e refl
+      | inr (h, e) ↦
+          let (k, at, is, before) = subst (FirstSo (Clashes have_one_address (held interfaces also)) (held interfaces also)) e (first_clashing have_one_address (held interfaces also)) in
+          let (d, there) = held_spot interfaces also k h at in
+          rw (e, there) refl
+    ]
 
 -- ---- each router has an interface
 

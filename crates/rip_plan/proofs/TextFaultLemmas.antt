@@ -1,6 +1,6 @@
 -- The first fault of a text is the one that is told, and a text that is read has none.
 use Rattle.std.proofs.Common.{◌≡◌, ◌≢◌, ℕ, ◌<◌, ◌≤◌, ◌⊎◌, ◌↔◌, inl, inr, List, [], ◌∷◌, length, Bool, true, false, cond, not, ◌||◌, Option, Some, None, Result, Ok, Err, refl, sym, ap, subst, ◌∙◌, arith}
-use Rattle.std.proofs.lemmas.Bool.{or_parts, not-false}
+use Rattle.std.proofs.lemmas.Bool.{both_ways, cases_Bool, or_cases, or_parts, not-false, not-true}
 use Rattle.std.specs.Prelude.{pos, nat_lt, ◌==◌, codes as codes_of}
 use Rattle.std.specs.Result.{result_err}
 use Rattle.std.proofs.lemmas.Option.{none-some, same_Some}
@@ -95,11 +95,7 @@ version_is (Some (integer (pos n))) h = let one : n ≡ 1 = grind (arith, nat_te
 version_is o h = absurd cc
 
 pub version_told : (o : Option Data) → not (is_version o) ≡ true → o ≢ Some (integer (pos 1))
-version_told o h same = by_test (is_version o) (ap is_version same) h
-  where
-    by_test : (b : Bool) → b ≡ true → not b ≡ true → ⊥
-    by_test true e f = cc
-    by_test false e f = cc
+version_told o h same = both_ways (is_version o) (not-true (is_version o) h) (ap is_version same)
 
 -- ---- all faults of a document
 
@@ -175,17 +171,13 @@ module _ (laws : TextLaws) (bytes : List ℕ) (document : Members) (short : leng
   from_version = row_then (row_at codes.Version Version) from_key (inr (refl, inr (refl, inr (refl, inr (refl, inr (refl, inl (omega arith)))))))
 
   over_told : (links routers : List Data) → (nat_lt 512 (length links) || nat_lt 128 (length routers)) ≡ true → (512 < length links) ⊎ (128 < length routers)
-  over_told links routers h = by_test (nat_lt 512 (length links)) refl h
-    where
-      by_test : (b : Bool) → nat_lt 512 (length links) ≡ b → (b || nat_lt 128 (length routers)) ≡ true → (512 < length links) ⊎ (128 < length routers)
-      by_test true e f = inl (grind (arith, nat_tests))
-      by_test false e f = inr (grind (arith, nat_tests))
+  over_told links routers h =
+      elim (or_cases (nat_lt 512 (length links)) (nat_lt 128 (length routers)) h) [ inl more ↦ inl (grind (arith, nat_tests)) | inr more ↦ inr (grind (arith, nat_tests)) ]
 
   over_clear : (links routers : List Data) → (nat_lt 512 (length links) || nat_lt 128 (length routers)) ≡ false → (512 < length links) ⊎ (128 < length routers) → ⊥
-  over_clear links routers h (inl more) = let parts = or_parts (nat_lt 512 (length links)) (nat_lt 128 (length routers)) h in let few : nat_lt 512 (length links) ≡ false = parts.0 in grind
-      (arith, nat_tests)
-  over_clear links routers h (inr more) = let parts = or_parts (nat_lt 512 (length links)) (nat_lt 128 (length routers)) h in let few : nat_lt 128 (length routers) ≡ false = parts.1 in grind
-      (arith, nat_tests)
+  over_clear links routers h over =
+      let (few, small) = or_parts (nat_lt 512 (length links)) (nat_lt 128 (length routers)) h in
+      elim over [ inl more ↦ grind (arith, nat_tests, few) | inr more ↦ grind (arith, nat_tests, small) ]
 
   document_finds : Finds (IsTextFault bytes) from_version.has (sketch_of_document document)
   unfolding sketch_of_document
@@ -245,7 +237,13 @@ module _ (laws : TextLaws) (bytes : List ℕ) (document : Members) (short : leng
 
 text_finds : (laws : TextLaws) (bytes : List ℕ) → Finds (IsTextFault bytes) (λ o. Unit {0}) (sketch_of bytes)
 unfolding sketch_of
-text_finds laws bytes = by_length (nat_lt 1048576 (length bytes)) refl
+text_finds laws bytes =
+    elim (cases_Bool (nat_lt 1048576 (length bytes))) [
+      | inl e ↦
+          let more : 1048576 < length bytes = grind (arith, nat_tests) in
+          rw e (0, inl (inl more, refl), tt, λ o u f before. past_long more o (kind bytes o.pass o.error.code o.error.place f) before)
+      | inr e ↦ rw e (by_document (grind (arith, nat_tests)) (document_of bytes) refl)
+    ]
   where
     past_long : 1048576 < length bytes → (o : Found) → Kind bytes o → Before (ranked o) (ranked (row_at codes.Limit Text)) → ⊥
     past_long more o (long same) before = before_not (ranked (row_at codes.Limit Text)) (subst (λ (e : Found). Before (ranked e) (ranked (row_at codes.Limit Text))) same before)
@@ -266,12 +264,6 @@ text_finds laws bytes = by_length (nat_lt 1048576 (length bytes)) refl
     by_document : length bytes ≤ 1048576 → (o : Option Members) → document_of bytes ≡ o → Finds (IsTextFault bytes) (λ o. Unit {0}) (wanted (fault codes.Syntax Text) o >>= sketch_of_document)
     by_document short None e = (0, inl ((short, e), refl), tt, λ o u f before. past_syntax e o (kind bytes o.pass o.error.code o.error.place f) before)
     by_document short (Some document) e = all_find laws bytes document short e
-
-    by_length : (b : Bool) → nat_lt 1048576 (length bytes) ≡ b → Finds (IsTextFault bytes) (λ o. Unit {0})
-        (cond b (Err (fault codes.Limit Text)) (wanted (fault codes.Syntax Text) (document_of bytes) >>= sketch_of_document))
-    by_length true e = let more : 1048576 < length bytes = grind (arith, nat_tests) in
-        (0, inl (inl more, refl), tt, λ o u f before. past_long more o (kind bytes o.pass o.error.code o.error.place f) before)
-    by_length false e = by_document (grind (arith, nat_tests)) (document_of bytes) refl
 
 -- ---- a fault is known by its rank
 
@@ -332,43 +324,41 @@ faultless laws bytes s h e f =
 
 -- ---- the laws
 
-pub fault_told : (laws : TextLaws) (bytes : List ℕ) (e : PlanError) → (first_fault bytes ≡ Some e) ↔ PlanFault bytes e
-fault_told laws bytes e = by_sketch (sketch_of bytes) refl
+-- a text is read, or its first fault is told
+pub read_or_told : (laws : TextLaws) (bytes : List ℕ) → ((s : Sketch) × (sketch_of bytes ≡ Ok s)) ⊎ ((d : PlanError) × (sketch_of bytes ≡ Err d) × PlanFault bytes d)
+read_or_told laws bytes = by_sketch (sketch_of bytes) refl
   where
-    one : (d : PlanError) → PlanFault bytes d → PlanFault bytes e → d ≡ e
-    one d p q =
-        elim (q.first p.pass d p.found) [
-          | inl same ↦ same
-          | inr after ↦
-              elim (p.first q.pass e q.found) [
-                | inl same ↦ sym same
-                | inr later ↦ absurd (before_not (rank p.pass d) (before_trans (rank p.pass d) (rank q.pass e) (rank p.pass d) later after))
-              ]
-        ]
+    by_sketch : (r : Result Sketch PlanError) → sketch_of bytes ≡ r → ((s : Sketch) × (sketch_of bytes ≡ Ok s)) ⊎ ((d : PlanError) × (sketch_of bytes ≡ Err d) × PlanFault bytes d)
+    by_sketch (Ok s) h = inl (s, h)
+    by_sketch (Err d) h = inr (d, h, fault_first laws bytes d h)
 
-    by_sketch : (r : Result Sketch PlanError) → sketch_of bytes ≡ r → (result_err (sketch_of bytes >>= (λ s. Ok (network_of_sketch s))) ≡ Some e) ↔ PlanFault bytes e
-    by_sketch (Ok s) h = (
-      λ f. absurd (none-some e (ap (λ (r : Result Sketch PlanError). result_err (r >>= (λ s. Ok (network_of_sketch s)))) (sym h) ∙ f)),
-      λ p. absurd (faultless laws bytes s h e (p.pass, p.found)),
-    )
-    by_sketch (Err d) h = (
-      λ f. let same : d ≡ e = same_Some d e (ap (λ (r : Result Sketch PlanError). result_err (r >>= (λ s. Ok (network_of_sketch s)))) (sym h) ∙ f) in subst (PlanFault bytes) same
-          (fault_first laws bytes d h),
-      λ p. ap (λ (r : Result Sketch PlanError). result_err (r >>= (λ s. Ok (network_of_sketch s)))) h ∙ ap (λ (x : PlanError). Some x) (one d (fault_first laws bytes d h) p),
-    )
+abbrev fault_in : Result Sketch PlanError → Option PlanError
+fault_in r = result_err (r >>= (λ s. Ok (network_of_sketch s)))
+
+one_first : (bytes : List ℕ) (d e : PlanError) → PlanFault bytes d → PlanFault bytes e → d ≡ e
+one_first bytes d e p q =
+    elim (q.first p.pass d p.found) [
+      | inl same ↦ same
+      | inr after ↦
+          elim (p.first q.pass e q.found) [
+            | inl same ↦ sym same
+            | inr later ↦ absurd (before_not (rank p.pass d) (before_trans (rank p.pass d) (rank q.pass e) (rank p.pass d) later after))
+          ]
+    ]
+
+pub fault_told : (laws : TextLaws) (bytes : List ℕ) (e : PlanError) → (first_fault bytes ≡ Some e) ↔ PlanFault bytes e
+fault_told laws bytes e =
+    elim (read_or_told laws bytes) [
+      | inl (s, h) ↦ (λ f. absurd (none-some e (sym (ap fault_in h) ∙ f)), λ p. absurd (faultless laws bytes s h e (p.pass, p.found)))
+      | inr (d, h, told) ↦ (λ f. subst (PlanFault bytes) (same_Some d e (sym (ap fault_in h) ∙ f)) told, λ p. ap fault_in h ∙ ap (λ (x : PlanError). Some x) (one_first bytes d e told p))
+    ]
 
 pub none_told : (laws : TextLaws) (bytes : List ℕ) → (first_fault bytes ≡ None) ↔ ((e : PlanError) → IsFault bytes e → ⊥)
-none_told laws bytes = by_sketch (sketch_of bytes) refl
-  where
-    by_sketch : (r : Result Sketch PlanError) → sketch_of bytes ≡ r → (result_err (sketch_of bytes >>= (λ s. Ok (network_of_sketch s))) ≡ None) ↔ ((e : PlanError) → IsFault bytes e → ⊥)
-    by_sketch (Ok s) h = (
-      λ f. faultless laws bytes s h,
-      λ p. ap (λ (r : Result Sketch PlanError). result_err (r >>= (λ s. Ok (network_of_sketch s)))) h,
-    )
-    by_sketch (Err d) h = (
-      λ f. absurd (none-some d (sym f ∙ ap (λ (r : Result Sketch PlanError). result_err (r >>= (λ s. Ok (network_of_sketch s)))) h)),
-      λ p. let told = fault_first laws bytes d h in absurd (p d (told.pass, told.found)),
-    )
+none_told laws bytes =
+    elim (read_or_told laws bytes) [
+      | inl (s, h) ↦ (λ f. faultless laws bytes s h, λ p. ap fault_in h)
+      | inr (d, h, told) ↦ (λ f. absurd (none-some d (sym f ∙ ap fault_in h)), λ p. absurd (p d (told.pass, told.found)))
+    ]
 
 -- no code of a fault is Memory
 pub never_memory : (bytes : List ℕ) (e : PlanError) → PlanFault bytes e → e.code ≢ codes.Memory

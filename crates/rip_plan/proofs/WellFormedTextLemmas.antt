@@ -2,6 +2,7 @@
 use Rattle.std.proofs.Common.{◌≡◌, ℕ, zero, suc, ◌+◌, ◌<◌, ◌≤◌, ◌⊎◌, inl, inr, List, map, length, sum, Bool, true, false, not, Some, refl, sym, ◌∙◌, ap, subst, arith}
 use Rattle.std.specs.Prelude.{pos, slice_get, get_or, codes as codes_of}
 use Rattle.std.specs.List.{All}
+use Rattle.std.proofs.lemmas.Bool.{cases_Bool}
 use Rattle.std.proofs.lemmas.Option.{none-some, slice_get_within, get_or_from_slice_get, slice_get-get_or}
 use Rattle.toml.specs.Data.{Data, Members, get, integer, string, table}
 use Rattle.rip_wire.specs.Name.{IsName}
@@ -270,11 +271,11 @@ module _ (bytes : List ℕ) (none : (e : PlanError) → IsFault bytes e → ⊥)
 
   module _ (document : Members) (text : IsText bytes document) (n : Network) (plan : PlanOf document n) where
     its_version : get (codes_of "version") (table document) ≡ Some (integer (pos 1))
-    its_version = by_test (is_version (get (codes_of "version") (table document))) refl
-      where
-        by_test : (b : Bool) → is_version (get (codes_of "version") (table document)) ≡ b → get (codes_of "version") (table document) ≡ Some (integer (pos 1))
-        by_test true e = version_is (get (codes_of "version") (table document)) e
-        by_test false e = absurd (none_at codes.Version Version (document, text, version_told (get (codes_of "version") (table document)) (ap not e)))
+    its_version =
+        elim (cases_Bool (is_version (get (codes_of "version") (table document)))) [
+          | inl e ↦ version_is (get (codes_of "version") (table document)) e
+          | inr e ↦ absurd (none_at codes.Version Version (document, text, version_told (get (codes_of "version") (table document)) (ap not e)))
+        ]
 
     its_tables : HasTables bytes document plan.links plan.routers
     its_tables = record { text = text; has_links = plan.has_links; has_routers = plan.has_routers }
