@@ -12,13 +12,11 @@ use Rattle.std.proofs.lemmas.Slice.Eq.{bytes_eq-Decides}
 use Rattle.toml.specs.Data.{Data, Items, Members, get, no_members, member, string, array, table, get_member, as_array, as_bool, as_integer, as_str, as_table}
 use Rattle.rip_plan.specs.DocumentTables.{HasOnly, IsFlag, IsInteger, IsInterfaceTable, IsLinkTable, IsList, IsOwnTable, IsRoot, IsRouterTable, IsSomeList, IsString, IsTextList}
 use Rattle.rip_plan.specs.Keys.{interface_keys, link_keys, own_keys, root_keys, router_keys}
-use Rattle.rip_plan.specs.Fields.{InterfaceFields, OwnFields, address_if, cost_of, direct_of, link_if, ◌&>◌, flag_if, has_only, integer_if, interface_fields, items_at, items_if, link_fields, list_of, own_fields, root_fields, router_fields, some_items, text_at, text_if, texts_of}
+use Rattle.rip_plan.specs.Fields.{InterfaceFields, OwnFields, ◌&>◌, flag_if, has_only, integer_if, interface_fields, items_at, items_if, link_fields, list_of, own_fields, root_fields, router_fields, some_items, text_at, text_if, texts_of}
 use Rattle.rip_plan.specs.Names.{is_one_of}
 use Rattle.rip_plan.proofs.ItemLemmas.{any_at, any_finds, cases_option}
-use Rattle.rip_plan.specs.declared.parts.OwnPrefix.{OwnPrefix}
-use Rattle.rip_plan.specs.PlanOf.{HasItems, HasText, IsCostOf, IsDirectOf, IsGatewayOf, IsKeptOf, IsLinkOf, IsNameOf, IsPoisonOf, items_in}
-use Rattle.rip_plan.proofs.TextLemmas.{TextLaws}
-use Rattle.rip_plan.proofs.TableLemmas.{IsFlagIf, IsTextIf, array_is, boolean_is, chosen, cost_is, direct_is, flag_if_is, flag_meant, gateway_is, integer_is, items_are, items_given, items_there, link_is, map_some, table_is, text_if_is, text_is, text_there, then_some}
+use Rattle.rip_plan.specs.PlanOf.{HasItems, HasText, IsKeptOf, IsNameOf, IsPoisonOf, items_in}
+use Rattle.rip_plan.proofs.TableLemmas.{IsFlagIf, IsTextIf, array_is, boolean_is, chosen, flag_if_is, flag_meant, integer_is, items_are, items_given, items_there, map_some, table_is, text_if_is, text_is, text_there, then_some}
 
 -- ---- keys
 
@@ -270,22 +268,6 @@ interface_texts d f h =
       };
     }))
 
-pub record InterfaceRead (d : Data) (f : InterfaceFields) (c e : ℕ) : Type 0 where
-  pub has : HasInterfaceFields d f
-  pub cost : IsCostOf d c
-  pub direct : IsDirectOf d c e
-  pub poisons : (other : Bool) → IsPoisonOf other d (unwrap_or f.poison other)
-
-pub interface_table : (d : Data) (f : InterfaceFields) (c e : ℕ) → (as_table d &> interface_fields) ≡ Some f → cost_of f.cost ≡ Some c → direct_of c f.direct ≡ Some e → InterfaceRead d f c e
-interface_table d f c e h costs directs =
-    let has = interface_texts d f h in
-    record {
-      has = has;
-      cost = cost_is (get (codes_of "cost") d) f.cost c has.cost costs;
-      direct = direct_is (get (codes_of "direct") d) c f.direct e has.direct directs;
-      poisons = λ other. flag_meant (get (codes_of "poison") d) f.poison other has.poison;
-    }
-
 -- what an own prefix's table holds
 pub record HasOwnFields (d : Data) (f : OwnFields) : Type 0 where
   pub has_prefix : HasText (codes_of "prefix") d f.prefix
@@ -325,23 +307,6 @@ own_texts d f h =
         via = text_may (get_member (codes_of "via") ms) g fifth;
       };
     }))
-
-pub record OwnRead (d : Data) (links : List (List ℕ)) (f : OwnFields) (own : OwnPrefix) : Type 0 where
-  pub has : HasOwnFields d f
-  pub cost : IsCostOf d own.cost
-  pub link : IsLinkOf links d own.link
-  pub via : IsGatewayOf d own.via
-
-pub own_table : (laws : TextLaws) (d : Data) (links : List (List ℕ)) (f : OwnFields) (own : OwnPrefix)
-    → (as_table d &> own_fields) ≡ Some f → cost_of f.cost ≡ Some own.cost → link_if f.link links ≡ Some own.link → address_if f.via ≡ Some own.via → OwnRead d links f own
-own_table laws d links f own h costs known gateway =
-    let has = own_texts d f h in
-    record {
-      has = has;
-      cost = cost_is (get (codes_of "cost") d) f.cost own.cost has.cost costs;
-      link = link_is links d f.link own.link has.link known;
-      via = gateway_is laws d f.via own.via has.via gateway;
-    }
 
 -- what a router's table holds
 pub record HasRouterFields (d : Data) (name : List ℕ) (interfaces owns : List Data) : Type 0 where

@@ -5,7 +5,6 @@ pub mod ClashLemmas
 pub mod BackLemmas
 pub mod BelowLemmas
 pub mod BindLemmas
-pub mod TakenStepLemmas
 pub mod ItemLemmas
 pub mod FirstFoundLemmas
 pub mod TextLemmas

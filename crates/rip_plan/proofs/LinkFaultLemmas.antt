@@ -27,8 +27,7 @@ use Rattle.rip_plan.proofs.ItemLemmas.{any_at, any_finds, get_split, get_left}
 use Rattle.rip_plan.proofs.TableLemmas.{text_is}
 use Rattle.rip_plan.proofs.MatchingLemmas.{matched_left, matched_right}
 use Rattle.rip_plan.proofs.OnePlanLemmas.{text_same}
-use Rattle.rip_plan.proofs.PlanMatchLemmas.{links_added, prefixes_added, stood}
-use Rattle.rip_plan.proofs.TakenStepLemmas.{with_link}
+use Rattle.rip_plan.proofs.PlanMatchLemmas.{with_link, links_added, prefixes_added, stood}
 use Rattle.rip_plan.proofs.LookupLemmas.{name_same}
 use Rattle.rip_plan.proofs.TextLemmas.{TextLaws, prefix_is, no_prefix}
 use Rattle.rip_plan.specs.Texts.{IsPrefixText}

@@ -1,10 +1,9 @@
 -- What the later passes find of the faults of a plan.
-use Rattle.std.proofs.Common.{◌≡◌, ℕ, ◌+◌, ◌<◌, ◌⊎◌, inl, inr, List, [], ◌∷◌, ◌++◌, length, true, false, not, ◌||◌, Option, Some, None, Result, refl, sym, ap, subst, ◌∙◌, arith, Bool}
+use Rattle.std.proofs.Common.{◌≡◌, ℕ, ◌+◌, ◌<◌, ◌⊎◌, inl, inr, List, [], ◌∷◌, ◌++◌, length, true, false, ◌||◌, Option, Some, None, Result, refl, sym, ap, subst, ◌∙◌, arith, Bool}
 use Rattle.rip_plan.proofs.FirstFoundLemmas.{Clashes, FirstSo, Passes, first_clashing, first_passing}
 use Rattle.rip_plan.proofs.SketchPlanLemmas.{interface_in, interface_from, listed_as, place_in, place_from, touch, touches, there_on, on_there}
 use Rattle.std.specs.Prelude.{slice_get, find, option_map, unwrap_or, map, ◌==◌}
 use Rattle.std.specs.List.{list_any}
-use Rattle.std.specs.Option.{option_map_or}
 use Rattle.std.proofs.lemmas.Option.{same_Some, slice_get_within}
 use Rattle.std.proofs.lemmas.Bool.{cases_lt, cases_order, true_from_ne_false, and_parts, or_cases, or_right, not-true, not-false, both_ways, false_from_ne_true}
 use Rattle.std.proofs.lemmas.Bool.Decides.{nat_tests}

@@ -1,7 +1,7 @@
 -- What is found of the faults of a document's routers.
-use Rattle.std.proofs.Common.{◌≡◌, ℕ, ◌+◌, ◌-◌, ◌<◌, ◌≤◌, ◌⊎◌, inl, inr, List, [], ◌∷◌, ◌++◌, length, Bool, true, false, not, ◌&&◌, ◌||◌, Option, Some, None, Result, Ok, refl, sym, ap, subst, ◌∙◌, arith, length-append}
+use Rattle.std.proofs.Common.{◌≡◌, ℕ, ◌+◌, ◌-◌, ◌<◌, ◌≤◌, ◌⊎◌, inl, inr, List, [], ◌∷◌, ◌++◌, length, Bool, true, false, not, ◌&&◌, Option, Some, None, Result, Ok, refl, sym, ap, subst, ◌∙◌, arith, length-append}
 use Rattle.std.proofs.lemmas.Bool.{cases_Bool, and_parts, and_from}
-use Rattle.std.specs.Prelude.{slice_get, nat_le, nat_lt, codes as codes_of, map}
+use Rattle.std.specs.Prelude.{slice_get, nat_le, codes as codes_of, map}
 use Rattle.std.specs.List.{list_any, sum_by}
 use Rattle.std.proofs.lemmas.List.Sums.{sum_by-append}
 use Rattle.rip_plan.specs.declared.error.PlanError.{PlanError}
@@ -35,9 +35,8 @@ use Rattle.rip_plan.proofs.TableLemmas.{IsTextIf, addresses_told, addresses_clea
 use Rattle.std.proofs.lemmas.List.{map-append}
 use Rattle.rip_plan.proofs.MatchingLemmas.{matched_left, matched_length, matched_right}
 use Rattle.rip_plan.proofs.OnePlanLemmas.{text_same}
-use Rattle.rip_plan.proofs.PlanMatchLemmas.{TablesRead, placement, interfaces_added, owns_added, stood, tables_read}
+use Rattle.rip_plan.proofs.PlanMatchLemmas.{TablesRead, room_for, with_router, placement, interfaces_added, owns_added, stood, tables_read}
 use Rattle.rip_plan.proofs.PlanPartLemmas.{also_flat, also_numbered, also_sum, link_prefix, names_differ, attached_not, inside_not, known_not, prefix_place}
-use Rattle.rip_plan.proofs.TakenStepLemmas.{room_for, with_router}
 use Rattle.rip_plan.proofs.LookupLemmas.{name_same, on_seat}
 use Rattle.rip_plan.proofs.LinkFaultLemmas.{links_find, table_here, table_same, misnamed_told, misnamed_clear, again_told, again_clear}
 use Rattle.rip_plan.proofs.TextLemmas.{TextLaws, first_named, address_is, prefix_is, no_address, no_prefix, one_prefix}

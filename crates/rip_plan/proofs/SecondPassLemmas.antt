@@ -1,7 +1,7 @@
 -- What the passes over addresses and over routers find.
-use Rattle.std.proofs.Common.{◌≡◌, ℕ, zero, suc, ◌+◌, ◌<◌, List, [], ◌∷◌, map, true, Option, Some, None, refl, sym, ◌∙◌, ap, arith, subst, inl, inr}
+use Rattle.std.proofs.Common.{◌≡◌, ℕ, zero, suc, ◌+◌, ◌<◌, List, [], ◌∷◌, map, true, Some, refl, sym, ◌∙◌, ap, arith, subst, inl, inr}
 use Rattle.rip_plan.proofs.FirstFoundLemmas.{Clashes, FirstSo, first_clashing}
-use Rattle.std.specs.Prelude.{find, slice_get, option_and_then, option_map, unwrap_or, ◌==◌}
+use Rattle.std.specs.Prelude.{find, slice_get, option_map, unwrap_or, ◌==◌}
 use Rattle.std.specs.List.{list_any}
 use Rattle.std.proofs.lemmas.Option.{none-some, same_Some}
 use Rattle.std.proofs.lemmas.Bool.Decides.{nat_tests}

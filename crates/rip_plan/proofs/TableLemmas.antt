@@ -4,13 +4,11 @@ use Rattle.std.specs.Prelude.{ℤ, pos, negsuc, is_some, option_and_then, option
 use Rattle.std.specs.List.{list_all}
 use Rattle.std.proofs.lemmas.Option.{none-some, same_Some, cond_some}
 use Rattle.std.proofs.lemmas.Bool.Decides.{nat_tests}
-use Rattle.toml.specs.Data.{Data, Items, Members, string, integer, boolean, array, table, get, get_member, as_bool, as_str, as_integer, as_array, as_table}
+use Rattle.toml.specs.Data.{Data, Items, Members, string, integer, boolean, array, table, get, as_bool, as_str, as_integer, as_array, as_table}
 use Rattle.rip_wire.specs.Address.{address_in}
-use Rattle.rip_plan.specs.declared.parts.OwnPrefix.{OwnPrefix}
-use Rattle.rip_plan.specs.Keys.{interface_keys, link_keys, own_keys, router_keys}
-use Rattle.rip_plan.specs.Fields.{InterfaceFields, OwnFields, ◌&>◌, has_only, list_of, text_at, items_at, items_if, integer_if, texts_of, flag_if, text_if, address_if, link_if, addresses_in, is_between, link_fields, interface_fields, own_fields, router_fields, cost_of, direct_of}
+use Rattle.rip_plan.specs.Fields.{◌&>◌, list_of, items_if, integer_if, flag_if, text_if, address_if, link_if, addresses_in, is_between, cost_of, direct_of}
 use Rattle.rip_plan.specs.Names.{number_of_name}
-use Rattle.rip_plan.specs.PlanOf.{HasText, IsAddressOf, IsCostOf, IsDirectOf, IsGatewayOf, IsKeptOf, IsLinkOf, IsNameOf, IsPoisonOf, Matched, items_in}
+use Rattle.rip_plan.specs.PlanOf.{IsAddressOf, IsCostOf, IsDirectOf, IsGatewayOf, IsLinkOf, Matched, items_in}
 use Rattle.rip_plan.specs.PlanFaults.{HasNoAddress, HasWrongCost, HasWrongDirect, IsOutsideOf}
 use Rattle.std.proofs.lemmas.Bool.{and_parts}
 use Rattle.rip_plan.proofs.ItemLemmas.{cases_option}
