@@ -14,7 +14,6 @@ pub mod SketchPlanLemmas
 pub mod CellLemmas
 pub mod NumbersWhereLemmas
 pub mod HeldAddressLemmas
-pub mod HeldOrderLemmas
 pub mod LookupLemmas
 pub mod LeafRouterLemmas
 pub mod PlanAnswerLemmas

@@ -32,8 +32,7 @@ use Rattle.rip_plan.specs.PlanFaults.{TableFault, IsAstray, IsClash, IsBare, IsS
 use Rattle.rip_plan.proofs.OrderLemmas.{before_trans, before_not}
 use Rattle.rip_plan.proofs.FindingLemmas.{Found, Finds, finds_in, bind_rows}
 use Rattle.rip_plan.proofs.FaultRowLemmas.{IsAstrayAt, IsLast, IsOfTables, IsTold, told_finds, code_rows, code_high, last_two, last_three, last_four, pass_rows}
-use Rattle.rip_plan.proofs.HeldAddressLemmas.{address_held, held_address}
-use Rattle.rip_plan.proofs.HeldOrderLemmas.{held_order, stands_from}
+use Rattle.rip_plan.proofs.HeldAddressLemmas.{address_held, held_address, held_order, stands_from}
 use Rattle.rip_plan.proofs.OnePlanLemmas.{one_plan}
 use Rattle.rip_plan.proofs.PlanPartLemmas.{own_spot}
 use Rattle.rip_plan.proofs.SpotLemmas.{place_ahead, interface_ahead, place_spot, interface_spot}
