@@ -1,11 +1,11 @@
 -- What the later passes find of the faults of a plan.
 use Rattle.std.proofs.Common.{◌≡◌, ℕ, ◌+◌, ◌<◌, ◌⊎◌, inl, inr, List, [], ◌∷◌, ◌++◌, length, true, false, ◌||◌, Option, Some, None, Result, refl, sym, ap, subst, ◌∙◌, arith, Bool}
 use Rattle.rip_plan.proofs.FirstFoundLemmas.{Clashes, FirstSo, Passes, first_clashing, first_passing}
-use Rattle.rip_plan.proofs.SketchPlanLemmas.{interface_in, interface_from, listed_as, place_in, place_from, touch, touches, there_on, on_there}
+use Rattle.rip_plan.proofs.SketchPlanLemmas.{as_interface, interface_as, place_in, place_from, touch, touches, there_on, on_there}
 use Rattle.std.specs.Prelude.{slice_get, find, option_map, unwrap_or, map, ◌==◌}
 use Rattle.std.specs.List.{list_any}
 use Rattle.std.proofs.lemmas.Option.{same_Some, slice_get_within}
-use Rattle.std.proofs.lemmas.Bool.{cases_lt, cases_order, true_from_ne_false, and_parts, or_cases, or_right, not-true, not-false, both_ways, false_from_ne_true}
+use Rattle.std.proofs.lemmas.Bool.{eq-eqb, eqb-true, cases_lt, cases_order, true_from_ne_false, and_parts, or_cases, or_right, not-true, not-false, both_ways, false_from_ne_true}
 use Rattle.std.proofs.lemmas.Bool.Decides.{nat_tests}
 use Rattle.toml.specs.Data.{Data, Members}
 use Rattle.rip_plan.specs.declared.error.PlanCode.{PlanCode}
@@ -178,25 +178,16 @@ module _ (s : Sketch) where
   twice_gives : (j k : ℕ) (y x : DraftInterface) → slice_get s.interfaces j ≡ Some y → slice_get s.interfaces k ≡ Some x → are_twice y x ≡ true → AreTwice (network_of_sketch s) j k
   twice_gives j k y x at there h =
       let (routers, links) = and_parts (y.interface.router == x.interface.router) (y.interface.link == x.interface.link) h in
-      let router : x.interface.router ≡ y.interface.router = grind (arith, nat_tests) in
-      let link : x.interface.link ≡ y.interface.link = grind (arith, nat_tests) in (
-        y.interface.router,
-        y.interface.link,
-        y.interface.cost,
-        x.interface.cost,
-        record { address = y.interface.address; direct = y.interface.direct; poison = y.interface.poison; listed = interface_from s j y at },
-        record { address = x.interface.address; direct = x.interface.direct; poison = x.interface.poison; listed = listed_as s k x y.interface.router y.interface.link there router link },
-      )
+      let router = sym (eqb-true y.interface.router x.interface.router routers) in
+      let link = sym (eqb-true y.interface.link x.interface.link links) in
+      let its = interface_as s k x y.interface.router y.interface.link there router link in
+      (y.interface.router, y.interface.link, y.interface.cost, x.interface.cost, interface_as s j y y.interface.router y.interface.link at refl refl, its)
 
   twice_takes : (j k : ℕ) (y x : DraftInterface) → slice_get s.interfaces j ≡ Some y → slice_get s.interfaces k ≡ Some x → AreTwice (network_of_sketch s) j k → are_twice y x ≡ true
   twice_takes j k y x at there (r, l, c, d, h, h') =
-      let (y', its, same) = interface_in s j _ h.listed in
-      let (x', theirs, also) = interface_in s k _ h'.listed in
-      let one : y'.interface ≡ y.interface = ap (λ (w : DraftInterface). w.interface) (same_Some y' y (sym its ∙ at)) in
-      let two : x'.interface ≡ x.interface = ap (λ (w : DraftInterface). w.interface) (same_Some x' x (sym theirs ∙ there)) in
-      let routers : y.interface.router ≡ x.interface.router = ap (λ (v : Interface). v.router) (sym one ∙ same) ∙ ap (λ (v : Interface). v.router) (sym also ∙ two) in
-      let links : y.interface.link ≡ x.interface.link = ap (λ (v : Interface). v.link) (sym one ∙ same) ∙ ap (λ (v : Interface). v.link) (sym also ∙ two) in
-      grind (arith, nat_tests)
+      let (y', its, router, link) = as_interface s j r l c h in
+      let (x', theirs, other, same) = as_interface s k r l d h' in
+      rw (← same_Some y' y (sym its ∙ at), ← same_Some x' x (sym theirs ∙ there)) (grind (arith, nat_tests))
 
   -- two addresses that are one, on one link
   address_gives : (j k : ℕ) (y x : Held) → j < k → slice_get (held s.interfaces s.also) j ≡ Some y → slice_get (held s.interfaces s.also) k ≡ Some x → have_one_address y x ≡ true
@@ -292,23 +283,14 @@ module _ (s : Sketch) where
 
   bare_gives : (k : ℕ) → is_bare s.interfaces k ≡ true → (i l c : ℕ) → IsInterface (network_of_sketch s) i k l c → ⊥
   bare_gives k h i l c is =
-      let (x, at, same) = interface_in s i _ is.listed in
-      let of : x.interface.router ≡ k = ap (λ (v : Interface). v.router) same in
-      let some : list_any (λ (y : DraftInterface). y.interface.router == k) s.interfaces ≡ true =
-      any_at (λ (y : DraftInterface). y.interface.router == k) s.interfaces i x at (grind (arith, nat_tests)) in
-      both_ways (list_any (λ (y : DraftInterface). y.interface.router == k) s.interfaces) (not-true _ h) some
+      let (x, at, router, link) = as_interface s i k l c is in
+      both_ways (list_any (λ (y : DraftInterface). y.interface.router == k) s.interfaces) (not-true _ h)
+      (any_at (λ (y : DraftInterface). y.interface.router == k) s.interfaces i x at (eq-eqb x.interface.router k router))
 
   bare_takes : (k : ℕ) → is_bare s.interfaces k ≡ false → ((i l c : ℕ) → IsInterface (network_of_sketch s) i k l c → ⊥) → ⊥
   bare_takes k h none =
       let (i, x, at, test) = any_finds (λ (y : DraftInterface). y.interface.router == k) s.interfaces (not-false (list_any (λ (y : DraftInterface). y.interface.router == k) s.interfaces) h) in
-      let of : x.interface.router ≡ k = grind (arith, nat_tests) in
-      none i x.interface.link x.interface.cost (record {
-        address = x.interface.address;
-        direct = x.interface.direct;
-        poison = x.interface.poison;
-        listed = interface_from s i x at
-            ∙ ap (λ (m : ℕ). Some (record x.interface { router = m })) of;
-      })
+      none i x.interface.link x.interface.cost (interface_as s i x k x.interface.link at (eqb-true x.interface.router k test) refl)
 
 -- ---- all later passes
 

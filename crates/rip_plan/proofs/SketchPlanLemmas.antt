@@ -13,7 +13,7 @@ use Rattle.rip_plan.specs.declared.parts.Seat.TheVariants as seats
 use Rattle.rip_plan.specs.Draft.{Sketch}
 use Rattle.rip_plan.specs.Network.{network_of_sketch}
 use Rattle.rip_plan.specs.Passes.{is_there, touched}
-use Rattle.rip_plan.specs.Relations.{IsOn, IsPlace, IsPrefix, Touches}
+use Rattle.rip_plan.specs.Relations.{IsInterface, IsOn, IsPlace, IsPrefix, Touches}
 use Rattle.rip_plan.proofs.ClashLemmas.{any_listed}
 use Rattle.rip_plan.proofs.ItemLemmas.{any_at, any_finds, get_seen, get_some, see_got}
 use Rattle.rip_plan.proofs.NumberingLemmas.{numbers}
@@ -32,11 +32,20 @@ module _ (s : Sketch) where
   interface_from i x h = see_got (λ (y : DraftInterface). y.interface) s.interfaces i x h
 
   -- an interface with this router and this link
-  pub listed_as : (i : ℕ) (x : DraftInterface) (r l : ℕ) → slice_get s.interfaces i ≡ Some x → x.interface.router ≡ r → x.interface.link ≡ l
+  listed_as : (i : ℕ) (x : DraftInterface) (r l : ℕ) → slice_get s.interfaces i ≡ Some x → x.interface.router ≡ r → x.interface.link ≡ l
       → slice_get (network_of_sketch s).interfaces i ≡ Some (record x.interface { router = r; link = l })
   listed_as i x r l at router link =
       interface_from i x at ∙ ap (λ (m : ℕ). Some (record x.interface { router = m })) router
       ∙ ap (λ (m : ℕ). Some (record x.interface { router = r; link = m })) link
+
+  pub interface_as : (i : ℕ) (x : DraftInterface) (r l : ℕ) → slice_get s.interfaces i ≡ Some x → x.interface.router ≡ r → x.interface.link ≡ l
+      → IsInterface (network_of_sketch s) i r l x.interface.cost
+  interface_as i x r l at router link = record { address = x.interface.address; direct = x.interface.direct; poison = x.interface.poison; listed = listed_as i x r l at router link }
+
+  pub as_interface : (i r l c : ℕ) → IsInterface (network_of_sketch s) i r l c → (x : DraftInterface) × (slice_get s.interfaces i ≡ Some x) × (x.interface.router ≡ r) × (x.interface.link ≡ l)
+  as_interface i r l c is =
+      let (x, at, same) = interface_in i _ is.listed in
+      (x, at, ap (λ (v : Interface). v.router) same, ap (λ (v : Interface). v.link) same)
 
   pub place_in : (k p : ℕ) (seat : Seat) → IsPlace (network_of_sketch s) k p seat
       → (d : DraftPlace) × (slice_get s.places k ≡ Some d) × (slice_get (network_of_sketch s).prefixes p ≡ Some d.prefix) × (seat ≡ d.seat)
@@ -82,12 +91,9 @@ module _ (s : Sketch) where
   there_on r l h =
       let (i, x, at, test) = any_finds (λ (y : DraftInterface). y.interface.router == r && y.interface.link == l) s.interfaces h in
       let (of, on) = and_parts (x.interface.router == r) (x.interface.link == l) test in
-      let listed = listed_as i x r l at (eqb-true x.interface.router r of) (eqb-true x.interface.link l on) in
-      (x.interface.cost, (i, record { address = x.interface.address; direct = x.interface.direct; poison = x.interface.poison; listed = listed }))
+      (x.interface.cost, (i, interface_as i x r l at (eqb-true x.interface.router r of) (eqb-true x.interface.link l on)))
 
   pub on_there : (r l : ℕ) → IsOn (network_of_sketch s) r l → is_there s.interfaces r l ≡ true
   on_there r l (c, (i, is)) =
-      let (x, at, same) = interface_in i _ is.listed in
-      let router : x.interface.router ≡ r = ap (λ (v : Interface). v.router) same in
-      let link : x.interface.link ≡ l = ap (λ (v : Interface). v.link) same in
+      let (x, at, router, link) = as_interface i r l c is in
       any_at (λ (y : DraftInterface). y.interface.router == r && y.interface.link == l) s.interfaces i x at (grind (arith, nat_tests))
