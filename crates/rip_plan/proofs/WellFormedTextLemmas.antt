@@ -56,181 +56,142 @@ again_not names ds named differ (suc i) (d, earlier, suc k, name, at, its, less,
     let same : i ≡ k = differ i k name (names_good names ds named (suc i) i name d refl at its) (names_good names ds named (suc k) k name earlier refl there theirs) in
     omega arith
 
--- ---- a plan that keeps the laws
-
-module _ (laws : TextLaws) (document : Members) (n : Network) (plan : PlanOf document n) (lawful : IsLawful n) where
-  outside_not : (x : Data) → HasInterface document n plan x → IsOutside plan.links x → ⊥
-  outside_not x h o =
-      inside_not laws n.links plan.links plan.link_names lawful.link_names_differ x h.of.link_name h.of.text h.i.link h.i.address h.of.has_link h.of.link.0 h.of.has_address h.of.address
-      (λ p its.
-      let (k, q, at, seat, read) = prefix_place plan.links plan.on_links plan.link_prefixes h.i.link p its in
-      let (number, place, prefix) = its_place document n plan k q (get_left plan.on_links plan.owned k q at) in
-      let carries : Carries n h.i.link number = (k, subst (IsPlace n k number) seat place) in
-      let is : HasOwnAddress n h.k h.i.link h.i.address = record { router = h.i.router; cost = h.i.cost; direct = h.i.direct; poison = h.i.poison; listed = h.listed } in
-      let (other, block, on, its, contains) = lawful.inside h.k h.i.link h.i.address number is carries in
-      (block, carrier_has document n plan h.i.link other block on its, contains))
-      o
-
-  -- two items that clash
-  clash_not : (Clash : Network → ℕ → ℕ → Type 0) (spots : List At) (place : At) → ((j k : ℕ) → Clash n j k → j ≡ k) → (m : Network) → PlanOf document m → IsClash (Clash m) spots place → ⊥
-  clash_not Clash spots place apart m its c =
-      let (j, k, at, less, meet) = subst (λ (v : Network). IsClash (Clash v) spots place) (one_plan laws document m n its plan) c in
-      let same : j ≡ k = apart j k meet in
-      omega arith
-
-  meet_not : (j k : ℕ) → DoMeet n j k → j ≡ k
-  meet_not j k (p, inl (l, h, h')) = lawful.carried_once j k p l h h'
-  meet_not j k (p, inr (r, c, d, h, h')) = lawful.touched_once j k p r c d h h'
-
-  twice_not : (j k : ℕ) → AreTwice n j k → j ≡ k
-  twice_not j k (r, l, c, d, h, h') = lawful.one_on_link j k r l c d h h'
-
-  address_not : (j k : ℕ) → HaveOneAddress n j k → j ≡ k
-  address_not j k (l, a, h, h') = lawful.addresses_differ j k l a h h'
-
-  once_not : (k : ℕ) → HasOneTwice n k → ⊥
-  once_not k (l, addresses, has, (j, m, a, less, one, two)) = let same : j ≡ m = lawful.addresses_once k l addresses has j m a one two in omega arith
-
-  address_clash_not : (place : At) (m : Network) → PlanOf document m → IsClash (HaveOneAddress m) (interface_spots plan.routers) place ⊎ IsSo (HasOneTwice m) (interface_spots plan.routers) place → ⊥
-  address_clash_not place m its (inl c) = clash_not HaveOneAddress (interface_spots plan.routers) place address_not m its c
-  address_clash_not place m its (inr c) = let (k, at, twice) = subst (λ (v : Network). IsSo (HasOneTwice v) (interface_spots plan.routers) place)
-      (one_plan laws document m n its plan) c in once_not k twice
-
-  astray_not : (place : At) (m : Network) → PlanOf document m → IsSo (IsAstray m) (place_spots plan.links plan.routers) place → ⊥
-  astray_not place m its c =
-      let (k, at, (p, r, l, h, none)) = subst (λ (v : Network). IsSo (IsAstray v) (place_spots plan.links plan.routers) place) (one_plan laws document m n its plan) c in
-      none (lawful.attached_there r p l (k, h))
-
-  bare_not : (r : ℕ) (m : Network) → PlanOf document m → IsBare m r → ⊥
-  bare_not r m its b =
-      let (k, number, less, none) = subst (λ (v : Network). IsBare v r) (one_plan laws document m n its plan) b in
-      let (i, l, c, is) = lawful.one_interface k less in
-      none i l c is
-
-  -- items past a limit
-  past_not : (spots : List At) (place : At) (k : ℕ) → length spots ≤ 1024 → slice_get spots k ≡ Some place → 1024 ≤ k → ⊥
-  past_not spots place k few at past = let within : k < length spots = slice_get_within spots k place at in omega arith
-
-  few_places : length (place_spots plan.links plan.routers) ≤ 1024
-  few_places = let few : length n.places ≤ 1024 = lawful.few_places in omega (arith, places_count document n plan)
-
-  few_interfaces : length (interface_spots plan.routers) ≤ 1024
-  few_interfaces = let few : length n.interfaces ≤ 1024 = lawful.few_interfaces in omega (arith, interfaces_count document n plan)
-
-  few_also : length (also_spots plan.routers) ≤ 1024
-  few_also = let few : sum (map length n.also) ≤ 1024 = lawful.few_also in omega (arith, also_counted document n plan)
-
-  interface_limit : (r j : ℕ) → IsPast 1024 (interface_spots plan.routers) (RouterInterface r j) ⊎ IsPast 1024 (also_spots plan.routers) (RouterInterface r j) → ⊥
-  interface_limit r j (inl f) = past_not (interface_spots plan.routers) (RouterInterface r j) f.0 few_interfaces f.1 f.2
-  interface_limit r j (inr f) = past_not (also_spots plan.routers) (RouterInterface r j) f.0 few_also f.1 f.2
-
-  interface_cost : (x : Data) → HasInterface document n plan x → HasWrongCost x ⊎ HasWrongDirect x → ⊥
-  interface_cost x h wrong =
-      let is : IsInterface n h.k h.i.router h.i.link h.i.cost = record { address = h.i.address; direct = h.i.direct; poison = h.i.poison; listed = h.listed } in
-      let on : IsConnected n h.k h.i.router h.i.link h.i.direct = record { address = h.i.address; cost = h.i.cost; poison = h.i.poison; listed = h.listed } in
-      elim wrong [
-        | inl cost ↦ cost_fits x h.i.cost h.of.cost (lawful.cost_least h.k _ _ _ is, lawful.cost_most h.k _ _ _ is) cost
-        | inr direct ↦ direct_fits x h.i.cost h.i.direct h.of.cost h.of.direct (lawful.direct_least h.k _ _ _ on, lawful.direct_most h.k _ _ _ _ is on) direct
-      ]
-
-  own_cost : (x : Data) → HasOwn document n plan x → HasWrongCost x → ⊥
-  own_cost x h wrong =
-      let k = length plan.on_links + h.k in
-      let (p, place, prefix) = its_place document n plan k h.q (get_past plan.on_links plan.owned h.k k refl ∙ h.listed) in
-      let own : IsOwnAt n k p h.m h.of.own.cost = record { own = h.of.own; place = subst (IsPlace n k p) h.of.seat place; router = h.of.router; says = refl } in
-      cost_fits x h.of.own.cost h.of.cost (lawful.own_cost_least k p h.m h.of.own.cost own, lawful.own_cost_most k p h.m h.of.own.cost own) wrong
-
 -- ---- bytes that are well formed
 
+past_not : (spots : List At) (place : At) → length spots ≤ 1024 → IsPast 1024 spots place → ⊥
+past_not spots place few (k, at, past) = let within : k < length spots = slice_get_within spots k place at in let le : 1024 ≤ k = past in omega arith
+
+clash_not : (Clash : ℕ → ℕ → Type 0) (spots : List At) (place : At) → ((j k : ℕ) → Clash j k → j ≡ k) → IsClash Clash spots place → ⊥
+clash_not Clash spots place apart (j, k, at, less, meet) = let same : j ≡ k = apart j k meet in omega arith
+
+has_fields : (Is : Data → Type 0) (ds : List Data) (i : ℕ) (d : Data) → All Is ds → nth ds i ≡ Some d → (Is d → ⊥) → ⊥
+has_fields Is ds zero d all at lacks = none-some d at
+has_fields Is ds (suc k) d all at lacks = lacks (all_at Is ds k d all at)
+
+item_fields : (Is : Data → Type 0) (key : List ℕ) (ds : List Data) (i j : ℕ) (x : Data) → All (λ (at : ℕ × Data). Is at.1) (items_under key 0 ds) → IsItem key ds i j x → (Is x → ⊥) → ⊥
+item_fields Is key ds i j x all item lacks =
+    let u = item_under key ds i j x item in
+    lacks (all_at (λ (at : ℕ × Data). Is at.1) (items_under key 0 ds) u.k (u.m, x) all u.at)
+
 module _ (laws : TextLaws) (bytes : List ℕ) (w : IsWellFormed bytes) where
-  link_named : (i : ℕ) → IsMisnamed w.plan.links i → ⊥
-  link_named i (d, name, at, its, bad) = bad (misnamed_not w.network.links w.plan.links w.plan.link_names IsName w.lawful.link_named i name d at its)
+  -- of a network that is the plan too
+  of_plan : (Is : Network → Type 0) → (n : Network) × PlanOf w.document n × Is n → Is w.network
+  of_plan Is (n, its, is) = subst Is (one_plan laws w.document n w.network its w.plan) is
 
-  router_named : (r : ℕ) → IsMisnamed w.plan.routers r → ⊥
-  router_named r (d, name, at, its, bad) = bad (misnamed_not w.network.routers w.plan.routers w.plan.router_names IsName w.lawful.router_named r name d at its)
+  outside_not : (x : Data) → HasInterface w.document w.network w.plan x → IsOutside w.plan.links x → ⊥
+  outside_not x h o =
+      let n = w.network in
+      inside_not laws n.links w.plan.links w.plan.link_names w.lawful.link_names_differ x h.of.link_name h.of.text h.i.link h.i.address h.of.has_link h.of.link.0 h.of.has_address h.of.address
+      (λ p its.
+      let (k, q, at, seat, read) = prefix_place w.plan.links w.plan.on_links w.plan.link_prefixes h.i.link p its in
+      let (number, place, prefix) = its_place w.document n w.plan k q (get_left w.plan.on_links w.plan.owned k q at) in
+      let is : HasOwnAddress n h.k h.i.link h.i.address = record { router = h.i.router; cost = h.i.cost; direct = h.i.direct; poison = h.i.poison; listed = h.listed } in
+      let (other, block, on, its, contains) = w.lawful.inside h.k h.i.link h.i.address number is (k, subst (IsPlace n k number) seat place) in
+      (block, carrier_has w.document n w.plan h.i.link other block on its, contains))
+      o
 
-  has_fields : (Is : Data → Type 0) (ds : List Data) (i : ℕ) (d : Data) → All Is ds → nth ds i ≡ Some d → (Is d → ⊥) → ⊥
-  has_fields Is ds zero d all at lacks = none-some d at
-  has_fields Is ds (suc k) d all at lacks = lacks (all_at Is ds k d all at)
+  meet_not : (j k : ℕ) → DoMeet w.network j k → j ≡ k
+  meet_not j k (p, inl (l, h, h')) = w.lawful.carried_once j k p l h h'
+  meet_not j k (p, inr (r, c, d, h, h')) = w.lawful.touched_once j k p r c d h h'
 
-  item_fields : (Is : Data → Type 0) (key : List ℕ) (ds : List Data) (i j : ℕ) (x : Data) → All (λ (at : ℕ × Data). Is at.1) (items_under key 0 ds) → IsItem key ds i j x → (Is x → ⊥) → ⊥
-  item_fields Is key ds i j x all item lacks =
-      let u = item_under key ds i j x item in
-      lacks (all_at (λ (at : ℕ × Data). Is at.1) (items_under key 0 ds) u.k (u.m, x) all u.at)
+  address_not : (place : At) → IsClash (HaveOneAddress w.network) (interface_spots w.plan.routers) place ⊎ IsSo (HasOneTwice w.network) (interface_spots w.plan.routers) place → ⊥
+  address_not place (inl c) =
+      clash_not (HaveOneAddress w.network) (interface_spots w.plan.routers) place (λ j k (l, a, h, h'). w.lawful.addresses_differ j k l a h h') c
+  address_not place (inr (k, at, (l, addresses, has, (j, m, a, less, one, two)))) = let same : j ≡ m = w.lawful.addresses_once k l addresses has j m a one two in omega arith
+
+  few_places : length (place_spots w.plan.links w.plan.routers) ≤ 1024
+  few_places = let few : length w.network.places ≤ 1024 = w.lawful.few_places in omega (arith, places_count w.document w.network w.plan)
+
+  interface_limit : (r j : ℕ) → IsPast 1024 (interface_spots w.plan.routers) (RouterInterface r j) ⊎ IsPast 1024 (also_spots w.plan.routers) (RouterInterface r j) → ⊥
+  interface_limit r j (inl f) =
+      let few : length w.network.interfaces ≤ 1024 = w.lawful.few_interfaces in
+      past_not (interface_spots w.plan.routers) (RouterInterface r j) (omega (arith, interfaces_count w.document w.network w.plan)) f
+  interface_limit r j (inr f) =
+      let few : sum (map length w.network.also) ≤ 1024 = w.lawful.few_also in
+      past_not (also_spots w.plan.routers) (RouterInterface r j) (omega (arith, also_counted w.document w.network w.plan)) f
+
+  interface_cost : (x : Data) → HasInterface w.document w.network w.plan x → HasWrongCost x ⊎ HasWrongDirect x → ⊥
+  interface_cost x h wrong =
+      let is : IsInterface w.network h.k h.i.router h.i.link h.i.cost = record { address = h.i.address; direct = h.i.direct; poison = h.i.poison; listed = h.listed } in
+      let on : IsConnected w.network h.k h.i.router h.i.link h.i.direct = record { address = h.i.address; cost = h.i.cost; poison = h.i.poison; listed = h.listed } in
+      elim wrong [
+        | inl cost ↦ cost_fits x h.i.cost h.of.cost (w.lawful.cost_least h.k _ _ _ is, w.lawful.cost_most h.k _ _ _ is) cost
+        | inr direct ↦ direct_fits x h.i.cost h.i.direct h.of.cost h.of.direct (w.lawful.direct_least h.k _ _ _ on, w.lawful.direct_most h.k _ _ _ _ is on) direct
+      ]
+
+  own_cost : (x : Data) → HasOwn w.document w.network w.plan x → HasWrongCost x → ⊥
+  own_cost x h wrong =
+      let k = length w.plan.on_links + h.k in
+      let (p, place, prefix) = its_place w.document w.network w.plan k h.q (get_past w.plan.on_links w.plan.owned h.k k refl ∙ h.listed) in
+      let own : IsOwnAt w.network k p h.m h.of.own.cost = record { own = h.of.own; place = subst (IsPlace w.network k p) h.of.seat place; router = h.of.router; says = refl } in
+      cost_fits x h.of.own.cost h.of.cost (w.lawful.own_cost_least k p h.m h.of.own.cost own, w.lawful.own_cost_most k p h.m h.of.own.cost own) wrong
 
   -- the prefix of an item
-  text_not : (i j : ℕ) (x : Data) → IsItem (codes_of "prefixes") w.plan.links i j x → (text : List ℕ) × (x ≡ string text) × ((p : Block) × IsPrefixText text p)
-  text_not i j x item =
+  its_text : (i j : ℕ) (x : Data) → IsItem (codes_of "prefixes") w.plan.links i j x → (text : List ℕ) × (x ≡ string text) × ((p : Block) × IsPrefixText text p)
+  its_text i j x item =
       let u = item_under (codes_of "prefixes") w.plan.links i j x item in
       let (q, listed, of) = matched_right IsOnLink w.plan.on_links (items_under (codes_of "prefixes") 0 w.plan.links) u.k (u.m, x) w.plan.link_prefixes u.at in
       (of.text, of.is_text, (q.prefix, of.prefix))
 
-  prefix_not : (i j : ℕ) (text : List ℕ) → IsItem (codes_of "prefixes") w.plan.links i j (string text) → IsNoPrefix text → ⊥
-  prefix_not i j text item none =
-      let (other, is, (p, parsed)) = text_not i j (string text) item in
-      let same : text ≡ other = cc in
-      none p (subst (λ (t : List ℕ). IsPrefixText t p) (sym same) parsed)
-
-  key_not : (i j : ℕ) (x : Data) → IsItem (codes_of "prefixes") w.plan.links i j x → (IsString x → ⊥) → ⊥
-  key_not i j x item none =
-      let (text, is, parsed) = text_not i j x item in
-      none (text, is)
-
   address_told : (r j : ℕ) (x : Data) → IsItem (codes_of "interface") w.plan.routers r j x → HasNoAddress (codes_of "address") x ⊎ HasWrongAlso x → ⊥
   address_told r j x item (inl (text, has, none)) =
       let h = its_interface w.document w.network w.plan r j x item in
-      let same : text ≡ h.of.text = text_same (codes_of "address") x text h.of.text has h.of.has_address in
-      none h.i.address (subst (λ (t : List ℕ). IsAddressText t h.i.address) (sym same) h.of.address)
+      none h.i.address (subst (λ (t : List ℕ). IsAddressText t h.i.address) (text_same (codes_of "address") x h.of.text text h.of.has_address has) h.of.address)
   address_told r j x item (inr (k, text, at, none)) =
       let u = item_under (codes_of "interface") w.plan.routers r j x item in
       let (also, listed, of) = matched_right AreAlsoOf w.network.also (items_under (codes_of "interface") 0 w.plan.routers) u.k (u.m, x) w.plan.also u.at in
       let (a, there, (other, is, parsed)) = matched_right IsAddressOf also (also_items x) k (string text) of at in
-      let strings : string text ≡ string other = is in
-      let same : text ≡ other = cc in
-      none a (subst (λ (t : List ℕ). IsAddressText t a) (sym same) parsed)
-
-  own_prefix_told : (r j : ℕ) (x : Data) (text : List ℕ) → IsItem (codes_of "own") w.plan.routers r j x → get (codes_of "prefix") x ≡ Some (string text) → IsNoPrefix text → ⊥
-  own_prefix_told r j x text item has none =
-      let h = its_own w.document w.network w.plan r j x item in
-      let same : text ≡ h.of.text = text_same (codes_of "prefix") x text h.of.text has h.of.has_prefix in
-      none h.q.prefix (subst (λ (t : List ℕ). IsPrefixText t h.q.prefix) (sym same) h.of.prefix)
+      let same : other ≡ text = cc in
+      none a (subst (λ (t : List ℕ). IsAddressText t a) same parsed)
 
   -- no fault of the tables
   table_not : (c : PlanCode) (place : At) → TableFault w.document w.plan.links w.plan.routers c place → ⊥
   table_not codes.Key (Link i) f = has_fields IsLinkTable w.plan.links i f.0 w.link_tables f.1 f.2
-  table_not codes.Name (Link i) f = link_named i f
+  table_not codes.Name (Link i) (d, name, at, its, bad) = bad (misnamed_not w.network.links w.plan.links w.plan.link_names IsName w.lawful.link_named i name d at its)
   table_not codes.DuplicateName (Link i) f = again_not w.network.links w.plan.links w.plan.link_names w.lawful.link_names_differ i f
-  table_not codes.Key (LinkPrefix i j) f = key_not i j f.0 f.1 f.2
-  table_not codes.Prefix (LinkPrefix i j) f = prefix_not i j f.0 f.1 f.2
-  table_not codes.Limit (LinkPrefix i j) f = past_not laws w.document w.network w.plan w.lawful (place_spots w.plan.links w.plan.routers) (LinkPrefix i j) f.0
-      (few_places laws w.document w.network w.plan w.lawful) f.1 f.2
+  table_not codes.Key (LinkPrefix i j) f = let (text, is, parsed) = its_text i j f.0 f.1 in f.2 (text, is)
+  table_not codes.Prefix (LinkPrefix i j) (text, item, none) =
+      let (other, is, (p, parsed)) = its_text i j (string text) item in
+      let same : other ≡ text = cc in
+      none p (subst (λ (t : List ℕ). IsPrefixText t p) same parsed)
+  table_not codes.Limit (LinkPrefix i j) f = past_not (place_spots w.plan.links w.plan.routers) (LinkPrefix i j) few_places f
   table_not codes.Key (Router r) f = has_fields IsRouterTable w.plan.routers r f.0 w.router_tables f.1 f.2
-  table_not codes.Name (Router r) f = router_named r f
+  table_not codes.Name (Router r) (d, name, at, its, bad) = bad (misnamed_not w.network.routers w.plan.routers w.plan.router_names IsName w.lawful.router_named r name d at its)
   table_not codes.DuplicateName (Router r) f = again_not w.network.routers w.plan.routers w.plan.router_names w.lawful.router_names_differ r f
   table_not codes.Key (RouterInterface r j) f = item_fields IsInterfaceTable (codes_of "interface") w.plan.routers r j f.0 w.interface_tables f.1 f.2
   table_not codes.Address (RouterInterface r j) f = address_told r j f.0 f.1 f.2
-  table_not codes.Cost (RouterInterface r j) f = interface_cost laws w.document w.network w.plan w.lawful f.0 (its_interface w.document w.network w.plan r j f.0 f.1) f.2
-  table_not codes.UnknownLink (RouterInterface r j) f = let h = its_interface w.document w.network w.plan r j f.0 f.1 in
+  table_not codes.Cost (RouterInterface r j) f = interface_cost f.0 (its_interface w.document w.network w.plan r j f.0 f.1) f.2
+  table_not codes.UnknownLink (RouterInterface r j) f =
+      let h = its_interface w.document w.network w.plan r j f.0 f.1 in
       known_not w.network.links w.plan.links w.plan.link_names f.0 h.of.link_name h.i.link h.of.has_link h.of.link.0 f.2
-  table_not codes.OutsidePrefix (RouterInterface r j) f = outside_not laws w.document w.network w.plan w.lawful f.0 (its_interface w.document w.network w.plan r j f.0 f.1) f.2
-  table_not codes.Limit (RouterInterface r j) f = interface_limit laws w.document w.network w.plan w.lawful r j f
+  table_not codes.OutsidePrefix (RouterInterface r j) f = outside_not f.0 (its_interface w.document w.network w.plan r j f.0 f.1) f.2
+  table_not codes.Limit (RouterInterface r j) f = interface_limit r j f
   table_not codes.Key (RouterOwn r j) f = item_fields IsOwnTable (codes_of "own") w.plan.routers r j f.0 w.own_tables f.1 f.2
   table_not codes.Address (RouterOwn r j) f = let h = its_own w.document w.network w.plan r j f.0 f.1 in gateway_fits f.0 h.of.own.via h.of.via f.2
   table_not codes.UnknownLink (RouterOwn r j) f =
       let h = its_own w.document w.network w.plan r j f.0 f.1 in
       attached_not w.network.links w.plan.links w.plan.link_names f.0 h.of.own.link h.of.link f.2
-  table_not codes.Prefix (RouterOwn r j) f = own_prefix_told r j f.0 f.1 f.2 f.3 f.4
-  table_not codes.Cost (RouterOwn r j) f = own_cost laws w.document w.network w.plan w.lawful f.0 (its_own w.document w.network w.plan r j f.0 f.1) f.2
-  table_not codes.Limit (RouterOwn r j) f = past_not laws w.document w.network w.plan w.lawful (place_spots w.plan.links w.plan.routers) (RouterOwn r j) f.0
-      (few_places laws w.document w.network w.plan w.lawful) f.1 f.2
-  table_not codes.DuplicatePrefix (LinkPrefix i j) f = clash_not laws w.document w.network w.plan w.lawful DoMeet (place_spots w.plan.links w.plan.routers) (LinkPrefix i j)
-      (meet_not laws w.document w.network w.plan w.lawful) f.0 f.1 f.2
-  table_not codes.DuplicatePrefix (RouterOwn r j) f = clash_not laws w.document w.network w.plan w.lawful DoMeet (place_spots w.plan.links w.plan.routers) (RouterOwn r j)
-      (meet_not laws w.document w.network w.plan w.lawful) f.0 f.1 f.2
-  table_not codes.TwiceOnLink (RouterInterface r j) f = clash_not laws w.document w.network w.plan w.lawful AreTwice (interface_spots w.plan.routers) (RouterInterface r j)
-      (twice_not laws w.document w.network w.plan w.lawful) f.0 f.1 f.2
-  table_not codes.DuplicateAddress (RouterInterface r j) f = address_clash_not laws w.document w.network w.plan w.lawful (RouterInterface r j) f.0 f.1 f.2
-  table_not codes.NoInterface (Router r) f = bare_not laws w.document w.network w.plan w.lawful r f.0 f.1 f.2
+  table_not codes.Prefix (RouterOwn r j) (x, text, item, has, none) =
+      let h = its_own w.document w.network w.plan r j x item in
+      none h.q.prefix (subst (λ (t : List ℕ). IsPrefixText t h.q.prefix) (text_same (codes_of "prefix") x h.of.text text h.of.has_prefix has) h.of.prefix)
+  table_not codes.Cost (RouterOwn r j) f = own_cost f.0 (its_own w.document w.network w.plan r j f.0 f.1) f.2
+  table_not codes.Limit (RouterOwn r j) f = past_not (place_spots w.plan.links w.plan.routers) (RouterOwn r j) few_places f
+  table_not codes.DuplicatePrefix (LinkPrefix i j) f =
+      let spots = place_spots w.plan.links w.plan.routers in
+      clash_not (DoMeet w.network) spots (LinkPrefix i j) meet_not (of_plan (λ n. IsClash (DoMeet n) spots (LinkPrefix i j)) f)
+  table_not codes.DuplicatePrefix (RouterOwn r j) f =
+      let spots = place_spots w.plan.links w.plan.routers in
+      clash_not (DoMeet w.network) spots (RouterOwn r j) meet_not (of_plan (λ n. IsClash (DoMeet n) spots (RouterOwn r j)) f)
+  table_not codes.TwiceOnLink (RouterInterface r j) f =
+      let spots = interface_spots w.plan.routers in
+      clash_not (AreTwice w.network) spots (RouterInterface r j) (λ i k (q, l, c, d, h, h'). w.lawful.one_on_link i k q l c d h h') (of_plan (λ n. IsClash (AreTwice n) spots (RouterInterface r j)) f)
+  table_not codes.DuplicateAddress (RouterInterface r j) f =
+      let spots = interface_spots w.plan.routers in
+      address_not (RouterInterface r j) (of_plan (λ n. IsClash (HaveOneAddress n) spots (RouterInterface r j) ⊎ IsSo (HasOneTwice n) spots (RouterInterface r j)) f)
+  table_not codes.NoInterface (Router r) f =
+      let (k, number, less, none) = of_plan (λ n. IsBare n r) f in
+      let (i, l, c, is) = w.lawful.one_interface k less in
+      none i l c is
   table_not c place f = absurd f
 
   tables : HasTables bytes w.document w.plan.links w.plan.routers
@@ -253,7 +214,8 @@ module _ (laws : TextLaws) (bytes : List ℕ) (w : IsWellFormed bytes) where
   last_not : (place : At) → AstrayAt bytes place → ⊥
   last_not (RouterOwn r j) f =
       let its = one_astray bytes w.document w.plan.links w.plan.routers tables (RouterOwn r j) f.0 f.1 f.2 f.3 f.4 in
-      astray_not laws w.document w.network w.plan w.lawful (RouterOwn r j) its.0 its.1 its.2
+      let (k, at, (p, q, l, h, none)) = of_plan (λ n. IsSo (IsAstray n) (place_spots w.plan.links w.plan.routers) (RouterOwn r j)) its in
+      none (w.lawful.attached_there q p l (k, h))
   last_not place f = absurd f
 
   found_not : (pass : ℕ) (e : PlanError) → IsFound bytes pass e → ⊥
