@@ -104,12 +104,12 @@ same_document bytes document other h text = same_Some other document (sym text.r
 
 -- bytes have one document, with one list of links and one of routers
 module _ (bytes : List ℕ) (document : Members) (links routers : List Data) (has : HasTables bytes document links routers) where
-  pub one_tables : (other : Members) (ls rs : List Data) → HasTables bytes other ls rs → (other ≡ document) × (ls ≡ links) × (rs ≡ routers)
+  pub one_tables : (other : Members) (ls rs : List Data) → HasTables bytes other ls rs → ◌≡◌ {A = Members × List Data × List Data} (other, ls, rs) (document, links, routers)
   one_tables other ls rs h =
       let same = same_document bytes document other has.text.reads h.text in
-      let its_links : HasItems (codes_of "link") (table document) ls = subst (λ (m : Members). HasItems (codes_of "link") (table m) ls) same h.has_links in
-      let its_routers : HasItems (codes_of "router") (table document) rs = subst (λ (m : Members). HasItems (codes_of "router") (table m) rs) same h.has_routers in
-      (same, items_same (codes_of "link") (table document) ls links its_links has.has_links, items_same (codes_of "router") (table document) rs routers its_routers has.has_routers)
+      let one : ls ≡ links = items_same (codes_of "link") (table document) ls links (subst (λ (m : Members). HasItems (codes_of "link") (table m) ls) same h.has_links) has.has_links in
+      let two : rs ≡ routers = items_same (codes_of "router") (table document) rs routers (subst (λ (m : Members). HasItems (codes_of "router") (table m) rs) same h.has_routers) has.has_routers in
+      rw (same, one, two) refl
 
   pub whole_fault : (c : PlanCode) (place : At) → TableFault document links routers c place → FaultAt bytes c place
   whole_fault codes.Syntax Text h = absurd h
@@ -119,18 +119,10 @@ module _ (bytes : List ℕ) (document : Members) (links routers : List Data) (ha
   whole_fault c place h = (document, links, routers, has, h)
 
   pub one_fault : (c : PlanCode) (place : At) (other : Members) (ls rs : List Data) → HasTables bytes other ls rs → TableFault other ls rs c place → TableFault document links routers c place
-  one_fault c place other ls rs h f =
-      let (one, two, three) = one_tables other ls rs h in
-      subst (λ (l : List Data). TableFault document links l c place) three
-      (subst (λ (l : List Data). TableFault document l rs c place) two
-      (subst (λ (m : Members). TableFault m ls rs c place) one f))
+  one_fault c place other ls rs h f = subst (λ (t : Members × List Data × List Data). TableFault t.0 t.1 t.2 c place) (one_tables other ls rs h) f
 
   pub one_astray : (place : At) (other : Members) (ls rs : List Data) → HasTables bytes other ls rs → IsAstrayAt other ls rs place → IsAstrayAt document links routers place
-  one_astray place other ls rs h f =
-      let (one, two, three) = one_tables other ls rs h in
-      subst (λ (l : List Data). IsAstrayAt document links l place) three
-      (subst (λ (l : List Data). IsAstrayAt document l rs place) two
-      (subst (λ (m : Members). IsAstrayAt m ls rs place) one f))
+  one_astray place other ls rs h f = subst (λ (t : Members × List Data × List Data). IsAstrayAt t.0 t.1 t.2 place) (one_tables other ls rs h) f
 
 module _ (laws : TextLaws) (bytes : List ℕ) (document : Members) (short : length bytes ≤ 1048576) (reads : document_of bytes ≡ Some document) where
   text : IsText bytes document
@@ -211,8 +203,8 @@ module _ (laws : TextLaws) (bytes : List ℕ) (document : Members) (short : leng
           → FaultAt bytes codes.Limit Text → ⊥
       limit_clear links routers poison is room (inl more) = let past : 1048576 < length bytes = more in omega arith
       limit_clear links routers poison is room (inr (other, ls, rs, has, over)) =
-          let (one, two, three) = one_tables bytes document links routers (tables links routers poison is) other ls rs has in
-          over_clear links routers room (subst (λ (l : List Data). (512 < length links) ⊎ (128 < length l)) three (subst (λ (l : List Data). (512 < length l) ⊎ (128 < length rs)) two over))
+          let same = one_tables bytes document links routers (tables links routers poison is) other ls rs has in
+          over_clear links routers room (subst (λ (t : Members × List Data × List Data). (512 < length t.1) ⊎ (128 < length t.2)) same over)
 
       by_fault : (links routers : List Data) (o : Found) → table_rows.has o → Before (ranked o) (0 ∷ 1 ∷ 1 ∷ []) ⊎ IsOfTables document links routers o
           → IsOfTables document links routers o × table_rows.has o

@@ -207,8 +207,8 @@ module _ (laws : TextLaws) (bytes : List ℕ) (w : IsWellFormed bytes) where
   fault_not codes.Key Text f = f.2 (subst IsRoot (sym (same_document bytes w.document f.0 w.text.reads f.1)) w.root)
   fault_not codes.Limit Text (inl more) = let few : length bytes ≤ 1048576 = w.text.short in let past : 1048576 < length bytes = more in omega arith
   fault_not codes.Limit Text (inr (other, ls, rs, has, over)) =
-      let (one, two, three) = one_tables bytes w.document w.plan.links w.plan.routers tables other ls rs has in
-      over_not (subst (λ (l : List Data). (512 < length w.plan.links) ⊎ (128 < length l)) three (subst (λ (l : List Data). (512 < length l) ⊎ (128 < length rs)) two over))
+      let same = one_tables bytes w.document w.plan.links w.plan.routers tables other ls rs has in
+      over_not (subst (λ (t : Members × List Data × List Data). (512 < length t.1) ⊎ (128 < length t.2)) same over)
   fault_not c place f = table_not c place (one_fault bytes w.document w.plan.links w.plan.routers tables c place f.0 f.1 f.2 f.3 f.4)
 
   last_not : (place : At) → AstrayAt bytes place → ⊥
