@@ -1,6 +1,6 @@
 -- The items of a list, by their numbers.
 use Rattle.std.proofs.Common.{◌≡◌, ℕ, zero, suc, ◌+◌, ◌<◌, ◌⊎◌, inl, inr, List, [], ◌∷◌, ◌++◌, length, map, Bool, true, false, Option, Some, None, refl, sym, ◌∙◌, ap, subst, arith, ◌≤◌}
-use Rattle.std.proofs.lemmas.Bool.{both_ways, cases_Bool, false_from_ne_true, or_parts}
+use Rattle.std.proofs.lemmas.Bool.{both_ways, cases_Bool, false_from_ne_true}
 use Rattle.std.proofs.lemmas.List.Folds.{Any-from_list_any, list_any-from_Any}
 use Rattle.std.specs.Option.{is_some}
 use Rattle.std.specs.Prelude.{option_map, slice_get}
@@ -44,20 +44,9 @@ distinct_at clash (z ∷ zs) (suc i) (suc j) x y d h k e f = let same : i ≡ j 
 
 -- ---- one more item
 
-pub all_push : {A : Type 0} (P : A → Type 0) (xs : List A) (x : A) → AllByRecursion P xs → P x → AllByRecursion P (xs ++ x ∷ [])
-all_push P [] x h p = (p, tt)
-all_push P (y ∷ xs) x h p = (h.0, all_push P xs x h.1 p)
-
 pub all_here : {A : Type 0} (P : A → Type 0) (xs : List A) → ((k : ℕ) (x : A) → slice_get xs k ≡ Some x → P x) → AllByRecursion P xs
 all_here P [] f = tt
 all_here P (x ∷ xs) f = (f 0 x refl, all_here P xs (λ k y h. f (suc k) y h))
-
-pub distinct_push : {A : Type 0} (clash : A → A → Bool) (xs : List A) (x : A) → IsDistinct clash xs → list_any (λ y. clash y x) xs ≡ false → IsDistinct clash (xs ++ x ∷ [])
-unfolding IsDistinct
-distinct_push clash [] x d h = (tt, tt)
-distinct_push clash (y ∷ ys) x d h =
-    let both = or_parts (clash y x) (list_any (λ z. clash z x) ys) h in
-    (all_push (λ z. clash y z ≡ false) ys x d.0 both.0, distinct_push clash ys x d.1 both.1)
 
 pub get_left : {A : Type 0} (xs ys : List A) (i : ℕ) (x : A) → slice_get xs i ≡ Some x → slice_get (xs ++ ys) i ≡ Some x
 get_left [] ys i x h = absurd (none-some x h)
@@ -82,16 +71,6 @@ get_split (x ∷ xs) ys (suc k) a h =
 
 pub get_last : {A : Type 0} (xs : List A) (x : A) → slice_get (xs ++ x ∷ []) (length xs) ≡ Some x
 get_last xs x = get_past xs (x ∷ []) 0 (length xs) (omega arith)
-
-pub get_push : {A : Type 0} (xs : List A) (x : A) (i : ℕ) (y : A) → slice_get (xs ++ x ∷ []) i ≡ Some y → (slice_get xs i ≡ Some y) ⊎ ((i ≡ length xs) × (x ≡ y))
-get_push [] x zero y h = inr (refl, same_Some x y h)
-get_push [] x (suc i) y h = absurd (none-some y h)
-get_push (z ∷ zs) x zero y h = inl h
-get_push (z ∷ zs) x (suc i) y h =
-    elim (get_push zs x i y h) [
-      | inl e ↦ inl e
-      | inr p ↦ let last : i ≡ length zs = p.0 in inr (omega arith, p.1)
-    ]
 
 pub get_some : {A : Type 0} (xs : List A) (i : ℕ) → i < length xs → (x : A) × (slice_get xs i ≡ Some x)
 get_some [] i h = absurd (omega arith)

@@ -1,5 +1,5 @@
 -- Lists that are matched item by item.
-use Rattle.std.proofs.Common.{◌≡◌, ℕ, inl, inr, zero, suc, List, [], ◌∷◌, ◌++◌, length, filter, Bool, true, ◌&&◌, Some, refl, ◌∙◌, ap, subst, arith}
+use Rattle.std.proofs.Common.{◌≡◌, ℕ, inl, inr, zero, suc, List, [], ◌∷◌, ◌++◌, length, map, filter, Bool, true, ◌&&◌, Some, refl, ◌∙◌, ap, subst, arith}
 use Rattle.std.specs.Prelude.{slice_get}
 use Rattle.std.proofs.lemmas.Bool.{cases_Bool}
 use Rattle.std.proofs.lemmas.Option.{none-some, same_Some}
@@ -20,17 +20,17 @@ matched_same R S f (x ∷ xs) [] (z ∷ zs) m k = absurd k
 matched_same {A} R S f (x ∷ xs) (y ∷ ys) (z ∷ zs) m k =
     ap (λ (w : A). w ∷ xs) (f x y z m.0 k.0) ∙ ap (λ (ws : List A). y ∷ ws) (matched_same R S f xs ys zs m.1 k.1)
 
--- lists of one length are matched where their items are
-pub matched_at : {A B : Type 0} (R : A → B → Type 0) (xs : List A) (ys : List B) → length xs ≡ length ys → ((k : ℕ) (x : A) (y : B) → slice_get xs k ≡ Some x → slice_get ys k ≡ Some y → R x y) →
-    Matched R xs ys
-matched_at R [] [] e f = tt
-matched_at R (x ∷ xs) (y ∷ ys) e f = (f 0 x y refl refl, matched_at R xs ys (omega arith) (λ k a b p q. f (suc k) a b p q))
-matched_at R xs ys e f = absurd (omega arith)
-
 pub matched_weaker : {A B : Type 0} (R S : A → B → Type 0) → ((x : A) (y : B) → R x y → S x y) → (xs : List A) (ys : List B) → Matched R xs ys → Matched S xs ys
 matched_weaker R S f [] [] m = tt
 matched_weaker R S f (x ∷ xs) (y ∷ ys) m = (f x y m.0, matched_weaker R S f xs ys m.1)
 matched_weaker R S f xs ys m = absurd m
+
+-- the same of items that are seen through a function
+pub matched_seen : {A B C : Type 0} (R : A → B → Type 0) (S : A → C → Type 0) (see : B → C) → ((x : A) (y : B) → R x y → S x (see y)) → (xs : List A) (ys : List B) → Matched R xs ys
+    → Matched S xs (map see ys)
+matched_seen R S see f [] [] m = tt
+matched_seen R S see f (x ∷ xs) (y ∷ ys) m = (f x y m.0, matched_seen R S see f xs ys m.1)
+matched_seen R S see f xs ys m = absurd m
 
 -- ---- partners
 

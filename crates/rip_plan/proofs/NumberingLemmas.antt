@@ -1,19 +1,18 @@
 -- Prefixes have one number each, and each place has the number of its prefix.
-use Rattle.std.proofs.Common.{◌≡◌, ℕ, ◌+◌, ◌<◌, inl, inr, List, [], ◌∷◌, ◌++◌, length, length-append, append_assoc, Bool, true, false, cond, suc, Option, Some, None, refl, sym, ◌∙◌, ap, arith}
+use Rattle.std.proofs.Common.{◌≡◌, ℕ, ◌+◌, inl, inr, List, [], ◌∷◌, ◌++◌, length, append_assoc, Bool, true, false, cond, suc, Option, Some, None, refl, sym, ◌∙◌, ap, arith, subst}
 use Rattle.std.specs.Prelude.{slice_get, ◌==◌}
-use Rattle.std.specs.List.{IsDistinct, list_any, position_from}
+use Rattle.std.specs.List.{list_any, position_from}
 use Rattle.std.specs.Option.{option_or}
-use Rattle.std.proofs.lemmas.Option.{none-some}
-use Rattle.std.proofs.lemmas.Bool.{both_ways, cases_Bool, cases_lt, and_parts, false_from_ne_true, or_parts}
+use Rattle.std.proofs.lemmas.Bool.{both_ways, cases_Bool, and_parts, false_from_ne_true, or_parts}
 use Rattle.std.proofs.lemmas.List.{append-nil}
 use Rattle.std.proofs.lemmas.Bool.Decides.{nat_tests}
 use Rattle.rip_wire.specs.Prefix.{Block, block}
 use Rattle.rip_plan.specs.declared.parts.Place.{Place}
-use Rattle.rip_plan.specs.declared.parts.Seat.{Seat}
 use Rattle.rip_plan.specs.declared.draft.DraftPlace.{DraftPlace}
 use Rattle.rip_plan.specs.Passes.{same_prefix}
+use Rattle.rip_plan.specs.PlanOf.{Matched}
 use Rattle.rip_plan.specs.Network.{number_of_prefix, number_or_next, with_prefix, numbered}
-use Rattle.rip_plan.proofs.ItemLemmas.{get_left, get_last, get_push, distinct_push, position_finds, position_none}
+use Rattle.rip_plan.proofs.ItemLemmas.{get_left, get_last, position_finds}
 
 pub same_is : (p q : Block) → same_prefix p q ≡ true → p ≡ q
 same_is p q h =
@@ -28,13 +27,6 @@ same_self p = grind (arith, nat_tests)
 pub same_from : (p q : Block) → p ≡ q → same_prefix p q ≡ true
 same_from p q h = rw h (same_self q)
 
--- these are the prefixes and the places of these draft places
-pub record AreNumbered (ps : List Block) (qs : List Place) (ds : List DraftPlace) : Type 0 where
-  pub distinct : IsDistinct same_prefix ps
-  pub count : length qs ≡ length ds
-  pub each : (k : ℕ) (q : Place) → slice_get qs k ≡ Some q → (d : DraftPlace) × (slice_get ds k ≡ Some d) × (slice_get ps q.prefix ≡ Some d.prefix) × (q.seat ≡ d.seat)
-  pub used : (p : ℕ) → p < length ps → (k : ℕ) × (seat : Seat) × (slice_get qs k ≡ Some (record { prefix = p; seat = seat }))
-
 pub same_flips : (p q : Block) → same_prefix p q ≡ same_prefix q p
 same_flips p q =
     elim (cases_Bool (same_prefix p q)) [
@@ -48,62 +40,43 @@ none_same p (q ∷ qs) h =
     let parts = or_parts (same_prefix p q) (list_any (same_prefix p) qs) h in
     rw (sym (same_flips p q) ∙ parts.0) (none_same p qs parts.1)
 
--- one more place
-one_more : (ps : List Block) (qs : List Place) (ds : List DraftPlace) (d : DraftPlace) → AreNumbered ps qs ds
-    → (o : Option ℕ) → number_of_prefix d.prefix ps ≡ o
-    → AreNumbered (with_prefix ps d.prefix o) (qs ++ record { prefix = number_or_next ps o; seat = d.seat } ∷ []) (ds ++ d ∷ [])
-one_more ps qs ds d are None h =
-    let q : Place = record { prefix = length ps; seat = d.seat } in
-    let new : length (ps ++ d.prefix ∷ []) ≡ length ps + 1 = omega (arith, length-append ps (d.prefix ∷ [])) in
+-- the place has the number of its prefix, and the seat
+abbrev pub IsNumbered : List Block → Place → DraftPlace → Type 0
+IsNumbered ps q d = (slice_get ps q.prefix ≡ Some d.prefix) × (q.seat ≡ d.seat)
+
+-- the places that come to those before, and each prefix keeps its number
+record PlacesNumbered (ps : List Block) (qs : List Place) (ds : List DraftPlace) : Type 0 where
+  more : List Place
+  made : (numbered ps qs ds).1 ≡ qs ++ more
+  match : Matched (IsNumbered (numbered ps qs ds).0) more ds
+  keeps : (k : ℕ) (b : Block) → slice_get ps k ≡ Some b → slice_get (numbered ps qs ds).0 k ≡ Some b
+
+places_numbered : (ps : List Block) (qs : List Place) (ds : List DraftPlace) → PlacesNumbered ps qs ds
+places_numbered ps qs [] = record { more = []; made = sym (append-nil qs); match = tt; keeps = λ k b h. h }
+places_numbered ps qs (d ∷ ds) =
+    let o = number_of_prefix d.prefix ps in
+    let q : Place = record { prefix = number_or_next ps o; seat = d.seat } in
+    let rest = places_numbered (with_prefix ps d.prefix o) (qs ++ q ∷ []) ds in
     record {
-      distinct = distinct_push same_prefix ps d.prefix are.distinct (none_same d.prefix ps (position_none (same_prefix d.prefix) 0 ps h));
-      count = omega (arith, are.count, length-append qs (q ∷ []), length-append ds (d ∷ []));
-      each = λ k p e. elim (get_push qs q k p e) [
-        | inl old ↦ let here = are.each k p old in (here.0, get_left ds (d ∷ []) k here.0 here.1, get_left ps (d.prefix ∷ []) p.prefix here.0.prefix here.2, here.3)
-        | inr last ↦ (d, at_end k last.0, ap (λ (n : Place). slice_get (ps ++ d.prefix ∷ []) n.prefix) (sym last.1) ∙ get_last ps d.prefix, ap (λ (n : Place). n.seat) (sym last.1))
-      ];
-      used = λ p below. elim (cases_lt p (length ps)) [
-        | inl old ↦ let place = are.used p old in (place.0, place.1, get_left qs (q ∷ []) place.0 _ place.2)
-        | inr last ↦ let here : length ps ≡ p = omega arith in (length qs, d.seat, get_last qs q ∙ ap (λ n. Some (record { prefix = n; seat = d.seat })) here)
-      ];
+      more = q ∷ rest.more;
+      made = rest.made ∙ append_assoc qs (q ∷ []) rest.more;
+      match = ((rest.keeps q.prefix d.prefix (its_number o refl), refl), rest.match);
+      keeps = λ k b h. rest.keeps k b (kept o k b h);
     }
   where
-    at_end : (k : ℕ) → k ≡ length qs → slice_get (ds ++ d ∷ []) k ≡ Some d
-    at_end k e = ap (slice_get (ds ++ d ∷ [])) (e ∙ are.count) ∙ get_last ds d
-one_more ps qs ds d are (Some n) h =
-    let q : Place = record { prefix = n; seat = d.seat } in
-    let found = position_finds (same_prefix d.prefix) 0 ps n h in
-    let at : n ≡ found.0 = omega (arith, found.2) in
-    let there : slice_get ps n ≡ Some d.prefix = ap (slice_get ps) at ∙ found.3 ∙ ap (λ (b : Block). Some b) (sym (same_is d.prefix found.1 found.4)) in
-    record {
-      distinct = are.distinct;
-      count = omega (arith, are.count, length-append qs (q ∷ []), length-append ds (d ∷ []));
-      each = λ k p e. elim (get_push qs q k p e) [
-        | inl old ↦ let here = are.each k p old in (here.0, get_left ds (d ∷ []) k here.0 here.1, here.2, here.3)
-        | inr last ↦ (d, at_end k last.0, ap (λ (m : Place). slice_get ps m.prefix) (sym last.1) ∙ there, ap (λ (m : Place). m.seat) (sym last.1))
-      ];
-      used = λ p below. let place = are.used p below in (place.0, place.1, get_left qs (q ∷ []) place.0 _ place.2);
-    }
-  where
-    at_end : (k : ℕ) → k ≡ length qs → slice_get (ds ++ d ∷ []) k ≡ Some d
-    at_end k e = ap (slice_get (ds ++ d ∷ [])) (e ∙ are.count) ∙ get_last ds d
+    its_number : (o : Option ℕ) → number_of_prefix d.prefix ps ≡ o → slice_get (with_prefix ps d.prefix o) (number_or_next ps o) ≡ Some d.prefix
+    its_number None e = get_last ps d.prefix
+    its_number (Some n) e =
+        let (i, q, at, is, same) = position_finds (same_prefix d.prefix) 0 ps n e in
+        let here : n ≡ i = omega (arith, at) in
+        ap (slice_get ps) here ∙ is ∙ ap (λ (b : Block). Some b) (sym (same_is d.prefix q same))
 
-all_more : (ps : List Block) (qs : List Place) (ds rest : List DraftPlace) → AreNumbered ps qs ds → AreNumbered (numbered ps qs rest).0 (numbered ps qs rest).1 (ds ++ rest)
-all_more ps qs ds [] are = rw (append-nil ds) are
-all_more ps qs ds (d ∷ rest) are =
-    let k = number_of_prefix d.prefix ps in
-    rw (sym (append_assoc ds (d ∷ []) rest))
-    (all_more (with_prefix ps d.prefix k) (qs ++ record { prefix = number_or_next ps k; seat = d.seat } ∷ []) (ds ++ d ∷ []) rest (one_more ps qs ds d are k refl))
+    kept : (o : Option ℕ) (k : ℕ) (b : Block) → slice_get ps k ≡ Some b → slice_get (with_prefix ps d.prefix o) k ≡ Some b
+    kept None k b h = get_left ps (d.prefix ∷ []) k b h
+    kept (Some n) k b h = h
 
-pub numbers : (ds : List DraftPlace) → AreNumbered (numbered [] [] ds).0 (numbered [] [] ds).1 ds
-unfolding IsDistinct
-numbers ds =
-    all_more [] [] [] ds (record {
-      distinct = tt;
-      count = refl;
-      each = λ k q h. absurd (none-some q h);
-      used = λ p h. absurd (omega arith);
-    })
+pub numbers : (ds : List DraftPlace) → Matched (IsNumbered (numbered [] [] ds).0) (numbered [] [] ds).1 ds
+numbers ds = let all = places_numbered [] [] ds in subst (λ (qs : List Place). Matched (IsNumbered (numbered [] [] ds).0) qs ds) (sym all.made) all.match
 
 -- ---- a look-up of numbers, as prefixes come in
 

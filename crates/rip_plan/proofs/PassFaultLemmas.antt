@@ -3,7 +3,7 @@ use Rattle.std.proofs.Common.{◌≡◌, ℕ, ◌+◌, ◌<◌, ◌⊎◌, inl, 
 use Rattle.rip_plan.proofs.FirstFoundLemmas.{Clashes, FirstSo, Passes, first_clashing, first_passing}
 use Rattle.rip_plan.proofs.SketchPlanLemmas.{as_interface, interface_as, place_in, place_from, touch, touches, there_on, on_there}
 use Rattle.std.specs.Prelude.{slice_get, find, option_map, unwrap_or, map, ◌==◌}
-use Rattle.std.specs.List.{list_any}
+use Rattle.std.specs.List.{IsDistinct, list_any}
 use Rattle.std.proofs.lemmas.Option.{same_Some, slice_get_within}
 use Rattle.std.proofs.lemmas.Bool.{eq-eqb, eqb-true, cases_lt, cases_order, true_from_ne_false, and_parts, or_cases, or_right, not-true, not-false, both_ways, false_from_ne_true}
 use Rattle.std.proofs.lemmas.Bool.Decides.{nat_tests}
@@ -16,7 +16,6 @@ use Rattle.rip_plan.specs.declared.error.At.TheVariants.{LinkPrefix, Router, Rou
 use Rattle.rip_plan.specs.declared.addresses.Held.{Held}
 use Rattle.rip_plan.specs.declared.draft.DraftPlace.{DraftPlace}
 use Rattle.rip_plan.specs.declared.draft.DraftInterface.{DraftInterface}
-use Rattle.rip_plan.specs.declared.parts.Interface.{Interface}
 use Rattle.rip_plan.specs.declared.parts.OwnPrefix.{OwnPrefix}
 use Rattle.rip_plan.specs.declared.parts.Seat.{Seat}
 use Rattle.rip_plan.specs.declared.parts.Seat.TheVariants as seats
@@ -38,7 +37,8 @@ use Rattle.rip_plan.proofs.PlanPartLemmas.{own_spot}
 use Rattle.rip_plan.proofs.SpotLemmas.{place_ahead, interface_ahead, place_spot, interface_spot}
 use Rattle.rip_plan.proofs.PlanMatchLemmas.{place_ats, interface_ats}
 use Rattle.rip_plan.proofs.ItemLemmas.{cases_option, any_at, any_finds, distinct_at, get_seen, see_got, get_some}
-use Rattle.rip_plan.proofs.NumberingLemmas.{numbers, same_is, same_from}
+use Rattle.rip_plan.proofs.NumberingLemmas.{same_is, same_from}
+use Rattle.rip_plan.proofs.EachOnceLemmas.{numbered_once, once_distinct}
 use Rattle.rip_plan.proofs.SecondPassLemmas.{address_spot, at_number, bare_found, common, held, held_spot, number_at, numbers_from, taken_address}
 use Rattle.rip_plan.proofs.ClashLemmas.{meeting_seen}
 use Rattle.rip_plan.proofs.TextLemmas.{TextLaws}
@@ -138,7 +138,7 @@ module _ (s : Sketch) where
       let (q, its, block) = place_from s k x there in
       let one : y.prefix ≡ x.prefix = same_is y.prefix x.prefix same in
       let number : q ≡ p =
-      distinct_at same_prefix (network_of_sketch s).prefixes q p x.prefix y.prefix (numbers s.places).distinct block prefix (same_from x.prefix y.prefix (sym one)) (same_from y.prefix x.prefix one) in
+      distinct_at same_prefix (network_of_sketch s).prefixes q p x.prefix y.prefix (subst (IsDistinct same_prefix) (sym (numbered_once s.places)) (once_distinct (map (λ d. d.prefix) s.places))) block prefix (same_from x.prefix y.prefix (sym one)) (same_from y.prefix x.prefix one) in
       let here : IsPlace (network_of_sketch s) k p x.seat = subst (λ (m : ℕ). IsPlace (network_of_sketch s) k m x.seat) number its in
       elim (or_cases (is_same_link y.seat x.seat) (have_common (touched s.interfaces y.seat) (touched s.interfaces x.seat)) meet) [
         | inl link ↦

@@ -1,7 +1,6 @@
 -- A plan that was read is matched item by item with the document, and each item stands where the document has it.
 use Rattle.std.proofs.Common.{◌≡◌, ℕ, ◌+◌, ◌-◌, List, [], ◌∷◌, ◌++◌, map, append_assoc, Bool, Some, Ok, refl, sym, ◌∙◌, ap, subst, arith, length, ◌≤◌, false, not, ◌||◌}
 use Rattle.std.specs.Prelude.{nat_le, nat_lt, unwrap_or, codes as codes_of}
-use Rattle.std.proofs.lemmas.Option.{same_Some}
 use Rattle.std.proofs.lemmas.List.{append-nil, length-map, map-append}
 use Rattle.toml.specs.Data.{Data, Members, as_str, as_table, get, get_member}
 use Rattle.rip_wire.specs.Prefix.{Block, prefix_in}
@@ -25,10 +24,9 @@ use Rattle.rip_plan.specs.PlanText.{empty, document_of, sketch_of_document, sket
 use Rattle.rip_plan.specs.Network.{Network, network_in, network_of_sketch}
 use Rattle.rip_plan.specs.PlanOf.{Matched, IsAddressOf, AreAlsoOf, IsNameOf, items_under, IsInterfaceOf, Placement, IsOnLink, IsOwned, IsPlaceOf, each_once, PlanOf, IsPlanOfText}
 use Rattle.rip_plan.proofs.BindLemmas.{bind_ok, guard_ok, ok_same, wanted_ok}
-use Rattle.rip_plan.proofs.NumberingLemmas.{numbers}
-use Rattle.rip_plan.proofs.MatchingLemmas.{matched_append, matched_at}
+use Rattle.rip_plan.proofs.NumberingLemmas.{IsNumbered, numbers}
+use Rattle.rip_plan.proofs.MatchingLemmas.{matched_append, matched_seen}
 use Rattle.rip_plan.proofs.EachOnceLemmas.{numbered_once}
-use Rattle.rip_plan.proofs.ItemLemmas.{get_seen}
 use Rattle.rip_plan.proofs.SpotLemmas.{with_number}
 use Rattle.std.specs.List.{sum_by}
 use Rattle.std.proofs.lemmas.List.Sums.{sum_by_push}
@@ -327,13 +325,8 @@ routers_added laws k (x ∷ xs) s t h =
 
 places_match : (s : Sketch) → Matched (IsPlaceOf (network_of_sketch s)) (network_of_sketch s).places (map placement s.places)
 places_match s =
-    matched_at (IsPlaceOf (network_of_sketch s)) (network_of_sketch s).places (map placement s.places) ((numbers s.places).count ∙ sym (length-map s.places placement))
-    (λ k q p at there.
-    let (d, is, prefix, seat) = (numbers s.places).each k q at in
-    let (e, its, same) = get_seen placement s.places k p there in
-    let one : d ≡ e = same_Some d e (sym is ∙ its) in
-    let placed : placement d ≡ p = ap placement one ∙ same in
-    record { prefix = prefix ∙ ap (λ (x : Placement). Some x.prefix) placed; seat = seat ∙ ap (λ (x : Placement). x.seat) placed })
+    let n = network_of_sketch s in
+    matched_seen (IsNumbered n.prefixes) (IsPlaceOf n) placement (λ q d (prefix, seat). record { prefix = prefix; seat = seat }) n.places s.places (numbers s.places)
 
 -- these tables were read, in the words of the document
 pub record TablesRead (links routers : List Data) (poison : Bool) (s : Sketch) : Type 0 where

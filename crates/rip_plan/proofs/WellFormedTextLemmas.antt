@@ -15,9 +15,9 @@ use Rattle.rip_plan.specs.declared.error.At.TheVariants.{Text, Version, Link, Li
 use Rattle.rip_plan.specs.Fault.{fault}
 use Rattle.rip_plan.specs.Fields.{interface_fields, is_version, link_fields, own_fields, router_fields}
 use Rattle.rip_plan.specs.Network.{Network}
-use Rattle.rip_plan.specs.PlanFaults.{AreTwice, AstrayAt, DoMeet, FaultAt, HasNoAddress, HasOneTwice, HasTables, HasWrongAlso, HasWrongCost, HasWrongDirect, HaveOneAddress, IsAstray, IsBare, IsClash, IsFault, IsFound, IsItem, IsMisnamed, IsNamedAgain, IsOutside, IsPast, IsSo, IsText, TableFault, also_spots, interface_spots, nth, pass_of, place_spots}
+use Rattle.rip_plan.specs.PlanFaults.{AreTwice, AstrayAt, DoMeet, FaultAt, HasNoAddress, HasOneTwice, HasTables, HasWrongAlso, HasWrongCost, HasWrongDirect, HaveOneAddress, IsAstray, IsBare, IsClash, IsFault, IsFound, IsItem, IsNamedAgain, IsOutside, IsPast, IsSo, IsText, TableFault, also_spots, interface_spots, nth, pass_of, place_spots}
 use Rattle.rip_plan.specs.PlanOf.{AreAlsoOf, IsAddressOf, IsNameOf, IsOnLink, IsPlanOfText, Matched, PlanOf, items_under}
-use Rattle.rip_plan.specs.Relations.{Carries, HasOwnAddress, IsConnected, IsInterface, IsLawful, IsOwnAt, IsPlace}
+use Rattle.rip_plan.specs.Relations.{HasOwnAddress, IsConnected, IsInterface, IsLawful, IsOwnAt, IsPlace}
 use Rattle.rip_plan.specs.WellFormed.{IsWellFormed}
 use Rattle.rip_plan.proofs.FurtherAddressLemmas.{also_items}
 use Rattle.rip_plan.proofs.LawfulPlanLemmas.{not_long}
@@ -29,8 +29,8 @@ use Rattle.rip_plan.proofs.PlanPartLemmas.{attached_not, inside_not, known_not, 
 use Rattle.rip_plan.proofs.SpotLemmas.{under_item}
 use Rattle.rip_plan.proofs.TextFaultLemmas.{one_astray, one_fault, one_tables, same_document, version_is, version_told}
 use Rattle.rip_plan.proofs.TextLemmas.{TextLaws}
-use Rattle.rip_plan.specs.Texts.{IsAddressText, IsPrefixText, IsNoPrefix}
-use Rattle.rip_plan.specs.DocumentTables.{IsLinkTable, IsRouterTable, IsInterfaceTable, IsOwnTable, IsRoot, IsString}
+use Rattle.rip_plan.specs.Texts.{IsAddressText, IsPrefixText}
+use Rattle.rip_plan.specs.DocumentTables.{IsLinkTable, IsRouterTable, IsInterfaceTable, IsOwnTable, IsRoot}
 use Rattle.rip_plan.proofs.DocumentTableLemmas.{by_root, by_table, interface_not, interface_texts, link_not, link_table, own_not, own_texts, router_not, router_table}
 
 -- ---- lists

@@ -12,7 +12,8 @@ use Rattle.rip_plan.specs.Network.{Network, each_below, is_of, is_on, network_of
 use Rattle.rip_plan.specs.Rows.{AreCosts, AreFlags, AreOwners}
 use Rattle.rip_plan.specs.Seats.{is_kept}
 use Rattle.rip_plan.proofs.BelowLemmas.{length-each_below}
-use Rattle.rip_plan.proofs.NumberingLemmas.{numbers}
+use Rattle.rip_plan.proofs.NumberingLemmas.{IsNumbered, numbers}
+use Rattle.rip_plan.proofs.MatchingLemmas.{matched_length}
 use Rattle.rip_plan.proofs.WithinPlanLemmas.{interfaces_links, interfaces_routers, places_prefixes, places_links, places_owners}
 use Rattle.rip_plan.proofs.plan.plan_of.Goals as goal
 
@@ -26,7 +27,7 @@ interfaces_are : {is : List Interface} {ds es : List DraftInterface} → is ≡ 
 interfaces_are h e = h ∙ ap (map (λ (i : DraftInterface). i.interface)) e
 
 few : (ps : List Block) (ds es : List DraftPlace) (k : ℕ) → length ps ≤ length ds → ds ≡ es → length (numbered [] [] es).1 ≤ 1024 → k ≡ length ps → k ≤ 1024
-few ps ds es k h e most is = omega (arith, ap length e, (numbers es).count)
+few ps ds es k h e most is = omega (arith, ap length e, matched_length (IsNumbered (numbered [] [] es).0) (numbered [] [] es).1 es (numbers es))
 
 lists_are : (lists : List (List ℕ)) (count : ℕ) (f : ℕ → List ℕ) → lists ≡ each_below count f → lists ≡ each_below (length lists) f
 lists_are lists count f h = let same : length lists ≡ count = ap length h ∙ length-each_below count f in rw same h
