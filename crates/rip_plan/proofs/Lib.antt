@@ -6,6 +6,7 @@ pub mod BackLemmas
 pub mod BelowLemmas
 pub mod BindLemmas
 pub mod ItemLemmas
+pub mod FlatLemmas
 pub mod FirstFoundLemmas
 pub mod TextLemmas
 pub mod NumberingLemmas

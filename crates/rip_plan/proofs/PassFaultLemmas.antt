@@ -5,7 +5,7 @@ use Rattle.rip_plan.proofs.SketchPlanLemmas.{as_interface, interface_as, place_i
 use Rattle.std.specs.Prelude.{slice_get, find, option_map, unwrap_or, map, ◌==◌}
 use Rattle.std.specs.List.{IsDistinct, list_any}
 use Rattle.std.proofs.lemmas.Option.{same_Some, slice_get_within}
-use Rattle.std.proofs.lemmas.Bool.{eq-eqb, eqb-true, cases_lt, cases_order, true_from_ne_false, and_parts, or_cases, or_right, not-true, not-false, both_ways, false_from_ne_true}
+use Rattle.std.proofs.lemmas.Bool.{eq-eqb, eqb-true, cases_order, true_from_ne_false, and_parts, or_cases, or_right, not-true, not-false, both_ways, false_from_ne_true}
 use Rattle.std.proofs.lemmas.Bool.Decides.{nat_tests}
 use Rattle.toml.specs.Data.{Data, Members}
 use Rattle.rip_plan.specs.declared.error.PlanCode.{PlanCode}
@@ -25,13 +25,13 @@ use Rattle.rip_plan.specs.Draft.{Sketch}
 use Rattle.rip_plan.specs.Passes.{first_clash, touched, touching, same_prefix, do_meet, is_same_link, have_common, are_twice, is_astray, is_bare, is_there, none_found, second_passes, spot_of, duplicate_in, twice_in, taken_address_in, bare_in, astray_in}
 use Rattle.rip_plan.specs.Addresses.{have_one_address}
 use Rattle.rip_plan.specs.Network.{Network, network_of_sketch}
-use Rattle.rip_plan.specs.Relations.{HasAddresses, IsAttachedAt, IsInterface, IsPlace}
+use Rattle.rip_plan.specs.Relations.{IsAttachedAt, IsInterface, IsPlace}
 use Rattle.rip_plan.specs.PlanOf.{PlanOf}
 use Rattle.rip_plan.specs.PlanFaults.{TableFault, IsAstray, IsClash, IsBare, IsSo, DoMeet, AreTwice, HasOneTwice, HaveOneAddress, Before, pass_of, rank, position, place_spots, interface_spots}
 use Rattle.rip_plan.proofs.OrderLemmas.{before_trans, before_not}
 use Rattle.rip_plan.proofs.FindingLemmas.{Found, Finds, finds_in, bind_rows}
 use Rattle.rip_plan.proofs.FaultRowLemmas.{IsAstrayAt, IsLast, IsOfTables, IsTold, told_finds, code_rows, code_high, last_two, last_three, last_four, pass_rows}
-use Rattle.rip_plan.proofs.HeldAddressLemmas.{address_held, held_address, held_order, stands_from}
+use Rattle.rip_plan.proofs.HeldAddressLemmas.{address_held, first_held, held_address, held_at, held_order}
 use Rattle.rip_plan.proofs.OnePlanLemmas.{one_plan}
 use Rattle.rip_plan.proofs.PlanPartLemmas.{own_spot}
 use Rattle.rip_plan.proofs.SpotLemmas.{place_ahead, interface_ahead, place_spot, interface_spot}
@@ -197,21 +197,11 @@ module _ (s : Sketch) where
       let link : y.link ≡ x.link = grind (arith, nat_tests) in
       let address : y.address ≡ x.address = grind (arith, nat_tests) in
       let n = network_of_sketch s in
-      elim (held_order 0 n.interfaces n.also j k y x less at there) [
+      elim (held_order n j k y x less at there) [
         | inl ahead ↦
             let same : y ≡ record { interface = y.interface; link = x.link; address = x.address } = rw (← link, ← address) refl in
             inl (y.interface, ahead, (x.link, x.address, held_address n y.interface x.link x.address j (at ∙ ap (λ (h : Held). Some h) same), held_address n x.interface x.link x.address k there))
-        | inr one ↦
-            let number : one.i ≡ x.interface = omega (arith, one.other) in
-            let has : HasAddresses n x.interface x.link (one.interface.address ∷ one.further) = record {
-              interface = one.interface;
-              listed = ap (slice_get n.interfaces) (sym number) ∙ one.listed;
-              on = sym one.link;
-              also = one.further;
-              further = ap (slice_get n.also) (sym number) ∙ one.its;
-              all = refl;
-            } in
-            inr (x.link, one.interface.address ∷ one.further, has, (one.j, one.k, x.address, one.less, one.before ∙ ap (λ (a : ℕ). Some a) address, one.after))
+        | inr one ↦ inr (x.link, one.addresses, one.has, (one.j, one.k, x.address, one.less, one.before ∙ ap (λ (a : ℕ). Some a) address, one.after))
       ]
 
   -- an address that an earlier one is, on the link of the interface
@@ -228,36 +218,20 @@ module _ (s : Sketch) where
       let n = network_of_sketch s in
       let (j, there) = address_held n m l a h in
       let (k, at) = address_held n i l a g in
-      elim (cases_lt j k) [
-        | inl less ↦ taken_of i l a j k m less there at
-        | inr ge ↦
-            elim (cases_lt k j) [
-              | inl more ↦
-                  elim (held_order 0 n.interfaces n.also k j (record { interface = i; link = l; address = a }) (record { interface = m; link = l; address = a }) more at there) [
-                    | inl before ↦ let less : i < m = before in absurd (omega arith)
-                    | inr one ↦ absurd (omega (arith, one.number, one.other))
-                  ]
-              | inr le ↦
-                  let same : j ≡ k = omega arith in
-                  let one : Held = record { interface = m; link = l; address = a } in
-                  let two : Held = record { interface = i; link = l; address = a } in
-                  let items : one ≡ two = same_Some one two (sym there ∙ ap (slice_get (held s.interfaces s.also)) same ∙ at) in
-                  let number : m ≡ i = ap (λ (h : Held). h.interface) items in
-                  absurd (omega arith)
-            ]
+      let one : Held = record { interface = m; link = l; address = a } in
+      let two : Held = record { interface = i; link = l; address = a } in
+      elim (cases_order j k) [
+        | inl same ↦
+            let number : m ≡ i = ap (λ (h : Held). h.interface) (same_Some one two (sym there ∙ ap (slice_get (held s.interfaces s.also)) same ∙ at)) in
+            absurd (omega arith)
+        | inr (inl less) ↦ taken_of i l a j k m less there at
+        | inr (inr more) ↦ elim (held_order n k j two one more at there) [ inl before ↦ let less : i < m = before in absurd (omega arith) | inr both ↦ let same : i ≡ m = both.one in absurd (omega arith) ]
       ]
 
   twice_taken : (i : ℕ) → HasOneTwice (network_of_sketch s) i → IsTaken i
   twice_taken i (l, addresses, has, (j, k, a, less, one, two)) =
       let n = network_of_sketch s in
-      let stands = stands_from 0 n.interfaces n.also i has.interface has.also has.listed has.further in
-      let number : 0 + i ≡ i = omega arith in
-      let as_held : (m : ℕ) → slice_get addresses m ≡ Some a → slice_get (held s.interfaces s.also) (stands.first + m) ≡ Some (record { interface = i; link = l; address = a }) =
-      λ m at.
-      stands.each m a (ap (λ (xs : List ℕ). slice_get xs m) (sym has.all) ∙ at)
-      ∙ ap (λ (q : ℕ). Some (record { interface = q; link = has.interface.link; address = a })) number
-      ∙ ap (λ (q : ℕ). Some (record { interface = i; link = q; address = a })) has.on in
-      taken_of i l a (stands.first + j) (stands.first + k) i (omega arith) (as_held j one) (as_held k two)
+      taken_of i l a (first_held n i + j) (first_held n i + k) i (omega arith) (held_at n i l addresses has j a one) (held_at n i l addresses has k a two)
 
   -- an own prefix whose router is not on its link
   astray_own : (seat : Seat) → is_astray s.interfaces seat ≡ true → (own : OwnPrefix) × (l : ℕ) × (seat ≡ seats.Own own) × (own.link ≡ Some l) × (is_there s.interfaces own.router l ≡ false)
@@ -371,9 +345,9 @@ module _ (laws : TextLaws) (document : Members) (links routers : List Data) (s :
   addresses_ahead k m x y less h g =
       let (a, at, one) = address_at k x h in
       let (b, there, two) = address_at m y g in
-      elim (held_order 0 (network_of_sketch s).interfaces s.also k m x y less h g) [
+      elim (held_order (network_of_sketch s) k m x y less h g) [
         | inl ahead ↦ inr (rw (one, two) (interfaces_ahead x.interface y.interface a b ahead at there))
-        | inr same ↦ inl (ap (λ (i : ℕ). unwrap_or (spot_of s.interfaces i) Text) (same.number ∙ sym same.other))
+        | inr same ↦ inl (ap (λ (i : ℕ). unwrap_or (spot_of s.interfaces i) Text) same.one)
       ]
 
   addresses_find : Finds (IsTold document links routers) (code_rows 3 codes.DuplicateAddress).has (none_found codes.DuplicateAddress (taken_address_in s.interfaces s.also))

@@ -16,31 +16,15 @@ use Rattle.rip_plan.specs.PlanFaults.{HasPrefix, IsItem, IsNamedAgain, IsOutside
 use Rattle.rip_plan.specs.PlanOf.{AreAlsoOf, HasText, IsLinkOf, IsAddressOf, IsInterfaceOf, IsNameOf, IsOnLink, IsOwned, IsPlaceOf, Matched, Placement, PlanOf, items_in, items_under}
 use Rattle.rip_plan.specs.Relations.{Carries, IsPlace, IsPrefix}
 use Rattle.rip_plan.specs.Texts.{IsAddressText, IsPrefixText}
+use Rattle.rip_plan.proofs.FlatLemmas.{count_ahead, in_flat}
 use Rattle.rip_plan.proofs.FurtherAddressLemmas.{also_count, also_in, also_items, also_under}
-use Rattle.rip_plan.proofs.ItemLemmas.{get_split, see_got, get_left, get_past}
+use Rattle.rip_plan.proofs.ItemLemmas.{get_split, see_got, get_past}
 use Rattle.rip_plan.proofs.MatchingLemmas.{matched_left, matched_length, matched_right}
 use Rattle.rip_plan.proofs.OnePlanLemmas.{text_same}
 use Rattle.rip_plan.proofs.TextLemmas.{TextLaws, one_address}
-use Rattle.rip_plan.proofs.SpotLemmas.{spots_count, under_item, with_number}
+use Rattle.rip_plan.proofs.SpotLemmas.{items_flat, numbered_items, spots_count, under_item, with_number}
 
 -- ---- items of the document
-
-under_at : (key : List ℕ) (n : ℕ) (ds : List Data) (i j : ℕ) (d x : Data) → slice_get ds i ≡ Some d → slice_get (items_in (get key d)) j ≡ Some x
-    → (k : ℕ) × (slice_get (items_under key n ds) k ≡ Some (n + i, x))
-under_at key n [] i j d x h g = absurd (none-some d h)
-under_at key n (e ∷ ds) zero j d x h g =
-    let same : e ≡ d = same_Some e d h in
-    let here : slice_get (items_in (get key e)) j ≡ Some x = ap (λ (t : Data). slice_get (items_in (get key t)) j) same ∙ g in (
-      j,
-      get_left (map (with_number n) (items_in (get key e))) (items_under key (n + 1) ds) j (n, x) (see_got (with_number n) (items_in (get key e)) j x here)
-          ∙ ap (λ (m : ℕ). Some (m, x)) (omega arith),
-    )
-under_at key n (e ∷ ds) (suc i) j d x h g =
-    let (k, at) = under_at key (n + 1) ds i j d x h g in (
-      length (map (with_number n) (items_in (get key e))) + k,
-      get_past (map (with_number n) (items_in (get key e))) (items_under key (n + 1) ds) k _ refl ∙ at
-          ∙ ap (λ (m : ℕ). Some (m, x)) (omega arith),
-    )
 
 -- where an item of a table stands in the lists at a key
 pub record StandsUnder (key : List ℕ) (ds : List Data) (i : ℕ) (x : Data) : Type 0 where
@@ -53,7 +37,9 @@ pub item_under : (key : List ℕ) (ds : List Data) (i j : ℕ) (x : Data) → Is
 item_under key ds zero j x (d, is, item) = absurd (none-some d is)
 item_under key ds (suc m) zero x (d, is, item) = absurd (none-some x item)
 item_under key ds (suc m) (suc j) x (d, is, item) =
-    let (k, at) = under_at key 0 ds m j d x is item in
+    let k = count_ahead (numbered_items key) 0 ds m + j in
+    let there = see_got (with_number (0 + m)) (items_in (get key d)) j x item in
+    let at = in_flat (numbered_items key) 0 ds (items_under key 0 ds) (items_flat key 0 ds) m j d (0 + m, x) is there k refl in
     record { k = k; m = m; number = refl; at = at ∙ ap (λ (n : ℕ). Some (n, x)) (omega arith) }
 
 -- ---- further addresses

@@ -1,5 +1,5 @@
 -- What the passes over addresses and over routers find.
-use Rattle.std.proofs.Common.{◌≡◌, ℕ, zero, suc, ◌+◌, ◌<◌, List, [], ◌∷◌, map, true, Some, refl, sym, ◌∙◌, ap, arith, subst, inl, inr}
+use Rattle.std.proofs.Common.{◌≡◌, ℕ, zero, suc, ◌+◌, ◌<◌, List, [], ◌∷◌, map, true, Some, refl, ◌∙◌, ap, arith, subst, inl, inr}
 use Rattle.rip_plan.proofs.FirstFoundLemmas.{Clashes, FirstSo, first_clashing}
 use Rattle.std.specs.Prelude.{find, slice_get, option_map, unwrap_or, ◌==◌}
 use Rattle.std.specs.List.{list_any}
@@ -11,7 +11,7 @@ use Rattle.rip_plan.specs.declared.addresses.Held.{Held}
 use Rattle.rip_plan.specs.declared.draft.DraftInterface.{DraftInterface}
 use Rattle.rip_plan.specs.Passes.{first_clash, have_common, is_bare, first_bare, spot_of, taken_address_in}
 use Rattle.rip_plan.specs.Addresses.{have_one_address, held_from}
-use Rattle.rip_plan.proofs.HeldAddressLemmas.{held_is}
+use Rattle.rip_plan.proofs.HeldAddressLemmas.{held_in}
 use Rattle.rip_plan.proofs.ItemLemmas.{cases_option, any_at, any_finds, get_seen}
 
 -- the addresses of all interfaces
@@ -23,10 +23,9 @@ held interfaces also = held_from 0 (map (λ i. i.interface) interfaces) also
 pub held_spot : (interfaces : List DraftInterface) (also : List (List ℕ)) (k : ℕ) (h : Held) → slice_get (held interfaces also) k ≡ Some h
     → (d : DraftInterface) × (slice_get interfaces h.interface ≡ Some d)
 held_spot interfaces also k h at =
-    let its = held_is 0 (map (λ (i : DraftInterface). i.interface) interfaces) also k h at in
-    let (d, there, same) = get_seen (λ (i : DraftInterface). i.interface) interfaces its.i its.interface its.listed in
-    let number : its.i ≡ h.interface = omega (arith, its.number) in
-    (d, ap (slice_get interfaces) (sym number) ∙ there)
+    let c = held_in (map (λ (i : DraftInterface). i.interface) interfaces) also k h at in
+    let (d, there, same) = get_seen (λ (i : DraftInterface). i.interface) interfaces h.interface c.u.x.0 c.listed in
+    (d, there)
 
 -- where an address stands in the text
 abbrev pub address_spot : List DraftInterface → Held → At

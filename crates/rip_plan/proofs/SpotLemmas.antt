@@ -1,5 +1,5 @@
 -- Where the items of lists stand, and in which order.
-use Rattle.std.proofs.Common.{◌≡◌, ℕ, zero, suc, ◌+◌, ◌<◌, ◌≤◌, ◌⊎◌, inl, inr, List, [], ◌∷◌, ◌++◌, length, length-append, map, Some, refl, sym, ap, ◌∙◌, arith}
+use Rattle.std.proofs.Common.{◌≡◌, ℕ, zero, suc, ◌+◌, ◌<◌, ◌≤◌, ◌⊎◌, inl, inr, List, [], ◌∷◌, ◌++◌, length, map, Some, refl, sym, ap, ◌∙◌, arith}
 use Rattle.std.specs.Prelude.{slice_get, codes as codes_of}
 use Rattle.std.proofs.lemmas.Option.{none-some, same_Some, slice_get_within}
 use Rattle.std.proofs.lemmas.Bool.{cases_lt}
@@ -10,6 +10,7 @@ use Rattle.rip_plan.specs.declared.error.At.TheVariants.{LinkPrefix, RouterInter
 use Rattle.rip_plan.specs.PlanOf.{items_in, items_under}
 use Rattle.rip_plan.specs.PlanFaults.{nth, IsItem, spots_of, spots_under, place_spots, interface_spots, position, Before}
 use Rattle.rip_plan.proofs.ItemLemmas.{get_split, get_left, get_past, get_seen, get_some}
+use Rattle.rip_plan.proofs.FlatLemmas.{ahead_front, flat, in_flat, in_order, is_in, same_ahead, same_length}
 use Rattle.rip_plan.proofs.OrderLemmas.{before_not}
 
 pub nth_from : {A : Type 0} (xs : List A) (i : ℕ) (x : A) → nth xs i ≡ Some x → (1 ≤ i) × (i ≤ length xs)
@@ -46,17 +47,26 @@ spot_at at j ds k a h =
 abbrev pub with_number : ℕ → Data → ℕ × Data
 with_number n d = (n, d)
 
+-- the lists of items, and those of spots, one after another
+abbrev pub numbered_items : List ℕ → ℕ → Data → List (ℕ × Data)
+numbered_items key n d = map (with_number n) (items_in (get key d))
+
+pub items_flat : (key : List ℕ) (n : ℕ) (ds : List Data) → items_under key n ds ≡ flat (numbered_items key) n ds
+items_flat key n [] = refl
+items_flat key n (d ∷ ds) = ap (λ (l : List (ℕ × Data)). numbered_items key n d ++ l) (items_flat key (n + 1) ds)
+
+abbrev spots_in : List ℕ → (ℕ → ℕ → At) → ℕ → Data → List At
+spots_in key at i d = spots_of (at i) 1 (items_in (get key d))
+
+spots_flat : (key : List ℕ) (at : ℕ → ℕ → At) (i : ℕ) (ds : List Data) → spots_under key at i ds ≡ flat (spots_in key at) i ds
+spots_flat key at i [] = refl
+spots_flat key at i (d ∷ ds) = ap (λ (l : List At). spots_in key at i d ++ l) (spots_flat key at (i + 1) ds)
+
+same_counts : (key : List ℕ) (at : ℕ → ℕ → At) (i n : ℕ) (d : Data) → length (spots_in key at i d) ≡ length (numbered_items key n d)
+same_counts key at i n d = count_of (at i) 1 (items_in (get key d)) ∙ sym (length-map (items_in (get key d)) (with_number n))
+
 pub spots_count : (key : List ℕ) (at : ℕ → ℕ → At) (i n : ℕ) (ds : List Data) → length (spots_under key at i ds) ≡ length (items_under key n ds)
-spots_count key at i n [] = refl
-spots_count key at i n (d ∷ ds) =
-    omega (
-      arith,
-      spots_count key at (i + 1) (n + 1) ds,
-      count_of (at i) 1 (items_in (get key d)),
-      length-map (items_in (get key d)) (with_number n),
-      length-append (spots_of (at i) 1 (items_in (get key d))) (spots_under key at (i + 1) ds),
-      length-append (map (with_number n) (items_in (get key d))) (items_under key (n + 1) ds),
-    )
+spots_count key at i n ds = ap length (spots_flat key at i ds) ∙ same_length (spots_in key at) (numbered_items key) (same_counts key at) i n ds ∙ sym (ap length (items_flat key n ds))
 
 -- an item of the lists at a key stands in a table, and its spot has the same number
 pub record IsUnder (key : List ℕ) (at : ℕ → ℕ → At) (i n : ℕ) (ds : List Data) (k m : ℕ) (x : Data) : Type 0 where
@@ -67,33 +77,19 @@ pub record IsUnder (key : List ℕ) (at : ℕ → ℕ → At) (i n : ℕ) (ds : 
   pub spot : slice_get (spots_under key at i ds) k ≡ Some (at (i + t) (suc j))
 
 pub under_item : (key : List ℕ) (at : ℕ → ℕ → At) (i n : ℕ) (ds : List Data) (k m : ℕ) (x : Data) → slice_get (items_under key n ds) k ≡ Some (m, x) → IsUnder key at i n ds k m x
-under_item key at i n [] k m x h = absurd (none-some (m, x) h)
-under_item key at i n (d ∷ ds) k m x h =
-    let items = items_in (get key d) in
-    let next : 1 + k ≡ suc k = omega arith in
-    elim (get_split (map (with_number n) items) (items_under key (n + 1) ds) k (m, x) h) [
-      | inl e ↦
-          let (y, is, same) = get_seen (with_number n) items k (m, x) e.0 in
-          let number : n ≡ m = ap (λ (p : ℕ × Data). p.0) same in
-          record {
-            t = zero;
-            j = k;
-            number = omega arith;
-            item = (d, refl, is ∙ ap (λ (p : ℕ × Data). Some p.1) same);
-            spot = get_left (spots_of (at i) 1 items) (spots_under key at (i + 1) ds) k (at i (1 + k)) (spot_here (at i) 1 items k y is)
-                ∙ ap (λ (q : ℕ). Some (at i q)) next ∙ ap (λ (q : ℕ). Some (at q (suc k))) (omega arith);
-          }
-      | inr e ↦
-          let u = under_item key at (i + 1) (n + 1) ds e.0 m x e.2 in
-          let past : k ≡ length (spots_of (at i) 1 items) + e.0 = omega (arith, e.1, count_of (at i) 1 items, length-map items (with_number n)) in
-          record {
-            t = suc u.t;
-            j = u.j;
-            number = omega (arith, u.number);
-            item = u.item;
-            spot = get_past (spots_of (at i) 1 items) (spots_under key at (i + 1) ds) e.0 k past ∙ u.spot ∙ ap (λ (q : ℕ). Some (at q (suc u.j))) (omega arith);
-          }
-    ]
+under_item key at i n ds k m x h =
+    let u = is_in (numbered_items key) n ds (items_under key n ds) (items_flat key n ds) k (m, x) h in
+    let (y, is, same) = get_seen (with_number (n + u.i)) (items_in (get key u.x)) u.j (m, x) u.of in
+    let spot = spot_here (at (i + u.i)) 1 (items_in (get key u.x)) u.j y is in
+    let counts = same_ahead (spots_in key at) (numbered_items key) (same_counts key at) i n ds u.i in
+    record {
+      t = u.i;
+      j = u.j;
+      number = ap (λ (p : ℕ × Data). p.0) (sym same);
+      item = (u.x, u.at, is ∙ ap (λ (p : ℕ × Data). Some p.1) same);
+      spot = in_flat (spots_in key at) i ds (spots_under key at i ds) (spots_flat key at i ds) u.i u.j u.x (at (i + u.i) (1 + u.j)) u.at spot k (omega (arith, u.number, counts))
+          ∙ ap (λ (q : ℕ). Some (at (i + u.i) q)) (omega arith);
+    }
 
 -- a spot is that of an item
 pub record IsSpot (key : List ℕ) (at : ℕ → ℕ → At) (i : ℕ) (ds : List Data) (a : At) : Type 0 where
@@ -121,30 +117,11 @@ Ahead a b = Before (position a) (position b)
 
 under_ahead : (key : List ℕ) (at : ℕ → ℕ → At) → Ordered at → (i : ℕ) (ds : List Data) (k m : ℕ) (a b : At) → k < m → slice_get (spots_under key at i ds) k ≡ Some a
     → slice_get (spots_under key at i ds) m ≡ Some b → Ahead a b
-under_ahead key at order i [] k m a b less h g = absurd (none-some a h)
-under_ahead key at order i (d ∷ ds) k m a b less h g =
-    let here = spots_of (at i) 1 (items_in (get key d)) in
-    let later = spots_under key at (i + 1) ds in
-    elim (get_split here later k a h) [
-      | inl e ↦
-          let s = spot_at (at i) 1 (items_in (get key d)) k a e.0 in
-          elim (get_split here later m b g) [
-            | inl f ↦
-                let t = spot_at (at i) 1 (items_in (get key d)) m b f.0 in
-                rw (s, t) (order i (1 + k) i (1 + m) (inr (refl, omega arith)))
-            | inr f ↦
-                let t = spot_under key at (i + 1) ds f.0 b f.2 in
-                rw (s, t.is) (order i (1 + k) (i + 1 + t.n) (suc t.j) (inl (omega arith)))
-          ]
-      | inr e ↦
-          elim (get_split here later m b g) [
-            | inl f ↦ let past : k ≡ length here + e.0 = e.1 in let within : m < length here = f.1 in absurd (omega arith)
-            | inr f ↦
-                let one : k ≡ length here + e.0 = e.1 in
-                let two : m ≡ length here + f.0 = f.1 in
-                under_ahead key at order (i + 1) ds e.0 f.0 a b (omega arith) e.2 f.2
-          ]
-    ]
+under_ahead key at order i ds k m a b less h g =
+    let u = is_in (spots_in key at) i ds (spots_under key at i ds) (spots_flat key at i ds) k a h in
+    let v = is_in (spots_in key at) i ds (spots_under key at i ds) (spots_flat key at i ds) m b g in
+    rw (spot_at (at (i + u.i)) 1 (items_in (get key u.x)) u.j a u.of, spot_at (at (i + v.i)) 1 (items_in (get key v.x)) v.j b v.of)
+    (order (i + u.i) (1 + u.j) (i + v.i) (1 + v.j) (elim (in_order (spots_in key at) i ds k m a b u v less) [ inl before ↦ inl (omega arith) | inr (same, before) ↦ inr (omega arith, omega arith) ]))
 
 prefix_order : Ordered LinkPrefix
 prefix_order i j n m (inl h) = inr (refl, inl h)
@@ -243,16 +220,10 @@ interface_item routers k i j h =
 -- the spot of an item has the number of the items before it
 pub under_here : (key : List ℕ) (at : ℕ → ℕ → At) (i : ℕ) (done : List Data) (d : Data) (rest : List Data) (front : List Data) (x : Data) (back : List Data) → items_in (get key d) ≡ front ++ x ∷ back
     → (n : ℕ) → n ≡ length (spots_under key at i done) + length front → slice_get (spots_under key at i (done ++ d ∷ rest)) n ≡ Some (at (i + length done) (1 + length front))
-under_here key at i [] d rest front x back e n h =
-    let same : n ≡ length front = omega arith in
-    let here : slice_get (spots_of (at i) 1 (items_in (get key d))) (length front) ≡ Some (at i (1 + length front)) = rw e (spot_here (at i) 1 (front ++ x ∷ back) (length front) x (get_front front x back)) in
-    rw same (get_left (spots_of (at i) 1 (items_in (get key d))) (spots_under key at (i + 1) rest) (length front) (at i (1 + length front)) here
-    ∙ ap (λ (m : ℕ). Some (at m (1 + length front))) (omega arith))
-under_here key at i (y ∷ done) d rest front x back e n h =
-    let count = length-append (spots_of (at i) 1 (items_in (get key y))) (spots_under key at (i + 1) done) in
-    get_past (spots_of (at i) 1 (items_in (get key y))) (spots_under key at (i + 1) (done ++ d ∷ rest)) (length (spots_under key at (i + 1) done) + length front) n (omega (arith, count))
-    ∙ under_here key at (i + 1) done d rest front x back e (length (spots_under key at (i + 1) done) + length front) refl
-    ∙ ap (λ (m : ℕ). Some (at m (1 + length front))) (omega arith)
+under_here key at i done d rest front x back e n h =
+    let spot = spot_here (at (i + length done)) 1 (front ++ x ∷ back) (length front) x (get_front front x back) in
+    in_flat (spots_in key at) i (done ++ d ∷ rest) (spots_under key at i (done ++ d ∷ rest)) (spots_flat key at i (done ++ d ∷ rest)) (length done) (length front) d
+    (at (i + length done) (1 + length front)) (get_front done d rest) (rw e spot) n (omega (arith, ap length (spots_flat key at i done), ahead_front (spots_in key at) i done d rest))
 
 pub prefix_here : (routers done : List Data) (d : Data) (rest front : List Data) (x : Data) (back : List Data) → items_in (get (codes_of "prefixes") d) ≡ front ++ x ∷ back
     → (n : ℕ) → n ≡ length (spots_under (codes_of "prefixes") LinkPrefix 1 done) + length front
