@@ -85,7 +85,8 @@ same_ahead f g same n m [] i = refl
 same_ahead f g same n m (x ∷ xs) zero = refl
 same_ahead f g same n m (x ∷ xs) (suc i) = omega (arith, same n m x, same_ahead f g same (n + 1) (m + 1) xs i)
 
-pub same_length : {A B C : Type 0} (f : ℕ → A → List B) (g : ℕ → A → List C) → ((i j : ℕ) (x : A) → length (f i x) ≡ length (g j x)) → (n m : ℕ) (xs : List A) → length (flat f n xs) ≡ length (flat g m xs)
+pub same_length : {A B C : Type 0} (f : ℕ → A → List B) (g : ℕ → A → List C) → ((i j : ℕ) (x : A) → length (f i x) ≡ length (g j x)) → (n m : ℕ) (xs : List A)
+    → length (flat f n xs) ≡ length (flat g m xs)
 same_length f g same n m [] = refl
 same_length f g same n m (x ∷ xs) =
     omega (arith, same n m x, same_length f g same (n + 1) (m + 1) xs, length-append (f n x) (flat f (n + 1) xs), length-append (g m x) (flat g (m + 1) xs))

@@ -103,7 +103,8 @@ of_within at one j front x back k h =
     let index : u.i ≡ length front = omega arith in
     let item : u.x ≡ x = same_Some u.x x (sym u.at ∙ ap (slice_get all) index ∙ get_front front x back) in
     let within : u.j < length (also_items x) = subst (λ (z : Data). u.j < length (also_items z)) item (slice_get_within (also_items u.x) u.j y is) in
-    let count : count_ahead (spots_at at) j all u.i ≡ also_in front = ap (count_ahead (spots_at at) j all) index ∙ ahead_front (spots_at at) j front x back ∙ sym (ap length (of_flat at j front)) ∙ of_count at j front in
+    let count : count_ahead (spots_at at) j all u.i ≡ also_in front =
+    ap (count_ahead (spots_at at) j all) index ∙ ahead_front (spots_at at) j front x back ∙ sym (ap length (of_flat at j front)) ∙ of_count at j front in
     omega (arith, u.number)
 
 pub also_within : (r : ℕ) (done : List Data) (d : Data) (rest front : List Data) (x : Data) (back : List Data) → items_in (get (codes_of "interface") d) ≡ front ++ x ∷ back → (k : ℕ)

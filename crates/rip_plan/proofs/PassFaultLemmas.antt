@@ -137,8 +137,9 @@ module _ (s : Sketch) where
       let (p, place, prefix) = place_from s j y at in
       let (q, its, block) = place_from s k x there in
       let one : y.prefix ≡ x.prefix = same_is y.prefix x.prefix same in
-      let number : q ≡ p =
-      distinct_at same_prefix (network_of_sketch s).prefixes q p x.prefix y.prefix (subst (IsDistinct same_prefix) (sym (numbered_once s.places)) (once_distinct (map (λ d. d.prefix) s.places))) block prefix (same_from x.prefix y.prefix (sym one)) (same_from y.prefix x.prefix one) in
+      let prefixes = (network_of_sketch s).prefixes in
+      let once : IsDistinct same_prefix prefixes = subst (IsDistinct same_prefix) (sym (numbered_once s.places)) (once_distinct (map (λ d. d.prefix) s.places)) in
+      let number : q ≡ p = distinct_at same_prefix prefixes q p x.prefix y.prefix once block prefix (same_from x.prefix y.prefix (sym one)) (same_from y.prefix x.prefix one) in
       let here : IsPlace (network_of_sketch s) k p x.seat = subst (λ (m : ℕ). IsPlace (network_of_sketch s) k m x.seat) number its in
       elim (or_cases (is_same_link y.seat x.seat) (have_common (touched s.interfaces y.seat) (touched s.interfaces x.seat)) meet) [
         | inl link ↦
@@ -225,7 +226,8 @@ module _ (s : Sketch) where
             let number : m ≡ i = ap (λ (h : Held). h.interface) (same_Some one two (sym there ∙ ap (slice_get (held s.interfaces s.also)) same ∙ at)) in
             absurd (omega arith)
         | inr (inl less) ↦ taken_of i l a j k m less there at
-        | inr (inr more) ↦ elim (held_order n k j two one more at there) [ inl before ↦ let less : i < m = before in absurd (omega arith) | inr both ↦ let same : i ≡ m = both.one in absurd (omega arith) ]
+        | inr (inr more) ↦
+            absurd (elim (held_order n k j two one more at there) [ inl before ↦ let less : i < m = before in omega arith | inr both ↦ let same : i ≡ m = both.one in omega arith ])
       ]
 
   twice_taken : (i : ℕ) → HasOneTwice (network_of_sketch s) i → IsTaken i

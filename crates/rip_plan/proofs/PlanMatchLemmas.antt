@@ -133,7 +133,8 @@ links_added laws k (x ∷ xs) s t h =
           (rest.made ∙ ap (λ (v : Sketch). record v { links = v.links ++ rest.names; places = v.places ++ rest.added }) inner.made);
       named = (fields.named, rest.named);
       placed = rw (map-append placement inner.added rest.added, fields.prefixes_are)
-          (matched_append IsOnLink (map placement inner.added) (map placement rest.added) (map (with_number k) f.1) (items_under (codes_of "prefixes") (k + 1) xs) (rw (back k) at inner.match) rest.placed);
+          (matched_append IsOnLink (map placement inner.added) (map placement rest.added) (map (with_number k) f.1) (items_under (codes_of "prefixes") (k + 1) xs) (rw (back k) at inner.match)
+          rest.placed);
       stand = rw (map-append (λ (p : DraftPlace). p.at) inner.added rest.added, fields.prefixes_are, inner.stand, rest.stand) refl;
     }
 

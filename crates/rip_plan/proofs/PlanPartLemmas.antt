@@ -239,8 +239,8 @@ module _ (document : Members) (n : Network) (plan : PlanOf document n) where
             let u = under_item (codes_of "own") RouterOwn 1 0 plan.routers there.0 r x listed in
             let same : u.t ≡ r = omega (arith, u.number) in
             let seat : seats.Own own ≡ seats.Own owned.own = of.seat ∙ owned.seat in
-            let past : k ≡ length on_links + there.0 =
-            omega (arith, there.1, spots_count (codes_of "prefixes") LinkPrefix 1 0 plan.links, matched_length IsOnLink plan.on_links (items_under (codes_of "prefixes") 0 plan.links) plan.link_prefixes) in
+            let count = matched_length IsOnLink plan.on_links (items_under (codes_of "prefixes") 0 plan.links) plan.link_prefixes in
+            let past : k ≡ length on_links + there.0 = omega (arith, there.1, spots_count (codes_of "prefixes") LinkPrefix 1 0 plan.links, count) in
             record {
               q = q;
               r = r;
