@@ -29,12 +29,11 @@ use Rattle.rip_plan.specs.PlanOf.{AreAlsoOf, HasItems, IsAddressOf, IsCostOf, Is
 use Rattle.rip_plan.specs.PlanText.{sketch_of}
 use Rattle.rip_plan.specs.Relations.{Carries, HasAddress, HasAddresses, HasOwnAddress, IsAttached, IsConnected, IsEachOnce, IsGateway, IsInside, IsInterface, IsLawful, IsOn, IsOwnAt, IsPlace, IsPrefix}
 use Rattle.rip_plan.proofs.DocumentTableLemmas.{by_root}
-use Rattle.rip_plan.proofs.EachOnceLemmas.{once_distinct, once_kept}
 use Rattle.rip_plan.proofs.FurtherAddressLemmas.{also_spot}
 use Rattle.rip_plan.proofs.ItemLemmas.{all_at, all_here, any_finds, cases_option, distinct_at, get_left, get_seen, get_some, get_split, none_at}
 use Rattle.rip_plan.proofs.LookupLemmas.{cost_found, cost_there, on_seat}
 use Rattle.rip_plan.proofs.MatchingLemmas.{matched_left, matched_length}
-use Rattle.rip_plan.proofs.NumberingLemmas.{same_self}
+use Rattle.rip_plan.proofs.NumberingLemmas.{once_distinct, once_kept, same_self}
 use Rattle.rip_plan.proofs.NumbersWhereLemmas.{at_contains}
 use Rattle.rip_plan.proofs.OnePlanLemmas.{items_same}
 use Rattle.rip_plan.proofs.PlanMatchLemmas.{network_matches}

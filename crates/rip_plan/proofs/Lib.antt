@@ -20,7 +20,6 @@ pub mod LeafRouterLemmas
 pub mod PlanAnswerLemmas
 pub mod WithinPlanLemmas
 pub mod MatchingLemmas
-pub mod EachOnceLemmas
 pub mod TableLemmas
 pub mod DocumentTableLemmas
 pub mod PlanMatchLemmas

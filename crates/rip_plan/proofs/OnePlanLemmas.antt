@@ -13,9 +13,8 @@ use Rattle.rip_plan.specs.Passes.{same_prefix}
 use Rattle.rip_plan.specs.Network.{Network}
 use Rattle.rip_plan.specs.PlanOf.{Matched, HasText, HasItems, IsAddressOf, AreAlsoOf, IsCostOf, IsDirectOf, IsFlagOf, IsGatewayOf, IsLinkOf, IsNameOf, items_in, items_under, IsInterfaceOf, Placement, IsOnLink, IsOwned, IsPlaceOf, each_once, PlanOf, IsFirstNamed}
 use Rattle.rip_plan.proofs.ItemLemmas.{distinct_at}
-use Rattle.rip_plan.proofs.NumberingLemmas.{same_self}
+use Rattle.rip_plan.proofs.NumberingLemmas.{once_distinct, same_self}
 use Rattle.rip_plan.proofs.MatchingLemmas.{matched_same}
-use Rattle.rip_plan.proofs.EachOnceLemmas.{once_distinct}
 use Rattle.rip_plan.proofs.TextLemmas.{TextLaws, one_address, one_prefix, one_named}
 
 pub text_same : (key : List ℕ) (d : Data) (s t : List ℕ) → HasText key d s → HasText key d t → s ≡ t

@@ -37,8 +37,7 @@ use Rattle.rip_plan.proofs.PlanPartLemmas.{own_spot}
 use Rattle.rip_plan.proofs.SpotLemmas.{place_ahead, interface_ahead, place_spot, interface_spot}
 use Rattle.rip_plan.proofs.PlanMatchLemmas.{place_ats, interface_ats}
 use Rattle.rip_plan.proofs.ItemLemmas.{cases_option, any_at, any_finds, distinct_at, get_seen, see_got, get_some}
-use Rattle.rip_plan.proofs.NumberingLemmas.{same_is, same_from}
-use Rattle.rip_plan.proofs.EachOnceLemmas.{numbered_once, once_distinct}
+use Rattle.rip_plan.proofs.NumberingLemmas.{numbered_once, once_distinct, same_is, same_from}
 use Rattle.rip_plan.proofs.SecondPassLemmas.{address_spot, at_number, bare_found, common, held, held_spot, number_at, numbers_from, taken_address}
 use Rattle.rip_plan.proofs.ClashLemmas.{meeting_seen}
 use Rattle.rip_plan.proofs.TextLemmas.{TextLaws}

@@ -24,9 +24,8 @@ use Rattle.rip_plan.specs.PlanText.{empty, document_of, sketch_of_document, sket
 use Rattle.rip_plan.specs.Network.{Network, network_in, network_of_sketch}
 use Rattle.rip_plan.specs.PlanOf.{Matched, IsAddressOf, AreAlsoOf, IsNameOf, items_under, IsInterfaceOf, Placement, IsOnLink, IsOwned, IsPlaceOf, each_once, PlanOf, IsPlanOfText}
 use Rattle.rip_plan.proofs.BindLemmas.{bind_ok, guard_ok, ok_same, wanted_ok}
-use Rattle.rip_plan.proofs.NumberingLemmas.{IsNumbered, numbers}
+use Rattle.rip_plan.proofs.NumberingLemmas.{numbered_once, IsNumbered, numbers}
 use Rattle.rip_plan.proofs.MatchingLemmas.{matched_append, matched_seen}
-use Rattle.rip_plan.proofs.EachOnceLemmas.{numbered_once}
 use Rattle.rip_plan.proofs.SpotLemmas.{with_number}
 use Rattle.std.specs.List.{sum_by}
 use Rattle.std.proofs.lemmas.List.Sums.{sum_by_push}
