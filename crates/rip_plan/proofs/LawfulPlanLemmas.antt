@@ -377,16 +377,15 @@ module _ (laws : TextLaws) (bytes : List ℕ) (document : Members) (n : Network)
 pub not_long : (bytes : List ℕ) → ((e : PlanError) → IsFault bytes e → ⊥) → length bytes ≤ 1048576
 not_long bytes none = elim (cases_lt 1048576 (length bytes)) [ inl more ↦ absurd (none (fault codes.Limit Text) (0, inl (inl more, refl))) | inr few ↦ few ]
 
-lawful_text : (laws : TextLaws) (bytes : List ℕ) (n : Network) → IsPlanOfText bytes n → ((e : PlanError) → IsFault bytes e → ⊥) → IsLawful n
-lawful_text laws bytes n is none =
-    let text : IsText bytes is.document = record { short = not_long bytes none; reads = is.reads } in
-    lawful_plan laws bytes is.document n is.plan (record { text = text; has_links = is.plan.has_links; has_routers = is.plan.has_routers }) none
-
 read_text : (laws : TextLaws) (bytes : List ℕ) (s : Sketch) → sketch_of bytes ≡ Ok s → IsPlanOfText bytes (network_of_sketch s)
 read_text laws bytes s h = network_matches laws bytes (network_of_sketch s) (ap (λ (r : Result Sketch PlanError). r >>= (λ t. Ok (network_of_sketch t))) h)
 
 pub lawful : (laws : TextLaws) (bytes : List ℕ) (s : Sketch) → sketch_of bytes ≡ Ok s → IsLawful (network_of_sketch s)
-lawful laws bytes s h = lawful_text laws bytes (network_of_sketch s) (read_text laws bytes s h) (faultless laws bytes s h)
+lawful laws bytes s h =
+    let is = read_text laws bytes s h in
+    let none = faultless laws bytes s h in
+    let text : IsText bytes is.document = record { short = not_long bytes none; reads = is.reads } in
+    lawful_plan laws bytes is.document (network_of_sketch s) is.plan (record { text = text; has_links = is.plan.has_links; has_routers = is.plan.has_routers }) none
 
 pub plan_stands : (laws : TextLaws) (bytes : List ℕ) → ((e : PlanError) → IsFault bytes e → ⊥) → (n : Network) × IsPlanOfText bytes n × IsLawful n
 plan_stands laws bytes none =

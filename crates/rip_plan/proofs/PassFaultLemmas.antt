@@ -1,5 +1,5 @@
 -- What the later passes find of the faults of a plan.
-use Rattle.std.proofs.Common.{◌≡◌, ℕ, ◌+◌, ◌<◌, ◌⊎◌, inl, inr, List, [], ◌∷◌, ◌++◌, length, true, false, ◌||◌, Option, Some, None, Result, refl, sym, ap, subst, ◌∙◌, arith, Bool}
+use Rattle.std.proofs.Common.{◌≡◌, ℕ, ◌+◌, ◌<◌, ◌⊎◌, inl, inr, suc, List, [], ◌∷◌, ◌++◌, length, true, false, ◌||◌, Option, Some, None, Result, refl, sym, ap, subst, ◌∙◌, arith, Bool}
 use Rattle.rip_plan.proofs.FirstFoundLemmas.{Clashes, FirstSo, Passes, first_clashing, first_passing}
 use Rattle.rip_plan.proofs.SketchPlanLemmas.{as_interface, interface_as, place_in, place_from, touch, touches, there_on, on_there}
 use Rattle.std.specs.Prelude.{slice_get, find, option_map, unwrap_or, map, ◌==◌}
@@ -33,7 +33,7 @@ use Rattle.rip_plan.proofs.FindingLemmas.{Found, Finds, finds_in, bind_rows}
 use Rattle.rip_plan.proofs.FaultRowLemmas.{IsAstrayAt, IsLast, IsOfTables, IsTold, told_finds, code_rows, code_high, last_two, last_three, last_four, pass_rows}
 use Rattle.rip_plan.proofs.HeldAddressLemmas.{address_held, first_held, held_address, held_at, held_order}
 use Rattle.rip_plan.proofs.OnePlanLemmas.{one_plan}
-use Rattle.rip_plan.proofs.PlanPartLemmas.{own_spot}
+use Rattle.rip_plan.proofs.PlanPartLemmas.{own_table}
 use Rattle.rip_plan.proofs.SpotLemmas.{place_ahead, interface_ahead, place_spot, interface_spot}
 use Rattle.rip_plan.proofs.PlanMatchLemmas.{place_ats, interface_ats}
 use Rattle.rip_plan.proofs.ItemLemmas.{cases_option, any_at, any_finds, distinct_at, get_seen, see_got, get_some}
@@ -280,12 +280,6 @@ module _ (laws : TextLaws) (document : Members) (links routers : List Data) (s :
   at_place : (k : ℕ) (a : At) → slice_get (place_spots links routers) k ≡ Some a → (d : DraftPlace) × (slice_get s.places k ≡ Some d) × (d.at ≡ a)
   at_place k a h = get_seen (λ (p : DraftPlace). p.at) s.places k a (ap (λ (l : List At). slice_get l k) placed ∙ h)
 
-  at_interface : (k : ℕ) (a : At) → slice_get (interface_spots routers) k ≡ Some a → (d : DraftInterface) × (slice_get s.interfaces k ≡ Some d) × (d.at ≡ a)
-  at_interface k a h = get_seen (λ (i : DraftInterface). i.at) s.interfaces k a (ap (λ (l : List At). slice_get l k) listed ∙ h)
-
-  get_item : (k : ℕ) (x : DraftInterface) (y : DraftInterface) → slice_get s.interfaces k ≡ Some x → slice_get s.interfaces k ≡ Some y → x ≡ y
-  get_item k x y h g = same_Some x y (sym h ∙ g)
-
   -- prefixes
   duplicate_told : (place : At) → IsClash (DoMeet (network_of_sketch s)) (place_spots links routers) place → TableFault document links routers codes.DuplicatePrefix place
   duplicate_told (LinkPrefix i j) c = (network_of_sketch s, plan, c)
@@ -317,9 +311,6 @@ module _ (laws : TextLaws) (document : Members) (links routers : List Data) (s :
   twice_clear (RouterInterface r j) f = of_plan (λ n. IsClash (AreTwice n) (interface_spots routers) (RouterInterface r j)) f.0 f.1 f.2
   twice_clear place f = absurd f
 
-  interfaces_ahead : (k m : ℕ) (x y : DraftInterface) → k < m → slice_get s.interfaces k ≡ Some x → slice_get s.interfaces m ≡ Some y → Before (position x.at) (position y.at)
-  interfaces_ahead k m x y less h g = interface_ahead routers k m x.at y.at less (interface_at k x h) (interface_at m y g)
-
   twice_find : Finds (IsTold document links routers) (code_rows 2 codes.TwiceOnLink).has (none_found codes.TwiceOnLink (twice_in s.interfaces))
   twice_find =
       clash_finds (IsTold document links routers) 2 codes.TwiceOnLink (λ (i : DraftInterface). i.at) s.interfaces (interface_spots routers) listed (interface_ahead routers) are_twice
@@ -347,7 +338,7 @@ module _ (laws : TextLaws) (document : Members) (links routers : List Data) (s :
       let (a, at, one) = address_at k x h in
       let (b, there, two) = address_at m y g in
       elim (held_order (network_of_sketch s) k m x y less h g) [
-        | inl ahead ↦ inr (rw (one, two) (interfaces_ahead x.interface y.interface a b ahead at there))
+        | inl ahead ↦ inr (rw (one, two) (interface_ahead routers x.interface y.interface a.at b.at ahead (interface_at x.interface a at) (interface_at y.interface b there)))
         | inr same ↦ inl (ap (λ (i : ℕ). unwrap_or (spot_of s.interfaces i) Text) same.one)
       ]
 
@@ -377,18 +368,18 @@ module _ (laws : TextLaws) (document : Members) (links routers : List Data) (s :
       taken_at : (place : At) (i : ℕ) → slice_get (interface_spots routers) i ≡ Some place → IsTaken s i
           → Stood (Clashes have_one_address (held s.interfaces s.also)) (address_spot s.interfaces) (held s.interfaces s.also) place
       taken_at place i spot (k, x, at, clashes, number) =
-          let (d, listed, seen) = address_at k x at in
-          let (e, its, stands) = at_interface i place spot in
-          let same : d ≡ e = get_item i d e (ap (slice_get s.interfaces) (sym number) ∙ listed) its in
+          let (d, there, seen) = address_at k x at in
+          let (e, its, stands) = get_seen (λ (y : DraftInterface). y.at) s.interfaces i place (ap (λ (l : List At). slice_get l i) listed ∙ spot) in
+          let same : d ≡ e = same_Some d e (sym there ∙ ap (slice_get s.interfaces) number ∙ its) in
           record { k = k; x = x; at = at; so = clashes; stands = seen ∙ ap (λ (y : DraftInterface). y.at) same ∙ stands }
 
   -- own prefixes
   astray_told : (place : At) → IsSo (IsAstray (network_of_sketch s)) (place_spots links routers) place → IsAstrayAt document links routers place
   astray_told place c =
       let (k, at, (p, r, l, h, none)) = c in
-      let (i, j, spot) = own_spot document (network_of_sketch s) plan k p h.own h.place in
-      let here : slice_get (place_spots links routers) k ≡ Some (RouterOwn i j) = subst (λ (spots : List At). slice_get spots k ≡ Some (RouterOwn i j)) spots spot in
-      let is : place ≡ RouterOwn i j = same_Some place (RouterOwn i j) (sym at ∙ here) in
+      let t = own_table document (network_of_sketch s) plan k p h.own h.place in
+      let here : slice_get (place_spots links routers) k ≡ Some (RouterOwn (1 + t.r) (suc t.j)) = ap (λ (l : List At). slice_get l k) (sym spots) ∙ t.spot in
+      let is : place ≡ RouterOwn (1 + t.r) (suc t.j) = same_Some place (RouterOwn (1 + t.r) (suc t.j)) (sym at ∙ here) in
       subst (IsAstrayAt document links routers) (sym is) (network_of_sketch s, plan, subst (IsSo (IsAstray (network_of_sketch s)) (place_spots links routers)) is c)
 
   astray_clear : (place : At) → IsAstrayAt document links routers place → IsSo (IsAstray (network_of_sketch s)) (place_spots links routers) place

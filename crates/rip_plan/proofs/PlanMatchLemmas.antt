@@ -173,7 +173,7 @@ interfaces_added laws r j (x ∷ xs) s t h =
     let has = interface_texts x f fields_read in
     let its : Interface = record { router = r - 1; link = link; address = address; cost = cost; direct = direct; poison = unwrap_or f.poison s.poison } in
     let new : DraftInterface = record { interface = its; at = place } in
-    let made : u ≡ with_interface new also s = sym (ok_same _ u h8) in
+    let made : u ≡ with_interface new also s = sym (ok_same (with_interface new also s) u h8) in
     let rest = interfaces_added laws r (j + 1) xs u t others in
     record {
       added = new ∷ rest.added;

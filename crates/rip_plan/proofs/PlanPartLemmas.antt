@@ -254,9 +254,6 @@ module _ (document : Members) (n : Network) (plan : PlanOf document n) where
             }
       ]
 
-  pub own_spot : (k p : ℕ) (own : OwnPrefix) → IsPlace n k p (seats.Own own) → (r j : ℕ) × (slice_get (place_spots plan.links plan.routers) k ≡ Some (RouterOwn r j))
-  own_spot k p own place = let t = own_table k p own place in (1 + t.r, suc t.j, t.spot)
-
   pub carrier_has : (l p : ℕ) (block : Block) → Carries n l p → IsPrefix n p block → HasPrefix plan.links l block
   carrier_has l p block (k, place) prefix =
       let (q, at, of) = matched_left (IsPlaceOf n) n.places (plan.on_links ++ plan.owned) k _ plan.places place.listed in

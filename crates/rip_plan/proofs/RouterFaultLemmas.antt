@@ -11,7 +11,7 @@ use Rattle.std.proofs.lemmas.Bool.Decides.{nat_tests}
 use Rattle.toml.specs.Data.{Data, Members, string, get, as_table}
 use Rattle.rip_wire.specs.Address.{address_in}
 use Rattle.rip_wire.specs.Name.{is_name}
-use Rattle.rip_wire.specs.Prefix.{Block, prefix_in, ContainsAddress}
+use Rattle.rip_wire.specs.Prefix.{Block, prefix_in}
 use Rattle.rip_plan.specs.declared.error.PlanCode.TheVariants as codes
 use Rattle.rip_plan.specs.declared.error.At.TheVariants.{Link, LinkPrefix, Router, RouterInterface, RouterOwn}
 use Rattle.rip_plan.specs.declared.draft.DraftPlace.{DraftPlace}
@@ -170,12 +170,6 @@ both_not : (a b : Bool) → (a && not b) ≡ true → (a ≡ true) × (b ≡ fal
 both_not true false e = (refl, refl)
 both_not a b e = absurd cc
 
-contains_test : (p : Block) (a : ℕ) → ContainsAddress p a → has_address p a ≡ true
-contains_test p a h = grind (arith, nat_tests)
-
-test_contains : (p : Block) (a : ℕ) → has_address p a ≡ true → ContainsAddress p a
-test_contains p a h = grind (arith, nat_tests)
-
 -- the prefixes of a link are those of the places on it
 module _ (laws : TextLaws) (links done : List Data) (poison : Bool) (v : Sketch) (read : TablesRead links done poison v)
     (differ : (l m : ℕ) (name : List ℕ) → slice_get v.links l ≡ Some name → slice_get v.links m ≡ Some name → l ≡ m) where
@@ -218,7 +212,7 @@ module _ (laws : TextLaws) (links done : List Data) (poison : Bool) (v : Sketch)
         none = λ p its holds.
             let (m, w, there, seat, block) = place_has l p its in
             let test : (is_on l w.seat && has_address w.prefix a) ≡ true =
-            and_from (is_on l w.seat) (has_address w.prefix a) (self_on l w seat) (ap (λ (b : Block). has_address b a) block ∙ contains_test p a holds) in
+            and_from (is_on l w.seat) (has_address w.prefix a) (self_on l w seat) (ap (λ (b : Block). has_address b a) block ∙ grind (arith, nat_tests)) in
             let all : list_any (λ (p : DraftPlace). is_on l p.seat && has_address p.prefix a) v.places ≡ true =
             any_at (λ (p : DraftPlace). is_on l p.seat && has_address p.prefix a) v.places m w there test in
             cc;
@@ -235,7 +229,7 @@ module _ (laws : TextLaws) (links done : List Data) (poison : Bool) (v : Sketch)
       let holds = not_both (list_any (λ (p : DraftPlace). is_on l p.seat) v.places) (list_any (λ (p : DraftPlace). is_on l p.seat && has_address p.prefix a) v.places) inside some in
       let (n, q, listed, tests) = any_finds (λ (p : DraftPlace). is_on l p.seat && has_address p.prefix a) v.places holds in
       let (on, within) = and_parts (is_on l q.seat) (has_address q.prefix a) tests in
-      (q.prefix, has_prefix l n q listed on, test_contains q.prefix a within))
+      (q.prefix, has_prefix l n q listed on, grind (arith, nat_tests)))
 
 module _ (document : Members) (links routers done : List Data) (d : Data) (rest : List Data) (split : routers ≡ done ++ d ∷ rest) where
   interface_finds : (laws : TextLaws) (front : List Data) (x : Data) (back : List Data) (poison : Bool) (u v : Sketch) → items_in (get (codes_of "interface") d) ≡ front ++ x ∷ back

@@ -28,14 +28,11 @@ module _ (s : Sketch) where
   pub interface_in : (i : ℕ) (v : Interface) → slice_get (network_of_sketch s).interfaces i ≡ Some v → (x : DraftInterface) × (slice_get s.interfaces i ≡ Some x) × (x.interface ≡ v)
   interface_in i v h = get_seen (λ (x : DraftInterface). x.interface) s.interfaces i v h
 
-  pub interface_from : (i : ℕ) (x : DraftInterface) → slice_get s.interfaces i ≡ Some x → slice_get (network_of_sketch s).interfaces i ≡ Some x.interface
-  interface_from i x h = see_got (λ (y : DraftInterface). y.interface) s.interfaces i x h
-
   -- an interface with this router and this link
   listed_as : (i : ℕ) (x : DraftInterface) (r l : ℕ) → slice_get s.interfaces i ≡ Some x → x.interface.router ≡ r → x.interface.link ≡ l
       → slice_get (network_of_sketch s).interfaces i ≡ Some (record x.interface { router = r; link = l })
   listed_as i x r l at router link =
-      interface_from i x at ∙ ap (λ (m : ℕ). Some (record x.interface { router = m })) router
+      see_got (λ (y : DraftInterface). y.interface) s.interfaces i x at ∙ ap (λ (m : ℕ). Some (record x.interface { router = m })) router
       ∙ ap (λ (m : ℕ). Some (record x.interface { router = r; link = m })) link
 
   pub interface_as : (i : ℕ) (x : DraftInterface) (r l : ℕ) → slice_get s.interfaces i ≡ Some x → x.interface.router ≡ r → x.interface.link ≡ l

@@ -123,20 +123,12 @@ under_ahead key at order i ds k m a b less h g =
     rw (spot_at (at (i + u.i)) 1 (items_in (get key u.x)) u.j a u.of, spot_at (at (i + v.i)) 1 (items_in (get key v.x)) v.j b v.of)
     (order (i + u.i) (1 + u.j) (i + v.i) (1 + v.j) (elim (in_order (spots_in key at) i ds k m a b u v less) [ inl before ↦ inl (omega arith) | inr (same, before) ↦ inr (omega arith, omega arith) ]))
 
-prefix_order : Ordered LinkPrefix
-prefix_order i j n m (inl h) = inr (refl, inl h)
-prefix_order i j n m (inr h) = inr (refl, inr (h.0, inr (refl, inl h.1)))
-
-interface_order : Ordered RouterInterface
-interface_order i j n m (inl h) = inr (refl, inl h)
-interface_order i j n m (inr h) = inr (refl, inr (h.0, inr (refl, inl h.1)))
-
-own_order : Ordered RouterOwn
-own_order i j n m (inl h) = inr (refl, inl h)
-own_order i j n m (inr h) = inr (refl, inr (h.0, inr (refl, inl h.1)))
+ordered : (at : ℕ → ℕ → At) (part group : ℕ) → ((i j : ℕ) → position (at i j) ≡ part ∷ i ∷ group ∷ j ∷ []) → Ordered at
+ordered at part group places i j n m (inl h) = rw (places i j, places n m) (inr (refl, inl h))
+ordered at part group places i j n m (inr h) = rw (places i j, places n m) (inr (refl, inr (h.0, inr (refl, inl h.1))))
 
 pub interface_ahead : (routers : List Data) (k m : ℕ) (a b : At) → k < m → slice_get (interface_spots routers) k ≡ Some a → slice_get (interface_spots routers) m ≡ Some b → Ahead a b
-interface_ahead routers k m a b less h g = under_ahead (codes_of "interface") RouterInterface interface_order 1 routers k m a b less h g
+interface_ahead routers k m a b less h g = under_ahead (codes_of "interface") RouterInterface (ordered RouterInterface 2 1 (λ i j. refl)) 1 routers k m a b less h g
 
 pub place_ahead : (links routers : List Data) (k m : ℕ) (a b : At) → k < m → slice_get (place_spots links routers) k ≡ Some a → slice_get (place_spots links routers) m ≡ Some b → Ahead a b
 place_ahead links routers k m a b less h g =
@@ -145,7 +137,7 @@ place_ahead links routers k m a b less h g =
     elim (get_split here later k a h) [
       | inl e ↦
           elim (get_split here later m b g) [
-            | inl f ↦ under_ahead (codes_of "prefixes") LinkPrefix prefix_order 1 links k m a b less e.0 f.0
+            | inl f ↦ under_ahead (codes_of "prefixes") LinkPrefix (ordered LinkPrefix 1 1 (λ i j. refl)) 1 links k m a b less e.0 f.0
             | inr f ↦
                 let s = spot_under (codes_of "prefixes") LinkPrefix 1 links k a e.0 in
                 let t = spot_under (codes_of "own") RouterOwn 1 routers f.0 b f.2 in
@@ -158,7 +150,7 @@ place_ahead links routers k m a b less h g =
             | inr f ↦
                 let one : k ≡ length here + e.0 = e.1 in
                 let two : m ≡ length here + f.0 = f.1 in
-                under_ahead (codes_of "own") RouterOwn own_order 1 routers e.0 f.0 a b (omega arith) e.2 f.2
+                under_ahead (codes_of "own") RouterOwn (ordered RouterOwn 2 2 (λ i j. refl)) 1 routers e.0 f.0 a b (omega arith) e.2 f.2
           ]
     ]
 

@@ -1,10 +1,10 @@
 -- Bytes without a fault are the well-formed ones.
 use Rattle.std.proofs.Common.{◌≡◌, ℕ, zero, suc, ◌+◌, ◌<◌, ◌≤◌, ◌⊎◌, inl, inr, List, map, length, sum, not, Some, refl, sym, ◌∙◌, ap, subst, arith}
-use Rattle.std.specs.Prelude.{pos, slice_get, get_or, codes as codes_of}
+use Rattle.std.specs.Prelude.{slice_get, get_or, codes as codes_of}
 use Rattle.std.specs.List.{All}
 use Rattle.std.proofs.lemmas.Bool.{cases_Bool}
 use Rattle.std.proofs.lemmas.Option.{none-some, slice_get_within, get_or_from_slice_get, slice_get-get_or}
-use Rattle.toml.specs.Data.{Data, Members, get, integer, string, table}
+use Rattle.toml.specs.Data.{Data, Members, get, string, table}
 use Rattle.rip_wire.specs.Name.{IsName}
 use Rattle.rip_wire.specs.Prefix.{Block}
 use Rattle.rip_plan.specs.declared.error.PlanCode.{PlanCode}
@@ -15,7 +15,7 @@ use Rattle.rip_plan.specs.declared.error.At.TheVariants.{Text, Version, Link, Li
 use Rattle.rip_plan.specs.Fault.{fault}
 use Rattle.rip_plan.specs.Fields.{interface_fields, is_version, link_fields, own_fields, router_fields}
 use Rattle.rip_plan.specs.Network.{Network}
-use Rattle.rip_plan.specs.PlanFaults.{AreTwice, AstrayAt, DoMeet, FaultAt, HasNoAddress, HasOneTwice, HasTables, HasWrongAlso, HasWrongCost, HasWrongDirect, HaveOneAddress, IsAstray, IsBare, IsClash, IsFault, IsFound, IsItem, IsNamedAgain, IsOutside, IsPast, IsSo, IsText, TableFault, also_spots, interface_spots, nth, pass_of, place_spots}
+use Rattle.rip_plan.specs.PlanFaults.{AreTwice, AstrayAt, DoMeet, FaultAt, HasNoAddress, HasOneTwice, HasTables, HasWrongAlso, HasWrongCost, HasWrongDirect, HaveOneAddress, IsAstray, IsBare, IsClash, IsFault, IsItem, IsNamedAgain, IsOutside, IsPast, IsSo, IsText, TableFault, also_spots, interface_spots, nth, place_spots}
 use Rattle.rip_plan.specs.PlanOf.{AreAlsoOf, IsAddressOf, IsNameOf, IsOnLink, IsPlanOfText, Matched, PlanOf, items_under}
 use Rattle.rip_plan.specs.Relations.{HasOwnAddress, IsConnected, IsInterface, IsLawful, IsOwnAt, IsPlace}
 use Rattle.rip_plan.specs.WellFormed.{IsWellFormed}
@@ -27,7 +27,7 @@ use Rattle.rip_plan.proofs.OnePlanLemmas.{one_plan, text_same}
 use Rattle.rip_plan.proofs.TableLemmas.{cost_fits, direct_fits, gateway_fits}
 use Rattle.rip_plan.proofs.PlanPartLemmas.{attached_not, inside_not, known_not, HasInterface, HasOwn, also_counted, carrier_has, prefix_place, interfaces_count, item_under, its_interface, its_own, its_place, names_good, places_count}
 use Rattle.rip_plan.proofs.SpotLemmas.{under_item}
-use Rattle.rip_plan.proofs.TextFaultLemmas.{one_astray, one_fault, one_tables, same_document, version_is, version_told}
+use Rattle.rip_plan.proofs.TextFaultLemmas.{one_astray, one_fault, one_tables, same_document, version_is, version_told, whole_fault}
 use Rattle.rip_plan.proofs.TextLemmas.{TextLaws}
 use Rattle.rip_plan.specs.Texts.{IsAddressText, IsPrefixText}
 use Rattle.rip_plan.specs.DocumentTables.{IsLinkTable, IsRouterTable, IsInterfaceTable, IsOwnTable, IsRoot}
@@ -218,69 +218,42 @@ module _ (laws : TextLaws) (bytes : List ℕ) (w : IsWellFormed bytes) where
       none (w.lawful.attached_there q p l (k, h))
   last_not place f = absurd f
 
-  found_not : (pass : ℕ) (e : PlanError) → IsFound bytes pass e → ⊥
-  found_not pass e (inl f) = fault_not e.code e.place f.0
-  found_not pass e (inr f) = last_not e.place f.0
-
 pub is_faultless : (laws : TextLaws) (bytes : List ℕ) → IsWellFormed bytes → (e : PlanError) → IsFault bytes e → ⊥
-is_faultless laws bytes w e f = found_not laws bytes w f.0 e f.1
+is_faultless laws bytes w e (pass, found) = elim found [ inl f ↦ fault_not laws bytes w e.code e.place f.0 | inr f ↦ last_not laws bytes w e.place f.0 ]
 
 -- ---- bytes that have no fault
 
-module _ (bytes : List ℕ) (none : (e : PlanError) → IsFault bytes e → ⊥) where
-  none_at : (c : PlanCode) (place : At) → FaultAt bytes c place → ⊥
-  none_at c place f = none (fault c place) (pass_of c, inl (f, refl))
-
-  module _ (document : Members) (text : IsText bytes document) (n : Network) (plan : PlanOf document n) where
-    its_version : get (codes_of "version") (table document) ≡ Some (integer (pos 1))
-    its_version =
-        elim (cases_Bool (is_version (get (codes_of "version") (table document)))) [
-          | inl e ↦ version_is (get (codes_of "version") (table document)) e
-          | inr e ↦ absurd (none_at codes.Version Version (document, text, version_told (get (codes_of "version") (table document)) (ap not e)))
-        ]
-
-    its_tables : HasTables bytes document plan.links plan.routers
-    its_tables = record { text = text; has_links = plan.has_links; has_routers = plan.has_routers }
-
-    its_links : All IsLinkTable plan.links
-    its_links = all_from IsLinkTable plan.links (λ k d at. by_table IsLinkTable link_fields (λ e f h. (link_table e f.0 f.1 h).shape) d
-        (λ lacks. none_at codes.Key (Link (suc k)) (document, plan.links, plan.routers, its_tables, (d, at, lacks))) (link_not d))
-
-    its_routers : All IsRouterTable plan.routers
-    its_routers = all_from IsRouterTable plan.routers (λ k d at. by_table IsRouterTable router_fields (λ e f h. (router_table e f.0 f.1 f.2 h).shape) d
-        (λ lacks. none_at codes.Key (Router (suc k)) (document, plan.links, plan.routers, its_tables, (d, at, lacks))) (router_not d))
-
-    its_interfaces : All (λ (at : ℕ × Data). IsInterfaceTable at.1) (items_under (codes_of "interface") 0 plan.routers)
-    its_interfaces =
-        all_from (λ (at : ℕ × Data). IsInterfaceTable at.1) (items_under (codes_of "interface") 0 plan.routers)
-        (λ k d at.
-        let u = under_item (codes_of "interface") RouterInterface 1 0 plan.routers k d.0 d.1 at in
-        by_table IsInterfaceTable interface_fields (λ e f h. (interface_texts e f h).shape) d.1
-        (λ lacks. none_at codes.Key (RouterInterface (suc u.t) (suc u.j)) (document, plan.links, plan.routers, its_tables, (d.1, u.item, lacks))) (interface_not d.1))
-
-    its_owns : All (λ (at : ℕ × Data). IsOwnTable at.1) (items_under (codes_of "own") 0 plan.routers)
-    its_owns =
-        all_from (λ (at : ℕ × Data). IsOwnTable at.1) (items_under (codes_of "own") 0 plan.routers)
-        (λ k d at.
-        let u = under_item (codes_of "own") RouterOwn 1 0 plan.routers k d.0 d.1 at in
-        by_table IsOwnTable own_fields (λ e f h. (own_texts e f h).shape) d.1
-        (λ lacks. none_at codes.Key (RouterOwn (suc u.t) (suc u.j)) (document, plan.links, plan.routers, its_tables, (d.1, u.item, lacks))) (own_not d.1))
-
-pub faultless_is : ((bytes : List ℕ) → ((e : PlanError) → IsFault bytes e → ⊥) → (n : Network) × IsPlanOfText bytes n × IsLawful n)
-    → (bytes : List ℕ) → ((e : PlanError) → IsFault bytes e → ⊥) → IsWellFormed bytes
-faultless_is law bytes none =
-    let (n, is, lawful) = law bytes none in
+faultless_plan : (bytes : List ℕ) (n : Network) → ((e : PlanError) → IsFault bytes e → ⊥) → IsPlanOfText bytes n → IsLawful n → IsWellFormed bytes
+faultless_plan bytes n none is lawful =
+    let plan = is.plan in
     let text : IsText bytes is.document = record { short = not_long bytes none; reads = is.reads } in
+    let tables : HasTables bytes is.document plan.links plan.routers = record { text = text; has_links = plan.has_links; has_routers = plan.has_routers } in
+    let version = get (codes_of "version") (table is.document) in
+    let no_fault : (place : At) → TableFault is.document plan.links plan.routers codes.Key place → ⊥ =
+    λ place f. none (fault codes.Key place) (0, inl (whole_fault bytes is.document plan.links plan.routers tables codes.Key place f, refl)) in
     record {
       document = is.document;
       text = text;
-      version = its_version bytes none is.document text n is.plan;
+      version = elim (cases_Bool (is_version version)) [
+        | inl e ↦ version_is version e
+        | inr e ↦ absurd (none (fault codes.Version Version) (0, inl ((is.document, text, version_told version (ap not e)), refl)))
+      ];
       network = n;
-      plan = is.plan;
-      root = by_root is.document (λ lacks. none_at bytes none codes.Key Text (is.document, text, lacks));
-      link_tables = its_links bytes none is.document text n is.plan;
-      router_tables = its_routers bytes none is.document text n is.plan;
-      interface_tables = its_interfaces bytes none is.document text n is.plan;
-      own_tables = its_owns bytes none is.document text n is.plan;
+      plan = plan;
+      root = by_root is.document (λ lacks. none (fault codes.Key Text) (0, inl ((is.document, text, lacks), refl)));
+      link_tables = all_from IsLinkTable plan.links (λ k d at.
+          by_table IsLinkTable link_fields (λ e f h. (link_table e f.0 f.1 h).shape) d (λ lacks. no_fault (Link (suc k)) (d, at, lacks)) (link_not d));
+      router_tables = all_from IsRouterTable plan.routers (λ k d at.
+          by_table IsRouterTable router_fields (λ e f h. (router_table e f.0 f.1 f.2 h).shape) d (λ lacks. no_fault (Router (suc k)) (d, at, lacks)) (router_not d));
+      interface_tables = all_from (λ (at : ℕ × Data). IsInterfaceTable at.1) (items_under (codes_of "interface") 0 plan.routers) (λ k d at.
+          let u = under_item (codes_of "interface") RouterInterface 1 0 plan.routers k d.0 d.1 at in
+          by_table IsInterfaceTable interface_fields (λ e f h. (interface_texts e f h).shape) d.1 (λ lacks. no_fault (RouterInterface (suc u.t) (suc u.j)) (d.1, u.item, lacks)) (interface_not d.1));
+      own_tables = all_from (λ (at : ℕ × Data). IsOwnTable at.1) (items_under (codes_of "own") 0 plan.routers) (λ k d at.
+          let u = under_item (codes_of "own") RouterOwn 1 0 plan.routers k d.0 d.1 at in
+          by_table IsOwnTable own_fields (λ e f h. (own_texts e f h).shape) d.1 (λ lacks. no_fault (RouterOwn (suc u.t) (suc u.j)) (d.1, u.item, lacks)) (own_not d.1));
       lawful = lawful;
     }
+
+pub faultless_is : ((bytes : List ℕ) → ((e : PlanError) → IsFault bytes e → ⊥) → (n : Network) × IsPlanOfText bytes n × IsLawful n)
+    → (bytes : List ℕ) → ((e : PlanError) → IsFault bytes e → ⊥) → IsWellFormed bytes
+faultless_is law bytes none = let (n, is, lawful) = law bytes none in faultless_plan bytes n none is lawful
