@@ -3,7 +3,7 @@ use Rattle.std.proofs.Common.{◌≡◌, ◌≢◌, ℕ, zero, suc, ◌+◌, ◌
 use Rattle.std.proofs.lemmas.List.{get_or_append_left, get_or_push, get_or-map, length-map, get_or-set_same, get_or-set_other, same_lists, map-set, take_more, length-take-le}
 use Rattle.std.proofs.Math.ListN.{set, length-set}
 use Rattle.std.specs.Prelude.{◌==◌}
-use Rattle.std.proofs.lemmas.Bool.{cases_lt, cases_eq}
+use Rattle.std.proofs.lemmas.Bool.{cases_Bool, cases_lt, cases_eq}
 use Rattle.std.proofs.lemmas.Bool.Decides.{nat_tests}
 use Rattle.rip_plan.specs.Network.{each_below, numbers_where}
 
@@ -51,15 +51,13 @@ each_below_set {A} n f g l within others = same_lists (set (each_below n f) l (g
 pub numbers_where_push : {A : Type 0} (test : A → Bool) (n : ℕ) (xs : List A) (x : A) →
     numbers_where test n (xs ++ x ∷ []) ≡ cond (test x) (numbers_where test n xs ++ (n + length xs) ∷ []) (numbers_where test n xs)
 numbers_where_push test n [] x = let same : n + 0 ≡ n = omega arith in rw same refl
-numbers_where_push test n (y ∷ ys) x = by_tests (test y) (test x) refl refl (numbers_where_push test (n + 1) ys x)
-  where
-    by_tests : (a b : Bool) → test y ≡ a → test x ≡ b →
-        numbers_where test (n + 1) (ys ++ x ∷ []) ≡ cond (test x) (numbers_where test (n + 1) ys ++ (n + 1 + length ys) ∷ []) (numbers_where test (n + 1) ys)
-        → numbers_where test n (y ∷ ys ++ x ∷ []) ≡ cond (test x) (numbers_where test n (y ∷ ys) ++ (n + length (y ∷ ys)) ∷ []) (numbers_where test n (y ∷ ys))
-    by_tests true true e f later = let same : n + 1 + length ys ≡ n + suc (length ys) = omega arith in rw (e, later, f, same) refl
-    by_tests true false e f later = rw (e, later, f) refl
-    by_tests false true e f later = let same : n + 1 + length ys ≡ n + suc (length ys) = omega arith in rw (e, later, f, same) refl
-    by_tests false false e f later = rw (e, later, f) refl
+numbers_where_push test n (y ∷ ys) x =
+    let same : n + 1 + length ys ≡ n + suc (length ys) = omega arith in
+    let later = numbers_where_push test (n + 1) ys x in
+    elim (cases_Bool (test y)) [
+      | inl e ↦ elim (cases_Bool (test x)) [ inl f ↦ rw (e, later, f, same) refl | inr f ↦ rw (e, later, f) refl ]
+      | inr e ↦ rw (e, later, same) refl
+    ]
 
 -- the numbers of the items of each key, with one more item
 pub grouped_more : {A V : Type 0} (view : V → List ℕ) (vs : List V) (n : ℕ) (key : A → ℕ) (xs : List A) (i : ℕ) (x : A) (v w : V)

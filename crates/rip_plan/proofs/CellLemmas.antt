@@ -1,10 +1,10 @@
 -- Rows of w cells, one after another in one list, as they are written and read.
-use Rattle.std.proofs.Common.{◌≡◌, ℕ, ◌+◌, ◌*◌, ◌<◌, List, [], ◌∷◌, ◌++◌, length, take, drop, get_or, append_assoc, length-append, Bool, true, false, cond, ◌&&◌, Option, Some, None, refl, sym, arith, eqb}
+use Rattle.std.proofs.Common.{◌≡◌, ℕ, inl, inr, ◌+◌, ◌*◌, ◌<◌, List, [], ◌∷◌, ◌++◌, length, take, drop, get_or, append_assoc, length-append, Bool, true, false, cond, ◌&&◌, Option, Some, None, refl, sym, arith, eqb}
 use Rattle.std.proofs.Math.ListN.{set}
 use Rattle.std.specs.Prelude.{slice_get, ◌==◌, unwrap_or}
 use Rattle.std.specs.List.{All}
 use Rattle.std.specs.Option.{option_or}
-use Rattle.std.proofs.lemmas.Bool.Decides.{nat_tests}
+use Rattle.std.proofs.lemmas.Bool.{and_from, and_parts, both_ways, cases_Bool, eq-eqb, eqb-true}
 use Rattle.std.proofs.lemmas.List.{get_or-set_same, get_or-set_other, take_at}
 use Rattle.std.proofs.lemmas.Nat.{same_from_place}
 use Rattle.std.proofs.lemmas.Option.{slice_get_within, slice_get-get_or}
@@ -16,18 +16,16 @@ use Rattle.rip_plan.proofs.NumbersWhereLemmas.{number_passes}
 
 pub cell_set : {A : Type 0} (xs : List A) (w a b r k : ℕ) (v d : A) → a * w + b < length xs → b < w → k < w
     → get_or (set xs (a * w + b) v) (r * w + k) d ≡ cond (eqb a r && eqb b k) v (get_or xs (r * w + k) d)
-cell_set {A} xs w a b r k v d h p q = by_tests (eqb a r) (eqb b k) refl refl
-  where
-    other : ((a ≡ r) × (b ≡ k) → ⊥) → get_or (set xs (a * w + b) v) (r * w + k) d ≡ get_or xs (r * w + k) d
-    other apart = get_or-set_other xs (a * w + b) (r * w + k) v d (λ same. let parts = same_from_place r k a b w q p same in apart (sym parts.0, sym parts.1))
-
-    by_tests : (e f : Bool) → eqb a r ≡ e → eqb b k ≡ f → get_or (set xs (a * w + b) v) (r * w + k) d ≡ cond (e && f) v (get_or xs (r * w + k) d)
-    by_tests true true e f =
-        let row : a ≡ r = grind (arith, nat_tests) in
-        let column : b ≡ k = grind (arith, nat_tests) in
-        rw (← row, ← column) (get_or-set_same xs (a * w + b) v d h)
-    by_tests true false e f = other (λ same. let column : b ≡ k = same.1 in grind (arith, nat_tests))
-    by_tests false f e g = other (λ same. let row : a ≡ r = same.0 in grind (arith, nat_tests))
+cell_set {A} xs w a b r k v d h p q =
+    elim (cases_Bool (eqb a r && eqb b k)) [
+      | inl e ↦
+          let (row, column) = and_parts (eqb a r) (eqb b k) e in
+          rw (e, ← eqb-true a r row, ← eqb-true b k column) (get_or-set_same xs (a * w + b) v d h)
+      | inr e ↦
+          rw e (get_or-set_other xs (a * w + b) (r * w + k) v d (λ same.
+          let (row, column) = same_from_place r k a b w q p same in
+          both_ways (eqb a r && eqb b k) e (and_from (eqb a r) (eqb b k) (eq-eqb a r (sym row)) (eq-eqb b k (sym column)))))
+    ]
 
 pub written_back : {A : Type 0} (ys xs : List A) (n : ℕ) → n ≡ length xs → length ys ≡ length xs → take n (ys ++ drop (length ys) xs) ≡ ys
 written_back ys xs n e f = take_at ys (drop (length ys) xs) n (omega arith)
@@ -37,22 +35,18 @@ written_back ys xs n e f = take_at ys (drop (length ys) xs) n (omega arith)
 -- one more interface, with cost c of router s
 pub cost_written : (a b : Bool) (c old : ℕ) (o : Option ℕ) → cond (a && b) c (cond b (unwrap_or o old) old) ≡ cond b (unwrap_or (option_or (cond a (Some c) None) o) old) old
 cost_written true true c old o = refl
-cost_written true false c old o = refl
-cost_written false true c old o = refl
-cost_written false false c old o = refl
+cost_written a b c old o = refl
 
 -- an owner's cost
 pub own_written : (a b : Bool) (c old : ℕ) → cond (a && b) c old ≡ cond b (unwrap_or (cond a (Some c) None) old) old
 own_written true true c old = refl
-own_written true false c old = refl
 own_written false true c old = refl
-own_written false false c old = refl
+own_written a b c old = refl
 
 -- one more place
 pub place_written : (b : Bool) (o rest : Option ℕ) → cond b (unwrap_or o (unwrap_or rest 0)) (unwrap_or rest 0) ≡ unwrap_or (cond b (option_or o rest) rest) 0
 place_written true None rest = refl
-place_written true (Some c) rest = refl
-place_written false o rest = refl
+place_written b o rest = refl
 
 -- ---- the interfaces on a link by their numbers
 
@@ -66,14 +60,11 @@ among_from r l front [] n e = refl
 among_from r l front (x ∷ xs) n e =
     let at : (front ++ x ∷ []) ++ xs ≡ front ++ x ∷ xs = append_assoc front (x ∷ []) xs in
     let count : n + 1 ≡ length (front ++ x ∷ []) = omega (arith, length-append front (x ∷ [])) in
-    by_tests (x.router == r) (x.link == l) refl refl (rw (← at) (among_from r l (front ++ x ∷ []) xs (n + 1) count))
-  where
-    by_tests : (a b : Bool) → (x.router == r) ≡ a → (x.link == l) ≡ b → cost_among r (front ++ x ∷ xs) (numbers_where (is_on l) (n + 1) xs) ≡ cost_on r l xs
-        → cost_among r (front ++ x ∷ xs) (numbers_where (is_on l) n (x ∷ xs)) ≡ cost_on r l (x ∷ xs)
-    by_tests true true f g later = rw (g, here_is front xs x n e, f) refl
-    by_tests false true f g later = rw (g, here_is front xs x n e, f) later
-    by_tests true false f g later = rw (g, f) later
-    by_tests false false f g later = rw (g, f) later
+    let later : cost_among r (front ++ x ∷ xs) (numbers_where (is_on l) (n + 1) xs) ≡ cost_on r l xs = rw (← at) (among_from r l (front ++ x ∷ []) xs (n + 1) count) in
+    elim (cases_Bool (x.link == l)) [
+      | inl g ↦ elim (cases_Bool (x.router == r)) [ inl f ↦ rw (g, here_is front xs x n e, f) refl | inr f ↦ rw (g, here_is front xs x n e, f) later ]
+      | inr g ↦ elim (cases_Bool (x.router == r)) [ inl f ↦ rw (g, f) later | inr f ↦ rw (g, f) later ]
+    ]
 
 pub among_is_on : (r l : ℕ) (is : List Interface) → cost_among r is (numbers_where (is_on l) 0 is) ≡ cost_on r l is
 among_is_on r l is = among_from r l [] is 0 refl

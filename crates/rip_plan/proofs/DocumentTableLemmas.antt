@@ -1,5 +1,5 @@
 -- The tables whose fields are read are those that have the keys, each of its kind.
-use Rattle.std.proofs.Common.{◌≡◌, ◌≢◌, ℕ, zero, suc, List, [], ◌∷◌, Bool, true, false, cond, Option, Some, None, Ordering, Less, Equal, Greater, nat_cmp, is_eq, refl, sym, ◌∙◌, ap, subst}
+use Rattle.std.proofs.Common.{◌≡◌, ◌≢◌, ℕ, zero, suc, inl, inr, List, [], ◌∷◌, Bool, true, false, cond, Option, Some, None, Ordering, Less, Equal, Greater, nat_cmp, is_eq, refl, sym, ◌∙◌, ap, subst}
 use Rattle.std.proofs.lemmas.Bool.{and_parts}
 use Rattle.std.specs.Prelude.{ℤ, is_some, option_and_then, option_map, slice_get, unwrap_or, codes as codes_of}
 use Rattle.std.specs.List.{list_all}
@@ -9,20 +9,20 @@ use Rattle.std.specs.Cmp.Lexicographic.{slice_cmp}
 use Rattle.std.proofs.lemmas.Map.Text.{is_eq-slice_cmp}
 use Rattle.std.proofs.lemmas.Option.{none-some, same_Some, cond_some}
 use Rattle.std.proofs.lemmas.Slice.Eq.{bytes_eq-Decides}
-use Rattle.toml.specs.Data.{Data, Members, no_members, member, string, array, table, get_member, as_array, as_bool, as_integer, as_str, as_table}
+use Rattle.toml.specs.Data.{Data, Items, Members, get, no_members, member, string, array, table, get_member, as_array, as_bool, as_integer, as_str, as_table}
 use Rattle.rip_plan.specs.DocumentTables.{HasOnly, IsFlag, IsInteger, IsInterfaceTable, IsLinkTable, IsList, IsOwnTable, IsRoot, IsRouterTable, IsSomeList, IsString, IsTextList}
 use Rattle.rip_plan.specs.Keys.{keys_of, the_root, a_link, a_router, an_interface, an_own}
 use Rattle.rip_plan.specs.Fields.{InterfaceFields, OwnFields, ◌&>◌, flag_if, has_only, integer_if, interface_fields, items_at, items_if, link_fields, list_of, own_fields, root_fields, router_fields, some_items, text_at, text_if, texts_of}
 use Rattle.rip_plan.specs.Names.{is_one_of}
-use Rattle.rip_plan.proofs.ItemLemmas.{any_at, any_finds}
-use Rattle.rip_plan.proofs.TableLemmas.{array_is, boolean_is, chosen, integer_is, items_there, table_is, text_is, text_there, then_some}
+use Rattle.rip_plan.proofs.ItemLemmas.{any_at, any_finds, cases_option}
+use Rattle.rip_plan.specs.PlanOf.{HasItems, HasText, IsKeptOf, IsNameOf, IsPoisonOf, items_in}
+use Rattle.rip_plan.proofs.TableLemmas.{IsFlagIf, IsTextIf, array_is, boolean_is, chosen, flag_if_is, flag_meant, integer_is, items_are, items_given, items_there, map_some, table_is, text_if_is, text_is, text_there, then_some}
 
 -- ---- keys
 
 is_equal : (o : Ordering) → is_eq o ≡ true → o ≡ Equal
-is_equal Less h = absurd cc
 is_equal Equal h = refl
-is_equal Greater h = absurd cc
+is_equal o h = absurd cc
 
 same_order : (k : List ℕ) → slice_cmp nat_cmp k k ≡ Equal
 same_order k = is_equal (slice_cmp nat_cmp k k) (is_eq-slice_cmp k k ∙ (bytes_eq-Decides k k).1 refl)
@@ -80,36 +80,24 @@ some_has o xs h =
     not_empty (y ∷ ys) xs g e = let clash : y ∷ ys ≡ [] = e in cc
 
 integer_may : (o : Option Data) (given : Option ℤ) → integer_if o ≡ Some given → MayHaveAt o IsInteger
-integer_may o given h d is = by_given (as_integer d) refl (ap integer_if (sym is) ∙ h)
-  where
-    by_given : (i : Option ℤ) → as_integer d ≡ i → option_map Some i ≡ Some given → IsInteger d
-    by_given None k g = absurd (none-some given g)
-    by_given (Some z) k g = (z, integer_is d z k)
+integer_may o given h d is = let (z, k, same) = map_some (as_integer d) given (ap integer_if (sym is) ∙ h) in (z, integer_is d z k)
 
 flag_may : (o : Option Data) (given : Option Bool) → flag_if o ≡ Some given → MayHaveAt o IsFlag
-flag_may o given h d is = by_given (as_bool d) refl (ap flag_if (sym is) ∙ h)
-  where
-    by_given : (i : Option Bool) → as_bool d ≡ i → option_map Some i ≡ Some given → IsFlag d
-    by_given None k g = absurd (none-some given g)
-    by_given (Some b) k g = (b, boolean_is d b k)
+flag_may o given h d is = let (b, k, same) = map_some (as_bool d) given (ap flag_if (sym is) ∙ h) in (b, boolean_is d b k)
 
 text_may : (o : Option Data) (given : Option (List ℕ)) → text_if o ≡ Some given → MayHaveAt o IsString
-text_may o given h d is = by_given (as_str d) refl (ap text_if (sym is) ∙ h)
-  where
-    by_given : (i : Option (List ℕ)) → as_str d ≡ i → option_map Some i ≡ Some given → IsString d
-    by_given None k g = absurd (none-some given g)
-    by_given (Some t) k g = (t, text_is d t k)
+text_may o given h d is = let (t, k, same) = map_some (as_str d) given (ap text_if (sym is) ∙ h) in (t, text_is d t k)
 
 list_may : (o : Option Data) (xs : List Data) → items_if o ≡ Some xs → MayHaveAt o IsList
 list_may o xs h d is = let (items, array_of, same) = array_is d xs (ap items_if (sym is) ∙ h) in (items, array_of)
 
 each_text : (ds : List Data) → list_all (λ x. is_some (as_str x)) ds ≡ true → (k : ℕ) (x : Data) → slice_get ds k ≡ Some x → IsString x
 each_text [] h k x at = absurd (none-some x at)
-each_text (d ∷ ds) h zero x at = by_text (as_str d) refl (and_parts (is_some (as_str d)) (list_all (λ x. is_some (as_str x)) ds) h).0
-  where
-    by_text : (o : Option (List ℕ)) → as_str d ≡ o → is_some o ≡ true → IsString x
-    by_text None e t = absurd cc
-    by_text (Some s) e t = (s, sym (same_Some d x at) ∙ text_is d s e)
+each_text (d ∷ ds) h zero x at =
+    elim (cases_option (as_str d)) [
+      | inl e ↦ let clash = rw e at (and_parts (is_some (as_str d)) (list_all (λ x. is_some (as_str x)) ds) h).0 in absurd cc
+      | inr (s, e) ↦ (s, sym (same_Some d x at) ∙ text_is d s e)
+    ]
 each_text (d ∷ ds) h (suc k) x at = each_text ds (and_parts (is_some (as_str d)) (list_all (λ x. is_some (as_str x)) ds) h).1 k x at
 
 texts_may : (o : Option Data) (also : List Data) → (items_if o &> texts_of) ≡ Some also → MayHaveAt o IsTextList
@@ -167,27 +155,193 @@ texts_given (Some d) may =
 
 -- ---- tables
 
-guarded : {A : Type 0} (b : Bool) (o : Option A) (x : A) → cond b o None ≡ Some x → b ≡ true
-guarded true o x h = refl
-guarded false o x h = absurd (none-some x h)
+-- what the document holds
+pub record HasRootFields (doc : Members) (links routers : List Data) (poison : Bool) : Type 0 where
+  pub has_links : HasItems (codes_of "link") (table doc) links
+  pub has_routers : HasItems (codes_of "router") (table doc) routers
+  pub has_poison : IsPoisonOf true (table doc) poison
+  pub shape : IsRoot doc
+
+some_items_same : (xs ys : List Data) → some_items xs ≡ Some ys → xs ≡ ys
+some_items_same [] ys h = absurd (none-some ys h)
+some_items_same (x ∷ xs) ys h = same_Some (x ∷ xs) ys h
+
+some_there : (o : Option Data) (xs : List Data) → (option_map list_of (option_and_then as_array o) &> some_items) ≡ Some xs → (items : Items) × (o ≡ Some (array items)) × (list_of items ≡ xs)
+some_there o xs h =
+    let (ys, read, some) = then_some (option_map list_of (option_and_then as_array o)) some_items xs h in
+    items_there o xs (read ∙ ap (λ (l : List Data). Some l) (some_items_same ys xs some))
+
+pub root_table : (doc : Members) (links routers : List Data) (poison : Bool) → root_fields doc ≡ Some (links, routers, poison) → HasRootFields doc links routers poison
+unfolding root_fields
+root_table doc links routers poison h =
+    let root : List Data × List Data × Bool = (links, routers, poison) in
+    let (keys, h1) = chosen (has_only (keys_of the_root) doc) _ root h in
+    let (a, first, h2) = then_some (items_at (codes_of "link") doc &> some_items) _ root h1 in
+    let (b, second, h3) = then_some (items_at (codes_of "router") doc &> some_items) _ root h2 in
+    let (p, third, h4) = then_some (flag_if (get_member (codes_of "poison") doc)) _ root h3 in
+    let same : (a, b, unwrap_or p true) ≡ root = same_Some (a, b, unwrap_or p true) root h4 in
+    let made : HasRootFields doc a b (unwrap_or p true) = record {
+      has_links = some_there (get_member (codes_of "link") doc) a first;
+      has_routers = some_there (get_member (codes_of "router") doc) b second;
+      has_poison = flag_meant (get_member (codes_of "poison") doc) p true (flag_if_is (get_member (codes_of "poison") doc) p third);
+      shape = record {
+        keys = keys_only (keys_of the_root) doc keys;
+        link = some_has (get_member (codes_of "link") doc) a first;
+        router = some_has (get_member (codes_of "router") doc) b second;
+        poison = flag_may (get_member (codes_of "poison") doc) p third;
+      };
+    } in
+    subst (λ (f : List Data × List Data × Bool). HasRootFields doc f.0 f.1 f.2) same made
+
+-- what a link's table holds
+pub record HasLinkFields (d : Data) (name : List ℕ) (prefixes : List Data) : Type 0 where
+  pub named : IsNameOf name d
+  pub prefixes_are : items_in (get (codes_of "prefixes") d) ≡ prefixes
+  pub shape : IsLinkTable d
+
+pub link_table : (d : Data) (name : List ℕ) (prefixes : List Data) → (as_table d &> link_fields) ≡ Some (name, prefixes) → HasLinkFields d name prefixes
+unfolding link_fields
+link_table d name prefixes h =
+    let (ms, is, h1) = then_some (as_table d) link_fields (name, prefixes) h in
+    let (keys, h2) = chosen (has_only (keys_of a_link) ms) _ (name, prefixes) h1 in
+    let (a, first, h3) = then_some (text_at (codes_of "name") ms) _ (name, prefixes) h2 in
+    let (b, second, h4) = then_some (items_at (codes_of "prefixes") ms) _ (name, prefixes) h3 in
+    let same = same_Some (a, b) (name, prefixes) h4 in
+    let there : d ≡ table ms = table_is d ms is in
+    rw there (record {
+      named = text_there (get_member (codes_of "name") ms) name (first ∙ ap (λ (f : List ℕ × List Data). Some f.0) same);
+      prefixes_are = items_are (get_member (codes_of "prefixes") ms) prefixes (second ∙ ap (λ (f : List ℕ × List Data). Some f.1) same);
+      shape = record {
+        members = ms;
+        is_table = refl;
+        keys = keys_only (keys_of a_link) ms keys;
+        name = text_has (get_member (codes_of "name") ms) a first;
+        prefixes = list_has (get_member (codes_of "prefixes") ms) b second;
+      };
+    })
+
+-- what an interface's table holds
+pub record HasInterfaceFields (d : Data) (f : InterfaceFields) : Type 0 where
+  pub has_link : HasText (codes_of "link") d f.link
+  pub has_address : HasText (codes_of "address") d f.address
+  pub cost : integer_if (get (codes_of "cost") d) ≡ Some f.cost
+  pub direct : integer_if (get (codes_of "direct") d) ≡ Some f.direct
+  pub also_are : items_in (get (codes_of "also") d) ≡ f.also
+  pub also_texts : list_all (λ x. is_some (as_str x)) f.also ≡ true
+  pub poison : IsFlagIf (get (codes_of "poison") d) f.poison
+  pub shape : IsInterfaceTable d
+
+pub interface_texts : (d : Data) (f : InterfaceFields) → (as_table d &> interface_fields) ≡ Some f → HasInterfaceFields d f
+unfolding interface_fields
+interface_texts d f h =
+    let (ms, is, h1) = then_some (as_table d) interface_fields f h in
+    let (keys, h2) = chosen (has_only (keys_of an_interface) ms) _ f h1 in
+    let (a, first, h3) = then_some (text_at (codes_of "link") ms) _ f h2 in
+    let (b, second, h4) = then_some (text_at (codes_of "address") ms) _ f h3 in
+    let (c, third, h5) = then_some (integer_if (get_member (codes_of "cost") ms)) _ f h4 in
+    let (e, fourth, h6) = then_some (integer_if (get_member (codes_of "direct") ms)) _ f h5 in
+    let (g, fifth, h7) = then_some (items_if (get_member (codes_of "also") ms) &> texts_of) _ f h6 in
+    let (xs, given, texts) = then_some (items_if (get_member (codes_of "also") ms)) texts_of g fifth in
+    let (p, sixth, h8) = then_some (flag_if (get_member (codes_of "poison") ms)) _ f h7 in
+    let given_fields : InterfaceFields = record { link = a; address = b; cost = c; direct = e; also = g; poison = p } in
+    let same : given_fields ≡ f = same_Some given_fields f h8 in
+    let all = cond_some (list_all (λ (x : Data). is_some (as_str x)) xs) xs g texts in
+    let there : d ≡ table ms = table_is d ms is in
+    subst (λ (x : Data). HasInterfaceFields x f) (sym there) (subst (HasInterfaceFields (table ms)) same (record {
+      has_link = text_there (get_member (codes_of "link") ms) a first;
+      has_address = text_there (get_member (codes_of "address") ms) b second;
+      cost = third;
+      direct = fourth;
+      also_are = items_given (get_member (codes_of "also") ms) g (given ∙ ap (λ (l : List Data). Some l) all.1);
+      also_texts = ap (list_all (λ (x : Data). is_some (as_str x))) (sym all.1) ∙ all.0;
+      poison = flag_if_is (get_member (codes_of "poison") ms) p sixth;
+      shape = record {
+        members = ms;
+        is_table = refl;
+        keys = keys_only (keys_of an_interface) ms keys;
+        link = text_has (get_member (codes_of "link") ms) a first;
+        address = text_has (get_member (codes_of "address") ms) b second;
+        cost = integer_may (get_member (codes_of "cost") ms) c third;
+        direct = integer_may (get_member (codes_of "direct") ms) e fourth;
+        also = texts_may (get_member (codes_of "also") ms) g fifth;
+        poison = flag_may (get_member (codes_of "poison") ms) p sixth;
+      };
+    }))
+
+-- what an own prefix's table holds
+pub record HasOwnFields (d : Data) (f : OwnFields) : Type 0 where
+  pub has_prefix : HasText (codes_of "prefix") d f.prefix
+  pub cost : integer_if (get (codes_of "cost") d) ≡ Some f.cost
+  pub kept : IsKeptOf d f.kept
+  pub link : IsTextIf (get (codes_of "link") d) f.link
+  pub via : IsTextIf (get (codes_of "via") d) f.via
+  pub shape : IsOwnTable d
+
+pub own_texts : (d : Data) (f : OwnFields) → (as_table d &> own_fields) ≡ Some f → HasOwnFields d f
+unfolding own_fields
+own_texts d f h =
+    let (ms, is, h1) = then_some (as_table d) own_fields f h in
+    let (keys, h2) = chosen (has_only (keys_of an_own) ms) _ f h1 in
+    let (a, first, h3) = then_some (text_at (codes_of "prefix") ms) _ f h2 in
+    let (b, second, h4) = then_some (integer_if (get_member (codes_of "cost") ms)) _ f h3 in
+    let (c, third, h5) = then_some (flag_if (get_member (codes_of "kept") ms)) _ f h4 in
+    let (e, fourth, h6) = then_some (text_if (get_member (codes_of "link") ms)) _ f h5 in
+    let (g, fifth, h7) = then_some (text_if (get_member (codes_of "via") ms)) _ f h6 in
+    let given_fields : OwnFields = record { prefix = a; cost = b; kept = unwrap_or c false; link = e; via = g } in
+    let same : given_fields ≡ f = same_Some given_fields f h7 in
+    let there : d ≡ table ms = table_is d ms is in
+    subst (λ (x : Data). HasOwnFields x f) (sym there) (subst (HasOwnFields (table ms)) same (record {
+      has_prefix = text_there (get_member (codes_of "prefix") ms) a first;
+      cost = second;
+      kept = flag_meant (get_member (codes_of "kept") ms) c false (flag_if_is (get_member (codes_of "kept") ms) c third);
+      link = text_if_is (get_member (codes_of "link") ms) e fourth;
+      via = text_if_is (get_member (codes_of "via") ms) g fifth;
+      shape = record {
+        members = ms;
+        is_table = refl;
+        keys = keys_only (keys_of an_own) ms keys;
+        prefix = text_has (get_member (codes_of "prefix") ms) a first;
+        cost = integer_may (get_member (codes_of "cost") ms) b second;
+        kept = flag_may (get_member (codes_of "kept") ms) c third;
+        link = text_may (get_member (codes_of "link") ms) e fourth;
+        via = text_may (get_member (codes_of "via") ms) g fifth;
+      };
+    }))
+
+-- what a router's table holds
+pub record HasRouterFields (d : Data) (name : List ℕ) (interfaces owns : List Data) : Type 0 where
+  pub named : IsNameOf name d
+  pub interfaces_are : items_in (get (codes_of "interface") d) ≡ interfaces
+  pub owns_are : items_in (get (codes_of "own") d) ≡ owns
+  pub shape : IsRouterTable d
+
+pub router_table : (d : Data) (name : List ℕ) (interfaces owns : List Data) → (as_table d &> router_fields) ≡ Some (name, interfaces, owns) → HasRouterFields d name interfaces owns
+unfolding router_fields
+router_table d name interfaces owns h =
+    let (ms, is, h1) = then_some (as_table d) router_fields (name, interfaces, owns) h in
+    let (keys, h2) = chosen (has_only (keys_of a_router) ms) _ (name, interfaces, owns) h1 in
+    let (a, first, h3) = then_some (text_at (codes_of "name") ms) _ (name, interfaces, owns) h2 in
+    let (b, second, h4) = then_some (items_at (codes_of "interface") ms) _ (name, interfaces, owns) h3 in
+    let (c, third, h5) = then_some (items_if (get_member (codes_of "own") ms)) _ (name, interfaces, owns) h4 in
+    let same = same_Some (a, b, c) (name, interfaces, owns) h5 in
+    let there : d ≡ table ms = table_is d ms is in
+    rw there (record {
+      named = text_there (get_member (codes_of "name") ms) name (first ∙ ap (λ (f : List ℕ × List Data × List Data). Some f.0) same);
+      interfaces_are = items_are (get_member (codes_of "interface") ms) interfaces (second ∙ ap (λ (f : List ℕ × List Data × List Data). Some f.1) same);
+      owns_are = items_given (get_member (codes_of "own") ms) owns (third ∙ ap (λ (f : List ℕ × List Data × List Data). Some f.2) same);
+      shape = record {
+        members = ms;
+        is_table = refl;
+        keys = keys_only (keys_of a_router) ms keys;
+        name = text_has (get_member (codes_of "name") ms) a first;
+        interface = list_has (get_member (codes_of "interface") ms) b second;
+        own = list_may (get_member (codes_of "own") ms) c third;
+      };
+    })
 
 -- a table whose members were read was read
 not_read : {A : Type 0} (fields : Members → Option A) (d : Data) (ms : Members) → d ≡ table ms → (f : A) × (fields ms ≡ Some f) → (as_table d &> fields) ≡ None → ⊥
 not_read fields d ms is (f, read) none = none-some f (sym none ∙ ap (λ (x : Data). as_table x &> fields) is ∙ read)
-
-pub root_told : (document : Members) (f : List Data × List Data × Bool) → root_fields document ≡ Some f → IsRoot document
-unfolding root_fields
-root_told ms f h =
-    let h2 = chosen (has_only (keys_of the_root) ms) _ f h in
-    let (a, first, h3) = then_some (items_at (codes_of "link") ms &> some_items) _ f h2 in
-    let (b, second, h4) = then_some (items_at (codes_of "router") ms &> some_items) _ f h3 in
-    let (c, third, h5) = then_some (flag_if (get_member (codes_of "poison") ms)) _ f h4 in
-    record {
-      keys = keys_only (keys_of the_root) ms (guarded (has_only (keys_of the_root) ms) _ f h);
-      link = some_has (get_member (codes_of "link") ms) a first;
-      router = some_has (get_member (codes_of "router") ms) b second;
-      poison = flag_may (get_member (codes_of "poison") ms) c third;
-    }
 
 root_given : (document : Members) → IsRoot document → (f : List Data × List Data × Bool) × (root_fields document ≡ Some f)
 unfolding root_fields
@@ -196,22 +350,6 @@ root_given ms is =
     let (b, second) = some_given (get_member (codes_of "router") ms) is.router in
     let (c, third) = flag_given (get_member (codes_of "poison") ms) is.poison in
     ((a, b, unwrap_or c true), rw (only_keys (keys_of the_root) ms is.keys, first, second, third) refl)
-
-pub link_told : (d : Data) (f : List ℕ × List Data) → (as_table d &> link_fields) ≡ Some f → IsLinkTable d
-unfolding link_fields
-link_told d f h =
-    let (ms, is, h1) = then_some (as_table d) link_fields f h in
-    let h2 = chosen (has_only (keys_of a_link) ms) _ f h1 in
-    let (a, first, h3) = then_some (text_at (codes_of "name") ms) _ f h2 in
-    let (b, second, h4) = then_some (items_at (codes_of "prefixes") ms) _ f h3 in
-    let there : d ≡ table ms = table_is d ms is in
-    subst IsLinkTable (sym there) (record {
-      members = ms;
-      is_table = refl;
-      keys = keys_only (keys_of a_link) ms (guarded (has_only (keys_of a_link) ms) _ f h1);
-      name = text_has (get_member (codes_of "name") ms) a first;
-      prefixes = list_has (get_member (codes_of "prefixes") ms) b second;
-    })
 
 link_read : (ms : Members) → IsLinkTable (table ms) → (f : List ℕ × List Data) × (link_fields ms ≡ Some f)
 unfolding link_fields
@@ -223,24 +361,6 @@ link_read ms its =
 pub link_not : (d : Data) → (as_table d &> link_fields) ≡ None → IsLinkTable d → ⊥
 link_not d none is = not_read link_fields d is.members is.is_table (link_read is.members (subst IsLinkTable is.is_table is)) none
 
-pub router_told : (d : Data) (f : List ℕ × List Data × List Data) → (as_table d &> router_fields) ≡ Some f → IsRouterTable d
-unfolding router_fields
-router_told d f h =
-    let (ms, is, h1) = then_some (as_table d) router_fields f h in
-    let h2 = chosen (has_only (keys_of a_router) ms) _ f h1 in
-    let (a, first, h3) = then_some (text_at (codes_of "name") ms) _ f h2 in
-    let (b, second, h4) = then_some (items_at (codes_of "interface") ms) _ f h3 in
-    let (c, third, h5) = then_some (items_if (get_member (codes_of "own") ms)) _ f h4 in
-    let there : d ≡ table ms = table_is d ms is in
-    subst IsRouterTable (sym there) (record {
-      members = ms;
-      is_table = refl;
-      keys = keys_only (keys_of a_router) ms (guarded (has_only (keys_of a_router) ms) _ f h1);
-      name = text_has (get_member (codes_of "name") ms) a first;
-      interface = list_has (get_member (codes_of "interface") ms) b second;
-      own = list_may (get_member (codes_of "own") ms) c third;
-    })
-
 router_read : (ms : Members) → IsRouterTable (table ms) → (f : List ℕ × List Data × List Data) × (router_fields ms ≡ Some f)
 unfolding router_fields
 router_read ms its =
@@ -251,30 +371,6 @@ router_read ms its =
 
 pub router_not : (d : Data) → (as_table d &> router_fields) ≡ None → IsRouterTable d → ⊥
 router_not d none is = not_read router_fields d is.members is.is_table (router_read is.members (subst IsRouterTable is.is_table is)) none
-
-pub interface_told : (d : Data) (f : InterfaceFields) → (as_table d &> interface_fields) ≡ Some f → IsInterfaceTable d
-unfolding interface_fields
-interface_told d f h =
-    let (ms, is, h1) = then_some (as_table d) interface_fields f h in
-    let h2 = chosen (has_only (keys_of an_interface) ms) _ f h1 in
-    let (a, first, h3) = then_some (text_at (codes_of "link") ms) _ f h2 in
-    let (b, second, h4) = then_some (text_at (codes_of "address") ms) _ f h3 in
-    let (c, third, h5) = then_some (integer_if (get_member (codes_of "cost") ms)) _ f h4 in
-    let (e, fourth, h6) = then_some (integer_if (get_member (codes_of "direct") ms)) _ f h5 in
-    let (g, fifth, h7) = then_some (items_if (get_member (codes_of "also") ms) &> texts_of) _ f h6 in
-    let (p, sixth, h8) = then_some (flag_if (get_member (codes_of "poison") ms)) _ f h7 in
-    let there : d ≡ table ms = table_is d ms is in
-    subst IsInterfaceTable (sym there) (record {
-      members = ms;
-      is_table = refl;
-      keys = keys_only (keys_of an_interface) ms (guarded (has_only (keys_of an_interface) ms) _ f h1);
-      link = text_has (get_member (codes_of "link") ms) a first;
-      address = text_has (get_member (codes_of "address") ms) b second;
-      cost = integer_may (get_member (codes_of "cost") ms) c third;
-      direct = integer_may (get_member (codes_of "direct") ms) e fourth;
-      also = texts_may (get_member (codes_of "also") ms) g fifth;
-      poison = flag_may (get_member (codes_of "poison") ms) p sixth;
-    })
 
 interface_read : (ms : Members) → IsInterfaceTable (table ms) → (f : InterfaceFields) × (interface_fields ms ≡ Some f)
 unfolding interface_fields
@@ -289,28 +385,6 @@ interface_read ms its =
 
 pub interface_not : (d : Data) → (as_table d &> interface_fields) ≡ None → IsInterfaceTable d → ⊥
 interface_not d none is = not_read interface_fields d is.members is.is_table (interface_read is.members (subst IsInterfaceTable is.is_table is)) none
-
-pub own_told : (d : Data) (f : OwnFields) → (as_table d &> own_fields) ≡ Some f → IsOwnTable d
-unfolding own_fields
-own_told d f h =
-    let (ms, is, h1) = then_some (as_table d) own_fields f h in
-    let h2 = chosen (has_only (keys_of an_own) ms) _ f h1 in
-    let (a, first, h3) = then_some (text_at (codes_of "prefix") ms) _ f h2 in
-    let (b, second, h4) = then_some (integer_if (get_member (codes_of "cost") ms)) _ f h3 in
-    let (c, third, h5) = then_some (flag_if (get_member (codes_of "kept") ms)) _ f h4 in
-    let (e, fourth, h6) = then_some (text_if (get_member (codes_of "link") ms)) _ f h5 in
-    let (g, fifth, h7) = then_some (text_if (get_member (codes_of "via") ms)) _ f h6 in
-    let there : d ≡ table ms = table_is d ms is in
-    subst IsOwnTable (sym there) (record {
-      members = ms;
-      is_table = refl;
-      keys = keys_only (keys_of an_own) ms (guarded (has_only (keys_of an_own) ms) _ f h1);
-      prefix = text_has (get_member (codes_of "prefix") ms) a first;
-      cost = integer_may (get_member (codes_of "cost") ms) b second;
-      kept = flag_may (get_member (codes_of "kept") ms) c third;
-      link = text_may (get_member (codes_of "link") ms) e fourth;
-      via = text_may (get_member (codes_of "via") ms) g fifth;
-    })
 
 own_read : (ms : Members) → IsOwnTable (table ms) → (f : OwnFields) × (own_fields ms ≡ Some f)
 unfolding own_fields
@@ -334,15 +408,7 @@ root_not document none is = let (f, read) = root_given document is in none-some 
 -- a table is what was read, or was not read
 pub by_table : {A : Type 0} (Is : Data → Type 0) (fields : Members → Option A) → ((d : Data) (f : A) → (as_table d &> fields) ≡ Some f → Is d) → (d : Data) → ((Is d → ⊥) → ⊥)
     → ((as_table d &> fields) ≡ None → Is d → ⊥) → Is d
-by_table {A} Is fields told d not_lacks not = by_option (as_table d &> fields) refl
-  where
-    by_option : (o : Option A) → (as_table d &> fields) ≡ o → Is d
-    by_option (Some f) e = told d f e
-    by_option None e = absurd (not_lacks (λ is. not e is))
+by_table Is fields told d not_lacks not = elim (cases_option (as_table d &> fields)) [ inl e ↦ absurd (not_lacks (λ is. not e is)) | inr (f, e) ↦ told d f e ]
 
 pub by_root : (document : Members) → ((IsRoot document → ⊥) → ⊥) → IsRoot document
-by_root document not_lacks = by_option (root_fields document) refl
-  where
-    by_option : (o : Option (List Data × List Data × Bool)) → root_fields document ≡ o → IsRoot document
-    by_option (Some f) e = root_told document f e
-    by_option None e = absurd (not_lacks (root_not document e))
+by_root document not_lacks = elim (cases_option (root_fields document)) [ inl e ↦ absurd (not_lacks (root_not document e)) | inr (f, e) ↦ (root_table document f.0 f.1 f.2 e).shape ]

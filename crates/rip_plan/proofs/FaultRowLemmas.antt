@@ -29,10 +29,9 @@ starts_row : (p : List ℕ) (n : ℕ) (e o : Found) → o ≡ e → Starts p n (
 starts_row p n e o same h = subst (λ (x : Found). Starts p n (ranked x)) (sym same) h
 
 pub starts_shorter : (p : List ℕ) (n : ℕ) (q : List ℕ) (m : ℕ) (xs : List ℕ) → Starts (p ++ n ∷ q) m xs → Starts p n xs
-starts_shorter [] n q m [] h = absurd h
 starts_shorter [] n q m (x ∷ xs) h = h.0
-starts_shorter (r ∷ p) n q m [] h = absurd h
 starts_shorter (r ∷ p) n q m (x ∷ xs) h = (h.0, starts_shorter p n q m xs h.1)
+starts_shorter p n q m xs h = absurd h
 
 -- ---- links
 

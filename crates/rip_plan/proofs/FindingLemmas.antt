@@ -68,9 +68,6 @@ pub finds_in : {A : Type 0} (F G R S : Found → Type 0) (r : Result A PlanError
 finds_in F G R S (Ok x) give name take h = λ o s g. let (f, r) = take o s g in h o r f
 finds_in F G R S (Err e) give name take h = let o : Found = record { pass = h.0; error = e } in (h.0, give o h.1, name o h.2, λ o s g before. let (f, r) = take o s g in h.3 o r f before)
 
-pub finds_none : {A : Type 0} (F : Found → Type 0) (x : A) → Finds F {A = A} (λ o. ⊥) (Ok x)
-finds_none F x = λ o h f. h
-
 skip : {A : Type 0} (F R : Found → Type 0) (e : Found) (r : Result A PlanError) → (F e → ⊥) → Finds F R r → Finds F (λ o. (o ≡ e) ⊎ R o) r
 skip F R e (Ok x) clear h = λ o row f. elim row [ inl same ↦ clear (subst F same f) | inr later ↦ h o later f ]
 skip F R e (Err d) clear h = (h.0, h.1, inr h.2, λ o row f before. elim row [ inl same ↦ clear (subst F same f) | inr later ↦ h.3 o later f before ])

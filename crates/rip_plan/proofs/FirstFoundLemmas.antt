@@ -90,13 +90,3 @@ clash_from {A} clash earlier (x ∷ xs) whole split apart =
 
 pub first_clashing : {A : Type 0} (clash : A → A → Bool) (xs : List A) → FirstSo (Clashes clash xs) xs (first_clash clash [] xs)
 first_clashing clash xs = clash_from clash [] xs xs refl (λ m z less. absurd (omega arith))
-
--- where no item clashes with an earlier one, two that clash are one
-pub clash_once : {A : Type 0} (clash : A → A → Bool) (xs : List A) (i j : ℕ) (x y : A) → first_clash clash [] xs ≡ None → slice_get xs i ≡ Some x → slice_get xs j ≡ Some y → clash x y ≡ true
-    → clash y x ≡ true → i ≡ j
-clash_once clash xs i j x y none at there forth back =
-    let apart = subst (FirstSo (Clashes clash xs) xs) none (first_clashing clash xs) in
-    elim (cases_lt i j) [
-      | inl less ↦ absurd (apart j y there (i, x, less, at, forth))
-      | inr ge ↦ elim (cases_lt j i) [ inl more ↦ absurd (apart i x at (j, y, more, there, back)) | inr le ↦ omega arith ]
-    ]

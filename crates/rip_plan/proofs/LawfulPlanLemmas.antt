@@ -1,295 +1,395 @@
--- A plan that was read keeps the laws.
-use Rattle.std.proofs.Common.{◌≡◌, ℕ, zero, suc, ◌+◌, ◌^◌, ◌<◌, ◌≤◌, List, [], ◌∷◌, length, map, Bool, true, false, not, ◌&&◌, ◌||◌, Option, Some, None, Ok, refl, sym, ◌∙◌, ap, subst, arith}
-use Rattle.rip_plan.proofs.FirstFoundLemmas.{clash_once, find_none}
-use Rattle.rip_plan.proofs.SketchPlanLemmas.{interface_in, place_in, place_from, touch, there_on}
-use Rattle.std.proofs.lemmas.Bool.{and_parts, or_parts, or_right, not-false, false_from_ne_true}
-use Rattle.std.specs.Prelude.{slice_get, ◌==◌, nat_lt, unwrap_or, codes as codes_of}
+-- A plan without a fault keeps the laws.
+use Rattle.std.proofs.Common.{◌≡◌, ℕ, zero, suc, ◌+◌, ◌^◌, ◌<◌, ◌≤◌, ◌⊎◌, inl, inr, List, [], ◌∷◌, ◌++◌, length, map, Bool, true, false, ◌&&◌, Some, Result, Ok, refl, sym, ◌∙◌, ap, subst, arith}
+use Rattle.std.specs.Prelude.{◌==◌, pos, slice_get, codes as codes_of}
 use Rattle.std.specs.List.{IsDistinct, list_any}
-use Rattle.std.specs.Str.{bytes_eq}
-use Rattle.std.proofs.lemmas.Option.{none-some, same_Some, slice_get_within}
-use Rattle.std.proofs.lemmas.List.{length-map}
-use Rattle.std.proofs.lemmas.List.Sums.{sum-map}
+use Rattle.std.proofs.lemmas.Bool.{and_parts, cases_lt, both_ways, cases_Bool, eq-eqb, eqb-true}
 use Rattle.std.proofs.lemmas.Bool.Decides.{nat_tests}
-use Rattle.toml.specs.Data.{Data, Members, get_member}
-use Rattle.rip_wire.specs.Name.{IsName}
+use Rattle.std.proofs.lemmas.Option.{same_Some, slice_get_within}
+use Rattle.toml.specs.Data.{Data, Members, get, string, table}
+use Rattle.rip_wire.specs.Name.{IsName, is_name}
 use Rattle.rip_wire.specs.Prefix.{Block, IsBlock}
-use Rattle.rip_plan.specs.declared.addresses.Held.{Held}
-use Rattle.rip_plan.specs.declared.draft.DraftInterface.{DraftInterface}
-use Rattle.rip_plan.specs.declared.draft.DraftPlace.{DraftPlace}
+use Rattle.rip_plan.specs.declared.error.PlanCode.{PlanCode}
+use Rattle.rip_plan.specs.declared.error.PlanCode.TheVariants as codes
+use Rattle.rip_plan.specs.declared.error.PlanError.{PlanError}
+use Rattle.rip_plan.specs.declared.error.At.{At}
+use Rattle.rip_plan.specs.declared.error.At.TheVariants.{Text, Link, LinkPrefix, Router, RouterInterface, RouterOwn}
 use Rattle.rip_plan.specs.declared.parts.Interface.{Interface}
+use Rattle.rip_plan.specs.declared.parts.OwnPrefix.{OwnPrefix}
 use Rattle.rip_plan.specs.declared.parts.Seat.{Seat}
 use Rattle.rip_plan.specs.declared.parts.Seat.TheVariants as seats
-use Rattle.rip_plan.specs.Keys.{keys_of, the_root}
-use Rattle.rip_plan.specs.Fields.{flag_if, some_items, root_fields, items_at, has_only, ◌&>◌}
+use Rattle.rip_plan.specs.DocumentTables.{Has, IsSomeList}
+use Rattle.rip_plan.specs.Draft.{Sketch, has_address}
+use Rattle.rip_plan.specs.Fault.{◌>>=◌, fault}
+use Rattle.rip_plan.specs.Fields.{list_of}
+use Rattle.rip_plan.specs.Network.{Network, cost_on, is_of, network_of_sketch}
+use Rattle.rip_plan.specs.Passes.{same_prefix}
 use Rattle.rip_plan.specs.Seats.{is_on}
-use Rattle.rip_plan.specs.Draft.{Sketch, link_step, router_step, is_outside, has_address}
-use Rattle.rip_plan.specs.Passes.{same_prefix, touched, touching, do_meet, is_same_link, have_common, are_twice, is_astray, is_there}
-use Rattle.rip_plan.specs.Addresses.{have_one_address}
-use Rattle.rip_plan.specs.PlanText.{empty, sketch_of}
-use Rattle.rip_plan.specs.Network.{addresses_of, network_of_sketch}
-use Rattle.rip_plan.specs.Relations.{IsPrefix, IsInterface, IsConnected, HasAddress, HasAddresses, HasOwnAddress, IsAttached, IsEachOnce, IsOn, IsPlace, Carries, Touches, IsInside, IsLawful}
-use Rattle.rip_plan.proofs.BindLemmas.{steps_keep}
-use Rattle.rip_plan.proofs.ItemLemmas.{all_at, any_at, any_finds, distinct_at, see_got}
-use Rattle.rip_plan.proofs.TakenStepLemmas.{DocumentTaken, text_taken}
-use Rattle.rip_plan.proofs.TextLemmas.{TextLaws}
-use Rattle.rip_plan.proofs.FirstPassLemmas.{AreAddresses, Kept, IsFit, IsFitPlace, IsFitSeat, IsInsideOf, BetweenLinks, BetweenRouters, link_keeps, router_keeps}
-use Rattle.rip_plan.proofs.NumberingLemmas.{numbers, same_from, same_self}
-use Rattle.rip_plan.proofs.TableLemmas.{chosen}
-use Rattle.rip_plan.proofs.HeldAddressLemmas.{address_held}
-use Rattle.rip_plan.proofs.HeldOrderLemmas.{stands_from}
-use Rattle.rip_plan.proofs.LookupLemmas.{name_same, on_seat}
+use Rattle.rip_plan.specs.PlanFaults.{AreTwice, DoMeet, HasTables, HasWrongCost, HasWrongDirect, HaveOneAddress, IsAstray, IsClash, IsFault, IsMisnamed, IsOutsideOf, IsText, TableFault, also_spots, interface_spots, pass_of, place_spots}
+use Rattle.rip_plan.specs.PlanOf.{AreAlsoOf, HasItems, IsAddressOf, IsCostOf, IsDirectOf, IsGatewayOf, IsInterfaceOf, IsNameOf, IsOnLink, IsOwned, IsPlaceOf, IsPlanOfText, Matched, Placement, PlanOf, each_once, items_in, items_under}
+use Rattle.rip_plan.specs.PlanText.{sketch_of}
+use Rattle.rip_plan.specs.Relations.{Carries, HasAddress, HasAddresses, HasOwnAddress, IsAttached, IsConnected, IsEachOnce, IsGateway, IsInside, IsInterface, IsLawful, IsOn, IsOwnAt, IsPlace, IsPrefix}
+use Rattle.rip_plan.proofs.DocumentTableLemmas.{by_root}
+use Rattle.rip_plan.proofs.FurtherAddressLemmas.{also_spot}
+use Rattle.rip_plan.proofs.ItemLemmas.{all_at, all_here, any_finds, cases_option, distinct_at, get_left, get_seen, get_some, get_split, none_at}
+use Rattle.rip_plan.proofs.LookupLemmas.{cost_found, cost_there, on_seat}
+use Rattle.rip_plan.proofs.MatchingLemmas.{matched_left, matched_length}
+use Rattle.rip_plan.proofs.NumberingLemmas.{once_distinct, once_kept, same_self}
 use Rattle.rip_plan.proofs.NumbersWhereLemmas.{at_contains}
-use Rattle.rip_plan.proofs.SecondPassLemmas.{Clear, passes_clear, has_one, common}
+use Rattle.rip_plan.proofs.OnePlanLemmas.{items_same}
+use Rattle.rip_plan.proofs.PlanMatchLemmas.{network_matches}
+use Rattle.rip_plan.proofs.PlanPartLemmas.{apart, names_differ, also_counted, carrier_has, prefix_place, interface_table, interfaces_count, its_place, own_table, places_count}
+use Rattle.rip_plan.proofs.SpotLemmas.{interface_spot, place_spot, under_item}
+use Rattle.rip_plan.proofs.TextFaultLemmas.{faultless, read_or_told, whole_fault}
+use Rattle.rip_plan.proofs.TextLemmas.{TextLaws, one_prefix}
 
--- what the passes leave
-record Good (s : Sketch) : Type 0 where
-  kept : Kept s
-  clear : Clear s
-  some_link : 1 ≤ length s.links
-  few_links : length s.links ≤ 512
-  some_router : 1 ≤ length s.routers
-  few_routers : length s.routers ≤ 128
+-- ---- names
 
--- ---- interfaces
+names_good : (laws : TextLaws) (names : List (List ℕ)) (ds : List Data) → Matched IsNameOf names ds → ((i : ℕ) → IsMisnamed ds i → ⊥) → (k : ℕ) (name : List ℕ) → slice_get names k ≡ Some name
+    → IsName name
+names_good laws names ds named none k name h =
+    let (d, at, its) = matched_left IsNameOf names ds k name named h in
+    elim (cases_Bool (is_name name)) [
+      | inl e ↦ (laws.name name).0 e
+      | inr e ↦ absurd (none (suc k) (d, name, at, its, λ good. both_ways (is_name name) e ((laws.name name).1 good)))
+    ]
 
-module _ (s : Sketch) (good : Good s) where
-  fit_at : (i : ℕ) (v : Interface) → slice_get (network_of_sketch s).interfaces i ≡ Some v
-      → (x : DraftInterface) × (slice_get s.interfaces i ≡ Some x) × (x.interface ≡ v) × IsFit (length s.links) (length s.routers) x
-  fit_at i v h =
-      let (x, at, same) = interface_in s i v h in
-      (x, at, same, all_at (IsFit (length s.links) (length s.routers)) s.interfaces i x good.kept.interfaces at)
+-- ---- costs
 
-  one_interface : (r : ℕ) → r < length s.routers → (i l c : ℕ) × IsInterface (network_of_sketch s) i r l c
-  one_interface r h =
-      let (i, x, at, of) = has_one s.interfaces (length s.routers) r good.clear.bare h in
-      let listed = see_got (λ (y : DraftInterface). y.interface) s.interfaces i x at in (
-        i,
-        x.interface.link,
-        x.interface.cost,
-        record {
-          address = x.interface.address;
-          direct = x.interface.direct;
-          poison = x.interface.poison;
-          listed = listed
-              ∙ ap (λ m. Some (record x.interface { router = m })) of;
-        },
-      )
+in_range : (most c : ℕ) → (IsOutsideOf most (pos c) → ⊥) → (1 ≤ c) × (c ≤ most)
+in_range most c none =
+    elim (cases_lt c 1) [
+      | inl low ↦ absurd (none (λ e same least few. let is : c ≡ e = cc in omega arith))
+      | inr least ↦ elim (cases_lt most c) [ inl high ↦ absurd (none (λ e same one few. let is : c ≡ e = cc in omega arith)) | inr few ↦ (least, few) ]
+    ]
 
-  one_on_link : (i j r l c d : ℕ) → IsInterface (network_of_sketch s) i r l c → IsInterface (network_of_sketch s) j r l d → i ≡ j
-  one_on_link i j r l c d h k =
-      let (x, at, same) = interface_in s i _ h.listed in
-      let (y, there, other) = interface_in s j _ k.listed in
-      let routers : x.interface.router ≡ y.interface.router = ap (λ (v : Interface). v.router) same ∙ ap (λ (v : Interface). v.router) (sym other) in
-      let links : x.interface.link ≡ y.interface.link = ap (λ (v : Interface). v.link) same ∙ ap (λ (v : Interface). v.link) (sym other) in
-      clash_once are_twice s.interfaces i j x y good.clear.links at there (grind (arith, nat_tests)) (grind (arith, nat_tests))
+cost_good : (d : Data) (c : ℕ) → IsCostOf d c → (HasWrongCost d → ⊥) → (1 ≤ c) × (c ≤ 15)
+cost_good d c (inl given) none = in_range 15 c (λ out. none (pos c, given, out))
+cost_good d c (inr given) none = let one : c ≡ 1 = given.1 in (omega arith, omega arith)
 
-  direct_most : (i r l c d : ℕ) → IsInterface (network_of_sketch s) i r l c → IsConnected (network_of_sketch s) i r l d → d ≤ c
+direct_good : (d : Data) (c e : ℕ) → IsCostOf d c → (1 ≤ c) × (c ≤ 15) → IsDirectOf d c e → (HasWrongDirect d → ⊥) → (1 ≤ e) × (e ≤ c)
+direct_good d c e cost good (inl given) none = in_range c e (λ out. none (c, pos e, cost, good.0, good.1, given, out))
+direct_good d c e cost good (inr given) none = let same : e ≡ c = given.1 in (omega (arith, good.0), omega arith)
+
+-- ---- lists
+
+few_spots : (spots : List At) → ((k : ℕ) (a : At) → slice_get spots k ≡ Some a → 1024 ≤ k → ⊥) → length spots ≤ 1024
+few_spots spots none = elim (cases_lt 1024 (length spots)) [ inl more ↦ let (a, at) = get_some spots 1024 more in absurd (none 1024 a at (omega arith)) | inr few ↦ few ]
+
+some_items : (d : Data) (key : List ℕ) (ds : List Data) → Has key d IsSomeList → HasItems key d ds → 1 ≤ length ds
+some_items d key ds (value, is, (items, array_of, some)) has = by_list ds (items_same key d ds (list_of items) has (items, is ∙ ap (λ (x : Data). Some x) array_of, refl))
+  where
+    by_list : (xs : List Data) → xs ≡ list_of items → 1 ≤ length xs
+    by_list [] e = absurd (some (sym e))
+    by_list (x ∷ xs) e = omega arith
+
+-- ---- the laws
+
+module _ (laws : TextLaws) (bytes : List ℕ) (document : Members) (n : Network) (plan : PlanOf document n) (has : HasTables bytes document plan.links plan.routers)
+    (none : (e : PlanError) → IsFault bytes e → ⊥) where
+  not : (c : PlanCode) (place : At) → TableFault document plan.links plan.routers c place → ⊥
+  not c place f = none (fault c place) (pass_of c, inl (whole_fault bytes document plan.links plan.routers has c place f, refl))
+
+  prefix_known : (k p : ℕ) (seat : Seat) → IsPlace n k p seat → p < length n.prefixes
+  prefix_known k p seat h = let (q, at, of) = matched_left (IsPlaceOf n) n.places (plan.on_links ++ plan.owned) k _ plan.places h.listed in slice_get_within n.prefixes p q.prefix of.prefix
+
+  -- ---- interfaces
+
+  its_spot : (k : ℕ) → k < length n.interfaces → (r j : ℕ) × (slice_get (interface_spots plan.routers) k ≡ Some (RouterInterface r j))
+  its_spot k within =
+      let (a, at) = get_some (interface_spots plan.routers) k (omega (arith, interfaces_count document n plan)) in
+      let s = interface_spot plan.routers k a at in
+      (1 + s.n, suc s.j, at ∙ ap (λ (x : At). Some x) s.is)
+
+  -- two interfaces that clash where none does are one
+  one_of : (c : PlanCode) (Clash : Network → ℕ → ℕ → Type 0)
+      → ((r j : ℕ) → IsClash (Clash n) (interface_spots plan.routers) (RouterInterface r j) → TableFault document plan.links plan.routers c (RouterInterface r j))
+      → (i j : ℕ) → i < length n.interfaces → j < length n.interfaces → Clash n i j → Clash n j i → i ≡ j
+  one_of c Clash told i j here there forth back =
+      apart i j (λ less. let (r, m, at) = its_spot j there in not c (RouterInterface r m) (told r m (i, j, at, less, forth)))
+      (λ more. let (r, m, at) = its_spot i here in not c (RouterInterface r m) (told r m (j, i, at, more, back)))
+
+  costs_good : (i r l c : ℕ) → IsInterface n i r l c → (1 ≤ c) × (c ≤ 15)
+  costs_good i r l c h = let t = interface_table document n plan i _ h.listed in cost_good t.x c t.of.cost (λ bad. not codes.Cost (RouterInterface (suc t.r) (suc t.j)) (t.x, t.item, inl bad))
+
+  directs_good : (i r l d : ℕ) → (h : IsConnected n i r l d) → (1 ≤ d) × (d ≤ h.cost)
+  directs_good i r l d h =
+      let t = interface_table document n plan i _ h.listed in
+      direct_good t.x h.cost d t.of.cost (costs_good i r l h.cost (record { address = h.address; direct = d; poison = h.poison; listed = h.listed })) t.of.direct
+      (λ bad. not codes.Cost (RouterInterface (suc t.r) (suc t.j)) (t.x, t.item, inr bad))
+
+  direct_most : (i r l c d : ℕ) → IsInterface n i r l c → IsConnected n i r l d → d ≤ c
   direct_most i r l c d h k =
-      let (x, at, same, fit) = fit_at i _ h.listed in
-      let (y, there, other) = interface_in s i _ k.listed in
-      let one : y.interface ≡ x.interface = ap (λ (w : DraftInterface). w.interface) (same_Some y x (sym there ∙ at)) in
-      let direct : x.interface.direct ≡ d = ap (λ (v : Interface). v.direct) (sym one ∙ other) in
-      let cost : x.interface.cost ≡ c = ap (λ (v : Interface). v.cost) same in
-      omega (arith, fit.direct_most)
+      let cost : k.cost ≡ c = ap (λ (v : Interface). v.cost) (same_Some _ _ (sym k.listed ∙ h.listed)) in
+      let good = directs_good i r l d k in
+      omega (arith, good.1)
+
+  router_known : (i r l c : ℕ) → IsInterface n i r l c → r < length n.routers
+  router_known i r l c h =
+      let t = interface_table document n plan i _ h.listed in
+      omega (arith, t.of.router, slice_get_within plan.routers t.r t.item.0 t.item.1, matched_length IsNameOf n.routers plan.routers plan.router_names)
+
+  link_known : (i r l c : ℕ) → IsInterface n i r l c → l < length n.links
+  link_known i r l c h = let t = interface_table document n plan i _ h.listed in slice_get_within n.links l t.of.link_name t.of.link.0
+
+  one_interface : (r : ℕ) → r < length n.routers → (i l c : ℕ) × IsInterface n i r l c
+  one_interface r less =
+      elim (cases_Bool (list_any (is_of r) n.interfaces)) [
+        | inl e ↦
+            let (i, x, at, test) = any_finds (is_of r) n.interfaces e in
+            let listed = at ∙ ap (λ (m : ℕ). Some (record x { router = m })) (eqb-true x.router r test) in
+            (i, x.link, x.cost, record { address = x.address; direct = x.direct; poison = x.poison; listed = listed })
+        | inr e ↦
+            absurd (not codes.NoInterface (Router (r + 1)) (n, plan, (r, refl, less, λ i l c is. both_ways (r == r) (none_at (is_of r) n.interfaces i _ e is.listed) (eq-eqb r r refl))))
+      ]
+
+  one_on_link : (i j r l c d : ℕ) → IsInterface n i r l c → IsInterface n j r l d → i ≡ j
+  one_on_link i j r l c d h k =
+      one_of codes.TwiceOnLink AreTwice (λ q m clash. (n, plan, clash)) i j (slice_get_within n.interfaces i _ h.listed) (slice_get_within n.interfaces j _ k.listed) (r, l, c, d, h, k)
+      (r, l, d, c, k, h)
 
   -- ---- addresses
 
-  address_known : (i l a : ℕ) → HasAddress (network_of_sketch s) i l a → a < 2 ^ 32
-  address_known i l a (all, has, holds) =
-      let (j, at) = at_contains all a holds in
-      let (x, there, same, fit) = fit_at i _ has.listed in
-      let own : has.interface.address < 2 ^ 32 = subst (λ (v : Interface). v.address < 2 ^ 32) same fit.address in
-      by_number j has.interface.address has.also (ap (λ (l : List ℕ). slice_get l j) (sym has.all) ∙ at) own (all_at AreAddresses s.also i has.also good.kept.also has.further)
+  address_known : (i l a : ℕ) → HasAddress n i l a → a < 2 ^ 32
+  address_known i l a (all, its, holds) = let (j, at) = at_contains all a holds in by_number j (ap (λ (xs : List ℕ). slice_get xs j) (sym its.all) ∙ at)
     where
-      by_number : (j first : ℕ) (others : List ℕ) → slice_get (first ∷ others) j ≡ Some a → first < 2 ^ 32 → AreAddresses others → a < 2 ^ 32
-      by_number zero first others e own more = subst (λ (b : ℕ). b < 2 ^ 32) (same_Some first a e) own
-      by_number (suc j) first others e own more = all_at (λ b. b < 2 ^ 32) others j a more e
+      by_number : (j : ℕ) → slice_get (its.interface.address ∷ its.also) j ≡ Some a → a < 2 ^ 32
+      by_number zero e =
+          let t = interface_table document n plan i its.interface its.listed in
+          subst (λ (b : ℕ). b < 2 ^ 32) (same_Some its.interface.address a e) t.of.address.0
+      by_number (suc j) e =
+          let (at, listed, of) = matched_left AreAlsoOf n.also (items_under (codes_of "interface") 0 plan.routers) i its.also plan.also its.further in
+          let (d, is, read) = matched_left IsAddressOf its.also (items_in (get (codes_of "also") at.1)) j a of e in
+          read.2.0
 
-  addresses_differ : (i j l a : ℕ) → HasAddress (network_of_sketch s) i l a → HasAddress (network_of_sketch s) j l a → i ≡ j
+  addresses_differ : (i j l a : ℕ) → HasAddress n i l a → HasAddress n j l a → i ≡ j
   addresses_differ i j l a h k =
-      let (p, at) = address_held (network_of_sketch s) i l a h in
-      let (q, there) = address_held (network_of_sketch s) j l a k in
-      let one : Held = record { interface = i; link = l; address = a } in
-      let two : Held = record { interface = j; link = l; address = a } in
-      let same : p ≡ q = clash_once have_one_address (addresses_of (network_of_sketch s)) p q one two good.clear.addresses at there (grind (arith, nat_tests)) (grind (arith, nat_tests)) in
-      ap (λ (h : Held). h.interface) (same_Some one two (sym at ∙ ap (slice_get (addresses_of (network_of_sketch s))) same ∙ there))
+      one_of codes.DuplicateAddress HaveOneAddress (λ q m clash. (n, plan, inl clash)) i j (slice_get_within n.interfaces i _ h.1.listed) (slice_get_within n.interfaces j _ k.1.listed) (l, a, h, k)
+      (l, a, k, h)
 
-  addresses_once : (i l : ℕ) (addresses : List ℕ) → HasAddresses (network_of_sketch s) i l addresses → IsEachOnce addresses
-  addresses_once i l addresses has j k a h g =
-      let n = network_of_sketch s in
-      let stands = stands_from 0 n.interfaces n.also i has.interface has.also has.listed has.further in
-      let one : Held = record { interface = 0 + i; link = has.interface.link; address = a } in
-      let at = stands.each j a (ap (λ (xs : List ℕ). slice_get xs j) (sym has.all) ∙ h) in
-      let there = stands.each k a (ap (λ (xs : List ℕ). slice_get xs k) (sym has.all) ∙ g) in
-      let same : stands.first + j ≡ stands.first + k =
-      clash_once have_one_address (addresses_of n) (stands.first + j) (stands.first + k) one one good.clear.addresses at there (grind (arith, nat_tests)) (grind (arith, nat_tests)) in
-      omega arith
+  addresses_once : (i l : ℕ) (addresses : List ℕ) → HasAddresses n i l addresses → IsEachOnce addresses
+  addresses_once i l addresses its j k a h g =
+      let (r, m, spot) = its_spot i (slice_get_within n.interfaces i _ its.listed) in
+      apart j k (λ less. not codes.DuplicateAddress (RouterInterface r m) (n, plan, inr (i, spot, (l, addresses, its, (j, k, a, less, h, g)))))
+      (λ more. not codes.DuplicateAddress (RouterInterface r m) (n, plan, inr (i, spot, (l, addresses, its, (k, j, a, more, g, h)))))
+
+  inside : (i l a p : ℕ) → HasOwnAddress n i l a → Carries n l p → IsInside n l a
+  inside i l a p own (k, place) = by_test (list_any (λ (q : Placement). is_on l q.seat && has_address q.prefix a) plan.on_links) refl
+    where
+      by_test : (b : Bool) → list_any (λ (q : Placement). is_on l q.seat && has_address q.prefix a) plan.on_links ≡ b → IsInside n l a
+      by_test true e =
+          let (m, q, at, tests) = any_finds (λ (q : Placement). is_on l q.seat && has_address q.prefix a) plan.on_links e in
+          let (on, holds) = and_parts (is_on l q.seat) (has_address q.prefix a) tests in
+          let (number, its, prefix) = its_place document n plan m q (get_left plan.on_links plan.owned m q at) in
+          (number, q.prefix, (m, subst (IsPlace n m number) (on_seat l q.seat on) its), prefix, grind (arith, nat_tests))
+      by_test false e =
+          let t = interface_table document n plan i _ own.listed in
+          let (d, listed, named) = matched_left IsNameOf n.links plan.links l t.of.link_name plan.link_names t.of.link.0 in
+          let (block, prefix) = get_some n.prefixes p (prefix_known k p (seats.Link l) place) in
+          absurd (not codes.OutsidePrefix (RouterInterface (suc t.r) (suc t.j)) (
+            t.x,
+            t.item,
+            record {
+              text = t.of.text;
+              has_address = t.of.has_address;
+              address = a;
+              spelled = t.of.address;
+              name = t.of.link_name;
+              has_link = t.of.has_link;
+              link = l;
+              link_table = d;
+              listed = listed;
+              named = named;
+              some = (block, carrier_has document n plan l p block (k, place) prefix);
+              none = λ block its holds.
+                  let (m, q, at, seat, (text, read, same)) = prefix_place plan.links plan.on_links plan.link_prefixes l block its in
+                  let one : q.prefix ≡ block = one_prefix laws text text q.prefix block refl read same in
+                  let off : (is_on l q.seat && has_address q.prefix a) ≡ false = none_at (λ (q : Placement). is_on l q.seat && has_address q.prefix a) plan.on_links m q e at in
+                  let here : is_on l (seats.Link l) ≡ true = grind (arith, nat_tests) in
+                  let on : is_on l q.seat ≡ true = ap (is_on l) seat ∙ here in
+                  let test : has_address block a ≡ true = grind (arith, nat_tests) in
+                  let inner : has_address q.prefix a ≡ true = ap (λ (b : Block). has_address b a) one ∙ test in
+                  let clash : true ≡ false = rw (on, inner) at off in
+                  cc;
+            },
+          ))
+
+  -- ---- prefixes
+
+  -- a prefix of the plan is that of a placement
+  abbrev IsPlaced : Block → Type 0
+  IsPlaced b = (k : ℕ) × (q : Placement) × (slice_get (plan.on_links ++ plan.owned) k ≡ Some q) × (q.prefix ≡ b)
+
+  placed : (p : ℕ) (b : Block) → IsPrefix n p b → IsPlaced b
+  placed p b h =
+      let blocks = map (λ (q : Placement). q.prefix) (plan.on_links ++ plan.owned) in
+      all_at IsPlaced (each_once blocks) p b
+      (once_kept IsPlaced blocks (all_here IsPlaced blocks (λ k b at. let (q, there, same) = get_seen (λ (q : Placement). q.prefix) (plan.on_links ++ plan.owned) k b at in (k, q, there, same))))
+      (ap (λ (bs : List Block). slice_get bs p) (sym plan.prefixes) ∙ h)
+
+  prefix_is : (p : ℕ) (b : Block) → IsPrefix n p b → IsBlock b
+  prefix_is p b h =
+      let (k, q, at, same) = placed p b h in
+      subst IsBlock same (elim (get_split plan.on_links plan.owned k q at) [
+        | inl here ↦ let (x, is, of) = matched_left IsOnLink plan.on_links (items_under (codes_of "prefixes") 0 plan.links) k q plan.link_prefixes here.0 in of.prefix.0
+        | inr there ↦ let (x, is, of) = matched_left (IsOwned n.links) plan.owned (items_under (codes_of "own") 0 plan.routers) there.0 q plan.own_prefixes there.2 in of.prefix.0
+      ])
+
+  prefixes_differ : (p q : ℕ) (b : Block) → IsPrefix n p b → IsPrefix n q b → p ≡ q
+  prefixes_differ p q b h k =
+      distinct_at same_prefix n.prefixes p q b b (subst (IsDistinct same_prefix) (sym plan.prefixes) (once_distinct (map (λ (x : Placement). x.prefix) (plan.on_links ++ plan.owned)))) h k
+      (same_self b) (same_self b)
+
+  one_place : (p : ℕ) → p < length n.prefixes → (k : ℕ) × (seat : Seat) × IsPlace n k p seat
+  one_place p less =
+      let (b, h) = get_some n.prefixes p less in
+      let (k, q, at, same) = placed p b h in
+      let (m, place, prefix) = its_place document n plan k q at in
+      (k, q.seat, subst (λ (i : ℕ). IsPlace n k i q.seat) (prefixes_differ m p b (prefix ∙ ap (λ (x : Block). Some x) same) h) place)
 
   -- ---- places
 
-  seat_at : (k p : ℕ) (seat : Seat) → IsPlace (network_of_sketch s) k p seat → IsFitSeat (length s.links) (length s.routers) seat
-  seat_at k p seat h =
-      let (d, at, prefix, same) = place_in s k p seat h in
-      subst (IsFitSeat (length s.links) (length s.routers)) (sym same) (all_at (IsFitPlace (length s.links) (length s.routers)) s.places k d good.kept.places at).seat
+  seat_known : (k p l : ℕ) → IsPlace n k p (seats.Link l) → l < length n.links
+  seat_known k p l h =
+      let (block, prefix) = get_some n.prefixes p (prefix_known k p (seats.Link l) h) in
+      let (m, text, at, read) = carrier_has document n plan l p block (k, h) prefix in
+      let u = under_item (codes_of "prefixes") LinkPrefix 1 0 plan.links m l (string text) at in
+      omega (arith, u.number, slice_get_within plan.links u.t u.item.0 u.item.1, matched_length IsNameOf n.links plan.links plan.link_names)
 
-  -- two places of one prefix, either on one link or touching one router, are one
-  meet_once : (k j p : ℕ) (seat other : Seat) → IsPlace (network_of_sketch s) k p seat → IsPlace (network_of_sketch s) j p other
-      → ((is_same_link seat other || have_common (touched s.interfaces seat) (touched s.interfaces other)) ≡ true)
-      → ((is_same_link other seat || have_common (touched s.interfaces other) (touched s.interfaces seat)) ≡ true) → k ≡ j
-  meet_once k j p seat other h h' meet meet' =
-      let (d, at, prefix, same) = place_in s k p seat h in
-      let (e, there, its, is) = place_in s j p other h' in
-      let one : d.prefix ≡ e.prefix = same_Some d.prefix e.prefix (sym prefix ∙ its) in
-      let forth : do_meet (touching s.interfaces d) (touching s.interfaces e) ≡ true = rw (same_from d.prefix e.prefix one, ← same, ← is) meet in
-      let back : do_meet (touching s.interfaces e) (touching s.interfaces d) ≡ true = rw (same_from e.prefix d.prefix (sym one), ← same, ← is) meet' in
-      clash_once do_meet (map (touching s.interfaces) s.places) k j (touching s.interfaces d) (touching s.interfaces e) good.clear.meetings
-      (see_got (touching s.interfaces) s.places k d at) (see_got (touching s.interfaces) s.places j e there) forth back
+  owner_known : (k p r c : ℕ) → IsOwnAt n k p r c → r < length n.routers
+  owner_known k p r c h =
+      let t = own_table document n plan k p h.own h.place in
+      let router : r ≡ t.r = sym h.router ∙ ap (λ (o : OwnPrefix). o.router) (sym t.is) ∙ t.of.router in
+      omega (arith, slice_get_within plan.routers t.r t.item.0 t.item.1, matched_length IsNameOf n.routers plan.routers plan.router_names)
 
-  carried_once : (k j p l : ℕ) → IsPlace (network_of_sketch s) k p (seats.Link l) → IsPlace (network_of_sketch s) j p (seats.Link l) → k ≡ j
-  carried_once k j p l h h' =
-      let same : (l == l) ≡ true = grind (arith, nat_tests) in
-      meet_once k j p (seats.Link l) (seats.Link l) h h' (rw same refl) (rw same refl)
+  own_costs_good : (k p r c : ℕ) → IsOwnAt n k p r c → (1 ≤ c) × (c ≤ 15)
+  own_costs_good k p r c h =
+      let t = own_table document n plan k p h.own h.place in
+      cost_good t.x c (subst (IsCostOf t.x) (ap (λ (o : OwnPrefix). o.cost) t.is ∙ h.says) t.of.cost) (λ bad. not codes.Cost (RouterOwn (suc t.r) (suc t.j)) (t.x, t.item, bad))
 
-  touched_once : (k j p r c d : ℕ) → Touches (network_of_sketch s) k p r c → Touches (network_of_sketch s) j p r d → k ≡ j
-  touched_once k j p r c d h h' =
-      let (seat, place, here) = touch s k p r c h in
-      let (other, its, there) = touch s j p r d h' in
-      meet_once k j p seat other place its
-      (or_right (is_same_link seat other) _ (common (touched s.interfaces seat) (touched s.interfaces other) r here there))
-      (or_right (is_same_link other seat) _ (common (touched s.interfaces other) (touched s.interfaces seat) r there here))
+  gateway_known : (r p a : ℕ) → IsGateway n r p a → a < 2 ^ 32
+  gateway_known r p a (k, h) =
+      let t = own_table document n plan k p h.own h.place in
+      let its : IsGatewayOf t.x (Some a) = subst (IsGatewayOf t.x) (ap (λ (o : OwnPrefix). o.via) t.is ∙ h.says) t.of.via in
+      its.2.0
 
-  -- the router of an attached prefix is on its link
-  attached_there : (r p l : ℕ) → IsAttached (network_of_sketch s) r p l → IsOn (network_of_sketch s) r l
+  attached_there : (r p l : ℕ) → IsAttached n r p l → IsOn n r l
   attached_there r p l (k, h) =
-      let (d, at, prefix, same) = place_in s k p (seats.Own h.own) h.place in
-      let off : is_astray s.interfaces d.seat ≡ false =
-      false_from_ne_true (is_astray s.interfaces d.seat) (λ t. find_none (λ (q : DraftPlace). is_astray s.interfaces q.seat) s.places k d at t good.clear.astray) in
-      there_on s r l (not-false (is_there s.interfaces r l) (rw (h.says, h.router) at (ap (is_astray s.interfaces) same ∙ off)))
+      elim (cases_option (cost_on r l n.interfaces)) [
+        | inl e ↦
+            let t = own_table document n plan k p h.own h.place in
+            let astray : IsAstray n k = (p, r, l, h, λ (c, (i, on)). cost_there r l on.direct on.address c i on.poison n.interfaces on.listed e) in
+            absurd (none (fault codes.UnknownLink (RouterOwn (1 + t.r) (suc t.j))) (5, inr ((document, plan.links, plan.routers, has, (n, plan, (k, t.spot, astray))), refl, refl)))
+        | inr (d, e) ↦ let (i, (a, c, b, at)) = cost_found r l d n.interfaces e in (c, (i, record { address = a; direct = d; poison = b; listed = at }))
+      ]
 
-  inside : (i l a p : ℕ) → HasOwnAddress (network_of_sketch s) i l a → Carries (network_of_sketch s) l p → IsInside (network_of_sketch s) l a
-  inside i l a p h (k, place) =
-      let (x, at, same) = interface_in s i _ h.listed in
-      let not_outside : is_outside l a s.places ≡ false =
-      ap (λ (v : Interface). is_outside v.link v.address s.places) (sym same) ∙ all_at (IsInsideOf s.places) s.interfaces i x good.kept.inside at in
-      let (d, its, prefix, seat) = place_in s k p (seats.Link l) place in
-      let self : (l == l) ≡ true = grind (arith, nat_tests) in
-      let some : list_any (λ (q : DraftPlace). is_on l q.seat) s.places ≡ true = any_at (λ (q : DraftPlace). is_on l q.seat) s.places k d its (rw (← seat) self) in
-      let holds = contains_one (list_any (λ (q : DraftPlace). is_on l q.seat) s.places) (list_any (λ (q : DraftPlace). is_on l q.seat && has_address q.prefix a) s.places) some not_outside in
-      let (m, e, there, test) = any_finds (λ (q : DraftPlace). is_on l q.seat && has_address q.prefix a) s.places holds in
-      let parts = and_parts (is_on l e.seat) (has_address e.prefix a) test in
-      let (q, here, block) = place_from s m e there in
-      (q, e.prefix, (m, subst (IsPlace (network_of_sketch s) m q) (on_seat l e.seat parts.0) here), block, grind (arith, nat_tests, parts.1))
-    where
-      contains_one : (b c : Bool) → b ≡ true → (b && not c) ≡ false → c ≡ true
-      contains_one true true e f = refl
-      contains_one true false e f = absurd cc
-      contains_one false c e f = absurd cc
+  meet_within : (j k : ℕ) → DoMeet n j k → k < length n.places
+  meet_within j k (p, inl (l, h, h')) = slice_get_within n.places k _ h'.listed
+  meet_within j k (p, inr (r, c, d, h, inl (l, place, on))) = slice_get_within n.places k _ place.listed
+  meet_within j k (p, inr (r, c, d, h, inr own)) = slice_get_within n.places k _ own.place.listed
 
-  is_block : (p : ℕ) (b : Block) → IsPrefix (network_of_sketch s) p b → IsBlock b
-  is_block p b h =
-      let (k, seat, place) = (numbers s.places).used p (slice_get_within (network_of_sketch s).prefixes p b h) in
-      let (d, at, prefix, same) = place_in s k p seat (record { listed = place }) in
-      subst IsBlock (same_Some d.prefix b (sym prefix ∙ h)) (all_at (IsFitPlace (length s.links) (length s.routers)) s.places k d good.kept.places at).prefix
+  no_meeting : (j k : ℕ) → DoMeet n j k → j < k → ⊥
+  no_meeting j k meet less =
+      let (a, at) = get_some (place_spots plan.links plan.routers) k (omega (arith, meet_within j k meet, places_count document n plan)) in
+      elim (place_spot plan.links plan.routers k a at) [
+        | inl s ↦ not codes.DuplicatePrefix (LinkPrefix (1 + s.n) (suc s.j)) (n, plan, (j, k, at ∙ ap (λ (x : At). Some x) s.is, less, meet))
+        | inr s ↦ not codes.DuplicatePrefix (RouterOwn (1 + s.n) (suc s.j)) (n, plan, (j, k, at ∙ ap (λ (x : At). Some x) s.is, less, meet))
+      ]
 
-  lawful_network : IsLawful (network_of_sketch s)
-  lawful_network = record {
-    some_link = good.some_link;
-    few_links = good.few_links;
-    some_router = good.some_router;
-    few_routers = good.few_routers;
-    few_interfaces = omega (arith, good.kept.few_interfaces, length-map s.interfaces (λ (x : DraftInterface). x.interface));
-    few_also = omega (arith, good.kept.few_also, sum-map length s.also);
-    few_places = omega (arith, good.kept.few_places, (numbers s.places).count);
-    link_named = λ l name h. all_at IsName s.links l name good.kept.link_names h;
-    router_named = λ r name h. all_at IsName s.routers r name good.kept.router_names h;
-    link_names_differ = λ l m name h k. distinct_at bytes_eq s.links l m name name good.kept.links_differ h k (name_same name) (name_same name);
-    router_names_differ = λ r t name h k. distinct_at bytes_eq s.routers r t name name good.kept.routers_differ h k (name_same name) (name_same name);
-    router_known = λ i r l c h. let (x, at, same, fit) = fit_at i _ h.listed in rw (ap (λ (v : Interface). v.router) same) at fit.router;
-    link_known = λ i r l c h. let (x, at, same, fit) = fit_at i _ h.listed in rw (ap (λ (v : Interface). v.link) same) at fit.link;
-    cost_least = λ i r l c h. let (x, at, same, fit) = fit_at i _ h.listed in rw (ap (λ (v : Interface). v.cost) same) at fit.least;
-    cost_most = λ i r l c h. let (x, at, same, fit) = fit_at i _ h.listed in rw (ap (λ (v : Interface). v.cost) same) at fit.most;
-    one_interface = one_interface;
-    one_on_link = one_on_link;
-    direct_least = λ i r l d h. let (x, at, same, fit) = fit_at i _ h.listed in rw (ap (λ (v : Interface). v.direct) same) at fit.direct_least;
-    direct_most = direct_most;
-    also_listed = good.kept.also_listed ∙ sym (length-map s.interfaces (λ (x : DraftInterface). x.interface));
-    address_known = address_known;
-    addresses_differ = addresses_differ;
-    addresses_once = addresses_once;
-    inside = inside;
-    prefix_is = is_block;
-    prefixes_differ = λ p q b h k. distinct_at same_prefix (network_of_sketch s).prefixes p q b b (numbers s.places).distinct h k (same_self b) (same_self b);
-    one_place = λ p h. let (k, seat, place) = (numbers s.places).used p h in (k, seat, record { listed = place });
-    prefix_known = λ k p seat h. let (d, at, prefix, same) = place_in s k p seat h in slice_get_within (network_of_sketch s).prefixes p d.prefix prefix;
-    seat_known = λ k p l h. seat_at k p (seats.Link l) h;
-    owner_known = λ k p r c h. rw h.router at (seat_at k p (seats.Own h.own) h.place).0;
-    own_cost_least = λ k p r c h. rw h.says at (seat_at k p (seats.Own h.own) h.place).1;
-    own_cost_most = λ k p r c h. rw h.says at (seat_at k p (seats.Own h.own) h.place).2;
-    attached_there = attached_there;
-    gateway_known = λ r p a h. rw h.1.says at (seat_at h.0 p (seats.Own h.1.own) h.1.place).3;
-    carried_once = carried_once;
-    touched_once = touched_once;
-  }
+  -- ---- all
 
--- ---- the document
+  few_interfaces : length (interface_spots plan.routers) ≤ 1024
+  few_interfaces =
+      few_spots (interface_spots plan.routers)
+      (λ k a at past.
+      let s = interface_spot plan.routers k a at in
+      not codes.Limit (RouterInterface (1 + s.n) (suc s.j)) (inl (k, at ∙ ap (λ (x : At). Some x) s.is, past)))
 
-some_at : (xs ys : List Data) → some_items xs ≡ Some ys → 1 ≤ length ys
-some_at [] ys h = absurd (none-some ys h)
-some_at (x ∷ xs) ys h = rw (← same_Some (x ∷ xs) ys h) (omega arith)
+  few_also : length (also_spots plan.routers) ≤ 1024
+  few_also =
+      few_spots (also_spots plan.routers)
+      (λ k a at past.
+      let s = also_spot 1 plan.routers k a at in
+      not codes.Limit (RouterInterface (1 + s.n) (suc s.j)) (inr (k, at ∙ ap (λ (x : At). Some x) s.is, past)))
 
-some_of_both : (a b : Option (List Data)) (p : Option (Option Bool)) (f : List Data × List Data × Bool)
-    → (a &> some_items &> (λ x. b &> some_items &> (λ y. p &> (λ z. Some (x, y, unwrap_or z true))))) ≡ Some f → (1 ≤ length f.0) × (1 ≤ length f.1)
-some_of_both None b p f h = absurd cc
-some_of_both (Some []) b p f h = absurd cc
-some_of_both (Some (x ∷ xs)) None p f h = absurd cc
-some_of_both (Some (x ∷ xs)) (Some []) p f h = absurd cc
-some_of_both (Some (x ∷ xs)) (Some (y ∷ ys)) None f h = absurd cc
-some_of_both (Some (x ∷ xs)) (Some (y ∷ ys)) (Some z) f h =
-    let same : (x ∷ xs, y ∷ ys, unwrap_or z true) ≡ f = same_Some (x ∷ xs, y ∷ ys, unwrap_or z true) f h in
-    rw (← same) (omega arith, omega arith)
+  few_places : length (place_spots plan.links plan.routers) ≤ 1024
+  few_places =
+      few_spots (place_spots plan.links plan.routers)
+      (λ k a at past.
+      elim (place_spot plan.links plan.routers k a at) [
+        | inl s ↦ not codes.Limit (LinkPrefix (1 + s.n) (suc s.j)) (k, at ∙ ap (λ (x : At). Some x) s.is, past)
+        | inr s ↦ not codes.Limit (RouterOwn (1 + s.n) (suc s.j)) (k, at ∙ ap (λ (x : At). Some x) s.is, past)
+      ])
 
-some_of_root : (doc : Members) (f : List Data × List Data × Bool) → root_fields doc ≡ Some f → (1 ≤ length f.0) × (1 ≤ length f.1)
-unfolding root_fields
-some_of_root doc f h = some_of_both (items_at (codes_of "link") doc) (items_at (codes_of "router") doc) (flag_if (get_member (codes_of "poison") doc)) f (chosen (has_only (keys_of the_root) doc) _ f h)
+  few_tables : (length plan.links ≤ 512) × (length plan.routers ≤ 128)
+  few_tables =
+      let over : (512 < length plan.links) ⊎ (128 < length plan.routers) → ⊥ = λ more. none (fault codes.Limit Text) (0, inl (inr (document, plan.links, plan.routers, has, more), refl)) in (
+        elim (cases_lt 512 (length plan.links)) [ inl more ↦ absurd (over (inl more)) | inr few ↦ few ],
+        elim (cases_lt 128 (length plan.routers)) [ inl more ↦ absurd (over (inr more)) | inr few ↦ few ],
+      )
 
-good_document : (laws : TextLaws) (doc : Members) (s : Sketch) → DocumentTaken doc s → Good s
-unfolding IsDistinct
-good_document laws doc s taken =
-    let nothing : BetweenLinks 1 (empty taken.poison) = record {
-      kept = record {
-        link_names = tt;
-        links_differ = tt;
-        router_names = tt;
-        routers_differ = tt;
-        interfaces = tt;
-        inside = tt;
-        places = tt;
-        also = tt;
-        also_listed = refl;
-        few_interfaces = omega arith;
-        few_also = omega arith;
-        few_places = omega arith;
-      };
-      interfaces = refl;
-      routers = refl;
-      next = refl;
-    } in
-    let links = steps_keep link_step BetweenLinks (link_keeps laws) 1 taken.links (empty taken.poison) taken.between nothing taken.first (1 + length taken.links) refl in
-    let counted : length taken.between.links ≡ length taken.links = omega (arith, links.next) in
-    let start : BetweenRouters (length taken.links) 1 taken.between = record { kept = links.kept; links = counted; next = ap (λ (names : List (List ℕ)). length names + 1) links.routers } in
-    let end = steps_keep router_step (BetweenRouters (length taken.links)) (router_keeps laws (length taken.links)) 1 taken.routers taken.between s start taken.second
-    (1 + length taken.routers) refl in
-    let routers : length s.routers ≡ length taken.routers = omega (arith, end.next) in
-    let some = some_of_root doc (taken.links, taken.routers, taken.poison) taken.root in
-    let few = or_parts (nat_lt 512 (length taken.links)) (nat_lt 128 (length taken.routers)) taken.room in
-    record {
-      kept = end.kept;
-      clear = passes_clear s taken.passed;
-      some_link = omega (arith, some.0, end.links);
-      few_links = grind (arith, nat_tests, end.links, few.0);
-      some_router = omega (arith, some.1, routers);
-      few_routers = grind (arith, nat_tests, routers, few.1);
-    }
+  pub lawful_plan : IsLawful n
+  lawful_plan =
+      let root = by_root document (λ lacks. none (fault codes.Key Text) (0, inl ((document, has.text, lacks), refl))) in
+      let links = matched_length IsNameOf n.links plan.links plan.link_names in
+      let routers = matched_length IsNameOf n.routers plan.routers plan.router_names in
+      record {
+        some_link = omega (arith, links, some_items (table document) (codes_of "link") plan.links root.link plan.has_links);
+        few_links = omega (arith, links, few_tables.0);
+        some_router = omega (arith, routers, some_items (table document) (codes_of "router") plan.routers root.router plan.has_routers);
+        few_routers = omega (arith, routers, few_tables.1);
+        few_interfaces = omega (arith, few_interfaces, interfaces_count document n plan);
+        few_also = omega (arith, few_also, also_counted document n plan);
+        few_places = omega (arith, few_places, places_count document n plan);
+        link_named = names_good laws n.links plan.links plan.link_names (λ i bad. not codes.Name (Link i) bad);
+        router_named = names_good laws n.routers plan.routers plan.router_names (λ r bad. not codes.Name (Router r) bad);
+        link_names_differ = names_differ n.links plan.links plan.link_names (λ i bad. not codes.DuplicateName (Link i) bad);
+        router_names_differ = names_differ n.routers plan.routers plan.router_names (λ r bad. not codes.DuplicateName (Router r) bad);
+        router_known = router_known;
+        link_known = link_known;
+        cost_least = λ i r l c h. (costs_good i r l c h).0;
+        cost_most = λ i r l c h. (costs_good i r l c h).1;
+        one_interface = one_interface;
+        one_on_link = one_on_link;
+        direct_least = λ i r l d h. (directs_good i r l d h).0;
+        direct_most = direct_most;
+        also_listed = matched_length AreAlsoOf n.also (items_under (codes_of "interface") 0 plan.routers) plan.also
+            ∙ sym (matched_length (IsInterfaceOf n.links plan.poison) n.interfaces (items_under (codes_of "interface") 0 plan.routers) plan.interfaces);
+        address_known = address_known;
+        addresses_differ = addresses_differ;
+        addresses_once = addresses_once;
+        inside = inside;
+        prefix_is = prefix_is;
+        prefixes_differ = prefixes_differ;
+        one_place = one_place;
+        prefix_known = prefix_known;
+        seat_known = seat_known;
+        owner_known = owner_known;
+        own_cost_least = λ k p r c h. (own_costs_good k p r c h).0;
+        own_cost_most = λ k p r c h. (own_costs_good k p r c h).1;
+        attached_there = attached_there;
+        gateway_known = gateway_known;
+        carried_once = λ k j p l h h'. apart k j (no_meeting k j (p, inl (l, h, h'))) (no_meeting j k (p, inl (l, h', h)));
+        touched_once = λ k j p r c d h h'. apart k j (no_meeting k j (p, inr (r, c, d, h, h'))) (no_meeting j k (p, inr (r, d, c, h', h)));
+      }
+
+-- ---- bytes without a fault
+
+pub not_long : (bytes : List ℕ) → ((e : PlanError) → IsFault bytes e → ⊥) → length bytes ≤ 1048576
+not_long bytes none = elim (cases_lt 1048576 (length bytes)) [ inl more ↦ absurd (none (fault codes.Limit Text) (0, inl (inl more, refl))) | inr few ↦ few ]
+
+read_text : (laws : TextLaws) (bytes : List ℕ) (s : Sketch) → sketch_of bytes ≡ Ok s → IsPlanOfText bytes (network_of_sketch s)
+read_text laws bytes s h = network_matches laws bytes (network_of_sketch s) (ap (λ (r : Result Sketch PlanError). r >>= (λ t. Ok (network_of_sketch t))) h)
 
 pub lawful : (laws : TextLaws) (bytes : List ℕ) (s : Sketch) → sketch_of bytes ≡ Ok s → IsLawful (network_of_sketch s)
-lawful laws bytes s h = let taken = text_taken bytes s h in lawful_network s (good_document laws taken.document s taken.taken)
+lawful laws bytes s h =
+    let is = read_text laws bytes s h in
+    let none = faultless laws bytes s h in
+    let text : IsText bytes is.document = record { short = not_long bytes none; reads = is.reads } in
+    lawful_plan laws bytes is.document (network_of_sketch s) is.plan (record { text = text; has_links = is.plan.has_links; has_routers = is.plan.has_routers }) none
+
+pub plan_stands : (laws : TextLaws) (bytes : List ℕ) → ((e : PlanError) → IsFault bytes e → ⊥) → (n : Network) × IsPlanOfText bytes n × IsLawful n
+plan_stands laws bytes none =
+    elim (read_or_told laws bytes) [
+      | inl (s, h) ↦ (network_of_sketch s, read_text laws bytes s h, lawful laws bytes s h)
+      | inr (d, h, told) ↦ absurd (none d (told.pass, told.found))
+    ]

@@ -2,8 +2,8 @@
 use Rattle.std.proofs.Common.{◌≡◌, ℕ, zero, suc, ◌+◌, ◌<◌, ◌≤◌, inl, inr, List, [], ◌∷◌, ◌++◌, length, Bool, true, false, not, Some, Ok, refl, sym, ap, subst, ◌∙◌, arith, length-append}
 use Rattle.std.specs.Prelude.{slice_get, nat_le, codes as codes_of}
 use Rattle.std.specs.Str.{bytes_eq}
+use Rattle.std.proofs.lemmas.Bool.{both_ways, not-false, not-true}
 use Rattle.std.proofs.lemmas.Option.{none-some, same_Some, slice_get_within}
-use Rattle.std.proofs.lemmas.List.{length-map}
 use Rattle.std.proofs.lemmas.Bool.Decides.{nat_tests}
 use Rattle.std.proofs.lemmas.Slice.Eq.{bytes_eq-Decides}
 use Rattle.toml.specs.Data.{Data, Members, string, get, as_str, as_table}
@@ -23,18 +23,16 @@ use Rattle.rip_plan.specs.PlanFaults.{nth, IsItem, IsMisnamed, IsNamedAgain, spo
 use Rattle.rip_plan.proofs.FindingLemmas.{Finds, no_rows, steps_finds}
 use Rattle.rip_plan.proofs.FaultRowLemmas.{by_code, IsTold, guard_told, want_told, prefix_from_limit, prefix_from_prefix, prefix_rows, prefix_starts, prefixes_rows, link_from_duplicate, link_from_name, link_rows, link_starts, links_rows, prefix_row_item, link_row_within}
 use Rattle.rip_plan.proofs.SpotLemmas.{nth_from, place_once, prefix_here, nth_here, item_once, count_of}
-use Rattle.rip_plan.proofs.TakenSpotLemmas.{place_ats, links_stand, prefixes_stand}
 use Rattle.rip_plan.proofs.ItemLemmas.{any_at, any_finds, get_split, get_left}
-use Rattle.rip_plan.proofs.TableLemmas.{text_is, link_table}
+use Rattle.rip_plan.proofs.TableLemmas.{text_is}
 use Rattle.rip_plan.proofs.MatchingLemmas.{matched_left, matched_right}
 use Rattle.rip_plan.proofs.OnePlanLemmas.{text_same}
-use Rattle.rip_plan.proofs.PlanMatchLemmas.{links_added}
-use Rattle.rip_plan.proofs.TakenStepLemmas.{with_link}
+use Rattle.rip_plan.proofs.PlanMatchLemmas.{with_link, links_added, prefixes_added, stood}
 use Rattle.rip_plan.proofs.LookupLemmas.{name_same}
 use Rattle.rip_plan.proofs.TextLemmas.{TextLaws, prefix_is, no_prefix}
 use Rattle.rip_plan.specs.Texts.{IsPrefixText}
 use Rattle.rip_plan.specs.DocumentTables.{IsLinkTable, IsString}
-use Rattle.rip_plan.proofs.DocumentTableLemmas.{link_told, link_not, string_not}
+use Rattle.rip_plan.proofs.DocumentTableLemmas.{link_not, link_table, string_not}
 
 -- ---- names
 
@@ -46,21 +44,13 @@ module _ (laws : TextLaws) (ds done : List Data) (d : Data) (rest : List Data) (
   table_same e h = same_Some e d (sym h ∙ table_here)
 
   pub misnamed_told : (name : List ℕ) → IsNameOf name d → not (is_name name) ≡ true → IsMisnamed ds (1 + length done)
-  misnamed_told name named bad = (d, name, table_here, named, λ good. let tested : is_name name ≡ true = (laws.name name).1 good in absurd (by_test (is_name name) tested bad))
-    where
-      by_test : (b : Bool) → b ≡ true → not b ≡ true → ⊥
-      by_test true e f = cc
-      by_test false e f = cc
+  misnamed_told name named bad = (d, name, table_here, named, λ good. both_ways (is_name name) (not-true (is_name name) bad) ((laws.name name).1 good))
 
   pub misnamed_clear : (name : List ℕ) → IsNameOf name d → not (is_name name) ≡ false → IsMisnamed ds (1 + length done) → ⊥
   misnamed_clear name named good (e, other, is, its, bad) =
       let same : e ≡ d = table_same e is in
       let one : other ≡ name = text_same (codes_of "name") d other name (subst (IsNameOf other) same its) named in
-      bad ((laws.name other).0 (by_test (is_name other) (ap (λ (t : List ℕ). not (is_name t)) one ∙ good)))
-    where
-      by_test : (b : Bool) → not b ≡ false → b ≡ true
-      by_test true e' = refl
-      by_test false e' = absurd cc
+      bad ((laws.name other).0 (not-false (is_name other) (ap (λ (t : List ℕ). not (is_name t)) one ∙ good)))
 
   pub again_told : (names : List (List ℕ)) → Matched IsNameOf names done → (name : List ℕ) → IsNameOf name d → is_one_of name names ≡ true → IsNamedAgain ds (1 + length done)
   again_told names named name its taken =
@@ -87,12 +77,12 @@ module _ (laws : TextLaws) (ds done : List Data) (d : Data) (rest : List Data) (
 
 -- ---- the prefixes of a link
 
-abbrev stood : List Data → List At
-stood done = spots_under (codes_of "prefixes") LinkPrefix 1 done
+abbrev stood_links : List Data → List At
+stood_links done = spots_under (codes_of "prefixes") LinkPrefix 1 done
 
 module _ (document : Members) (links routers done : List Data) (d : Data) (rest : List Data) (split : links ≡ done ++ d ∷ rest) where
   prefix_finds : (laws : TextLaws) (front : List Data) (x : Data) (back : List Data) (v : Sketch) → items_in (get (codes_of "prefixes") d) ≡ front ++ x ∷ back
-      → length v.places ≡ length (stood done) + length front
+      → length v.places ≡ length (stood_links done) + length front
       → Finds (IsTold document links routers) (prefix_rows (1 + length done) (1 + length front)).has (prefix_step (1 + length done) (1 + length front) x v)
   unfolding prefix_step
   prefix_finds laws front x back v items count =
@@ -127,20 +117,23 @@ module _ (document : Members) (links routers done : List Data) (d : Data) (rest 
       past : (n : ℕ) → nat_le 1024 n ≡ false → 1024 ≤ n → ⊥
       past n e le = grind (arith, nat_tests)
 
-  at_count : (u : Sketch) (spots : List At) → place_ats u ≡ spots → length u.places ≡ length spots
-  at_count u spots h = sym (length-map u.places (λ (p : DraftPlace). p.at)) ∙ ap length h
-
   prefixes_find : (laws : TextLaws) (poison : Bool) (u : Sketch) (name : List ℕ) → steps link_step 1 done (empty poison) ≡ Ok u → (all : List Data) → items_in (get (codes_of "prefixes") d) ≡ all
       → Finds (IsTold document links routers) (prefixes_rows (1 + length done)).has (steps (prefix_step (1 + length done)) 1 all (with_link name u))
   prefixes_find laws poison u name taken all items =
       steps_finds (IsTold document links routers) (prefix_step i) (λ j. (prefix_rows i j).has) (0 ∷ 1 ∷ i ∷ 1 ∷ []) (prefix_starts i) all (with_link name u)
       (λ front x back v parts steps_taken.
-      let before = links_stand 1 done (empty poison) u taken in
-      let inner = prefixes_stand i 1 front (with_link name u) v steps_taken in
-      let one : length u.places ≡ length (stood done) = at_count u (stood done) before.places in
-      let two : length v.places ≡ length (place_ats u ++ spots_of (LinkPrefix i) 1 front) = at_count v (place_ats u ++ spots_of (LinkPrefix i) 1 front) inner.places in
+      let before = links_added laws 0 done (empty poison) u taken in
+      let inner = prefixes_added laws i 1 front (with_link name u) v steps_taken in
+      let places : v.places ≡ before.added ++ inner.added = ap (λ (t : Sketch). t.places) inner.made ∙ ap (λ (t : Sketch). t.places ++ inner.added) before.made in
       prefix_finds laws front x back v (items ∙ parts)
-      (omega (arith, one, two, length-append (place_ats u) (spots_of (LinkPrefix i) 1 front), count_of (LinkPrefix i) 1 front, length-map u.places (λ (p : DraftPlace). p.at))))
+      (omega (
+        arith,
+        ap length places,
+        length-append before.added inner.added,
+        stood (λ (p : DraftPlace). p.at) before.added (stood_links done) before.stand,
+        stood (λ (p : DraftPlace). p.at) inner.added (spots_of (LinkPrefix i) 1 front) inner.stand,
+        count_of (LinkPrefix i) 1 front,
+      )))
       (λ m o past row f.
       let (x, (e, is, item)) = prefix_row_item document links routers i m o row f in
       let same : e ≡ d = same_Some e d (sym is ∙ rw split (nth_here done d rest i refl)) in
@@ -161,7 +154,7 @@ module _ (document : Members) (links routers done : List Data) (d : Data) (rest 
       let named : Matched IsNameOf u.links done = subst (λ (l : List (List ℕ)). Matched IsNameOf l done) (sym names) added.named in
       want_told document links routers codes.Key (Link i) (as_table d &> link_fields) (link_from_name i) (by_code (Link i) codes.Key codes.Name refl (omega arith)) _
       (λ none. (d, table_here laws links done d rest split, link_not d none))
-      (λ f is h. h.2 (subst IsLinkTable (sym (table_same laws links done d rest split h.0 h.1)) (link_told d f is)))
+      (λ f is h. h.2 (subst IsLinkTable (sym (table_same laws links done d rest split h.0 h.1)) (link_table d f.0 f.1 is).shape))
       (λ f is.
       let table = link_table d f.0 f.1 is in
       guard_told document links routers (not (is_name f.0)) codes.Name (Link i) (link_from_duplicate i) (by_code (Link i) codes.Name codes.DuplicateName refl (omega arith)) _

@@ -1,6 +1,6 @@
 -- A step for each item of a list, as a loop takes them.
-use Rattle.std.proofs.Common.{◌≡◌, ℕ, ◌+◌, ◌<◌, ◌≤◌, List, [], ◌∷◌, length, map, drop, get_or, Result, Ok, Err, refl, sym, ◌∙◌, ap}
-use Rattle.std.proofs.lemmas.List.{drop_more, at_drop_all}
+use Rattle.std.proofs.Common.{◌≡◌, ℕ, ◌+◌, ◌<◌, List, ◌∷◌, length, map, drop, get_or, Result, Ok, Err, refl, sym, ◌∙◌, ap}
+use Rattle.std.proofs.lemmas.List.{drop_more}
 use Rattle.rip_plan.specs.declared.error.PlanError.{PlanError}
 use Rattle.rip_plan.specs.declared.error.ReadError.{ReadError}
 use Rattle.rip_plan.specs.declared.error.ReadError.TheVariants as errors
@@ -20,10 +20,4 @@ module _ {S A V : Type 0} (view : V → A) (step : ℕ → A → S → Result S 
   ends (errors.Fault f) i v s total lt is h so_far =
       let e : drop i vs ≡ v ∷ drop (i + 1) vs = drop_more vs i v lt ∙ ap (λ x. x ∷ drop (i + 1) vs) (sym is) in
       let one : steps step (i + 1) (map view (drop i vs)) s ≡ Err f = rw (e, h) refl in
-      sym so_far ∙ one
-
-  pub is_done : (i : ℕ) (s : S) (total : Result S PlanError) → length vs ≤ i → steps step (i + 1) (map view (drop i vs)) s ≡ total → total ≡ Ok s
-  is_done i s total le so_far =
-      let e : drop i vs ≡ [] = at_drop_all (λ (xs : List V). xs) vs i le in
-      let one : steps step (i + 1) (map view (drop i vs)) s ≡ Ok s = rw e refl in
       sym so_far ∙ one

@@ -1,14 +1,14 @@
 -- Lists that are matched item by item.
-use Rattle.std.proofs.Common.{◌≡◌, ℕ, zero, suc, List, [], ◌∷◌, ◌++◌, length, map, filter, Bool, true, false, ◌&&◌, Some, refl, ◌∙◌, ap, subst, arith}
+use Rattle.std.proofs.Common.{◌≡◌, ℕ, inl, inr, zero, suc, List, [], ◌∷◌, ◌++◌, length, map, filter, Bool, true, ◌&&◌, Some, refl, ◌∙◌, ap, subst, arith}
 use Rattle.std.specs.Prelude.{slice_get}
+use Rattle.std.proofs.lemmas.Bool.{cases_Bool}
 use Rattle.std.proofs.lemmas.Option.{none-some, same_Some}
 use Rattle.rip_plan.specs.PlanOf.{Matched}
 
 pub matched_append : {A B : Type 0} (R : A → B → Type 0) (xs us : List A) (ys vs : List B) → Matched R xs ys → Matched R us vs → Matched R (xs ++ us) (ys ++ vs)
 matched_append R [] us [] vs m k = k
-matched_append R [] us (y ∷ ys) vs m k = absurd m
-matched_append R (x ∷ xs) us [] vs m k = absurd m
 matched_append R (x ∷ xs) us (y ∷ ys) vs m k = (m.0, matched_append R xs us ys vs m.1 k)
+matched_append R xs us ys vs m k = absurd m
 
 -- two lists that are matched with one list are equal, where each item has one partner
 pub matched_same : {A B : Type 0} (R S : A → B → Type 0) → ((x y : A) (z : B) → R x z → S y z → x ≡ y) → (xs ys : List A) (zs : List B) → Matched R xs zs → Matched S ys zs → xs ≡ ys
@@ -20,23 +20,17 @@ matched_same R S f (x ∷ xs) [] (z ∷ zs) m k = absurd k
 matched_same {A} R S f (x ∷ xs) (y ∷ ys) (z ∷ zs) m k =
     ap (λ (w : A). w ∷ xs) (f x y z m.0 k.0) ∙ ap (λ (ws : List A). y ∷ ws) (matched_same R S f xs ys zs m.1 k.1)
 
--- lists of one length are matched where their items are
-pub matched_at : {A B : Type 0} (R : A → B → Type 0) (xs : List A) (ys : List B) → length xs ≡ length ys → ((k : ℕ) (x : A) (y : B) → slice_get xs k ≡ Some x → slice_get ys k ≡ Some y → R x y) →
-    Matched R xs ys
-matched_at R [] [] e f = tt
-matched_at R [] (y ∷ ys) e f = absurd (omega arith)
-matched_at R (x ∷ xs) [] e f = absurd (omega arith)
-matched_at R (x ∷ xs) (y ∷ ys) e f = (f 0 x y refl refl, matched_at R xs ys (omega arith) (λ k a b p q. f (suc k) a b p q))
-
-pub map_append : {A B : Type 0} (see : A → B) (xs ys : List A) → map see (xs ++ ys) ≡ map see xs ++ map see ys
-map_append see [] ys = refl
-map_append {A} {B} see (x ∷ xs) ys = ap (λ (l : List B). see x ∷ l) (map_append see xs ys)
-
 pub matched_weaker : {A B : Type 0} (R S : A → B → Type 0) → ((x : A) (y : B) → R x y → S x y) → (xs : List A) (ys : List B) → Matched R xs ys → Matched S xs ys
 matched_weaker R S f [] [] m = tt
-matched_weaker R S f [] (y ∷ ys) m = absurd m
-matched_weaker R S f (x ∷ xs) [] m = absurd m
 matched_weaker R S f (x ∷ xs) (y ∷ ys) m = (f x y m.0, matched_weaker R S f xs ys m.1)
+matched_weaker R S f xs ys m = absurd m
+
+-- the same of items that are seen through a function
+pub matched_seen : {A B C : Type 0} (R : A → B → Type 0) (S : A → C → Type 0) (see : B → C) → ((x : A) (y : B) → R x y → S x (see y)) → (xs : List A) (ys : List B) → Matched R xs ys
+    → Matched S xs (map see ys)
+matched_seen R S see f [] [] m = tt
+matched_seen R S see f (x ∷ xs) (y ∷ ys) m = (f x y m.0, matched_seen R S see f xs ys m.1)
+matched_seen R S see f xs ys m = absurd m
 
 -- ---- partners
 
@@ -54,20 +48,18 @@ matched_right R (x ∷ xs) (z ∷ zs) (suc k) y m h = matched_right R xs zs k y 
 
 pub matched_length : {A B : Type 0} (R : A → B → Type 0) (xs : List A) (ys : List B) → Matched R xs ys → length xs ≡ length ys
 matched_length R [] [] m = refl
-matched_length R [] (y ∷ ys) m = absurd m
-matched_length R (x ∷ xs) [] m = absurd m
 matched_length R (x ∷ xs) (y ∷ ys) m = let more : length xs ≡ length ys = matched_length R xs ys m.1 in omega arith
+matched_length R xs ys m = absurd m
 
 -- ---- filters
 
 pub filter_both : {A : Type 0} (p q r : A → Bool) → ((x : A) → r x ≡ (q x && p x)) → (xs : List A) → filter p (filter q xs) ≡ filter r xs
 filter_both p q r f [] = refl
-filter_both {A} p q r f (x ∷ xs) = by_tests (q x) (p x) refl refl (filter_both p q r f xs)
-  where
-    by_tests : (a b : Bool) → q x ≡ a → p x ≡ b → filter p (filter q xs) ≡ filter r xs → filter p (filter q (x ∷ xs)) ≡ filter r (x ∷ xs)
-    by_tests true true e g later = rw (f x, e, g) (ap (λ (l : List A). x ∷ l) later)
-    by_tests true false e g later = rw (f x, e, g) later
-    by_tests false b e g later = rw (f x, e) later
+filter_both {A} p q r f (x ∷ xs) =
+    elim (cases_Bool (q x)) [
+      | inl e ↦ elim (cases_Bool (p x)) [ inl g ↦ rw (f x, e, g) (ap (λ (l : List A). x ∷ l) (filter_both p q r f xs)) | inr g ↦ rw (f x, e, g) (filter_both p q r f xs) ]
+      | inr e ↦ rw (f x, e) (filter_both p q r f xs)
+    ]
 
 pub filter_all : {A : Type 0} (p : A → Bool) → ((x : A) → p x ≡ true) → (xs : List A) → filter p xs ≡ xs
 filter_all p f [] = refl

@@ -1,6 +1,6 @@
 -- A name among the texts of a list.
-use Rattle.std.proofs.Common.{◌≡◌, ℕ, ◌+◌, List, [], ◌∷◌, ◌++◌, Bool, true, false, cond, ◌||◌, length, map, refl, sym, ap, ◌∙◌, arith, Some, None}
-use Rattle.std.proofs.lemmas.Bool.{or_parts}
+use Rattle.std.proofs.Common.{◌≡◌, ℕ, inl, inr, ◌+◌, List, [], ◌∷◌, ◌++◌, Bool, false, cond, ◌||◌, length, map, refl, sym, ap, ◌∙◌, arith, Some, None}
+use Rattle.std.proofs.lemmas.Bool.{cases_Bool, or_parts}
 use Rattle.std.specs.Str.{bytes_eq}
 use Rattle.std.specs.List.{list_any, position_from}
 use Rattle.std.proofs.lemmas.Slice.Eq.{bytes_eq-Decides}
@@ -20,13 +20,10 @@ absent test n (x ∷ xs) h = let (here, later) = or_parts (test x) (list_any tes
 -- a name that is new gets the next number
 pub new_name : (names : List (List ℕ)) (name bytes : List ℕ) → is_one_of name names ≡ false
     → cond (bytes_eq name bytes) (Some (length names)) (position_from (λ m. bytes_eq m bytes) 0 names) ≡ position_from (λ m. bytes_eq m bytes) 0 (names ++ name ∷ [])
-new_name names name bytes new = by_test (bytes_eq name bytes) refl
-  where
-    by_test : (b : Bool) → bytes_eq name bytes ≡ b → cond (bytes_eq name bytes) (Some (length names)) (position_from (λ m. bytes_eq m bytes) 0 names) ≡ position_from (λ m. bytes_eq m bytes) 0
-        (names ++ name ∷ [])
-    by_test true e =
-        let same : name ≡ bytes = (bytes_eq-Decides name bytes).0 e in
-        let none : list_any (λ m. bytes_eq m bytes) names ≡ false = ap (λ bs. is_one_of bs names) (sym same) ∙ new in
-        rw e (sym (position_push (λ m. bytes_eq m bytes) 0 names name ∙ rw (absent (λ m. bytes_eq m bytes) 0 names none, e) (ap (λ (k : ℕ). Some k) (omega arith))))
-    by_test false e =
-        rw e (sym (position_push (λ m. bytes_eq m bytes) 0 names name ∙ rw e (or_nothing (position_from (λ m. bytes_eq m bytes) 0 names))))
+new_name names name bytes new =
+    elim (cases_Bool (bytes_eq name bytes)) [
+      | inl e ↦
+          let none : list_any (λ m. bytes_eq m bytes) names ≡ false = ap (λ bs. is_one_of bs names) (sym ((bytes_eq-Decides name bytes).0 e)) ∙ new in
+          rw e (sym (position_push (λ m. bytes_eq m bytes) 0 names name ∙ rw (absent (λ m. bytes_eq m bytes) 0 names none, e) (ap (λ (k : ℕ). Some k) (omega arith))))
+      | inr e ↦ rw e (sym (position_push (λ m. bytes_eq m bytes) 0 names name ∙ rw e (or_nothing (position_from (λ m. bytes_eq m bytes) 0 names))))
+    ]

@@ -1,19 +1,20 @@
--- Prefixes have one number each, and each place has the number of its prefix.
-use Rattle.std.proofs.Common.{◌≡◌, ℕ, ◌+◌, ◌<◌, inl, inr, List, [], ◌∷◌, ◌++◌, length, length-append, append_assoc, Bool, true, false, cond, suc, Option, Some, None, refl, sym, ◌∙◌, ap, arith}
+-- Prefixes have one number each, each place has the number of its prefix, and the prefixes that are numbered are those of the places, each once.
+use Rattle.std.proofs.Common.{◌≡◌, ℕ, ◌+◌, inl, inr, List, [], ◌∷◌, ◌++◌, length, append_assoc, Bool, true, false, cond, suc, Option, Some, None, refl, sym, ◌∙◌, ap, arith, subst, map, filter, not, ◌&&◌, ◌||◌}
 use Rattle.std.specs.Prelude.{slice_get, ◌==◌}
-use Rattle.std.specs.List.{IsDistinct, list_any, position_from}
+use Rattle.std.specs.List.{list_any, position_from, AllByRecursion, IsDistinct}
 use Rattle.std.specs.Option.{option_or}
-use Rattle.std.proofs.lemmas.Option.{none-some}
-use Rattle.std.proofs.lemmas.Bool.{cases_lt, and_parts, or_parts}
+use Rattle.std.proofs.lemmas.Bool.{both_ways, cases_Bool, and_parts, false_from_ne_true, or_parts}
 use Rattle.std.proofs.lemmas.List.{append-nil}
 use Rattle.std.proofs.lemmas.Bool.Decides.{nat_tests}
 use Rattle.rip_wire.specs.Prefix.{Block, block}
 use Rattle.rip_plan.specs.declared.parts.Place.{Place}
-use Rattle.rip_plan.specs.declared.parts.Seat.{Seat}
 use Rattle.rip_plan.specs.declared.draft.DraftPlace.{DraftPlace}
 use Rattle.rip_plan.specs.Passes.{same_prefix}
+use Rattle.rip_plan.specs.PlanOf.{Matched, each_once}
 use Rattle.rip_plan.specs.Network.{number_of_prefix, number_or_next, with_prefix, numbered}
-use Rattle.rip_plan.proofs.ItemLemmas.{get_left, get_last, get_push, distinct_push, position_finds, position_none}
+use Rattle.rip_plan.proofs.ItemLemmas.{get_left, get_last, position_finds, any_at, position_none}
+use Rattle.std.proofs.lemmas.List.Folds.{list_any-append}
+use Rattle.rip_plan.proofs.MatchingLemmas.{filter_both, filter_all}
 
 pub same_is : (p q : Block) → same_prefix p q ≡ true → p ≡ q
 same_is p q h =
@@ -28,20 +29,12 @@ same_self p = grind (arith, nat_tests)
 pub same_from : (p q : Block) → p ≡ q → same_prefix p q ≡ true
 same_from p q h = rw h (same_self q)
 
--- these are the prefixes and the places of these draft places
-pub record AreNumbered (ps : List Block) (qs : List Place) (ds : List DraftPlace) : Type 0 where
-  pub distinct : IsDistinct same_prefix ps
-  pub count : length qs ≡ length ds
-  pub each : (k : ℕ) (q : Place) → slice_get qs k ≡ Some q → (d : DraftPlace) × (slice_get ds k ≡ Some d) × (slice_get ps q.prefix ≡ Some d.prefix) × (q.seat ≡ d.seat)
-  pub used : (p : ℕ) → p < length ps → (k : ℕ) × (seat : Seat) × (slice_get qs k ≡ Some (record { prefix = p; seat = seat }))
-
 pub same_flips : (p q : Block) → same_prefix p q ≡ same_prefix q p
-same_flips p q = by_tests (same_prefix p q) (same_prefix q p) refl refl
-  where
-    by_tests : (a b : Bool) → same_prefix p q ≡ a → same_prefix q p ≡ b → same_prefix p q ≡ same_prefix q p
-    by_tests true b e f = e ∙ sym (same_from q p (sym (same_is p q e)))
-    by_tests false true e f = same_from p q (sym (same_is q p f)) ∙ sym f
-    by_tests false false e f = e ∙ sym f
+same_flips p q =
+    elim (cases_Bool (same_prefix p q)) [
+      | inl e ↦ e ∙ sym (same_from q p (sym (same_is p q e)))
+      | inr e ↦ e ∙ sym (false_from_ne_true (same_prefix q p) (λ f. both_ways (same_prefix p q) e (same_from p q (sym (same_is q p f)))))
+    ]
 
 pub none_same : (p : Block) (ps : List Block) → list_any (same_prefix p) ps ≡ false → list_any (λ q. same_prefix q p) ps ≡ false
 none_same p [] h = refl
@@ -49,76 +42,51 @@ none_same p (q ∷ qs) h =
     let parts = or_parts (same_prefix p q) (list_any (same_prefix p) qs) h in
     rw (sym (same_flips p q) ∙ parts.0) (none_same p qs parts.1)
 
--- one more place
-one_more : (ps : List Block) (qs : List Place) (ds : List DraftPlace) (d : DraftPlace) → AreNumbered ps qs ds
-    → (o : Option ℕ) → number_of_prefix d.prefix ps ≡ o
-    → AreNumbered (with_prefix ps d.prefix o) (qs ++ record { prefix = number_or_next ps o; seat = d.seat } ∷ []) (ds ++ d ∷ [])
-one_more ps qs ds d are None h =
-    let q : Place = record { prefix = length ps; seat = d.seat } in
-    let new : length (ps ++ d.prefix ∷ []) ≡ length ps + 1 = omega (arith, length-append ps (d.prefix ∷ [])) in
+-- the place has the number of its prefix, and the seat
+abbrev pub IsNumbered : List Block → Place → DraftPlace → Type 0
+IsNumbered ps q d = (slice_get ps q.prefix ≡ Some d.prefix) × (q.seat ≡ d.seat)
+
+-- the places that come to those before, and each prefix keeps its number
+record PlacesNumbered (ps : List Block) (qs : List Place) (ds : List DraftPlace) : Type 0 where
+  more : List Place
+  made : (numbered ps qs ds).1 ≡ qs ++ more
+  match : Matched (IsNumbered (numbered ps qs ds).0) more ds
+  keeps : (k : ℕ) (b : Block) → slice_get ps k ≡ Some b → slice_get (numbered ps qs ds).0 k ≡ Some b
+
+places_numbered : (ps : List Block) (qs : List Place) (ds : List DraftPlace) → PlacesNumbered ps qs ds
+places_numbered ps qs [] = record { more = []; made = sym (append-nil qs); match = tt; keeps = λ k b h. h }
+places_numbered ps qs (d ∷ ds) =
+    let o = number_of_prefix d.prefix ps in
+    let q : Place = record { prefix = number_or_next ps o; seat = d.seat } in
+    let rest = places_numbered (with_prefix ps d.prefix o) (qs ++ q ∷ []) ds in
     record {
-      distinct = distinct_push same_prefix ps d.prefix are.distinct (none_same d.prefix ps (position_none (same_prefix d.prefix) 0 ps h));
-      count = omega (arith, are.count, length-append qs (q ∷ []), length-append ds (d ∷ []));
-      each = λ k p e. elim (get_push qs q k p e) [
-        | inl old ↦ let here = are.each k p old in (here.0, get_left ds (d ∷ []) k here.0 here.1, get_left ps (d.prefix ∷ []) p.prefix here.0.prefix here.2, here.3)
-        | inr last ↦ (d, at_end k last.0, ap (λ (n : Place). slice_get (ps ++ d.prefix ∷ []) n.prefix) (sym last.1) ∙ get_last ps d.prefix, ap (λ (n : Place). n.seat) (sym last.1))
-      ];
-      used = λ p below. elim (cases_lt p (length ps)) [
-        | inl old ↦ let place = are.used p old in (place.0, place.1, get_left qs (q ∷ []) place.0 _ place.2)
-        | inr last ↦ let here : length ps ≡ p = omega arith in (length qs, d.seat, get_last qs q ∙ ap (λ n. Some (record { prefix = n; seat = d.seat })) here)
-      ];
+      more = q ∷ rest.more;
+      made = rest.made ∙ append_assoc qs (q ∷ []) rest.more;
+      match = ((rest.keeps q.prefix d.prefix (its_number o refl), refl), rest.match);
+      keeps = λ k b h. rest.keeps k b (kept o k b h);
     }
   where
-    at_end : (k : ℕ) → k ≡ length qs → slice_get (ds ++ d ∷ []) k ≡ Some d
-    at_end k e = ap (slice_get (ds ++ d ∷ [])) (e ∙ are.count) ∙ get_last ds d
-one_more ps qs ds d are (Some n) h =
-    let q : Place = record { prefix = n; seat = d.seat } in
-    let found = position_finds (same_prefix d.prefix) 0 ps n h in
-    let at : n ≡ found.0 = omega (arith, found.2) in
-    let there : slice_get ps n ≡ Some d.prefix = ap (slice_get ps) at ∙ found.3 ∙ ap (λ (b : Block). Some b) (sym (same_is d.prefix found.1 found.4)) in
-    record {
-      distinct = are.distinct;
-      count = omega (arith, are.count, length-append qs (q ∷ []), length-append ds (d ∷ []));
-      each = λ k p e. elim (get_push qs q k p e) [
-        | inl old ↦ let here = are.each k p old in (here.0, get_left ds (d ∷ []) k here.0 here.1, here.2, here.3)
-        | inr last ↦ (d, at_end k last.0, ap (λ (m : Place). slice_get ps m.prefix) (sym last.1) ∙ there, ap (λ (m : Place). m.seat) (sym last.1))
-      ];
-      used = λ p below. let place = are.used p below in (place.0, place.1, get_left qs (q ∷ []) place.0 _ place.2);
-    }
-  where
-    at_end : (k : ℕ) → k ≡ length qs → slice_get (ds ++ d ∷ []) k ≡ Some d
-    at_end k e = ap (slice_get (ds ++ d ∷ [])) (e ∙ are.count) ∙ get_last ds d
+    its_number : (o : Option ℕ) → number_of_prefix d.prefix ps ≡ o → slice_get (with_prefix ps d.prefix o) (number_or_next ps o) ≡ Some d.prefix
+    its_number None e = get_last ps d.prefix
+    its_number (Some n) e =
+        let (i, q, at, is, same) = position_finds (same_prefix d.prefix) 0 ps n e in
+        let here : n ≡ i = omega (arith, at) in
+        ap (slice_get ps) here ∙ is ∙ ap (λ (b : Block). Some b) (sym (same_is d.prefix q same))
 
-all_more : (ps : List Block) (qs : List Place) (ds rest : List DraftPlace) → AreNumbered ps qs ds → AreNumbered (numbered ps qs rest).0 (numbered ps qs rest).1 (ds ++ rest)
-all_more ps qs ds [] are = rw (append-nil ds) are
-all_more ps qs ds (d ∷ rest) are =
-    let k = number_of_prefix d.prefix ps in
-    rw (sym (append_assoc ds (d ∷ []) rest))
-    (all_more (with_prefix ps d.prefix k) (qs ++ record { prefix = number_or_next ps k; seat = d.seat } ∷ []) (ds ++ d ∷ []) rest (one_more ps qs ds d are k refl))
+    kept : (o : Option ℕ) (k : ℕ) (b : Block) → slice_get ps k ≡ Some b → slice_get (with_prefix ps d.prefix o) k ≡ Some b
+    kept None k b h = get_left ps (d.prefix ∷ []) k b h
+    kept (Some n) k b h = h
 
-pub numbers : (ds : List DraftPlace) → AreNumbered (numbered [] [] ds).0 (numbered [] [] ds).1 ds
-unfolding IsDistinct
-numbers ds =
-    all_more [] [] [] ds (record {
-      distinct = tt;
-      count = refl;
-      each = λ k q h. absurd (none-some q h);
-      used = λ p h. absurd (omega arith);
-    })
+pub numbers : (ds : List DraftPlace) → Matched (IsNumbered (numbered [] [] ds).0) (numbered [] [] ds).1 ds
+numbers ds = let all = places_numbered [] [] ds in subst (λ (qs : List Place). Matched (IsNumbered (numbered [] [] ds).0) qs ds) (sym all.made) all.match
 
 -- ---- a look-up of numbers, as prefixes come in
 
 pub position_push : {A : Type 0} (test : A → Bool) (n : ℕ) (xs : List A) (x : A) → position_from test n (xs ++ x ∷ []) ≡ option_or (position_from test n xs) (cond (test x) (Some (n + length xs)) None)
-position_push test n [] x = let same : n + 0 ≡ n = omega arith in rw same (by_test (test x))
-  where
-    by_test : (b : Bool) → cond b (Some n) None ≡ cond b (Some n) None
-    by_test b = refl
-position_push test n (y ∷ ys) x = by_test (test y) refl (position_push test (n + 1) ys x)
-  where
-    by_test : (b : Bool) → test y ≡ b → position_from test (n + 1) (ys ++ x ∷ []) ≡ option_or (position_from test (n + 1) ys) (cond (test x) (Some (n + 1 + length ys)) None)
-        → position_from test n (y ∷ ys ++ x ∷ []) ≡ option_or (position_from test n (y ∷ ys)) (cond (test x) (Some (n + length (y ∷ ys))) None)
-    by_test true e later = rw e refl
-    by_test false e later = let same : n + 1 + length ys ≡ n + suc (length ys) = omega arith in rw (e, later, same) refl
+position_push test n [] x = let same : n + 0 ≡ n = omega arith in rw same refl
+position_push test n (y ∷ ys) x =
+    let same : n + 1 + length ys ≡ n + suc (length ys) = omega arith in
+    elim (cases_Bool (test y)) [ inl e ↦ rw e refl | inr e ↦ rw (e, position_push test (n + 1) ys x, same) refl ]
 
 pub or_nothing : {A : Type 0} (o : Option A) → option_or o None ≡ o
 or_nothing None = refl
@@ -126,13 +94,81 @@ or_nothing (Some x) = refl
 
 -- a prefix that is new gets the next number
 pub new_number : (ps : List Block) (d p : Block) → number_of_prefix d ps ≡ None → cond (same_prefix d p) (Some (length ps)) (number_of_prefix p ps) ≡ number_of_prefix p (ps ++ d ∷ [])
-new_number ps d p new = by_test (same_prefix d p) refl
+new_number ps d p new =
+    elim (cases_Bool (same_prefix d p)) [
+      | inl e ↦
+          let here : number_of_prefix d (ps ++ d ∷ []) ≡ Some (length ps) = position_push (same_prefix d) 0 ps d ∙ rw (new, same_self d) (ap (λ (m : ℕ). Some m) (omega arith)) in
+          rw e (sym here ∙ ap (λ q. number_of_prefix q (ps ++ d ∷ [])) (same_is d p e))
+      | inr e ↦ let off : same_prefix p d ≡ false = same_flips p d ∙ e in rw e (sym (position_push (same_prefix p) 0 ps d ∙ rw off (or_nothing (number_of_prefix p ps))))
+    ]
+
+-- ---- each once
+
+-- the prefix is none of these
+abbrev is_new : List Block → Block → Bool
+is_new ps q = not (list_any (λ p. same_prefix p q) ps)
+
+new_push : (ps : List Block) (b q : Block) → is_new (ps ++ b ∷ []) q ≡ (not (same_prefix b q) && is_new ps q)
+new_push ps b q = ap not (list_any-append (λ p. same_prefix p q) ps (b ∷ [])) ∙ by_tests (list_any (λ p. same_prefix p q) ps) (same_prefix b q)
   where
-    by_test : (b : Bool) → same_prefix d p ≡ b → cond (same_prefix d p) (Some (length ps)) (number_of_prefix p ps) ≡ number_of_prefix p (ps ++ d ∷ [])
-    by_test true e =
-        let one : d ≡ p = same_is d p e in
-        let here : number_of_prefix d (ps ++ d ∷ []) ≡ Some (length ps) = position_push (same_prefix d) 0 ps d ∙ rw (new, same_self d) (ap (λ (m : ℕ). Some m) (omega arith)) in
-        rw e (sym here ∙ ap (λ q. number_of_prefix q (ps ++ d ∷ [])) one)
-    by_test false e =
-        let off : same_prefix p d ≡ false = same_flips p d ∙ e in
-        rw e (sym (position_push (same_prefix p) 0 ps d ∙ rw off (or_nothing (number_of_prefix p ps))))
+    by_tests : (a c : Bool) → not (a || (c || false)) ≡ (not c && not a)
+    by_tests true true = refl
+    by_tests true false = refl
+    by_tests false true = refl
+    by_tests false false = refl
+
+-- a prefix that is new among prefixes that have b is not b
+new_other : (ps : List Block) (b q : Block) → is_new ps b ≡ false → is_new ps q ≡ (not (same_prefix b q) && is_new ps q)
+new_other ps b q old = elim (cases_Bool (same_prefix b q)) [ inl e ↦ ap (is_new ps) (sym (same_is b q e)) ∙ old ∙ rw e refl | inr e ↦ rw e refl ]
+
+step : (ps : List Block) (b : Block) (o : Option ℕ) → number_of_prefix b ps ≡ o → (rest : List Block)
+    → with_prefix ps b o ++ filter (is_new (with_prefix ps b o)) (each_once rest) ≡ ps ++ filter (is_new ps) (each_once (b ∷ rest))
+step ps b None h rest =
+    let new : is_new ps b ≡ true = ap not (none_same b ps (position_none (same_prefix b) 0 ps h)) in
+    append_assoc ps (b ∷ []) (filter (is_new (ps ++ b ∷ [])) (each_once rest))
+    ∙ ap (λ (l : List Block). ps ++ b ∷ l) (sym (filter_both (is_new ps) (λ q. not (same_prefix b q)) (is_new (ps ++ b ∷ [])) (new_push ps b) (each_once rest)))
+    ∙ rw new refl
+step ps b (Some k) h rest =
+    let (i, q, at, is, same) = position_finds (same_prefix b) 0 ps k h in
+    let there : list_any (λ p. same_prefix p b) ps ≡ true = any_at (λ p. same_prefix p b) ps i q is (ap (λ (p : Block). same_prefix p b) (sym (same_is b q same)) ∙ same_self b) in
+    let old : is_new ps b ≡ false = ap not there in
+    ap (λ (l : List Block). ps ++ l) (sym (filter_both (is_new ps) (λ q. not (same_prefix b q)) (is_new ps) (λ q. new_other ps b q old) (each_once rest)))
+    ∙ rw old refl
+
+once_after : (ps : List Block) (qs : List Place) (ds : List DraftPlace) → (numbered ps qs ds).0 ≡ ps ++ filter (is_new ps) (each_once (map (λ d. d.prefix) ds))
+once_after ps qs [] = sym (append-nil ps)
+once_after ps qs (d ∷ ds) =
+    let o = number_of_prefix d.prefix ps in
+    once_after (with_prefix ps d.prefix o) (qs ++ record { prefix = number_or_next ps o; seat = d.seat } ∷ []) ds ∙ step ps d.prefix o refl (map (λ x. x.prefix) ds)
+
+pub numbered_once : (ds : List DraftPlace) → (numbered [] [] ds).0 ≡ each_once (map (λ d. d.prefix) ds)
+numbered_once ds = once_after [] [] ds ∙ filter_all (is_new []) (λ q. refl) (each_once (map (λ d. d.prefix) ds))
+
+-- ---- each once: no two are the same
+
+filter_away : (p : Block) (qs : List Block) → AllByRecursion (λ q. same_prefix p q ≡ false) (filter (λ q. not (same_prefix p q)) qs)
+filter_away p [] = tt
+filter_away p (q ∷ qs) = elim (cases_Bool (same_prefix p q)) [ inl e ↦ rw e (filter_away p qs) | inr e ↦ rw e (e, filter_away p qs) ]
+
+filter_kept : (P : Block → Type 0) (test : Block → Bool) (qs : List Block) → AllByRecursion P qs → AllByRecursion P (filter test qs)
+filter_kept P test [] h = tt
+filter_kept P test (q ∷ qs) h = elim (cases_Bool (test q)) [ inl e ↦ rw e (h.0, filter_kept P test qs h.1) | inr e ↦ rw e (filter_kept P test qs h.1) ]
+
+filter_distinct : (test : Block → Bool) (qs : List Block) → IsDistinct same_prefix qs → IsDistinct same_prefix (filter test qs)
+unfolding IsDistinct
+filter_distinct test [] d = tt
+filter_distinct test (q ∷ qs) d =
+    elim (cases_Bool (test q)) [
+      | inl e ↦ rw e (filter_kept (λ r. same_prefix q r ≡ false) test qs d.0, filter_distinct test qs d.1)
+      | inr e ↦ rw e (filter_distinct test qs d.1)
+    ]
+
+pub once_distinct : (ps : List Block) → IsDistinct same_prefix (each_once ps)
+unfolding IsDistinct
+once_distinct [] = tt
+once_distinct (p ∷ ps) = (filter_away p (each_once ps), filter_distinct (λ q. not (same_prefix p q)) (each_once ps) (once_distinct ps))
+
+-- what holds of each holds of each once
+pub once_kept : (P : Block → Type 0) (ps : List Block) → AllByRecursion P ps → AllByRecursion P (each_once ps)
+once_kept P [] h = tt
+once_kept P (p ∷ ps) h = (h.0, filter_kept P (λ q. not (same_prefix p q)) (each_once ps) (once_kept P ps h.1))

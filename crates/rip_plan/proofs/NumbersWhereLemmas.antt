@@ -1,8 +1,9 @@
 -- The numbers of the items that pass a test.
-use Rattle.std.proofs.Common.{◌≡◌, ℕ, zero, suc, ◌+◌, ◌<◌, ◌≤◌, List, [], ◌∷◌, length, get_or, Bool, true, false, cond, Some, refl, ◌∙◌, ap, arith}
+use Rattle.std.proofs.Common.{◌≡◌, ℕ, inl, inr, zero, suc, ◌+◌, ◌<◌, ◌≤◌, List, [], ◌∷◌, length, get_or, Bool, true, false, cond, Some, refl, ◌∙◌, ap, arith}
 use Rattle.std.specs.Prelude.{slice_get}
 use Rattle.std.specs.List.{Contains}
 use Rattle.std.specs.List.Sorted.{IsStrictlyIncreasing}
+use Rattle.std.proofs.lemmas.Bool.{cases_Bool}
 use Rattle.std.proofs.lemmas.Option.{none-some, same_Some, slice_get_within, get_or_from_slice_get, slice_get-get_or}
 use Rattle.rip_plan.specs.Network.{numbers_where}
 
@@ -39,11 +40,8 @@ passing_number {A} test n (y ∷ ys) zero x h t =
 passing_number {A} test n (y ∷ ys) (suc i) x h t =
     let (k, is) = passing_number test (n + 1) ys i x h t in
     let at : n + 1 + i ≡ n + suc i = omega arith in
-    by_head (test y) refl k (is ∙ ap (λ (m : ℕ). Some m) at)
-  where
-    by_head : (b : Bool) → test y ≡ b → (k : ℕ) → slice_get (numbers_where test (n + 1) ys) k ≡ Some (n + suc i) → (j : ℕ) × (slice_get (numbers_where test n (y ∷ ys)) j ≡ Some (n + suc i))
-    by_head true e k is = (suc k, rw e is)
-    by_head false e k is = (k, rw e is)
+    let later = is ∙ ap (λ (m : ℕ). Some m) at in
+    elim (cases_Bool (test y)) [ inl e ↦ (suc k, rw e later) | inr e ↦ (k, rw e later) ]
 
 low : {A : Type 0} (test : A → Bool) (n : ℕ) (xs : List A) (k : ℕ) → k < length (numbers_where test n xs) → n ≤ get_or (numbers_where test n xs) k 0
 low test n xs k h =
@@ -58,8 +56,8 @@ rising_cons n ws above rising (suc k) h =
 
 pub rising : {A : Type 0} (test : A → Bool) (n : ℕ) (xs : List A) → IsStrictlyIncreasing (numbers_where test n xs)
 rising test n [] = λ k h. absurd (omega arith)
-rising test n (x ∷ xs) = by_head (test x) refl (rising test (n + 1) xs)
-  where
-    by_head : (b : Bool) → test x ≡ b → IsStrictlyIncreasing (numbers_where test (n + 1) xs) → IsStrictlyIncreasing (numbers_where test n (x ∷ xs))
-    by_head true e later = rw e (rising_cons n (numbers_where test (n + 1) xs) (λ k h. low test (n + 1) xs k h) later)
-    by_head false e later = rw e later
+rising test n (x ∷ xs) =
+    elim (cases_Bool (test x)) [
+      | inl e ↦ rw e (rising_cons n (numbers_where test (n + 1) xs) (λ k h. low test (n + 1) xs k h) (rising test (n + 1) xs))
+      | inr e ↦ rw e (rising test (n + 1) xs)
+    ]

@@ -13,9 +13,8 @@ use Rattle.rip_plan.specs.Passes.{same_prefix}
 use Rattle.rip_plan.specs.Network.{Network}
 use Rattle.rip_plan.specs.PlanOf.{Matched, HasText, HasItems, IsAddressOf, AreAlsoOf, IsCostOf, IsDirectOf, IsFlagOf, IsGatewayOf, IsLinkOf, IsNameOf, items_in, items_under, IsInterfaceOf, Placement, IsOnLink, IsOwned, IsPlaceOf, each_once, PlanOf, IsFirstNamed}
 use Rattle.rip_plan.proofs.ItemLemmas.{distinct_at}
-use Rattle.rip_plan.proofs.NumberingLemmas.{same_self}
+use Rattle.rip_plan.proofs.NumberingLemmas.{once_distinct, same_self}
 use Rattle.rip_plan.proofs.MatchingLemmas.{matched_same}
-use Rattle.rip_plan.proofs.EachOnceLemmas.{once_distinct}
 use Rattle.rip_plan.proofs.TextLemmas.{TextLaws, one_address, one_prefix, one_named}
 
 pub text_same : (key : List ℕ) (d : Data) (s t : List ℕ) → HasText key d s → HasText key d t → s ≡ t
@@ -112,12 +111,6 @@ place_same n m bs once same x y p h k =
     let number : x.prefix ≡ y.prefix = distinct_at same_prefix (each_once bs) x.prefix y.prefix p.prefix p.prefix (once_distinct bs) here there (same_self p.prefix) (same_self p.prefix) in
     ap (λ (v : ℕ). record x { prefix = v }) number ∙ ap (λ (v : Seat). record { prefix = y.prefix; seat = v }) (h.seat ∙ sym k.seat)
 
-network_same : (n m : Network) → n.links ≡ m.links → n.routers ≡ m.routers → n.interfaces ≡ m.interfaces → n.also ≡ m.also → n.prefixes ≡ m.prefixes → n.places ≡ m.places → n ≡ m
-network_same n m names others interfaces also prefixes places =
-    let all : n ≡ record { links = m.links; routers = m.routers; interfaces = m.interfaces; also = m.also; prefixes = m.prefixes; places = m.places } =
-    rw (← names, ← others, ← interfaces, ← also, ← prefixes, ← places) refl in
-    all
-
 pub one_plan : (laws : TextLaws) (document : Members) (n m : Network) → PlanOf document n → PlanOf document m → n ≡ m
 one_plan laws document n m p q =
     let link_tables : q.links ≡ p.links = items_same (codes_of "link") (table document) q.links p.links q.has_links p.has_links in
@@ -147,4 +140,6 @@ one_plan laws document n m p q =
     let places : n.places ≡ m.places =
     matched_same (IsPlaceOf n) (IsPlaceOf m) (place_same n m (map (λ (x : Placement). x.prefix) (p.on_links ++ p.owned)) p.prefixes prefixes) n.places m.places (p.on_links ++ p.owned) p.places
     (subst (Matched (IsPlaceOf m) m.places) placements q.places) in
-    network_same n m names others interfaces also prefixes places
+    let all : n ≡ record { links = m.links; routers = m.routers; interfaces = m.interfaces; also = m.also; prefixes = m.prefixes; places = m.places } =
+    rw (← names, ← others, ← interfaces, ← also, ← prefixes, ← places) refl in
+    all

@@ -22,7 +22,7 @@ before_not (x ∷ xs) (inr h) = before_not xs h.1
 
 pub before_nil : (xs : List ℕ) → Before xs [] → ⊥
 before_nil [] h = absurd h
-before_nil (x ∷ xs) h = absurd h
+before_nil xs h = absurd h
 
 -- of two ranks of one length, one is before the other, or they are equal
 pub before_or : (xs ys : List ℕ) → length xs ≡ length ys → ((xs ≡ ys) ⊎ Before xs ys) ⊎ Before ys xs
@@ -64,16 +64,14 @@ starts_apart (q ∷ p) n m (x ∷ xs) (y ∷ ys) h s t (inr b) = starts_apart p 
 
 -- what starts so is not before the start
 pub starts_low : (p : List ℕ) (n m : ℕ) (ys : List ℕ) → n ≤ m → Starts p m ys → Before ys (p ++ n ∷ []) → ⊥
-starts_low [] n m [] h t b = absurd t
 starts_low [] n m (y ∷ ys) h t (inl b) = let there : y ≡ m = t in omega arith
 starts_low [] n m (y ∷ ys) h t (inr b) = before_nil ys b.1
-starts_low (q ∷ p) n m [] h t b = absurd t
 starts_low (q ∷ p) n m (y ∷ ys) h t (inl b) = let there : y ≡ q = t.0 in omega arith
 starts_low (q ∷ p) n m (y ∷ ys) h t (inr b) = starts_low p n m ys h t.1 b.1
+starts_low p n m ys h t b = absurd t
 
 -- and is before all that starts with something greater
 pub starts_high : (p : List ℕ) (n : ℕ) (ys : List ℕ) (q : ℕ) (zs : List ℕ) → n < q → Starts p n ys → Before ys (p ++ q ∷ zs)
-starts_high [] n [] q zs h t = absurd t
 starts_high [] n (y ∷ ys) q zs h t = let there : y ≡ n = t in inl (omega arith)
-starts_high (r ∷ p) n [] q zs h t = absurd t
 starts_high (r ∷ p) n (y ∷ ys) q zs h t = inr (t.0, starts_high p n ys q zs h t.1)
+starts_high p n ys q zs h t = absurd t

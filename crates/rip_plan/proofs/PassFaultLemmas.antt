@@ -1,12 +1,11 @@
 -- What the later passes find of the faults of a plan.
-use Rattle.std.proofs.Common.{◌≡◌, ℕ, suc, ◌+◌, ◌<◌, ◌≤◌, ◌⊎◌, inl, inr, List, [], ◌∷◌, ◌++◌, length, true, false, not, ◌||◌, Option, Some, None, Result, refl, sym, ap, subst, ◌∙◌, arith}
+use Rattle.std.proofs.Common.{◌≡◌, ℕ, ◌+◌, ◌<◌, ◌⊎◌, inl, inr, suc, List, [], ◌∷◌, ◌++◌, length, true, false, ◌||◌, Option, Some, None, Result, refl, sym, ap, subst, ◌∙◌, arith, Bool}
 use Rattle.rip_plan.proofs.FirstFoundLemmas.{Clashes, FirstSo, Passes, first_clashing, first_passing}
-use Rattle.rip_plan.proofs.SketchPlanLemmas.{interface_in, interface_from, listed_as, place_in, place_from, touch, touches, there_on, on_there}
-use Rattle.std.specs.Prelude.{slice_get, find, option_map, unwrap_or, map, ◌==◌, codes as codes_of}
-use Rattle.std.specs.List.{list_any}
-use Rattle.std.specs.Option.{option_map_or}
+use Rattle.rip_plan.proofs.SketchPlanLemmas.{as_interface, interface_as, place_in, place_from, touch, touches, there_on, on_there}
+use Rattle.std.specs.Prelude.{slice_get, find, option_map, unwrap_or, map, ◌==◌}
+use Rattle.std.specs.List.{IsDistinct, list_any}
 use Rattle.std.proofs.lemmas.Option.{same_Some, slice_get_within}
-use Rattle.std.proofs.lemmas.Bool.{cases_lt, and_parts, or_cases, or_right, not-true, not-false, both_ways, false_from_ne_true}
+use Rattle.std.proofs.lemmas.Bool.{eq-eqb, eqb-true, cases_order, true_from_ne_false, and_parts, or_cases, or_right, not-true, not-false, both_ways, false_from_ne_true}
 use Rattle.std.proofs.lemmas.Bool.Decides.{nat_tests}
 use Rattle.toml.specs.Data.{Data, Members}
 use Rattle.rip_plan.specs.declared.error.PlanCode.{PlanCode}
@@ -17,40 +16,38 @@ use Rattle.rip_plan.specs.declared.error.At.TheVariants.{LinkPrefix, Router, Rou
 use Rattle.rip_plan.specs.declared.addresses.Held.{Held}
 use Rattle.rip_plan.specs.declared.draft.DraftPlace.{DraftPlace}
 use Rattle.rip_plan.specs.declared.draft.DraftInterface.{DraftInterface}
-use Rattle.rip_plan.specs.declared.parts.Interface.{Interface}
 use Rattle.rip_plan.specs.declared.parts.OwnPrefix.{OwnPrefix}
 use Rattle.rip_plan.specs.declared.parts.Seat.{Seat}
 use Rattle.rip_plan.specs.declared.parts.Seat.TheVariants as seats
 use Rattle.rip_plan.specs.Codes.{number_of_code}
 use Rattle.rip_plan.specs.Fault.{fault}
 use Rattle.rip_plan.specs.Draft.{Sketch}
-use Rattle.rip_plan.specs.Passes.{Touching, first_clash, touched, touching, same_prefix, do_meet, is_same_link, have_common, are_twice, is_astray, is_bare, is_there, first_bare, none_found, second_passes, spot_of, duplicate_in, twice_in, taken_address_in, bare_in, astray_in}
+use Rattle.rip_plan.specs.Passes.{first_clash, touched, touching, same_prefix, do_meet, is_same_link, have_common, are_twice, is_astray, is_bare, is_there, none_found, second_passes, spot_of, duplicate_in, twice_in, taken_address_in, bare_in, astray_in}
 use Rattle.rip_plan.specs.Addresses.{have_one_address}
 use Rattle.rip_plan.specs.Network.{Network, network_of_sketch}
-use Rattle.rip_plan.specs.Relations.{HasAddresses, IsInterface, IsPlace}
-use Rattle.rip_plan.specs.PlanOf.{IsOnLink, IsPlaceOf, PlanOf, items_under}
-use Rattle.rip_plan.specs.PlanFaults.{TableFault, IsAstray, IsClash, IsBare, IsSo, DoMeet, AreTwice, HasOneTwice, HaveOneAddress, Before, pass_of, rank, position, place_spots, interface_spots, spots_under}
+use Rattle.rip_plan.specs.Relations.{IsAttachedAt, IsInterface, IsPlace}
+use Rattle.rip_plan.specs.PlanOf.{PlanOf}
+use Rattle.rip_plan.specs.PlanFaults.{TableFault, IsAstray, IsClash, IsBare, IsSo, DoMeet, AreTwice, HasOneTwice, HaveOneAddress, Before, pass_of, rank, position, place_spots, interface_spots}
 use Rattle.rip_plan.proofs.OrderLemmas.{before_trans, before_not}
-use Rattle.rip_plan.proofs.FindingLemmas.{Found, ranked, Finds, finds_in, bind_rows}
+use Rattle.rip_plan.proofs.FindingLemmas.{Found, Finds, finds_in, bind_rows}
 use Rattle.rip_plan.proofs.FaultRowLemmas.{IsAstrayAt, IsLast, IsOfTables, IsTold, told_finds, code_rows, code_high, last_two, last_three, last_four, pass_rows}
-use Rattle.rip_plan.proofs.HeldAddressLemmas.{address_held, held_address}
-use Rattle.rip_plan.proofs.HeldOrderLemmas.{held_order, stands_from}
-use Rattle.rip_plan.proofs.MatchingLemmas.{matched_left, matched_length}
+use Rattle.rip_plan.proofs.HeldAddressLemmas.{address_held, first_held, held_address, held_at, held_order}
 use Rattle.rip_plan.proofs.OnePlanLemmas.{one_plan}
-use Rattle.rip_plan.proofs.SpotLemmas.{place_ahead, interface_ahead, place_spot, interface_spot, spot_under, spots_count}
-use Rattle.rip_plan.proofs.TakenSpotLemmas.{place_ats, interface_ats}
-use Rattle.rip_plan.proofs.ItemLemmas.{any_at, any_finds, distinct_at, get_seen, get_split, see_got, get_some}
-use Rattle.rip_plan.proofs.NumberingLemmas.{numbers, same_is, same_from}
-use Rattle.rip_plan.proofs.SecondPassLemmas.{address_spot, held, held_spot, taken_address, common, FoundBare, search_bare}
+use Rattle.rip_plan.proofs.PlanPartLemmas.{own_table}
+use Rattle.rip_plan.proofs.SpotLemmas.{place_ahead, interface_ahead, place_spot, interface_spot}
+use Rattle.rip_plan.proofs.PlanMatchLemmas.{place_ats, interface_ats}
+use Rattle.rip_plan.proofs.ItemLemmas.{cases_option, any_at, any_finds, distinct_at, get_seen, see_got, get_some}
+use Rattle.rip_plan.proofs.NumberingLemmas.{numbered_once, once_distinct, same_is, same_from}
+use Rattle.rip_plan.proofs.SecondPassLemmas.{address_spot, at_number, bare_found, common, held, held_spot, number_at, numbers_from, taken_address}
+use Rattle.rip_plan.proofs.ClashLemmas.{meeting_seen}
 use Rattle.rip_plan.proofs.TextLemmas.{TextLaws}
 
 -- ---- one pass
 
 before_more : (xs ys us vs : List ℕ) → Before xs ys → Before (xs ++ us) (ys ++ vs)
-before_more [] ys us vs h = absurd h
-before_more (x ∷ xs) [] us vs h = absurd h
 before_more (x ∷ xs) (y ∷ ys) us vs (inl h) = inl h
 before_more (x ∷ xs) (y ∷ ys) us vs (inr h) = inr (h.0, before_more xs ys us vs h.1)
+before_more xs ys us vs h = absurd h
 
 -- an item that is so, and where it stands
 record Stood {A : Type 0} (Is : ℕ → A → Type 0) (see : A → At) (xs : List A) (place : At) : Type 0 where
@@ -87,34 +84,50 @@ pass_finds {A} F n c Is see xs r first ahead told clear = by_search r first
           let mine : Before (rank n (fault c o.error.place)) (rank n (fault c (see x))) =
           subst (λ (d : PlanCode). Before (rank n (fault d o.error.place)) (rank n (fault c (see x)))) same.1 (subst (λ (m : ℕ). Before (rank m o.error) (rank n (fault c (see x)))) same.0 before) in
           let at_one : o.error.place ≡ see x → ⊥ = λ place. before_not (rank n (fault c (see x))) (subst (λ (p : At). Before (rank n (fault c p)) (rank n (fault c (see x)))) place mine) in
-          elim (cases_lt h.k s.0) [
-            | inl sooner ↦ s.3 h.k h.x sooner h.at h.so
-            | inr ge ↦
-                elim (cases_lt s.0 h.k) [
-                  | inl later ↦
-                      elim (ahead s.0 h.k x h.x later s.1 h.at) [
-                        | inl one ↦ at_one (sym h.stands ∙ sym one)
-                        | inr past ↦
-                            let after : Before (position (see x)) (position o.error.place) = subst (λ (p : At). Before (position (see x)) (position p)) h.stands past in
-                            let ranked_after : Before (rank n (fault c (see x))) (rank n (fault c o.error.place)) =
-                            inr (refl, before_more (position (see x)) (position o.error.place) (number_of_code c ∷ []) (number_of_code c ∷ []) after) in
-                            before_not (rank n (fault c o.error.place)) (before_trans (rank n (fault c o.error.place)) (rank n (fault c (see x))) (rank n (fault c o.error.place)) mine ranked_after)
-                      ]
-                  | inr le ↦
-                      let one : h.k ≡ s.0 = omega arith in
-                      let item : h.x ≡ x = same_Some h.x x (sym h.at ∙ ap (slice_get xs) one ∙ s.1) in
-                      at_one (sym h.stands ∙ ap see item)
+          elim (cases_order h.k s.0) [
+            | inl one ↦ let item : h.x ≡ x = same_Some h.x x (sym h.at ∙ ap (slice_get xs) one ∙ s.1) in at_one (sym h.stands ∙ ap see item)
+            | inr (inl sooner) ↦ s.3 h.k h.x sooner h.at h.so
+            | inr (inr later) ↦
+                elim (ahead s.0 h.k x h.x later s.1 h.at) [
+                  | inl one ↦ at_one (sym h.stands ∙ sym one)
+                  | inr past ↦
+                      let after : Before (position (see x)) (position o.error.place) = subst (λ (p : At). Before (position (see x)) (position p)) h.stands past in
+                      let ranked_after : Before (rank n (fault c (see x))) (rank n (fault c o.error.place)) =
+                      inr (refl, before_more (position (see x)) (position o.error.place) (number_of_code c ∷ []) (number_of_code c ∷ []) after) in
+                      before_not (rank n (fault c o.error.place)) (before_trans (rank n (fault c o.error.place)) (rank n (fault c (see x))) (rank n (fault c o.error.place)) mine ranked_after)
                 ]
           ],
     )
+
+-- the same of an item that clashes with an earlier one, where the items stand at spots
+clash_finds : {A : Type 0} (F : Found → Type 0) (n : ℕ) (c : PlanCode) (see : A → At) (xs : List A) (spots : List At) → map see xs ≡ spots
+    → ((k m : ℕ) (a b : At) → k < m → slice_get spots k ≡ Some a → slice_get spots m ≡ Some b → Before (position a) (position b))
+    → (clash : A → A → Bool) (Clash : ℕ → ℕ → Type 0)
+    → ((j k : ℕ) (y x : A) → slice_get xs j ≡ Some y → slice_get xs k ≡ Some x → clash y x ≡ true → Clash j k)
+    → ((j k : ℕ) (y x : A) → slice_get xs j ≡ Some y → slice_get xs k ≡ Some x → Clash j k → clash y x ≡ true)
+    → ((place : At) → IsClash Clash spots place → F (in_pass n c place)) → ((place : At) → F (in_pass n c place) → IsClash Clash spots place)
+    → Finds F (code_rows n c).has (none_found c (option_map see (first_clash clash [] xs)))
+clash_finds {A} F n c see xs spots stand ahead clash Clash gives takes told clear =
+    pass_finds F n c (Clashes clash xs) see xs (first_clash clash [] xs) (first_clashing clash xs)
+    (λ k m x y less h g. inr (ahead k m (see x) (see y) less (spot k x h) (spot m y g)))
+    (λ place t.
+    let (j, y, less, there, meets) = t.so in
+    told place (j, t.k, spot t.k t.x t.at ∙ ap (λ (p : At). Some p) t.stands, less, gives j t.k y t.x there t.at meets))
+    (λ place f.
+    let (j, k, at, less, meet) = clear place f in
+    let (x, here, stands) = get_seen see xs k place (ap (λ (l : List At). slice_get l k) stand ∙ at) in
+    let (y, there) = get_some xs j (omega (arith, less, slice_get_within xs k x here)) in
+    record { k = k; x = x; at = here; so = (j, y, less, there, takes j k y x there here meet); stands = stands })
+  where
+    spot : (k : ℕ) (x : A) → slice_get xs k ≡ Some x → slice_get spots k ≡ Some (see x)
+    spot k x h = ap (λ (l : List At). slice_get l k) (sym stand) ∙ see_got see xs k x h
 
 -- ---- two places that meet
 
 module _ (s : Sketch) where
   on_one : (seat other : Seat) → is_same_link seat other ≡ true → (l : ℕ) × (seat ≡ seats.Link l) × (other ≡ seats.Link l)
   on_one (seats.Link l) (seats.Link m) h = let same : l ≡ m = grind (arith, nat_tests) in (l, refl, ap seats.Link (sym same))
-  on_one (seats.Link l) (seats.Own own) h = absurd cc
-  on_one (seats.Own own) other h = absurd cc
+  on_one seat other h = absurd cc
 
   meet_gives : (j k : ℕ) (y x : DraftPlace) → slice_get s.places j ≡ Some y → slice_get s.places k ≡ Some x → do_meet (touching s.interfaces y) (touching s.interfaces x) ≡ true
       → DoMeet (network_of_sketch s) j k
@@ -123,8 +136,9 @@ module _ (s : Sketch) where
       let (p, place, prefix) = place_from s j y at in
       let (q, its, block) = place_from s k x there in
       let one : y.prefix ≡ x.prefix = same_is y.prefix x.prefix same in
-      let number : q ≡ p =
-      distinct_at same_prefix (network_of_sketch s).prefixes q p x.prefix y.prefix (numbers s.places).distinct block prefix (same_from x.prefix y.prefix (sym one)) (same_from y.prefix x.prefix one) in
+      let prefixes = (network_of_sketch s).prefixes in
+      let once : IsDistinct same_prefix prefixes = subst (IsDistinct same_prefix) (sym (numbered_once s.places)) (once_distinct (map (λ d. d.prefix) s.places)) in
+      let number : q ≡ p = distinct_at same_prefix prefixes q p x.prefix y.prefix once block prefix (same_from x.prefix y.prefix (sym one)) (same_from y.prefix x.prefix one) in
       let here : IsPlace (network_of_sketch s) k p x.seat = subst (λ (m : ℕ). IsPlace (network_of_sketch s) k m x.seat) number its in
       elim (or_cases (is_same_link y.seat x.seat) (have_common (touched s.interfaces y.seat) (touched s.interfaces x.seat)) meet) [
         | inl link ↦
@@ -164,25 +178,16 @@ module _ (s : Sketch) where
   twice_gives : (j k : ℕ) (y x : DraftInterface) → slice_get s.interfaces j ≡ Some y → slice_get s.interfaces k ≡ Some x → are_twice y x ≡ true → AreTwice (network_of_sketch s) j k
   twice_gives j k y x at there h =
       let (routers, links) = and_parts (y.interface.router == x.interface.router) (y.interface.link == x.interface.link) h in
-      let router : x.interface.router ≡ y.interface.router = grind (arith, nat_tests) in
-      let link : x.interface.link ≡ y.interface.link = grind (arith, nat_tests) in (
-        y.interface.router,
-        y.interface.link,
-        y.interface.cost,
-        x.interface.cost,
-        record { address = y.interface.address; direct = y.interface.direct; poison = y.interface.poison; listed = interface_from s j y at },
-        record { address = x.interface.address; direct = x.interface.direct; poison = x.interface.poison; listed = listed_as s k x y.interface.router y.interface.link there router link },
-      )
+      let router = sym (eqb-true y.interface.router x.interface.router routers) in
+      let link = sym (eqb-true y.interface.link x.interface.link links) in
+      let its = interface_as s k x y.interface.router y.interface.link there router link in
+      (y.interface.router, y.interface.link, y.interface.cost, x.interface.cost, interface_as s j y y.interface.router y.interface.link at refl refl, its)
 
   twice_takes : (j k : ℕ) (y x : DraftInterface) → slice_get s.interfaces j ≡ Some y → slice_get s.interfaces k ≡ Some x → AreTwice (network_of_sketch s) j k → are_twice y x ≡ true
   twice_takes j k y x at there (r, l, c, d, h, h') =
-      let (y', its, same) = interface_in s j _ h.listed in
-      let (x', theirs, also) = interface_in s k _ h'.listed in
-      let one : y'.interface ≡ y.interface = ap (λ (w : DraftInterface). w.interface) (same_Some y' y (sym its ∙ at)) in
-      let two : x'.interface ≡ x.interface = ap (λ (w : DraftInterface). w.interface) (same_Some x' x (sym theirs ∙ there)) in
-      let routers : y.interface.router ≡ x.interface.router = ap (λ (v : Interface). v.router) (sym one ∙ same) ∙ ap (λ (v : Interface). v.router) (sym also ∙ two) in
-      let links : y.interface.link ≡ x.interface.link = ap (λ (v : Interface). v.link) (sym one ∙ same) ∙ ap (λ (v : Interface). v.link) (sym also ∙ two) in
-      grind (arith, nat_tests)
+      let (y', its, router, link) = as_interface s j r l c h in
+      let (x', theirs, other, same) = as_interface s k r l d h' in
+      rw (← same_Some y' y (sym its ∙ at), ← same_Some x' x (sym theirs ∙ there)) (grind (arith, nat_tests))
 
   -- two addresses that are one, on one link
   address_gives : (j k : ℕ) (y x : Held) → j < k → slice_get (held s.interfaces s.also) j ≡ Some y → slice_get (held s.interfaces s.also) k ≡ Some x → have_one_address y x ≡ true
@@ -192,21 +197,11 @@ module _ (s : Sketch) where
       let link : y.link ≡ x.link = grind (arith, nat_tests) in
       let address : y.address ≡ x.address = grind (arith, nat_tests) in
       let n = network_of_sketch s in
-      elim (held_order 0 n.interfaces n.also j k y x less at there) [
+      elim (held_order n j k y x less at there) [
         | inl ahead ↦
             let same : y ≡ record { interface = y.interface; link = x.link; address = x.address } = rw (← link, ← address) refl in
             inl (y.interface, ahead, (x.link, x.address, held_address n y.interface x.link x.address j (at ∙ ap (λ (h : Held). Some h) same), held_address n x.interface x.link x.address k there))
-        | inr one ↦
-            let number : one.i ≡ x.interface = omega (arith, one.other) in
-            let has : HasAddresses n x.interface x.link (one.interface.address ∷ one.further) = record {
-              interface = one.interface;
-              listed = ap (slice_get n.interfaces) (sym number) ∙ one.listed;
-              on = sym one.link;
-              also = one.further;
-              further = ap (slice_get n.also) (sym number) ∙ one.its;
-              all = refl;
-            } in
-            inr (x.link, one.interface.address ∷ one.further, has, (one.j, one.k, x.address, one.less, one.before ∙ ap (λ (a : ℕ). Some a) address, one.after))
+        | inr one ↦ inr (x.link, one.addresses, one.has, (one.j, one.k, x.address, one.less, one.before ∙ ap (λ (a : ℕ). Some a) address, one.after))
       ]
 
   -- an address that an earlier one is, on the link of the interface
@@ -223,54 +218,37 @@ module _ (s : Sketch) where
       let n = network_of_sketch s in
       let (j, there) = address_held n m l a h in
       let (k, at) = address_held n i l a g in
-      elim (cases_lt j k) [
-        | inl less ↦ taken_of i l a j k m less there at
-        | inr ge ↦
-            elim (cases_lt k j) [
-              | inl more ↦
-                  elim (held_order 0 n.interfaces n.also k j (record { interface = i; link = l; address = a }) (record { interface = m; link = l; address = a }) more at there) [
-                    | inl before ↦ let less : i < m = before in absurd (omega arith)
-                    | inr one ↦ absurd (omega (arith, one.number, one.other))
-                  ]
-              | inr le ↦
-                  let same : j ≡ k = omega arith in
-                  let one : Held = record { interface = m; link = l; address = a } in
-                  let two : Held = record { interface = i; link = l; address = a } in
-                  let items : one ≡ two = same_Some one two (sym there ∙ ap (slice_get (held s.interfaces s.also)) same ∙ at) in
-                  let number : m ≡ i = ap (λ (h : Held). h.interface) items in
-                  absurd (omega arith)
-            ]
+      let one : Held = record { interface = m; link = l; address = a } in
+      let two : Held = record { interface = i; link = l; address = a } in
+      elim (cases_order j k) [
+        | inl same ↦
+            let number : m ≡ i = ap (λ (h : Held). h.interface) (same_Some one two (sym there ∙ ap (slice_get (held s.interfaces s.also)) same ∙ at)) in
+            absurd (omega arith)
+        | inr (inl less) ↦ taken_of i l a j k m less there at
+        | inr (inr more) ↦
+            absurd (elim (held_order n k j two one more at there) [ inl before ↦ let less : i < m = before in omega arith | inr both ↦ let same : i ≡ m = both.one in omega arith ])
       ]
 
   twice_taken : (i : ℕ) → HasOneTwice (network_of_sketch s) i → IsTaken i
   twice_taken i (l, addresses, has, (j, k, a, less, one, two)) =
       let n = network_of_sketch s in
-      let stands = stands_from 0 n.interfaces n.also i has.interface has.also has.listed has.further in
-      let number : 0 + i ≡ i = omega arith in
-      let as_held : (m : ℕ) → slice_get addresses m ≡ Some a → slice_get (held s.interfaces s.also) (stands.first + m) ≡ Some (record { interface = i; link = l; address = a }) =
-      λ m at.
-      stands.each m a (ap (λ (xs : List ℕ). slice_get xs m) (sym has.all) ∙ at)
-      ∙ ap (λ (q : ℕ). Some (record { interface = q; link = has.interface.link; address = a })) number
-      ∙ ap (λ (q : ℕ). Some (record { interface = i; link = q; address = a })) has.on in
-      taken_of i l a (stands.first + j) (stands.first + k) i (omega arith) (as_held j one) (as_held k two)
+      taken_of i l a (first_held n i + j) (first_held n i + k) i (omega arith) (held_at n i l addresses has j a one) (held_at n i l addresses has k a two)
 
   -- an own prefix whose router is not on its link
+  astray_own : (seat : Seat) → is_astray s.interfaces seat ≡ true → (own : OwnPrefix) × (l : ℕ) × (seat ≡ seats.Own own) × (own.link ≡ Some l) × (is_there s.interfaces own.router l ≡ false)
+  astray_own (seats.Link l) h = absurd cc
+  astray_own (seats.Own own) h =
+      elim (cases_option own.link) [
+        | inl e ↦ let clash = rw e at h in absurd cc
+        | inr (l, e) ↦ (own, l, refl, e, not-true (is_there s.interfaces own.router l) (rw e at h))
+      ]
+
   astray_gives : (k : ℕ) (d : DraftPlace) → slice_get s.places k ≡ Some d → is_astray s.interfaces d.seat ≡ true → IsAstray (network_of_sketch s) k
-  astray_gives k d at h = let (p, place, prefix) = place_from s k d at in by_seat d.seat p place h
-    where
-      by_seat : (seat : Seat) (p : ℕ) → IsPlace (network_of_sketch s) k p seat → is_astray s.interfaces seat ≡ true → IsAstray (network_of_sketch s) k
-      by_seat (seats.Link l) p place e = absurd cc
-      by_seat (seats.Own own) p place e = by_link own.link refl e
-        where
-          by_link : (link : Option ℕ) → own.link ≡ link → option_map_or (λ l. not (is_there s.interfaces own.router l)) link false ≡ true → IsAstray (network_of_sketch s) k
-          by_link None is f = absurd cc
-          by_link (Some l) is f = (
-            p,
-            own.router,
-            l,
-            record { own = own; place = place; router = refl; says = is },
-            λ on. both_ways (is_there s.interfaces own.router l) (not-true _ f) (on_there s own.router l on),
-          )
+  astray_gives k d at h =
+      let (p, place, prefix) = place_from s k d at in
+      let (own, l, seat, is, off) = astray_own d.seat h in
+      let its : IsAttachedAt (network_of_sketch s) k p own.router l = record { own = own; place = subst (IsPlace (network_of_sketch s) k p) seat place; router = refl; says = is } in
+      (p, own.router, l, its, λ on. both_ways (is_there s.interfaces own.router l) off (on_there s own.router l on))
 
   astray_takes : (k : ℕ) → IsAstray (network_of_sketch s) k → (d : DraftPlace) × (slice_get s.places k ≡ Some d) × (is_astray s.interfaces d.seat ≡ true)
   astray_takes k (p, r, l, h, none) =
@@ -280,28 +258,19 @@ module _ (s : Sketch) where
 
   bare_gives : (k : ℕ) → is_bare s.interfaces k ≡ true → (i l c : ℕ) → IsInterface (network_of_sketch s) i k l c → ⊥
   bare_gives k h i l c is =
-      let (x, at, same) = interface_in s i _ is.listed in
-      let of : x.interface.router ≡ k = ap (λ (v : Interface). v.router) same in
-      let some : list_any (λ (y : DraftInterface). y.interface.router == k) s.interfaces ≡ true =
-      any_at (λ (y : DraftInterface). y.interface.router == k) s.interfaces i x at (grind (arith, nat_tests)) in
-      both_ways (list_any (λ (y : DraftInterface). y.interface.router == k) s.interfaces) (not-true _ h) some
+      let (x, at, router, link) = as_interface s i k l c is in
+      both_ways (list_any (λ (y : DraftInterface). y.interface.router == k) s.interfaces) (not-true _ h)
+      (any_at (λ (y : DraftInterface). y.interface.router == k) s.interfaces i x at (eq-eqb x.interface.router k router))
 
   bare_takes : (k : ℕ) → is_bare s.interfaces k ≡ false → ((i l c : ℕ) → IsInterface (network_of_sketch s) i k l c → ⊥) → ⊥
   bare_takes k h none =
       let (i, x, at, test) = any_finds (λ (y : DraftInterface). y.interface.router == k) s.interfaces (not-false (list_any (λ (y : DraftInterface). y.interface.router == k) s.interfaces) h) in
-      let of : x.interface.router ≡ k = grind (arith, nat_tests) in
-      none i x.interface.link x.interface.cost (record {
-        address = x.interface.address;
-        direct = x.interface.direct;
-        poison = x.interface.poison;
-        listed = interface_from s i x at
-            ∙ ap (λ (m : ℕ). Some (record x.interface { router = m })) of;
-      })
+      none i x.interface.link x.interface.cost (interface_as s i x k x.interface.link at (eqb-true x.interface.router k test) refl)
 
 -- ---- all later passes
 
-module _ (laws : TextLaws) (document : Members) (links routers : List Data) (s : Sketch) (plan : PlanOf document (network_of_sketch s)) (placed : place_ats s ≡ place_spots links routers)
-    (listed : interface_ats s ≡ interface_spots routers) (tables : plan.links ≡ links) where
+module _ (laws : TextLaws) (document : Members) (links routers : List Data) (s : Sketch) (plan : PlanOf document (network_of_sketch s)) (placed : place_ats s.places ≡ place_spots links routers)
+    (listed : interface_ats s.interfaces ≡ interface_spots routers) (spots : place_spots plan.links plan.routers ≡ place_spots links routers) where
   place_at : (k : ℕ) (d : DraftPlace) → slice_get s.places k ≡ Some d → slice_get (place_spots links routers) k ≡ Some d.at
   place_at k d h = ap (λ (l : List At). slice_get l k) (sym placed) ∙ see_got (λ (p : DraftPlace). p.at) s.places k d h
 
@@ -311,24 +280,11 @@ module _ (laws : TextLaws) (document : Members) (links routers : List Data) (s :
   at_place : (k : ℕ) (a : At) → slice_get (place_spots links routers) k ≡ Some a → (d : DraftPlace) × (slice_get s.places k ≡ Some d) × (d.at ≡ a)
   at_place k a h = get_seen (λ (p : DraftPlace). p.at) s.places k a (ap (λ (l : List At). slice_get l k) placed ∙ h)
 
-  at_interface : (k : ℕ) (a : At) → slice_get (interface_spots routers) k ≡ Some a → (d : DraftInterface) × (slice_get s.interfaces k ≡ Some d) × (d.at ≡ a)
-  at_interface k a h = get_seen (λ (i : DraftInterface). i.at) s.interfaces k a (ap (λ (l : List At). slice_get l k) listed ∙ h)
-
-  get_item : (k : ℕ) (x : DraftInterface) (y : DraftInterface) → slice_get s.interfaces k ≡ Some x → slice_get s.interfaces k ≡ Some y → x ≡ y
-  get_item k x y h g = same_Some x y (sym h ∙ g)
-
   -- prefixes
   duplicate_told : (place : At) → IsClash (DoMeet (network_of_sketch s)) (place_spots links routers) place → TableFault document links routers codes.DuplicatePrefix place
-  duplicate_told place c =
-      let (j, k, at, less, meet) = c in
-      elim (place_spot links routers k place at) [
-        | inl (i, n, e) ↦
-            subst (λ (p : At). TableFault document links routers codes.DuplicatePrefix p) (sym e)
-            (network_of_sketch s, plan, subst (IsClash (DoMeet (network_of_sketch s)) (place_spots links routers)) e c)
-        | inr (i, n, e) ↦
-            subst (λ (p : At). TableFault document links routers codes.DuplicatePrefix p) (sym e)
-            (network_of_sketch s, plan, subst (IsClash (DoMeet (network_of_sketch s)) (place_spots links routers)) e c)
-      ]
+  duplicate_told (LinkPrefix i j) c = (network_of_sketch s, plan, c)
+  duplicate_told (RouterOwn r j) c = (network_of_sketch s, plan, c)
+  duplicate_told place (j, k, at, less, meet) = elim (place_spot links routers k place at) [ inl t ↦ let is = t.is in absurd cc | inr t ↦ let is = t.is in absurd cc ]
 
   -- of a network that is the plan too
   of_plan : (P : Network → Type 0) → (n : Network) → PlanOf document n → P n → P (network_of_sketch s)
@@ -341,61 +297,24 @@ module _ (laws : TextLaws) (document : Members) (links routers : List Data) (s :
 
   duplicates_find : Finds (IsTold document links routers) (code_rows 1 codes.DuplicatePrefix).has (none_found codes.DuplicatePrefix (duplicate_in s.interfaces s.places))
   duplicates_find =
-      let items : List Touching = map (touching s.interfaces) s.places in
-      pass_finds (IsTold document links routers) 1 codes.DuplicatePrefix (Clashes do_meet items) (λ (t : Touching). t.place.at) items (first_clash do_meet [] items) (first_clashing do_meet items)
-      (λ k m x y less h g.
-      let (a, at, same) = get_seen (touching s.interfaces) s.places k x h in
-      let (b, there, also) = get_seen (touching s.interfaces) s.places m y g in
-      inr (subst (λ (t : Touching). Before (position t.place.at) (position y.place.at)) same
-      (subst (λ (t : Touching). Before (position a.at) (position t.place.at)) also (place_ahead links routers k m a.at b.at less (place_at k a at) (place_at m b there)))))
-      (λ place c.
-      let (j, y, less, there, meets) = c.so in
-      let (a, at, same) = get_seen (touching s.interfaces) s.places c.k c.x c.at in
-      let (b, its, also) = get_seen (touching s.interfaces) s.places j y there in
-      let meet : do_meet (touching s.interfaces b) (touching s.interfaces a) ≡ true = ap (λ (t : Touching). do_meet t (touching s.interfaces a)) also ∙ ap (do_meet y) same ∙ meets in
-      let stands : a.at ≡ place = ap (λ (t : Touching). t.place.at) same ∙ c.stands in
-      (duplicate_told place (j, c.k, place_at c.k a at ∙ ap (λ (p : At). Some p) stands, less, meet_gives s j c.k b a its at meet), refl))
-      (λ place f.
-      let (j, k, spot, less, meet) = duplicate_clear place f.0 in
-      let (a, at, stands) = at_place k place spot in
-      let (b, there) = get_some s.places j (omega (arith, less, slice_get_within s.places k a at)) in
-      record {
-        k = k;
-        x = touching s.interfaces a;
-        at = see_got (touching s.interfaces) s.places k a at;
-        so = (j, touching s.interfaces b, less, see_got (touching s.interfaces) s.places j b there, meet_takes s j k b a there at meet);
-        stands = stands;
-      })
+      rw (← meeting_seen s.interfaces s.places)
+      (clash_finds (IsTold document links routers) 1 codes.DuplicatePrefix (λ (p : DraftPlace). p.at) s.places (place_spots links routers) placed (place_ahead links routers)
+      (λ p q. do_meet (touching s.interfaces p) (touching s.interfaces q)) (DoMeet (network_of_sketch s)) (meet_gives s) (meet_takes s) (λ place c. (duplicate_told place c, refl))
+      (λ place f. duplicate_clear place f.0))
 
   -- interfaces
   twice_told : (place : At) → IsClash (AreTwice (network_of_sketch s)) (interface_spots routers) place → TableFault document links routers codes.TwiceOnLink place
-  twice_told place c =
-      let (j, k, at, less, meet) = c in
-      let (i, n, e) = interface_spot routers k place at in
-      subst (λ (p : At). TableFault document links routers codes.TwiceOnLink p) (sym e) (network_of_sketch s, plan, subst (IsClash (AreTwice (network_of_sketch s)) (interface_spots routers)) e c)
+  twice_told (RouterInterface r j) c = (network_of_sketch s, plan, c)
+  twice_told place (j, k, at, less, meet) = let is = (interface_spot routers k place at).is in absurd cc
 
   twice_clear : (place : At) → TableFault document links routers codes.TwiceOnLink place → IsClash (AreTwice (network_of_sketch s)) (interface_spots routers) place
   twice_clear (RouterInterface r j) f = of_plan (λ n. IsClash (AreTwice n) (interface_spots routers) (RouterInterface r j)) f.0 f.1 f.2
   twice_clear place f = absurd f
 
-  interfaces_ahead : (k m : ℕ) (x y : DraftInterface) → k < m → slice_get s.interfaces k ≡ Some x → slice_get s.interfaces m ≡ Some y → Before (position x.at) (position y.at)
-  interfaces_ahead k m x y less h g = interface_ahead routers k m x.at y.at less (interface_at k x h) (interface_at m y g)
-
   twice_find : Finds (IsTold document links routers) (code_rows 2 codes.TwiceOnLink).has (none_found codes.TwiceOnLink (twice_in s.interfaces))
   twice_find =
-      pass_finds (IsTold document links routers) 2 codes.TwiceOnLink (Clashes are_twice s.interfaces) (λ (i : DraftInterface). i.at) s.interfaces (first_clash are_twice [] s.interfaces)
-      (first_clashing are_twice s.interfaces)
-      (λ k m x y less h g. inr (interfaces_ahead k m x y less h g))
-      (λ place c. let (j, y, less, there, meets) = c.so in (
-        twice_told place
-            (j, c.k, interface_at c.k c.x c.at ∙ ap (λ (p : At). Some p) c.stands, less, twice_gives s j c.k y c.x there c.at meets),
-        refl,
-      ))
-      (λ place f.
-      let (j, k, spot, less, meet) = twice_clear place f.0 in
-      let (a, at, stands) = at_interface k place spot in
-      let (b, there) = get_some s.interfaces j (omega (arith, less, slice_get_within s.interfaces k a at)) in
-      record { k = k; x = a; at = at; so = (j, b, less, there, twice_takes s j k b a there at meet); stands = stands })
+      clash_finds (IsTold document links routers) 2 codes.TwiceOnLink (λ (i : DraftInterface). i.at) s.interfaces (interface_spots routers) listed (interface_ahead routers) are_twice
+      (AreTwice (network_of_sketch s)) (twice_gives s) (twice_takes s) (λ place c. (twice_told place c, refl)) (λ place f. twice_clear place f.0)
 
   -- addresses
   abbrev IsAddressClash : Network → At → Type 0
@@ -403,9 +322,8 @@ module _ (laws : TextLaws) (document : Members) (links routers : List Data) (s :
 
   address_told : (place : At) → (k : ℕ) → slice_get (interface_spots routers) k ≡ Some place → IsAddressClash (network_of_sketch s) place
       → TableFault document links routers codes.DuplicateAddress place
-  address_told place k at c =
-      let (i, n, e) = interface_spot routers k place at in
-      subst (λ (p : At). TableFault document links routers codes.DuplicateAddress p) (sym e) (network_of_sketch s, plan, subst (IsAddressClash (network_of_sketch s)) e c)
+  address_told (RouterInterface r j) k at c = (network_of_sketch s, plan, c)
+  address_told place k at c = let is = (interface_spot routers k place at).is in absurd cc
 
   address_clear : (place : At) → TableFault document links routers codes.DuplicateAddress place → IsAddressClash (network_of_sketch s) place
   address_clear (RouterInterface r j) f = of_plan (λ n. IsAddressClash n (RouterInterface r j)) f.0 f.1 f.2
@@ -419,9 +337,9 @@ module _ (laws : TextLaws) (document : Members) (links routers : List Data) (s :
   addresses_ahead k m x y less h g =
       let (a, at, one) = address_at k x h in
       let (b, there, two) = address_at m y g in
-      elim (held_order 0 (network_of_sketch s).interfaces s.also k m x y less h g) [
-        | inl ahead ↦ inr (rw (one, two) (interfaces_ahead x.interface y.interface a b ahead at there))
-        | inr same ↦ inl (ap (λ (i : ℕ). unwrap_or (spot_of s.interfaces i) Text) (same.number ∙ sym same.other))
+      elim (held_order (network_of_sketch s) k m x y less h g) [
+        | inl ahead ↦ inr (rw (one, two) (interface_ahead routers x.interface y.interface a.at b.at ahead (interface_at x.interface a at) (interface_at y.interface b there)))
+        | inr same ↦ inl (ap (λ (i : ℕ). unwrap_or (spot_of s.interfaces i) Text) same.one)
       ]
 
   addresses_find : Finds (IsTold document links routers) (code_rows 3 codes.DuplicateAddress).has (none_found codes.DuplicateAddress (taken_address_in s.interfaces s.also))
@@ -450,44 +368,19 @@ module _ (laws : TextLaws) (document : Members) (links routers : List Data) (s :
       taken_at : (place : At) (i : ℕ) → slice_get (interface_spots routers) i ≡ Some place → IsTaken s i
           → Stood (Clashes have_one_address (held s.interfaces s.also)) (address_spot s.interfaces) (held s.interfaces s.also) place
       taken_at place i spot (k, x, at, clashes, number) =
-          let (d, listed, seen) = address_at k x at in
-          let (e, its, stands) = at_interface i place spot in
-          let same : d ≡ e = get_item i d e (ap (slice_get s.interfaces) (sym number) ∙ listed) its in
+          let (d, there, seen) = address_at k x at in
+          let (e, its, stands) = get_seen (λ (y : DraftInterface). y.at) s.interfaces i place (ap (λ (l : List At). slice_get l i) listed ∙ spot) in
+          let same : d ≡ e = same_Some d e (sym there ∙ ap (slice_get s.interfaces) number ∙ its) in
           record { k = k; x = x; at = at; so = clashes; stands = seen ∙ ap (λ (y : DraftInterface). y.at) same ∙ stands }
 
   -- own prefixes
-  own_spot : (k i j p : ℕ) (own : OwnPrefix) → IsPlace (network_of_sketch s) k p (seats.Own own) → slice_get (place_spots links routers) k ≡ Some (LinkPrefix i j) → ⊥
-  own_spot k i j p own place spot =
-      let n = network_of_sketch s in
-      let on_links = spots_under (codes_of "prefixes") LinkPrefix 1 links in
-      let count : length on_links ≡ length plan.on_links =
-      spots_count (codes_of "prefixes") LinkPrefix 1 0 links
-      ∙ ap (λ (ds : List Data). length (items_under (codes_of "prefixes") 0 ds)) (sym tables)
-      ∙ sym (matched_length IsOnLink plan.on_links (items_under (codes_of "prefixes") 0 plan.links) plan.link_prefixes) in
-      let (q, at, of) = matched_left (IsPlaceOf n) n.places (plan.on_links ++ plan.owned) k _ plan.places place.listed in
-      elim (get_split plan.on_links plan.owned k q at) [
-        | inl here ↦
-            let (x, is, on) = matched_left IsOnLink plan.on_links (items_under (codes_of "prefixes") 0 plan.links) k q plan.link_prefixes here.0 in
-            let seat : seats.Own own ≡ seats.Link x.0 = of.seat ∙ on.seat in
-            absurd cc
-        | inr there ↦
-            let past : k ≡ length plan.on_links + there.0 = there.1 in
-            elim (get_split on_links (spots_under (codes_of "own") RouterOwn 1 routers) k (LinkPrefix i j) spot) [
-              | inl early ↦ let less : k < length on_links = early.1 in absurd (omega arith)
-              | inr late ↦
-                  let its = spot_under (codes_of "own") RouterOwn 1 routers late.0 (LinkPrefix i j) late.2 in
-                  let wrong : LinkPrefix i j ≡ RouterOwn (1 + its.n) (suc its.j) = its.is in
-                  absurd cc
-            ]
-      ]
-
   astray_told : (place : At) → IsSo (IsAstray (network_of_sketch s)) (place_spots links routers) place → IsAstrayAt document links routers place
   astray_told place c =
       let (k, at, (p, r, l, h, none)) = c in
-      elim (place_spot links routers k place at) [
-        | inl (i, j, is) ↦ absurd (own_spot k i j p h.own h.place (at ∙ ap (λ (x : At). Some x) is))
-        | inr (i, j, is) ↦ subst (IsAstrayAt document links routers) (sym is) (network_of_sketch s, plan, subst (IsSo (IsAstray (network_of_sketch s)) (place_spots links routers)) is c)
-      ]
+      let t = own_table document (network_of_sketch s) plan k p h.own h.place in
+      let here : slice_get (place_spots links routers) k ≡ Some (RouterOwn (1 + t.r) (suc t.j)) = ap (λ (l : List At). slice_get l k) (sym spots) ∙ t.spot in
+      let is : place ≡ RouterOwn (1 + t.r) (suc t.j) = same_Some place (RouterOwn (1 + t.r) (suc t.j)) (sym at ∙ here) in
+      subst (IsAstrayAt document links routers) (sym is) (network_of_sketch s, plan, subst (IsSo (IsAstray (network_of_sketch s)) (place_spots links routers)) is c)
 
   astray_clear : (place : At) → IsAstrayAt document links routers place → IsSo (IsAstray (network_of_sketch s)) (place_spots links routers) place
   astray_clear (RouterOwn r j) f = of_plan (λ n. IsSo (IsAstray n) (place_spots links routers) (RouterOwn r j)) f.0 f.1 f.2
@@ -508,43 +401,23 @@ module _ (laws : TextLaws) (document : Members) (links routers : List Data) (s :
 
   -- routers
   bare_clear : (place : At) → TableFault document links routers codes.NoInterface place → (r : ℕ) × (place ≡ Router r) × IsBare (network_of_sketch s) r
-  bare_clear (Router r) f = (r, refl, subst (λ (m : Network). IsBare m r) (one_plan laws document f.0 (network_of_sketch s) f.1 plan) f.2)
+  bare_clear (Router r) f = (r, refl, of_plan (λ n. IsBare n r) f.0 f.1 f.2)
   bare_clear place f = absurd f
 
   bare_finds : Finds (IsTold document links routers) (code_rows 4 codes.NoInterface).has (none_found codes.NoInterface (bare_in s.interfaces (length s.routers)))
-  bare_finds = by_search (first_bare s.interfaces 0 (length s.routers)) (search_bare s.interfaces 0 (length s.routers))
-    where
-      as_fault : (o : Found) → (o.pass ≡ 4) × (o.error.code ≡ codes.NoInterface) → IsTold document links routers o → TableFault document links routers codes.NoInterface o.error.place
-      as_fault o same f = subst (λ (d : PlanCode). TableFault document links routers d o.error.place) same.1 f.0
-
-      by_search : (o : Option ℕ) → FoundBare s.interfaces 0 (length s.routers) o
-          → Finds (IsTold document links routers) (code_rows 4 codes.NoInterface).has (none_found codes.NoInterface (option_map (λ r. Router (r + 1)) o))
-      by_search None found = λ o same f.
-          let (r, at, (k, number, less, none)) = bare_clear o.error.place (as_fault o same f) in
-          bare_takes s k (found k (omega arith) (omega arith)) none
-      by_search (Some k) found = (
-        4,
-        ((network_of_sketch s, plan, (k, refl, omega (arith, found.1), bare_gives s k found.2)), refl),
-        (refl, refl),
-        λ o same f before.
-            let (r, at, (m, number, less, none)) = bare_clear o.error.place (as_fault o same f) in
-            let is : o ≡ in_pass 4 codes.NoInterface (Router r) = rw (← at, ← same.1, ← same.0) refl in
-            let mine : Before (ranked (in_pass 4 codes.NoInterface (Router r))) (ranked (in_pass 4 codes.NoInterface (Router (k + 1)))) =
-            subst (λ (e : Found). Before (ranked e) (ranked (in_pass 4 codes.NoInterface (Router (k + 1))))) is before in
-            elim (cases_lt m k) [
-              | inl sooner ↦ bare_takes s m (found.3 m (omega arith) sooner) none
-              | inr ge ↦ not_sooner r (k + 1) (omega arith) mine
-            ],
-      )
-        where
-          not_sooner : (i j : ℕ) → j ≤ i → Before (ranked (in_pass 4 codes.NoInterface (Router i))) (ranked (in_pass 4 codes.NoInterface (Router j))) → ⊥
-          not_sooner i j le (inl b) = omega arith
-          not_sooner i j le (inr (e, inl b)) = omega arith
-          not_sooner i j le (inr (e, inr (e1, inl b))) = omega arith
-          not_sooner i j le (inr (e, inr (e1, inr (e2, inl b)))) = omega arith
-          not_sooner i j le (inr (e, inr (e1, inr (e2, inr (e3, inl b))))) = omega arith
-          not_sooner i j le (inr (e, inr (e1, inr (e2, inr (e3, inr (e4, inl b)))))) = omega arith
-          not_sooner i j le (inr (e, inr (e1, inr (e2, inr (e3, inr (e4, inr (e5, b))))))) = b
+  bare_finds =
+      let test = is_bare s.interfaces in
+      let numbers : List ℕ = numbers_from 0 (length s.routers) in
+      rw (bare_found s.interfaces 0 (length s.routers))
+      (pass_finds (IsTold document links routers) 4 codes.NoInterface (Passes test) (λ (r : ℕ). Router (r + 1)) numbers (find test numbers) (first_passing test numbers)
+      (λ k m x y less h g. inr (inr (refl, inl (omega (arith, (number_at 0 (length s.routers) k x h).0, (number_at 0 (length s.routers) m y g).0)))))
+      (λ place t.
+      let (number, within) = number_at 0 (length s.routers) t.k t.x t.at in
+      (subst (TableFault document links routers codes.NoInterface) t.stands (network_of_sketch s, plan, (t.x, refl, omega arith, bare_gives s t.x t.so)), refl))
+      (λ place f.
+      let (r, is, (k, number, within, none)) = bare_clear place f.0 in
+      let bare = true_from_ne_false (test k) (λ off. bare_takes s k off none) in
+      record { k = k; x = k; at = at_number 0 (length s.routers) k within ∙ ap (λ (m : ℕ). Some m) (omega arith); so = bare; stands = ap Router (sym number) ∙ sym is }))
 
   -- one pass, in the words of all passes
   of_pass : {A : Type 0} (n : ℕ) (c : PlanCode) (r : Result A PlanError) → n < 5 → Finds (IsTold document links routers) (code_rows n c).has r

@@ -1,21 +1,19 @@
 -- What is found of the faults of a document's routers.
-use Rattle.std.proofs.Common.{◌≡◌, ℕ, ◌+◌, ◌-◌, ◌<◌, ◌≤◌, ◌⊎◌, inl, inr, List, [], ◌∷◌, ◌++◌, length, Bool, true, false, not, ◌&&◌, ◌||◌, Option, Some, None, Ok, refl, sym, ap, subst, ◌∙◌, arith, length-append}
-use Rattle.std.proofs.lemmas.Bool.{and_parts, and_from}
-use Rattle.std.specs.Prelude.{slice_get, nat_le, nat_lt, option_map, codes as codes_of, map}
-use Rattle.std.specs.List.{list_any, IsDistinct}
+use Rattle.std.proofs.Common.{◌≡◌, ℕ, ◌+◌, ◌-◌, ◌<◌, ◌≤◌, ◌⊎◌, inl, inr, List, [], ◌∷◌, ◌++◌, length, Bool, true, false, not, ◌&&◌, Option, Some, None, Result, Ok, refl, sym, ap, subst, ◌∙◌, arith, length-append}
+use Rattle.std.proofs.lemmas.Bool.{cases_Bool, and_parts, and_from}
+use Rattle.std.specs.Prelude.{slice_get, nat_le, codes as codes_of, map}
+use Rattle.std.specs.List.{list_any, sum_by}
+use Rattle.std.proofs.lemmas.List.Sums.{sum_by-append}
+use Rattle.rip_plan.specs.declared.error.PlanError.{PlanError}
 use Rattle.std.specs.Str.{bytes_eq}
 use Rattle.std.proofs.lemmas.Option.{none-some, same_Some}
-use Rattle.std.proofs.lemmas.List.{length-map}
-use Rattle.std.proofs.lemmas.List.Sums.{sum_by_push}
 use Rattle.std.proofs.lemmas.Bool.Decides.{nat_tests}
-use Rattle.std.proofs.lemmas.Slice.Eq.{bytes_eq-Decides}
 use Rattle.toml.specs.Data.{Data, Members, string, get, as_table}
 use Rattle.rip_wire.specs.Address.{address_in}
 use Rattle.rip_wire.specs.Name.{is_name}
-use Rattle.rip_wire.specs.Prefix.{Block, prefix_in, ContainsAddress}
+use Rattle.rip_wire.specs.Prefix.{Block, prefix_in}
 use Rattle.rip_plan.specs.declared.error.PlanCode.TheVariants as codes
-use Rattle.rip_plan.specs.declared.error.At.{At}
-use Rattle.rip_plan.specs.declared.error.At.TheVariants.{LinkPrefix, Router, RouterInterface, RouterOwn}
+use Rattle.rip_plan.specs.declared.error.At.TheVariants.{Link, LinkPrefix, Router, RouterInterface, RouterOwn}
 use Rattle.rip_plan.specs.declared.draft.DraftPlace.{DraftPlace}
 use Rattle.rip_plan.specs.declared.draft.DraftInterface.{DraftInterface}
 use Rattle.rip_plan.specs.declared.parts.Seat.TheVariants as seats
@@ -23,30 +21,28 @@ use Rattle.rip_plan.specs.Fault.{steps}
 use Rattle.rip_plan.specs.Fields.{InterfaceFields, ◌&>◌, interface_fields, own_fields, router_fields, cost_of, direct_of, addresses_in, address_if, link_if}
 use Rattle.rip_plan.specs.Names.{is_one_of, number_of_name}
 use Rattle.rip_plan.specs.Seats.{is_on}
-use Rattle.rip_plan.specs.Draft.{Sketch, prefix_step, link_step, interface_step, own_step, router_step, is_full, is_outside, has_address}
-use Rattle.rip_plan.specs.PlanOf.{Matched, IsNameOf, items_in, items_under, IsOnLink, IsOwned, Placement}
+use Rattle.rip_plan.specs.Draft.{Sketch, link_step, interface_step, own_step, router_step, is_full, is_outside, has_address}
+use Rattle.rip_plan.specs.PlanOf.{Matched, IsNameOf, items_in, items_under, Placement}
 use Rattle.rip_plan.specs.PlanText.{empty}
-use Rattle.rip_plan.specs.PlanFaults.{nth, IsItem, IsPast, NamesNoLink, IsOutside, HasNoAddress, HasPrefix, HasWrongAlso, HasWrongCost, HasWrongDirect, spots_of, spots_under, place_spots, interface_spots, also_spots, IsOutsideOf}
-use Rattle.rip_plan.proofs.FindingLemmas.{Finds, no_rows, ranked, steps_finds, bind_rows}
-use Rattle.rip_plan.proofs.FaultRowLemmas.{by_code, IsTold, guard_told, want_told, both_told, interface_from_address, interface_from_cost, interface_from_link, interface_from_outside, interface_from_limit, interface_rows, interface_starts, interfaces_rows, own_from_via, own_from_prefix, own_from_cost, own_from_link, own_from_limit, own_rows, own_starts, owns_rows, router_lists, router_from_duplicate, router_from_name, router_rows, router_starts, routers_rows, interface_row_item, own_row_item, router_row_within, starts_shorter}
+use Rattle.rip_plan.specs.PlanFaults.{nth, IsItem, IsPast, NamesNoLink, IsOutside, HasNoAddress, HasPrefix, HasWrongAlso, HasWrongCost, HasWrongDirect, spots_of, spots_under, place_spots, interface_spots, also_spots}
+use Rattle.rip_plan.proofs.FindingLemmas.{Finds, row_at, no_rows, ranked, steps_finds, bind_rows}
+use Rattle.rip_plan.proofs.FaultRowLemmas.{by_code, IsTold, links_rows, guard_told, want_told, both_told, interface_from_address, interface_from_cost, interface_from_link, interface_from_outside, interface_from_limit, interface_rows, interface_starts, interfaces_rows, own_from_via, own_from_prefix, own_from_cost, own_from_link, own_from_limit, own_rows, own_starts, owns_rows, router_lists, router_from_duplicate, router_from_name, router_rows, router_starts, routers_rows, interface_row_item, own_row_item, router_row_within, starts_shorter}
 use Rattle.rip_plan.proofs.FurtherAddressLemmas.{also_here, also_in, also_items, also_under, also_within}
-use Rattle.rip_plan.proofs.FirstPassLemmas.{room_for}
 use Rattle.rip_plan.proofs.OrderLemmas.{starts_high}
-use Rattle.rip_plan.proofs.SpotLemmas.{nth_from, place_once, interface_once, own_here, under_here, nth_here, item_once, count_of}
-use Rattle.rip_plan.proofs.TakenSpotLemmas.{further, place_ats, interface_ats, links_stand, interfaces_stand, owns_stand, routers_stand}
-use Rattle.rip_plan.proofs.ItemLemmas.{any_at, any_finds, get_split, position_finds, position_none, distinct_at, distinct_push, get_seen, see_got, get_left}
-use Rattle.rip_plan.proofs.TableLemmas.{HasInterfaceFields, IsTextIf, router_table, interface_texts, own_texts, addresses_told, addresses_clear, cost_is, cost_within, cost_told, cost_clear, direct_told, direct_clear, gateway_told, gateway_clear, IsReadOf, addresses_read}
+use Rattle.rip_plan.proofs.SpotLemmas.{with_number, nth_from, place_once, interface_once, own_here, under_here, nth_here, item_once, count_of}
+use Rattle.rip_plan.proofs.ItemLemmas.{any_at, any_finds, position_none, get_seen, see_got, get_left}
+use Rattle.rip_plan.proofs.TableLemmas.{IsTextIf, addresses_told, addresses_clear, cost_fits, direct_fits, direct_is, direct_within, gateway_fits, gateway_is, link_is, map_none, cost_is, cost_within, cost_told, direct_told, gateway_told, IsReadOf, addresses_read}
+use Rattle.std.proofs.lemmas.List.{map-append}
 use Rattle.rip_plan.proofs.MatchingLemmas.{matched_left, matched_length, matched_right}
-use Rattle.rip_plan.proofs.OnePlanLemmas.{cost_same, text_same}
-use Rattle.rip_plan.proofs.PlanMatchLemmas.{placement, links_added, routers_added}
-use Rattle.rip_plan.proofs.BindLemmas.{bind_ok, ok_same}
-use Rattle.rip_plan.proofs.TakenStepLemmas.{with_link, with_router, prefix_taken, link_taken, interface_taken, own_taken, router_taken}
+use Rattle.rip_plan.proofs.OnePlanLemmas.{text_same}
+use Rattle.rip_plan.proofs.PlanMatchLemmas.{TablesRead, room_for, with_router, placement, interfaces_added, owns_added, stood, tables_read}
+use Rattle.rip_plan.proofs.PlanPartLemmas.{also_flat, also_numbered, also_sum, link_prefix, names_differ, attached_not, inside_not, known_not, prefix_place}
 use Rattle.rip_plan.proofs.LookupLemmas.{name_same, on_seat}
-use Rattle.rip_plan.proofs.LinkFaultLemmas.{table_here, table_same, misnamed_told, misnamed_clear, again_told, again_clear}
-use Rattle.rip_plan.proofs.TextLemmas.{TextLaws, address_is, prefix_is, no_address, no_prefix, one_address, one_prefix}
+use Rattle.rip_plan.proofs.LinkFaultLemmas.{links_find, table_here, table_same, misnamed_told, misnamed_clear, again_told, again_clear}
+use Rattle.rip_plan.proofs.TextLemmas.{TextLaws, first_named, address_is, prefix_is, no_address, no_prefix, one_prefix}
 use Rattle.rip_plan.specs.Texts.{IsAddressText, IsPrefixText}
 use Rattle.rip_plan.specs.DocumentTables.{IsRouterTable, IsInterfaceTable, IsOwnTable}
-use Rattle.rip_plan.proofs.DocumentTableLemmas.{router_told, router_not, interface_told, interface_not, own_told, own_not}
+use Rattle.rip_plan.proofs.DocumentTableLemmas.{HasInterfaceFields, interface_not, interface_texts, own_not, own_texts, router_not, router_table}
 
 past_most : (n : ℕ) → nat_le 1024 n ≡ false → 1024 ≤ n → ⊥
 past_most n e le = grind (arith, nat_tests)
@@ -70,46 +66,11 @@ unknown_told links v matched x name has none = (
       cc,
 )
 
--- the link of the number has the name
-record NamedAt (links : List Data) (v : Sketch) (name : List ℕ) (l : ℕ) : Type 0 where
-  table : Data
-  listed : slice_get links l ≡ Some table
-  its : IsNameOf name table
-  kept : slice_get v.links l ≡ Some name
-
-named_at : (links : List Data) (v : Sketch) → Matched IsNameOf v.links links → (name : List ℕ) (l : ℕ) → number_of_name name v.links ≡ Some l → NamedAt links v name l
-named_at links v matched name l h =
-    let (k, m, number, at, test) = position_finds (λ (y : List ℕ). bytes_eq y name) 0 v.links l h in
-    let same : m ≡ name = (bytes_eq-Decides m name).0 test in
-    let here : k ≡ l = omega arith in
-    let (table, listed, its) = matched_left IsNameOf v.links links k m matched at in
-    rw (← here) (record { table = table; listed = listed; its = subst (λ (t : List ℕ). IsNameOf t table) same its; kept = at ∙ ap (λ (t : List ℕ). Some t) same })
-
-unknown_clear : (links : List Data) (v : Sketch) → Matched IsNameOf v.links links → (x : Data) (name : List ℕ) → get (codes_of "link") x ≡ Some (string name) → (l : ℕ)
-    → number_of_name name v.links ≡ Some l → NamesNoLink links x → ⊥
-unknown_clear links v matched x name has l h (other, has_other, none) =
-    let found = named_at links v matched name l h in
-    let same : name ≡ other = text_same (codes_of "link") x name other has has_other in
-    none l found.table found.listed (subst (λ (t : List ℕ). IsNameOf t found.table) same found.its)
-
 -- the same of a link that may be given
 attached_told : (links : List Data) (v : Sketch) → Matched IsNameOf v.links links → (x : Data) (name : Option (List ℕ)) → IsTextIf (get (codes_of "link") x) name → link_if name v.links ≡ None
     → NamesNoLink links x
 attached_told links v matched x None has h = absurd (none-some None (sym h))
-attached_told links v matched x (Some name) has h = by_number (number_of_name name v.links) refl h
-  where
-    by_number : (o : Option ℕ) → number_of_name name v.links ≡ o → option_map Some o ≡ None → NamesNoLink links x
-    by_number None e g = unknown_told links v matched x name has e
-    by_number (Some l) e g = absurd (none-some (Some l) (sym g))
-
-attached_clear : (links : List Data) (v : Sketch) → Matched IsNameOf v.links links → (x : Data) (name : Option (List ℕ)) (link : Option ℕ) → IsTextIf (get (codes_of "link") x) name
-    → link_if name v.links ≡ Some link → NamesNoLink links x → ⊥
-attached_clear links v matched x None link has h n = none-some (string n.0) (sym has ∙ n.1)
-attached_clear links v matched x (Some name) link has h n = by_number (number_of_name name v.links) refl h
-  where
-    by_number : (o : Option ℕ) → number_of_name name v.links ≡ o → option_map Some o ≡ Some link → ⊥
-    by_number None e g = none-some link g
-    by_number (Some l) e g = unknown_clear links v matched x name has l e n
+attached_told links v matched x (Some name) has h = unknown_told links v matched x name has (map_none (number_of_name name v.links) h)
 
 -- ---- own prefixes
 
@@ -121,12 +82,12 @@ module _ (document : Members) (links routers done : List Data) (d : Data) (rest 
   own_finds laws front x back v items named count =
       want_told document links routers codes.Key (RouterOwn r j) (as_table x &> own_fields) (own_from_via r j) (by_code (RouterOwn r j) codes.Key codes.Address refl (omega arith)) _
       (λ none. (x, item, own_not x none))
-      (λ f is h. h.2 (subst IsOwnTable (sym (one h.0 h.1)) (own_told x f is)))
+      (λ f is h. h.2 (subst IsOwnTable (sym (one h.0 h.1)) (own_texts x f is).shape))
       (λ f is.
       let fields = own_texts x f is in
       want_told document links routers codes.Address (RouterOwn r j) (address_if f.via) (own_from_prefix r j) (by_code (RouterOwn r j) codes.Address codes.Prefix refl (omega arith)) _
       (λ none. (x, item, gateway_told laws x f.via fields.via none))
-      (λ via gateway h. gateway_clear laws x f.via via fields.via gateway (subst (HasNoAddress (codes_of "via")) (one h.0 h.1) h.2))
+      (λ via gateway h. gateway_fits x via (gateway_is laws x f.via via fields.via gateway) (subst (HasNoAddress (codes_of "via")) (one h.0 h.1) h.2))
       (λ via gateway.
       want_told document links routers codes.Prefix (RouterOwn r j) (prefix_in f.prefix) (own_from_cost r j) (by_code (RouterOwn r j) codes.Prefix codes.Cost refl (omega arith)) _
       (λ none. (x, f.prefix, item, fields.has_prefix, no_prefix laws f.prefix none))
@@ -136,11 +97,11 @@ module _ (document : Members) (links routers done : List Data) (d : Data) (rest 
       (λ p parsed.
       want_told document links routers codes.Cost (RouterOwn r j) (cost_of f.cost) (own_from_link r j) (by_code (RouterOwn r j) codes.Cost codes.UnknownLink refl (omega arith)) _
       (λ none. (x, item, cost_told (get (codes_of "cost") x) f.cost fields.cost none))
-      (λ c costs h. let (z, is_z, bad) = h.2 in cost_clear (get (codes_of "cost") x) f.cost c fields.cost costs z (ap (get (codes_of "cost")) (sym (one h.0 h.1)) ∙ is_z) bad)
+      (λ c costs h. cost_fits x c (cost_is (get (codes_of "cost") x) f.cost c fields.cost costs) (cost_within f.cost c costs) (subst HasWrongCost (one h.0 h.1) h.2))
       (λ c costs.
       want_told document links routers codes.UnknownLink (RouterOwn r j) (link_if f.link v.links) (own_from_limit r j) (by_code (RouterOwn r j) codes.UnknownLink codes.Limit refl (omega arith)) _
       (λ none. (x, item, attached_told links v named x f.link fields.link none))
-      (λ l known h. attached_clear links v named x f.link l fields.link known (subst (NamesNoLink links) (one h.0 h.1) h.2))
+      (λ l known h. attached_not v.links links named x l (link_is v.links x f.link l fields.link known) (subst (NamesNoLink links) (one h.0 h.1) h.2))
       (λ l known.
       guard_told document links routers (nat_le 1024 (length v.places)) codes.Limit (RouterOwn r j) (no_rows (1 ∷ [])) (inl (omega arith)) _
       (λ full. (length v.places, here, most_most (length v.places) full))
@@ -188,129 +149,100 @@ metric_told x f fields c costs none =
     (c, z, cost_is (get (codes_of "cost") x) f.cost c fields.cost costs, least, most, is, bad)
 
 costs_clear : (x : Data) (f : InterfaceFields) → HasInterfaceFields x f → (c e : ℕ) → cost_of f.cost ≡ Some c → direct_of c f.direct ≡ Some e → HasWrongCost x ⊎ HasWrongDirect x → ⊥
-costs_clear x f fields c e costs directs (inl (z, is, bad)) = cost_clear (get (codes_of "cost") x) f.cost c fields.cost costs z is bad
-costs_clear x f fields c e costs directs (inr (b, z, is_cost, least, most, is, bad)) =
-    let same : b ≡ c = cost_same x b c is_cost (cost_is (get (codes_of "cost") x) f.cost c fields.cost costs) in
-    direct_clear c (get (codes_of "direct") x) f.direct e fields.direct directs z is (subst (λ (n : ℕ). IsOutsideOf n z) same bad)
-
--- ---- interfaces
-
--- the links were read
-record Linked (links : List Data) (v : Sketch) : Type 0 where
-  named : Matched IsNameOf v.links links
-  differ : IsDistinct bytes_eq v.links
-  on_links : List DraftPlace
-  owned : List DraftPlace
-  places : v.places ≡ on_links ++ owned
-  placed : Matched IsOnLink (map placement on_links) (items_under (codes_of "prefixes") 0 links)
-  owns : List (ℕ × Data)
-  names : List (List ℕ)
-  own : Matched (IsOwned names) (map placement owned) owns
-
--- the prefixes of a link are those of the places on it
-has_prefix : (links : List Data) (v : Sketch) → Linked links v → (l : ℕ) (k : ℕ) (q : DraftPlace) → slice_get v.places k ≡ Some q → is_on l q.seat ≡ true → HasPrefix links l q.prefix
-has_prefix links v linked l k q h on =
-    let at : slice_get (linked.on_links ++ linked.owned) k ≡ Some q = ap (λ (ps : List DraftPlace). slice_get ps k) (sym linked.places) ∙ h in
-    let seat : q.seat ≡ seats.Link l = on_seat l q.seat on in
-    elim (get_split linked.on_links linked.owned k q at) [
-      | inl here ↦
-          let ((n, item), is, of) =
-          matched_left IsOnLink (map placement linked.on_links) (items_under (codes_of "prefixes") 0 links) k (placement q) linked.placed (see_got placement linked.on_links k q here.0) in
-          let number : seats.Link l ≡ seats.Link n = sym seat ∙ of.seat in
-          let same : n ≡ l = cc in
-          (k, of.text, is ∙ ap (λ (x : ℕ × Data). Some x) (ap (λ (m : ℕ). (m, item)) same ∙ ap (λ (y : Data). (l, y)) of.is_text), of.prefix)
-      | inr there ↦
-          let (y, is, of) = matched_left (IsOwned linked.names) (map placement linked.owned) linked.owns there.0 (placement q) linked.own (see_got placement linked.owned there.0 q there.2) in
-          let wrong : seats.Link l ≡ seats.Own of.own = sym seat ∙ of.seat in
-          absurd cc
+costs_clear x f fields c e costs directs wrong =
+    let cost = cost_is (get (codes_of "cost") x) f.cost c fields.cost costs in
+    let good = cost_within f.cost c costs in
+    elim wrong [
+      | inl bad ↦ cost_fits x c cost good bad
+      | inr bad ↦ direct_fits x c e cost (direct_is (get (codes_of "direct") x) c f.direct e fields.direct directs) (direct_within c f.direct e good.0 directs) bad
     ]
 
-place_has : (laws : TextLaws) (links : List Data) (v : Sketch) → Linked links v → (l : ℕ) (p : Block) → HasPrefix links l p
-    → (k : ℕ) × (q : DraftPlace) × (slice_get v.places k ≡ Some q) × (q.seat ≡ seats.Link l) × (q.prefix ≡ p)
-place_has laws links v linked l p (k, text, is, parsed) =
-    let (x, at, of) = matched_right IsOnLink (map placement linked.on_links) (items_under (codes_of "prefixes") 0 links) k (l, string text) linked.placed is in
-    let (q, listed, seen) = get_seen placement linked.on_links k x at in
-    let same : string text ≡ string of.text = of.is_text in
-    let one : text ≡ of.text = cc in
-    let block : x.prefix ≡ p = one_prefix laws of.text text x.prefix p (sym one) of.prefix parsed in
-    (k, q, rw linked.places (get_left linked.on_links linked.owned k q listed), ap (λ (w : Placement). w.seat) seen ∙ of.seat, ap (λ (w : Placement). w.prefix) seen ∙ block)
+-- ---- interfaces
 
 self_on : (l : ℕ) (q : DraftPlace) → q.seat ≡ seats.Link l → is_on l q.seat ≡ true
 self_on l q e = rw e (grind (arith, nat_tests))
 
 not_both : (a b : Bool) → (a && not b) ≡ false → a ≡ true → b ≡ true
 not_both true true e h = refl
-not_both true false e h = absurd cc
-not_both false b e h = absurd cc
+not_both a b e h = absurd cc
 
 both_not : (a b : Bool) → (a && not b) ≡ true → (a ≡ true) × (b ≡ false)
-both_not true true e = absurd cc
 both_not true false e = (refl, refl)
-both_not false b e = absurd cc
+both_not a b e = absurd cc
 
-contains_test : (p : Block) (a : ℕ) → ContainsAddress p a → has_address p a ≡ true
-contains_test p a h = grind (arith, nat_tests)
+-- the prefixes of a link are those of the places on it
+module _ (laws : TextLaws) (links done : List Data) (poison : Bool) (v : Sketch) (read : TablesRead links done poison v)
+    (differ : (l m : ℕ) (name : List ℕ) → slice_get v.links l ≡ Some name → slice_get v.links m ≡ Some name → l ≡ m) where
+  has_prefix : (l k : ℕ) (q : DraftPlace) → slice_get v.places k ≡ Some q → is_on l q.seat ≡ true → HasPrefix links l q.prefix
+  has_prefix l k q h on =
+      let split : map placement v.places ≡ map placement read.on_links ++ map placement read.owned = ap (map placement) read.places ∙ map-append placement read.on_links read.owned in
+      let at = ap (λ (ps : List Placement). slice_get ps k) (sym split) ∙ see_got placement v.places k q h in
+      link_prefix links done v.links (map placement read.on_links) (map placement read.owned) read.link_prefixes read.own_prefixes l k (placement q) at (on_seat l q.seat on)
 
-test_contains : (p : Block) (a : ℕ) → has_address p a ≡ true → ContainsAddress p a
-test_contains p a h = grind (arith, nat_tests)
+  place_has : (l : ℕ) (p : Block) → HasPrefix links l p → (k : ℕ) × (q : DraftPlace) × (slice_get v.places k ≡ Some q) × (q.seat ≡ seats.Link l) × (q.prefix ≡ p)
+  place_has l p has =
+      let (k, x, at, seat, (text, its, same)) = prefix_place links (map placement read.on_links) read.link_prefixes l p has in
+      let (q, listed, seen) = get_seen placement read.on_links k x at in (
+        k,
+        q,
+        rw read.places (get_left read.on_links read.owned k q listed),
+        ap (λ (w : Placement). w.seat) seen ∙ seat,
+        ap (λ (w : Placement). w.prefix) seen ∙ one_prefix laws text text x.prefix p refl its same,
+      )
 
-outside_told : (laws : TextLaws) (links : List Data) (v : Sketch) → Linked links v → (x : Data) (name text : List ℕ) (a l : ℕ) → get (codes_of "link") x ≡ Some (string name)
-    → get (codes_of "address") x ≡ Some (string text) → address_in text ≡ Some a
-    → number_of_name name v.links ≡ Some l → is_outside l a v.places ≡ true → IsOutside links x
-outside_told laws links v linked x name text a l has has_text parsed h out =
-    let found = named_at links v linked.named name l h in
-    let (some, none) = both_not (list_any (λ (p : DraftPlace). is_on l p.seat) v.places) (list_any (λ (p : DraftPlace). is_on l p.seat && has_address p.prefix a) v.places) out in
-    let (k, q, at, on) = any_finds (λ (p : DraftPlace). is_on l p.seat) v.places some in
-    record {
-      text = text;
-      has_address = has_text;
-      address = a;
-      spelled = address_is laws text a parsed;
-      name = name;
-      has_link = has;
-      link = l;
-      link_table = found.table;
-      listed = found.listed;
-      named = found.its;
-      some = (q.prefix, has_prefix links v linked l k q at on);
-      none = λ p its holds.
-          let (m, w, there, seat, block) = place_has laws links v linked l p its in
-          let test : (is_on l w.seat && has_address w.prefix a) ≡ true =
-          and_from (is_on l w.seat) (has_address w.prefix a) (self_on l w seat) (ap (λ (b : Block). has_address b a) block ∙ contains_test p a holds) in
-          let all : list_any (λ (p : DraftPlace). is_on l p.seat && has_address p.prefix a) v.places ≡ true =
-          any_at (λ (p : DraftPlace). is_on l p.seat && has_address p.prefix a) v.places m w there test in
-          cc;
-    }
+  outside_told : (x : Data) (name text : List ℕ) (a l : ℕ) → get (codes_of "link") x ≡ Some (string name)
+      → get (codes_of "address") x ≡ Some (string text) → address_in text ≡ Some a
+      → number_of_name name v.links ≡ Some l → is_outside l a v.places ≡ true → IsOutside links x
+  outside_told x name text a l has has_text parsed h out =
+      let (d, listed, named) = matched_left IsNameOf v.links links l name read.link_names (first_named name v.links l h).0 in
+      let (some, none) = both_not (list_any (λ (p : DraftPlace). is_on l p.seat) v.places) (list_any (λ (p : DraftPlace). is_on l p.seat && has_address p.prefix a) v.places) out in
+      let (k, q, at, on) = any_finds (λ (p : DraftPlace). is_on l p.seat) v.places some in
+      record {
+        text = text;
+        has_address = has_text;
+        address = a;
+        spelled = address_is laws text a parsed;
+        name = name;
+        has_link = has;
+        link = l;
+        link_table = d;
+        listed = listed;
+        named = named;
+        some = (q.prefix, has_prefix l k q at on);
+        none = λ p its holds.
+            let (m, w, there, seat, block) = place_has l p its in
+            let test : (is_on l w.seat && has_address w.prefix a) ≡ true =
+            and_from (is_on l w.seat) (has_address w.prefix a) (self_on l w seat) (ap (λ (b : Block). has_address b a) block ∙ grind (arith, nat_tests)) in
+            let all : list_any (λ (p : DraftPlace). is_on l p.seat && has_address p.prefix a) v.places ≡ true =
+            any_at (λ (p : DraftPlace). is_on l p.seat && has_address p.prefix a) v.places m w there test in
+            cc;
+      }
 
-outside_clear : (laws : TextLaws) (links : List Data) (v : Sketch) → Linked links v → (x : Data) (name text : List ℕ) (a l : ℕ) → get (codes_of "link") x ≡ Some (string name)
-    → get (codes_of "address") x ≡ Some (string text) → address_in text ≡ Some a
-    → number_of_name name v.links ≡ Some l → is_outside l a v.places ≡ false → IsOutside links x → ⊥
-outside_clear laws links v linked x name text a l has has_text parsed h inside o =
-    let found = named_at links v linked.named name l h in
-    let one : o.name ≡ name = text_same (codes_of "link") x o.name name o.has_link has in
-    let two : o.text ≡ text = text_same (codes_of "address") x o.text text o.has_address has_text in
-    let address : o.address ≡ a = one_address laws o.text text o.address a two o.spelled (address_is laws text a parsed) in
-    let (m, at, of) = matched_right IsNameOf v.links links o.link o.link_table linked.named o.listed in
-    let named : m ≡ name = text_same (codes_of "name") o.link_table m o.name of o.named ∙ one in
-    let number : o.link ≡ l = distinct_at bytes_eq v.links o.link l name name linked.differ (at ∙ ap (λ (t : List ℕ). Some t) named) found.kept (name_same name) (name_same name) in
-    let (k, w, there, seat, block) = place_has laws links v linked l o.some.0 (subst (λ (n : ℕ). HasPrefix links n o.some.0) number o.some.1) in
-    let some : list_any (λ (p : DraftPlace). is_on l p.seat) v.places ≡ true = any_at (λ (p : DraftPlace). is_on l p.seat) v.places k w there (self_on l w seat) in
-    let holds = not_both (list_any (λ (p : DraftPlace). is_on l p.seat) v.places) (list_any (λ (p : DraftPlace). is_on l p.seat && has_address p.prefix a) v.places) inside some in
-    let (n, q, its, tests) = any_finds (λ (p : DraftPlace). is_on l p.seat && has_address p.prefix a) v.places holds in
-    let (on, within) = and_parts (is_on l q.seat) (has_address q.prefix a) tests in
-    o.none q.prefix (subst (λ (i : ℕ). HasPrefix links i q.prefix) (sym number) (has_prefix links v linked l n q its on))
-    (subst (λ (i : ℕ). ContainsAddress q.prefix i) (sym address) (test_contains q.prefix a within))
+  outside_clear : (x : Data) (name text : List ℕ) (a l : ℕ) → get (codes_of "link") x ≡ Some (string name)
+      → get (codes_of "address") x ≡ Some (string text) → address_in text ≡ Some a
+      → number_of_name name v.links ≡ Some l → is_outside l a v.places ≡ false → IsOutside links x → ⊥
+  outside_clear x name text a l has has_text parsed h inside =
+      inside_not laws v.links links read.link_names differ x name text l a has (first_named name v.links l h).0 has_text (address_is laws text a parsed)
+      (λ p its.
+      let (k, w, there, seat, block) = place_has l p its in
+      let some : list_any (λ (p : DraftPlace). is_on l p.seat) v.places ≡ true = any_at (λ (p : DraftPlace). is_on l p.seat) v.places k w there (self_on l w seat) in
+      let holds = not_both (list_any (λ (p : DraftPlace). is_on l p.seat) v.places) (list_any (λ (p : DraftPlace). is_on l p.seat && has_address p.prefix a) v.places) inside some in
+      let (n, q, listed, tests) = any_finds (λ (p : DraftPlace). is_on l p.seat && has_address p.prefix a) v.places holds in
+      let (on, within) = and_parts (is_on l q.seat) (has_address q.prefix a) tests in
+      (q.prefix, has_prefix l n q listed on, grind (arith, nat_tests)))
 
 module _ (document : Members) (links routers done : List Data) (d : Data) (rest : List Data) (split : routers ≡ done ++ d ∷ rest) where
-  interface_finds : (laws : TextLaws) (front : List Data) (x : Data) (back : List Data) (v : Sketch) → items_in (get (codes_of "interface") d) ≡ front ++ x ∷ back → Linked links v
-      → length v.interfaces ≡ length (spots_under (codes_of "interface") RouterInterface 1 done) + length front → further v ≡ also_under done + also_in front → further v ≤ 1024
+  interface_finds : (laws : TextLaws) (front : List Data) (x : Data) (back : List Data) (poison : Bool) (u v : Sketch) → items_in (get (codes_of "interface") d) ≡ front ++ x ∷ back
+      → TablesRead links done poison u → ((l m : ℕ) (name : List ℕ) → slice_get u.links l ≡ Some name → slice_get u.links m ≡ Some name → l ≡ m) → v.links ≡ u.links → v.places ≡ u.places
+      → length v.interfaces ≡ length (spots_under (codes_of "interface") RouterInterface 1 done) + length front → sum_by length v.also ≡ also_under done + also_in front → sum_by length v.also ≤ 1024
       → Finds (IsTold document links routers) (interface_rows (1 + length done) (1 + length front)).has (interface_step (1 + length done) (1 + length front) x v)
   unfolding interface_step
-  interface_finds laws front x back v items linked count sum few =
+  interface_finds laws front x back poison u v items read differ names places count sum few =
+      let named : Matched IsNameOf v.links links = subst (λ (ns : List (List ℕ)). Matched IsNameOf ns links) (sym names) read.link_names in
       want_told document links routers codes.Key (RouterInterface r j) (as_table x &> interface_fields) (interface_from_address r j)
       (by_code (RouterInterface r j) codes.Key codes.Address refl (omega arith)) _
       (λ none. (x, item, interface_not x none))
-      (λ f is h. h.2 (subst IsInterfaceTable (sym (one h.0 h.1)) (interface_told x f is)))
+      (λ f is h. h.2 (subst IsInterfaceTable (sym (one h.0 h.1)) (interface_texts x f is).shape))
       (λ f is.
       let fields = interface_texts x f is in
       both_told document links routers codes.Address (RouterInterface r j) (address_in f.address) (λ a. addresses_in f.also) (interface_from_cost r j)
@@ -327,13 +259,19 @@ module _ (document : Members) (links routers done : List Data) (d : Data) (rest 
       (λ c e costs directs.
       want_told document links routers codes.UnknownLink (RouterInterface r j) (number_of_name f.link v.links) (interface_from_outside r j)
       (by_code (RouterInterface r j) codes.UnknownLink codes.OutsidePrefix refl (omega arith)) _
-      (λ none. (x, item, unknown_told links v linked.named x f.link fields.has_link none))
-      (λ l known h. unknown_clear links v linked.named x f.link fields.has_link l known (subst (NamesNoLink links) (one h.0 h.1) h.2))
+      (λ none. (x, item, unknown_told links v named x f.link fields.has_link none))
+      (λ l known h. known_not v.links links named x f.link l fields.has_link (first_named f.link v.links l known).0 (subst (NamesNoLink links) (one h.0 h.1) h.2))
       (λ l known.
       guard_told document links routers (is_outside l a v.places) codes.OutsidePrefix (RouterInterface r j) (interface_from_limit r j)
       (by_code (RouterInterface r j) codes.OutsidePrefix codes.Limit refl (omega arith)) _
-      (λ out. (x, item, outside_told laws links v linked x f.link f.address a l fields.has_link fields.has_address parsed known out))
-      (λ inside h. outside_clear laws links v linked x f.link f.address a l fields.has_link fields.has_address parsed known inside (subst (IsOutside links) (one h.0 h.1) h.2))
+      (λ out. (
+        x,
+        item,
+        outside_told laws links done poison u read differ x f.link f.address a l fields.has_link fields.has_address parsed (ap (number_of_name f.link) (sym names) ∙ known)
+            (ap (is_outside l a) (sym places) ∙ out),
+      ))
+      (λ inside h. outside_clear laws links done poison u read differ x f.link f.address a l fields.has_link fields.has_address parsed (ap (number_of_name f.link) (sym names) ∙ known)
+      (ap (is_outside l a) (sym places) ∙ inside) (subst (IsOutside links) (one h.0 h.1) h.2))
       (λ inside.
       guard_told document links routers (is_full v also) codes.Limit (RouterInterface r j) (no_rows (1 ∷ [])) (inl (omega arith)) _
       (λ full. full_told also (also_length x f fields also others) full)
@@ -357,16 +295,15 @@ module _ (document : Members) (links routers done : List Data) (d : Data) (rest 
 
       full_told : (also : List ℕ) → length also ≡ length (also_items x) → is_full v also ≡ true
           → IsPast 1024 (interface_spots routers) (RouterInterface (1 + length done) (1 + length front)) ⊎ IsPast 1024 (also_spots routers) (RouterInterface (1 + length done) (1 + length front))
-      full_told also same full = by_test (nat_le 1024 (length v.interfaces)) refl full
-        where
-          by_test : (b : Bool) → nat_le 1024 (length v.interfaces) ≡ b → (b || nat_lt 1024 (further v + length also)) ≡ true
-              → IsPast 1024 (interface_spots routers) (RouterInterface (1 + length done) (1 + length front)) ⊎ IsPast 1024 (also_spots routers) (RouterInterface (1 + length done) (1 + length front))
-          by_test true e h = inl (length v.interfaces, here, most_most (length v.interfaces) e)
-          by_test false e h =
-              let over : 1024 < further v + length also = grind (arith, nat_tests) in
-              let last : ℕ = length (also_items x) - 1 in
-              let at = also_here 1 done d rest front x back items last (omega arith) (also_under done + (also_in front + last)) refl in
-              inr (also_under done + (also_in front + last), rw split at, omega arith)
+      full_told also same full =
+          elim (cases_Bool (nat_le 1024 (length v.interfaces))) [
+            | inl e ↦ inl (length v.interfaces, here, most_most (length v.interfaces) e)
+            | inr e ↦
+                let over : 1024 < sum_by length v.also + length also = grind (arith, nat_tests, rw e at full) in
+                let last : ℕ = length (also_items x) - 1 in
+                let at = also_here 1 done d rest front x back items last (omega arith) (also_under done + (also_in front + last)) refl in
+                inr (also_under done + (also_in front + last), rw split at, omega arith)
+          ]
 
       full_clear : (also : List ℕ) → length also ≡ length (also_items x) → is_full v also ≡ false
           → IsPast 1024 (interface_spots routers) (RouterInterface (1 + length done) (1 + length front)) ⊎ IsPast 1024 (also_spots routers) (RouterInterface (1 + length done) (1 + length front)) → ⊥
@@ -385,115 +322,45 @@ module _ (document : Members) (links routers done : List Data) (d : Data) (rest 
 
 -- ---- routers
 
-linked_same : (links : List Data) (s t : Sketch) → t.links ≡ s.links → t.places ≡ s.places → Linked links s → Linked links t
-linked_same links s t names places h = record {
-  named = subst (λ (l : List (List ℕ)). Matched IsNameOf l links) (sym names) h.named;
-  differ = subst (IsDistinct bytes_eq) (sym names) h.differ;
-  on_links = h.on_links;
-  owned = h.owned;
-  places = places ∙ h.places;
-  placed = h.placed;
-  owns = h.owns;
-  names = h.names;
-  own = h.own;
-}
-
-prefixes_leave : (i j : ℕ) (xs : List Data) (s t : Sketch) → steps (prefix_step i) j xs s ≡ Ok t → t.links ≡ s.links
-prefixes_leave i j [] s t h = ap (λ (v : Sketch). v.links) (sym (ok_same s t h))
-prefixes_leave i j (x ∷ xs) s t h =
-    let (u, first, others) = bind_ok (prefix_step i j x s) (steps (prefix_step i) (j + 1) xs) t h in
-    prefixes_leave i (j + 1) xs u t others ∙ ap (λ (v : Sketch). v.links) (prefix_taken i j x s u first).added.made
-
-names_differ : (i : ℕ) (xs : List Data) (s t : Sketch) → IsDistinct bytes_eq s.links → steps link_step i xs s ≡ Ok t → IsDistinct bytes_eq t.links
-names_differ i [] s t d h = subst (λ (v : Sketch). IsDistinct bytes_eq v.links) (ok_same s t h) d
-names_differ i (x ∷ xs) s t d h =
-    let (u, first, others) = bind_ok (link_step i x s) (steps link_step (i + 1) xs) t h in
-    let taken = link_taken i x s u first in
-    let left = prefixes_leave i 1 taken.prefixes (with_link taken.name s) u taken.others in
-    names_differ (i + 1) xs u t (subst (IsDistinct bytes_eq) (sym left) (distinct_push bytes_eq s.links taken.name d taken.fresh)) others
-
-interfaces_leave : (r j : ℕ) (xs : List Data) (s t : Sketch) → steps (interface_step r) j xs s ≡ Ok t → (t.links ≡ s.links) × (t.places ≡ s.places)
-interfaces_leave r j [] s t h = (ap (λ (v : Sketch). v.links) (sym (ok_same s t h)), ap (λ (v : Sketch). v.places) (sym (ok_same s t h)))
-interfaces_leave r j (x ∷ xs) s t h =
-    let (u, first, others) = bind_ok (interface_step r j x s) (steps (interface_step r) (j + 1) xs) t h in
-    let taken = interface_taken r j x s u first in
-    let more = interfaces_leave r (j + 1) xs u t others in
-    (more.0 ∙ ap (λ (v : Sketch). v.links) taken.made, more.1 ∙ ap (λ (v : Sketch). v.places) taken.made)
-
-owns_leave : (r j : ℕ) (xs : List Data) (s t : Sketch) → steps (own_step r) j xs s ≡ Ok t → t.links ≡ s.links
-owns_leave r j [] s t h = ap (λ (v : Sketch). v.links) (sym (ok_same s t h))
-owns_leave r j (x ∷ xs) s t h =
-    let (u, first, others) = bind_ok (own_step r j x s) (steps (own_step r) (j + 1) xs) t h in
-    owns_leave r (j + 1) xs u t others ∙ ap (λ (v : Sketch). v.links) (own_taken r j x s u first).added.made
-
--- there are never too many further addresses
-few_interfaces : (r j : ℕ) (xs : List Data) (s t : Sketch) → further s ≤ 1024 → steps (interface_step r) j xs s ≡ Ok t → further t ≤ 1024
-few_interfaces r j [] s t few h = rw (← ok_same s t h) few
-few_interfaces r j (x ∷ xs) s t few h =
-    let (u, first, others) = bind_ok (interface_step r j x s) (steps (interface_step r) (j + 1) xs) t h in
-    let taken = interface_taken r j x s u first in
-    let room = room_for s taken.also taken.room in
-    few_interfaces r (j + 1) xs u t (omega (arith, room.1, ap further taken.made ∙ sum_by_push length s.also taken.also)) others
-
-few_routers : (r : ℕ) (xs : List Data) (s t : Sketch) → further s ≤ 1024 → steps router_step r xs s ≡ Ok t → further t ≤ 1024
-few_routers r [] s t few h = rw (← ok_same s t h) few
-few_routers r (x ∷ xs) s t few h =
-    let (u, first, others) = bind_ok (router_step r x s) (steps router_step (r + 1) xs) t h in
-    let taken = router_taken r x s u first in
-    let inner : further taken.between ≤ 1024 = few_interfaces r 1 taken.interfaces (with_router taken.name s) taken.between few taken.first in
-    let own = owns_stand r 1 taken.owns taken.between u taken.second in
-    few_routers (r + 1) xs u t (omega (arith, own.also)) others
-
-none_differ : IsDistinct bytes_eq []
-unfolding IsDistinct
-none_differ = tt
-
-linked_through : (laws : TextLaws) (links done : List Data) (poison : Bool) (w u : Sketch) → steps link_step 1 links (empty poison) ≡ Ok w → steps router_step 1 done w ≡ Ok u → Linked links u
-linked_through laws links done poison w u first second =
-    let added = links_added laws 0 links (empty poison) w first in
-    let more = routers_added laws 0 done w u second in
-    let names : u.links ≡ added.names = ap (λ (v : Sketch). v.links) more.made ∙ ap (λ (v : Sketch). v.links) added.made in
-    record {
-      named = subst (λ (l : List (List ℕ)). Matched IsNameOf l links) (sym names) added.named;
-      differ = subst (IsDistinct bytes_eq) (sym (ap (λ (v : Sketch). v.links) more.made)) (names_differ 1 links (empty poison) w none_differ first);
-      on_links = added.added;
-      owned = more.owned;
-      places = ap (λ (v : Sketch). v.places) more.made ∙ ap (λ (v : Sketch). v.places ++ more.owned) added.made;
-      placed = added.placed;
-      owns = items_under (codes_of "own") 0 done;
-      names = w.links;
-      own = more.own;
-    }
-
-places_count : (u : Sketch) (spots : List At) → place_ats u ≡ spots → length u.places ≡ length spots
-places_count u spots h = sym (length-map u.places (λ (p : DraftPlace). p.at)) ∙ ap length h
-
-interfaces_count : (u : Sketch) (spots : List At) → interface_ats u ≡ spots → length u.interfaces ≡ length spots
-interfaces_count u spots h = sym (length-map u.interfaces (λ (p : DraftInterface). p.at)) ∙ ap length h
-
 module _ (document : Members) (links routers done : List Data) (d : Data) (rest : List Data) (split : routers ≡ done ++ d ∷ rest) (poison : Bool) (w u : Sketch)
     (first : steps link_step 1 links (empty poison) ≡ Ok w) (second : steps router_step 1 done w ≡ Ok u) where
+  -- no two links have one name
+  names_apart : (laws : TextLaws) (l m : ℕ) (name : List ℕ) → slice_get u.links l ≡ Some name → slice_get u.links m ≡ Some name → l ≡ m
+  names_apart laws =
+      let read = tables_read laws links done poison w u first second in
+      let none : Finds (IsTold document links routers) {A = Sketch} links_rows.has (Ok w) =
+      subst (λ (r : Result Sketch PlanError). Finds (IsTold document links routers) links_rows.has r) first (links_find laws document links routers poison) in
+      names_differ u.links links read.link_names
+      (λ i again. none (row_at codes.DuplicateName (Link i)) (i, (nth_from links i again.0 again.4).0, inr (inr (inl refl))) (again, refl))
+
   interfaces_find : (laws : TextLaws) (name : List ℕ) (all : List Data) → items_in (get (codes_of "interface") d) ≡ all
       → Finds (IsTold document links routers) (interfaces_rows (1 + length done)).has (steps (interface_step (1 + length done)) 1 all (with_router name u))
   interfaces_find laws name all items =
       steps_finds (IsTold document links routers) (interface_step r) (λ j. (interface_rows r j).has) (0 ∷ 2 ∷ r ∷ 1 ∷ []) (interface_starts r) all (with_router name u)
       (λ front x back v parts taken.
-      let left = interfaces_leave r 1 front (with_router name u) v taken in
-      let linked = linked_same links u v left.0 left.1 (linked_through laws links done poison w u first second) in
-      let none = links_stand 1 links (empty poison) w first in
-      let before = routers_stand 1 done w u second in
-      let inner = interfaces_stand r 1 front (with_router name u) v taken in
-      let start : interface_ats u ≡ spots_under (codes_of "interface") RouterInterface 1 done = before.interfaces
-      ∙ ap (λ (l : List At). l ++ spots_under (codes_of "interface") RouterInterface 1 done) none.interfaces in
-      let two : length v.interfaces ≡ length (interface_ats u ++ spots_of (RouterInterface r) 1 front) =
-      interfaces_count v (interface_ats u ++ spots_of (RouterInterface r) 1 front) inner.interfaces in
-      let three : length (interface_ats u) ≡ length (spots_under (codes_of "interface") RouterInterface 1 done) = ap length start in
-      let empty_none : further (empty poison) ≡ 0 = refl in
-      let few : further u ≤ 1024 = few_routers 1 done w u (omega (arith, none.also)) second in
-      interface_finds document links routers done d rest split laws front x back v (items ∙ parts) linked
-      (omega (arith, two, three, length-append (interface_ats u) (spots_of (RouterInterface r) 1 front), count_of (RouterInterface r) 1 front))
-      (omega (arith, none.also, before.also, inner.also))
-      (few_interfaces r 1 front (with_router name u) v few taken))
+      let read = tables_read laws links done poison w u first second in
+      let inner = interfaces_added laws r 1 front (with_router name u) v taken in
+      let also : v.also ≡ u.also ++ inner.further = ap (λ (t : Sketch). t.also) inner.made in
+      interface_finds document links routers done d rest split laws front x back poison u v (items ∙ parts) read (names_apart laws) (ap (λ (t : Sketch). t.links) inner.made)
+      (ap (λ (t : Sketch). t.places) inner.made)
+      (omega (
+        arith,
+        ap (λ (t : Sketch). length t.interfaces) inner.made,
+        length-append u.interfaces inner.added,
+        stood (λ (i : DraftInterface). i.at) u.interfaces (interface_spots done) read.interfaces_stand,
+        stood (λ (i : DraftInterface). i.at) inner.added (spots_of (RouterInterface r) 1 front) inner.stand,
+        count_of (RouterInterface r) 1 front,
+      ))
+      (omega (
+        arith,
+        ap (sum_by length) also,
+        sum_by-append length u.also inner.further,
+        also_sum u.also (items_under (codes_of "interface") 0 done) read.also,
+        also_flat 0 done,
+        also_sum inner.further (map (with_number (r - 1)) front) inner.also_match,
+        also_numbered (r - 1) front,
+      ))
+      (inner.few read.few))
       (λ m o past row f.
       let (x, (e, is, item)) = interface_row_item document links routers r m o row f in
       let same : e ≡ d = same_Some e d (sym is ∙ rw split (nth_here done d rest r refl)) in
@@ -510,20 +377,23 @@ module _ (document : Members) (links routers done : List Data) (d : Data) (rest 
   owns_find laws name ins v0 between all items =
       steps_finds (IsTold document links routers) (own_step r) (λ j. (own_rows r j).has) (0 ∷ 2 ∷ r ∷ 2 ∷ []) (own_starts r) all v0
       (λ front x back v parts taken.
-      let left = interfaces_leave r 1 ins (with_router name u) v0 between in
-      let none = links_stand 1 links (empty poison) w first in
-      let before = routers_stand 1 done w u second in
-      let inner = owns_stand r 1 front v0 v taken in
+      let read = tables_read laws links done poison w u first second in
+      let left = interfaces_added laws r 1 ins (with_router name u) v0 between in
+      let inner = owns_added laws r 1 front v0 v taken in
+      let names : v.links ≡ u.links = ap (λ (t : Sketch). t.links) inner.made ∙ ap (λ (t : Sketch). t.links) left.made in
+      let places : v.places ≡ u.places ++ inner.added = ap (λ (t : Sketch). t.places) inner.made ∙ ap (λ (t : Sketch). t.places ++ inner.added) left.made in
       let on_links = spots_under (codes_of "prefixes") LinkPrefix 1 links in
       let own = spots_under (codes_of "own") RouterOwn 1 done in
-      let start : place_ats u ≡ on_links ++ own = before.places ∙ ap (λ (l : List At). l ++ own) none.places in
-      let same : place_ats v0 ≡ on_links ++ own = ap (map (λ (p : DraftPlace). p.at)) left.1 ∙ start in
-      let two : length v.places ≡ length (place_ats v0 ++ spots_of (RouterOwn r) 1 front) = places_count v (place_ats v0 ++ spots_of (RouterOwn r) 1 front) inner.places in
-      let three : length (place_ats v0) ≡ length (on_links ++ own) = ap length same in
-      let names : v.links ≡ u.links = owns_leave r 1 front v0 v taken ∙ left.0 in
-      own_finds document links routers done d rest split laws front x back v (items ∙ parts)
-      (subst (λ (l : List (List ℕ)). Matched IsNameOf l links) (sym names) (linked_through laws links done poison w u first second).named)
-      (omega (arith, two, three, length-append on_links own, length-append (place_ats v0) (spots_of (RouterOwn r) 1 front), count_of (RouterOwn r) 1 front)))
+      own_finds document links routers done d rest split laws front x back v (items ∙ parts) (subst (λ (l : List (List ℕ)). Matched IsNameOf l links) (sym names) read.link_names)
+      (omega (
+        arith,
+        ap length places,
+        length-append u.places inner.added,
+        stood (λ (p : DraftPlace). p.at) u.places (place_spots links done) read.places_stand,
+        length-append on_links own,
+        stood (λ (p : DraftPlace). p.at) inner.added (spots_of (RouterOwn r) 1 front) inner.stand,
+        count_of (RouterOwn r) 1 front,
+      )))
       (λ m o past row f.
       let (x, (e, is, item)) = own_row_item document links routers r m o row f in
       let same : e ≡ d = same_Some e d (sym is ∙ rw split (nth_here done d rest r refl)) in
@@ -538,13 +408,10 @@ module _ (document : Members) (links routers done : List Data) (d : Data) (rest 
   unfolding router_step
   router_finds laws =
       let r : ℕ = 1 + length done in
-      let before = links_added laws 0 links (empty poison) w first in
-      let added = routers_added laws 0 done w u second in
-      let names : u.routers ≡ added.names = ap (λ (v : Sketch). v.routers) added.made ∙ ap (λ (v : Sketch). v.routers ++ added.names) before.made in
-      let named : Matched IsNameOf u.routers done = subst (λ (l : List (List ℕ)). Matched IsNameOf l done) (sym names) added.named in
+      let named = (tables_read laws links done poison w u first second).router_names in
       want_told document links routers codes.Key (Router r) (as_table d &> router_fields) (router_from_name r) (by_code (Router r) codes.Key codes.Name refl (omega arith)) _
       (λ none. (d, table_here laws routers done d rest split, router_not d none))
-      (λ f is h. h.2 (subst IsRouterTable (sym (table_same laws routers done d rest split h.0 h.1)) (router_told d f is)))
+      (λ f is h. h.2 (subst IsRouterTable (sym (table_same laws routers done d rest split h.0 h.1)) (router_table d f.0 f.1 f.2 is).shape))
       (λ f is.
       let table = router_table d f.0 f.1 f.2 is in
       guard_told document links routers (not (is_name f.0)) codes.Name (Router r) (router_from_duplicate r) (by_code (Router r) codes.Name codes.DuplicateName refl (omega arith)) _

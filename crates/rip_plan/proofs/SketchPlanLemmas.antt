@@ -1,10 +1,9 @@
 -- The plan of what was read: its parts, the routers that a seat of it touches, and those on a link.
-use Rattle.std.proofs.Common.{◌≡◌, ℕ, ◌<◌, inl, inr, List, true, false, ◌&&◌, Some, length, refl, sym, ◌∙◌, ap, arith}
+use Rattle.std.proofs.Common.{◌≡◌, ℕ, inl, inr, List, true, false, ◌&&◌, Some, refl, sym, ◌∙◌, ap, arith}
 use Rattle.std.specs.Prelude.{slice_get, ◌==◌}
 use Rattle.std.specs.List.{list_any}
 use Rattle.std.proofs.lemmas.Bool.{and_parts, eqb-true, or_cases}
 use Rattle.std.proofs.lemmas.Bool.Decides.{nat_tests}
-use Rattle.std.proofs.lemmas.Option.{same_Some, slice_get_within}
 use Rattle.rip_plan.specs.declared.draft.DraftInterface.{DraftInterface}
 use Rattle.rip_plan.specs.declared.draft.DraftPlace.{DraftPlace}
 use Rattle.rip_plan.specs.declared.parts.Interface.{Interface}
@@ -13,10 +12,11 @@ use Rattle.rip_plan.specs.declared.parts.Seat.TheVariants as seats
 use Rattle.rip_plan.specs.Draft.{Sketch}
 use Rattle.rip_plan.specs.Network.{network_of_sketch}
 use Rattle.rip_plan.specs.Passes.{is_there, touched}
-use Rattle.rip_plan.specs.Relations.{IsOn, IsPlace, IsPrefix, Touches}
+use Rattle.rip_plan.specs.Relations.{IsInterface, IsOn, IsPlace, IsPrefix, Touches}
 use Rattle.rip_plan.proofs.ClashLemmas.{any_listed}
-use Rattle.rip_plan.proofs.ItemLemmas.{any_at, any_finds, get_seen, get_some, see_got}
-use Rattle.rip_plan.proofs.NumberingLemmas.{numbers}
+use Rattle.rip_plan.proofs.ItemLemmas.{any_at, any_finds, get_seen, see_got}
+use Rattle.rip_plan.proofs.NumberingLemmas.{IsNumbered, numbers}
+use Rattle.rip_plan.proofs.MatchingLemmas.{matched_left, matched_right}
 
 -- the routers with an interface on a link
 link_touched : (is : List DraftInterface) (l r : ℕ) → list_any (λ m. m == r) (touched is (seats.Link l)) ≡ list_any (λ i. i.interface.link == l && i.interface.router == r) is
@@ -28,30 +28,32 @@ module _ (s : Sketch) where
   pub interface_in : (i : ℕ) (v : Interface) → slice_get (network_of_sketch s).interfaces i ≡ Some v → (x : DraftInterface) × (slice_get s.interfaces i ≡ Some x) × (x.interface ≡ v)
   interface_in i v h = get_seen (λ (x : DraftInterface). x.interface) s.interfaces i v h
 
-  pub interface_from : (i : ℕ) (x : DraftInterface) → slice_get s.interfaces i ≡ Some x → slice_get (network_of_sketch s).interfaces i ≡ Some x.interface
-  interface_from i x h = see_got (λ (y : DraftInterface). y.interface) s.interfaces i x h
-
   -- an interface with this router and this link
-  pub listed_as : (i : ℕ) (x : DraftInterface) (r l : ℕ) → slice_get s.interfaces i ≡ Some x → x.interface.router ≡ r → x.interface.link ≡ l
+  listed_as : (i : ℕ) (x : DraftInterface) (r l : ℕ) → slice_get s.interfaces i ≡ Some x → x.interface.router ≡ r → x.interface.link ≡ l
       → slice_get (network_of_sketch s).interfaces i ≡ Some (record x.interface { router = r; link = l })
   listed_as i x r l at router link =
-      interface_from i x at ∙ ap (λ (m : ℕ). Some (record x.interface { router = m })) router
+      see_got (λ (y : DraftInterface). y.interface) s.interfaces i x at ∙ ap (λ (m : ℕ). Some (record x.interface { router = m })) router
       ∙ ap (λ (m : ℕ). Some (record x.interface { router = r; link = m })) link
+
+  pub interface_as : (i : ℕ) (x : DraftInterface) (r l : ℕ) → slice_get s.interfaces i ≡ Some x → x.interface.router ≡ r → x.interface.link ≡ l
+      → IsInterface (network_of_sketch s) i r l x.interface.cost
+  interface_as i x r l at router link = record { address = x.interface.address; direct = x.interface.direct; poison = x.interface.poison; listed = listed_as i x r l at router link }
+
+  pub as_interface : (i r l c : ℕ) → IsInterface (network_of_sketch s) i r l c → (x : DraftInterface) × (slice_get s.interfaces i ≡ Some x) × (x.interface.router ≡ r) × (x.interface.link ≡ l)
+  as_interface i r l c is =
+      let (x, at, same) = interface_in i _ is.listed in
+      (x, at, ap (λ (v : Interface). v.router) same, ap (λ (v : Interface). v.link) same)
 
   pub place_in : (k p : ℕ) (seat : Seat) → IsPlace (network_of_sketch s) k p seat
       → (d : DraftPlace) × (slice_get s.places k ≡ Some d) × (slice_get (network_of_sketch s).prefixes p ≡ Some d.prefix) × (seat ≡ d.seat)
-  place_in k p seat h = (numbers s.places).each k (record { prefix = p; seat = seat }) h.listed
+  place_in k p seat h =
+      let (d, at, (prefix, same)) = matched_left (IsNumbered (network_of_sketch s).prefixes) (network_of_sketch s).places s.places k (record { prefix = p; seat = seat }) (numbers s.places) h.listed in
+      (d, at, prefix, same)
 
   pub place_from : (k : ℕ) (d : DraftPlace) → slice_get s.places k ≡ Some d → (p : ℕ) × IsPlace (network_of_sketch s) k p d.seat × IsPrefix (network_of_sketch s) p d.prefix
   place_from k d h =
-      let below : k < length (network_of_sketch s).places = omega (arith, (numbers s.places).count, slice_get_within s.places k d h) in
-      let (q, is) = get_some (network_of_sketch s).places k below in
-      let (e, there, prefix, seat) = (numbers s.places).each k q is in
-      let same : e ≡ d = same_Some e d (sym there ∙ h) in (
-        q.prefix,
-        record { listed = is ∙ ap (λ x. Some (record { prefix = q.prefix; seat = x })) (seat ∙ ap (λ (x : DraftPlace). x.seat) same) },
-        prefix ∙ ap (λ (x : DraftPlace). Some x.prefix) same,
-      )
+      let (q, is, (prefix, seat)) = matched_right (IsNumbered (network_of_sketch s).prefixes) (network_of_sketch s).places s.places k d (numbers s.places) h in
+      (q.prefix, record { listed = is ∙ ap (λ x. Some (record { prefix = q.prefix; seat = x })) seat }, prefix)
 
   -- ---- the routers that a seat touches
 
@@ -82,12 +84,9 @@ module _ (s : Sketch) where
   there_on r l h =
       let (i, x, at, test) = any_finds (λ (y : DraftInterface). y.interface.router == r && y.interface.link == l) s.interfaces h in
       let (of, on) = and_parts (x.interface.router == r) (x.interface.link == l) test in
-      let listed = listed_as i x r l at (eqb-true x.interface.router r of) (eqb-true x.interface.link l on) in
-      (x.interface.cost, (i, record { address = x.interface.address; direct = x.interface.direct; poison = x.interface.poison; listed = listed }))
+      (x.interface.cost, (i, interface_as i x r l at (eqb-true x.interface.router r of) (eqb-true x.interface.link l on)))
 
   pub on_there : (r l : ℕ) → IsOn (network_of_sketch s) r l → is_there s.interfaces r l ≡ true
   on_there r l (c, (i, is)) =
-      let (x, at, same) = interface_in i _ is.listed in
-      let router : x.interface.router ≡ r = ap (λ (v : Interface). v.router) same in
-      let link : x.interface.link ≡ l = ap (λ (v : Interface). v.link) same in
+      let (x, at, router, link) = as_interface i r l c is in
       any_at (λ (y : DraftInterface). y.interface.router == r && y.interface.link == l) s.interfaces i x at (grind (arith, nat_tests))

@@ -1,7 +1,7 @@
 -- Where the items of lists stand, and in which order.
-use Rattle.std.proofs.Common.{◌≡◌, ℕ, zero, suc, ◌+◌, ◌<◌, ◌≤◌, ◌⊎◌, inl, inr, List, [], ◌∷◌, ◌++◌, length, length-append, append_assoc, map, Some, refl, sym, ap, ◌∙◌, arith}
+use Rattle.std.proofs.Common.{◌≡◌, ℕ, zero, suc, ◌+◌, ◌<◌, ◌≤◌, ◌⊎◌, inl, inr, List, [], ◌∷◌, ◌++◌, length, map, Some, refl, sym, ap, ◌∙◌, arith}
 use Rattle.std.specs.Prelude.{slice_get, codes as codes_of}
-use Rattle.std.proofs.lemmas.Option.{none-some, same_Some}
+use Rattle.std.proofs.lemmas.Option.{none-some, same_Some, slice_get_within}
 use Rattle.std.proofs.lemmas.Bool.{cases_lt}
 use Rattle.std.proofs.lemmas.List.{length-map}
 use Rattle.toml.specs.Data.{Data, get}
@@ -9,7 +9,8 @@ use Rattle.rip_plan.specs.declared.error.At.{At}
 use Rattle.rip_plan.specs.declared.error.At.TheVariants.{LinkPrefix, RouterInterface, RouterOwn}
 use Rattle.rip_plan.specs.PlanOf.{items_in, items_under}
 use Rattle.rip_plan.specs.PlanFaults.{nth, IsItem, spots_of, spots_under, place_spots, interface_spots, position, Before}
-use Rattle.rip_plan.proofs.ItemLemmas.{get_split, get_left, get_past}
+use Rattle.rip_plan.proofs.ItemLemmas.{get_split, get_left, get_past, get_seen, get_some}
+use Rattle.rip_plan.proofs.FlatLemmas.{ahead_front, flat, in_flat, in_order, is_in, same_ahead, same_length}
 use Rattle.rip_plan.proofs.OrderLemmas.{before_not}
 
 pub nth_from : {A : Type 0} (xs : List A) (i : ℕ) (x : A) → nth xs i ≡ Some x → (1 ≤ i) × (i ≤ length xs)
@@ -28,32 +29,81 @@ pub get_front : {A : Type 0} (xs : List A) (a : A) (ys : List A) → slice_get (
 get_front [] a ys = refl
 get_front (x ∷ xs) a ys = get_front xs a ys
 
-spot_at : (at : ℕ → At) (j : ℕ) (ds : List Data) (k : ℕ) (a : At) → slice_get (spots_of at j ds) k ≡ Some a → (a ≡ at (j + k)) × ((x : Data) × (slice_get ds k ≡ Some x))
-spot_at at j [] k a h = absurd (none-some a h)
-spot_at at j (d ∷ ds) zero a h = (sym (same_Some (at j) a h) ∙ ap at (omega arith), (d, refl))
-spot_at at j (d ∷ ds) (suc k) a h = let more = spot_at at (j + 1) ds k a h in (more.0 ∙ ap at (omega arith), more.1)
+-- the spot of an item has its number
+spot_here : (at : ℕ → At) (j : ℕ) (ds : List Data) (k : ℕ) (x : Data) → slice_get ds k ≡ Some x → slice_get (spots_of at j ds) k ≡ Some (at (j + k))
+spot_here at j [] k x h = absurd (none-some x h)
+spot_here at j (d ∷ ds) zero x h = ap (λ (n : ℕ). Some (at n)) (omega arith)
+spot_here at j (d ∷ ds) (suc k) x h = spot_here at (j + 1) ds k x h ∙ ap (λ (n : ℕ). Some (at n)) (omega arith)
+
+pub count_of : (at : ℕ → At) (j : ℕ) (ds : List Data) → length (spots_of at j ds) ≡ length ds
+count_of at j [] = refl
+count_of at j (d ∷ ds) = let more : length (spots_of at (j + 1) ds) ≡ length ds = count_of at (j + 1) ds in omega arith
+
+spot_at : (at : ℕ → At) (j : ℕ) (ds : List Data) (k : ℕ) (a : At) → slice_get (spots_of at j ds) k ≡ Some a → a ≡ at (j + k)
+spot_at at j ds k a h =
+    let (x, is) = get_some ds k (omega (arith, slice_get_within (spots_of at j ds) k a h, count_of at j ds)) in
+    same_Some a (at (j + k)) (sym h ∙ spot_here at j ds k x is)
+
+abbrev pub with_number : ℕ → Data → ℕ × Data
+with_number n d = (n, d)
+
+-- the lists of items, and those of spots, one after another
+abbrev pub numbered_items : List ℕ → ℕ → Data → List (ℕ × Data)
+numbered_items key n d = map (with_number n) (items_in (get key d))
+
+pub items_flat : (key : List ℕ) (n : ℕ) (ds : List Data) → items_under key n ds ≡ flat (numbered_items key) n ds
+items_flat key n [] = refl
+items_flat key n (d ∷ ds) = ap (λ (l : List (ℕ × Data)). numbered_items key n d ++ l) (items_flat key (n + 1) ds)
+
+abbrev spots_in : List ℕ → (ℕ → ℕ → At) → ℕ → Data → List At
+spots_in key at i d = spots_of (at i) 1 (items_in (get key d))
+
+spots_flat : (key : List ℕ) (at : ℕ → ℕ → At) (i : ℕ) (ds : List Data) → spots_under key at i ds ≡ flat (spots_in key at) i ds
+spots_flat key at i [] = refl
+spots_flat key at i (d ∷ ds) = ap (λ (l : List At). spots_in key at i d ++ l) (spots_flat key at (i + 1) ds)
+
+same_counts : (key : List ℕ) (at : ℕ → ℕ → At) (i n : ℕ) (d : Data) → length (spots_in key at i d) ≡ length (numbered_items key n d)
+same_counts key at i n d = count_of (at i) 1 (items_in (get key d)) ∙ sym (length-map (items_in (get key d)) (with_number n))
+
+pub spots_count : (key : List ℕ) (at : ℕ → ℕ → At) (i n : ℕ) (ds : List Data) → length (spots_under key at i ds) ≡ length (items_under key n ds)
+spots_count key at i n ds = ap length (spots_flat key at i ds) ∙ same_length (spots_in key at) (numbered_items key) (same_counts key at) i n ds ∙ sym (ap length (items_flat key n ds))
+
+-- an item of the lists at a key stands in a table, and its spot has the same number
+pub record IsUnder (key : List ℕ) (at : ℕ → ℕ → At) (i n : ℕ) (ds : List Data) (k m : ℕ) (x : Data) : Type 0 where
+  pub t : ℕ
+  pub j : ℕ
+  pub number : m ≡ n + t
+  pub item : IsItem key ds (suc t) (suc j) x
+  pub spot : slice_get (spots_under key at i ds) k ≡ Some (at (i + t) (suc j))
+
+pub under_item : (key : List ℕ) (at : ℕ → ℕ → At) (i n : ℕ) (ds : List Data) (k m : ℕ) (x : Data) → slice_get (items_under key n ds) k ≡ Some (m, x) → IsUnder key at i n ds k m x
+under_item key at i n ds k m x h =
+    let u = is_in (numbered_items key) n ds (items_under key n ds) (items_flat key n ds) k (m, x) h in
+    let (y, is, same) = get_seen (with_number (n + u.i)) (items_in (get key u.x)) u.j (m, x) u.of in
+    let spot = spot_here (at (i + u.i)) 1 (items_in (get key u.x)) u.j y is in
+    let counts = same_ahead (spots_in key at) (numbered_items key) (same_counts key at) i n ds u.i in
+    record {
+      t = u.i;
+      j = u.j;
+      number = ap (λ (p : ℕ × Data). p.0) (sym same);
+      item = (u.x, u.at, is ∙ ap (λ (p : ℕ × Data). Some p.1) same);
+      spot = in_flat (spots_in key at) i ds (spots_under key at i ds) (spots_flat key at i ds) u.i u.j u.x (at (i + u.i) (1 + u.j)) u.at spot k (omega (arith, u.number, counts))
+          ∙ ap (λ (q : ℕ). Some (at (i + u.i) q)) (omega arith);
+    }
 
 -- a spot is that of an item
 pub record IsSpot (key : List ℕ) (at : ℕ → ℕ → At) (i : ℕ) (ds : List Data) (a : At) : Type 0 where
   pub n : ℕ
   pub j : ℕ
   pub is : a ≡ at (i + n) (suc j)
-  pub d : Data
-  pub table : slice_get ds n ≡ Some d
   pub x : Data
-  pub item : slice_get (items_in (get key d)) j ≡ Some x
+  pub item : IsItem key ds (suc n) (suc j) x
 
 pub spot_under : (key : List ℕ) (at : ℕ → ℕ → At) (i : ℕ) (ds : List Data) (k : ℕ) (a : At) → slice_get (spots_under key at i ds) k ≡ Some a → IsSpot key at i ds a
-spot_under key at i [] k a h = absurd (none-some a h)
-spot_under key at i (d ∷ ds) k a h =
-    elim (get_split (spots_of (at i) 1 (items_in (get key d))) (spots_under key at (i + 1) ds) k a h) [
-      | inl e ↦
-          let s = spot_at (at i) 1 (items_in (get key d)) k a e.0 in
-          record { n = zero; j = k; is = s.0 ∙ ap (at i) (omega arith) ∙ ap (λ (m : ℕ). at m (suc k)) (omega arith); d = d; table = refl; x = s.1.0; item = s.1.1 }
-      | inr e ↦
-          let s = spot_under key at (i + 1) ds e.0 a e.2 in
-          record { n = suc s.n; j = s.j; is = s.is ∙ ap (λ (m : ℕ). at m (suc s.j)) (omega arith); d = s.d; table = s.table; x = s.x; item = s.item }
-    ]
+spot_under key at i ds k a h =
+    let ((m, x), listed) = get_some (items_under key 0 ds) k (omega (arith, slice_get_within (spots_under key at i ds) k a h, spots_count key at i 0 ds)) in
+    let u = under_item key at i 0 ds k m x listed in
+    record { n = u.t; j = u.j; is = same_Some a (at (i + u.t) (suc u.j)) (sym h ∙ u.spot); x = x; item = u.item }
 
 -- in one table before the other, or in one and the same before it
 abbrev Sooner : ℕ → ℕ → ℕ → ℕ → Type 0
@@ -67,45 +117,18 @@ Ahead a b = Before (position a) (position b)
 
 under_ahead : (key : List ℕ) (at : ℕ → ℕ → At) → Ordered at → (i : ℕ) (ds : List Data) (k m : ℕ) (a b : At) → k < m → slice_get (spots_under key at i ds) k ≡ Some a
     → slice_get (spots_under key at i ds) m ≡ Some b → Ahead a b
-under_ahead key at order i [] k m a b less h g = absurd (none-some a h)
-under_ahead key at order i (d ∷ ds) k m a b less h g =
-    let here = spots_of (at i) 1 (items_in (get key d)) in
-    let later = spots_under key at (i + 1) ds in
-    elim (get_split here later k a h) [
-      | inl e ↦
-          let s = spot_at (at i) 1 (items_in (get key d)) k a e.0 in
-          elim (get_split here later m b g) [
-            | inl f ↦
-                let t = spot_at (at i) 1 (items_in (get key d)) m b f.0 in
-                rw (s.0, t.0) (order i (1 + k) i (1 + m) (inr (refl, omega arith)))
-            | inr f ↦
-                let t = spot_under key at (i + 1) ds f.0 b f.2 in
-                rw (s.0, t.is) (order i (1 + k) (i + 1 + t.n) (suc t.j) (inl (omega arith)))
-          ]
-      | inr e ↦
-          elim (get_split here later m b g) [
-            | inl f ↦ let past : k ≡ length here + e.0 = e.1 in let within : m < length here = f.1 in absurd (omega arith)
-            | inr f ↦
-                let one : k ≡ length here + e.0 = e.1 in
-                let two : m ≡ length here + f.0 = f.1 in
-                under_ahead key at order (i + 1) ds e.0 f.0 a b (omega arith) e.2 f.2
-          ]
-    ]
+under_ahead key at order i ds k m a b less h g =
+    let u = is_in (spots_in key at) i ds (spots_under key at i ds) (spots_flat key at i ds) k a h in
+    let v = is_in (spots_in key at) i ds (spots_under key at i ds) (spots_flat key at i ds) m b g in
+    rw (spot_at (at (i + u.i)) 1 (items_in (get key u.x)) u.j a u.of, spot_at (at (i + v.i)) 1 (items_in (get key v.x)) v.j b v.of)
+    (order (i + u.i) (1 + u.j) (i + v.i) (1 + v.j) (elim (in_order (spots_in key at) i ds k m a b u v less) [ inl before ↦ inl (omega arith) | inr (same, before) ↦ inr (omega arith, omega arith) ]))
 
-prefix_order : Ordered LinkPrefix
-prefix_order i j n m (inl h) = inr (refl, inl h)
-prefix_order i j n m (inr h) = inr (refl, inr (h.0, inr (refl, inl h.1)))
-
-interface_order : Ordered RouterInterface
-interface_order i j n m (inl h) = inr (refl, inl h)
-interface_order i j n m (inr h) = inr (refl, inr (h.0, inr (refl, inl h.1)))
-
-own_order : Ordered RouterOwn
-own_order i j n m (inl h) = inr (refl, inl h)
-own_order i j n m (inr h) = inr (refl, inr (h.0, inr (refl, inl h.1)))
+ordered : (at : ℕ → ℕ → At) (part group : ℕ) → ((i j : ℕ) → position (at i j) ≡ part ∷ i ∷ group ∷ j ∷ []) → Ordered at
+ordered at part group places i j n m (inl h) = rw (places i j, places n m) (inr (refl, inl h))
+ordered at part group places i j n m (inr h) = rw (places i j, places n m) (inr (refl, inr (h.0, inr (refl, inl h.1))))
 
 pub interface_ahead : (routers : List Data) (k m : ℕ) (a b : At) → k < m → slice_get (interface_spots routers) k ≡ Some a → slice_get (interface_spots routers) m ≡ Some b → Ahead a b
-interface_ahead routers k m a b less h g = under_ahead (codes_of "interface") RouterInterface interface_order 1 routers k m a b less h g
+interface_ahead routers k m a b less h g = under_ahead (codes_of "interface") RouterInterface (ordered RouterInterface 2 1 (λ i j. refl)) 1 routers k m a b less h g
 
 pub place_ahead : (links routers : List Data) (k m : ℕ) (a b : At) → k < m → slice_get (place_spots links routers) k ≡ Some a → slice_get (place_spots links routers) m ≡ Some b → Ahead a b
 place_ahead links routers k m a b less h g =
@@ -114,7 +137,7 @@ place_ahead links routers k m a b less h g =
     elim (get_split here later k a h) [
       | inl e ↦
           elim (get_split here later m b g) [
-            | inl f ↦ under_ahead (codes_of "prefixes") LinkPrefix prefix_order 1 links k m a b less e.0 f.0
+            | inl f ↦ under_ahead (codes_of "prefixes") LinkPrefix (ordered LinkPrefix 1 1 (λ i j. refl)) 1 links k m a b less e.0 f.0
             | inr f ↦
                 let s = spot_under (codes_of "prefixes") LinkPrefix 1 links k a e.0 in
                 let t = spot_under (codes_of "own") RouterOwn 1 routers f.0 b f.2 in
@@ -127,7 +150,7 @@ place_ahead links routers k m a b less h g =
             | inr f ↦
                 let one : k ≡ length here + e.0 = e.1 in
                 let two : m ≡ length here + f.0 = f.1 in
-                under_ahead (codes_of "own") RouterOwn own_order 1 routers e.0 f.0 a b (omega arith) e.2 f.2
+                under_ahead (codes_of "own") RouterOwn (ordered RouterOwn 2 2 (λ i j. refl)) 1 routers e.0 f.0 a b (omega arith) e.2 f.2
           ]
     ]
 
@@ -152,72 +175,47 @@ interface_once routers k m a h g = spot_once (interface_spots routers) (interfac
 
 -- ---- the item of a spot
 
-pub item_of : (key : List ℕ) (ds : List Data) (n j : ℕ) (d x : Data) → slice_get ds n ≡ Some d → slice_get (items_in (get key d)) j ≡ Some x → (i m : ℕ) → i ≡ 1 + n → m ≡ suc j → IsItem key ds i m x
-item_of key ds n j d x h g i m e f =
-    let one : i ≡ suc n = omega arith in
-    rw (one, f) (d, h, g)
+pub item_of : (key : List ℕ) (ds : List Data) (n j : ℕ) (x : Data) → IsItem key ds (suc n) (suc j) x → (i m : ℕ) → i ≡ 1 + n → m ≡ suc j → IsItem key ds i m x
+item_of key ds n j x h i m e f = let one : i ≡ suc n = omega arith in rw (one, f) h
+
+pub place_spot : (links routers : List Data) (k : ℕ) (a : At) → slice_get (place_spots links routers) k ≡ Some a
+    → IsSpot (codes_of "prefixes") LinkPrefix 1 links a ⊎ IsSpot (codes_of "own") RouterOwn 1 routers a
+place_spot links routers k a h =
+    elim (get_split (spots_under (codes_of "prefixes") LinkPrefix 1 links) (spots_under (codes_of "own") RouterOwn 1 routers) k a h) [
+      | inl e ↦ inl (spot_under (codes_of "prefixes") LinkPrefix 1 links k a e.0)
+      | inr e ↦ inr (spot_under (codes_of "own") RouterOwn 1 routers e.0 a e.2)
+    ]
+
+pub interface_spot : (routers : List Data) (k : ℕ) (a : At) → slice_get (interface_spots routers) k ≡ Some a → IsSpot (codes_of "interface") RouterInterface 1 routers a
+interface_spot routers k a h = spot_under (codes_of "interface") RouterInterface 1 routers k a h
 
 pub prefix_item : (links routers : List Data) (k i j : ℕ) → slice_get (place_spots links routers) k ≡ Some (LinkPrefix i j) → (x : Data) × IsItem (codes_of "prefixes") links i j x
 prefix_item links routers k i j h =
-    elim (get_split (spots_under (codes_of "prefixes") LinkPrefix 1 links) (spots_under (codes_of "own") RouterOwn 1 routers) k (LinkPrefix i j) h) [
-      | inl e ↦
-          let s = spot_under (codes_of "prefixes") LinkPrefix 1 links k (LinkPrefix i j) e.0 in
-          let same : LinkPrefix i j ≡ LinkPrefix (1 + s.n) (suc s.j) = s.is in
-          (s.x, item_of (codes_of "prefixes") links s.n s.j s.d s.x s.table s.item i j (cc) (cc))
-      | inr e ↦
-          let s = spot_under (codes_of "own") RouterOwn 1 routers e.0 (LinkPrefix i j) e.2 in
-          let same : LinkPrefix i j ≡ RouterOwn (1 + s.n) (suc s.j) = s.is in
-          absurd cc
+    elim (place_spot links routers k (LinkPrefix i j) h) [
+      | inl s ↦ let same : LinkPrefix i j ≡ LinkPrefix (1 + s.n) (suc s.j) = s.is in (s.x, item_of (codes_of "prefixes") links s.n s.j s.x s.item i j (cc) (cc))
+      | inr s ↦ let same : LinkPrefix i j ≡ RouterOwn (1 + s.n) (suc s.j) = s.is in absurd cc
     ]
 
 pub own_item : (links routers : List Data) (k i j : ℕ) → slice_get (place_spots links routers) k ≡ Some (RouterOwn i j) → (x : Data) × IsItem (codes_of "own") routers i j x
 own_item links routers k i j h =
-    elim (get_split (spots_under (codes_of "prefixes") LinkPrefix 1 links) (spots_under (codes_of "own") RouterOwn 1 routers) k (RouterOwn i j) h) [
-      | inl e ↦
-          let s = spot_under (codes_of "prefixes") LinkPrefix 1 links k (RouterOwn i j) e.0 in
-          let same : RouterOwn i j ≡ LinkPrefix (1 + s.n) (suc s.j) = s.is in
-          absurd cc
-      | inr e ↦
-          let s = spot_under (codes_of "own") RouterOwn 1 routers e.0 (RouterOwn i j) e.2 in
-          let same : RouterOwn i j ≡ RouterOwn (1 + s.n) (suc s.j) = s.is in
-          (s.x, item_of (codes_of "own") routers s.n s.j s.d s.x s.table s.item i j (cc) (cc))
+    elim (place_spot links routers k (RouterOwn i j) h) [
+      | inl s ↦ let same : RouterOwn i j ≡ LinkPrefix (1 + s.n) (suc s.j) = s.is in absurd cc
+      | inr s ↦ let same : RouterOwn i j ≡ RouterOwn (1 + s.n) (suc s.j) = s.is in (s.x, item_of (codes_of "own") routers s.n s.j s.x s.item i j (cc) (cc))
     ]
 
 pub interface_item : (routers : List Data) (k i j : ℕ) → slice_get (interface_spots routers) k ≡ Some (RouterInterface i j) → (x : Data) × IsItem (codes_of "interface") routers i j x
 interface_item routers k i j h =
     let s = spot_under (codes_of "interface") RouterInterface 1 routers k (RouterInterface i j) h in
     let same : RouterInterface i j ≡ RouterInterface (1 + s.n) (suc s.j) = s.is in
-    (s.x, item_of (codes_of "interface") routers s.n s.j s.d s.x s.table s.item i j (cc) (cc))
-
--- ---- spots of lists that are appended
-
-pub spots_of_append : (at : ℕ → At) (j : ℕ) (xs ys : List Data) (n : ℕ) → n ≡ j + length xs → spots_of at j (xs ++ ys) ≡ spots_of at j xs ++ spots_of at n ys
-spots_of_append at j [] ys n e = ap (λ (m : ℕ). spots_of at m ys) (omega arith)
-spots_of_append at j (x ∷ xs) ys n e = ap (λ (spots : List At). at j ∷ spots) (spots_of_append at (j + 1) xs ys n (omega arith))
-
-pub spots_under_append : (key : List ℕ) (at : ℕ → ℕ → At) (i : ℕ) (xs ys : List Data) (n : ℕ) → n ≡ i + length xs → spots_under key at i (xs ++ ys) ≡ spots_under key at i xs ++ spots_under key at n ys
-spots_under_append key at i [] ys n e = ap (λ (m : ℕ). spots_under key at m ys) (omega arith)
-spots_under_append key at i (x ∷ xs) ys n e =
-    ap (λ (spots : List At). spots_of (at i) 1 (items_in (get key x)) ++ spots) (spots_under_append key at (i + 1) xs ys n (omega arith))
-    ∙ sym (append_assoc (spots_of (at i) 1 (items_in (get key x))) (spots_under key at (i + 1) xs) (spots_under key at n ys))
-
-of_here : (at : ℕ → At) (j : ℕ) (done : List Data) (x : Data) (rest : List Data) → slice_get (spots_of at j (done ++ x ∷ rest)) (length done) ≡ Some (at (j + length done))
-of_here at j [] x rest = ap (λ (n : ℕ). Some (at n)) (omega arith)
-of_here at j (d ∷ done) x rest = of_here at (j + 1) done x rest ∙ ap (λ (n : ℕ). Some (at n)) (omega arith)
+    (s.x, item_of (codes_of "interface") routers s.n s.j s.x s.item i j (cc) (cc))
 
 -- the spot of an item has the number of the items before it
 pub under_here : (key : List ℕ) (at : ℕ → ℕ → At) (i : ℕ) (done : List Data) (d : Data) (rest : List Data) (front : List Data) (x : Data) (back : List Data) → items_in (get key d) ≡ front ++ x ∷ back
     → (n : ℕ) → n ≡ length (spots_under key at i done) + length front → slice_get (spots_under key at i (done ++ d ∷ rest)) n ≡ Some (at (i + length done) (1 + length front))
-under_here key at i [] d rest front x back e n h =
-    let same : n ≡ length front = omega arith in
-    let here : slice_get (spots_of (at i) 1 (items_in (get key d))) (length front) ≡ Some (at i (1 + length front)) = rw e (of_here (at i) 1 front x back) in
-    rw same (get_left (spots_of (at i) 1 (items_in (get key d))) (spots_under key at (i + 1) rest) (length front) (at i (1 + length front)) here
-    ∙ ap (λ (m : ℕ). Some (at m (1 + length front))) (omega arith))
-under_here key at i (y ∷ done) d rest front x back e n h =
-    let count = length-append (spots_of (at i) 1 (items_in (get key y))) (spots_under key at (i + 1) done) in
-    get_past (spots_of (at i) 1 (items_in (get key y))) (spots_under key at (i + 1) (done ++ d ∷ rest)) (length (spots_under key at (i + 1) done) + length front) n (omega (arith, count))
-    ∙ under_here key at (i + 1) done d rest front x back e (length (spots_under key at (i + 1) done) + length front) refl
-    ∙ ap (λ (m : ℕ). Some (at m (1 + length front))) (omega arith)
+under_here key at i done d rest front x back e n h =
+    let spot = spot_here (at (i + length done)) 1 (front ++ x ∷ back) (length front) x (get_front front x back) in
+    in_flat (spots_in key at) i (done ++ d ∷ rest) (spots_under key at i (done ++ d ∷ rest)) (spots_flat key at i (done ++ d ∷ rest)) (length done) (length front) d
+    (at (i + length done) (1 + length front)) (get_front done d rest) (rw e spot) n (omega (arith, ap length (spots_flat key at i done), ahead_front (spots_in key at) i done d rest))
 
 pub prefix_here : (routers done : List Data) (d : Data) (rest front : List Data) (x : Data) (back : List Data) → items_in (get (codes_of "prefixes") d) ≡ front ++ x ∷ back
     → (n : ℕ) → n ≡ length (spots_under (codes_of "prefixes") LinkPrefix 1 done) + length front
@@ -243,31 +241,3 @@ pub item_once : (key : List ℕ) (ds : List Data) (i j : ℕ) (x y : Data) → I
 item_once key ds i j x y (d, is, it) (e, js, jt) =
     let same : d ≡ e = same_Some d e (sym is ∙ js) in
     same_Some x y (sym it ∙ ap (λ (z : Data). nth (items_in (get key z)) j) same ∙ jt)
-
-pub count_of : (at : ℕ → At) (j : ℕ) (ds : List Data) → length (spots_of at j ds) ≡ length ds
-count_of at j [] = refl
-count_of at j (d ∷ ds) = let more : length (spots_of at (j + 1) ds) ≡ length ds = count_of at (j + 1) ds in omega arith
-
-pub spots_count : (key : List ℕ) (at : ℕ → ℕ → At) (i n : ℕ) (ds : List Data) → length (spots_under key at i ds) ≡ length (items_under key n ds)
-spots_count key at i n [] = refl
-spots_count key at i n (d ∷ ds) =
-    omega (
-      arith,
-      spots_count key at (i + 1) (n + 1) ds,
-      count_of (at i) 1 (items_in (get key d)),
-      length-map {B = ℕ × Data} (items_in (get key d)) (λ (x : Data). (n, x)),
-      length-append (spots_of (at i) 1 (items_in (get key d))) (spots_under key at (i + 1) ds),
-      length-append (map (λ (x : Data). (n, x)) (items_in (get key d))) (items_under key (n + 1) ds),
-    )
-
--- ---- what stands among places and interfaces
-
-pub place_spot : (links routers : List Data) (k : ℕ) (a : At) → slice_get (place_spots links routers) k ≡ Some a → ((i j : ℕ) × (a ≡ LinkPrefix i j)) ⊎ ((i j : ℕ) × (a ≡ RouterOwn i j))
-place_spot links routers k a h =
-    elim (get_split (spots_under (codes_of "prefixes") LinkPrefix 1 links) (spots_under (codes_of "own") RouterOwn 1 routers) k a h) [
-      | inl e ↦ let s = spot_under (codes_of "prefixes") LinkPrefix 1 links k a e.0 in inl (1 + s.n, suc s.j, s.is)
-      | inr e ↦ let s = spot_under (codes_of "own") RouterOwn 1 routers e.0 a e.2 in inr (1 + s.n, suc s.j, s.is)
-    ]
-
-pub interface_spot : (routers : List Data) (k : ℕ) (a : At) → slice_get (interface_spots routers) k ≡ Some a → (i j : ℕ) × (a ≡ RouterInterface i j)
-interface_spot routers k a h = let s = spot_under (codes_of "interface") RouterInterface 1 routers k a h in (1 + s.n, suc s.j, s.is)

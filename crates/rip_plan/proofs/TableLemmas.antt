@@ -1,18 +1,19 @@
 -- What the tables of a document hold, where their fields were read.
-use Rattle.std.proofs.Common.{◌≡◌, ℕ, zero, suc, ◌≤◌, ◌⊎◌, inl, inr, List, [], ◌∷◌, Bool, true, false, cond, ◌&&◌, Option, Some, None, refl, sym, ◌∙◌, ap, subst, arith}
+use Rattle.std.proofs.Common.{◌≡◌, ℕ, zero, suc, ◌≤◌, ◌⊎◌, inl, inr, List, [], ◌∷◌, Bool, true, false, cond, Option, Some, None, refl, sym, ◌∙◌, ap, subst, arith}
 use Rattle.std.specs.Prelude.{ℤ, pos, negsuc, is_some, option_and_then, option_map, slice_get, unwrap_or, codes as codes_of}
 use Rattle.std.specs.List.{list_all}
 use Rattle.std.proofs.lemmas.Option.{none-some, same_Some, cond_some}
 use Rattle.std.proofs.lemmas.Bool.Decides.{nat_tests}
-use Rattle.toml.specs.Data.{Data, Items, Members, string, integer, float, boolean, datetime, array, table, get, get_member, as_bool, as_str, as_integer, as_array, as_table}
+use Rattle.toml.specs.Data.{Data, Items, Members, string, integer, boolean, array, table, get, as_bool, as_str, as_integer, as_array, as_table}
 use Rattle.rip_wire.specs.Address.{address_in}
-use Rattle.rip_plan.specs.declared.parts.OwnPrefix.{OwnPrefix}
-use Rattle.rip_plan.specs.Keys.{keys_of, a_link, a_router, an_interface, an_own}
-use Rattle.rip_plan.specs.Fields.{InterfaceFields, OwnFields, ◌&>◌, has_only, list_of, text_at, items_at, items_if, integer_if, texts_of, flag_if, text_if, address_if, link_if, addresses_in, is_between, link_fields, interface_fields, own_fields, router_fields, cost_of, direct_of}
+use Rattle.rip_plan.specs.Fields.{◌&>◌, list_of, items_if, integer_if, flag_if, text_if, address_if, link_if, addresses_in, is_between, cost_of, direct_of}
 use Rattle.rip_plan.specs.Names.{number_of_name}
-use Rattle.rip_plan.specs.PlanOf.{HasText, IsAddressOf, IsCostOf, IsDirectOf, IsGatewayOf, IsKeptOf, IsLinkOf, IsNameOf, IsPoisonOf, Matched, items_in}
-use Rattle.rip_plan.specs.PlanFaults.{HasNoAddress, IsOutsideOf}
+use Rattle.rip_plan.specs.PlanOf.{IsAddressOf, IsCostOf, IsDirectOf, IsGatewayOf, IsLinkOf, Matched, items_in}
+use Rattle.rip_plan.specs.PlanFaults.{HasNoAddress, HasWrongCost, HasWrongDirect, IsOutsideOf}
+use Rattle.std.proofs.lemmas.Bool.{and_parts}
+use Rattle.rip_plan.proofs.ItemLemmas.{cases_option}
 use Rattle.rip_plan.proofs.MatchingLemmas.{matched_right, matched_weaker}
+use Rattle.rip_plan.proofs.OnePlanLemmas.{cost_same, text_same}
 use Rattle.rip_plan.proofs.TextLemmas.{TextLaws, address_is, no_address, first_named}
 use Rattle.rip_plan.specs.Texts.{IsAddressText, IsNoAddress}
 
@@ -20,45 +21,25 @@ pub then_some : {A B : Type 0} (o : Option A) (f : A → Option B) (y : B) → (
 then_some None f y h = absurd (none-some y h)
 then_some (Some x) f y h = (x, refl, h)
 
-pub chosen : {A : Type 0} (b : Bool) (o : Option A) (x : A) → cond b o None ≡ Some x → o ≡ Some x
-chosen true o x h = h
+pub chosen : {A : Type 0} (b : Bool) (o : Option A) (x : A) → cond b o None ≡ Some x → (b ≡ true) × (o ≡ Some x)
+chosen true o x h = (refl, h)
 chosen false o x h = absurd (none-some x h)
 
 pub table_is : (d : Data) (ms : Members) → as_table d ≡ Some ms → d ≡ table ms
 table_is (table ms) ns h = ap table (same_Some ms ns h)
-table_is (string s) ns h = absurd (none-some ns h)
-table_is (integer z) ns h = absurd (none-some ns h)
-table_is (float x) ns h = absurd (none-some ns h)
-table_is (boolean b) ns h = absurd (none-some ns h)
-table_is (datetime t) ns h = absurd (none-some ns h)
-table_is (array ds) ns h = absurd (none-some ns h)
+table_is d ns h = absurd (none-some ns h)
 
 pub text_is : (d : Data) (t : List ℕ) → as_str d ≡ Some t → d ≡ string t
 text_is (string s) t h = ap string (same_Some s t h)
-text_is (table ms) t h = absurd (none-some t h)
-text_is (integer z) t h = absurd (none-some t h)
-text_is (float x) t h = absurd (none-some t h)
-text_is (boolean b) t h = absurd (none-some t h)
-text_is (datetime u) t h = absurd (none-some t h)
-text_is (array ds) t h = absurd (none-some t h)
+text_is d t h = absurd (none-some t h)
 
 pub integer_is : (d : Data) (z : ℤ) → as_integer d ≡ Some z → d ≡ integer z
 integer_is (integer y) z h = ap integer (same_Some y z h)
-integer_is (string s) z h = absurd (none-some z h)
-integer_is (table ms) z h = absurd (none-some z h)
-integer_is (float x) z h = absurd (none-some z h)
-integer_is (boolean b) z h = absurd (none-some z h)
-integer_is (datetime u) z h = absurd (none-some z h)
-integer_is (array ds) z h = absurd (none-some z h)
+integer_is d z h = absurd (none-some z h)
 
 pub array_is : (d : Data) (xs : List Data) → option_map list_of (as_array d) ≡ Some xs → (items : Items) × (d ≡ array items) × (list_of items ≡ xs)
 array_is (array ds) xs h = (ds, refl, same_Some (list_of ds) xs h)
-array_is (string s) xs h = absurd (none-some xs h)
-array_is (integer z) xs h = absurd (none-some xs h)
-array_is (table ms) xs h = absurd (none-some xs h)
-array_is (float x) xs h = absurd (none-some xs h)
-array_is (boolean b) xs h = absurd (none-some xs h)
-array_is (datetime u) xs h = absurd (none-some xs h)
+array_is d xs h = absurd (none-some xs h)
 
 pub text_there : (o : Option Data) (t : List ℕ) → option_and_then as_str o ≡ Some t → o ≡ Some (string t)
 text_there None t h = absurd (none-some t h)
@@ -68,24 +49,30 @@ pub items_there : (o : Option Data) (xs : List Data) → option_map list_of (opt
 items_there None xs h = absurd (none-some xs h)
 items_there (Some d) xs h = let (items, is, same) = array_is d xs h in (items, ap (λ (x : Data). Some x) is, same)
 
-items_given : (o : Option Data) (xs : List Data) → items_if o ≡ Some xs → items_in o ≡ xs
+pub items_given : (o : Option Data) (xs : List Data) → items_if o ≡ Some xs → items_in o ≡ xs
 items_given None xs h = same_Some [] xs h
 items_given (Some d) xs h = let (items, is, same) = array_is d xs h in rw is same
 
-items_are : (o : Option Data) (xs : List Data) → option_map list_of (option_and_then as_array o) ≡ Some xs → items_in o ≡ xs
+pub items_are : (o : Option Data) (xs : List Data) → option_map list_of (option_and_then as_array o) ≡ Some xs → items_in o ≡ xs
 items_are o xs h = let (items, is, same) = items_there o xs h in rw is same
+
+-- an integer that stands there, or the one that is meant where nothing stands
+-- a value that was read, or is none
+pub map_some : {A : Type 0} (o : Option A) (given : Option A) → option_map Some o ≡ Some given → (x : A) × (o ≡ Some x) × (Some x ≡ given)
+map_some None given h = absurd (none-some given h)
+map_some (Some x) given h = (x, refl, same_Some (Some x) given h)
+
+pub map_none : {A : Type 0} (o : Option A) → ◌≡◌ {A = Option (Option A)} (option_map Some o) None → o ≡ None
+map_none None h = refl
+map_none {A} (Some x) h = absurd (none-some {A = Option A} (Some x) (sym h))
 
 -- an integer that stands there, or the one that is meant where nothing stands
 given_is : (o : Option Data) (given : Option ℤ) (f : Option ℤ → Option ℕ) (c none : ℕ) → f None ≡ Some none → ((z : ℤ) → f (Some z) ≡ Some c → z ≡ pos c) → integer_if o ≡ Some given → f given ≡ Some c
     → (o ≡ Some (integer (pos c))) ⊎ ((o ≡ None) × (c ≡ none))
 given_is None given f c none empty within h e = let same : None ≡ given = same_Some None given h in inr (refl, sym (same_Some none c (sym empty ∙ ap f same ∙ e)))
-given_is (Some d) given f c none empty within h e = by_given (as_integer d) refl h
-  where
-    by_given : (i : Option ℤ) → as_integer d ≡ i → option_map Some i ≡ Some given → (Some d ≡ Some (integer (pos c))) ⊎ ((Some d ≡ None) × (c ≡ none))
-    by_given None k g = absurd (none-some given g)
-    by_given (Some z) k g =
-        let same : Some z ≡ given = same_Some (Some z) given g in
-        inl (ap (λ (x : Data). Some x) (integer_is d z k ∙ ap integer (within z (ap f same ∙ e))))
+given_is (Some d) given f c none empty within h e =
+    let (z, k, same) = map_some (as_integer d) given h in
+    inl (ap (λ (x : Data). Some x) (integer_is d z k ∙ ap integer (within z (ap f same ∙ e))))
 
 pub cost_is : (o : Option Data) (given : Option ℤ) (c : ℕ) → integer_if o ≡ Some given → cost_of given ≡ Some c → (o ≡ Some (integer (pos c))) ⊎ ((o ≡ None) × (c ≡ 1))
 cost_is o given c h e = given_is o given cost_of c 1 refl within h e
@@ -94,7 +81,7 @@ cost_is o given c h e = given_is o given cost_of c 1 refl within h e
     within (pos n) f = ap pos (cond_some (is_between 1 15 n) n c f).1
     within (negsuc n) f = absurd (none-some c f)
 
-direct_is : (o : Option Data) (cost : ℕ) (given : Option ℤ) (c : ℕ) → integer_if o ≡ Some given → direct_of cost given ≡ Some c → (o ≡ Some (integer (pos c))) ⊎ ((o ≡ None) × (c ≡ cost))
+pub direct_is : (o : Option Data) (cost : ℕ) (given : Option ℤ) (c : ℕ) → integer_if o ≡ Some given → direct_of cost given ≡ Some c → (o ≡ Some (integer (pos c))) ⊎ ((o ≡ None) × (c ≡ cost))
 direct_is o cost given c h e = given_is o given (direct_of cost) c cost refl within h e
   where
     within : (z : ℤ) → direct_of cost (Some z) ≡ Some c → z ≡ pos c
@@ -103,12 +90,7 @@ direct_is o cost given c h e = given_is o given (direct_of cost) c cost refl wit
 
 pub boolean_is : (d : Data) (b : Bool) → as_bool d ≡ Some b → d ≡ boolean b
 boolean_is (boolean a) b h = ap boolean (same_Some a b h)
-boolean_is (string s) b h = absurd (none-some b h)
-boolean_is (table ms) b h = absurd (none-some b h)
-boolean_is (integer z) b h = absurd (none-some b h)
-boolean_is (float x) b h = absurd (none-some b h)
-boolean_is (datetime u) b h = absurd (none-some b h)
-boolean_is (array ds) b h = absurd (none-some b h)
+boolean_is d b h = absurd (none-some b h)
 
 -- a flag stands there, or nothing
 abbrev pub IsFlagIf : Option Data → Option Bool → Type 0
@@ -117,11 +99,7 @@ IsFlagIf o (Some b) = o ≡ Some (boolean b)
 
 pub flag_if_is : (o : Option Data) (given : Option Bool) → flag_if o ≡ Some given → IsFlagIf o given
 flag_if_is None given h = let same : None ≡ given = same_Some None given h in subst (IsFlagIf None) same refl
-flag_if_is (Some d) given h = by_flag (as_bool d) refl h
-  where
-    by_flag : (b : Option Bool) → as_bool d ≡ b → option_map Some b ≡ Some given → IsFlagIf (Some d) given
-    by_flag None k g = absurd (none-some given g)
-    by_flag (Some b) k g = subst (IsFlagIf (Some d)) (same_Some (Some b) given g) (ap (λ (x : Data). Some x) (boolean_is d b k))
+flag_if_is (Some d) given h = let (b, k, same) = map_some (as_bool d) given h in subst (IsFlagIf (Some d)) same (ap (λ (x : Data). Some x) (boolean_is d b k))
 
 -- the flag that is meant: the one that stands there, or the other one
 pub flag_meant : (o : Option Data) (given : Option Bool) (other : Bool) → IsFlagIf o given → (o ≡ Some (boolean (unwrap_or given other))) ⊎ ((o ≡ None) × (unwrap_or given other ≡ other))
@@ -133,184 +111,24 @@ abbrev pub IsTextIf : Option Data → Option (List ℕ) → Type 0
 IsTextIf o None = o ≡ None
 IsTextIf o (Some t) = o ≡ Some (string t)
 
-text_if_is : (o : Option Data) (t : Option (List ℕ)) → text_if o ≡ Some t → IsTextIf o t
+pub text_if_is : (o : Option Data) (t : Option (List ℕ)) → text_if o ≡ Some t → IsTextIf o t
 text_if_is None t h = let same : None ≡ t = same_Some None t h in subst (IsTextIf None) same refl
-text_if_is (Some d) t h = by_text (as_str d) refl h
-  where
-    by_text : (s : Option (List ℕ)) → as_str d ≡ s → option_map Some s ≡ Some t → IsTextIf (Some d) t
-    by_text None k g = absurd (none-some t g)
-    by_text (Some s) k g = subst (IsTextIf (Some d)) (same_Some (Some s) t g) (ap (λ (x : Data). Some x) (text_is d s k))
+text_if_is (Some d) t h = let (s, k, same) = map_some (as_str d) t h in subst (IsTextIf (Some d)) same (ap (λ (x : Data). Some x) (text_is d s k))
 
-pub record IsLinkTable (d : Data) (name : List ℕ) (prefixes : List Data) : Type 0 where
-  pub named : IsNameOf name d
-  pub prefixes_are : items_in (get (codes_of "prefixes") d) ≡ prefixes
-
-pub link_table : (d : Data) (name : List ℕ) (prefixes : List Data) → (as_table d &> link_fields) ≡ Some (name, prefixes) → IsLinkTable d name prefixes
-unfolding link_fields
-link_table d name prefixes h =
-    let (ms, is, h1) = then_some (as_table d) link_fields (name, prefixes) h in
-    let h2 = chosen (has_only (keys_of a_link) ms) _ (name, prefixes) h1 in
-    let (a, first, h3) = then_some (text_at (codes_of "name") ms) _ (name, prefixes) h2 in
-    let (b, second, h4) = then_some (items_at (codes_of "prefixes") ms) _ (name, prefixes) h3 in
-    let same = same_Some (a, b) (name, prefixes) h4 in
-    let there : d ≡ table ms = table_is d ms is in
-    rw there (record {
-      named = text_there (get_member (codes_of "name") ms) name (first ∙ ap (λ (f : List ℕ × List Data). Some f.0) same);
-      prefixes_are = items_are (get_member (codes_of "prefixes") ms) prefixes (second ∙ ap (λ (f : List ℕ × List Data). Some f.1) same);
-    })
-
--- what an interface's table holds
-pub record HasInterfaceFields (d : Data) (f : InterfaceFields) : Type 0 where
-  pub has_link : HasText (codes_of "link") d f.link
-  pub has_address : HasText (codes_of "address") d f.address
-  pub cost : integer_if (get (codes_of "cost") d) ≡ Some f.cost
-  pub direct : integer_if (get (codes_of "direct") d) ≡ Some f.direct
-  pub also_are : items_in (get (codes_of "also") d) ≡ f.also
-  pub also_texts : list_all (λ x. is_some (as_str x)) f.also ≡ true
-  pub poison : IsFlagIf (get (codes_of "poison") d) f.poison
-
-pub interface_texts : (d : Data) (f : InterfaceFields) → (as_table d &> interface_fields) ≡ Some f → HasInterfaceFields d f
-unfolding interface_fields
-interface_texts d f h =
-    let (ms, is, h1) = then_some (as_table d) interface_fields f h in
-    let h2 = chosen (has_only (keys_of an_interface) ms) _ f h1 in
-    let (a, first, h3) = then_some (text_at (codes_of "link") ms) _ f h2 in
-    let (b, second, h4) = then_some (text_at (codes_of "address") ms) _ f h3 in
-    let (c, third, h5) = then_some (integer_if (get_member (codes_of "cost") ms)) _ f h4 in
-    let (e, fourth, h6) = then_some (integer_if (get_member (codes_of "direct") ms)) _ f h5 in
-    let (g, fifth, h7) = then_some (items_if (get_member (codes_of "also") ms) &> texts_of) _ f h6 in
-    let (xs, given, texts) = then_some (items_if (get_member (codes_of "also") ms)) texts_of g fifth in
-    let (p, sixth, h8) = then_some (flag_if (get_member (codes_of "poison") ms)) _ f h7 in
-    let given_fields : InterfaceFields = record { link = a; address = b; cost = c; direct = e; also = g; poison = p } in
-    let same : given_fields ≡ f = same_Some given_fields f h8 in
-    let all = cond_some (list_all (λ (x : Data). is_some (as_str x)) xs) xs g texts in
-    let there : d ≡ table ms = table_is d ms is in
-    subst (λ (x : Data). HasInterfaceFields x f) (sym there) (subst (HasInterfaceFields (table ms)) same (record {
-      has_link = text_there (get_member (codes_of "link") ms) a first;
-      has_address = text_there (get_member (codes_of "address") ms) b second;
-      cost = third;
-      direct = fourth;
-      also_are = items_given (get_member (codes_of "also") ms) g (given ∙ ap (λ (l : List Data). Some l) all.1);
-      also_texts = ap (list_all (λ (x : Data). is_some (as_str x))) (sym all.1) ∙ all.0;
-      poison = flag_if_is (get_member (codes_of "poison") ms) p sixth;
-    }))
-
-pub record IsInterfaceTable (d : Data) (f : InterfaceFields) (c e : ℕ) : Type 0 where
-  pub has : HasInterfaceFields d f
-  pub cost : IsCostOf d c
-  pub direct : IsDirectOf d c e
-  pub poisons : (other : Bool) → IsPoisonOf other d (unwrap_or f.poison other)
-
-pub interface_table : (d : Data) (f : InterfaceFields) (c e : ℕ) → (as_table d &> interface_fields) ≡ Some f → cost_of f.cost ≡ Some c → direct_of c f.direct ≡ Some e → IsInterfaceTable d f c e
-interface_table d f c e h costs directs =
-    let has = interface_texts d f h in
-    record {
-      has = has;
-      cost = cost_is (get (codes_of "cost") d) f.cost c has.cost costs;
-      direct = direct_is (get (codes_of "direct") d) c f.direct e has.direct directs;
-      poisons = λ other. flag_meant (get (codes_of "poison") d) f.poison other has.poison;
-    }
-
--- what an own prefix's table holds
-pub record HasOwnFields (d : Data) (f : OwnFields) : Type 0 where
-  pub has_prefix : HasText (codes_of "prefix") d f.prefix
-  pub cost : integer_if (get (codes_of "cost") d) ≡ Some f.cost
-  pub kept : IsKeptOf d f.kept
-  pub link : IsTextIf (get (codes_of "link") d) f.link
-  pub via : IsTextIf (get (codes_of "via") d) f.via
-
-pub own_texts : (d : Data) (f : OwnFields) → (as_table d &> own_fields) ≡ Some f → HasOwnFields d f
-unfolding own_fields
-own_texts d f h =
-    let (ms, is, h1) = then_some (as_table d) own_fields f h in
-    let h2 = chosen (has_only (keys_of an_own) ms) _ f h1 in
-    let (a, first, h3) = then_some (text_at (codes_of "prefix") ms) _ f h2 in
-    let (b, second, h4) = then_some (integer_if (get_member (codes_of "cost") ms)) _ f h3 in
-    let (c, third, h5) = then_some (flag_if (get_member (codes_of "kept") ms)) _ f h4 in
-    let (e, fourth, h6) = then_some (text_if (get_member (codes_of "link") ms)) _ f h5 in
-    let (g, fifth, h7) = then_some (text_if (get_member (codes_of "via") ms)) _ f h6 in
-    let given_fields : OwnFields = record { prefix = a; cost = b; kept = unwrap_or c false; link = e; via = g } in
-    let same : given_fields ≡ f = same_Some given_fields f h7 in
-    let there : d ≡ table ms = table_is d ms is in
-    subst (λ (x : Data). HasOwnFields x f) (sym there) (subst (HasOwnFields (table ms)) same (record {
-      has_prefix = text_there (get_member (codes_of "prefix") ms) a first;
-      cost = second;
-      kept = flag_meant (get_member (codes_of "kept") ms) c false (flag_if_is (get_member (codes_of "kept") ms) c third);
-      link = text_if_is (get_member (codes_of "link") ms) e fourth;
-      via = text_if_is (get_member (codes_of "via") ms) g fifth;
-    }))
-
-pub record IsOwnTable (d : Data) (links : List (List ℕ)) (f : OwnFields) (own : OwnPrefix) : Type 0 where
-  pub has : HasOwnFields d f
-  pub cost : IsCostOf d own.cost
-  pub link : IsLinkOf links d own.link
-  pub via : IsGatewayOf d own.via
-
-link_is : (links : List (List ℕ)) (d : Data) (name : Option (List ℕ)) (link : Option ℕ) → IsTextIf (get (codes_of "link") d) name → link_if name links ≡ Some link → IsLinkOf links d link
+pub link_is : (links : List (List ℕ)) (d : Data) (name : Option (List ℕ)) (link : Option ℕ) → IsTextIf (get (codes_of "link") d) name → link_if name links ≡ Some link → IsLinkOf links d link
 link_is links d None link has h = let same : None ≡ link = same_Some None link h in subst (IsLinkOf links d) same has
-link_is links d (Some name) link has h = by_number (number_of_name name links) refl h
-  where
-    by_number : (o : Option ℕ) → number_of_name name links ≡ o → option_map Some o ≡ Some link → IsLinkOf links d link
-    by_number None e g = absurd (none-some link g)
-    by_number (Some l) e g = subst (IsLinkOf links d) (same_Some (Some l) link g) (name, has, first_named name links l e)
+link_is links d (Some name) link has h = let (l, e, same) = map_some (number_of_name name links) link h in subst (IsLinkOf links d) same (name, has, first_named name links l e)
 
-gateway_is : (laws : TextLaws) (d : Data) (text : Option (List ℕ)) (via : Option ℕ) → IsTextIf (get (codes_of "via") d) text → address_if text ≡ Some via → IsGatewayOf d via
+pub gateway_is : (laws : TextLaws) (d : Data) (text : Option (List ℕ)) (via : Option ℕ) → IsTextIf (get (codes_of "via") d) text → address_if text ≡ Some via → IsGatewayOf d via
 gateway_is laws d None via has h = let same : None ≡ via = same_Some None via h in subst (IsGatewayOf d) same has
-gateway_is laws d (Some text) via has h = by_address (address_in text) refl h
-  where
-    by_address : (o : Option ℕ) → address_in text ≡ o → option_map Some o ≡ Some via → IsGatewayOf d via
-    by_address None e g = absurd (none-some via g)
-    by_address (Some a) e g = subst (IsGatewayOf d) (same_Some (Some a) via g) (text, has, address_is laws text a e)
-
-pub own_table : (laws : TextLaws) (d : Data) (links : List (List ℕ)) (f : OwnFields) (own : OwnPrefix)
-    → (as_table d &> own_fields) ≡ Some f → cost_of f.cost ≡ Some own.cost → link_if f.link links ≡ Some own.link → address_if f.via ≡ Some own.via → IsOwnTable d links f own
-own_table laws d links f own h costs known gateway =
-    let has = own_texts d f h in
-    record {
-      has = has;
-      cost = cost_is (get (codes_of "cost") d) f.cost own.cost has.cost costs;
-      link = link_is links d f.link own.link has.link known;
-      via = gateway_is laws d f.via own.via has.via gateway;
-    }
-
-pub record IsRouterTable (d : Data) (name : List ℕ) (interfaces owns : List Data) : Type 0 where
-  pub named : IsNameOf name d
-  pub interfaces_are : items_in (get (codes_of "interface") d) ≡ interfaces
-  pub owns_are : items_in (get (codes_of "own") d) ≡ owns
-
-pub router_table : (d : Data) (name : List ℕ) (interfaces owns : List Data) → (as_table d &> router_fields) ≡ Some (name, interfaces, owns) → IsRouterTable d name interfaces owns
-unfolding router_fields
-router_table d name interfaces owns h =
-    let (ms, is, h1) = then_some (as_table d) router_fields (name, interfaces, owns) h in
-    let h2 = chosen (has_only (keys_of a_router) ms) _ (name, interfaces, owns) h1 in
-    let (a, first, h3) = then_some (text_at (codes_of "name") ms) _ (name, interfaces, owns) h2 in
-    let (b, second, h4) = then_some (items_at (codes_of "interface") ms) _ (name, interfaces, owns) h3 in
-    let (c, third, h5) = then_some (items_if (get_member (codes_of "own") ms)) _ (name, interfaces, owns) h4 in
-    let same = same_Some (a, b, c) (name, interfaces, owns) h5 in
-    let there : d ≡ table ms = table_is d ms is in
-    rw there (record {
-      named = text_there (get_member (codes_of "name") ms) name (first ∙ ap (λ (f : List ℕ × List Data × List Data). Some f.0) same);
-      interfaces_are = items_are (get_member (codes_of "interface") ms) interfaces (second ∙ ap (λ (f : List ℕ × List Data × List Data). Some f.1) same);
-      owns_are = items_given (get_member (codes_of "own") ms) owns (third ∙ ap (λ (f : List ℕ × List Data × List Data). Some f.2) same);
-    })
+gateway_is laws d (Some text) via has h = let (a, e, same) = map_some (address_in text) via h in subst (IsGatewayOf d) same (text, has, address_is laws text a e)
 
 -- ---- an integer that is given, and is none that may stand there
 
 integer_told : (f : Option ℤ → Option ℕ) (c : ℕ) (o : Option Data) (given : Option ℤ) → f None ≡ Some c → integer_if o ≡ Some given → f given ≡ None
     → (z : ℤ) × (o ≡ Some (integer z)) × (f (Some z) ≡ None)
 integer_told f c None given some h e = let same : None ≡ given = same_Some None given h in absurd (none-some c (sym e ∙ ap f (sym same) ∙ some))
-integer_told f c (Some d) given some h e = by_given (as_integer d) refl h
-  where
-    by_given : (i : Option ℤ) → as_integer d ≡ i → option_map Some i ≡ Some given → (z : ℤ) × (Some d ≡ Some (integer z)) × (f (Some z) ≡ None)
-    by_given None k g = absurd (none-some given g)
-    by_given (Some z) k g =
-        let same : Some z ≡ given = same_Some (Some z) given g in
-        (z, ap (λ (x : Data). Some x) (integer_is d z k), ap f same ∙ e)
-
-integer_clear : (f : Option ℤ → Option ℕ) (o : Option Data) (given : Option ℤ) (c : ℕ) → integer_if o ≡ Some given → f given ≡ Some c → (z : ℤ) → o ≡ Some (integer z) → f (Some z) ≡ Some c
-integer_clear f o given c h e z is =
-    let same : Some z ≡ given = same_Some (Some z) given (ap integer_if (sym is) ∙ h) in
-    ap f same ∙ e
+integer_told f c (Some d) given some h e = let (z, k, same) = map_some (as_integer d) given h in (z, ap (λ (x : Data). Some x) (integer_is d z k), ap f same ∙ e)
 
 cost_direct : (z : ℤ) → cost_of (Some z) ≡ direct_of 15 (Some z)
 cost_direct (pos n) = refl
@@ -321,59 +139,49 @@ outside most z none c is least few =
     let within : is_between 1 most c ≡ true = grind (arith, nat_tests) in
     none-some c (sym none ∙ ap (λ (y : ℤ). direct_of most (Some y)) is ∙ ap (λ (b : Bool). cond b (Some c) None) within)
 
-not_outside : (most : ℕ) (z : ℤ) (c : ℕ) → direct_of most (Some z) ≡ Some c → IsOutsideOf most z → ⊥
-not_outside most (pos n) c h bad =
-    let (between, same) = cond_some (is_between 1 most n) n c h in
-    bad n refl (grind (arith, nat_tests)) (grind (arith, nat_tests))
-not_outside most (negsuc n) c h bad = none-some c h
-
 pub cost_told : (o : Option Data) (given : Option ℤ) → integer_if o ≡ Some given → cost_of given ≡ None → (z : ℤ) × (o ≡ Some (integer z)) × IsOutsideOf 15 z
 cost_told o given h e = let (z, is, none) = integer_told cost_of 1 o given refl h e in (z, is, outside 15 z (sym (cost_direct z) ∙ none))
-
-pub cost_clear : (o : Option Data) (given : Option ℤ) (c : ℕ) → integer_if o ≡ Some given → cost_of given ≡ Some c → (z : ℤ) → o ≡ Some (integer z) → IsOutsideOf 15 z → ⊥
-cost_clear o given c h e z is bad = not_outside 15 z c (sym (cost_direct z) ∙ integer_clear cost_of o given c h e z is) bad
 
 pub direct_told : (cost : ℕ) (o : Option Data) (given : Option ℤ) → integer_if o ≡ Some given → direct_of cost given ≡ None → (z : ℤ) × (o ≡ Some (integer z)) × IsOutsideOf cost z
 direct_told cost o given h e = let (z, is, none) = integer_told (direct_of cost) cost o given refl h e in (z, is, outside cost z none)
 
-pub direct_clear : (cost : ℕ) (o : Option Data) (given : Option ℤ) (c : ℕ) → integer_if o ≡ Some given → direct_of cost given ≡ Some c → (z : ℤ) → o ≡ Some (integer z) → IsOutsideOf cost z → ⊥
-direct_clear cost o given c h e z is bad = not_outside cost z c (integer_clear (direct_of cost) o given c h e z is) bad
-
 -- ---- costs that may stand
+
+given_within : (most : ℕ) (z : ℤ) (c : ℕ) → direct_of most (Some z) ≡ Some c → (1 ≤ c) × (c ≤ most)
+given_within most (pos n) c h =
+    let (between, same) = cond_some (is_between 1 most n) n c h in
+    (grind (arith, nat_tests), grind (arith, nat_tests))
+given_within most (negsuc n) c h = absurd (none-some c h)
 
 pub cost_within : (o : Option ℤ) (c : ℕ) → cost_of o ≡ Some c → (1 ≤ c) × (c ≤ 15)
 cost_within None c h = let e : 1 ≡ c = cc in (omega arith, omega arith)
-cost_within (Some (pos n)) c h =
-    let (between, same) = cond_some (is_between 1 15 n) n c h in
-    (grind (arith, nat_tests), grind (arith, nat_tests))
-cost_within (Some (negsuc n)) c h = absurd (none-some c h)
+cost_within (Some z) c h = given_within 15 z c (sym (cost_direct z) ∙ h)
 
 pub direct_within : (cost : ℕ) (o : Option ℤ) (c : ℕ) → 1 ≤ cost → direct_of cost o ≡ Some c → (1 ≤ c) × (c ≤ cost)
 direct_within cost None c least h = let e : cost ≡ c = cc in (omega arith, omega arith)
-direct_within cost (Some (pos n)) c least h =
-    let (between, same) = cond_some (is_between 1 cost n) n c h in
-    (grind (arith, nat_tests), grind (arith, nat_tests))
-direct_within cost (Some (negsuc n)) c least h = absurd (none-some c h)
+direct_within cost (Some z) c least h = given_within cost z c h
+
+pub cost_fits : (d : Data) (c : ℕ) → IsCostOf d c → (1 ≤ c) × (c ≤ 15) → HasWrongCost d → ⊥
+cost_fits d c (inr given) (least, most) (z, is, none) = none-some (integer z) (sym given.0 ∙ is)
+cost_fits d c (inl given) (least, most) (z, is, none) = let same : Some (integer z) ≡ Some (integer (pos c)) = sym is ∙ given in none c (cc) least most
+
+-- a direct metric that may stand beside the cost
+pub direct_fits : (d : Data) (c e : ℕ) → IsCostOf d c → IsDirectOf d c e → (1 ≤ e) × (e ≤ c) → HasWrongDirect d → ⊥
+direct_fits d c e cost (inr given) (least, most) (b, z, is_cost, one, fifteen, is, none) = none-some (integer z) (sym given.0 ∙ is)
+direct_fits d c e cost (inl given) (least, most) (b, z, is_cost, one, fifteen, is, none) =
+    let same : Some (integer z) ≡ Some (integer (pos e)) = sym is ∙ given in
+    let its : c ≡ b = cost_same d c b cost is_cost in
+    none e (cc) least (omega arith)
 
 -- ---- a gateway that is no address
 
 pub gateway_told : (laws : TextLaws) (d : Data) (text : Option (List ℕ)) → IsTextIf (get (codes_of "via") d) text → address_if text ≡ None → HasNoAddress (codes_of "via") d
 gateway_told laws d None has h = absurd (none-some None (sym h))
-gateway_told laws d (Some text) has h = by_address (address_in text) refl h
-  where
-    by_address : (o : Option ℕ) → address_in text ≡ o → option_map Some o ≡ None → HasNoAddress (codes_of "via") d
-    by_address None e g = (text, has, no_address laws text e)
-    by_address (Some a) e g = absurd (none-some (Some a) (sym g))
+gateway_told laws d (Some text) has h = (text, has, no_address laws text (map_none (address_in text) h))
 
-pub gateway_clear : (laws : TextLaws) (d : Data) (text : Option (List ℕ)) (via : Option ℕ) → IsTextIf (get (codes_of "via") d) text → address_if text ≡ Some via → HasNoAddress (codes_of "via") d → ⊥
-gateway_clear laws d None via has h (t, there, none) = none-some (string t) (sym has ∙ there)
-gateway_clear laws d (Some text) via has h (t, there, none) =
-    let same : string text ≡ string t = same_Some (string text) (string t) (sym has ∙ there) in
-    by_address (address_in text) refl h cc
-  where
-    by_address : (o : Option ℕ) → address_in text ≡ o → option_map Some o ≡ Some via → text ≡ t → ⊥
-    by_address None e g one = none-some via g
-    by_address (Some a) e g one = none a (subst (λ (s : List ℕ). IsAddressText s a) one (address_is laws text a e))
+pub gateway_fits : (d : Data) (via : Option ℕ) → IsGatewayOf d via → HasNoAddress (codes_of "via") d → ⊥
+gateway_fits d None is (text, has, none) = none-some (string text) (sym is ∙ has)
+gateway_fits d (Some a) (other, its, parsed) (text, has, none) = none a (subst (λ (t : List ℕ). IsAddressText t a) (text_same (codes_of "via") d other text its has) parsed)
 
 -- ---- further addresses
 
@@ -398,22 +206,20 @@ addresses_are laws ds also h = matched_weaker IsReadOf IsAddressOf (λ a d read.
 pub addresses_told : (ds : List Data) → list_all (λ x. is_some (as_str x)) ds ≡ true → addresses_in ds ≡ None
     → (k : ℕ) × (text : List ℕ) × (slice_get ds k ≡ Some (string text)) × (address_in text ≡ None)
 addresses_told [] all h = absurd (none-some [] (sym h))
-addresses_told (d ∷ ds) all h = by_text (as_str d) refl all h (addresses_told ds)
-  where
-    by_text : (o : Option (List ℕ)) → as_str d ≡ o → (is_some o && list_all (λ x. is_some (as_str x)) ds) ≡ true → (o &> address_in &> (λ a. addresses_in ds &> (λ others. Some (a ∷ others)))) ≡ None
-        → (list_all (λ x. is_some (as_str x)) ds ≡ true → addresses_in ds ≡ None → (k : ℕ) × (text : List ℕ) × (slice_get ds k ≡ Some (string text)) × (address_in text ≡ None))
-        → (k : ℕ) × (text : List ℕ) × (slice_get (d ∷ ds) k ≡ Some (string text)) × (address_in text ≡ None)
-    by_text None e texts g later = absurd cc
-    by_text (Some text) e texts g later = by_address (address_in text) refl g
-      where
-        by_rest : (r : Option (List ℕ)) → addresses_in ds ≡ r → (a : ℕ) → (r &> (λ others. Some (a ∷ others))) ≡ None → addresses_in ds ≡ None
-        by_rest None i a k = i
-        by_rest (Some others) i a k = absurd (none-some (a ∷ others) (sym k))
-
-        by_address : (o : Option ℕ) → address_in text ≡ o → (o &> (λ a. addresses_in ds &> (λ others. Some (a ∷ others)))) ≡ None
-            → (k : ℕ) × (t : List ℕ) × (slice_get (d ∷ ds) k ≡ Some (string t)) × (address_in t ≡ None)
-        by_address None i k = (zero, text, ap (λ (x : Data). Some x) (text_is d text e), i)
-        by_address (Some a) i k = let (m, t, at, none) = later texts (by_rest (addresses_in ds) refl a k) in (suc m, t, at, none)
+addresses_told (d ∷ ds) all h =
+    let (is, others) = and_parts (is_some (as_str d)) (list_all (λ x. is_some (as_str x)) ds) all in
+    elim (cases_option (as_str d)) [
+      | inl e ↦ let clash = rw e at is in absurd cc
+      | inr (text, e) ↦
+          elim (cases_option (address_in text)) [
+            | inl none ↦ (zero, text, ap (λ (x : Data). Some x) (text_is d text e), none)
+            | inr (a, i) ↦
+                elim (cases_option (addresses_in ds)) [
+                  | inl none ↦ let (m, t, at, bad) = addresses_told ds others none in (suc m, t, at, bad)
+                  | inr (more, j) ↦ absurd (none-some (a ∷ more) (sym (rw (e, i, j) at h)))
+                ]
+          ]
+    ]
 
 pub addresses_clear : (laws : TextLaws) (ds : List Data) (also : List ℕ) → addresses_in ds ≡ Some also → (k : ℕ) (text : List ℕ) → slice_get ds k ≡ Some (string text) → IsNoAddress text → ⊥
 addresses_clear laws ds also h k text at none =

@@ -1,11 +1,11 @@
 -- The first fault of a text is the one that is told, and a text that is read has none.
-use Rattle.std.proofs.Common.{◌≡◌, ◌≢◌, ℕ, ◌<◌, ◌≤◌, ◌⊎◌, ◌↔◌, inl, inr, List, [], ◌∷◌, ◌++◌, length, Bool, true, false, cond, not, ◌||◌, Option, Some, None, Result, Ok, Err, refl, sym, ap, subst, ◌∙◌, arith}
-use Rattle.std.proofs.lemmas.Bool.{or_parts, not-false}
-use Rattle.std.specs.Prelude.{pos, negsuc, nat_lt, ◌==◌, codes as codes_of}
+use Rattle.std.proofs.Common.{◌≡◌, ◌≢◌, ℕ, ◌<◌, ◌≤◌, ◌⊎◌, ◌↔◌, inl, inr, List, [], ◌∷◌, length, Bool, true, false, cond, not, ◌||◌, Option, Some, None, Result, Ok, Err, refl, sym, ap, subst, ◌∙◌, arith}
+use Rattle.std.proofs.lemmas.Bool.{both_ways, cases_Bool, or_cases, or_parts, not-false, not-true}
+use Rattle.std.specs.Prelude.{pos, nat_lt, ◌==◌, codes as codes_of}
 use Rattle.std.specs.Result.{result_err}
 use Rattle.std.proofs.lemmas.Option.{none-some, same_Some}
 use Rattle.std.proofs.lemmas.Bool.Decides.{nat_tests}
-use Rattle.toml.specs.Data.{Data, Members, get_member, table, string, integer, float, boolean, datetime, array}
+use Rattle.toml.specs.Data.{Data, Members, get_member, table, integer}
 use Rattle.rip_plan.specs.declared.error.PlanCode.{PlanCode}
 use Rattle.rip_plan.specs.declared.error.PlanCode.TheVariants as codes
 use Rattle.rip_plan.specs.declared.error.PlanError.{PlanError}
@@ -16,26 +16,23 @@ use Rattle.rip_plan.specs.Codes.{number_of_code}
 use Rattle.rip_plan.specs.Draft.{Sketch, link_step, router_step}
 use Rattle.rip_plan.specs.Fault.{fault, ◌>>=◌, steps, wanted}
 use Rattle.rip_plan.specs.Fields.{is_version, root_fields}
-use Rattle.rip_plan.specs.Network.{Network, network_of_sketch}
+use Rattle.rip_plan.specs.Network.{network_of_sketch}
 use Rattle.rip_plan.specs.Passes.{second_passes}
-use Rattle.rip_plan.specs.PlanOf.{HasItems, PlanOf, IsPlanOfText}
+use Rattle.rip_plan.specs.PlanOf.{HasItems, PlanOf}
 use Rattle.rip_plan.specs.PlanText.{empty, document_of, sketch_of_document, sketch_of}
-use Rattle.rip_plan.specs.PlanFaults.{IsText, HasTables, TableFault, FaultAt, AstrayAt, IsFound, IsFault, PlanFault, Before, pass_of, rank, place_spots, interface_spots, spots_under}
-use Rattle.rip_plan.specs.Relations.{IsLawful}
+use Rattle.rip_plan.specs.PlanFaults.{IsText, HasTables, TableFault, FaultAt, AstrayAt, IsFound, IsFault, PlanFault, Before, pass_of, rank, place_spots}
 use Rattle.rip_plan.proofs.BindLemmas.{bind_ok}
-use Rattle.rip_plan.proofs.FaultRowLemmas.{IsAstrayAt, IsOfTables, IsTold, covers, told_finds, first_rows, first_high, first_sooner, links_rows, links_high, routers_rows, pass_rows, table_rows}
+use Rattle.rip_plan.proofs.FaultRowLemmas.{by_code, IsAstrayAt, IsOfTables, IsTold, covers, told_finds, first_rows, first_high, first_sooner, links_rows, links_high, routers_rows, pass_rows, table_rows}
 use Rattle.rip_plan.proofs.FindingLemmas.{Found, ranked, row_at, Rows, row_then, Finds, finds_in, guard_finds, want_finds, bind_rows}
-use Rattle.rip_plan.proofs.LawfulPlanLemmas.{lawful}
 use Rattle.rip_plan.proofs.LinkFaultLemmas.{links_find}
 use Rattle.rip_plan.proofs.OnePlanLemmas.{items_same}
 use Rattle.rip_plan.proofs.OrderLemmas.{before_not, before_trans, before_or}
 use Rattle.rip_plan.proofs.PassFaultLemmas.{passes_find}
-use Rattle.rip_plan.proofs.PlanMatchLemmas.{root_table, document_matches, network_matches}
+use Rattle.rip_plan.proofs.PlanMatchLemmas.{document_matches, tables_read}
 use Rattle.rip_plan.proofs.RouterFaultLemmas.{routers_find}
-use Rattle.rip_plan.proofs.TakenSpotLemmas.{place_ats, interface_ats, links_stand, routers_stand}
 use Rattle.rip_plan.proofs.TextLemmas.{TextLaws}
 use Rattle.rip_plan.specs.DocumentTables.{IsRoot}
-use Rattle.rip_plan.proofs.DocumentTableLemmas.{root_told, root_not}
+use Rattle.rip_plan.proofs.DocumentTableLemmas.{root_not, root_table}
 
 -- ---- the tables
 
@@ -50,14 +47,13 @@ module _ (laws : TextLaws) (document : Members) (links routers : List Data) (poi
       (λ w is. routers_find laws document links routers poison w is)))
       (λ s taken.
       let (w, first, second) = bind_ok (steps link_step 1 links (empty poison)) (steps router_step 1 routers) s taken in
-      let plan : PlanOf document (network_of_sketch s) =
-      document_matches laws document s (record { links = links; routers = routers; poison = poison; root = root; between = w; first = first; second = second }) in
-      let one = links_stand 1 links (empty poison) w first in
-      let two = routers_stand 1 routers w s second in
-      let placed : place_ats s ≡ place_spots links routers = two.places ∙ ap (λ (l : List At). l ++ spots_under (codes_of "own") RouterOwn 1 routers) one.places in
-      let listed : interface_ats s ≡ interface_spots routers = two.interfaces ∙ ap (λ (l : List At). l ++ spots_under (codes_of "interface") RouterInterface 1 routers) one.interfaces in
-      let tables : plan.links ≡ links = items_same (codes_of "link") (table document) plan.links links plan.has_links (root_table document links routers poison root).has_links in
-      then_ok F s (second_passes s) (passes_find laws document links routers s plan placed listed tables))
+      let read = tables_read laws links routers poison w s first second in
+      let plan : PlanOf document (network_of_sketch s) = document_matches laws document links routers poison s root read in
+      let root_is = root_table document links routers poison root in
+      let tables : plan.links ≡ links = items_same (codes_of "link") (table document) plan.links links plan.has_links root_is.has_links in
+      let others : plan.routers ≡ routers = items_same (codes_of "router") (table document) plan.routers routers plan.has_routers root_is.has_routers in
+      let spots : place_spots plan.links plan.routers ≡ place_spots links routers = ap (λ (ds : List Data). place_spots ds plan.routers) tables ∙ ap (place_spots links) others in
+      then_ok F s (second_passes s) (passes_find laws document links routers s plan read.places_stand read.interfaces_stand spots))
     where
       then_ok : (F : Found → Type 0) (s : Sketch) (r : Result (Unit {0}) PlanError) → Finds F pass_rows.has r → Finds F pass_rows.has (r >>= (λ _. Ok s))
       then_ok F s (Ok x) h = h
@@ -95,22 +91,11 @@ in_table bytes pass c place none (inr h) = absurd (none h.0)
 -- ---- the version
 
 pub version_is : (o : Option Data) → is_version o ≡ true → o ≡ Some (integer (pos 1))
-version_is None h = absurd cc
 version_is (Some (integer (pos n))) h = let one : n ≡ 1 = grind (arith, nat_tests) in ap (λ (m : ℕ). Some (integer (pos m))) one
-version_is (Some (integer (negsuc n))) h = absurd cc
-version_is (Some (string t)) h = absurd cc
-version_is (Some (table ms)) h = absurd cc
-version_is (Some (float x)) h = absurd cc
-version_is (Some (boolean b)) h = absurd cc
-version_is (Some (datetime t)) h = absurd cc
-version_is (Some (array ds)) h = absurd cc
+version_is o h = absurd cc
 
 pub version_told : (o : Option Data) → not (is_version o) ≡ true → o ≢ Some (integer (pos 1))
-version_told o h same = by_test (is_version o) (ap is_version same) h
-  where
-    by_test : (b : Bool) → b ≡ true → not b ≡ true → ⊥
-    by_test true e f = cc
-    by_test false e f = cc
+version_told o h same = both_ways (is_version o) (not-true (is_version o) h) (ap is_version same)
 
 -- ---- all faults of a document
 
@@ -119,26 +104,25 @@ same_document bytes document other h text = same_Some other document (sym text.r
 
 -- bytes have one document, with one list of links and one of routers
 module _ (bytes : List ℕ) (document : Members) (links routers : List Data) (has : HasTables bytes document links routers) where
-  pub one_tables : (other : Members) (ls rs : List Data) → HasTables bytes other ls rs → (other ≡ document) × (ls ≡ links) × (rs ≡ routers)
+  pub one_tables : (other : Members) (ls rs : List Data) → HasTables bytes other ls rs → ◌≡◌ {A = Members × List Data × List Data} (other, ls, rs) (document, links, routers)
   one_tables other ls rs h =
       let same = same_document bytes document other has.text.reads h.text in
-      let its_links : HasItems (codes_of "link") (table document) ls = subst (λ (m : Members). HasItems (codes_of "link") (table m) ls) same h.has_links in
-      let its_routers : HasItems (codes_of "router") (table document) rs = subst (λ (m : Members). HasItems (codes_of "router") (table m) rs) same h.has_routers in
-      (same, items_same (codes_of "link") (table document) ls links its_links has.has_links, items_same (codes_of "router") (table document) rs routers its_routers has.has_routers)
+      let one : ls ≡ links = items_same (codes_of "link") (table document) ls links (subst (λ (m : Members). HasItems (codes_of "link") (table m) ls) same h.has_links) has.has_links in
+      let two : rs ≡ routers = items_same (codes_of "router") (table document) rs routers (subst (λ (m : Members). HasItems (codes_of "router") (table m) rs) same h.has_routers) has.has_routers in
+      rw (same, one, two) refl
+
+  pub whole_fault : (c : PlanCode) (place : At) → TableFault document links routers c place → FaultAt bytes c place
+  whole_fault codes.Syntax Text h = absurd h
+  whole_fault codes.Version Version h = absurd h
+  whole_fault codes.Key Text h = absurd h
+  whole_fault codes.Limit Text h = absurd h
+  whole_fault c place h = (document, links, routers, has, h)
 
   pub one_fault : (c : PlanCode) (place : At) (other : Members) (ls rs : List Data) → HasTables bytes other ls rs → TableFault other ls rs c place → TableFault document links routers c place
-  one_fault c place other ls rs h f =
-      let (one, two, three) = one_tables other ls rs h in
-      subst (λ (l : List Data). TableFault document links l c place) three
-      (subst (λ (l : List Data). TableFault document l rs c place) two
-      (subst (λ (m : Members). TableFault m ls rs c place) one f))
+  one_fault c place other ls rs h f = subst (λ (t : Members × List Data × List Data). TableFault t.0 t.1 t.2 c place) (one_tables other ls rs h) f
 
   pub one_astray : (place : At) (other : Members) (ls rs : List Data) → HasTables bytes other ls rs → IsAstrayAt other ls rs place → IsAstrayAt document links routers place
-  one_astray place other ls rs h f =
-      let (one, two, three) = one_tables other ls rs h in
-      subst (λ (l : List Data). IsAstrayAt document links l place) three
-      (subst (λ (l : List Data). IsAstrayAt document l rs place) two
-      (subst (λ (m : Members). IsAstrayAt m ls rs place) one f))
+  one_astray place other ls rs h f = subst (λ (t : Members × List Data × List Data). IsAstrayAt t.0 t.1 t.2 place) (one_tables other ls rs h) f
 
 module _ (laws : TextLaws) (bytes : List ℕ) (document : Members) (short : length bytes ≤ 1048576) (reads : document_of bytes ≡ Some document) where
   text : IsText bytes document
@@ -161,19 +145,12 @@ module _ (laws : TextLaws) (bytes : List ℕ) (document : Members) (short : leng
     split_fault pass c place (inr h) = absurd h.0
 
     -- a fault of the tables is a fault of the bytes
-    whole_fault : (c : PlanCode) (place : At) → TableFault document links routers c place → FaultAt bytes c place
-    whole_fault codes.Syntax Text h = absurd h
-    whole_fault codes.Version Version h = absurd h
-    whole_fault codes.Key Text h = absurd h
-    whole_fault codes.Limit Text h = absurd h
-    whole_fault c place h = (document, links, routers, tables, h)
-
     whole_astray : (place : At) → IsAstrayAt document links routers place → AstrayAt bytes place
     whole_astray (RouterOwn r j) h = (document, links, routers, tables, h)
     whole_astray place h = absurd h
 
     whole : (o : Found) → IsOfTables document links routers o → IsTextFault bytes o
-    whole o (inl h) = inl (whole_fault o.error.code o.error.place h.0, h.1)
+    whole o (inl h) = inl (whole_fault bytes document links routers tables o.error.code o.error.place h.0, h.1)
     whole o (inr h) = inr (whole_astray o.error.place h.0, h.1, h.2)
 
   abbrev from_limit : Rows
@@ -186,17 +163,13 @@ module _ (laws : TextLaws) (bytes : List ℕ) (document : Members) (short : leng
   from_version = row_then (row_at codes.Version Version) from_key (inr (refl, inr (refl, inr (refl, inr (refl, inr (refl, inl (omega arith)))))))
 
   over_told : (links routers : List Data) → (nat_lt 512 (length links) || nat_lt 128 (length routers)) ≡ true → (512 < length links) ⊎ (128 < length routers)
-  over_told links routers h = by_test (nat_lt 512 (length links)) refl h
-    where
-      by_test : (b : Bool) → nat_lt 512 (length links) ≡ b → (b || nat_lt 128 (length routers)) ≡ true → (512 < length links) ⊎ (128 < length routers)
-      by_test true e f = inl (grind (arith, nat_tests))
-      by_test false e f = inr (grind (arith, nat_tests))
+  over_told links routers h =
+      elim (or_cases (nat_lt 512 (length links)) (nat_lt 128 (length routers)) h) [ inl more ↦ inl (grind (arith, nat_tests)) | inr more ↦ inr (grind (arith, nat_tests)) ]
 
   over_clear : (links routers : List Data) → (nat_lt 512 (length links) || nat_lt 128 (length routers)) ≡ false → (512 < length links) ⊎ (128 < length routers) → ⊥
-  over_clear links routers h (inl more) = let parts = or_parts (nat_lt 512 (length links)) (nat_lt 128 (length routers)) h in let few : nat_lt 512 (length links) ≡ false = parts.0 in grind
-      (arith, nat_tests)
-  over_clear links routers h (inr more) = let parts = or_parts (nat_lt 512 (length links)) (nat_lt 128 (length routers)) h in let few : nat_lt 128 (length routers) ≡ false = parts.1 in grind
-      (arith, nat_tests)
+  over_clear links routers h over =
+      let (few, small) = or_parts (nat_lt 512 (length links)) (nat_lt 128 (length routers)) h in
+      elim over [ inl more ↦ grind (arith, nat_tests, few) | inr more ↦ grind (arith, nat_tests, small) ]
 
   document_finds : Finds (IsTextFault bytes) from_version.has (sketch_of_document document)
   unfolding sketch_of_document
@@ -215,7 +188,7 @@ module _ (laws : TextLaws) (bytes : List ℕ) (document : Members) (short : leng
       (λ none. inl ((document, text, root_not document none), refl))
       (λ r is f.
       let h = in_table bytes 0 codes.Key Text (λ a. a) f in
-      h.2 (subst IsRoot (sym (same_document bytes document h.0 reads h.1)) (root_told document r is)))
+      h.2 (subst IsRoot (sym (same_document bytes document h.0 reads h.1)) (root_table document r.0 r.1 r.2 is).shape))
       (λ r is.
       guard_finds (IsTextFault bytes) (nat_lt 512 (length r.0) || nat_lt 128 (length r.1)) (row_at codes.Limit Text) table_rows (inr (refl, inl (omega arith))) _
       (λ over. inl (inr (document, r.0, r.1, tables r.0 r.1 r.2 is, over_told r.0 r.1 over), refl))
@@ -230,8 +203,8 @@ module _ (laws : TextLaws) (bytes : List ℕ) (document : Members) (short : leng
           → FaultAt bytes codes.Limit Text → ⊥
       limit_clear links routers poison is room (inl more) = let past : 1048576 < length bytes = more in omega arith
       limit_clear links routers poison is room (inr (other, ls, rs, has, over)) =
-          let (one, two, three) = one_tables bytes document links routers (tables links routers poison is) other ls rs has in
-          over_clear links routers room (subst (λ (l : List Data). (512 < length links) ⊎ (128 < length l)) three (subst (λ (l : List Data). (512 < length l) ⊎ (128 < length rs)) two over))
+          let same = one_tables bytes document links routers (tables links routers poison is) other ls rs has in
+          over_clear links routers room (subst (λ (t : Members × List Data × List Data). (512 < length t.1) ⊎ (128 < length t.2)) same over)
 
       by_fault : (links routers : List Data) (o : Found) → table_rows.has o → Before (ranked o) (0 ∷ 1 ∷ 1 ∷ []) ⊎ IsOfTables document links routers o
           → IsOfTables document links routers o × table_rows.has o
@@ -256,7 +229,13 @@ module _ (laws : TextLaws) (bytes : List ℕ) (document : Members) (short : leng
 
 text_finds : (laws : TextLaws) (bytes : List ℕ) → Finds (IsTextFault bytes) (λ o. Unit {0}) (sketch_of bytes)
 unfolding sketch_of
-text_finds laws bytes = by_length (nat_lt 1048576 (length bytes)) refl
+text_finds laws bytes =
+    elim (cases_Bool (nat_lt 1048576 (length bytes))) [
+      | inl e ↦
+          let more : 1048576 < length bytes = grind (arith, nat_tests) in
+          rw e (0, inl (inl more, refl), tt, λ o u f before. past_long more o (kind bytes o.pass o.error.code o.error.place f) before)
+      | inr e ↦ rw e (by_document (grind (arith, nat_tests)) (document_of bytes) refl)
+    ]
   where
     past_long : 1048576 < length bytes → (o : Found) → Kind bytes o → Before (ranked o) (ranked (row_at codes.Limit Text)) → ⊥
     past_long more o (long same) before = before_not (ranked (row_at codes.Limit Text)) (subst (λ (e : Found). Before (ranked e) (ranked (row_at codes.Limit Text))) same before)
@@ -264,13 +243,9 @@ text_finds laws bytes = by_length (nat_lt 1048576 (length bytes)) refl
     past_long more o (of_document d t) before = let short : length bytes ≤ 1048576 = t.short in omega arith
 
     not_first : Before (ranked (row_at codes.Limit Text)) (ranked (row_at codes.Syntax Text)) → ⊥
-    not_first (inl b) = omega arith
-    not_first (inr (e, inl b)) = omega arith
-    not_first (inr (e, inr (e1, inl b))) = omega arith
-    not_first (inr (e, inr (e1, inr (e2, inl b)))) = omega arith
-    not_first (inr (e, inr (e1, inr (e2, inr (e3, inl b))))) = omega arith
-    not_first (inr (e, inr (e1, inr (e2, inr (e3, inr (e4, inl b)))))) = omega arith
-    not_first (inr (e, inr (e1, inr (e2, inr (e3, inr (e4, inr (e5, b))))))) = b
+    not_first b =
+        let late = ranked (row_at codes.Limit Text) in
+        before_not late (before_trans late (ranked (row_at codes.Syntax Text)) late b (by_code Text codes.Syntax codes.Limit refl (omega arith)))
 
     past_syntax : document_of bytes ≡ None → (o : Found) → Kind bytes o → Before (ranked o) (ranked (row_at codes.Syntax Text)) → ⊥
     past_syntax none o (long same) before = not_first (subst (λ (e : Found). Before (ranked e) (ranked (row_at codes.Syntax Text))) same before)
@@ -281,12 +256,6 @@ text_finds laws bytes = by_length (nat_lt 1048576 (length bytes)) refl
     by_document : length bytes ≤ 1048576 → (o : Option Members) → document_of bytes ≡ o → Finds (IsTextFault bytes) (λ o. Unit {0}) (wanted (fault codes.Syntax Text) o >>= sketch_of_document)
     by_document short None e = (0, inl ((short, e), refl), tt, λ o u f before. past_syntax e o (kind bytes o.pass o.error.code o.error.place f) before)
     by_document short (Some document) e = all_find laws bytes document short e
-
-    by_length : (b : Bool) → nat_lt 1048576 (length bytes) ≡ b → Finds (IsTextFault bytes) (λ o. Unit {0})
-        (cond b (Err (fault codes.Limit Text)) (wanted (fault codes.Syntax Text) (document_of bytes) >>= sketch_of_document))
-    by_length true e = let more : 1048576 < length bytes = grind (arith, nat_tests) in
-        (0, inl (inl more, refl), tt, λ o u f before. past_long more o (kind bytes o.pass o.error.code o.error.place f) before)
-    by_length false e = by_document (grind (arith, nat_tests)) (document_of bytes) refl
 
 -- ---- a fault is known by its rank
 
@@ -309,28 +278,14 @@ error_from (pass ∷ part ∷ i ∷ group ∷ j ∷ code ∷ []) =
     cond (group == 0) (Router i) (cond (group == 1) (RouterInterface i j) (RouterOwn i j)))))
 error_from ns = fault codes.Memory Text
 
-table_rank : (bytes : List ℕ) (pass : ℕ) (c : PlanCode) (place : At) → FaultAt bytes c place → error_from (rank pass (fault c place)) ≡ fault c place
+from_rank : (bytes : List ℕ) (pass : ℕ) (c : PlanCode) (place : At) → IsFound bytes pass (fault c place) → error_from (rank pass (fault c place)) ≡ fault c place
 unfolding error_from
-table_rank bytes pass c (Link i) h = ap (λ (d : PlanCode). fault d (Link i)) (code_back c)
-table_rank bytes pass c (LinkPrefix i j) h = ap (λ (d : PlanCode). fault d (LinkPrefix i j)) (code_back c)
-table_rank bytes pass c (Router r) h = ap (λ (d : PlanCode). fault d (Router r)) (code_back c)
-table_rank bytes pass c (RouterInterface r j) h = ap (λ (d : PlanCode). fault d (RouterInterface r j)) (code_back c)
-table_rank bytes pass c (RouterOwn r j) h = ap (λ (d : PlanCode). fault d (RouterOwn r j)) (code_back c)
-table_rank bytes pass codes.Version Text h = absurd h.4
-table_rank bytes pass codes.Version Version h = ap (λ (d : PlanCode). fault d Version) (code_back codes.Version)
-table_rank bytes pass codes.Syntax Text h = ap (λ (d : PlanCode). fault d Text) (code_back codes.Syntax)
-table_rank bytes pass codes.Key Text h = ap (λ (d : PlanCode). fault d Text) (code_back codes.Key)
-table_rank bytes pass codes.Limit Text h = ap (λ (d : PlanCode). fault d Text) (code_back codes.Limit)
-table_rank bytes pass c place h = absurd h.4
-
-astray_rank : (bytes : List ℕ) (pass : ℕ) (c : PlanCode) (place : At) → AstrayAt bytes place → error_from (rank pass (fault c place)) ≡ fault c place
-unfolding error_from
-astray_rank bytes pass c (RouterOwn r j) h = ap (λ (d : PlanCode). fault d (RouterOwn r j)) (code_back c)
-astray_rank bytes pass c place h = absurd h
-
-from_rank : (bytes : List ℕ) (pass : ℕ) (o : PlanError) → IsFound bytes pass o → error_from (rank pass o) ≡ o
-from_rank bytes pass o (inl h) = table_rank bytes pass o.code o.place h.0
-from_rank bytes pass o (inr h) = astray_rank bytes pass o.code o.place h.0
+from_rank bytes pass codes.Version Text (inl h) = absurd h.0.4
+from_rank bytes pass codes.Version Version (inl h) = ap (λ (d : PlanCode). fault d Version) (code_back codes.Version)
+from_rank bytes pass c Version (inl h) = absurd h.0.4
+from_rank bytes pass c Version (inr h) = absurd h.0
+from_rank bytes pass c Text (inr h) = absurd h.0
+from_rank bytes pass c place h = ap (λ (d : PlanCode). fault d place) (code_back c)
 
 rank_length : (pass : ℕ) (c : PlanCode) (place : At) → length (rank pass (fault c place)) ≡ 6
 rank_length pass c (Link i) = omega arith
@@ -347,7 +302,7 @@ fault_first laws bytes e h =
           elim (before_or (rank found.0 e) (rank other o) lengths) [
             | inl either ↦
                 elim either [
-                  | inl same ↦ inl (sym (from_rank bytes other o f) ∙ ap error_from (sym same) ∙ from_rank bytes found.0 e found.1)
+                  | inl same ↦ inl (sym (from_rank bytes other o.code o.place f) ∙ ap error_from (sym same) ∙ from_rank bytes found.0 e.code e.place found.1)
                   | inr later ↦ inr later
                 ]
             | inr sooner ↦ absurd (found.3 (record { pass = other; error = o }) tt f sooner)
@@ -361,50 +316,41 @@ faultless laws bytes s h e f =
 
 -- ---- the laws
 
-pub fault_told : (laws : TextLaws) (bytes : List ℕ) (e : PlanError) → (first_fault bytes ≡ Some e) ↔ PlanFault bytes e
-fault_told laws bytes e = by_sketch (sketch_of bytes) refl
+-- a text is read, or its first fault is told
+pub read_or_told : (laws : TextLaws) (bytes : List ℕ) → ((s : Sketch) × (sketch_of bytes ≡ Ok s)) ⊎ ((d : PlanError) × (sketch_of bytes ≡ Err d) × PlanFault bytes d)
+read_or_told laws bytes = by_sketch (sketch_of bytes) refl
   where
-    one : (d : PlanError) → PlanFault bytes d → PlanFault bytes e → d ≡ e
-    one d p q =
-        elim (q.first p.pass d p.found) [
-          | inl same ↦ same
-          | inr after ↦
-              elim (p.first q.pass e q.found) [
-                | inl same ↦ sym same
-                | inr later ↦ absurd (before_not (rank p.pass d) (before_trans (rank p.pass d) (rank q.pass e) (rank p.pass d) later after))
-              ]
-        ]
+    by_sketch : (r : Result Sketch PlanError) → sketch_of bytes ≡ r → ((s : Sketch) × (sketch_of bytes ≡ Ok s)) ⊎ ((d : PlanError) × (sketch_of bytes ≡ Err d) × PlanFault bytes d)
+    by_sketch (Ok s) h = inl (s, h)
+    by_sketch (Err d) h = inr (d, h, fault_first laws bytes d h)
 
-    by_sketch : (r : Result Sketch PlanError) → sketch_of bytes ≡ r → (result_err (sketch_of bytes >>= (λ s. Ok (network_of_sketch s))) ≡ Some e) ↔ PlanFault bytes e
-    by_sketch (Ok s) h = (
-      λ f. absurd (none-some e (ap (λ (r : Result Sketch PlanError). result_err (r >>= (λ s. Ok (network_of_sketch s)))) (sym h) ∙ f)),
-      λ p. absurd (faultless laws bytes s h e (p.pass, p.found)),
-    )
-    by_sketch (Err d) h = (
-      λ f. let same : d ≡ e = same_Some d e (ap (λ (r : Result Sketch PlanError). result_err (r >>= (λ s. Ok (network_of_sketch s)))) (sym h) ∙ f) in subst (PlanFault bytes) same
-          (fault_first laws bytes d h),
-      λ p. ap (λ (r : Result Sketch PlanError). result_err (r >>= (λ s. Ok (network_of_sketch s)))) h ∙ ap (λ (x : PlanError). Some x) (one d (fault_first laws bytes d h) p),
-    )
+abbrev fault_in : Result Sketch PlanError → Option PlanError
+fault_in r = result_err (r >>= (λ s. Ok (network_of_sketch s)))
+
+one_first : (bytes : List ℕ) (d e : PlanError) → PlanFault bytes d → PlanFault bytes e → d ≡ e
+one_first bytes d e p q =
+    elim (q.first p.pass d p.found) [
+      | inl same ↦ same
+      | inr after ↦
+          elim (p.first q.pass e q.found) [
+            | inl same ↦ sym same
+            | inr later ↦ absurd (before_not (rank p.pass d) (before_trans (rank p.pass d) (rank q.pass e) (rank p.pass d) later after))
+          ]
+    ]
+
+pub fault_told : (laws : TextLaws) (bytes : List ℕ) (e : PlanError) → (first_fault bytes ≡ Some e) ↔ PlanFault bytes e
+fault_told laws bytes e =
+    elim (read_or_told laws bytes) [
+      | inl (s, h) ↦ (λ f. absurd (none-some e (sym (ap fault_in h) ∙ f)), λ p. absurd (faultless laws bytes s h e (p.pass, p.found)))
+      | inr (d, h, told) ↦ (λ f. subst (PlanFault bytes) (same_Some d e (sym (ap fault_in h) ∙ f)) told, λ p. ap fault_in h ∙ ap (λ (x : PlanError). Some x) (one_first bytes d e told p))
+    ]
 
 pub none_told : (laws : TextLaws) (bytes : List ℕ) → (first_fault bytes ≡ None) ↔ ((e : PlanError) → IsFault bytes e → ⊥)
-none_told laws bytes = by_sketch (sketch_of bytes) refl
-  where
-    by_sketch : (r : Result Sketch PlanError) → sketch_of bytes ≡ r → (result_err (sketch_of bytes >>= (λ s. Ok (network_of_sketch s))) ≡ None) ↔ ((e : PlanError) → IsFault bytes e → ⊥)
-    by_sketch (Ok s) h = (
-      λ f. faultless laws bytes s h,
-      λ p. ap (λ (r : Result Sketch PlanError). result_err (r >>= (λ s. Ok (network_of_sketch s)))) h,
-    )
-    by_sketch (Err d) h = (
-      λ f. absurd (none-some d (sym f ∙ ap (λ (r : Result Sketch PlanError). result_err (r >>= (λ s. Ok (network_of_sketch s)))) h)),
-      λ p. let told = fault_first laws bytes d h in absurd (p d (told.pass, told.found)),
-    )
-
-pub plan_stands : (laws : TextLaws) (bytes : List ℕ) → ((e : PlanError) → IsFault bytes e → ⊥) → (n : Network) × IsPlanOfText bytes n × IsLawful n
-plan_stands laws bytes none = by_sketch (sketch_of bytes) refl
-  where
-    by_sketch : (r : Result Sketch PlanError) → sketch_of bytes ≡ r → (n : Network) × IsPlanOfText bytes n × IsLawful n
-    by_sketch (Ok s) h = (network_of_sketch s, network_matches laws bytes (network_of_sketch s) (ap (λ (r : Result Sketch PlanError). r >>= (λ t. Ok (network_of_sketch t))) h), lawful laws bytes s h)
-    by_sketch (Err d) h = let told = fault_first laws bytes d h in absurd (none d (told.pass, told.found))
+none_told laws bytes =
+    elim (read_or_told laws bytes) [
+      | inl (s, h) ↦ (λ f. faultless laws bytes s h, λ p. ap fault_in h)
+      | inr (d, h, told) ↦ (λ f. absurd (none-some d (sym f ∙ ap fault_in h)), λ p. absurd (p d (told.pass, told.found)))
+    ]
 
 -- no code of a fault is Memory
 pub never_memory : (bytes : List ℕ) (e : PlanError) → PlanFault bytes e → e.code ≢ codes.Memory
@@ -416,9 +362,4 @@ never_memory bytes e p memory =
   where
     by_place : (place : At) → FaultAt bytes codes.Memory place → ⊥
     by_place Text f = f.4
-    by_place Version f = f.4
-    by_place (Link i) f = f.4
-    by_place (LinkPrefix i j) f = f.4
-    by_place (Router r) f = f.4
-    by_place (RouterInterface r j) f = f.4
-    by_place (RouterOwn r j) f = f.4
+    by_place place f = f.4

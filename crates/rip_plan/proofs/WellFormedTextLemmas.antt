@@ -1,11 +1,10 @@
 -- Bytes without a fault are the well-formed ones.
-use Rattle.std.proofs.Common.{◌≡◌, ℕ, zero, suc, ◌+◌, ◌<◌, ◌≤◌, ◌⊎◌, inl, inr, List, [], ◌∷◌, ◌++◌, map, length, length-append, sum, Bool, true, false, not, Option, None, Some, refl, sym, ◌∙◌, ap, subst, arith}
-use Rattle.std.specs.Prelude.{pos, slice_get, get_or, codes as codes_of}
-use Rattle.std.specs.List.{All, sum_by}
-use Rattle.std.proofs.lemmas.Bool.{cases_lt}
-use Rattle.std.proofs.lemmas.List.Sums.{sum-map, sum_by-cons}
-use Rattle.std.proofs.lemmas.Option.{none-some, same_Some, slice_get_within, get_or_from_slice_get, slice_get-get_or}
-use Rattle.toml.specs.Data.{Data, Members, get, integer, string, table}
+use Rattle.std.proofs.Common.{◌≡◌, ℕ, zero, suc, ◌+◌, ◌<◌, ◌≤◌, ◌⊎◌, inl, inr, List, map, length, sum, not, Some, refl, sym, ◌∙◌, ap, subst, arith}
+use Rattle.std.specs.Prelude.{slice_get, get_or, codes as codes_of}
+use Rattle.std.specs.List.{All}
+use Rattle.std.proofs.lemmas.Bool.{cases_Bool}
+use Rattle.std.proofs.lemmas.Option.{none-some, slice_get_within, get_or_from_slice_get, slice_get-get_or}
+use Rattle.toml.specs.Data.{Data, Members, get, string, table}
 use Rattle.rip_wire.specs.Name.{IsName}
 use Rattle.rip_wire.specs.Prefix.{Block}
 use Rattle.rip_plan.specs.declared.error.PlanCode.{PlanCode}
@@ -13,26 +12,26 @@ use Rattle.rip_plan.specs.declared.error.PlanCode.TheVariants as codes
 use Rattle.rip_plan.specs.declared.error.PlanError.{PlanError}
 use Rattle.rip_plan.specs.declared.error.At.{At}
 use Rattle.rip_plan.specs.declared.error.At.TheVariants.{Text, Version, Link, LinkPrefix, Router, RouterInterface, RouterOwn}
-use Rattle.rip_plan.specs.declared.parts.Interface.{Interface}
-use Rattle.rip_plan.specs.declared.parts.Seat.TheVariants as seats
 use Rattle.rip_plan.specs.Fault.{fault}
 use Rattle.rip_plan.specs.Fields.{interface_fields, is_version, link_fields, own_fields, router_fields}
 use Rattle.rip_plan.specs.Network.{Network}
-use Rattle.rip_plan.specs.PlanFaults.{AreTwice, AstrayAt, DoMeet, FaultAt, HasNoAddress, HasOneTwice, HasPrefix, HasTables, HasWrongAlso, HasWrongCost, HasWrongDirect, HaveOneAddress, IsAstray, IsBare, IsClash, IsFault, IsFound, IsItem, IsMisnamed, IsNamedAgain, IsOutside, IsPast, IsSo, IsText, NamesNoLink, TableFault, also_spots, interface_spots, nth, pass_of, place_spots, spots_under}
-use Rattle.rip_plan.specs.PlanOf.{AreAlsoOf, IsAddressOf, IsCostOf, IsDirectOf, IsGatewayOf, IsLinkOf, IsInterfaceOf, IsNameOf, IsOnLink, IsOwned, IsPlaceOf, IsPlanOfText, Matched, Placement, PlanOf, items_in, items_under}
-use Rattle.rip_plan.specs.Relations.{Carries, HasOwnAddress, IsConnected, IsInterface, IsLawful, IsOwnAt, IsPlace, IsPrefix}
+use Rattle.rip_plan.specs.PlanFaults.{AreTwice, AstrayAt, DoMeet, FaultAt, HasNoAddress, HasOneTwice, HasTables, HasWrongAlso, HasWrongCost, HasWrongDirect, HaveOneAddress, IsAstray, IsBare, IsClash, IsFault, IsItem, IsNamedAgain, IsOutside, IsPast, IsSo, IsText, TableFault, also_spots, interface_spots, nth, place_spots}
+use Rattle.rip_plan.specs.PlanOf.{AreAlsoOf, IsAddressOf, IsNameOf, IsOnLink, IsPlanOfText, Matched, PlanOf, items_under}
+use Rattle.rip_plan.specs.Relations.{HasOwnAddress, IsConnected, IsInterface, IsLawful, IsOwnAt, IsPlace}
 use Rattle.rip_plan.specs.WellFormed.{IsWellFormed}
-use Rattle.rip_plan.proofs.FurtherAddressLemmas.{also_count, also_in, also_items, also_under}
-use Rattle.rip_plan.proofs.ItemLemmas.{get_seen, get_split, see_got, get_left, get_past}
-use Rattle.rip_plan.proofs.MatchingLemmas.{matched_left, matched_length, matched_right}
-use Rattle.rip_plan.proofs.OnePlanLemmas.{cost_same, one_plan, text_same}
-use Rattle.rip_plan.proofs.PlanMatchLemmas.{with_number}
-use Rattle.rip_plan.proofs.SpotLemmas.{spots_count}
-use Rattle.rip_plan.proofs.TextFaultLemmas.{one_astray, one_fault, one_tables, same_document, version_is, version_told}
-use Rattle.rip_plan.proofs.TextLemmas.{TextLaws, one_address}
-use Rattle.rip_plan.specs.Texts.{IsAddressText, IsPrefixText, IsNoPrefix}
-use Rattle.rip_plan.specs.DocumentTables.{IsLinkTable, IsRouterTable, IsInterfaceTable, IsOwnTable, IsRoot, IsString}
-use Rattle.rip_plan.proofs.DocumentTableLemmas.{link_told, link_not, router_told, router_not, interface_told, interface_not, own_not, by_table, by_root, own_told}
+use Rattle.rip_plan.proofs.FurtherAddressLemmas.{also_items}
+use Rattle.rip_plan.proofs.LawfulPlanLemmas.{not_long}
+use Rattle.rip_plan.proofs.ItemLemmas.{get_left, get_past}
+use Rattle.rip_plan.proofs.MatchingLemmas.{matched_length, matched_right}
+use Rattle.rip_plan.proofs.OnePlanLemmas.{one_plan, text_same}
+use Rattle.rip_plan.proofs.TableLemmas.{cost_fits, direct_fits, gateway_fits}
+use Rattle.rip_plan.proofs.PlanPartLemmas.{attached_not, inside_not, known_not, HasInterface, HasOwn, also_counted, carrier_has, prefix_place, interfaces_count, item_under, its_interface, its_own, its_place, names_good, places_count}
+use Rattle.rip_plan.proofs.SpotLemmas.{under_item}
+use Rattle.rip_plan.proofs.TextFaultLemmas.{one_astray, one_fault, one_tables, same_document, version_is, version_told, whole_fault}
+use Rattle.rip_plan.proofs.TextLemmas.{TextLaws}
+use Rattle.rip_plan.specs.Texts.{IsAddressText, IsPrefixText}
+use Rattle.rip_plan.specs.DocumentTables.{IsLinkTable, IsRouterTable, IsInterfaceTable, IsOwnTable, IsRoot}
+use Rattle.rip_plan.proofs.DocumentTableLemmas.{by_root, by_table, interface_not, interface_texts, link_not, link_table, own_not, own_texts, router_not, router_table}
 
 -- ---- lists
 
@@ -42,113 +41,7 @@ all_at P xs k x all h = subst P (get_or_from_slice_get xs k x x h) (all k x (sli
 all_from : {A : Type 0} (P : A → Type 0) (xs : List A) → ((k : ℕ) (x : A) → slice_get xs k ≡ Some x → P x) → All P xs
 all_from P xs f = λ k d less. f k (get_or xs k d) (slice_get-get_or xs k d less)
 
--- an item of the lists at a key stands in a table
-under_item : (key : List ℕ) (n : ℕ) (ds : List Data) (k m : ℕ) (x : Data) → slice_get (items_under key n ds) k ≡ Some (m, x) → (i j : ℕ) × (m ≡ n + i) × IsItem key ds (suc i) (suc j) x
-under_item key n [] k m x h = absurd (none-some (m, x) h)
-under_item key n (d ∷ ds) k m x h =
-    elim (get_split (map (with_number n) (items_in (get key d))) (items_under key (n + 1) ds) k (m, x) h) [
-      | inl e ↦
-          let (y, at, same) = get_seen (with_number n) (items_in (get key d)) k (m, x) e.0 in
-          let number : n ≡ m = ap (λ (p : ℕ × Data). p.0) same in
-          (zero, k, omega arith, (d, refl, at ∙ ap (λ (p : ℕ × Data). Some p.1) same))
-      | inr e ↦
-          let (i, j, number, item) = under_item key (n + 1) ds e.0 m x e.2 in
-          (suc i, j, omega arith, item)
-    ]
-
-under_at : (key : List ℕ) (n : ℕ) (ds : List Data) (i j : ℕ) (d x : Data) → slice_get ds i ≡ Some d → slice_get (items_in (get key d)) j ≡ Some x
-    → (k : ℕ) × (slice_get (items_under key n ds) k ≡ Some (n + i, x))
-under_at key n [] i j d x h g = absurd (none-some d h)
-under_at key n (e ∷ ds) zero j d x h g =
-    let same : e ≡ d = same_Some e d h in
-    let here : slice_get (items_in (get key e)) j ≡ Some x = ap (λ (t : Data). slice_get (items_in (get key t)) j) same ∙ g in (
-      j,
-      get_left (map (with_number n) (items_in (get key e))) (items_under key (n + 1) ds) j (n, x) (see_got (with_number n) (items_in (get key e)) j x here)
-          ∙ ap (λ (m : ℕ). Some (m, x)) (omega arith),
-    )
-under_at key n (e ∷ ds) (suc i) j d x h g =
-    let (k, at) = under_at key (n + 1) ds i j d x h g in (
-      length (map (with_number n) (items_in (get key e))) + k,
-      get_past (map (with_number n) (items_in (get key e))) (items_under key (n + 1) ds) k _ refl ∙ at
-          ∙ ap (λ (m : ℕ). Some (m, x)) (omega arith),
-    )
-
--- where an item of a table stands in the lists at a key
-record StandsUnder (key : List ℕ) (ds : List Data) (i : ℕ) (x : Data) : Type 0 where
-  k : ℕ
-  m : ℕ
-  number : i ≡ suc m
-  at : slice_get (items_under key 0 ds) k ≡ Some (m, x)
-
-item_under : (key : List ℕ) (ds : List Data) (i j : ℕ) (x : Data) → IsItem key ds i j x → StandsUnder key ds i x
-item_under key ds zero j x (d, is, item) = absurd (none-some d is)
-item_under key ds (suc m) zero x (d, is, item) = absurd (none-some x item)
-item_under key ds (suc m) (suc j) x (d, is, item) =
-    let (k, at) = under_at key 0 ds m j d x is item in
-    record { k = k; m = m; number = refl; at = at ∙ ap (λ (n : ℕ). Some (n, x)) (omega arith) }
-
--- ---- costs
-
-costs : (d : Data) (c : ℕ) → IsCostOf d c → 1 ≤ c → c ≤ 15 → HasWrongCost d → ⊥
-costs d c (inr given) least most (z, is, none) = none-some (integer z) (sym given.0 ∙ is)
-costs d c (inl given) least most (z, is, none) =
-    let same : integer (pos c) ≡ integer z = same_Some (integer (pos c)) (integer z) (sym given ∙ is) in
-    let number : z ≡ pos c = cc in
-    none c number least most
-
--- a direct metric that may stand beside the cost
-directs : (d : Data) (c e : ℕ) → IsCostOf d c → IsDirectOf d c e → 1 ≤ e → e ≤ c → HasWrongDirect d → ⊥
-directs d c e cost (inr given) least most (b, z, is_cost, one, fifteen, is, none) = none-some (integer z) (sym given.0 ∙ is)
-directs d c e cost (inl given) least most (b, z, is_cost, one, fifteen, is, none) =
-    let same : integer (pos e) ≡ integer z = same_Some (integer (pos e)) (integer z) (sym given ∙ is) in
-    let its : b ≡ c = cost_same d b c is_cost cost in
-    let number : z ≡ pos e = cc in
-    none e number least (subst (λ (n : ℕ). e ≤ n) (sym its) most)
-
--- a gateway that is an address
-gateways : (d : Data) (via : Option ℕ) → IsGatewayOf d via → HasNoAddress (codes_of "via") d → ⊥
-gateways d None is (text, has, none) = none-some (string text) (sym is ∙ has)
-gateways d (Some a) (other, its, parsed) (text, has, none) =
-    let same : text ≡ other = text_same (codes_of "via") d text other has its in
-    none a (subst (λ (t : List ℕ). IsAddressText t a) (sym same) parsed)
-
--- ---- further addresses
-
--- how many further addresses these items have
-abbrev also_at : List (ℕ × Data) → ℕ
-also_at [] = 0
-also_at (x ∷ xs) = length (also_items x.1) + also_at xs
-
-also_sum : (also : List (List ℕ)) (xs : List (ℕ × Data)) → Matched AreAlsoOf also xs → sum_by length also ≡ also_at xs
-also_sum [] [] m = refl
-also_sum [] (x ∷ xs) m = absurd m
-also_sum (a ∷ also) [] m = absurd m
-also_sum (a ∷ also) (x ∷ xs) m = omega (arith, sum_by-cons length a also, also_sum also xs m.1, matched_length IsAddressOf a (also_items x.1) m.0)
-
-also_append : (xs ys : List (ℕ × Data)) → also_at (xs ++ ys) ≡ also_at xs + also_at ys
-also_append [] ys = omega arith
-also_append (x ∷ xs) ys = omega (arith, also_append xs ys)
-
-also_numbered : (n : ℕ) (ds : List Data) → also_at (map (with_number n) ds) ≡ also_in ds
-also_numbered n [] = refl
-also_numbered n (d ∷ ds) = omega (arith, also_numbered n ds)
-
-also_flat : (n : ℕ) (ds : List Data) → also_at (items_under (codes_of "interface") n ds) ≡ also_under ds
-also_flat n [] = refl
-also_flat n (d ∷ ds) =
-    let here = items_in (get (codes_of "interface") d) in
-    omega (arith, also_flat (n + 1) ds, also_append (map (with_number n) here) (items_under (codes_of "interface") (n + 1) ds), also_numbered n here)
-
 -- ---- names
-
-names_good : (names : List (List ℕ)) (ds : List Data) → Matched IsNameOf names ds → (i k : ℕ) (name : List ℕ) (d : Data) → i ≡ suc k → nth ds i ≡ Some d → IsNameOf name d
-    → slice_get names k ≡ Some name
-names_good names ds named (suc i) k name d number at its =
-    let same : i ≡ k = omega arith in
-    let (other, listed, of) = matched_right IsNameOf names ds i d named at in
-    let one : other ≡ name = text_same (codes_of "name") d other name of its in
-    ap (slice_get names) (sym same) ∙ listed ∙ ap (λ (t : List ℕ). Some t) one
-names_good names ds named zero k name d number at its = absurd (omega arith)
 
 misnamed_not : (names : List (List ℕ)) (ds : List Data) → Matched IsNameOf names ds → (P : List ℕ → Type 0) → ((k : ℕ) (name : List ℕ) → slice_get names k ≡ Some name → P name)
     → (i : ℕ) (name : List ℕ) (d : Data) → nth ds i ≡ Some d → IsNameOf name d → P name
@@ -163,282 +56,142 @@ again_not names ds named differ (suc i) (d, earlier, suc k, name, at, its, less,
     let same : i ≡ k = differ i k name (names_good names ds named (suc i) i name d refl at its) (names_good names ds named (suc k) k name earlier refl there theirs) in
     omega arith
 
--- ---- a plan that keeps the laws
-
-module _ (laws : TextLaws) (document : Members) (n : Network) (plan : PlanOf document n) (lawful : IsLawful n) where
-  places_count : length n.places ≡ length (place_spots plan.links plan.routers)
-  places_count =
-      omega (
-        arith,
-        matched_length (IsPlaceOf n) n.places (plan.on_links ++ plan.owned) plan.places,
-        length-append plan.on_links plan.owned,
-        matched_length IsOnLink plan.on_links (items_under (codes_of "prefixes") 0 plan.links) plan.link_prefixes,
-        matched_length (IsOwned n.links) plan.owned (items_under (codes_of "own") 0 plan.routers) plan.own_prefixes,
-        spots_count (codes_of "prefixes") LinkPrefix 1 0 plan.links,
-        spots_count (codes_of "own") RouterOwn 1 0 plan.routers,
-        length-append (spots_under (codes_of "prefixes") LinkPrefix 1 plan.links) (spots_under (codes_of "own") RouterOwn 1 plan.routers),
-      )
-
-  interfaces_count : length n.interfaces ≡ length (interface_spots plan.routers)
-  interfaces_count = matched_length (IsInterfaceOf n.links plan.poison) n.interfaces (items_under (codes_of "interface") 0 plan.routers) plan.interfaces
-      ∙ sym (spots_count (codes_of "interface") RouterInterface 1 0 plan.routers)
-
-  -- the interface of an item
-  record HasInterface (x : Data) : Type 0 where
-    k : ℕ
-    i : Interface
-    listed : slice_get n.interfaces k ≡ Some i
-    m : ℕ
-    of : IsInterfaceOf n.links plan.poison i (m, x)
-
-  its_interface : (r j : ℕ) (x : Data) → IsItem (codes_of "interface") plan.routers r j x → HasInterface x
-  its_interface r j x item =
-      let u = item_under (codes_of "interface") plan.routers r j x item in
-      let (i, listed, of) = matched_right (IsInterfaceOf n.links plan.poison) n.interfaces (items_under (codes_of "interface") 0 plan.routers) u.k (u.m, x) plan.interfaces u.at in
-      record { k = u.k; i = i; listed = listed; m = u.m; of = of }
-
-  -- the own prefix of an item
-  record HasOwn (x : Data) : Type 0 where
-    k : ℕ
-    q : Placement
-    m : ℕ
-    listed : slice_get plan.owned k ≡ Some q
-    of : IsOwned n.links q (m, x)
-
-  its_own : (r j : ℕ) (x : Data) → IsItem (codes_of "own") plan.routers r j x → HasOwn x
-  its_own r j x item =
-      let u = item_under (codes_of "own") plan.routers r j x item in
-      let (q, listed, of) = matched_right (IsOwned n.links) plan.owned (items_under (codes_of "own") 0 plan.routers) u.k (u.m, x) plan.own_prefixes u.at in
-      record { k = u.k; q = q; m = u.m; listed = listed; of = of }
-
-  -- the place of a placement
-  its_place : (k : ℕ) (q : Placement) → slice_get (plan.on_links ++ plan.owned) k ≡ Some q → (p : ℕ) × IsPlace n k p q.seat × IsPrefix n p q.prefix
-  its_place k q h =
-      let (y, listed, of) = matched_right (IsPlaceOf n) n.places (plan.on_links ++ plan.owned) k q plan.places h in
-      (y.prefix, record { listed = listed ∙ ap (λ s. Some (record { prefix = y.prefix; seat = s })) of.seat }, of.prefix)
-
-  -- prefixes on links
-  has_carrier : (l : ℕ) (p : Block) → HasPrefix plan.links l p → (k : ℕ) × Carries n l k
-  has_carrier l p (k, text, at, parsed) =
-      let (q, listed, of) = matched_right IsOnLink plan.on_links (items_under (codes_of "prefixes") 0 plan.links) k (l, string text) plan.link_prefixes at in
-      let (number, place, prefix) = its_place k q (get_left plan.on_links plan.owned k q listed) in
-      (number, (k, subst (IsPlace n k number) of.seat place))
-
-  carrier_has : (l p : ℕ) (block : Block) → Carries n l p → IsPrefix n p block → HasPrefix plan.links l block
-  carrier_has l p block (k, place) prefix =
-      let (q, at, of) = matched_left (IsPlaceOf n) n.places (plan.on_links ++ plan.owned) k _ plan.places place.listed in
-      let same : block ≡ q.prefix = same_Some block q.prefix (sym prefix ∙ of.prefix) in
-      elim (get_split plan.on_links plan.owned k q at) [
-        | inl here ↦
-            let ((m, item), is, on) = matched_left IsOnLink plan.on_links (items_under (codes_of "prefixes") 0 plan.links) k q plan.link_prefixes here.0 in
-            let seat : seats.Link l ≡ seats.Link m = of.seat ∙ on.seat in
-            let number : m ≡ l = cc in
-            (k, on.text, is ∙ ap (λ (y : ℕ × Data). Some y) (ap (λ (v : ℕ). (v, item)) number ∙ ap (λ (y : Data). (l, y)) on.is_text), subst (IsPrefixText on.text) (sym same) on.prefix)
-        | inr there ↦
-            let ((m, item), is, own) = matched_left (IsOwned n.links) plan.owned (items_under (codes_of "own") 0 plan.routers) there.0 q plan.own_prefixes there.2 in
-            let seat : seats.Link l ≡ seats.Own own.own = of.seat ∙ own.seat in
-            absurd cc
-      ]
-
-  -- a link of the plan has the name
-  link_there : (name : List ℕ) (l : ℕ) → slice_get n.links l ≡ Some name → ((m : ℕ) (link : Data) → slice_get plan.links m ≡ Some link → IsNameOf name link → ⊥) → ⊥
-  link_there name l known none =
-      let (link, listed, its) = matched_left IsNameOf n.links plan.links l name plan.link_names known in
-      none l link listed its
-
-  unknown_not : (x : Data) → HasInterface x → NamesNoLink plan.links x → ⊥
-  unknown_not x h (name, has, none) =
-      let same : h.of.link_name ≡ name = text_same (codes_of "link") x h.of.link_name name h.of.has_link has in
-      link_there name h.i.link (h.of.link.0 ∙ ap (λ (t : List ℕ). Some t) same) none
-
-  attached_not : (x : Data) (link : Option ℕ) → IsLinkOf n.links x link → NamesNoLink plan.links x → ⊥
-  attached_not x None is (name, has, none) = none-some (string name) (sym is ∙ has)
-  attached_not x (Some l) (other, its, known) (name, has, none) =
-      let same : other ≡ name = text_same (codes_of "link") x other name its has in
-      link_there name l (known.0 ∙ ap (λ (t : List ℕ). Some t) same) none
-
-  outside_not : (x : Data) → HasInterface x → IsOutside plan.links x → ⊥
-  outside_not x h o =
-      let same : h.of.link_name ≡ o.name = text_same (codes_of "link") x h.of.link_name o.name h.of.has_link o.has_link in
-      let one : slice_get n.links h.i.link ≡ Some o.name = h.of.link.0 ∙ ap (λ (t : List ℕ). Some t) same in
-      let two : slice_get n.links o.link ≡ Some o.name = names_good n.links plan.links plan.link_names (suc o.link) o.link o.name o.link_table refl o.listed o.named in
-      let link : h.i.link ≡ o.link = lawful.link_names_differ h.i.link o.link o.name one two in
-      let text : h.of.text ≡ o.text = text_same (codes_of "address") x h.of.text o.text h.of.has_address o.has_address in
-      let address : h.i.address ≡ o.address = one_address laws h.of.text o.text h.i.address o.address text h.of.address o.spelled in
-      let (p, carries) = has_carrier o.link o.some.0 o.some.1 in
-      let is : HasOwnAddress n h.k o.link o.address = record {
-        router = h.i.router;
-        cost = h.i.cost;
-        direct = h.i.direct;
-        poison = h.i.poison;
-        listed = h.listed ∙ ap (λ (l : ℕ). Some (record h.i { link = l })) link ∙ ap (λ (a : ℕ). Some (record h.i { link = o.link; address = a })) address;
-      } in
-      let (q, block, on, prefix, contains) = lawful.inside h.k o.link o.address p is carries in
-      o.none block (carrier_has o.link q block on prefix) contains
-
-  -- two items that clash
-  clash_not : (Clash : Network → ℕ → ℕ → Type 0) (spots : List At) (place : At) → ((j k : ℕ) → Clash n j k → j ≡ k) → (m : Network) → PlanOf document m → IsClash (Clash m) spots place → ⊥
-  clash_not Clash spots place apart m its c =
-      let (j, k, at, less, meet) = subst (λ (v : Network). IsClash (Clash v) spots place) (one_plan laws document m n its plan) c in
-      let same : j ≡ k = apart j k meet in
-      omega arith
-
-  meet_not : (j k : ℕ) → DoMeet n j k → j ≡ k
-  meet_not j k (p, inl (l, h, h')) = lawful.carried_once j k p l h h'
-  meet_not j k (p, inr (r, c, d, h, h')) = lawful.touched_once j k p r c d h h'
-
-  twice_not : (j k : ℕ) → AreTwice n j k → j ≡ k
-  twice_not j k (r, l, c, d, h, h') = lawful.one_on_link j k r l c d h h'
-
-  address_not : (j k : ℕ) → HaveOneAddress n j k → j ≡ k
-  address_not j k (l, a, h, h') = lawful.addresses_differ j k l a h h'
-
-  once_not : (k : ℕ) → HasOneTwice n k → ⊥
-  once_not k (l, addresses, has, (j, m, a, less, one, two)) = let same : j ≡ m = lawful.addresses_once k l addresses has j m a one two in omega arith
-
-  address_clash_not : (place : At) (m : Network) → PlanOf document m → IsClash (HaveOneAddress m) (interface_spots plan.routers) place ⊎ IsSo (HasOneTwice m) (interface_spots plan.routers) place → ⊥
-  address_clash_not place m its (inl c) = clash_not HaveOneAddress (interface_spots plan.routers) place address_not m its c
-  address_clash_not place m its (inr c) = let (k, at, twice) = subst (λ (v : Network). IsSo (HasOneTwice v) (interface_spots plan.routers) place)
-      (one_plan laws document m n its plan) c in once_not k twice
-
-  astray_not : (place : At) (m : Network) → PlanOf document m → IsSo (IsAstray m) (place_spots plan.links plan.routers) place → ⊥
-  astray_not place m its c =
-      let (k, at, (p, r, l, h, none)) = subst (λ (v : Network). IsSo (IsAstray v) (place_spots plan.links plan.routers) place) (one_plan laws document m n its plan) c in
-      none (lawful.attached_there r p l (k, h))
-
-  bare_not : (r : ℕ) (m : Network) → PlanOf document m → IsBare m r → ⊥
-  bare_not r m its b =
-      let (k, number, less, none) = subst (λ (v : Network). IsBare v r) (one_plan laws document m n its plan) b in
-      let (i, l, c, is) = lawful.one_interface k less in
-      none i l c is
-
-  -- items past a limit
-  past_not : (spots : List At) (place : At) (k : ℕ) → length spots ≤ 1024 → slice_get spots k ≡ Some place → 1024 ≤ k → ⊥
-  past_not spots place k few at past = let within : k < length spots = slice_get_within spots k place at in omega arith
-
-  few_places : length (place_spots plan.links plan.routers) ≤ 1024
-  few_places = let few : length n.places ≤ 1024 = lawful.few_places in omega (arith, places_count)
-
-  few_interfaces : length (interface_spots plan.routers) ≤ 1024
-  few_interfaces = let few : length n.interfaces ≤ 1024 = lawful.few_interfaces in omega (arith, interfaces_count)
-
-  few_also : length (also_spots plan.routers) ≤ 1024
-  few_also =
-      let few : sum (map length n.also) ≤ 1024 = lawful.few_also in
-      omega (arith, also_count 1 plan.routers, sum-map length n.also, also_sum n.also (items_under (codes_of "interface") 0 plan.routers) plan.also, also_flat 0 plan.routers)
-
-  interface_limit : (r j : ℕ) → IsPast 1024 (interface_spots plan.routers) (RouterInterface r j) ⊎ IsPast 1024 (also_spots plan.routers) (RouterInterface r j) → ⊥
-  interface_limit r j (inl f) = past_not (interface_spots plan.routers) (RouterInterface r j) f.0 few_interfaces f.1 f.2
-  interface_limit r j (inr f) = past_not (also_spots plan.routers) (RouterInterface r j) f.0 few_also f.1 f.2
-
-  interface_cost : (x : Data) → HasInterface x → HasWrongCost x ⊎ HasWrongDirect x → ⊥
-  interface_cost x h wrong =
-      let is : IsInterface n h.k h.i.router h.i.link h.i.cost = record { address = h.i.address; direct = h.i.direct; poison = h.i.poison; listed = h.listed } in
-      let on : IsConnected n h.k h.i.router h.i.link h.i.direct = record { address = h.i.address; cost = h.i.cost; poison = h.i.poison; listed = h.listed } in
-      elim wrong [
-        | inl cost ↦ costs x h.i.cost h.of.cost (lawful.cost_least h.k h.i.router h.i.link h.i.cost is) (lawful.cost_most h.k h.i.router h.i.link h.i.cost is) cost
-        | inr direct ↦
-            directs x h.i.cost h.i.direct h.of.cost h.of.direct (lawful.direct_least h.k h.i.router h.i.link h.i.direct on)
-            (lawful.direct_most h.k h.i.router h.i.link h.i.cost h.i.direct is on) direct
-      ]
-
-  own_cost : (x : Data) → HasOwn x → HasWrongCost x → ⊥
-  own_cost x h wrong =
-      let k = length plan.on_links + h.k in
-      let (p, place, prefix) = its_place k h.q (get_past plan.on_links plan.owned h.k k refl ∙ h.listed) in
-      let own : IsOwnAt n k p h.m h.of.own.cost = record { own = h.of.own; place = subst (IsPlace n k p) h.of.seat place; router = h.of.router; says = refl } in
-      costs x h.of.own.cost h.of.cost (lawful.own_cost_least k p h.m h.of.own.cost own) (lawful.own_cost_most k p h.m h.of.own.cost own) wrong
-
 -- ---- bytes that are well formed
 
+past_not : (spots : List At) (place : At) → length spots ≤ 1024 → IsPast 1024 spots place → ⊥
+past_not spots place few (k, at, past) = let within : k < length spots = slice_get_within spots k place at in let le : 1024 ≤ k = past in omega arith
+
+clash_not : (Clash : ℕ → ℕ → Type 0) (spots : List At) (place : At) → ((j k : ℕ) → Clash j k → j ≡ k) → IsClash Clash spots place → ⊥
+clash_not Clash spots place apart (j, k, at, less, meet) = let same : j ≡ k = apart j k meet in omega arith
+
+has_fields : (Is : Data → Type 0) (ds : List Data) (i : ℕ) (d : Data) → All Is ds → nth ds i ≡ Some d → (Is d → ⊥) → ⊥
+has_fields Is ds zero d all at lacks = none-some d at
+has_fields Is ds (suc k) d all at lacks = lacks (all_at Is ds k d all at)
+
+item_fields : (Is : Data → Type 0) (key : List ℕ) (ds : List Data) (i j : ℕ) (x : Data) → All (λ (at : ℕ × Data). Is at.1) (items_under key 0 ds) → IsItem key ds i j x → (Is x → ⊥) → ⊥
+item_fields Is key ds i j x all item lacks =
+    let u = item_under key ds i j x item in
+    lacks (all_at (λ (at : ℕ × Data). Is at.1) (items_under key 0 ds) u.k (u.m, x) all u.at)
+
 module _ (laws : TextLaws) (bytes : List ℕ) (w : IsWellFormed bytes) where
-  link_named : (i : ℕ) → IsMisnamed w.plan.links i → ⊥
-  link_named i (d, name, at, its, bad) = bad (misnamed_not w.network.links w.plan.links w.plan.link_names IsName w.lawful.link_named i name d at its)
+  -- of a network that is the plan too
+  of_plan : (Is : Network → Type 0) → (n : Network) × PlanOf w.document n × Is n → Is w.network
+  of_plan Is (n, its, is) = subst Is (one_plan laws w.document n w.network its w.plan) is
 
-  router_named : (r : ℕ) → IsMisnamed w.plan.routers r → ⊥
-  router_named r (d, name, at, its, bad) = bad (misnamed_not w.network.routers w.plan.routers w.plan.router_names IsName w.lawful.router_named r name d at its)
+  outside_not : (x : Data) → HasInterface w.document w.network w.plan x → IsOutside w.plan.links x → ⊥
+  outside_not x h o =
+      let n = w.network in
+      inside_not laws n.links w.plan.links w.plan.link_names w.lawful.link_names_differ x h.of.link_name h.of.text h.i.link h.i.address h.of.has_link h.of.link.0 h.of.has_address h.of.address
+      (λ p its.
+      let (k, q, at, seat, read) = prefix_place w.plan.links w.plan.on_links w.plan.link_prefixes h.i.link p its in
+      let (number, place, prefix) = its_place w.document n w.plan k q (get_left w.plan.on_links w.plan.owned k q at) in
+      let is : HasOwnAddress n h.k h.i.link h.i.address = record { router = h.i.router; cost = h.i.cost; direct = h.i.direct; poison = h.i.poison; listed = h.listed } in
+      let (other, block, on, its, contains) = w.lawful.inside h.k h.i.link h.i.address number is (k, subst (IsPlace n k number) seat place) in
+      (block, carrier_has w.document n w.plan h.i.link other block on its, contains))
+      o
 
-  has_fields : (Is : Data → Type 0) (ds : List Data) (i : ℕ) (d : Data) → All Is ds → nth ds i ≡ Some d → (Is d → ⊥) → ⊥
-  has_fields Is ds zero d all at lacks = none-some d at
-  has_fields Is ds (suc k) d all at lacks = lacks (all_at Is ds k d all at)
+  meet_not : (j k : ℕ) → DoMeet w.network j k → j ≡ k
+  meet_not j k (p, inl (l, h, h')) = w.lawful.carried_once j k p l h h'
+  meet_not j k (p, inr (r, c, d, h, h')) = w.lawful.touched_once j k p r c d h h'
 
-  item_fields : (Is : Data → Type 0) (key : List ℕ) (ds : List Data) (i j : ℕ) (x : Data) → All (λ (at : ℕ × Data). Is at.1) (items_under key 0 ds) → IsItem key ds i j x → (Is x → ⊥) → ⊥
-  item_fields Is key ds i j x all item lacks =
-      let u = item_under key ds i j x item in
-      lacks (all_at (λ (at : ℕ × Data). Is at.1) (items_under key 0 ds) u.k (u.m, x) all u.at)
+  address_not : (place : At) → IsClash (HaveOneAddress w.network) (interface_spots w.plan.routers) place ⊎ IsSo (HasOneTwice w.network) (interface_spots w.plan.routers) place → ⊥
+  address_not place (inl c) =
+      clash_not (HaveOneAddress w.network) (interface_spots w.plan.routers) place (λ j k (l, a, h, h'). w.lawful.addresses_differ j k l a h h') c
+  address_not place (inr (k, at, (l, addresses, has, (j, m, a, less, one, two)))) = let same : j ≡ m = w.lawful.addresses_once k l addresses has j m a one two in omega arith
+
+  few_places : length (place_spots w.plan.links w.plan.routers) ≤ 1024
+  few_places = let few : length w.network.places ≤ 1024 = w.lawful.few_places in omega (arith, places_count w.document w.network w.plan)
+
+  interface_limit : (r j : ℕ) → IsPast 1024 (interface_spots w.plan.routers) (RouterInterface r j) ⊎ IsPast 1024 (also_spots w.plan.routers) (RouterInterface r j) → ⊥
+  interface_limit r j (inl f) =
+      let few : length w.network.interfaces ≤ 1024 = w.lawful.few_interfaces in
+      past_not (interface_spots w.plan.routers) (RouterInterface r j) (omega (arith, interfaces_count w.document w.network w.plan)) f
+  interface_limit r j (inr f) =
+      let few : sum (map length w.network.also) ≤ 1024 = w.lawful.few_also in
+      past_not (also_spots w.plan.routers) (RouterInterface r j) (omega (arith, also_counted w.document w.network w.plan)) f
+
+  interface_cost : (x : Data) → HasInterface w.document w.network w.plan x → HasWrongCost x ⊎ HasWrongDirect x → ⊥
+  interface_cost x h wrong =
+      let is : IsInterface w.network h.k h.i.router h.i.link h.i.cost = record { address = h.i.address; direct = h.i.direct; poison = h.i.poison; listed = h.listed } in
+      let on : IsConnected w.network h.k h.i.router h.i.link h.i.direct = record { address = h.i.address; cost = h.i.cost; poison = h.i.poison; listed = h.listed } in
+      elim wrong [
+        | inl cost ↦ cost_fits x h.i.cost h.of.cost (w.lawful.cost_least h.k _ _ _ is, w.lawful.cost_most h.k _ _ _ is) cost
+        | inr direct ↦ direct_fits x h.i.cost h.i.direct h.of.cost h.of.direct (w.lawful.direct_least h.k _ _ _ on, w.lawful.direct_most h.k _ _ _ _ is on) direct
+      ]
+
+  own_cost : (x : Data) → HasOwn w.document w.network w.plan x → HasWrongCost x → ⊥
+  own_cost x h wrong =
+      let k = length w.plan.on_links + h.k in
+      let (p, place, prefix) = its_place w.document w.network w.plan k h.q (get_past w.plan.on_links w.plan.owned h.k k refl ∙ h.listed) in
+      let own : IsOwnAt w.network k p h.m h.of.own.cost = record { own = h.of.own; place = subst (IsPlace w.network k p) h.of.seat place; router = h.of.router; says = refl } in
+      cost_fits x h.of.own.cost h.of.cost (w.lawful.own_cost_least k p h.m h.of.own.cost own, w.lawful.own_cost_most k p h.m h.of.own.cost own) wrong
 
   -- the prefix of an item
-  text_not : (i j : ℕ) (x : Data) → IsItem (codes_of "prefixes") w.plan.links i j x → (text : List ℕ) × (x ≡ string text) × ((p : Block) × IsPrefixText text p)
-  text_not i j x item =
+  its_text : (i j : ℕ) (x : Data) → IsItem (codes_of "prefixes") w.plan.links i j x → (text : List ℕ) × (x ≡ string text) × ((p : Block) × IsPrefixText text p)
+  its_text i j x item =
       let u = item_under (codes_of "prefixes") w.plan.links i j x item in
       let (q, listed, of) = matched_right IsOnLink w.plan.on_links (items_under (codes_of "prefixes") 0 w.plan.links) u.k (u.m, x) w.plan.link_prefixes u.at in
       (of.text, of.is_text, (q.prefix, of.prefix))
 
-  prefix_not : (i j : ℕ) (text : List ℕ) → IsItem (codes_of "prefixes") w.plan.links i j (string text) → IsNoPrefix text → ⊥
-  prefix_not i j text item none =
-      let (other, is, (p, parsed)) = text_not i j (string text) item in
-      let same : text ≡ other = cc in
-      none p (subst (λ (t : List ℕ). IsPrefixText t p) (sym same) parsed)
-
-  key_not : (i j : ℕ) (x : Data) → IsItem (codes_of "prefixes") w.plan.links i j x → (IsString x → ⊥) → ⊥
-  key_not i j x item none =
-      let (text, is, parsed) = text_not i j x item in
-      none (text, is)
-
   address_told : (r j : ℕ) (x : Data) → IsItem (codes_of "interface") w.plan.routers r j x → HasNoAddress (codes_of "address") x ⊎ HasWrongAlso x → ⊥
   address_told r j x item (inl (text, has, none)) =
-      let h = its_interface laws w.document w.network w.plan w.lawful r j x item in
-      let same : text ≡ h.of.text = text_same (codes_of "address") x text h.of.text has h.of.has_address in
-      none h.i.address (subst (λ (t : List ℕ). IsAddressText t h.i.address) (sym same) h.of.address)
+      let h = its_interface w.document w.network w.plan r j x item in
+      none h.i.address (subst (λ (t : List ℕ). IsAddressText t h.i.address) (text_same (codes_of "address") x h.of.text text h.of.has_address has) h.of.address)
   address_told r j x item (inr (k, text, at, none)) =
       let u = item_under (codes_of "interface") w.plan.routers r j x item in
       let (also, listed, of) = matched_right AreAlsoOf w.network.also (items_under (codes_of "interface") 0 w.plan.routers) u.k (u.m, x) w.plan.also u.at in
       let (a, there, (other, is, parsed)) = matched_right IsAddressOf also (also_items x) k (string text) of at in
-      let strings : string text ≡ string other = is in
-      let same : text ≡ other = cc in
-      none a (subst (λ (t : List ℕ). IsAddressText t a) (sym same) parsed)
-
-  own_prefix_told : (r j : ℕ) (x : Data) (text : List ℕ) → IsItem (codes_of "own") w.plan.routers r j x → get (codes_of "prefix") x ≡ Some (string text) → IsNoPrefix text → ⊥
-  own_prefix_told r j x text item has none =
-      let h = its_own laws w.document w.network w.plan w.lawful r j x item in
-      let same : text ≡ h.of.text = text_same (codes_of "prefix") x text h.of.text has h.of.has_prefix in
-      none h.q.prefix (subst (λ (t : List ℕ). IsPrefixText t h.q.prefix) (sym same) h.of.prefix)
+      let same : other ≡ text = cc in
+      none a (subst (λ (t : List ℕ). IsAddressText t a) same parsed)
 
   -- no fault of the tables
   table_not : (c : PlanCode) (place : At) → TableFault w.document w.plan.links w.plan.routers c place → ⊥
   table_not codes.Key (Link i) f = has_fields IsLinkTable w.plan.links i f.0 w.link_tables f.1 f.2
-  table_not codes.Name (Link i) f = link_named i f
+  table_not codes.Name (Link i) (d, name, at, its, bad) = bad (misnamed_not w.network.links w.plan.links w.plan.link_names IsName w.lawful.link_named i name d at its)
   table_not codes.DuplicateName (Link i) f = again_not w.network.links w.plan.links w.plan.link_names w.lawful.link_names_differ i f
-  table_not codes.Key (LinkPrefix i j) f = key_not i j f.0 f.1 f.2
-  table_not codes.Prefix (LinkPrefix i j) f = prefix_not i j f.0 f.1 f.2
-  table_not codes.Limit (LinkPrefix i j) f = past_not laws w.document w.network w.plan w.lawful (place_spots w.plan.links w.plan.routers) (LinkPrefix i j) f.0
-      (few_places laws w.document w.network w.plan w.lawful) f.1 f.2
+  table_not codes.Key (LinkPrefix i j) f = let (text, is, parsed) = its_text i j f.0 f.1 in f.2 (text, is)
+  table_not codes.Prefix (LinkPrefix i j) (text, item, none) =
+      let (other, is, (p, parsed)) = its_text i j (string text) item in
+      let same : other ≡ text = cc in
+      none p (subst (λ (t : List ℕ). IsPrefixText t p) same parsed)
+  table_not codes.Limit (LinkPrefix i j) f = past_not (place_spots w.plan.links w.plan.routers) (LinkPrefix i j) few_places f
   table_not codes.Key (Router r) f = has_fields IsRouterTable w.plan.routers r f.0 w.router_tables f.1 f.2
-  table_not codes.Name (Router r) f = router_named r f
+  table_not codes.Name (Router r) (d, name, at, its, bad) = bad (misnamed_not w.network.routers w.plan.routers w.plan.router_names IsName w.lawful.router_named r name d at its)
   table_not codes.DuplicateName (Router r) f = again_not w.network.routers w.plan.routers w.plan.router_names w.lawful.router_names_differ r f
   table_not codes.Key (RouterInterface r j) f = item_fields IsInterfaceTable (codes_of "interface") w.plan.routers r j f.0 w.interface_tables f.1 f.2
   table_not codes.Address (RouterInterface r j) f = address_told r j f.0 f.1 f.2
-  table_not codes.Cost (RouterInterface r j) f = interface_cost laws w.document w.network w.plan w.lawful f.0 (its_interface laws w.document w.network w.plan w.lawful r j f.0 f.1) f.2
-  table_not codes.UnknownLink (RouterInterface r j) f = unknown_not laws w.document w.network w.plan w.lawful f.0 (its_interface laws w.document w.network w.plan w.lawful r j f.0 f.1) f.2
-  table_not codes.OutsidePrefix (RouterInterface r j) f = outside_not laws w.document w.network w.plan w.lawful f.0 (its_interface laws w.document w.network w.plan w.lawful r j f.0 f.1) f.2
-  table_not codes.Limit (RouterInterface r j) f = interface_limit laws w.document w.network w.plan w.lawful r j f
+  table_not codes.Cost (RouterInterface r j) f = interface_cost f.0 (its_interface w.document w.network w.plan r j f.0 f.1) f.2
+  table_not codes.UnknownLink (RouterInterface r j) f =
+      let h = its_interface w.document w.network w.plan r j f.0 f.1 in
+      known_not w.network.links w.plan.links w.plan.link_names f.0 h.of.link_name h.i.link h.of.has_link h.of.link.0 f.2
+  table_not codes.OutsidePrefix (RouterInterface r j) f = outside_not f.0 (its_interface w.document w.network w.plan r j f.0 f.1) f.2
+  table_not codes.Limit (RouterInterface r j) f = interface_limit r j f
   table_not codes.Key (RouterOwn r j) f = item_fields IsOwnTable (codes_of "own") w.plan.routers r j f.0 w.own_tables f.1 f.2
-  table_not codes.Address (RouterOwn r j) f = let h = its_own laws w.document w.network w.plan w.lawful r j f.0 f.1 in gateways f.0 h.of.own.via h.of.via f.2
+  table_not codes.Address (RouterOwn r j) f = let h = its_own w.document w.network w.plan r j f.0 f.1 in gateway_fits f.0 h.of.own.via h.of.via f.2
   table_not codes.UnknownLink (RouterOwn r j) f =
-      let h = its_own laws w.document w.network w.plan w.lawful r j f.0 f.1 in
-      attached_not laws w.document w.network w.plan w.lawful f.0 h.of.own.link h.of.link f.2
-  table_not codes.Prefix (RouterOwn r j) f = own_prefix_told r j f.0 f.1 f.2 f.3 f.4
-  table_not codes.Cost (RouterOwn r j) f = own_cost laws w.document w.network w.plan w.lawful f.0 (its_own laws w.document w.network w.plan w.lawful r j f.0 f.1) f.2
-  table_not codes.Limit (RouterOwn r j) f = past_not laws w.document w.network w.plan w.lawful (place_spots w.plan.links w.plan.routers) (RouterOwn r j) f.0
-      (few_places laws w.document w.network w.plan w.lawful) f.1 f.2
-  table_not codes.DuplicatePrefix (LinkPrefix i j) f = clash_not laws w.document w.network w.plan w.lawful DoMeet (place_spots w.plan.links w.plan.routers) (LinkPrefix i j)
-      (meet_not laws w.document w.network w.plan w.lawful) f.0 f.1 f.2
-  table_not codes.DuplicatePrefix (RouterOwn r j) f = clash_not laws w.document w.network w.plan w.lawful DoMeet (place_spots w.plan.links w.plan.routers) (RouterOwn r j)
-      (meet_not laws w.document w.network w.plan w.lawful) f.0 f.1 f.2
-  table_not codes.TwiceOnLink (RouterInterface r j) f = clash_not laws w.document w.network w.plan w.lawful AreTwice (interface_spots w.plan.routers) (RouterInterface r j)
-      (twice_not laws w.document w.network w.plan w.lawful) f.0 f.1 f.2
-  table_not codes.DuplicateAddress (RouterInterface r j) f = address_clash_not laws w.document w.network w.plan w.lawful (RouterInterface r j) f.0 f.1 f.2
-  table_not codes.NoInterface (Router r) f = bare_not laws w.document w.network w.plan w.lawful r f.0 f.1 f.2
+      let h = its_own w.document w.network w.plan r j f.0 f.1 in
+      attached_not w.network.links w.plan.links w.plan.link_names f.0 h.of.own.link h.of.link f.2
+  table_not codes.Prefix (RouterOwn r j) (x, text, item, has, none) =
+      let h = its_own w.document w.network w.plan r j x item in
+      none h.q.prefix (subst (λ (t : List ℕ). IsPrefixText t h.q.prefix) (text_same (codes_of "prefix") x h.of.text text h.of.has_prefix has) h.of.prefix)
+  table_not codes.Cost (RouterOwn r j) f = own_cost f.0 (its_own w.document w.network w.plan r j f.0 f.1) f.2
+  table_not codes.Limit (RouterOwn r j) f = past_not (place_spots w.plan.links w.plan.routers) (RouterOwn r j) few_places f
+  table_not codes.DuplicatePrefix (LinkPrefix i j) f =
+      let spots = place_spots w.plan.links w.plan.routers in
+      clash_not (DoMeet w.network) spots (LinkPrefix i j) meet_not (of_plan (λ n. IsClash (DoMeet n) spots (LinkPrefix i j)) f)
+  table_not codes.DuplicatePrefix (RouterOwn r j) f =
+      let spots = place_spots w.plan.links w.plan.routers in
+      clash_not (DoMeet w.network) spots (RouterOwn r j) meet_not (of_plan (λ n. IsClash (DoMeet n) spots (RouterOwn r j)) f)
+  table_not codes.TwiceOnLink (RouterInterface r j) f =
+      let spots = interface_spots w.plan.routers in
+      clash_not (AreTwice w.network) spots (RouterInterface r j) (λ i k (q, l, c, d, h, h'). w.lawful.one_on_link i k q l c d h h') (of_plan (λ n. IsClash (AreTwice n) spots (RouterInterface r j)) f)
+  table_not codes.DuplicateAddress (RouterInterface r j) f =
+      let spots = interface_spots w.plan.routers in
+      address_not (RouterInterface r j) (of_plan (λ n. IsClash (HaveOneAddress n) spots (RouterInterface r j) ⊎ IsSo (HasOneTwice n) spots (RouterInterface r j)) f)
+  table_not codes.NoInterface (Router r) f =
+      let (k, number, less, none) = of_plan (λ n. IsBare n r) f in
+      let (i, l, c, is) = w.lawful.one_interface k less in
+      none i l c is
   table_not c place f = absurd f
 
   tables : HasTables bytes w.document w.plan.links w.plan.routers
@@ -454,86 +207,53 @@ module _ (laws : TextLaws) (bytes : List ℕ) (w : IsWellFormed bytes) where
   fault_not codes.Key Text f = f.2 (subst IsRoot (sym (same_document bytes w.document f.0 w.text.reads f.1)) w.root)
   fault_not codes.Limit Text (inl more) = let few : length bytes ≤ 1048576 = w.text.short in let past : 1048576 < length bytes = more in omega arith
   fault_not codes.Limit Text (inr (other, ls, rs, has, over)) =
-      let (one, two, three) = one_tables bytes w.document w.plan.links w.plan.routers tables other ls rs has in
-      over_not (subst (λ (l : List Data). (512 < length w.plan.links) ⊎ (128 < length l)) three (subst (λ (l : List Data). (512 < length l) ⊎ (128 < length rs)) two over))
+      let same = one_tables bytes w.document w.plan.links w.plan.routers tables other ls rs has in
+      over_not (subst (λ (t : Members × List Data × List Data). (512 < length t.1) ⊎ (128 < length t.2)) same over)
   fault_not c place f = table_not c place (one_fault bytes w.document w.plan.links w.plan.routers tables c place f.0 f.1 f.2 f.3 f.4)
 
   last_not : (place : At) → AstrayAt bytes place → ⊥
   last_not (RouterOwn r j) f =
       let its = one_astray bytes w.document w.plan.links w.plan.routers tables (RouterOwn r j) f.0 f.1 f.2 f.3 f.4 in
-      astray_not laws w.document w.network w.plan w.lawful (RouterOwn r j) its.0 its.1 its.2
+      let (k, at, (p, q, l, h, none)) = of_plan (λ n. IsSo (IsAstray n) (place_spots w.plan.links w.plan.routers) (RouterOwn r j)) its in
+      none (w.lawful.attached_there q p l (k, h))
   last_not place f = absurd f
 
-  found_not : (pass : ℕ) (e : PlanError) → IsFound bytes pass e → ⊥
-  found_not pass e (inl f) = fault_not e.code e.place f.0
-  found_not pass e (inr f) = last_not e.place f.0
-
 pub is_faultless : (laws : TextLaws) (bytes : List ℕ) → IsWellFormed bytes → (e : PlanError) → IsFault bytes e → ⊥
-is_faultless laws bytes w e f = found_not laws bytes w f.0 e f.1
+is_faultless laws bytes w e (pass, found) = elim found [ inl f ↦ fault_not laws bytes w e.code e.place f.0 | inr f ↦ last_not laws bytes w e.place f.0 ]
 
 -- ---- bytes that have no fault
 
-module _ (bytes : List ℕ) (none : (e : PlanError) → IsFault bytes e → ⊥) where
-  none_at : (c : PlanCode) (place : At) → FaultAt bytes c place → ⊥
-  none_at c place f = none (fault c place) (pass_of c, inl (f, refl))
-
-  not_long : length bytes ≤ 1048576
-  not_long =
-      elim (cases_lt 1048576 (length bytes)) [
-        | inl more ↦ absurd (none_at codes.Limit Text (inl more))
-        | inr few ↦ few
-      ]
-
-  module _ (document : Members) (text : IsText bytes document) (n : Network) (plan : PlanOf document n) where
-    its_version : get (codes_of "version") (table document) ≡ Some (integer (pos 1))
-    its_version = by_test (is_version (get (codes_of "version") (table document))) refl
-      where
-        by_test : (b : Bool) → is_version (get (codes_of "version") (table document)) ≡ b → get (codes_of "version") (table document) ≡ Some (integer (pos 1))
-        by_test true e = version_is (get (codes_of "version") (table document)) e
-        by_test false e = absurd (none_at codes.Version Version (document, text, version_told (get (codes_of "version") (table document)) (ap not e)))
-
-    its_tables : HasTables bytes document plan.links plan.routers
-    its_tables = record { text = text; has_links = plan.has_links; has_routers = plan.has_routers }
-
-    its_links : All IsLinkTable plan.links
-    its_links = all_from IsLinkTable plan.links (λ k d at. by_table IsLinkTable link_fields link_told d
-        (λ lacks. none_at codes.Key (Link (suc k)) (document, plan.links, plan.routers, its_tables, (d, at, lacks))) (link_not d))
-
-    its_routers : All IsRouterTable plan.routers
-    its_routers = all_from IsRouterTable plan.routers (λ k d at. by_table IsRouterTable router_fields router_told d
-        (λ lacks. none_at codes.Key (Router (suc k)) (document, plan.links, plan.routers, its_tables, (d, at, lacks))) (router_not d))
-
-    its_interfaces : All (λ (at : ℕ × Data). IsInterfaceTable at.1) (items_under (codes_of "interface") 0 plan.routers)
-    its_interfaces =
-        all_from (λ (at : ℕ × Data). IsInterfaceTable at.1) (items_under (codes_of "interface") 0 plan.routers)
-        (λ k d at.
-        let (i, j, number, item) = under_item (codes_of "interface") 0 plan.routers k d.0 d.1 at in
-        by_table IsInterfaceTable interface_fields interface_told d.1
-        (λ lacks. none_at codes.Key (RouterInterface (suc i) (suc j)) (document, plan.links, plan.routers, its_tables, (d.1, item, lacks))) (interface_not d.1))
-
-    its_owns : All (λ (at : ℕ × Data). IsOwnTable at.1) (items_under (codes_of "own") 0 plan.routers)
-    its_owns =
-        all_from (λ (at : ℕ × Data). IsOwnTable at.1) (items_under (codes_of "own") 0 plan.routers)
-        (λ k d at.
-        let (i, j, number, item) = under_item (codes_of "own") 0 plan.routers k d.0 d.1 at in
-        by_table IsOwnTable own_fields own_told d.1
-        (λ lacks. none_at codes.Key (RouterOwn (suc i) (suc j)) (document, plan.links, plan.routers, its_tables, (d.1, item, lacks))) (own_not d.1))
-
-pub faultless_is : ((bytes : List ℕ) → ((e : PlanError) → IsFault bytes e → ⊥) → (n : Network) × IsPlanOfText bytes n × IsLawful n)
-    → (bytes : List ℕ) → ((e : PlanError) → IsFault bytes e → ⊥) → IsWellFormed bytes
-faultless_is law bytes none =
-    let (n, is, lawful) = law bytes none in
+faultless_plan : (bytes : List ℕ) (n : Network) → ((e : PlanError) → IsFault bytes e → ⊥) → IsPlanOfText bytes n → IsLawful n → IsWellFormed bytes
+faultless_plan bytes n none is lawful =
+    let plan = is.plan in
     let text : IsText bytes is.document = record { short = not_long bytes none; reads = is.reads } in
+    let tables : HasTables bytes is.document plan.links plan.routers = record { text = text; has_links = plan.has_links; has_routers = plan.has_routers } in
+    let version = get (codes_of "version") (table is.document) in
+    let no_fault : (place : At) → TableFault is.document plan.links plan.routers codes.Key place → ⊥ =
+    λ place f. none (fault codes.Key place) (0, inl (whole_fault bytes is.document plan.links plan.routers tables codes.Key place f, refl)) in
     record {
       document = is.document;
       text = text;
-      version = its_version bytes none is.document text n is.plan;
+      version = elim (cases_Bool (is_version version)) [
+        | inl e ↦ version_is version e
+        | inr e ↦ absurd (none (fault codes.Version Version) (0, inl ((is.document, text, version_told version (ap not e)), refl)))
+      ];
       network = n;
-      plan = is.plan;
-      root = by_root is.document (λ lacks. none_at bytes none codes.Key Text (is.document, text, lacks));
-      link_tables = its_links bytes none is.document text n is.plan;
-      router_tables = its_routers bytes none is.document text n is.plan;
-      interface_tables = its_interfaces bytes none is.document text n is.plan;
-      own_tables = its_owns bytes none is.document text n is.plan;
+      plan = plan;
+      root = by_root is.document (λ lacks. none (fault codes.Key Text) (0, inl ((is.document, text, lacks), refl)));
+      link_tables = all_from IsLinkTable plan.links (λ k d at.
+          by_table IsLinkTable link_fields (λ e f h. (link_table e f.0 f.1 h).shape) d (λ lacks. no_fault (Link (suc k)) (d, at, lacks)) (link_not d));
+      router_tables = all_from IsRouterTable plan.routers (λ k d at.
+          by_table IsRouterTable router_fields (λ e f h. (router_table e f.0 f.1 f.2 h).shape) d (λ lacks. no_fault (Router (suc k)) (d, at, lacks)) (router_not d));
+      interface_tables = all_from (λ (at : ℕ × Data). IsInterfaceTable at.1) (items_under (codes_of "interface") 0 plan.routers) (λ k d at.
+          let u = under_item (codes_of "interface") RouterInterface 1 0 plan.routers k d.0 d.1 at in
+          by_table IsInterfaceTable interface_fields (λ e f h. (interface_texts e f h).shape) d.1 (λ lacks. no_fault (RouterInterface (suc u.t) (suc u.j)) (d.1, u.item, lacks)) (interface_not d.1));
+      own_tables = all_from (λ (at : ℕ × Data). IsOwnTable at.1) (items_under (codes_of "own") 0 plan.routers) (λ k d at.
+          let u = under_item (codes_of "own") RouterOwn 1 0 plan.routers k d.0 d.1 at in
+          by_table IsOwnTable own_fields (λ e f h. (own_texts e f h).shape) d.1 (λ lacks. no_fault (RouterOwn (suc u.t) (suc u.j)) (d.1, u.item, lacks)) (own_not d.1));
       lawful = lawful;
     }
+
+pub faultless_is : ((bytes : List ℕ) → ((e : PlanError) → IsFault bytes e → ⊥) → (n : Network) × IsPlanOfText bytes n × IsLawful n)
+    → (bytes : List ℕ) → ((e : PlanError) → IsFault bytes e → ⊥) → IsWellFormed bytes
+faultless_is law bytes none = let (n, is, lawful) = law bytes none in faultless_plan bytes n none is lawful

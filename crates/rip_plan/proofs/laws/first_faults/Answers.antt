@@ -1,4 +1,5 @@
-use Rattle.rip_plan.proofs.TextFaultLemmas.{fault_told, never_memory, none_told, plan_stands}
+use Rattle.rip_plan.proofs.LawfulPlanLemmas.{plan_stands}
+use Rattle.rip_plan.proofs.TextFaultLemmas.{fault_told, never_memory, none_told}
 use Rattle.rip_plan.proofs.laws.first_faults.Goals as goal
 
 pub returns-clause-told : goal.returns-clause-told

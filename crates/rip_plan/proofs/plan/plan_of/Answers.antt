@@ -12,21 +12,22 @@ use Rattle.rip_plan.specs.Network.{Network, each_below, is_of, is_on, network_of
 use Rattle.rip_plan.specs.Rows.{AreCosts, AreFlags, AreOwners}
 use Rattle.rip_plan.specs.Seats.{is_kept}
 use Rattle.rip_plan.proofs.BelowLemmas.{length-each_below}
-use Rattle.rip_plan.proofs.NumberingLemmas.{numbers}
+use Rattle.rip_plan.proofs.NumberingLemmas.{IsNumbered, numbers}
+use Rattle.rip_plan.proofs.MatchingLemmas.{matched_length}
 use Rattle.rip_plan.proofs.WithinPlanLemmas.{interfaces_links, interfaces_routers, places_prefixes, places_links, places_owners}
 use Rattle.rip_plan.proofs.plan.plan_of.Goals as goal
 
-prefixes_are : (ps : List Block) (qs : List Place) (ds es : List DraftPlace) → (ps, qs) ≡ numbered [] [] ds → ds ≡ es → ps ≡ (numbered [] [] es).0
-prefixes_are ps qs ds es h e = ap (λ (p : List Block × List Place). p.0) h ∙ ap (λ d. (numbered [] [] d).0) e
+prefixes_are : {ps : List Block} {qs : List Place} {ds es : List DraftPlace} → (ps, qs) ≡ numbered [] [] ds → ds ≡ es → ps ≡ (numbered [] [] es).0
+prefixes_are h e = ap (λ (p : List Block × List Place). p.0) h ∙ ap (λ d. (numbered [] [] d).0) e
 
-places_are : (ps : List Block) (qs : List Place) (ds es : List DraftPlace) → (ps, qs) ≡ numbered [] [] ds → ds ≡ es → qs ≡ (numbered [] [] es).1
-places_are ps qs ds es h e = ap (λ (p : List Block × List Place). p.1) h ∙ ap (λ d. (numbered [] [] d).1) e
+places_are : {ps : List Block} {qs : List Place} {ds es : List DraftPlace} → (ps, qs) ≡ numbered [] [] ds → ds ≡ es → qs ≡ (numbered [] [] es).1
+places_are h e = ap (λ (p : List Block × List Place). p.1) h ∙ ap (λ d. (numbered [] [] d).1) e
 
-interfaces_are : (is : List Interface) (ds es : List DraftInterface) → is ≡ map (λ i. i.interface) ds → ds ≡ es → is ≡ map (λ i. i.interface) es
-interfaces_are is ds es h e = h ∙ ap (map (λ (i : DraftInterface). i.interface)) e
+interfaces_are : {is : List Interface} {ds es : List DraftInterface} → is ≡ map (λ i. i.interface) ds → ds ≡ es → is ≡ map (λ i. i.interface) es
+interfaces_are h e = h ∙ ap (map (λ (i : DraftInterface). i.interface)) e
 
 few : (ps : List Block) (ds es : List DraftPlace) (k : ℕ) → length ps ≤ length ds → ds ≡ es → length (numbered [] [] es).1 ≤ 1024 → k ≡ length ps → k ≤ 1024
-few ps ds es k h e most is = omega (arith, ap length e, (numbers es).count)
+few ps ds es k h e most is = omega (arith, ap length e, matched_length (IsNumbered (numbered [] [] es).0) (numbered [] [] es).1 es (numbers es))
 
 lists_are : (lists : List (List ℕ)) (count : ℕ) (f : ℕ → List ℕ) → lists ≡ each_below count f → lists ≡ each_below (length lists) f
 lists_are lists count f h = let same : length lists ≡ count = ap length h ∙ length-each_below count f in rw same h
@@ -35,23 +36,20 @@ pub all_on-requires : goal.all_on-requires
 all_on-requires c =
     let n : Network = network_of_sketch (sketch c.args.draft) in
     let links : c.len.result ≡ length n.links = omega (arith, length-map c.args.draft.links.items string_bytes) in
-    let interfaces : c.as_slice-3.result.now ≡ n.interfaces = c.as_slice-3.ensures.value
-    ∙ interfaces_are c.in_ok-interfaces.interfaces.items c.as_slice.result.now c.args.draft.interfaces.items c.in_ok-interfaces.ensures c.as_slice.ensures.value in
+    let interfaces : c.as_slice-3.result.now ≡ n.interfaces = c.as_slice-3.ensures.value ∙ interfaces_are c.in_ok-interfaces.ensures c.as_slice.ensures.value in
     rw (links, interfaces) (interfaces_links n c.requires)
 
 pub all_of-requires : goal.all_of-requires
 all_of-requires c =
     let n : Network = network_of_sketch (sketch c.args.draft) in
     let routers : c.len-2.result ≡ length n.routers = omega (arith, length-map c.args.draft.routers.items string_bytes) in
-    let interfaces : c.as_slice-4.result.now ≡ n.interfaces = c.as_slice-4.ensures.value
-    ∙ interfaces_are c.in_ok-interfaces.interfaces.items c.as_slice.result.now c.args.draft.interfaces.items c.in_ok-interfaces.ensures c.as_slice.ensures.value in
+    let interfaces : c.as_slice-4.result.now ≡ n.interfaces = c.as_slice-4.ensures.value ∙ interfaces_are c.in_ok-interfaces.ensures c.as_slice.ensures.value in
     rw (routers, interfaces) (interfaces_routers n c.requires)
 
 pub all_addresses-requires : goal.all_addresses-requires
 all_addresses-requires c =
     let n : Network = network_of_sketch (sketch c.args.draft) in
-    let interfaces : c.as_slice-5.result.now ≡ n.interfaces = c.as_slice-5.ensures.value
-    ∙ interfaces_are c.in_ok-interfaces.interfaces.items c.as_slice.result.now c.args.draft.interfaces.items c.in_ok-interfaces.ensures c.as_slice.ensures.value in
+    let interfaces : c.as_slice-5.result.now ≡ n.interfaces = c.as_slice-5.ensures.value ∙ interfaces_are c.in_ok-interfaces.ensures c.as_slice.ensures.value in
     omega (arith, c.requires.also_listed, length-map c.args.draft.also.items (λ (w : Vec ℕ Global). w.items), ap length interfaces, ap length c.as_slice-6.ensures.value)
 
 pub carriers_of-requires-clause-few_prefixes : goal.carriers_of-requires-clause-few_prefixes
@@ -62,19 +60,16 @@ carriers_of-requires-clause-few_prefixes c =
 pub carriers_of-requires-clause-prefixes : goal.carriers_of-requires-clause-prefixes
 carriers_of-requires-clause-prefixes c =
     let n : Network = network_of_sketch (sketch c.args.draft) in
-    let blocks : c.in_ok-prefixes.prefixes.items ≡ n.prefixes =
-    prefixes_are c.in_ok-prefixes.prefixes.items c.in_ok-prefixes.places.items c.as_slice-2.result.now c.args.draft.places.items c.in_ok-prefixes.ensures.parts c.as_slice-2.ensures.value in
+    let blocks : c.in_ok-prefixes.prefixes.items ≡ n.prefixes = prefixes_are c.in_ok-prefixes.ensures.parts c.as_slice-2.ensures.value in
     let prefixes : c.len-4.result ≡ length n.prefixes = omega (arith, ap length blocks) in
-    let places : c.as_slice-8.result.now ≡ n.places = c.as_slice-8.ensures.value
-    ∙ places_are c.in_ok-prefixes.prefixes.items c.in_ok-prefixes.places.items c.as_slice-2.result.now c.args.draft.places.items c.in_ok-prefixes.ensures.parts c.as_slice-2.ensures.value in
+    let places : c.as_slice-8.result.now ≡ n.places = c.as_slice-8.ensures.value ∙ places_are c.in_ok-prefixes.ensures.parts c.as_slice-2.ensures.value in
     rw (prefixes, places) (places_prefixes n c.requires)
 
 pub carriers_of-requires-clause-seats : goal.carriers_of-requires-clause-seats
 carriers_of-requires-clause-seats c =
     let n : Network = network_of_sketch (sketch c.args.draft) in
     let links : c.len-3.result ≡ length n.links = omega (arith, length-map c.args.draft.links.items string_bytes) in
-    let places : c.as_slice-8.result.now ≡ n.places = c.as_slice-8.ensures.value
-    ∙ places_are c.in_ok-prefixes.prefixes.items c.in_ok-prefixes.places.items c.as_slice-2.result.now c.args.draft.places.items c.in_ok-prefixes.ensures.parts c.as_slice-2.ensures.value in
+    let places : c.as_slice-8.result.now ≡ n.places = c.as_slice-8.ensures.value ∙ places_are c.in_ok-prefixes.ensures.parts c.as_slice-2.ensures.value in
     rw (links, places) (places_links n c.requires)
 
 pub costs_of-requires-clause-few_prefixes : goal.costs_of-requires-clause-few_prefixes
@@ -86,8 +81,7 @@ pub costs_of-requires-clause-routers : goal.costs_of-requires-clause-routers
 costs_of-requires-clause-routers c =
     let n : Network = network_of_sketch (sketch c.args.draft) in
     let routers : c.len-5.result ≡ length n.routers = omega (arith, length-map c.args.draft.routers.items string_bytes) in
-    let interfaces : c.as_slice-9.result.now ≡ n.interfaces = c.as_slice-9.ensures.value
-    ∙ interfaces_are c.in_ok-interfaces.interfaces.items c.as_slice.result.now c.args.draft.interfaces.items c.in_ok-interfaces.ensures c.as_slice.ensures.value in
+    let interfaces : c.as_slice-9.result.now ≡ n.interfaces = c.as_slice-9.ensures.value ∙ interfaces_are c.in_ok-interfaces.ensures c.as_slice.ensures.value in
     rw (routers, interfaces) (interfaces_routers n c.requires)
 
 pub costs_of-requires-clause-lists : goal.costs_of-requires-clause-lists
@@ -100,11 +94,9 @@ costs_of-requires-clause-lists c =
 pub costs_of-requires-clause-prefixes : goal.costs_of-requires-clause-prefixes
 costs_of-requires-clause-prefixes c =
     let n : Network = network_of_sketch (sketch c.args.draft) in
-    let blocks : c.in_ok-prefixes.prefixes.items ≡ n.prefixes =
-    prefixes_are c.in_ok-prefixes.prefixes.items c.in_ok-prefixes.places.items c.as_slice-2.result.now c.args.draft.places.items c.in_ok-prefixes.ensures.parts c.as_slice-2.ensures.value in
+    let blocks : c.in_ok-prefixes.prefixes.items ≡ n.prefixes = prefixes_are c.in_ok-prefixes.ensures.parts c.as_slice-2.ensures.value in
     let prefixes : c.len-6.result ≡ length n.prefixes = omega (arith, ap length blocks) in
-    let places : c.as_slice-11.result.now ≡ n.places = c.as_slice-11.ensures.value
-    ∙ places_are c.in_ok-prefixes.prefixes.items c.in_ok-prefixes.places.items c.as_slice-2.result.now c.args.draft.places.items c.in_ok-prefixes.ensures.parts c.as_slice-2.ensures.value in
+    let places : c.as_slice-11.result.now ≡ n.places = c.as_slice-11.ensures.value ∙ places_are c.in_ok-prefixes.ensures.parts c.as_slice-2.ensures.value in
     rw (prefixes, places) (places_prefixes n c.requires)
 
 pub costs_of-requires-clause-links : goal.costs_of-requires-clause-links
@@ -115,16 +107,14 @@ costs_of-requires-clause-links c =
     ap (map items) c.as_slice-10.ensures.value ∙ c.in_ok-on_link.ensures in
     let count : length (map items c.as_slice-10.result.now) ≡ c.len.result = ap length lists ∙ length-each_below c.len.result (λ l. numbers_where (is_on l) 0 c.as_slice-3.result.now) in
     let links : length c.as_slice-10.result.now ≡ length n.links = omega (arith, length-map c.args.draft.links.items string_bytes, length-map c.as_slice-10.result.now items) in
-    let places : c.as_slice-11.result.now ≡ n.places = c.as_slice-11.ensures.value
-    ∙ places_are c.in_ok-prefixes.prefixes.items c.in_ok-prefixes.places.items c.as_slice-2.result.now c.args.draft.places.items c.in_ok-prefixes.ensures.parts c.as_slice-2.ensures.value in
+    let places : c.as_slice-11.result.now ≡ n.places = c.as_slice-11.ensures.value ∙ places_are c.in_ok-prefixes.ensures.parts c.as_slice-2.ensures.value in
     rw (links, places) (places_links n c.requires)
 
 pub costs_of-requires-clause-owners : goal.costs_of-requires-clause-owners
 costs_of-requires-clause-owners c =
     let n : Network = network_of_sketch (sketch c.args.draft) in
     let routers : c.len-5.result ≡ length n.routers = omega (arith, length-map c.args.draft.routers.items string_bytes) in
-    let places : c.as_slice-11.result.now ≡ n.places = c.as_slice-11.ensures.value
-    ∙ places_are c.in_ok-prefixes.prefixes.items c.in_ok-prefixes.places.items c.as_slice-2.result.now c.args.draft.places.items c.in_ok-prefixes.ensures.parts c.as_slice-2.ensures.value in
+    let places : c.as_slice-11.result.now ≡ n.places = c.as_slice-11.ensures.value ∙ places_are c.in_ok-prefixes.ensures.parts c.as_slice-2.ensures.value in
     rw (routers, places) (places_owners n c.requires)
 
 pub owners_of-requires-clause-few_prefixes : goal.owners_of-requires-clause-few_prefixes
@@ -135,37 +125,30 @@ owners_of-requires-clause-few_prefixes c =
 pub owners_of-requires-clause-few_places : goal.owners_of-requires-clause-few_places
 owners_of-requires-clause-few_places c =
     let n : Network = network_of_sketch (sketch c.args.draft) in
-    let places : c.as_slice-12.result.now ≡ n.places = c.as_slice-12.ensures.value
-    ∙ places_are c.in_ok-prefixes.prefixes.items c.in_ok-prefixes.places.items c.as_slice-2.result.now c.args.draft.places.items c.in_ok-prefixes.ensures.parts c.as_slice-2.ensures.value in
+    let places : c.as_slice-12.result.now ≡ n.places = c.as_slice-12.ensures.value ∙ places_are c.in_ok-prefixes.ensures.parts c.as_slice-2.ensures.value in
     omega (arith, ap length places, c.requires.few_places)
 
 pub owners_of-requires-clause-prefixes : goal.owners_of-requires-clause-prefixes
 owners_of-requires-clause-prefixes c =
     let n : Network = network_of_sketch (sketch c.args.draft) in
-    let blocks : c.in_ok-prefixes.prefixes.items ≡ n.prefixes =
-    prefixes_are c.in_ok-prefixes.prefixes.items c.in_ok-prefixes.places.items c.as_slice-2.result.now c.args.draft.places.items c.in_ok-prefixes.ensures.parts c.as_slice-2.ensures.value in
+    let blocks : c.in_ok-prefixes.prefixes.items ≡ n.prefixes = prefixes_are c.in_ok-prefixes.ensures.parts c.as_slice-2.ensures.value in
     let prefixes : c.len-8.result ≡ length n.prefixes = omega (arith, ap length blocks) in
-    let places : c.as_slice-12.result.now ≡ n.places = c.as_slice-12.ensures.value
-    ∙ places_are c.in_ok-prefixes.prefixes.items c.in_ok-prefixes.places.items c.as_slice-2.result.now c.args.draft.places.items c.in_ok-prefixes.ensures.parts c.as_slice-2.ensures.value in
+    let places : c.as_slice-12.result.now ≡ n.places = c.as_slice-12.ensures.value ∙ places_are c.in_ok-prefixes.ensures.parts c.as_slice-2.ensures.value in
     rw (prefixes, places) (places_prefixes n c.requires)
 
 pub owners_of-requires-clause-owners : goal.owners_of-requires-clause-owners
 owners_of-requires-clause-owners c =
     let n : Network = network_of_sketch (sketch c.args.draft) in
     let routers : c.len-7.result ≡ length n.routers = omega (arith, length-map c.args.draft.routers.items string_bytes) in
-    let places : c.as_slice-12.result.now ≡ n.places = c.as_slice-12.ensures.value
-    ∙ places_are c.in_ok-prefixes.prefixes.items c.in_ok-prefixes.places.items c.as_slice-2.result.now c.args.draft.places.items c.in_ok-prefixes.ensures.parts c.as_slice-2.ensures.value in
+    let places : c.as_slice-12.result.now ≡ n.places = c.as_slice-12.ensures.value ∙ places_are c.in_ok-prefixes.ensures.parts c.as_slice-2.ensures.value in
     rw (routers, places) (places_owners n c.requires)
 
 pub invariant_of-result : goal.invariant_of-result
 invariant_of-result c =
     let n : Network = network_of_sketch (sketch c.args.draft) in
-    let interfaces : c.in_ok-interfaces.interfaces.items ≡ n.interfaces =
-    interfaces_are c.in_ok-interfaces.interfaces.items c.as_slice.result.now c.args.draft.interfaces.items c.in_ok-interfaces.ensures c.as_slice.ensures.value in
-    let blocks : c.in_ok-prefixes.prefixes.items ≡ n.prefixes =
-    prefixes_are c.in_ok-prefixes.prefixes.items c.in_ok-prefixes.places.items c.as_slice-2.result.now c.args.draft.places.items c.in_ok-prefixes.ensures.parts c.as_slice-2.ensures.value in
-    let places : c.in_ok-prefixes.places.items ≡ n.places = places_are c.in_ok-prefixes.prefixes.items c.in_ok-prefixes.places.items c.as_slice-2.result.now c.args.draft.places.items
-    c.in_ok-prefixes.ensures.parts c.as_slice-2.ensures.value in
+    let interfaces : c.in_ok-interfaces.interfaces.items ≡ n.interfaces = interfaces_are c.in_ok-interfaces.ensures c.as_slice.ensures.value in
+    let blocks : c.in_ok-prefixes.prefixes.items ≡ n.prefixes = prefixes_are c.in_ok-prefixes.ensures.parts c.as_slice-2.ensures.value in
+    let places : c.in_ok-prefixes.places.items ≡ n.places = places_are c.in_ok-prefixes.ensures.parts c.as_slice-2.ensures.value in
     let links : c.len.result ≡ length c.args.draft.links.items = omega arith in
     let links_3 : c.len-3.result ≡ length c.args.draft.links.items = omega (arith, c.len-3.ensures) in
     let routers : c.len-2.result ≡ length c.args.draft.routers.items = omega (arith, c.len-2.ensures) in
