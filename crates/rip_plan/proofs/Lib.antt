@@ -10,7 +10,6 @@ pub mod FlatLemmas
 pub mod FirstFoundLemmas
 pub mod TextLemmas
 pub mod NumberingLemmas
-pub mod SecondPassLemmas
 pub mod SketchPlanLemmas
 pub mod CellLemmas
 pub mod NumbersWhereLemmas
