@@ -7,7 +7,6 @@ pub mod BelowLemmas
 pub mod BindLemmas
 pub mod ItemLemmas
 pub mod FlatLemmas
-pub mod FirstFoundLemmas
 pub mod TextLemmas
 pub mod NumberingLemmas
 pub mod SketchPlanLemmas

@@ -1,6 +1,6 @@
 -- What the look-ups of a lawful plan find, in the words of its relations.
+use Rattle.rip_plan.proofs.ClashLemmas.{find_gives, find_none}
 use Rattle.std.proofs.Common.{◌≡◌, ℕ, zero, suc, ◌+◌, ◌⊎◌, inl, inr, List, [], ◌∷◌, Bool, true, ◌&&◌, Option, Some, None, refl, sym, ◌∙◌, ap, subst, arith}
-use Rattle.rip_plan.proofs.FirstFoundLemmas.{find_gives, find_none}
 use Rattle.std.proofs.lemmas.Bool.{and_parts, both_ways, cases_Bool, eq-eqb, eqb-true}
 use Rattle.std.specs.Prelude.{slice_get, ◌==◌, find}
 use Rattle.std.specs.Option.{option_or}

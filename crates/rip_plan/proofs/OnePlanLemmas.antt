@@ -1,5 +1,5 @@
 -- A document has one plan.
-use Rattle.std.proofs.Common.{◌≡◌, ℕ, inl, inr, List, ◌++◌, map, Bool, true, false, Option, Some, None, refl, sym, ◌∙◌, ap, subst}
+use Rattle.std.proofs.Common.{◌≡◌, ℕ, ◌⊎◌, inl, inr, List, ◌++◌, map, Bool, true, false, Option, Some, None, refl, sym, ◌∙◌, ap, subst}
 use Rattle.std.specs.Prelude.{pos, slice_get, codes as codes_of}
 use Rattle.std.proofs.lemmas.Option.{none-some, same_Some}
 use Rattle.toml.specs.Data.{Data, Members, string, boolean, integer, array, table, get}
@@ -26,23 +26,25 @@ items_same key d xs ys (i, h, e) (j, k, f) =
     let one : i ≡ j = cc in
     sym e ∙ ap list_of one ∙ f
 
+-- what stands there, or what is meant where nothing stands
+either_same : {A : Type 0} (o : Option Data) (make : A → Data) → ((x y : A) → make x ≡ make y → x ≡ y) → (b c : A) → b ≡ c → (x y : A)
+    → (o ≡ Some (make x)) ⊎ ((o ≡ None) × (x ≡ b)) → (o ≡ Some (make y)) ⊎ ((o ≡ None) × (y ≡ c)) → x ≡ y
+either_same o make one b c e x y (inl h) (inl k) = one x y (same_Some (make x) (make y) (sym h ∙ k))
+either_same o make one b c e x y (inl h) (inr k) = absurd (none-some (make x) (sym k.0 ∙ h))
+either_same o make one b c e x y (inr h) (inl k) = absurd (none-some (make y) (sym h.0 ∙ k))
+either_same o make one b c e x y (inr h) (inr k) = h.1 ∙ e ∙ sym k.1
+
+one_number : (x y : ℕ) → integer (pos x) ≡ integer (pos y) → x ≡ y
+one_number x y same = let whole : pos x ≡ pos y = cc in cc
+
 pub cost_same : (d : Data) (b c : ℕ) → IsCostOf d b → IsCostOf d c → b ≡ c
-cost_same d b c (inl h) (inl k) = let same : integer (pos b) ≡ integer (pos c) = same_Some _ _ (sym h ∙ k) in let whole : pos b ≡ pos c = cc in cc
-cost_same d b c (inl h) (inr k) = absurd (none-some _ (sym k.0 ∙ h))
-cost_same d b c (inr h) (inl k) = absurd (none-some _ (sym h.0 ∙ k))
-cost_same d b c (inr h) (inr k) = h.1 ∙ sym k.1
+cost_same d b c h k = either_same (get (codes_of "cost") d) (λ x. integer (pos x)) one_number 1 1 refl b c h k
 
 direct_same : (d : Data) (b c : ℕ) → b ≡ c → (x y : ℕ) → IsDirectOf d b x → IsDirectOf d c y → x ≡ y
-direct_same d b c e x y (inl h) (inl k) = let same : integer (pos x) ≡ integer (pos y) = same_Some _ _ (sym h ∙ k) in let whole : pos x ≡ pos y = cc in cc
-direct_same d b c e x y (inl h) (inr k) = absurd (none-some _ (sym k.0 ∙ h))
-direct_same d b c e x y (inr h) (inl k) = absurd (none-some _ (sym h.0 ∙ k))
-direct_same d b c e x y (inr h) (inr k) = h.1 ∙ e ∙ sym k.1
+direct_same d b c e x y h k = either_same (get (codes_of "direct") d) (λ x. integer (pos x)) one_number b c e x y h k
 
 flag_same : (key : List ℕ) (d : Data) (b c : Bool) → b ≡ c → (x y : Bool) → IsFlagOf key b d x → IsFlagOf key c d y → x ≡ y
-flag_same key d b c e x y (inl h) (inl k) = let same : boolean x ≡ boolean y = same_Some _ _ (sym h ∙ k) in cc
-flag_same key d b c e x y (inl h) (inr k) = absurd (none-some _ (sym k.0 ∙ h))
-flag_same key d b c e x y (inr h) (inl k) = absurd (none-some _ (sym h.0 ∙ k))
-flag_same key d b c e x y (inr h) (inr k) = h.1 ∙ e ∙ sym k.1
+flag_same key d b c e x y h k = either_same (get key d) boolean (λ x y same. cc) b c e x y h k
 
 link_same : (names others : List (List ℕ)) → names ≡ others → (d : Data) (l m : Option ℕ) → IsLinkOf names d l → IsLinkOf others d m → l ≡ m
 link_same names others same d None None h k = refl

@@ -1,6 +1,5 @@
 -- What the later passes find of the faults of a plan.
 use Rattle.std.proofs.Common.{◌≡◌, ℕ, ◌+◌, ◌<◌, ◌⊎◌, inl, inr, suc, List, [], ◌∷◌, ◌++◌, length, true, false, ◌||◌, Option, Some, None, Result, refl, sym, ap, subst, ◌∙◌, arith, Bool, zero, map}
-use Rattle.rip_plan.proofs.FirstFoundLemmas.{Clashes, FirstSo, Passes, first_clashing, first_passing}
 use Rattle.rip_plan.proofs.SketchPlanLemmas.{as_interface, interface_as, place_in, place_from, touch, touches, there_on, on_there}
 use Rattle.std.specs.Prelude.{slice_get, find, option_map, unwrap_or, map, ◌==◌}
 use Rattle.std.specs.List.{IsDistinct, list_any}
@@ -38,7 +37,7 @@ use Rattle.rip_plan.proofs.SpotLemmas.{place_ahead, interface_ahead, place_spot,
 use Rattle.rip_plan.proofs.PlanMatchLemmas.{place_ats, interface_ats}
 use Rattle.rip_plan.proofs.ItemLemmas.{cases_option, any_at, any_finds, distinct_at, get_seen, see_got, get_some}
 use Rattle.rip_plan.proofs.NumberingLemmas.{numbered_once, once_distinct, same_is, same_from}
-use Rattle.rip_plan.proofs.ClashLemmas.{meeting_seen}
+use Rattle.rip_plan.proofs.ClashLemmas.{Clashes, FirstSo, Passes, first_clashing, first_passing, meeting_seen}
 use Rattle.rip_plan.proofs.TextLemmas.{TextLaws}
 
 -- the addresses of all interfaces
