@@ -1,6 +1,5 @@
 pub mod KeyLemmas
 pub mod NameLemmas
-pub mod LoopLemmas
 pub mod ClashLemmas
 pub mod BackLemmas
 pub mod BelowLemmas
