@@ -36,7 +36,7 @@ use Rattle.rip_plan.proofs.MatchingLemmas.{matched_left, matched_length}
 use Rattle.rip_plan.proofs.NumberingLemmas.{once_distinct, once_kept, same_self}
 use Rattle.rip_plan.proofs.NumbersWhereLemmas.{at_contains}
 use Rattle.rip_plan.proofs.OnePlanLemmas.{items_same}
-use Rattle.rip_plan.proofs.PlanMatchLemmas.{network_matches}
+use Rattle.rip_plan.proofs.PlanMatchLemmas.{matches}
 use Rattle.rip_plan.proofs.PlanPartLemmas.{apart, names_differ, also_counted, carrier_has, prefix_place, interface_table, interfaces_count, its_place, own_table, places_count}
 use Rattle.rip_plan.proofs.SpotLemmas.{interface_spot, place_spot, under_item}
 use Rattle.rip_plan.proofs.TextFaultLemmas.{faultless, read_or_told, whole_fault}
@@ -377,12 +377,9 @@ module _ (laws : TextLaws) (bytes : List ℕ) (document : Members) (n : Network)
 pub not_long : (bytes : List ℕ) → ((e : PlanError) → IsFault bytes e → ⊥) → length bytes ≤ 1048576
 not_long bytes none = elim (cases_lt 1048576 (length bytes)) [ inl more ↦ absurd (none (fault codes.Limit Text) (0, inl (inl more, refl))) | inr few ↦ few ]
 
-read_text : (laws : TextLaws) (bytes : List ℕ) (s : Sketch) → sketch_of bytes ≡ Ok s → IsPlanOfText bytes (network_of_sketch s)
-read_text laws bytes s h = network_matches laws bytes (network_of_sketch s) (ap (λ (r : Result Sketch PlanError). r >>= (λ t. Ok (network_of_sketch t))) h)
-
 pub lawful : (laws : TextLaws) (bytes : List ℕ) (s : Sketch) → sketch_of bytes ≡ Ok s → IsLawful (network_of_sketch s)
 lawful laws bytes s h =
-    let is = read_text laws bytes s h in
+    let is = matches laws bytes s h in
     let none = faultless laws bytes s h in
     let text : IsText bytes is.document = record { short = not_long bytes none; reads = is.reads } in
     lawful_plan laws bytes is.document (network_of_sketch s) is.plan (record { text = text; has_links = is.plan.has_links; has_routers = is.plan.has_routers }) none
@@ -390,6 +387,6 @@ lawful laws bytes s h =
 pub plan_stands : (laws : TextLaws) (bytes : List ℕ) → ((e : PlanError) → IsFault bytes e → ⊥) → (n : Network) × IsPlanOfText bytes n × IsLawful n
 plan_stands laws bytes none =
     elim (read_or_told laws bytes) [
-      | inl (s, h) ↦ (network_of_sketch s, read_text laws bytes s h, lawful laws bytes s h)
+      | inl (s, h) ↦ (network_of_sketch s, matches laws bytes s h, lawful laws bytes s h)
       | inr (d, h, told) ↦ absurd (none d (told.pass, told.found))
     ]

@@ -401,7 +401,7 @@ document_matches laws doc links routers poison s is read =
     blocks_seen [] = refl
     blocks_seen (d ∷ ds) = ap (λ (l : List Block). d.prefix ∷ l) (blocks_seen ds)
 
-matches : (laws : TextLaws) (bytes : List ℕ) (s : Sketch) → sketch_of bytes ≡ Ok s → IsPlanOfText bytes (network_of_sketch s)
+pub matches : (laws : TextLaws) (bytes : List ℕ) (s : Sketch) → sketch_of bytes ≡ Ok s → IsPlanOfText bytes (network_of_sketch s)
 unfolding sketch_of sketch_of_document
 matches laws bytes s h =
     let (long, h1) = guard_ok (nat_lt 1048576 (length bytes)) (fault codes.Limit Text) _ s h in

@@ -54,7 +54,6 @@ all_addresses-requires c =
 
 pub carriers_of-requires-clause-few_prefixes : goal.carriers_of-requires-clause-few_prefixes
 carriers_of-requires-clause-few_prefixes c =
-    let n : Network = network_of_sketch (sketch c.args.draft) in
     few c.in_ok-prefixes.prefixes.items c.as_slice-2.result.now c.args.draft.places.items c.len-4.result c.in_ok-prefixes.ensures.few c.as_slice-2.ensures.value c.requires.few_places (omega arith)
 
 pub carriers_of-requires-clause-prefixes : goal.carriers_of-requires-clause-prefixes
@@ -74,7 +73,6 @@ carriers_of-requires-clause-seats c =
 
 pub costs_of-requires-clause-few_prefixes : goal.costs_of-requires-clause-few_prefixes
 costs_of-requires-clause-few_prefixes c =
-    let n : Network = network_of_sketch (sketch c.args.draft) in
     few c.in_ok-prefixes.prefixes.items c.as_slice-2.result.now c.args.draft.places.items c.len-6.result c.in_ok-prefixes.ensures.few c.as_slice-2.ensures.value c.requires.few_places (omega arith)
 
 pub costs_of-requires-clause-routers : goal.costs_of-requires-clause-routers
@@ -119,7 +117,6 @@ costs_of-requires-clause-owners c =
 
 pub owners_of-requires-clause-few_prefixes : goal.owners_of-requires-clause-few_prefixes
 owners_of-requires-clause-few_prefixes c =
-    let n : Network = network_of_sketch (sketch c.args.draft) in
     few c.in_ok-prefixes.prefixes.items c.as_slice-2.result.now c.args.draft.places.items c.len-8.result c.in_ok-prefixes.ensures.few c.as_slice-2.ensures.value c.requires.few_places (omega arith)
 
 pub owners_of-requires-clause-few_places : goal.owners_of-requires-clause-few_places
