@@ -56,7 +56,6 @@ also_spot r ds k a h =
 pub also_item : (routers : List Data) (k i j : ℕ) → slice_get (also_spots routers) k ≡ Some (RouterInterface i j) → (x : Data) × IsItem (codes_of "interface") routers i j x
 also_item routers k i j h =
     let s = also_spot 1 routers k (RouterInterface i j) h in
-    let same : RouterInterface i j ≡ RouterInterface (1 + s.n) (suc s.j) = s.is in
     (s.x, item_of (codes_of "interface") routers s.n s.j s.x s.item i j (cc) (cc))
 
 -- ---- how many there are

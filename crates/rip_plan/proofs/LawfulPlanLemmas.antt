@@ -208,7 +208,6 @@ module _ (laws : TextLaws) (bytes : List ℕ) (document : Members) (n : Network)
                   let on : is_on l q.seat ≡ true = ap (is_on l) seat ∙ here in
                   let test : has_address block a ≡ true = grind (arith, nat_tests) in
                   let inner : has_address q.prefix a ≡ true = ap (λ (b : Block). has_address b a) one ∙ test in
-                  let clash : true ≡ false = rw (on, inner) at off in
                   cc;
             },
           ))

@@ -18,7 +18,6 @@ use Rattle.rip_plan.proofs.MatchingLemmas.{filter_both, filter_all}
 
 pub same_is : (p q : Block) → same_prefix p q ≡ true → p ≡ q
 same_is p q h =
-    let parts = and_parts (p.network == q.network) (p.prefix_len == q.prefix_len) h in
     let networks : p.network ≡ q.network = grind (arith, nat_tests) in
     let lengths : p.prefix_len ≡ q.prefix_len = grind (arith, nat_tests) in
     ap (λ a. block a p.prefix_len) networks ∙ ap (λ b. block q.network b) lengths

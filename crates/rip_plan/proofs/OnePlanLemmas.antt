@@ -22,7 +22,6 @@ text_same key d s t h k = let same : string s ≡ string t = same_Some (string s
 
 pub items_same : (key : List ℕ) (d : Data) (xs ys : List Data) → HasItems key d xs → HasItems key d ys → xs ≡ ys
 items_same key d xs ys (i, h, e) (j, k, f) =
-    let same : array i ≡ array j = same_Some (array i) (array j) (sym h ∙ k) in
     let one : i ≡ j = cc in
     sym e ∙ ap list_of one ∙ f
 
@@ -77,7 +76,6 @@ interface_same laws names others same b c root x y at h k =
 
 address_same : (laws : TextLaws) (a b : ℕ) (d : Data) → IsAddressOf a d → IsAddressOf b d → a ≡ b
 address_same laws a b d (t, h, is) (u, k, its) =
-    let same : string t ≡ string u = sym h ∙ k in
     let one : t ≡ u = cc in
     one_address laws t u a b one is its
 
@@ -89,7 +87,6 @@ placement_same x y e f = ap (λ (v : Block). record x { prefix = v }) e ∙ ap (
 
 on_link_same : (laws : TextLaws) (x y : Placement) (at : ℕ × Data) → IsOnLink x at → IsOnLink y at → x ≡ y
 on_link_same laws x y at h k =
-    let same : string h.text ≡ string k.text = sym h.is_text ∙ k.is_text in
     let text : h.text ≡ k.text = cc in
     placement_same x y (one_prefix laws h.text k.text x.prefix y.prefix text h.prefix k.prefix) (h.seat ∙ sym k.seat)
 

@@ -11,8 +11,6 @@ before_trans (x ∷ xs) (y ∷ ys) (z ∷ zs) (inl h) (inl k) = inl (omega arith
 before_trans (x ∷ xs) (y ∷ ys) (z ∷ zs) (inl h) (inr k) = let same : y ≡ z = k.0 in inl (omega arith)
 before_trans (x ∷ xs) (y ∷ ys) (z ∷ zs) (inr h) (inl k) = let same : x ≡ y = h.0 in inl (omega arith)
 before_trans (x ∷ xs) (y ∷ ys) (z ∷ zs) (inr h) (inr k) =
-    let first : x ≡ y = h.0 in
-    let second : y ≡ z = k.0 in
     inr (omega arith, before_trans xs ys zs h.1 k.1)
 
 pub before_not : (xs : List ℕ) → Before xs xs → ⊥

@@ -92,7 +92,6 @@ bare_found is k (suc n) = rw (bare_found is (k + 1) n) refl
 common : (rs ss : List ℕ) (r : ℕ) → list_any (λ s. s == r) rs ≡ true → list_any (λ s. s == r) ss ≡ true → have_common rs ss ≡ true
 common rs ss r h k =
     let found = any_finds (λ s. s == r) ss k in
-    let test : (found.1 == r) ≡ true = found.3 in
     let same : found.1 ≡ r = grind (arith, nat_tests) in
     any_at (λ s. list_any (λ t. t == s) rs) ss found.0 found.1 found.2 (rw same h)
 

@@ -148,8 +148,6 @@ place_ahead links routers k m a b less h g =
           elim (get_split here later m b g) [
             | inl f ↦ let past : k ≡ length here + e.0 = e.1 in let within : m < length here = f.1 in absurd (omega arith)
             | inr f ↦
-                let one : k ≡ length here + e.0 = e.1 in
-                let two : m ≡ length here + f.0 = f.1 in
                 under_ahead (codes_of "own") RouterOwn (ordered RouterOwn 2 2 (λ i j. refl)) 1 routers e.0 f.0 a b (omega arith) e.2 f.2
           ]
     ]
@@ -206,7 +204,6 @@ own_item links routers k i j h =
 pub interface_item : (routers : List Data) (k i j : ℕ) → slice_get (interface_spots routers) k ≡ Some (RouterInterface i j) → (x : Data) × IsItem (codes_of "interface") routers i j x
 interface_item routers k i j h =
     let s = spot_under (codes_of "interface") RouterInterface 1 routers k (RouterInterface i j) h in
-    let same : RouterInterface i j ≡ RouterInterface (1 + s.n) (suc s.j) = s.is in
     (s.x, item_of (codes_of "interface") routers s.n s.j s.x s.item i j (cc) (cc))
 
 -- the spot of an item has the number of the items before it

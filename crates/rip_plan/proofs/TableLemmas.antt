@@ -149,7 +149,6 @@ direct_told cost o given h e = let (z, is, none) = integer_told (direct_of cost)
 
 given_within : (most : ℕ) (z : ℤ) (c : ℕ) → direct_of most (Some z) ≡ Some c → (1 ≤ c) × (c ≤ most)
 given_within most (pos n) c h =
-    let (between, same) = cond_some (is_between 1 most n) n c h in
     (grind (arith, nat_tests), grind (arith, nat_tests))
 given_within most (negsuc n) c h = absurd (none-some c h)
 
@@ -224,6 +223,5 @@ addresses_told (d ∷ ds) all h =
 pub addresses_clear : (laws : TextLaws) (ds : List Data) (also : List ℕ) → addresses_in ds ≡ Some also → (k : ℕ) (text : List ℕ) → slice_get ds k ≡ Some (string text) → IsNoAddress text → ⊥
 addresses_clear laws ds also h k text at none =
     let (a, listed, (t, is, spelled)) = matched_right IsAddressOf also ds k (string text) (addresses_are laws ds also h) at in
-    let same : string t ≡ string text = sym is in
     let one : t ≡ text = cc in
     none a (subst (λ (s : List ℕ). IsAddressText s a) one spelled)

@@ -107,7 +107,6 @@ module _ (laws : TextLaws) (bytes : List ℕ) (w : IsWellFormed bytes) where
       let few : length w.network.interfaces ≤ 1024 = w.lawful.few_interfaces in
       past_not (interface_spots w.plan.routers) (RouterInterface r j) (omega (arith, interfaces_count w.document w.network w.plan)) f
   interface_limit r j (inr f) =
-      let few : sum (map length w.network.also) ≤ 1024 = w.lawful.few_also in
       past_not (also_spots w.plan.routers) (RouterInterface r j) (omega (arith, also_counted w.document w.network w.plan)) f
 
   interface_cost : (x : Data) → HasInterface w.document w.network w.plan x → HasWrongCost x ⊎ HasWrongDirect x → ⊥
