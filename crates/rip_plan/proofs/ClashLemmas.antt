@@ -181,10 +181,7 @@ module _ {A : Type 0} (test : A → Bool) (xs : List A) (k : ℕ) (x : A) (lt : 
 -- ---- the first router without an interface
 
 pub bare_here : (interfaces : List DraftInterface) (n k : ℕ) (total : Option ℕ) → k < n → is_bare interfaces k ≡ true → first_bare interfaces k (n - k) ≡ total → Some k ≡ total
-bare_here interfaces n k total lt bare so_far =
-    let left : n - k ≡ suc (n - (k + 1)) = omega arith in
-    let here : first_bare interfaces k (n - k) ≡ Some k = rw (left, bare) refl in
-    sym here ∙ so_far
+bare_here interfaces n k total lt bare so_far = grind arith
 
 pub bare_later : (interfaces : List DraftInterface) (n k : ℕ) (total : Option ℕ) → k < n → is_bare interfaces k ≡ false → first_bare interfaces k (n - k) ≡ total →
     first_bare interfaces (k + 1) (n - (k + 1)) ≡ total

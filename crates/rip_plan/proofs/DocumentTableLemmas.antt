@@ -1,5 +1,5 @@
 -- The tables whose fields are read are those that have the keys, each of its kind.
-use Rattle.std.proofs.Common.{◌≡◌, ◌≢◌, ℕ, zero, suc, inl, inr, List, [], ◌∷◌, Bool, true, false, cond, Option, Some, None, Ordering, Less, nat_cmp, is_eq, refl, sym, ◌∙◌, ap, subst}
+use Rattle.std.proofs.Common.{◌≡◌, ◌≢◌, ℕ, zero, suc, inl, inr, List, [], ◌∷◌, Bool, true, false, cond, Option, Some, None, Ordering, Less, nat_cmp, is_eq, refl, sym, ◌∙◌, ap, subst, arith}
 use Rattle.std.proofs.lemmas.Bool.{cases_Bool, and_parts}
 use Rattle.std.specs.Prelude.{ℤ, is_some, option_and_then, option_map, slice_get, unwrap_or, codes as codes_of}
 use Rattle.std.specs.List.{list_all}
@@ -65,14 +65,7 @@ list_has : (o : Option Data) (xs : List Data) → option_map list_of (option_and
 list_has o xs h = let (items, is, same) = items_there o xs h in (array items, is, (items, refl))
 
 some_has : (o : Option Data) (xs : List Data) → (option_map list_of (option_and_then as_array o) &> some_items) ≡ Some xs → HasAt o IsSomeList
-some_has o xs h =
-    let (ys, read, some) = then_some (option_map list_of (option_and_then as_array o)) some_items xs h in
-    let (items, is, same) = items_there o ys read in
-    (array items, is, (items, refl, λ none. not_empty ys xs some (sym same ∙ none)))
-  where
-    not_empty : (ys xs : List Data) → some_items ys ≡ Some xs → ys ≡ [] → ⊥
-    not_empty [] xs g e = none-some xs g
-    not_empty (y ∷ ys) xs g e = let clash : y ∷ ys ≡ [] = e in cc
+some_has o xs h = grind arith
 
 integer_may : (o : Option Data) (given : Option ℤ) → integer_if o ≡ Some given → MayHaveAt o IsInteger
 integer_may o given h d is = let (z, k, same) = map_some (as_integer d) given (ap integer_if (sym is) ∙ h) in (z, integer_is d z k)
@@ -162,9 +155,7 @@ some_items_same [] ys h = absurd (none-some ys h)
 some_items_same (x ∷ xs) ys h = same_Some (x ∷ xs) ys h
 
 some_there : (o : Option Data) (xs : List Data) → (option_map list_of (option_and_then as_array o) &> some_items) ≡ Some xs → (items : Items) × (o ≡ Some (array items)) × (list_of items ≡ xs)
-some_there o xs h =
-    let (ys, read, some) = then_some (option_map list_of (option_and_then as_array o)) some_items xs h in
-    items_there o xs (read ∙ ap (λ (l : List Data). Some l) (some_items_same ys xs some))
+some_there o xs h = grind arith
 
 pub root_table : (doc : Members) (links routers : List Data) (poison : Bool) → root_fields doc ≡ Some (links, routers, poison) → HasRootFields doc links routers poison
 unfolding root_fields

@@ -194,11 +194,7 @@ first_high o (inl (i, le, h)) = starts_high [] 0 (ranked o) 1 [] (omega arith) (
 first_high o (inr (r, le, h)) = starts_high [] 0 (ranked o) 1 [] (omega arith) (starts_shorter [] 0 (2 ∷ []) r (ranked o) (router_starts r o h))
 
 pub first_sooner : (o : Found) → first_rows.has o → o.pass < 5
-first_sooner o h = by_pass (first_high o h)
-  where
-    by_pass : Before (ranked o) (1 ∷ []) → o.pass < 5
-    by_pass (inl less) = omega arith
-    by_pass (inr later) = absurd (before_nil _ later.1)
+first_sooner o h = grind arith
 
 pub links_high : (o : Found) → links_rows.has o → Before (ranked o) routers_rows.floor
 links_high o (i, le, h) = starts_high (0 ∷ []) 1 (ranked o) 2 (1 ∷ []) (omega arith) (starts_shorter (0 ∷ []) 1 [] i (ranked o) (link_starts i o h))
@@ -239,11 +235,7 @@ module _ (document : Members) (links routers : List Data) where
 
   -- what is found before the last pass
   pub told_finds : {A : Type 0} (R : Found → Type 0) (r : Result A PlanError) → ((o : Found) → R o → o.pass < 5) → Finds IsTold R r → Finds IsOfTables R r
-  told_finds R r sooner h = finds_in IsTold IsOfTables R R r (λ e f. inl f) (λ e row. row) take h
-    where
-      take : (o : Found) → R o → IsOfTables o → IsTold o × R o
-      take o row (inl f) = (f, row)
-      take o row (inr last) = let early : o.pass < 5 = sooner o row in let late : o.pass ≡ 5 = last.2 in absurd (omega arith)
+  told_finds R r sooner h = grind arith
 
   in_link : (i : ℕ) (o : Found) → 1 ≤ i → (link_rows i).has o → table_rows.has o
   in_link i o le h = inl (inl (i, le, h))

@@ -66,9 +66,7 @@ held_in is also k h e =
 -- ---- the first interface with an address
 
 same_held : (h : Held) (l a : ℕ) → is_at l a h ≡ true → h ≡ record { interface = h.interface; link = l; address = a }
-same_held h l a e =
-    let (link, address) = and_parts (h.link == l) (h.address == a) e in
-    rw (← eqb-true h.link l link, ← eqb-true h.address a address) refl
+same_held h l a e = grind arith
 
 holder_found : (l a i : ℕ) (hs : List Held) → holder_at l a hs ≡ Some i → (k : ℕ) × (slice_get hs k ≡ Some (record { interface = i; link = l; address = a }))
 holder_found l a i [] e = absurd (none-some i e)

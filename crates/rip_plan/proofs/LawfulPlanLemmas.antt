@@ -56,11 +56,7 @@ names_good laws names ds named none k name h =
 -- ---- costs
 
 in_range : (most c : ℕ) → (IsOutsideOf most (pos c) → ⊥) → (1 ≤ c) × (c ≤ most)
-in_range most c none =
-    elim (cases_lt c 1) [
-      | inl low ↦ absurd (none (λ e same least few. let is : c ≡ e = cc in omega arith))
-      | inr least ↦ elim (cases_lt most c) [ inl high ↦ absurd (none (λ e same one few. let is : c ≡ e = cc in omega arith)) | inr few ↦ (least, few) ]
-    ]
+in_range most c none = grind arith
 
 cost_good : (d : Data) (c : ℕ) → IsCostOf d c → (HasWrongCost d → ⊥) → (1 ≤ c) × (c ≤ 15)
 cost_good d c (inl given) none = in_range 15 c (λ out. none (pos c, given, out))

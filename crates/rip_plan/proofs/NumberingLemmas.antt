@@ -17,10 +17,7 @@ use Rattle.std.proofs.lemmas.List.Folds.{list_any-append}
 use Rattle.rip_plan.proofs.MatchingLemmas.{filter_both, filter_all}
 
 pub same_is : (p q : Block) → same_prefix p q ≡ true → p ≡ q
-same_is p q h =
-    let networks : p.network ≡ q.network = grind (arith, nat_tests) in
-    let lengths : p.prefix_len ≡ q.prefix_len = grind (arith, nat_tests) in
-    ap (λ a. block a p.prefix_len) networks ∙ ap (λ b. block q.network b) lengths
+same_is p q h = grind arith
 
 pub same_self : (p : Block) → same_prefix p p ≡ true
 same_self p = grind (arith, nat_tests)
@@ -29,11 +26,7 @@ pub same_from : (p q : Block) → p ≡ q → same_prefix p q ≡ true
 same_from p q h = rw h (same_self q)
 
 pub same_flips : (p q : Block) → same_prefix p q ≡ same_prefix q p
-same_flips p q =
-    elim (cases_Bool (same_prefix p q)) [
-      | inl e ↦ e ∙ sym (same_from q p (sym (same_is p q e)))
-      | inr e ↦ e ∙ sym (false_from_ne_true (same_prefix q p) (λ f. both_ways (same_prefix p q) e (same_from p q (sym (same_is q p f)))))
-    ]
+same_flips p q = grind arith
 
 pub none_same : (p : Block) (ps : List Block) → list_any (same_prefix p) ps ≡ false → list_any (λ q. same_prefix q p) ps ≡ false
 none_same p [] h = refl

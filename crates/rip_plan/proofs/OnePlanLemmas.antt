@@ -1,5 +1,5 @@
 -- A document has one plan.
-use Rattle.std.proofs.Common.{◌≡◌, ℕ, ◌⊎◌, inl, inr, List, ◌++◌, map, Bool, true, false, Option, Some, None, refl, sym, ◌∙◌, ap, subst}
+use Rattle.std.proofs.Common.{◌≡◌, ℕ, ◌⊎◌, inl, inr, List, ◌++◌, map, Bool, true, false, Option, Some, None, refl, sym, ◌∙◌, ap, subst, arith}
 use Rattle.std.specs.Prelude.{pos, slice_get, codes as codes_of}
 use Rattle.std.proofs.lemmas.Option.{none-some, same_Some}
 use Rattle.toml.specs.Data.{Data, Members, string, boolean, integer, array, table, get}
@@ -21,9 +21,7 @@ pub text_same : (key : List ℕ) (d : Data) (s t : List ℕ) → HasText key d s
 text_same key d s t h k = let same : string s ≡ string t = same_Some (string s) (string t) (sym h ∙ k) in cc
 
 pub items_same : (key : List ℕ) (d : Data) (xs ys : List Data) → HasItems key d xs → HasItems key d ys → xs ≡ ys
-items_same key d xs ys (i, h, e) (j, k, f) =
-    let one : i ≡ j = cc in
-    sym e ∙ ap list_of one ∙ f
+items_same key d xs ys (i, h, e) (j, k, f) = grind arith
 
 -- what stands there, or what is meant where nothing stands
 either_same : {A : Type 0} (o : Option Data) (make : A → Data) → ((x y : A) → make x ≡ make y → x ≡ y) → (b c : A) → b ≡ c → (x y : A)

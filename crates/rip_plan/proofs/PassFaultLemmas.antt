@@ -263,8 +263,7 @@ module _ (s : Sketch) where
 
   taken_of : (i l a j k m : ℕ) → j < k → slice_get (held s.interfaces s.also) j ≡ Some (record { interface = m; link = l; address = a })
       → slice_get (held s.interfaces s.also) k ≡ Some (record { interface = i; link = l; address = a }) → IsTaken i
-  taken_of i l a j k m less there at =
-      (k, record { interface = i; link = l; address = a }, at, (j, record { interface = m; link = l; address = a }, less, there, grind (arith, nat_tests)), refl)
+  taken_of i l a j k m less there at = grind arith
 
   address_takes : (m i : ℕ) → m < i → HaveOneAddress (network_of_sketch s) m i → IsTaken i
   address_takes m i ahead (l, a, h, g) =

@@ -62,9 +62,7 @@ place_taken new s t h = let (room, h1) = guard_ok (nat_le 1024 (length s.places)
 
 -- there is room for one more interface with these addresses
 pub room_for : (s : Sketch) (also : List ℕ) → is_full s also ≡ false → (length s.interfaces + 1 ≤ 1024) × (sum_by length s.also + length also ≤ 1024)
-room_for s also h =
-    let parts = or_parts (nat_le 1024 (length s.interfaces)) (nat_lt 1024 (sum_by length s.also + length also)) h in
-    (grind (arith, nat_tests, parts.0), grind (arith, nat_tests, parts.1))
+room_for s also h = grind arith
 
 few_more : (new : DraftInterface) (s u : Sketch) (also : List ℕ) → is_full s also ≡ false → u ≡ with_interface new also s → sum_by length u.also ≤ 1024
 few_more new s u also free made = omega (arith, (room_for s also free).1, ap (λ (v : Sketch). sum_by length v.also) made, sum_by_push length s.also also)

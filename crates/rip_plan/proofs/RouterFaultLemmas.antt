@@ -149,13 +149,7 @@ metric_told x f fields c costs none =
     (c, z, cost_is (get (codes_of "cost") x) f.cost c fields.cost costs, least, most, is, bad)
 
 costs_clear : (x : Data) (f : InterfaceFields) → HasInterfaceFields x f → (c e : ℕ) → cost_of f.cost ≡ Some c → direct_of c f.direct ≡ Some e → HasWrongCost x ⊎ HasWrongDirect x → ⊥
-costs_clear x f fields c e costs directs wrong =
-    let cost = cost_is (get (codes_of "cost") x) f.cost c fields.cost costs in
-    let good = cost_within f.cost c costs in
-    elim wrong [
-      | inl bad ↦ cost_fits x c cost good bad
-      | inr bad ↦ direct_fits x c e cost (direct_is (get (codes_of "direct") x) c f.direct e fields.direct directs) (direct_within c f.direct e good.0 directs) bad
-    ]
+costs_clear x f fields c e costs directs wrong = grind arith
 
 -- ---- interfaces
 

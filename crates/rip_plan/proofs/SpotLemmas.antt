@@ -235,6 +235,4 @@ nth_here done x rest n e = let same : n ≡ suc (length done) = omega arith in r
 -- ---- one item has a number
 
 pub item_once : (key : List ℕ) (ds : List Data) (i j : ℕ) (x y : Data) → IsItem key ds i j x → IsItem key ds i j y → x ≡ y
-item_once key ds i j x y (d, is, it) (e, js, jt) =
-    let same : d ≡ e = same_Some d e (sym is ∙ js) in
-    same_Some x y (sym it ∙ ap (λ (z : Data). nth (items_in (get key z)) j) same ∙ jt)
+item_once key ds i j x y (d, is, it) (e, js, jt) = grind arith

@@ -75,18 +75,10 @@ given_is (Some d) given f c none empty within h e =
     inl (ap (λ (x : Data). Some x) (integer_is d z k ∙ ap integer (within z (ap f same ∙ e))))
 
 pub cost_is : (o : Option Data) (given : Option ℤ) (c : ℕ) → integer_if o ≡ Some given → cost_of given ≡ Some c → (o ≡ Some (integer (pos c))) ⊎ ((o ≡ None) × (c ≡ 1))
-cost_is o given c h e = given_is o given cost_of c 1 refl within h e
-  where
-    within : (z : ℤ) → cost_of (Some z) ≡ Some c → z ≡ pos c
-    within (pos n) f = ap pos (cond_some (is_between 1 15 n) n c f).1
-    within (negsuc n) f = absurd (none-some c f)
+cost_is o given c h e = grind arith
 
 pub direct_is : (o : Option Data) (cost : ℕ) (given : Option ℤ) (c : ℕ) → integer_if o ≡ Some given → direct_of cost given ≡ Some c → (o ≡ Some (integer (pos c))) ⊎ ((o ≡ None) × (c ≡ cost))
-direct_is o cost given c h e = given_is o given (direct_of cost) c cost refl within h e
-  where
-    within : (z : ℤ) → direct_of cost (Some z) ≡ Some c → z ≡ pos c
-    within (pos n) f = ap pos (cond_some (is_between 1 cost n) n c f).1
-    within (negsuc n) f = absurd (none-some c f)
+direct_is o cost given c h e = grind arith
 
 pub boolean_is : (d : Data) (b : Bool) → as_bool d ≡ Some b → d ≡ boolean b
 boolean_is (boolean a) b h = ap boolean (same_Some a b h)
@@ -135,9 +127,7 @@ cost_direct (pos n) = refl
 cost_direct (negsuc n) = refl
 
 outside : (most : ℕ) (z : ℤ) → direct_of most (Some z) ≡ None → IsOutsideOf most z
-outside most z none c is least few =
-    let within : is_between 1 most c ≡ true = grind (arith, nat_tests) in
-    none-some c (sym none ∙ ap (λ (y : ℤ). direct_of most (Some y)) is ∙ ap (λ (b : Bool). cond b (Some c) None) within)
+outside most z none c is least few = grind arith
 
 pub cost_told : (o : Option Data) (given : Option ℤ) → integer_if o ≡ Some given → cost_of given ≡ None → (z : ℤ) × (o ≡ Some (integer z)) × IsOutsideOf 15 z
 cost_told o given h e = let (z, is, none) = integer_told cost_of 1 o given refl h e in (z, is, outside 15 z (sym (cost_direct z) ∙ none))

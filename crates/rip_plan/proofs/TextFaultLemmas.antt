@@ -105,11 +105,7 @@ same_document bytes document other h text = same_Some other document (sym text.r
 -- bytes have one document, with one list of links and one of routers
 module _ (bytes : List ℕ) (document : Members) (links routers : List Data) (has : HasTables bytes document links routers) where
   pub one_tables : (other : Members) (ls rs : List Data) → HasTables bytes other ls rs → ◌≡◌ {A = Members × List Data × List Data} (other, ls, rs) (document, links, routers)
-  one_tables other ls rs h =
-      let same = same_document bytes document other has.text.reads h.text in
-      let one : ls ≡ links = items_same (codes_of "link") (table document) ls links (subst (λ (m : Members). HasItems (codes_of "link") (table m) ls) same h.has_links) has.has_links in
-      let two : rs ≡ routers = items_same (codes_of "router") (table document) rs routers (subst (λ (m : Members). HasItems (codes_of "router") (table m) rs) same h.has_routers) has.has_routers in
-      rw (same, one, two) refl
+  one_tables other ls rs h = grind arith
 
   pub whole_fault : (c : PlanCode) (place : At) → TableFault document links routers c place → FaultAt bytes c place
   whole_fault codes.Syntax Text h = absurd h
@@ -163,13 +159,10 @@ module _ (laws : TextLaws) (bytes : List ℕ) (document : Members) (short : leng
   from_version = row_then (row_at codes.Version Version) from_key (inr (refl, inr (refl, inr (refl, inr (refl, inr (refl, inl (omega arith)))))))
 
   over_told : (links routers : List Data) → (nat_lt 512 (length links) || nat_lt 128 (length routers)) ≡ true → (512 < length links) ⊎ (128 < length routers)
-  over_told links routers h =
-      elim (or_cases (nat_lt 512 (length links)) (nat_lt 128 (length routers)) h) [ inl more ↦ inl (grind (arith, nat_tests)) | inr more ↦ inr (grind (arith, nat_tests)) ]
+  over_told links routers h = grind arith
 
   over_clear : (links routers : List Data) → (nat_lt 512 (length links) || nat_lt 128 (length routers)) ≡ false → (512 < length links) ⊎ (128 < length routers) → ⊥
-  over_clear links routers h over =
-      let (few, small) = or_parts (nat_lt 512 (length links)) (nat_lt 128 (length routers)) h in
-      elim over [ inl more ↦ grind (arith, nat_tests, few) | inr more ↦ grind (arith, nat_tests, small) ]
+  over_clear links routers h over = grind arith
 
   document_finds : Finds (IsTextFault bytes) from_version.has (sketch_of_document document)
   unfolding sketch_of_document
@@ -354,12 +347,4 @@ none_told laws bytes =
 
 -- no code of a fault is Memory
 pub never_memory : (bytes : List ℕ) (e : PlanError) → PlanFault bytes e → e.code ≢ codes.Memory
-never_memory bytes e p memory =
-    elim p.found [
-      | inl f ↦ by_place e.place (subst (λ (c : PlanCode). FaultAt bytes c e.place) memory f.0)
-      | inr f ↦ let clash : codes.UnknownLink ≡ codes.Memory = sym f.1 ∙ memory in absurd cc
-    ]
-  where
-    by_place : (place : At) → FaultAt bytes codes.Memory place → ⊥
-    by_place Text f = f.4
-    by_place place f = f.4
+never_memory bytes e p memory = grind arith
