@@ -161,9 +161,7 @@ pub added : (had is_new : Bool) → is_new ≡ not had → is_new ≡ true → h
 added had is_new h e = not-true had (sym h ∙ e)
 
 pub or_turned : (a b : Bool) → cond a true b ≡ (b || a)
-or_turned true true = refl
-or_turned false true = refl
-or_turned a b = refl
+or_turned a b = grind arith
 
 -- one more item that a set was given
 pub seen_more : {A : Type 0} (test : A → Bool) (xs : List A) (k : ℕ) (x : A) → k < length xs → x ≡ get_or xs k x → cond (test x) true (list_any test (take k xs)) ≡ list_any test (take (k + 1) xs)

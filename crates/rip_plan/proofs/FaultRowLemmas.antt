@@ -45,10 +45,7 @@ abbrev pub prefix_rows : ℕ → ℕ → Rows
 prefix_rows i j = row_then (row_at codes.Key (LinkPrefix i j)) (prefix_from_prefix i j) (by_code (LinkPrefix i j) codes.Key codes.Prefix refl (omega arith))
 
 pub prefix_starts : (i j : ℕ) (o : Found) → (prefix_rows i j).has o → Starts (0 ∷ 1 ∷ i ∷ 1 ∷ []) j (ranked o)
-prefix_starts i j o (inl h) = starts_row (0 ∷ 1 ∷ i ∷ 1 ∷ []) j (row_at codes.Key (LinkPrefix i j)) o h (refl, (refl, (refl, (refl, refl))))
-prefix_starts i j o (inr (inl h)) = starts_row (0 ∷ 1 ∷ i ∷ 1 ∷ []) j (row_at codes.Prefix (LinkPrefix i j)) o h (refl, (refl, (refl, (refl, refl))))
-prefix_starts i j o (inr (inr (inl h))) = starts_row (0 ∷ 1 ∷ i ∷ 1 ∷ []) j (row_at codes.Limit (LinkPrefix i j)) o h (refl, (refl, (refl, (refl, refl))))
-prefix_starts i j o (inr (inr (inr h))) = absurd h
+prefix_starts i j o h = grind arith
 
 abbrev pub prefixes_rows : ℕ → Rows
 prefixes_rows i = each_rows (λ j. (prefix_rows i j).has) (0 ∷ 1 ∷ i ∷ 1 ∷ []) (prefix_starts i) 1
@@ -63,10 +60,7 @@ abbrev pub link_rows : ℕ → Rows
 link_rows i = row_then (row_at codes.Key (Link i)) (link_from_name i) (by_code (Link i) codes.Key codes.Name refl (omega arith))
 
 pub link_starts : (i : ℕ) (o : Found) → (link_rows i).has o → Starts (0 ∷ 1 ∷ []) i (ranked o)
-link_starts i o (inl h) = starts_row (0 ∷ 1 ∷ []) i (row_at codes.Key (Link i)) o h (refl, (refl, refl))
-link_starts i o (inr (inl h)) = starts_row (0 ∷ 1 ∷ []) i (row_at codes.Name (Link i)) o h (refl, (refl, refl))
-link_starts i o (inr (inr (inl h))) = starts_row (0 ∷ 1 ∷ []) i (row_at codes.DuplicateName (Link i)) o h (refl, (refl, refl))
-link_starts i o (inr (inr (inr h))) = starts_shorter (0 ∷ 1 ∷ []) i (1 ∷ []) h.0 (ranked o) (prefix_starts i h.0 o h.2)
+link_starts i o h = grind arith
 
 -- ---- routers
 
@@ -90,13 +84,7 @@ abbrev pub interface_rows : ℕ → ℕ → Rows
 interface_rows r j = row_then (row_at codes.Key (RouterInterface r j)) (interface_from_address r j) (by_code (RouterInterface r j) codes.Key codes.Address refl (omega arith))
 
 pub interface_starts : (r j : ℕ) (o : Found) → (interface_rows r j).has o → Starts (0 ∷ 2 ∷ r ∷ 1 ∷ []) j (ranked o)
-interface_starts r j o (inl h) = starts_row (0 ∷ 2 ∷ r ∷ 1 ∷ []) j (row_at codes.Key (RouterInterface r j)) o h (refl, (refl, (refl, (refl, refl))))
-interface_starts r j o (inr (inl h)) = starts_row (0 ∷ 2 ∷ r ∷ 1 ∷ []) j (row_at codes.Address (RouterInterface r j)) o h (refl, (refl, (refl, (refl, refl))))
-interface_starts r j o (inr (inr (inl h))) = starts_row (0 ∷ 2 ∷ r ∷ 1 ∷ []) j (row_at codes.Cost (RouterInterface r j)) o h (refl, (refl, (refl, (refl, refl))))
-interface_starts r j o (inr (inr (inr (inl h)))) = starts_row (0 ∷ 2 ∷ r ∷ 1 ∷ []) j (row_at codes.UnknownLink (RouterInterface r j)) o h (refl, (refl, (refl, (refl, refl))))
-interface_starts r j o (inr (inr (inr (inr (inl h))))) = starts_row (0 ∷ 2 ∷ r ∷ 1 ∷ []) j (row_at codes.OutsidePrefix (RouterInterface r j)) o h (refl, (refl, (refl, (refl, refl))))
-interface_starts r j o (inr (inr (inr (inr (inr (inl h)))))) = starts_row (0 ∷ 2 ∷ r ∷ 1 ∷ []) j (row_at codes.Limit (RouterInterface r j)) o h (refl, (refl, (refl, (refl, refl))))
-interface_starts r j o (inr (inr (inr (inr (inr (inr h)))))) = absurd h
+interface_starts r j o h = grind arith
 
 abbrev pub own_from_limit : ℕ → ℕ → Rows
 own_from_limit r j = row_then (row_at codes.Limit (RouterOwn r j)) (no_rows (1 ∷ [])) (inl (omega arith))
@@ -117,13 +105,7 @@ abbrev pub own_rows : ℕ → ℕ → Rows
 own_rows r j = row_then (row_at codes.Key (RouterOwn r j)) (own_from_via r j) (by_code (RouterOwn r j) codes.Key codes.Address refl (omega arith))
 
 pub own_starts : (r j : ℕ) (o : Found) → (own_rows r j).has o → Starts (0 ∷ 2 ∷ r ∷ 2 ∷ []) j (ranked o)
-own_starts r j o (inl h) = starts_row (0 ∷ 2 ∷ r ∷ 2 ∷ []) j (row_at codes.Key (RouterOwn r j)) o h (refl, (refl, (refl, (refl, refl))))
-own_starts r j o (inr (inl h)) = starts_row (0 ∷ 2 ∷ r ∷ 2 ∷ []) j (row_at codes.Address (RouterOwn r j)) o h (refl, (refl, (refl, (refl, refl))))
-own_starts r j o (inr (inr (inl h))) = starts_row (0 ∷ 2 ∷ r ∷ 2 ∷ []) j (row_at codes.Prefix (RouterOwn r j)) o h (refl, (refl, (refl, (refl, refl))))
-own_starts r j o (inr (inr (inr (inl h)))) = starts_row (0 ∷ 2 ∷ r ∷ 2 ∷ []) j (row_at codes.Cost (RouterOwn r j)) o h (refl, (refl, (refl, (refl, refl))))
-own_starts r j o (inr (inr (inr (inr (inl h))))) = starts_row (0 ∷ 2 ∷ r ∷ 2 ∷ []) j (row_at codes.UnknownLink (RouterOwn r j)) o h (refl, (refl, (refl, (refl, refl))))
-own_starts r j o (inr (inr (inr (inr (inr (inl h)))))) = starts_row (0 ∷ 2 ∷ r ∷ 2 ∷ []) j (row_at codes.Limit (RouterOwn r j)) o h (refl, (refl, (refl, (refl, refl))))
-own_starts r j o (inr (inr (inr (inr (inr (inr h)))))) = absurd h
+own_starts r j o h = grind arith
 
 abbrev pub interfaces_rows : ℕ → Rows
 interfaces_rows r = each_rows (λ j. (interface_rows r j).has) (0 ∷ 2 ∷ r ∷ 1 ∷ []) (interface_starts r) 1
@@ -144,17 +126,12 @@ abbrev pub router_rows : ℕ → Rows
 router_rows r = row_then (row_at codes.Key (Router r)) (router_from_name r) (by_code (Router r) codes.Key codes.Name refl (omega arith))
 
 pub router_starts : (r : ℕ) (o : Found) → (router_rows r).has o → Starts (0 ∷ 2 ∷ []) r (ranked o)
-router_starts r o (inl h) = starts_row (0 ∷ 2 ∷ []) r (row_at codes.Key (Router r)) o h (refl, (refl, refl))
-router_starts r o (inr (inl h)) = starts_row (0 ∷ 2 ∷ []) r (row_at codes.Name (Router r)) o h (refl, (refl, refl))
-router_starts r o (inr (inr (inl h))) = starts_row (0 ∷ 2 ∷ []) r (row_at codes.DuplicateName (Router r)) o h (refl, (refl, refl))
-router_starts r o (inr (inr (inr (inl h)))) = starts_shorter (0 ∷ 2 ∷ []) r (1 ∷ []) h.0 (ranked o) (interface_starts r h.0 o h.2)
-router_starts r o (inr (inr (inr (inr h)))) = starts_shorter (0 ∷ 2 ∷ []) r (2 ∷ []) h.0 (ranked o) (own_starts r h.0 o h.2)
+router_starts r o h = grind arith
 
 -- ---- the later passes
 
 pub low_code : (n : ℕ) (c : PlanCode) (o : Found) → (o.pass ≡ n) × (o.error.code ≡ c) → Before (ranked o) (n ∷ []) → ⊥
-low_code n c o h (inl less) = let same : o.pass ≡ n = h.0 in omega arith
-low_code n c o h (inr later) = before_nil _ later.1
+low_code n c o h k = grind arith
 
 -- those of one code, in one pass
 abbrev pub code_rows : ℕ → PlanCode → Rows
@@ -190,8 +167,7 @@ abbrev pub table_rows : Rows
 table_rows = both_rows first_rows pass_rows (inl (omega arith))
 
 pub first_high : (o : Found) → first_rows.has o → Before (ranked o) (1 ∷ [])
-first_high o (inl (i, le, h)) = starts_high [] 0 (ranked o) 1 [] (omega arith) (starts_shorter [] 0 (1 ∷ []) i (ranked o) (link_starts i o h))
-first_high o (inr (r, le, h)) = starts_high [] 0 (ranked o) 1 [] (omega arith) (starts_shorter [] 0 (2 ∷ []) r (ranked o) (router_starts r o h))
+first_high o h = grind arith
 
 pub first_sooner : (o : Found) → first_rows.has o → o.pass < 5
 first_sooner o h = grind arith

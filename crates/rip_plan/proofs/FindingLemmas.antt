@@ -65,12 +65,10 @@ Finds F R (Err e) = (pass : ℕ) × F (record { pass = pass; error = e }) × R (
 -- other words for the faults and for the rows
 pub finds_in : {A : Type 0} (F G R S : Found → Type 0) (r : Result A PlanError) → ((e : Found) → F e → G e) → ((e : Found) → R e → S e) → ((o : Found) → S o → G o → F o × R o) → Finds F R r →
     Finds G S r
-finds_in F G R S (Ok x) give name take h = λ o s g. let (f, r) = take o s g in h o r f
-finds_in F G R S (Err e) give name take h = let o : Found = record { pass = h.0; error = e } in (h.0, give o h.1, name o h.2, λ o s g before. let (f, r) = take o s g in h.3 o r f before)
+finds_in F G R S r h k g w = grind arith
 
 skip : {A : Type 0} (F R : Found → Type 0) (e : Found) (r : Result A PlanError) → (F e → ⊥) → Finds F R r → Finds F (λ o. (o ≡ e) ⊎ R o) r
-skip F R e (Ok x) clear h = λ o row f. elim row [ inl same ↦ clear (subst F same f) | inr later ↦ h o later f ]
-skip F R e (Err d) clear h = (h.0, h.1, inr h.2, λ o row f before. elim row [ inl same ↦ clear (subst F same f) | inr later ↦ h.3 o later f before ])
+skip F R e r h k = grind arith
 
 pub guard_finds : {A : Type 0} (F : Found → Type 0) (t : Bool) (e : Found) (rows : Rows) → Before (ranked e) rows.floor → (r : Result A PlanError)
     → (t ≡ true → F e) → (t ≡ false → F e → ⊥) → (t ≡ false → Finds F rows.has r) → Finds F (λ o. (o ≡ e) ⊎ rows.has o) (cond t (Err e.error) r)

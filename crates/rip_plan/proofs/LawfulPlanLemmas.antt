@@ -59,12 +59,10 @@ in_range : (most c : ℕ) → (IsOutsideOf most (pos c) → ⊥) → (1 ≤ c) �
 in_range most c none = grind arith
 
 cost_good : (d : Data) (c : ℕ) → IsCostOf d c → (HasWrongCost d → ⊥) → (1 ≤ c) × (c ≤ 15)
-cost_good d c (inl given) none = in_range 15 c (λ out. none (pos c, given, out))
-cost_good d c (inr given) none = let one : c ≡ 1 = given.1 in (omega arith, omega arith)
+cost_good d c h k = grind arith
 
 direct_good : (d : Data) (c e : ℕ) → IsCostOf d c → (1 ≤ c) × (c ≤ 15) → IsDirectOf d c e → (HasWrongDirect d → ⊥) → (1 ≤ e) × (e ≤ c)
-direct_good d c e cost good (inl given) none = in_range c e (λ out. none (c, pos e, cost, good.0, good.1, given, out))
-direct_good d c e cost good (inr given) none = let same : e ≡ c = given.1 in (omega (arith, good.0), omega arith)
+direct_good d c e h k g w = grind arith
 
 -- ---- lists
 

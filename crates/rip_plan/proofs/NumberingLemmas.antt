@@ -29,10 +29,7 @@ pub same_flips : (p q : Block) → same_prefix p q ≡ same_prefix q p
 same_flips p q = grind arith
 
 pub none_same : (p : Block) (ps : List Block) → list_any (same_prefix p) ps ≡ false → list_any (λ q. same_prefix q p) ps ≡ false
-none_same p [] h = refl
-none_same p (q ∷ qs) h =
-    let parts = or_parts (same_prefix p q) (list_any (same_prefix p) qs) h in
-    rw (sym (same_flips p q) ∙ parts.0) (none_same p qs parts.1)
+none_same p ps h = grind arith
 
 -- the place has the number of its prefix, and the seat
 abbrev pub IsNumbered : List Block → Place → DraftPlace → Type 0
@@ -81,8 +78,7 @@ position_push test n (y ∷ ys) x =
     elim (cases_Bool (test y)) [ inl e ↦ rw e refl | inr e ↦ rw (e, position_push test (n + 1) ys x, same) refl ]
 
 pub or_nothing : {A : Type 0} (o : Option A) → option_or o None ≡ o
-or_nothing None = refl
-or_nothing (Some x) = refl
+or_nothing o = grind arith
 
 -- a prefix that is new gets the next number
 pub new_number : (ps : List Block) (d p : Block) → number_of_prefix d ps ≡ None → cond (same_prefix d p) (Some (length ps)) (number_of_prefix p ps) ≡ number_of_prefix p (ps ++ d ∷ [])

@@ -26,10 +26,7 @@ items_same key d xs ys (i, h, e) (j, k, f) = grind arith
 -- what stands there, or what is meant where nothing stands
 either_same : {A : Type 0} (o : Option Data) (make : A → Data) → ((x y : A) → make x ≡ make y → x ≡ y) → (b c : A) → b ≡ c → (x y : A)
     → (o ≡ Some (make x)) ⊎ ((o ≡ None) × (x ≡ b)) → (o ≡ Some (make y)) ⊎ ((o ≡ None) × (y ≡ c)) → x ≡ y
-either_same o make one b c e x y (inl h) (inl k) = one x y (same_Some (make x) (make y) (sym h ∙ k))
-either_same o make one b c e x y (inl h) (inr k) = absurd (none-some (make x) (sym k.0 ∙ h))
-either_same o make one b c e x y (inr h) (inl k) = absurd (none-some (make y) (sym h.0 ∙ k))
-either_same o make one b c e x y (inr h) (inr k) = h.1 ∙ e ∙ sym k.1
+either_same o make h b c k x y g e = grind arith
 
 one_number : (x y : ℕ) → integer (pos x) ≡ integer (pos y) → x ≡ y
 one_number x y same = let whole : pos x ≡ pos y = cc in cc
@@ -44,12 +41,7 @@ flag_same : (key : List ℕ) (d : Data) (b c : Bool) → b ≡ c → (x y : Bool
 flag_same key d b c e x y h k = either_same (get key d) boolean (λ x y same. cc) b c e x y h k
 
 link_same : (names others : List (List ℕ)) → names ≡ others → (d : Data) (l m : Option ℕ) → IsLinkOf names d l → IsLinkOf others d m → l ≡ m
-link_same names others same d None None h k = refl
-link_same names others same d None (Some m) h k = absurd (none-some _ (sym h ∙ k.1))
-link_same names others same d (Some l) None h k = absurd (none-some _ (sym k ∙ h.1))
-link_same names others same d (Some l) (Some m) h k =
-    let one : h.0 ≡ k.0 = text_same (codes_of "link") d h.0 k.0 h.1 k.1 in
-    ap (λ (n : ℕ). Some n) (one_named names h.0 k.0 l m one h.2 (subst (λ (ns : List (List ℕ)). IsFirstNamed ns k.0 m) (sym same) k.2))
+link_same names others h d l m k g = grind arith
 
 gateway_same : (laws : TextLaws) (d : Data) (a b : Option ℕ) → IsGatewayOf d a → IsGatewayOf d b → a ≡ b
 gateway_same laws d None None h k = refl

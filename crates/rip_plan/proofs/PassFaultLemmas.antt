@@ -179,8 +179,7 @@ clash_finds {A} F n c see xs spots stand ahead clash Clash gives takes told clea
 
 module _ (s : Sketch) where
   on_one : (seat other : Seat) → is_same_link seat other ≡ true → (l : ℕ) × (seat ≡ seats.Link l) × (other ≡ seats.Link l)
-  on_one (seats.Link l) (seats.Link m) h = let same : l ≡ m = grind (arith, nat_tests) in (l, refl, ap seats.Link (sym same))
-  on_one seat other h = absurd cc
+  on_one seat other h = grind arith
 
   meet_gives : (j k : ℕ) (y x : DraftPlace) → slice_get s.places j ≡ Some y → slice_get s.places k ≡ Some x → do_meet (touching s.interfaces y) (touching s.interfaces x) ≡ true
       → DoMeet (network_of_sketch s) j k
@@ -288,12 +287,7 @@ module _ (s : Sketch) where
 
   -- an own prefix whose router is not on its link
   astray_own : (seat : Seat) → is_astray s.interfaces seat ≡ true → (own : OwnPrefix) × (l : ℕ) × (seat ≡ seats.Own own) × (own.link ≡ Some l) × (is_there s.interfaces own.router l ≡ false)
-  astray_own (seats.Link l) h = absurd cc
-  astray_own (seats.Own own) h =
-      elim (cases_option own.link) [
-        | inl e ↦ let clash = rw e at h in absurd cc
-        | inr (l, e) ↦ (own, l, refl, e, not-true (is_there s.interfaces own.router l) (rw e at h))
-      ]
+  astray_own seat h = grind arith
 
   astray_gives : (k : ℕ) (d : DraftPlace) → slice_get s.places k ≡ Some d → is_astray s.interfaces d.seat ≡ true → IsAstray (network_of_sketch s) k
   astray_gives k d at h =

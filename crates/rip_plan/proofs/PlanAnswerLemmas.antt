@@ -28,8 +28,7 @@ direct_exact n laws r k o e c = (λ h. direct_gives n r k c (sym e ∙ h), λ h.
 
 -- a number that the plan does not have has no cost, and each cost is at least 1
 past_not : {a b r k : ℕ} → (a ≤ r) ⊎ (b ≤ k) → r < a → k < b → ⊥
-past_not (inl le) router prefix = omega arith
-past_not (inr le) router prefix = omega arith
+past_not h g e = grind arith
 
 pub direct_past : (n : Network) → IsLawful n → (r k : ℕ) → (length n.routers ≤ r) ⊎ (length n.prefixes ≤ k) → direct_at r k n.interfaces n.places ≡ None
 direct_past n laws r k past =

@@ -157,12 +157,10 @@ self_on : (l : ℕ) (q : DraftPlace) → q.seat ≡ seats.Link l → is_on l q.s
 self_on l q e = rw e (grind (arith, nat_tests))
 
 not_both : (a b : Bool) → (a && not b) ≡ false → a ≡ true → b ≡ true
-not_both true true e h = refl
-not_both a b e h = absurd cc
+not_both a b h k = grind arith
 
 both_not : (a b : Bool) → (a && not b) ≡ true → (a ≡ true) × (b ≡ false)
-both_not true false e = (refl, refl)
-both_not a b e = absurd cc
+both_not a b h = grind arith
 
 -- the prefixes of a link are those of the places on it
 module _ (laws : TextLaws) (links done : List Data) (poison : Bool) (v : Sketch) (read : TablesRead links done poison v)

@@ -52,15 +52,13 @@ abbrev pub numbered_items : List ℕ → ℕ → Data → List (ℕ × Data)
 numbered_items key n d = map (with_number n) (items_in (get key d))
 
 pub items_flat : (key : List ℕ) (n : ℕ) (ds : List Data) → items_under key n ds ≡ flat (numbered_items key) n ds
-items_flat key n [] = refl
-items_flat key n (d ∷ ds) = ap (λ (l : List (ℕ × Data)). numbered_items key n d ++ l) (items_flat key (n + 1) ds)
+items_flat key n ds = grind arith
 
 abbrev spots_in : List ℕ → (ℕ → ℕ → At) → ℕ → Data → List At
 spots_in key at i d = spots_of (at i) 1 (items_in (get key d))
 
 spots_flat : (key : List ℕ) (at : ℕ → ℕ → At) (i : ℕ) (ds : List Data) → spots_under key at i ds ≡ flat (spots_in key at) i ds
-spots_flat key at i [] = refl
-spots_flat key at i (d ∷ ds) = ap (λ (l : List At). spots_in key at i d ++ l) (spots_flat key at (i + 1) ds)
+spots_flat key at i ds = grind arith
 
 same_counts : (key : List ℕ) (at : ℕ → ℕ → At) (i n : ℕ) (d : Data) → length (spots_in key at i d) ≡ length (numbered_items key n d)
 same_counts key at i n d = count_of (at i) 1 (items_in (get key d)) ∙ sym (length-map (items_in (get key d)) (with_number n))
@@ -124,8 +122,7 @@ under_ahead key at order i ds k m a b less h g =
     (order (i + u.i) (1 + u.j) (i + v.i) (1 + v.j) (elim (in_order (spots_in key at) i ds k m a b u v less) [ inl before ↦ inl (omega arith) | inr (same, before) ↦ inr (omega arith, omega arith) ]))
 
 ordered : (at : ℕ → ℕ → At) (part group : ℕ) → ((i j : ℕ) → position (at i j) ≡ part ∷ i ∷ group ∷ j ∷ []) → Ordered at
-ordered at part group places i j n m (inl h) = rw (places i j, places n m) (inr (refl, inl h))
-ordered at part group places i j n m (inr h) = rw (places i j, places n m) (inr (refl, inr (h.0, inr (refl, inl h.1))))
+ordered at part group h = grind arith
 
 pub interface_ahead : (routers : List Data) (k m : ℕ) (a b : At) → k < m → slice_get (interface_spots routers) k ≡ Some a → slice_get (interface_spots routers) m ≡ Some b → Ahead a b
 interface_ahead routers k m a b less h g = under_ahead (codes_of "interface") RouterInterface (ordered RouterInterface 2 1 (λ i j. refl)) 1 routers k m a b less h g

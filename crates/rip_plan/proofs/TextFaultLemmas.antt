@@ -85,14 +85,12 @@ kind bytes pass c place (inr h) = absurd h.0
 
 -- a fault of a place where nothing is astray
 in_table : (bytes : List ℕ) (pass : ℕ) (c : PlanCode) (place : At) → (AstrayAt bytes place → ⊥) → IsFound bytes pass (fault c place) → FaultAt bytes c place
-in_table bytes pass c place none (inl h) = h.0
-in_table bytes pass c place none (inr h) = absurd (none h.0)
+in_table bytes pass c place h k = grind arith
 
 -- ---- the version
 
 pub version_is : (o : Option Data) → is_version o ≡ true → o ≡ Some (integer (pos 1))
-version_is (Some (integer (pos n))) h = let one : n ≡ 1 = grind (arith, nat_tests) in ap (λ (m : ℕ). Some (integer (pos m))) one
-version_is o h = absurd cc
+version_is o h = grind arith
 
 pub version_told : (o : Option Data) → not (is_version o) ≡ true → o ≢ Some (integer (pos 1))
 version_told o h same = both_ways (is_version o) (not-true (is_version o) h) (ap is_version same)
@@ -108,11 +106,7 @@ module _ (bytes : List ℕ) (document : Members) (links routers : List Data) (ha
   one_tables other ls rs h = grind arith
 
   pub whole_fault : (c : PlanCode) (place : At) → TableFault document links routers c place → FaultAt bytes c place
-  whole_fault codes.Syntax Text h = absurd h
-  whole_fault codes.Version Version h = absurd h
-  whole_fault codes.Key Text h = absurd h
-  whole_fault codes.Limit Text h = absurd h
-  whole_fault c place h = (document, links, routers, has, h)
+  whole_fault c place h = grind arith
 
   pub one_fault : (c : PlanCode) (place : At) (other : Members) (ls rs : List Data) → HasTables bytes other ls rs → TableFault other ls rs c place → TableFault document links routers c place
   one_fault c place other ls rs h f = subst (λ (t : Members × List Data × List Data). TableFault t.0 t.1 t.2 c place) (one_tables other ls rs h) f
@@ -260,8 +254,7 @@ code_from n =
 
 code_back : (c : PlanCode) → code_from (number_of_code c) ≡ c
 unfolding code_from
-code_back codes.Syntax = refl
-code_back c = refl
+code_back c = grind arith
 
 error_from : List ℕ → PlanError
 error_from (pass ∷ part ∷ i ∷ group ∷ j ∷ code ∷ []) =
@@ -281,8 +274,7 @@ from_rank bytes pass c Text (inr h) = absurd h.0
 from_rank bytes pass c place h = ap (λ (d : PlanCode). fault d place) (code_back c)
 
 rank_length : (pass : ℕ) (c : PlanCode) (place : At) → length (rank pass (fault c place)) ≡ 6
-rank_length pass c (Link i) = omega arith
-rank_length pass c place = omega arith
+rank_length pass c place = grind arith
 
 pub fault_first : (laws : TextLaws) (bytes : List ℕ) (e : PlanError) → sketch_of bytes ≡ Err e → PlanFault bytes e
 fault_first laws bytes e h =

@@ -120,10 +120,7 @@ owners_of-requires-clause-few_prefixes c =
     few c.in_ok-prefixes.prefixes.items c.as_slice-2.result.now c.args.draft.places.items c.len-8.result c.in_ok-prefixes.ensures.few c.as_slice-2.ensures.value c.requires.few_places (omega arith)
 
 pub owners_of-requires-clause-few_places : goal.owners_of-requires-clause-few_places
-owners_of-requires-clause-few_places c =
-    let n : Network = network_of_sketch (sketch c.args.draft) in
-    let places : c.as_slice-12.result.now ≡ n.places = c.as_slice-12.ensures.value ∙ places_are c.in_ok-prefixes.ensures.parts c.as_slice-2.ensures.value in
-    omega (arith, ap length places, c.requires.few_places)
+owners_of-requires-clause-few_places c = grind arith
 
 pub owners_of-requires-clause-prefixes : goal.owners_of-requires-clause-prefixes
 owners_of-requires-clause-prefixes c =
