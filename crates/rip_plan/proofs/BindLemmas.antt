@@ -1,5 +1,5 @@
 -- What a chain of steps that came to its end passed through.
-use Rattle.std.proofs.Common.{◌≡◌, Bool, true, false, cond, Option, Some, None, Result, Ok, Err, refl, arith}
+use Rattle.std.proofs.Common.{◌≡◌, Bool, false, cond, Option, Some, Result, Ok, Err, arith}
 use Rattle.rip_plan.specs.declared.error.PlanError.{PlanError}
 use Rattle.rip_plan.specs.Fault.{◌>>=◌, wanted}
 

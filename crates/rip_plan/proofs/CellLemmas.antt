@@ -1,5 +1,5 @@
 -- Rows of w cells, one after another in one list, as they are written and read.
-use Rattle.std.proofs.Common.{◌≡◌, ℕ, inl, inr, ◌+◌, ◌*◌, ◌<◌, List, [], ◌∷◌, ◌++◌, length, take, drop, get_or, append_assoc, length-append, Bool, true, false, cond, ◌&&◌, Option, Some, None, refl, sym, arith, eqb}
+use Rattle.std.proofs.Common.{◌≡◌, ℕ, inl, inr, ◌+◌, ◌*◌, ◌<◌, List, [], ◌∷◌, ◌++◌, length, take, drop, get_or, append_assoc, length-append, Bool, cond, ◌&&◌, Option, Some, None, refl, sym, arith, eqb}
 use Rattle.std.proofs.Math.ListN.{set}
 use Rattle.std.specs.Prelude.{slice_get, ◌==◌, unwrap_or}
 use Rattle.std.specs.List.{All}

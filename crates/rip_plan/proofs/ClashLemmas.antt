@@ -178,9 +178,6 @@ module _ {A : Type 0} (test : A → Bool) (xs : List A) (k : ℕ) (x : A) (lt : 
 
 -- ---- the first router without an interface
 
-pub bare_here : (interfaces : List DraftInterface) (n k : ℕ) (total : Option ℕ) → k < n → is_bare interfaces k ≡ true → first_bare interfaces k (n - k) ≡ total → Some k ≡ total
-bare_here interfaces n k total lt bare so_far = grind arith
-
 pub bare_later : (interfaces : List DraftInterface) (n k : ℕ) (total : Option ℕ) → k < n → is_bare interfaces k ≡ false → first_bare interfaces k (n - k) ≡ total →
     first_bare interfaces (k + 1) (n - (k + 1)) ≡ total
 bare_later interfaces n k total lt bare so_far =

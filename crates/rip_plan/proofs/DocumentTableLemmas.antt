@@ -150,9 +150,6 @@ pub record HasRootFields (doc : Members) (links routers : List Data) (poison : B
   pub has_poison : IsPoisonOf true (table doc) poison
   pub shape : IsRoot doc
 
-some_items_same : (xs ys : List Data) → some_items xs ≡ Some ys → xs ≡ ys
-some_items_same xs ys h = grind arith
-
 some_there : (o : Option Data) (xs : List Data) → (option_map list_of (option_and_then as_array o) &> some_items) ≡ Some xs → (items : Items) × (o ≡ Some (array items)) × (list_of items ≡ xs)
 some_there o xs h = grind arith
 

@@ -12,8 +12,8 @@ use Rattle.rip_plan.specs.Fault.{fault, wanted, ◌>>=◌}
 use Rattle.rip_plan.specs.PlanFaults.{Before, position, pass_of, TableFault, IsItem, IsSo, IsAstray, place_spots}
 use Rattle.rip_plan.specs.PlanOf.{PlanOf}
 use Rattle.rip_plan.specs.Network.{Network}
-use Rattle.rip_plan.proofs.OrderLemmas.{before_nil, Starts, starts_high}
-use Rattle.rip_plan.proofs.FindingLemmas.{Found, ranked, row_at, Rows, no_rows, row_then, both_rows, each_rows, Finds, finds_in, guard_finds, want_both, want_finds}
+use Rattle.rip_plan.proofs.OrderLemmas.{Starts, starts_high}
+use Rattle.rip_plan.proofs.FindingLemmas.{Found, ranked, row_at, Rows, no_rows, row_then, both_rows, each_rows, Finds, guard_finds, want_both, want_finds}
 use Rattle.rip_plan.proofs.SpotLemmas.{nth_from, item_from, prefix_item, own_item, interface_item}
 use Rattle.rip_plan.proofs.FurtherAddressLemmas.{also_item}
 
@@ -24,9 +24,6 @@ before_after (q ∷ p) n m h = inr (refl, before_after p n m h)
 -- at one place by the code
 pub by_code : (place : At) (c d : PlanCode) → pass_of c ≡ pass_of d → number_of_code c < number_of_code d → Before (ranked (row_at c place)) (ranked (row_at d place))
 by_code place c d same less = inr (same, before_after (position place) (number_of_code c) (number_of_code d) less)
-
-starts_row : (p : List ℕ) (n : ℕ) (e o : Found) → o ≡ e → Starts p n (ranked e) → Starts p n (ranked o)
-starts_row p n e o same h = subst (λ (x : Found). Starts p n (ranked x)) (sym same) h
 
 pub starts_shorter : (p : List ℕ) (n : ℕ) (q : List ℕ) (m : ℕ) (xs : List ℕ) → Starts (p ++ n ∷ q) m xs → Starts p n xs
 starts_shorter [] n q m (x ∷ xs) h = h.0

@@ -1,6 +1,6 @@
 -- The addresses of interfaces in one list, in which order they stand, and what is found there.
 use Rattle.std.proofs.Common.{◌≡◌, ℕ, zero, suc, ◌+◌, inl, inr, List, [], ◌∷◌, ◌++◌, true, Some, None, refl, sym, ◌∙◌, ap, arith, ◌<◌, ◌⊎◌}
-use Rattle.std.proofs.lemmas.Bool.{and_from, and_parts, cases_Bool, eq-eqb, eqb-true}
+use Rattle.std.proofs.lemmas.Bool.{and_from, cases_Bool, eq-eqb}
 use Rattle.std.specs.Prelude.{slice_get, ◌==◌}
 use Rattle.std.proofs.lemmas.Option.{none-some, same_Some}
 use Rattle.rip_plan.specs.declared.addresses.Held.{Held}

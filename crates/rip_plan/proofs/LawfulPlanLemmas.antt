@@ -1,5 +1,5 @@
 -- A plan without a fault keeps the laws.
-use Rattle.std.proofs.Common.{◌≡◌, ℕ, zero, suc, ◌+◌, ◌^◌, ◌<◌, ◌≤◌, ◌⊎◌, inl, inr, List, [], ◌∷◌, ◌++◌, length, map, Bool, true, false, ◌&&◌, Some, Result, Ok, refl, sym, ◌∙◌, ap, subst, arith}
+use Rattle.std.proofs.Common.{◌≡◌, ℕ, zero, suc, ◌+◌, ◌^◌, ◌<◌, ◌≤◌, ◌⊎◌, inl, inr, List, [], ◌∷◌, ◌++◌, length, map, Bool, true, false, ◌&&◌, Some, Ok, refl, sym, ◌∙◌, ap, subst, arith}
 use Rattle.std.specs.Prelude.{◌==◌, pos, slice_get, codes as codes_of}
 use Rattle.std.specs.List.{IsDistinct, list_any}
 use Rattle.std.proofs.lemmas.Bool.{and_parts, cases_lt, both_ways, cases_Bool, eq-eqb, eqb-true}
@@ -19,7 +19,7 @@ use Rattle.rip_plan.specs.declared.parts.Seat.{Seat}
 use Rattle.rip_plan.specs.declared.parts.Seat.TheVariants as seats
 use Rattle.rip_plan.specs.DocumentTables.{Has, IsSomeList}
 use Rattle.rip_plan.specs.Draft.{Sketch, has_address}
-use Rattle.rip_plan.specs.Fault.{◌>>=◌, fault}
+use Rattle.rip_plan.specs.Fault.{fault}
 use Rattle.rip_plan.specs.Fields.{list_of}
 use Rattle.rip_plan.specs.Network.{Network, cost_on, is_of, network_of_sketch}
 use Rattle.rip_plan.specs.Passes.{same_prefix}
@@ -54,9 +54,6 @@ names_good laws names ds named none k name h =
     ]
 
 -- ---- costs
-
-in_range : (most c : ℕ) → (IsOutsideOf most (pos c) → ⊥) → (1 ≤ c) × (c ≤ most)
-in_range most c none = grind arith
 
 cost_good : (d : Data) (c : ℕ) → IsCostOf d c → (HasWrongCost d → ⊥) → (1 ≤ c) × (c ≤ 15)
 cost_good d c h k = grind arith

@@ -15,8 +15,6 @@ use Rattle.rip_wire.specs.Address.{address_in}
 use Rattle.rip_wire.specs.Name.{is_name}
 use Rattle.rip_plan.specs.Names.{is_one_of, number_of_name}
 use Rattle.rip_plan.specs.Passes.{second_passes}
-use Rattle.std.proofs.lemmas.Bool.{or_parts}
-use Rattle.std.proofs.lemmas.Bool.Decides.{nat_tests}
 use Rattle.rip_plan.specs.Fault.{fault, ◌>>=◌, steps}
 use Rattle.rip_plan.specs.Fields.{◌&>◌, link_fields, interface_fields, own_fields, router_fields, root_fields, cost_of, direct_of, addresses_in, address_if, link_if, is_version}
 use Rattle.rip_plan.specs.Draft.{Sketch, prefix_step, link_step, interface_step, own_step, router_step, is_outside, is_full, with_interface, with_place}

@@ -31,7 +31,7 @@ use Rattle.rip_plan.proofs.FurtherAddressLemmas.{also_here, also_in, also_items,
 use Rattle.rip_plan.proofs.OrderLemmas.{starts_high}
 use Rattle.rip_plan.proofs.SpotLemmas.{with_number, nth_from, place_once, interface_once, own_here, under_here, nth_here, item_once, count_of}
 use Rattle.rip_plan.proofs.ItemLemmas.{any_at, any_finds, position_none, get_seen, see_got, get_left}
-use Rattle.rip_plan.proofs.TableLemmas.{IsTextIf, addresses_told, addresses_clear, cost_fits, direct_fits, direct_is, direct_within, gateway_fits, gateway_is, link_is, map_none, cost_is, cost_within, cost_told, direct_told, gateway_told, IsReadOf, addresses_read}
+use Rattle.rip_plan.proofs.TableLemmas.{IsTextIf, addresses_told, addresses_clear, cost_fits, gateway_fits, gateway_is, link_is, map_none, cost_is, cost_within, cost_told, direct_told, gateway_told, IsReadOf, addresses_read}
 use Rattle.std.proofs.lemmas.List.{map-append}
 use Rattle.rip_plan.proofs.MatchingLemmas.{matched_left, matched_length, matched_right}
 use Rattle.rip_plan.proofs.OnePlanLemmas.{text_same}

@@ -1,20 +1,18 @@
 -- What the tables of a document hold, where their fields were read.
-use Rattle.std.proofs.Common.{◌≡◌, ℕ, zero, suc, ◌≤◌, ◌⊎◌, inl, inr, List, [], ◌∷◌, Bool, true, false, cond, Option, Some, None, refl, sym, ◌∙◌, ap, subst, arith}
-use Rattle.std.specs.Prelude.{ℤ, pos, negsuc, is_some, option_and_then, option_map, slice_get, unwrap_or, codes as codes_of}
+use Rattle.std.proofs.Common.{◌≡◌, ℕ, zero, suc, ◌≤◌, ◌⊎◌, inl, inr, List, [], ◌∷◌, Bool, true, cond, Option, Some, None, refl, sym, ◌∙◌, ap, subst, arith}
+use Rattle.std.specs.Prelude.{ℤ, pos, is_some, option_and_then, option_map, slice_get, unwrap_or, codes as codes_of}
 use Rattle.std.specs.List.{list_all}
-use Rattle.std.proofs.lemmas.Option.{none-some, same_Some, cond_some}
-use Rattle.std.proofs.lemmas.Bool.Decides.{nat_tests}
+use Rattle.std.proofs.lemmas.Option.{none-some, same_Some}
 use Rattle.toml.specs.Data.{Data, Items, Members, string, integer, boolean, array, table, get, as_bool, as_str, as_integer, as_array, as_table}
 use Rattle.rip_wire.specs.Address.{address_in}
-use Rattle.rip_plan.specs.Fields.{◌&>◌, list_of, items_if, integer_if, flag_if, text_if, address_if, link_if, addresses_in, is_between, cost_of, direct_of}
+use Rattle.rip_plan.specs.Fields.{◌&>◌, list_of, items_if, integer_if, flag_if, text_if, address_if, link_if, addresses_in, cost_of, direct_of}
 use Rattle.rip_plan.specs.Names.{number_of_name}
 use Rattle.rip_plan.specs.PlanOf.{IsAddressOf, IsCostOf, IsDirectOf, IsGatewayOf, IsLinkOf, Matched, items_in}
 use Rattle.rip_plan.specs.PlanFaults.{HasNoAddress, HasWrongCost, HasWrongDirect, IsOutsideOf}
 use Rattle.std.proofs.lemmas.Bool.{and_parts}
 use Rattle.rip_plan.proofs.ItemLemmas.{cases_option}
 use Rattle.rip_plan.proofs.MatchingLemmas.{matched_right, matched_weaker}
-use Rattle.rip_plan.proofs.OnePlanLemmas.{cost_same, text_same}
-use Rattle.rip_plan.proofs.TextLemmas.{TextLaws, address_is, no_address, first_named}
+use Rattle.rip_plan.proofs.TextLemmas.{TextLaws, address_is, first_named}
 use Rattle.rip_plan.specs.Texts.{IsAddressText, IsNoAddress}
 
 pub then_some : {A B : Type 0} (o : Option A) (f : A → Option B) (y : B) → (o &> f) ≡ Some y → (x : A) × (o ≡ Some x) × (f x ≡ Some y)
@@ -54,11 +52,6 @@ map_some o given h = grind arith
 
 pub map_none : {A : Type 0} (o : Option A) → ◌≡◌ {A = Option (Option A)} (option_map Some o) None → o ≡ None
 map_none o h = grind arith
-
--- an integer that stands there, or the one that is meant where nothing stands
-given_is : (o : Option Data) (given : Option ℤ) (f : Option ℤ → Option ℕ) (c none : ℕ) → f None ≡ Some none → ((z : ℤ) → f (Some z) ≡ Some c → z ≡ pos c) → integer_if o ≡ Some given → f given ≡ Some c
-    → (o ≡ Some (integer (pos c))) ⊎ ((o ≡ None) × (c ≡ none))
-given_is o given f c none h k g e = grind arith
 
 pub cost_is : (o : Option Data) (given : Option ℤ) (c : ℕ) → integer_if o ≡ Some given → cost_of given ≡ Some c → (o ≡ Some (integer (pos c))) ⊎ ((o ≡ None) × (c ≡ 1))
 cost_is o given c h e = grind arith
@@ -117,14 +110,8 @@ direct_told cost o given h e = let (z, is, none) = integer_told (direct_of cost)
 
 -- ---- costs that may stand
 
-given_within : (most : ℕ) (z : ℤ) (c : ℕ) → direct_of most (Some z) ≡ Some c → (1 ≤ c) × (c ≤ most)
-given_within most z c h = grind arith
-
 pub cost_within : (o : Option ℤ) (c : ℕ) → cost_of o ≡ Some c → (1 ≤ c) × (c ≤ 15)
 cost_within o c h = grind arith
-
-pub direct_within : (cost : ℕ) (o : Option ℤ) (c : ℕ) → 1 ≤ cost → direct_of cost o ≡ Some c → (1 ≤ c) × (c ≤ cost)
-direct_within cost o c h k = grind arith
 
 pub cost_fits : (d : Data) (c : ℕ) → IsCostOf d c → (1 ≤ c) × (c ≤ 15) → HasWrongCost d → ⊥
 cost_fits d c h k g = grind arith

@@ -1,6 +1,6 @@
 -- The first fault of a text is the one that is told, and a text that is read has none.
 use Rattle.std.proofs.Common.{◌≡◌, ◌≢◌, ℕ, ◌<◌, ◌≤◌, ◌⊎◌, ◌↔◌, inl, inr, List, [], ◌∷◌, length, Bool, true, false, cond, not, ◌||◌, Option, Some, None, Result, Ok, Err, refl, sym, ap, subst, ◌∙◌, arith}
-use Rattle.std.proofs.lemmas.Bool.{both_ways, cases_Bool, or_cases, or_parts, not-false, not-true}
+use Rattle.std.proofs.lemmas.Bool.{both_ways, cases_Bool, not-false, not-true}
 use Rattle.std.specs.Prelude.{pos, nat_lt, ◌==◌, codes as codes_of}
 use Rattle.std.specs.Result.{result_err}
 use Rattle.std.proofs.lemmas.Option.{none-some, same_Some}
@@ -18,7 +18,7 @@ use Rattle.rip_plan.specs.Fault.{fault, ◌>>=◌, steps, wanted}
 use Rattle.rip_plan.specs.Fields.{is_version, root_fields}
 use Rattle.rip_plan.specs.Network.{network_of_sketch}
 use Rattle.rip_plan.specs.Passes.{second_passes}
-use Rattle.rip_plan.specs.PlanOf.{HasItems, PlanOf}
+use Rattle.rip_plan.specs.PlanOf.{PlanOf}
 use Rattle.rip_plan.specs.PlanText.{empty, document_of, sketch_of_document, sketch_of}
 use Rattle.rip_plan.specs.PlanFaults.{IsText, HasTables, TableFault, FaultAt, AstrayAt, IsFound, IsFault, PlanFault, Before, pass_of, rank, place_spots}
 use Rattle.rip_plan.proofs.BindLemmas.{bind_ok}

@@ -1,7 +1,5 @@
-use Rattle.std.proofs.Common.{◌+◌, ap, not, sym, ◌∙◌, arith}
-use Rattle.std.specs.Prelude.{option_map}
-use Rattle.rip_plan.specs.declared.error.At.TheVariants.{Router}
-use Rattle.rip_plan.proofs.ClashLemmas.{bare_here, bare_later}
+use Rattle.std.proofs.Common.{ap, not, sym, ◌∙◌, arith}
+use Rattle.rip_plan.proofs.ClashLemmas.{bare_later}
 use Rattle.rip_plan.proofs.passes.first_without_interface.Goals as goal
 
 pub returns-then-not-has_interface : goal.returns-then-not-has_interface
