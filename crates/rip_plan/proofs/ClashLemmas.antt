@@ -34,13 +34,11 @@ first_passing {A} test (y ∷ ys) = by_test (test y) refl (find test ys) (first_
     by_test false e None later = none
       where
         none : (k : ℕ) (x : A) → slice_get (y ∷ ys) k ≡ Some x → test x ≡ true → ⊥
-        none zero x at passes = not_here x e at passes
-        none (suc k) x at passes = later k x at passes
+        none k x h g = grind arith
     by_test false e (Some z) later = (suc later.0, later.1, later.2, before)
       where
         before : (m : ℕ) (x : A) → m < suc later.0 → slice_get (y ∷ ys) m ≡ Some x → test x ≡ true → ⊥
-        before zero x less at passes = not_here x e at passes
-        before (suc m) x less at passes = later.3 m x (omega arith) at passes
+        before m x h k g = grind arith
 
 pub find_gives : {A : Type 0} (test : A → Bool) (xs : List A) (x : A) → find test xs ≡ Some x → (k : ℕ) × (slice_get xs k ≡ Some x) × (test x ≡ true)
 find_gives test xs x h = let first = subst (FirstSo (Passes test) xs) h (first_passing test xs) in (first.0, first.1, first.2)

@@ -24,8 +24,7 @@ member_at : (key l : List ℕ) (d : Data) (ms : Members) → get_member key (mem
 member_at key l d ms = by_order (slice_cmp nat_cmp key l) ∙ ap (λ (b : Bool). cond b (Some d) (get_member key ms)) (is_eq-slice_cmp key l)
   where
     by_order : (o : Ordering) → match_ordering o (get_member key ms) (Some d) (get_member key ms) ≡ cond (is_eq o) (Some d) (get_member key ms)
-    by_order Less = refl
-    by_order o = refl
+    by_order o = grind arith
 
 keys_only : (keys : List (List ℕ)) (ms : Members) → has_only keys ms ≡ true → HasOnly keys (table ms)
 keys_only keys no_members h key value at = absurd (none-some value at)
@@ -107,8 +106,7 @@ some_given : (o : Option Data) → HasAt o IsSomeList → (xs : List Data) × ((
 some_given o (d, is, (items, array_of, some)) = (list_of items, rw (is, array_of) (itself (list_of items) some))
   where
     itself : (ys : List Data) → ys ≢ [] → some_items ys ≡ Some ys
-    itself [] e = absurd (e refl)
-    itself (y ∷ ys) e = refl
+    itself ys h = grind arith
 
 integer_given : (o : Option Data) → MayHaveAt o IsInteger → (given : Option ℤ) × (integer_if o ≡ Some given)
 integer_given None may = (None, refl)

@@ -137,15 +137,10 @@ steps_from {S} {A} F step R p starts all s each past (x ∷ xs) done u k e split
     (steps_push step 1 done x s u t k e taken is)))
   where
     name : (o : Found) → R k o ⊎ Each R (k + 1) o → Each R k o
-    name o (inl here) = (k, omega arith, here)
-    name o (inr (m, le, later)) = (m, omega arith, later)
+    name o h = grind arith
 
     split_row : (o : Found) → Each R k o → R k o ⊎ Each R (k + 1) o
-    split_row o (m, le, row) =
-        elim (cases_lt k m) [
-          | inl less ↦ inr (m, omega arith, row)
-          | inr ge ↦ let same : m ≡ k = omega arith in inl (subst (λ (n : ℕ). R n o) same row)
-        ]
+    split_row o h = grind arith
 
 pub steps_finds : {S A : Type 0} (F : Found → Type 0) (step : ℕ → A → S → Result S PlanError) (R : ℕ → Found → Type 0) (p : List ℕ) → ((n : ℕ) (o : Found) → R n o → Starts p n (ranked o))
     → (all : List A) (s : S) → FindsAt F step R all s → ((m : ℕ) (o : Found) → length all < m → R m o → F o → ⊥)

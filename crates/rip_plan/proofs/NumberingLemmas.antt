@@ -100,10 +100,7 @@ new_push : (ps : List Block) (b q : Block) → is_new (ps ++ b ∷ []) q ≡ (no
 new_push ps b q = ap not (list_any-append (λ p. same_prefix p q) ps (b ∷ [])) ∙ by_tests (list_any (λ p. same_prefix p q) ps) (same_prefix b q)
   where
     by_tests : (a c : Bool) → not (a || (c || false)) ≡ (not c && not a)
-    by_tests true true = refl
-    by_tests true false = refl
-    by_tests false true = refl
-    by_tests false false = refl
+    by_tests a c = grind arith
 
 -- a prefix that is new among prefixes that have b is not b
 new_other : (ps : List Block) (b q : Block) → is_new ps b ≡ false → is_new ps q ≡ (not (same_prefix b q) && is_new ps q)

@@ -40,9 +40,7 @@ before_or (x ∷ xs) (y ∷ ys) e =
     ]
   where
     tails : x ≡ y → ((xs ≡ ys) ⊎ Before xs ys) ⊎ Before ys xs → ((x ∷ xs ≡ y ∷ ys) ⊎ Before (x ∷ xs) (y ∷ ys)) ⊎ Before (y ∷ ys) (x ∷ xs)
-    tails same (inl (inl h)) = inl (inl (rw (same, h) refl))
-    tails same (inl (inr h)) = inl (inr (inr (same, h)))
-    tails same (inr h) = inr (inr (sym same, h))
+    tails h k = grind arith
 
 -- the numbers start with p, and then n
 abbrev pub Starts : List ℕ → ℕ → List ℕ → Type 0

@@ -478,8 +478,7 @@ module _ (laws : TextLaws) (document : Members) (links routers : List Data) (s :
     where
       take : (o : Found) → (o.pass ≡ 5) × (o.error.code ≡ codes.UnknownLink) → IsOfTables document links routers o
           → IsLast document links routers o × ((o.pass ≡ 5) × (o.error.code ≡ codes.UnknownLink))
-      take o row (inl f) = let late : o.pass ≡ 5 = row.0 in let early : o.pass ≡ 0 = f.1 ∙ ap pass_of row.1 in absurd (omega arith)
-      take o row (inr f) = (f, row)
+      take o h k = grind arith
 
   pub passes_find : Finds (IsOfTables document links routers) pass_rows.has (second_passes s)
   unfolding second_passes

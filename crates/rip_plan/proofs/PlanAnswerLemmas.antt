@@ -65,14 +65,10 @@ pub none_attached : (r k : ℕ) (places : List Place) → list_any (λ (q : Plac
 none_attached r k places h = by_seat (own_seat r k places) (none_kept r k places h)
   where
     no_link : (kept : Bool) (link : Option ℕ) → (kept || is_some link) ≡ false → link ≡ None
-    no_link true link e = absurd cc
-    no_link false (Some l) e = absurd cc
-    no_link false None e = refl
+    no_link kept link h = grind arith
 
     by_seat : (o : Option Seat) → option_map_or is_kept o false ≡ false → option_and_then link_of o ≡ None
-    by_seat None e = refl
-    by_seat (Some (seats.Link l)) e = refl
-    by_seat (Some (seats.Own own)) e = no_link own.kept own.link e
+    by_seat o h = grind arith
 
 pub own_past : (n : Network) → IsLawful n → (r k : ℕ) → (length n.routers ≤ r) ⊎ (length n.prefixes ≤ k) → own_seat r k n.places ≡ None
 own_past n laws r k past =

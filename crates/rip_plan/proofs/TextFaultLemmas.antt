@@ -56,8 +56,7 @@ module _ (laws : TextLaws) (document : Members) (links routers : List Data) (poi
       then_ok F s (second_passes s) (passes_find laws document links routers s plan read.places_stand read.interfaces_stand spots))
     where
       then_ok : (F : Found → Type 0) (s : Sketch) (r : Result (Unit {0}) PlanError) → Finds F pass_rows.has r → Finds F pass_rows.has (r >>= (λ _. Ok s))
-      then_ok F s (Ok x) h = h
-      then_ok F s (Err e) h = h
+      then_ok F s r h = grind arith
 
 -- ---- the document
 
@@ -195,8 +194,7 @@ module _ (laws : TextLaws) (bytes : List ℕ) (document : Members) (short : leng
 
       by_fault : (links routers : List Data) (o : Found) → table_rows.has o → Before (ranked o) (0 ∷ 1 ∷ 1 ∷ []) ⊎ IsOfTables document links routers o
           → IsOfTables document links routers o × table_rows.has o
-      by_fault links routers o here (inl before) = absurd (table_rows.low o here before)
-      by_fault links routers o here (inr t) = (t, here)
+      by_fault links routers o h k = grind arith
 
   row_covered : (c : PlanCode) (place : At) → FaultAt bytes c place → from_version.has (row_at c place)
   row_covered codes.Syntax Text h = absurd (none-some document (sym h.1 ∙ reads))
@@ -225,20 +223,13 @@ text_finds laws bytes =
     ]
   where
     past_long : 1048576 < length bytes → (o : Found) → Kind bytes o → Before (ranked o) (ranked (row_at codes.Limit Text)) → ⊥
-    past_long more o (long same) before = before_not (ranked (row_at codes.Limit Text)) (subst (λ (e : Found). Before (ranked e) (ranked (row_at codes.Limit Text))) same before)
-    past_long more o (not_document same short none) before = omega arith
-    past_long more o (of_document d t) before = let short : length bytes ≤ 1048576 = t.short in omega arith
+    past_long h o k g = grind arith
 
     not_first : Before (ranked (row_at codes.Limit Text)) (ranked (row_at codes.Syntax Text)) → ⊥
-    not_first b =
-        let late = ranked (row_at codes.Limit Text) in
-        before_not late (before_trans late (ranked (row_at codes.Syntax Text)) late b (by_code Text codes.Syntax codes.Limit refl (omega arith)))
+    not_first h = grind arith
 
     past_syntax : document_of bytes ≡ None → (o : Found) → Kind bytes o → Before (ranked o) (ranked (row_at codes.Syntax Text)) → ⊥
-    past_syntax none o (long same) before = not_first (subst (λ (e : Found). Before (ranked e) (ranked (row_at codes.Syntax Text))) same before)
-    past_syntax none o (not_document same short none') before = before_not (ranked (row_at codes.Syntax Text))
-        (subst (λ (e : Found). Before (ranked e) (ranked (row_at codes.Syntax Text))) same before)
-    past_syntax none o (of_document d t) before = none-some d (sym none ∙ t.reads)
+    past_syntax h o k g = grind arith
 
     by_document : length bytes ≤ 1048576 → (o : Option Members) → document_of bytes ≡ o → Finds (IsTextFault bytes) (λ o. Unit {0}) (wanted (fault codes.Syntax Text) o >>= sketch_of_document)
     by_document short None e = (0, inl ((short, e), refl), tt, λ o u f before. past_syntax e o (kind bytes o.pass o.error.code o.error.place f) before)

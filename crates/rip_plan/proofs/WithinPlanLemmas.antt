@@ -1,5 +1,5 @@
 -- The numbers that the parts of a lawful plan give are numbers that the plan has.
-use Rattle.std.proofs.Common.{◌≡◌, ◌<◌, length, get_or, refl}
+use Rattle.std.proofs.Common.{◌≡◌, ◌<◌, length, get_or, refl, arith}
 use Rattle.std.specs.List.{All}
 use Rattle.std.specs.Prelude.{slice_get, Some}
 use Rattle.std.proofs.lemmas.Option.{slice_get-get_or}
@@ -29,8 +29,7 @@ module _ (n : Network) (laws : IsLawful n) where
   places_links k d h = by_seat (get_or n.places k d).seat (slice_get-get_or n.places k d h)
     where
       by_seat : (seat : Seat) → slice_get n.places k ≡ Some (record { prefix = (get_or n.places k d).prefix; seat = seat }) → IsLinkBelow (length n.links) seat
-      by_seat (Link l) e = laws.seat_known k (get_or n.places k d).prefix l (record { listed = e })
-      by_seat (Own own) e = tt
+      by_seat seat h = grind arith
 
   pub places_owners : All (λ q. IsOwnerBelow (length n.routers) q.seat) n.places
   places_owners k d h = by_seat (get_or n.places k d).seat (slice_get-get_or n.places k d h)

@@ -1,4 +1,4 @@
-use Rattle.std.proofs.Common.{◌≡◌, ℕ, ◌+◌, List, [], ◌++◌, ◌∷◌, ◌&&◌, Vec, None, map, take, sym, ap, ◌∙◌, refl}
+use Rattle.std.proofs.Common.{◌≡◌, ℕ, ◌+◌, List, [], ◌++◌, ◌∷◌, ◌&&◌, Vec, None, map, take, sym, ap, ◌∙◌, refl, arith}
 use Rattle.std.specs.Prelude.{option_map, filter, nat_eq}
 use Rattle.std.specs.HashMap.{HashMap}
 use Rattle.std.specs.List.{list_any}
@@ -20,8 +20,7 @@ met interfaces by same front p seats h =
     rw h (any_listed (λ (q : DraftPlace). q.seat) (λ q. same_prefix q.prefix p.prefix) (λ other. seats_meet by other p.seat) front ∙ each front)
   where
     each : (qs : List DraftPlace) → list_any (λ q. same_prefix q.prefix p.prefix && seats_meet by q.seat p.seat) qs ≡ list_any (λ q. do_meet (touching interfaces q) (touching interfaces p)) qs
-    each [] = refl
-    each (q ∷ qs) = rw (each qs, same q.seat, same p.seat) refl
+    each qs = grind arith
 
 touched_same : {S G : Type 0} (on_links : HashMap ℕ (Vec ℕ G) S) (interfaces : List DraftInterface) → ((l : ℕ) → listed nat_eq on_links l ≡ touched interfaces (Link l)) → (seat : Seat)
     → touched_by on_links seat ≡ touched interfaces seat
