@@ -26,19 +26,10 @@ pub first_passing : {A : Type 0} (test : A → Bool) (xs : List A) → FirstSo (
 first_passing test [] = λ k x at e. none-some x at
 first_passing {A} test (y ∷ ys) = by_test (test y) refl (find test ys) (first_passing test ys)
   where
-    not_here : (x : A) → test y ≡ false → Some y ≡ Some x → test x ≡ true → ⊥
-    not_here x e at passes = let same : y ≡ x = same_Some y x at in let off : test x ≡ false = ap test (sym same) ∙ e in absurd cc
-
     by_test : (b : Bool) → test y ≡ b → (r : Option A) → FirstSo (Passes test) ys r → FirstSo (Passes test) (y ∷ ys) (cond b (Some y) r)
     by_test true e r later = (zero, refl, e, λ m z less at passes. absurd (omega arith))
-    by_test false e None later = none
-      where
-        none : (k : ℕ) (x : A) → slice_get (y ∷ ys) k ≡ Some x → test x ≡ true → ⊥
-        none k x h g = grind arith
-    by_test false e (Some z) later = (suc later.0, later.1, later.2, before)
-      where
-        before : (m : ℕ) (x : A) → m < suc later.0 → slice_get (y ∷ ys) m ≡ Some x → test x ≡ true → ⊥
-        before m x h k g = grind arith
+    by_test false e None later = λ k x at passes. grind arith
+    by_test false e (Some z) later = (suc later.0, later.1, later.2, λ m x less at passes. grind arith)
 
 pub find_gives : {A : Type 0} (test : A → Bool) (xs : List A) (x : A) → find test xs ≡ Some x → (k : ℕ) × (slice_get xs k ≡ Some x) × (test x ≡ true)
 find_gives test xs x h = let first = subst (FirstSo (Passes test) xs) h (first_passing test xs) in (first.0, first.1, first.2)

@@ -64,9 +64,6 @@ none_kept r k (q ∷ qs) h =
 pub none_attached : (r k : ℕ) (places : List Place) → list_any (λ (q : Place). is_kept q.seat) places ≡ false → option_and_then link_of (own_seat r k places) ≡ None
 none_attached r k places h = by_seat (own_seat r k places) (none_kept r k places h)
   where
-    no_link : (kept : Bool) (link : Option ℕ) → (kept || is_some link) ≡ false → link ≡ None
-    no_link kept link h = grind arith
-
     by_seat : (o : Option Seat) → option_map_or is_kept o false ≡ false → option_and_then link_of o ≡ None
     by_seat o h = grind arith
 

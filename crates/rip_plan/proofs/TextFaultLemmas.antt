@@ -225,9 +225,6 @@ text_finds laws bytes =
     past_long : 1048576 < length bytes → (o : Found) → Kind bytes o → Before (ranked o) (ranked (row_at codes.Limit Text)) → ⊥
     past_long h o k g = grind arith
 
-    not_first : Before (ranked (row_at codes.Limit Text)) (ranked (row_at codes.Syntax Text)) → ⊥
-    not_first h = grind arith
-
     past_syntax : document_of bytes ≡ None → (o : Found) → Kind bytes o → Before (ranked o) (ranked (row_at codes.Syntax Text)) → ⊥
     past_syntax h o k g = grind arith
 

@@ -10,8 +10,7 @@ use Rattle.rip_plan.proofs.CellLemmas.{place_written, written_back}
 use Rattle.rip_plan.proofs.index.costs_of.Goals as goal
 
 owner_within : (routers w p cells : ℕ) (seat : Seat) → IsOwnerBelow routers seat → p < w → cells ≡ routers * w → IsOwnerWithin w p cells seat
-owner_within routers w p cells (Link l) h below e = tt
-owner_within routers w p cells (Own own) h below e = omega (arith, mul-add-lt own.router w p routers h below)
+owner_within routers w p cells seat h k g = grind arith
 
 pub write_costs_at-requires-clause-owner : goal.write_costs_at-requires-clause-owner
 write_costs_at-requires-clause-owner c =

@@ -24,8 +24,7 @@ met interfaces by same front p seats h =
 
 touched_same : {S G : Type 0} (on_links : HashMap ℕ (Vec ℕ G) S) (interfaces : List DraftInterface) → ((l : ℕ) → listed nat_eq on_links l ≡ touched interfaces (Link l)) → (seat : Seat)
     → touched_by on_links seat ≡ touched interfaces seat
-touched_same on_links interfaces h (Link l) = h l
-touched_same on_links interfaces h (Own own) = refl
+touched_same on_links interfaces h seat = grind arith
 
 pub returns-then-meets_earlier : goal.returns-then-meets_earlier
 returns-then-meets_earlier c =
