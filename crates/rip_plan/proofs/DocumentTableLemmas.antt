@@ -1,5 +1,5 @@
 -- The tables whose fields are read are those that have the keys, each of its kind.
-use Rattle.std.proofs.Common.{◌≡◌, ◌≢◌, ℕ, zero, suc, inl, inr, List, [], ◌∷◌, Bool, true, false, cond, Option, Some, None, Ordering, Less, nat_cmp, is_eq, refl, sym, ◌∙◌, ap, subst, arith}
+use Rattle.std.proofs.Common.{◌≡◌, ◌≢◌, ℕ, zero, suc, inl, inr, List, [], ◌∷◌, Bool, true, false, cond, Option, Some, None, Ordering, nat_cmp, is_eq, refl, sym, ◌∙◌, ap, subst, arith}
 use Rattle.std.proofs.lemmas.Bool.{cases_Bool, and_parts}
 use Rattle.std.specs.Prelude.{ℤ, is_some, option_and_then, option_map, slice_get, unwrap_or, codes as codes_of}
 use Rattle.std.specs.List.{list_all}

@@ -1,5 +1,5 @@
 -- The rows of the table of codes, in the order in which they are asked.
-use Rattle.std.proofs.Common.{◌≡◌, ℕ, ◌<◌, ◌≤◌, ◌⊎◌, inl, inr, List, [], ◌∷◌, ◌++◌, length, Bool, true, false, cond, Option, Some, None, Result, Err, refl, sym, subst, arith}
+use Rattle.std.proofs.Common.{◌≡◌, ℕ, ◌<◌, ◌≤◌, ◌⊎◌, inl, inr, List, [], ◌∷◌, ◌++◌, length, Bool, true, false, cond, Option, Some, None, Result, Err, refl, subst, arith}
 use Rattle.std.specs.Prelude.{codes as codes_of}
 use Rattle.toml.specs.Data.{Data, Members}
 use Rattle.rip_plan.specs.declared.error.PlanCode.{PlanCode}

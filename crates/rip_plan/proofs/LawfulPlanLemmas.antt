@@ -1,6 +1,6 @@
 -- A plan without a fault keeps the laws.
 use Rattle.std.proofs.Common.{◌≡◌, ℕ, zero, suc, ◌+◌, ◌^◌, ◌<◌, ◌≤◌, ◌⊎◌, inl, inr, List, [], ◌∷◌, ◌++◌, length, map, Bool, true, false, ◌&&◌, Some, Ok, refl, sym, ◌∙◌, ap, subst, arith}
-use Rattle.std.specs.Prelude.{◌==◌, pos, slice_get, codes as codes_of}
+use Rattle.std.specs.Prelude.{◌==◌, slice_get, codes as codes_of}
 use Rattle.std.specs.List.{IsDistinct, list_any}
 use Rattle.std.proofs.lemmas.Bool.{and_parts, cases_lt, both_ways, cases_Bool, eq-eqb, eqb-true}
 use Rattle.std.proofs.lemmas.Bool.Decides.{nat_tests}
@@ -24,7 +24,7 @@ use Rattle.rip_plan.specs.Fields.{list_of}
 use Rattle.rip_plan.specs.Network.{Network, cost_on, is_of, network_of_sketch}
 use Rattle.rip_plan.specs.Passes.{same_prefix}
 use Rattle.rip_plan.specs.Seats.{is_on}
-use Rattle.rip_plan.specs.PlanFaults.{AreTwice, DoMeet, HasTables, HasWrongCost, HasWrongDirect, HaveOneAddress, IsAstray, IsClash, IsFault, IsMisnamed, IsOutsideOf, IsText, TableFault, also_spots, interface_spots, pass_of, place_spots}
+use Rattle.rip_plan.specs.PlanFaults.{AreTwice, DoMeet, HasTables, HasWrongCost, HasWrongDirect, HaveOneAddress, IsAstray, IsClash, IsFault, IsMisnamed, IsText, TableFault, also_spots, interface_spots, pass_of, place_spots}
 use Rattle.rip_plan.specs.PlanOf.{AreAlsoOf, HasItems, IsAddressOf, IsCostOf, IsDirectOf, IsGatewayOf, IsInterfaceOf, IsNameOf, IsOnLink, IsOwned, IsPlaceOf, IsPlanOfText, Matched, Placement, PlanOf, each_once, items_in, items_under}
 use Rattle.rip_plan.specs.PlanText.{sketch_of}
 use Rattle.rip_plan.specs.Relations.{Carries, HasAddress, HasAddresses, HasOwnAddress, IsAttached, IsConnected, IsEachOnce, IsGateway, IsInside, IsInterface, IsLawful, IsOn, IsOwnAt, IsPlace, IsPrefix}

@@ -26,7 +26,7 @@ use Rattle.rip_plan.specs.Addresses.{have_one_address, held_from}
 use Rattle.rip_plan.specs.Network.{Network, network_of_sketch}
 use Rattle.rip_plan.specs.Relations.{IsAttachedAt, IsInterface, IsPlace}
 use Rattle.rip_plan.specs.PlanOf.{PlanOf}
-use Rattle.rip_plan.specs.PlanFaults.{TableFault, IsAstray, IsClash, IsBare, IsSo, DoMeet, AreTwice, HasOneTwice, HaveOneAddress, Before, pass_of, rank, position, place_spots, interface_spots}
+use Rattle.rip_plan.specs.PlanFaults.{TableFault, IsAstray, IsClash, IsBare, IsSo, DoMeet, AreTwice, HasOneTwice, HaveOneAddress, Before, rank, position, place_spots, interface_spots}
 use Rattle.rip_plan.proofs.OrderLemmas.{before_trans, before_not}
 use Rattle.rip_plan.proofs.FindingLemmas.{Found, Finds, finds_in, bind_rows}
 use Rattle.rip_plan.proofs.FaultRowLemmas.{IsAstrayAt, IsLast, IsOfTables, IsTold, told_finds, code_rows, code_high, last_two, last_three, last_four, pass_rows}

@@ -1,8 +1,6 @@
 use Rattle.std.proofs.Common.{◌≡◌, ℕ, ◌-◌, ◌*◌, ◌<◌, ◌∷◌, take, ◌++◌, drop, length, arith, ◌∙◌, ap}
 use Rattle.std.specs.Prelude.{◌==◌}
-use Rattle.std.proofs.lemmas.Nat.{mul-add-lt}
 use Rattle.rip_plan.specs.declared.parts.Seat.{Seat}
-use Rattle.rip_plan.specs.declared.parts.Seat.TheVariants.{Link, Own}
 use Rattle.rip_plan.specs.Network.{cost_at, direct_at}
 use Rattle.rip_plan.specs.Rows.{IsOwnerBelow, IsOwnerWithin}
 use Rattle.rip_plan.proofs.BackLemmas.{back_is}

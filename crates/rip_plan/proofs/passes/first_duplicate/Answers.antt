@@ -1,4 +1,4 @@
-use Rattle.std.proofs.Common.{◌≡◌, ℕ, ◌+◌, List, [], ◌++◌, ◌∷◌, ◌&&◌, Vec, None, map, take, sym, ap, ◌∙◌, refl, arith}
+use Rattle.std.proofs.Common.{◌≡◌, ℕ, ◌+◌, List, [], ◌++◌, ◌∷◌, ◌&&◌, Vec, None, map, take, sym, ap, ◌∙◌, arith}
 use Rattle.std.specs.Prelude.{option_map, filter, nat_eq}
 use Rattle.std.specs.HashMap.{HashMap}
 use Rattle.std.specs.List.{list_any}
@@ -6,7 +6,7 @@ use Rattle.std.proofs.lemmas.List.{at_drop_all, take_more}
 use Rattle.rip_plan.specs.declared.draft.DraftInterface.{DraftInterface}
 use Rattle.rip_plan.specs.declared.draft.DraftPlace.{DraftPlace}
 use Rattle.rip_plan.specs.declared.parts.Seat.{Seat}
-use Rattle.rip_plan.specs.declared.parts.Seat.TheVariants.{Link, Own}
+use Rattle.rip_plan.specs.declared.parts.Seat.TheVariants.{Link}
 use Rattle.rip_plan.specs.Passes.{do_meet, first_clash, same_prefix, touched, touching}
 use Rattle.rip_plan.specs.Touches.{listed, seats_meet, touched_by}
 use Rattle.rip_plan.proofs.ClashLemmas.{any_listed, clash_here, clash_later, listed_push, meeting_seen}
