@@ -3,7 +3,6 @@ pub mod NameLemmas
 pub mod ClashLemmas
 pub mod BackLemmas
 pub mod BelowLemmas
-pub mod BindLemmas
 pub mod ItemLemmas
 pub mod FlatLemmas
 pub mod TextLemmas
@@ -15,7 +14,6 @@ pub mod HeldAddressLemmas
 pub mod LookupLemmas
 pub mod LeafRouterLemmas
 pub mod PlanAnswerLemmas
-pub mod WithinPlanLemmas
 pub mod MatchingLemmas
 pub mod TableLemmas
 pub mod DocumentTableLemmas

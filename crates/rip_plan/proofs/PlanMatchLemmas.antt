@@ -21,7 +21,6 @@ use Rattle.rip_plan.specs.Draft.{Sketch, prefix_step, link_step, interface_step,
 use Rattle.rip_plan.specs.PlanText.{empty, document_of, sketch_of_document, sketch_of}
 use Rattle.rip_plan.specs.Network.{Network, network_in, network_of_sketch}
 use Rattle.rip_plan.specs.PlanOf.{Matched, IsAddressOf, AreAlsoOf, IsNameOf, items_under, IsInterfaceOf, Placement, IsOnLink, IsOwned, IsPlaceOf, each_once, PlanOf, IsPlanOfText}
-use Rattle.rip_plan.proofs.BindLemmas.{bind_ok, guard_ok, ok_same, wanted_ok}
 use Rattle.rip_plan.proofs.NumberingLemmas.{numbered_once, IsNumbered, numbers}
 use Rattle.rip_plan.proofs.MatchingLemmas.{matched_append, matched_seen}
 use Rattle.rip_plan.proofs.SpotLemmas.{with_number}
@@ -32,6 +31,7 @@ use Rattle.rip_plan.specs.declared.error.At.{At}
 use Rattle.rip_plan.proofs.DocumentTableLemmas.{interface_texts, link_table, own_texts, root_table, router_table}
 use Rattle.rip_plan.proofs.TableLemmas.{addresses_are, cost_is, direct_is, flag_meant, gateway_is, link_is, text_is}
 use Rattle.rip_plan.proofs.TextLemmas.{TextLaws, address_is, prefix_is, first_named}
+use Rattle.rip_plan.proofs.FindingLemmas.{bind_ok, guard_ok, ok_same, wanted_ok}
 
 abbrev pub placement : DraftPlace → Placement
 placement d = record { prefix = d.prefix; seat = d.seat }

@@ -10,7 +10,8 @@ use Rattle.rip_plan.specs.Names.{is_one_of}
 use Rattle.rip_plan.proofs.fields.has_only.Goals as goal
 
 -- the keys of a table, as a chain over the map meets them
-entries_pass : (known : List (List ℕ)) (es : List (String Global × Value)) → fields.has_only known (members_view es) ≡ list_all (λ k. is_one_of (string_bytes k) known) (Rattle.std.specs.Map.keys_of es)
+entries_pass : (known : List (List ℕ)) (es : List (String Global × Value)) → fields.has_only known (members_view es)
+    ≡ list_all (λ k. is_one_of (string_bytes k) known) (Rattle.std.specs.Map.keys_of es)
 entries_pass known [] = refl
 entries_pass known (e ∷ es) = ap (λ b. is_one_of (string_bytes e.0) known && b) (entries_pass known es)
 

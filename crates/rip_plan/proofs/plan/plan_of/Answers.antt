@@ -14,7 +14,7 @@ use Rattle.rip_plan.specs.Seats.{is_kept}
 use Rattle.rip_plan.proofs.BelowLemmas.{length-each_below}
 use Rattle.rip_plan.proofs.NumberingLemmas.{IsNumbered, numbers}
 use Rattle.rip_plan.proofs.MatchingLemmas.{matched_length}
-use Rattle.rip_plan.proofs.WithinPlanLemmas.{interfaces_links, interfaces_routers, places_prefixes, places_links, places_owners}
+use Rattle.rip_plan.proofs.PlanAnswerLemmas.{interfaces_links, interfaces_routers, places_prefixes, places_links, places_owners}
 use Rattle.rip_plan.proofs.plan.plan_of.Goals as goal
 
 prefixes_are : {ps : List Block} {qs : List Place} {ds es : List DraftPlace} → (ps, qs) ≡ numbered [] [] ds → ds ≡ es → ps ≡ (numbered [] [] es).0
