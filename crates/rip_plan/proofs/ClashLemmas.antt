@@ -1,14 +1,87 @@
--- The first item that clashes with an earlier one, as a loop finds it.
-use Rattle.std.proofs.Common.{◌≡◌, ℕ, suc, inl, inr, ◌+◌, ◌-◌, ◌<◌, List, [], ◌∷◌, ◌++◌, Bool, true, false, cond, not, ◌&&◌, ◌||◌, length, map, take, drop, get_or, Option, Some, refl, sym, ap, ◌∙◌, arith}
-use Rattle.std.specs.Prelude.{find, option_map, filter}
+-- What is found first in a list, an item that passes or one that clashes with an earlier one, and how a loop finds it.
+use Rattle.std.proofs.Common.{◌≡◌, ℕ, suc, inl, inr, ◌+◌, ◌-◌, ◌<◌, List, [], ◌∷◌, ◌++◌, Bool, true, false, cond, not, ◌&&◌, ◌||◌, length, map, take, drop, get_or, Option, Some, refl, sym, ap, ◌∙◌, arith, zero, length-append, append_assoc, None, subst}
+use Rattle.std.specs.Prelude.{find, option_map, filter, slice_get}
 use Rattle.std.specs.List.{list_any}
-use Rattle.std.proofs.lemmas.Bool.{cases_Bool, not-false, not-true}
-use Rattle.std.proofs.lemmas.List.{drop_more, map-append, take_more}
-use Rattle.rip_plan.proofs.ItemLemmas.{cases_option}
+use Rattle.std.proofs.lemmas.Bool.{cases_Bool, not-false, not-true, cases_lt}
+use Rattle.std.proofs.lemmas.List.{drop_more, map-append, take_more, append-nil}
+use Rattle.rip_plan.proofs.ItemLemmas.{cases_option, any_finds, get_left, get_past, get_split, none_at}
 use Rattle.std.proofs.lemmas.List.Folds.{list_any_more}
 use Rattle.rip_plan.specs.Passes.{do_meet, first_clash, first_bare, is_bare, touching}
 use Rattle.rip_plan.specs.declared.draft.DraftPlace.{DraftPlace}
 use Rattle.rip_plan.specs.declared.draft.DraftInterface.{DraftInterface}
+use Rattle.std.proofs.lemmas.Option.{none-some, same_Some, slice_get_within}
+
+-- no item that is so, or the first
+abbrev pub FirstSo : {A : Type 0} → (ℕ → A → Type 0) → List A → Option A → Type 0
+FirstSo {A} Is xs None = (k : ℕ) (x : A) → slice_get xs k ≡ Some x → Is k x → ⊥
+FirstSo {A} Is xs (Some x) = (k : ℕ) × (slice_get xs k ≡ Some x) × Is k x × ((m : ℕ) (z : A) → m < k → slice_get xs m ≡ Some z → Is m z → ⊥)
+
+-- ---- an item that passes
+
+-- item k passes
+abbrev pub Passes : {A : Type 0} → (A → Bool) → ℕ → A → Type 0
+Passes test k x = test x ≡ true
+
+pub first_passing : {A : Type 0} (test : A → Bool) (xs : List A) → FirstSo (Passes test) xs (find test xs)
+first_passing test [] = λ k x at e. none-some x at
+first_passing {A} test (y ∷ ys) = by_test (test y) refl (find test ys) (first_passing test ys)
+  where
+    by_test : (b : Bool) → test y ≡ b → (r : Option A) → FirstSo (Passes test) ys r → FirstSo (Passes test) (y ∷ ys) (cond b (Some y) r)
+    by_test true e r later = (zero, refl, e, λ m z less at passes. absurd (omega arith))
+    by_test false e None later = λ k x at passes. grind arith
+    by_test false e (Some z) later = (suc later.0, later.1, later.2, λ m x less at passes. grind arith)
+
+pub find_gives : {A : Type 0} (test : A → Bool) (xs : List A) (x : A) → find test xs ≡ Some x → (k : ℕ) × (slice_get xs k ≡ Some x) × (test x ≡ true)
+find_gives test xs x h = let first = subst (FirstSo (Passes test) xs) h (first_passing test xs) in (first.0, first.1, first.2)
+
+pub find_none : {A : Type 0} (test : A → Bool) (xs : List A) (k : ℕ) (x : A) → slice_get xs k ≡ Some x → test x ≡ true → find test xs ≡ None → ⊥
+find_none test xs k x at passes h = subst (FirstSo (Passes test) xs) h (first_passing test xs) k x at passes
+
+-- ---- an item that clashes with an earlier one
+
+-- item k clashes with an earlier one
+abbrev pub Clashes : {A : Type 0} → (A → A → Bool) → List A → ℕ → A → Type 0
+Clashes {A} clash xs k x = (j : ℕ) × (y : A) × (j < k) × (slice_get xs j ≡ Some y) × (clash y x ≡ true)
+
+-- none of the first n items does
+abbrev AreApart : {A : Type 0} → (A → A → Bool) → List A → ℕ → Type 0
+AreApart {A} clash xs n = (m : ℕ) (z : A) → m < n → slice_get xs m ≡ Some z → Clashes clash xs m z → ⊥
+
+clash_from : {A : Type 0} (clash : A → A → Bool) (earlier xs whole : List A) → whole ≡ earlier ++ xs → AreApart clash whole (length earlier)
+    → FirstSo (Clashes clash whole) whole (first_clash clash earlier xs)
+clash_from clash earlier [] whole split apart =
+    let same : whole ≡ earlier = split ∙ append-nil earlier in
+    let count : length whole ≡ length earlier = ap length same in
+    λ k x at. apart k x (omega (arith, slice_get_within whole k x at)) at
+clash_from {A} clash earlier (x ∷ xs) whole split apart =
+    by_test (list_any (λ y. clash y x) earlier) refl (λ more. clash_from clash (earlier ++ x ∷ []) xs whole (split ∙ sym (append_assoc earlier (x ∷ []) xs)) more)
+  where
+    here : slice_get whole (length earlier) ≡ Some x
+    here = rw split (get_past earlier (x ∷ xs) 0 (length earlier) (omega arith))
+
+    by_test : (b : Bool) → list_any (λ y. clash y x) earlier ≡ b
+        → (AreApart clash whole (length (earlier ++ x ∷ [])) → FirstSo (Clashes clash whole) whole (first_clash clash (earlier ++ x ∷ []) xs))
+        → FirstSo (Clashes clash whole) whole (cond b (Some x) (first_clash clash (earlier ++ x ∷ []) xs))
+    by_test true e later =
+        let (j, y, there, test) = any_finds (λ y. clash y x) earlier e in
+        (length earlier, here, (j, y, slice_get_within earlier j y there, rw split (get_left earlier (x ∷ xs) j y there), test), apart)
+    by_test false e later =
+        later
+        (λ m z less at (j, y, before, there, meets).
+        let count = length-append earlier (x ∷ []) in
+        elim (cases_lt m (length earlier)) [
+          | inl old ↦ apart m z old at (j, y, before, there, meets)
+          | inr ge ↦
+              let last : m ≡ length earlier = omega arith in
+              let same : x ≡ z = same_Some x z (sym here ∙ ap (slice_get whole) (sym last) ∙ at) in
+              let was : slice_get (earlier ++ x ∷ xs) j ≡ Some y = ap (λ (l : List A). slice_get l j) (sym split) ∙ there in
+              let its : slice_get earlier j ≡ Some y = elim (get_split earlier (x ∷ xs) j y was) [ inl e ↦ e.0 | inr e ↦ let past : j ≡ length earlier + e.0 = e.1 in absurd (omega arith) ] in
+              let off : clash y z ≡ false = ap (clash y) (sym same) ∙ none_at (λ y. clash y x) earlier j y e its in
+              absurd cc
+        ])
+
+pub first_clashing : {A : Type 0} (clash : A → A → Bool) (xs : List A) → FirstSo (Clashes clash xs) xs (first_clash clash [] xs)
+first_clashing clash xs = clash_from clash [] xs xs refl (λ m z less. absurd (omega arith))
 
 -- what is left of a list from an item on
 pub rest_from : {A : Type 0} (xs : List A) (k : ℕ) (x : A) → k < length xs → x ≡ get_or xs k x → drop k xs ≡ x ∷ drop (k + 1) xs
@@ -77,9 +150,7 @@ pub added : (had is_new : Bool) → is_new ≡ not had → is_new ≡ true → h
 added had is_new h e = not-true had (sym h ∙ e)
 
 pub or_turned : (a b : Bool) → cond a true b ≡ (b || a)
-or_turned true true = refl
-or_turned false true = refl
-or_turned a b = refl
+or_turned a b = grind arith
 
 -- one more item that a set was given
 pub seen_more : {A : Type 0} (test : A → Bool) (xs : List A) (k : ℕ) (x : A) → k < length xs → x ≡ get_or xs k x → cond (test x) true (list_any test (take k xs)) ≡ list_any test (take (k + 1) xs)
@@ -95,12 +166,6 @@ module _ {A : Type 0} (test : A → Bool) (xs : List A) (k : ℕ) (x : A) (lt : 
   found_later total fails so_far = let here : find test (drop k xs) ≡ find test (drop (k + 1) xs) = rw (rest_from xs k x lt is, fails) refl in sym here ∙ so_far
 
 -- ---- the first router without an interface
-
-pub bare_here : (interfaces : List DraftInterface) (n k : ℕ) (total : Option ℕ) → k < n → is_bare interfaces k ≡ true → first_bare interfaces k (n - k) ≡ total → Some k ≡ total
-bare_here interfaces n k total lt bare so_far =
-    let left : n - k ≡ suc (n - (k + 1)) = omega arith in
-    let here : first_bare interfaces k (n - k) ≡ Some k = rw (left, bare) refl in
-    sym here ∙ so_far
 
 pub bare_later : (interfaces : List DraftInterface) (n k : ℕ) (total : Option ℕ) → k < n → is_bare interfaces k ≡ false → first_bare interfaces k (n - k) ≡ total →
     first_bare interfaces (k + 1) (n - (k + 1)) ≡ total

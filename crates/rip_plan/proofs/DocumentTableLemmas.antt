@@ -1,6 +1,6 @@
 -- The tables whose fields are read are those that have the keys, each of its kind.
-use Rattle.std.proofs.Common.{◌≡◌, ◌≢◌, ℕ, zero, suc, inl, inr, List, [], ◌∷◌, Bool, true, false, cond, Option, Some, None, Ordering, Less, Equal, Greater, nat_cmp, is_eq, refl, sym, ◌∙◌, ap, subst}
-use Rattle.std.proofs.lemmas.Bool.{and_parts}
+use Rattle.std.proofs.Common.{◌≡◌, ◌≢◌, ℕ, zero, suc, inl, inr, List, [], ◌∷◌, Bool, true, false, cond, Option, Some, None, Ordering, nat_cmp, is_eq, refl, sym, ◌∙◌, ap, subst, arith}
+use Rattle.std.proofs.lemmas.Bool.{cases_Bool, and_parts}
 use Rattle.std.specs.Prelude.{ℤ, is_some, option_and_then, option_map, slice_get, unwrap_or, codes as codes_of}
 use Rattle.std.specs.List.{list_all}
 use Rattle.std.specs.Str.{bytes_eq}
@@ -20,40 +20,34 @@ use Rattle.rip_plan.proofs.TableLemmas.{IsFlagIf, IsTextIf, array_is, boolean_is
 
 -- ---- keys
 
-is_equal : (o : Ordering) → is_eq o ≡ true → o ≡ Equal
-is_equal Equal h = refl
-is_equal o h = absurd cc
-
-same_order : (k : List ℕ) → slice_cmp nat_cmp k k ≡ Equal
-same_order k = is_equal (slice_cmp nat_cmp k k) (is_eq-slice_cmp k k ∙ (bytes_eq-Decides k k).1 refl)
+member_at : (key l : List ℕ) (d : Data) (ms : Members) → get_member key (member l d ms) ≡ cond (bytes_eq key l) (Some d) (get_member key ms)
+member_at key l d ms = by_order (slice_cmp nat_cmp key l) ∙ ap (λ (b : Bool). cond b (Some d) (get_member key ms)) (is_eq-slice_cmp key l)
+  where
+    by_order : (o : Ordering) → match_ordering o (get_member key ms) (Some d) (get_member key ms) ≡ cond (is_eq o) (Some d) (get_member key ms)
+    by_order o = grind arith
 
 keys_only : (keys : List (List ℕ)) (ms : Members) → has_only keys ms ≡ true → HasOnly keys (table ms)
 keys_only keys no_members h key value at = absurd (none-some value at)
 keys_only keys (member l d ms) h key value at =
-    let parts = and_parts (is_one_of l keys) (has_only keys ms) h in
-    by_order (slice_cmp nat_cmp key l) refl at (λ there. keys_only keys ms parts.1 key value there)
-  where
-    by_order : (o : Ordering) → slice_cmp nat_cmp key l ≡ o → match_ordering o (get_member key ms) (Some d) (get_member key ms) ≡ Some value
-        → (get_member key ms ≡ Some value → (k : ℕ) × (slice_get keys k ≡ Some key)) → (k : ℕ) × (slice_get keys k ≡ Some key)
-    by_order Less e g later = later g
-    by_order Greater e g later = later g
-    by_order Equal e g later =
-        let same : key ≡ l = (bytes_eq-Decides key l).0 (sym (is_eq-slice_cmp key l) ∙ ap is_eq e) in
-        let (k, other, there, test) = any_finds (λ (x : List ℕ). bytes_eq x l) keys (and_parts (is_one_of l keys) (has_only keys ms) h).0 in
-        (k, there ∙ ap (λ (x : List ℕ). Some x) ((bytes_eq-Decides other l).0 test ∙ sym same))
+    let (one, others) = and_parts (is_one_of l keys) (has_only keys ms) h in
+    let found = sym (member_at key l d ms) ∙ at in
+    elim (cases_Bool (bytes_eq key l)) [
+      | inl e ↦
+          let (k, other, there, test) = any_finds (λ (x : List ℕ). bytes_eq x l) keys one in
+          (k, there ∙ ap (λ (x : List ℕ). Some x) ((bytes_eq-Decides other l).0 test ∙ sym ((bytes_eq-Decides key l).0 e)))
+      | inr e ↦ keys_only keys ms others key value (rw e at found)
+    ]
 
 only_keys : (keys : List (List ℕ)) (ms : Members) → HasOnly keys (table ms) → has_only keys ms ≡ true
 only_keys keys no_members h = refl
 only_keys keys (member l d ms) h =
-    let (k, at) = h l d (ap (λ (o : Ordering). match_ordering o (get_member l ms) (Some d) (get_member l ms)) (same_order l)) in
-    let one : is_one_of l keys ≡ true = any_at (λ (x : List ℕ). bytes_eq x l) keys k l at ((bytes_eq-Decides l l).1 refl) in
-    let others : has_only keys ms ≡ true = only_keys keys ms (λ key value there. by_order key value there (slice_cmp nat_cmp key l) refl) in
+    let self : bytes_eq l l ≡ true = (bytes_eq-Decides l l).1 refl in
+    let (k, at) = h l d (member_at l l d ms ∙ rw self refl) in
+    let one : is_one_of l keys ≡ true = any_at (λ (x : List ℕ). bytes_eq x l) keys k l at self in
+    let others : has_only keys ms ≡ true =
+    only_keys keys ms
+    (λ key value there. elim (cases_Bool (bytes_eq key l)) [ inl e ↦ h key d (member_at key l d ms ∙ rw e refl) | inr e ↦ h key value (member_at key l d ms ∙ rw e there) ]) in
     rw (one, others) refl
-  where
-    by_order : (key : List ℕ) (value : Data) → get_member key ms ≡ Some value → (o : Ordering) → slice_cmp nat_cmp key l ≡ o → (k : ℕ) × (slice_get keys k ≡ Some key)
-    by_order key value there Less e = h key value (ap (λ (o : Ordering). match_ordering o (get_member key ms) (Some d) (get_member key ms)) e ∙ there)
-    by_order key value there Greater e = h key value (ap (λ (o : Ordering). match_ordering o (get_member key ms) (Some d) (get_member key ms)) e ∙ there)
-    by_order key value there Equal e = h key d (ap (λ (o : Ordering). match_ordering o (get_member key ms) (Some d) (get_member key ms)) e)
 
 -- ---- what was read is of its kind
 
@@ -70,14 +64,7 @@ list_has : (o : Option Data) (xs : List Data) → option_map list_of (option_and
 list_has o xs h = let (items, is, same) = items_there o xs h in (array items, is, (items, refl))
 
 some_has : (o : Option Data) (xs : List Data) → (option_map list_of (option_and_then as_array o) &> some_items) ≡ Some xs → HasAt o IsSomeList
-some_has o xs h =
-    let (ys, read, some) = then_some (option_map list_of (option_and_then as_array o)) some_items xs h in
-    let (items, is, same) = items_there o ys read in
-    (array items, is, (items, refl, λ none. not_empty ys xs some (sym same ∙ none)))
-  where
-    not_empty : (ys xs : List Data) → some_items ys ≡ Some xs → ys ≡ [] → ⊥
-    not_empty [] xs g e = none-some xs g
-    not_empty (y ∷ ys) xs g e = let clash : y ∷ ys ≡ [] = e in cc
+some_has o xs h = grind arith
 
 integer_may : (o : Option Data) (given : Option ℤ) → integer_if o ≡ Some given → MayHaveAt o IsInteger
 integer_may o given h d is = let (z, k, same) = map_some (as_integer d) given (ap integer_if (sym is) ∙ h) in (z, integer_is d z k)
@@ -119,8 +106,7 @@ some_given : (o : Option Data) → HasAt o IsSomeList → (xs : List Data) × ((
 some_given o (d, is, (items, array_of, some)) = (list_of items, rw (is, array_of) (itself (list_of items) some))
   where
     itself : (ys : List Data) → ys ≢ [] → some_items ys ≡ Some ys
-    itself [] e = absurd (e refl)
-    itself (y ∷ ys) e = refl
+    itself ys h = grind arith
 
 integer_given : (o : Option Data) → MayHaveAt o IsInteger → (given : Option ℤ) × (integer_if o ≡ Some given)
 integer_given None may = (None, refl)
@@ -162,14 +148,8 @@ pub record HasRootFields (doc : Members) (links routers : List Data) (poison : B
   pub has_poison : IsPoisonOf true (table doc) poison
   pub shape : IsRoot doc
 
-some_items_same : (xs ys : List Data) → some_items xs ≡ Some ys → xs ≡ ys
-some_items_same [] ys h = absurd (none-some ys h)
-some_items_same (x ∷ xs) ys h = same_Some (x ∷ xs) ys h
-
 some_there : (o : Option Data) (xs : List Data) → (option_map list_of (option_and_then as_array o) &> some_items) ≡ Some xs → (items : Items) × (o ≡ Some (array items)) × (list_of items ≡ xs)
-some_there o xs h =
-    let (ys, read, some) = then_some (option_map list_of (option_and_then as_array o)) some_items xs h in
-    items_there o xs (read ∙ ap (λ (l : List Data). Some l) (some_items_same ys xs some))
+some_there o xs h = grind arith
 
 pub root_table : (doc : Members) (links routers : List Data) (poison : Bool) → root_fields doc ≡ Some (links, routers, poison) → HasRootFields doc links routers poison
 unfolding root_fields
@@ -343,67 +323,63 @@ router_table d name interfaces owns h =
 not_read : {A : Type 0} (fields : Members → Option A) (d : Data) (ms : Members) → d ≡ table ms → (f : A) × (fields ms ≡ Some f) → (as_table d &> fields) ≡ None → ⊥
 not_read fields d ms is (f, read) none = none-some f (sym none ∙ ap (λ (x : Data). as_table x &> fields) is ∙ read)
 
-root_given : (document : Members) → IsRoot document → (f : List Data × List Data × Bool) × (root_fields document ≡ Some f)
-unfolding root_fields
-root_given ms is =
-    let (a, first) = some_given (get_member (codes_of "link") ms) is.link in
-    let (b, second) = some_given (get_member (codes_of "router") ms) is.router in
-    let (c, third) = flag_given (get_member (codes_of "poison") ms) is.poison in
-    ((a, b, unwrap_or c true), rw (only_keys (keys_of the_root) ms is.keys, first, second, third) refl)
-
-link_read : (ms : Members) → IsLinkTable (table ms) → (f : List ℕ × List Data) × (link_fields ms ≡ Some f)
+pub link_not : (d : Data) → (as_table d &> link_fields) ≡ None → IsLinkTable d → ⊥
 unfolding link_fields
-link_read ms its =
+link_not d none is =
+    let ms = is.members in
+    let its = subst IsLinkTable is.is_table is in
     let (a, first) = text_given (get_member (codes_of "name") ms) its.name in
     let (b, second) = list_given (get_member (codes_of "prefixes") ms) its.prefixes in
-    ((a, b), rw (only_keys (keys_of a_link) ms its.keys, first, second) refl)
+    not_read link_fields d ms is.is_table ((a, b), rw (only_keys (keys_of a_link) ms its.keys, first, second) refl) none
 
-pub link_not : (d : Data) → (as_table d &> link_fields) ≡ None → IsLinkTable d → ⊥
-link_not d none is = not_read link_fields d is.members is.is_table (link_read is.members (subst IsLinkTable is.is_table is)) none
-
-router_read : (ms : Members) → IsRouterTable (table ms) → (f : List ℕ × List Data × List Data) × (router_fields ms ≡ Some f)
+pub router_not : (d : Data) → (as_table d &> router_fields) ≡ None → IsRouterTable d → ⊥
 unfolding router_fields
-router_read ms its =
+router_not d none is =
+    let ms = is.members in
+    let its = subst IsRouterTable is.is_table is in
     let (a, first) = text_given (get_member (codes_of "name") ms) its.name in
     let (b, second) = list_given (get_member (codes_of "interface") ms) its.interface in
     let (c, third) = list_if_given (get_member (codes_of "own") ms) its.own in
-    ((a, b, c), rw (only_keys (keys_of a_router) ms its.keys, first, second, third) refl)
+    not_read router_fields d ms is.is_table ((a, b, c), rw (only_keys (keys_of a_router) ms its.keys, first, second, third) refl) none
 
-pub router_not : (d : Data) → (as_table d &> router_fields) ≡ None → IsRouterTable d → ⊥
-router_not d none is = not_read router_fields d is.members is.is_table (router_read is.members (subst IsRouterTable is.is_table is)) none
-
-interface_read : (ms : Members) → IsInterfaceTable (table ms) → (f : InterfaceFields) × (interface_fields ms ≡ Some f)
+pub interface_not : (d : Data) → (as_table d &> interface_fields) ≡ None → IsInterfaceTable d → ⊥
 unfolding interface_fields
-interface_read ms its =
+interface_not d none is =
+    let ms = is.members in
+    let its = subst IsInterfaceTable is.is_table is in
     let (a, first) = text_given (get_member (codes_of "link") ms) its.link in
     let (b, second) = text_given (get_member (codes_of "address") ms) its.address in
     let (c, third) = integer_given (get_member (codes_of "cost") ms) its.cost in
     let (e, fourth) = integer_given (get_member (codes_of "direct") ms) its.direct in
     let (g, fifth) = texts_given (get_member (codes_of "also") ms) its.also in
     let (p, sixth) = flag_given (get_member (codes_of "poison") ms) its.poison in
-    (record { link = a; address = b; cost = c; direct = e; also = g; poison = p }, rw (only_keys (keys_of an_interface) ms its.keys, first, second, third, fourth, fifth, sixth) refl)
+    let f : InterfaceFields = record { link = a; address = b; cost = c; direct = e; also = g; poison = p } in
+    not_read interface_fields d ms is.is_table (f, rw (only_keys (keys_of an_interface) ms its.keys, first, second, third, fourth, fifth, sixth) refl) none
 
-pub interface_not : (d : Data) → (as_table d &> interface_fields) ≡ None → IsInterfaceTable d → ⊥
-interface_not d none is = not_read interface_fields d is.members is.is_table (interface_read is.members (subst IsInterfaceTable is.is_table is)) none
-
-own_read : (ms : Members) → IsOwnTable (table ms) → (f : OwnFields) × (own_fields ms ≡ Some f)
+pub own_not : (d : Data) → (as_table d &> own_fields) ≡ None → IsOwnTable d → ⊥
 unfolding own_fields
-own_read ms its =
+own_not d none is =
+    let ms = is.members in
+    let its = subst IsOwnTable is.is_table is in
     let (a, first) = text_given (get_member (codes_of "prefix") ms) its.prefix in
     let (b, second) = integer_given (get_member (codes_of "cost") ms) its.cost in
     let (c, third) = flag_given (get_member (codes_of "kept") ms) its.kept in
     let (e, fourth) = text_if_given (get_member (codes_of "link") ms) its.link in
     let (g, fifth) = text_if_given (get_member (codes_of "via") ms) its.via in
-    (record { prefix = a; cost = b; kept = unwrap_or c false; link = e; via = g }, rw (only_keys (keys_of an_own) ms its.keys, first, second, third, fourth, fifth) refl)
-
-pub own_not : (d : Data) → (as_table d &> own_fields) ≡ None → IsOwnTable d → ⊥
-own_not d none is = not_read own_fields d is.members is.is_table (own_read is.members (subst IsOwnTable is.is_table is)) none
+    let f : OwnFields = record { prefix = a; cost = b; kept = unwrap_or c false; link = e; via = g } in
+    not_read own_fields d ms is.is_table (f, rw (only_keys (keys_of an_own) ms its.keys, first, second, third, fourth, fifth) refl) none
 
 pub string_not : (d : Data) → as_str d ≡ None → IsString d → ⊥
 string_not d none (text, is) = none-some text (sym none ∙ ap as_str is)
 
 pub root_not : (document : Members) → root_fields document ≡ None → IsRoot document → ⊥
-root_not document none is = let (f, read) = root_given document is in none-some f (sym none ∙ read)
+unfolding root_fields
+root_not ms none is =
+    let (a, first) = some_given (get_member (codes_of "link") ms) is.link in
+    let (b, second) = some_given (get_member (codes_of "router") ms) is.router in
+    let (c, third) = flag_given (get_member (codes_of "poison") ms) is.poison in
+    let read : root_fields ms ≡ Some (a, b, unwrap_or c true) = rw (only_keys (keys_of the_root) ms is.keys, first, second, third) refl in
+    none-some (a, b, unwrap_or c true) (sym none ∙ read)
 
 -- a table is what was read, or was not read
 pub by_table : {A : Type 0} (Is : Data → Type 0) (fields : Members → Option A) → ((d : Data) (f : A) → (as_table d &> fields) ≡ Some f → Is d) → (d : Data) → ((Is d → ⊥) → ⊥)

@@ -1,5 +1,5 @@
 -- The rows of the table of codes, in the order in which they are asked.
-use Rattle.std.proofs.Common.{◌≡◌, ℕ, ◌<◌, ◌≤◌, ◌⊎◌, inl, inr, List, [], ◌∷◌, ◌++◌, length, Bool, true, false, cond, Option, Some, None, Result, Err, refl, sym, subst, arith}
+use Rattle.std.proofs.Common.{◌≡◌, ℕ, ◌<◌, ◌≤◌, ◌⊎◌, inl, inr, List, [], ◌∷◌, ◌++◌, length, Bool, true, false, cond, Option, Some, None, Result, Err, refl, subst, arith}
 use Rattle.std.specs.Prelude.{codes as codes_of}
 use Rattle.toml.specs.Data.{Data, Members}
 use Rattle.rip_plan.specs.declared.error.PlanCode.{PlanCode}
@@ -12,8 +12,8 @@ use Rattle.rip_plan.specs.Fault.{fault, wanted, ◌>>=◌}
 use Rattle.rip_plan.specs.PlanFaults.{Before, position, pass_of, TableFault, IsItem, IsSo, IsAstray, place_spots}
 use Rattle.rip_plan.specs.PlanOf.{PlanOf}
 use Rattle.rip_plan.specs.Network.{Network}
-use Rattle.rip_plan.proofs.OrderLemmas.{before_nil, Starts, starts_high}
-use Rattle.rip_plan.proofs.FindingLemmas.{Found, ranked, row_at, Rows, no_rows, row_then, both_rows, each_rows, Finds, finds_in, guard_finds, want_both, want_finds}
+use Rattle.rip_plan.proofs.OrderLemmas.{Starts, starts_high}
+use Rattle.rip_plan.proofs.FindingLemmas.{Found, ranked, row_at, Rows, no_rows, row_then, both_rows, each_rows, Finds, guard_finds, want_both, want_finds}
 use Rattle.rip_plan.proofs.SpotLemmas.{nth_from, item_from, prefix_item, own_item, interface_item}
 use Rattle.rip_plan.proofs.FurtherAddressLemmas.{also_item}
 
@@ -24,9 +24,6 @@ before_after (q ∷ p) n m h = inr (refl, before_after p n m h)
 -- at one place by the code
 pub by_code : (place : At) (c d : PlanCode) → pass_of c ≡ pass_of d → number_of_code c < number_of_code d → Before (ranked (row_at c place)) (ranked (row_at d place))
 by_code place c d same less = inr (same, before_after (position place) (number_of_code c) (number_of_code d) less)
-
-starts_row : (p : List ℕ) (n : ℕ) (e o : Found) → o ≡ e → Starts p n (ranked e) → Starts p n (ranked o)
-starts_row p n e o same h = subst (λ (x : Found). Starts p n (ranked x)) (sym same) h
 
 pub starts_shorter : (p : List ℕ) (n : ℕ) (q : List ℕ) (m : ℕ) (xs : List ℕ) → Starts (p ++ n ∷ q) m xs → Starts p n xs
 starts_shorter [] n q m (x ∷ xs) h = h.0
@@ -45,10 +42,7 @@ abbrev pub prefix_rows : ℕ → ℕ → Rows
 prefix_rows i j = row_then (row_at codes.Key (LinkPrefix i j)) (prefix_from_prefix i j) (by_code (LinkPrefix i j) codes.Key codes.Prefix refl (omega arith))
 
 pub prefix_starts : (i j : ℕ) (o : Found) → (prefix_rows i j).has o → Starts (0 ∷ 1 ∷ i ∷ 1 ∷ []) j (ranked o)
-prefix_starts i j o (inl h) = starts_row (0 ∷ 1 ∷ i ∷ 1 ∷ []) j (row_at codes.Key (LinkPrefix i j)) o h (refl, (refl, (refl, (refl, refl))))
-prefix_starts i j o (inr (inl h)) = starts_row (0 ∷ 1 ∷ i ∷ 1 ∷ []) j (row_at codes.Prefix (LinkPrefix i j)) o h (refl, (refl, (refl, (refl, refl))))
-prefix_starts i j o (inr (inr (inl h))) = starts_row (0 ∷ 1 ∷ i ∷ 1 ∷ []) j (row_at codes.Limit (LinkPrefix i j)) o h (refl, (refl, (refl, (refl, refl))))
-prefix_starts i j o (inr (inr (inr h))) = absurd h
+prefix_starts i j o h = grind arith
 
 abbrev pub prefixes_rows : ℕ → Rows
 prefixes_rows i = each_rows (λ j. (prefix_rows i j).has) (0 ∷ 1 ∷ i ∷ 1 ∷ []) (prefix_starts i) 1
@@ -63,10 +57,7 @@ abbrev pub link_rows : ℕ → Rows
 link_rows i = row_then (row_at codes.Key (Link i)) (link_from_name i) (by_code (Link i) codes.Key codes.Name refl (omega arith))
 
 pub link_starts : (i : ℕ) (o : Found) → (link_rows i).has o → Starts (0 ∷ 1 ∷ []) i (ranked o)
-link_starts i o (inl h) = starts_row (0 ∷ 1 ∷ []) i (row_at codes.Key (Link i)) o h (refl, (refl, refl))
-link_starts i o (inr (inl h)) = starts_row (0 ∷ 1 ∷ []) i (row_at codes.Name (Link i)) o h (refl, (refl, refl))
-link_starts i o (inr (inr (inl h))) = starts_row (0 ∷ 1 ∷ []) i (row_at codes.DuplicateName (Link i)) o h (refl, (refl, refl))
-link_starts i o (inr (inr (inr h))) = starts_shorter (0 ∷ 1 ∷ []) i (1 ∷ []) h.0 (ranked o) (prefix_starts i h.0 o h.2)
+link_starts i o h = grind arith
 
 -- ---- routers
 
@@ -90,13 +81,7 @@ abbrev pub interface_rows : ℕ → ℕ → Rows
 interface_rows r j = row_then (row_at codes.Key (RouterInterface r j)) (interface_from_address r j) (by_code (RouterInterface r j) codes.Key codes.Address refl (omega arith))
 
 pub interface_starts : (r j : ℕ) (o : Found) → (interface_rows r j).has o → Starts (0 ∷ 2 ∷ r ∷ 1 ∷ []) j (ranked o)
-interface_starts r j o (inl h) = starts_row (0 ∷ 2 ∷ r ∷ 1 ∷ []) j (row_at codes.Key (RouterInterface r j)) o h (refl, (refl, (refl, (refl, refl))))
-interface_starts r j o (inr (inl h)) = starts_row (0 ∷ 2 ∷ r ∷ 1 ∷ []) j (row_at codes.Address (RouterInterface r j)) o h (refl, (refl, (refl, (refl, refl))))
-interface_starts r j o (inr (inr (inl h))) = starts_row (0 ∷ 2 ∷ r ∷ 1 ∷ []) j (row_at codes.Cost (RouterInterface r j)) o h (refl, (refl, (refl, (refl, refl))))
-interface_starts r j o (inr (inr (inr (inl h)))) = starts_row (0 ∷ 2 ∷ r ∷ 1 ∷ []) j (row_at codes.UnknownLink (RouterInterface r j)) o h (refl, (refl, (refl, (refl, refl))))
-interface_starts r j o (inr (inr (inr (inr (inl h))))) = starts_row (0 ∷ 2 ∷ r ∷ 1 ∷ []) j (row_at codes.OutsidePrefix (RouterInterface r j)) o h (refl, (refl, (refl, (refl, refl))))
-interface_starts r j o (inr (inr (inr (inr (inr (inl h)))))) = starts_row (0 ∷ 2 ∷ r ∷ 1 ∷ []) j (row_at codes.Limit (RouterInterface r j)) o h (refl, (refl, (refl, (refl, refl))))
-interface_starts r j o (inr (inr (inr (inr (inr (inr h)))))) = absurd h
+interface_starts r j o h = grind arith
 
 abbrev pub own_from_limit : ℕ → ℕ → Rows
 own_from_limit r j = row_then (row_at codes.Limit (RouterOwn r j)) (no_rows (1 ∷ [])) (inl (omega arith))
@@ -117,13 +102,7 @@ abbrev pub own_rows : ℕ → ℕ → Rows
 own_rows r j = row_then (row_at codes.Key (RouterOwn r j)) (own_from_via r j) (by_code (RouterOwn r j) codes.Key codes.Address refl (omega arith))
 
 pub own_starts : (r j : ℕ) (o : Found) → (own_rows r j).has o → Starts (0 ∷ 2 ∷ r ∷ 2 ∷ []) j (ranked o)
-own_starts r j o (inl h) = starts_row (0 ∷ 2 ∷ r ∷ 2 ∷ []) j (row_at codes.Key (RouterOwn r j)) o h (refl, (refl, (refl, (refl, refl))))
-own_starts r j o (inr (inl h)) = starts_row (0 ∷ 2 ∷ r ∷ 2 ∷ []) j (row_at codes.Address (RouterOwn r j)) o h (refl, (refl, (refl, (refl, refl))))
-own_starts r j o (inr (inr (inl h))) = starts_row (0 ∷ 2 ∷ r ∷ 2 ∷ []) j (row_at codes.Prefix (RouterOwn r j)) o h (refl, (refl, (refl, (refl, refl))))
-own_starts r j o (inr (inr (inr (inl h)))) = starts_row (0 ∷ 2 ∷ r ∷ 2 ∷ []) j (row_at codes.Cost (RouterOwn r j)) o h (refl, (refl, (refl, (refl, refl))))
-own_starts r j o (inr (inr (inr (inr (inl h))))) = starts_row (0 ∷ 2 ∷ r ∷ 2 ∷ []) j (row_at codes.UnknownLink (RouterOwn r j)) o h (refl, (refl, (refl, (refl, refl))))
-own_starts r j o (inr (inr (inr (inr (inr (inl h)))))) = starts_row (0 ∷ 2 ∷ r ∷ 2 ∷ []) j (row_at codes.Limit (RouterOwn r j)) o h (refl, (refl, (refl, (refl, refl))))
-own_starts r j o (inr (inr (inr (inr (inr (inr h)))))) = absurd h
+own_starts r j o h = grind arith
 
 abbrev pub interfaces_rows : ℕ → Rows
 interfaces_rows r = each_rows (λ j. (interface_rows r j).has) (0 ∷ 2 ∷ r ∷ 1 ∷ []) (interface_starts r) 1
@@ -144,17 +123,12 @@ abbrev pub router_rows : ℕ → Rows
 router_rows r = row_then (row_at codes.Key (Router r)) (router_from_name r) (by_code (Router r) codes.Key codes.Name refl (omega arith))
 
 pub router_starts : (r : ℕ) (o : Found) → (router_rows r).has o → Starts (0 ∷ 2 ∷ []) r (ranked o)
-router_starts r o (inl h) = starts_row (0 ∷ 2 ∷ []) r (row_at codes.Key (Router r)) o h (refl, (refl, refl))
-router_starts r o (inr (inl h)) = starts_row (0 ∷ 2 ∷ []) r (row_at codes.Name (Router r)) o h (refl, (refl, refl))
-router_starts r o (inr (inr (inl h))) = starts_row (0 ∷ 2 ∷ []) r (row_at codes.DuplicateName (Router r)) o h (refl, (refl, refl))
-router_starts r o (inr (inr (inr (inl h)))) = starts_shorter (0 ∷ 2 ∷ []) r (1 ∷ []) h.0 (ranked o) (interface_starts r h.0 o h.2)
-router_starts r o (inr (inr (inr (inr h)))) = starts_shorter (0 ∷ 2 ∷ []) r (2 ∷ []) h.0 (ranked o) (own_starts r h.0 o h.2)
+router_starts r o h = grind arith
 
 -- ---- the later passes
 
 pub low_code : (n : ℕ) (c : PlanCode) (o : Found) → (o.pass ≡ n) × (o.error.code ≡ c) → Before (ranked o) (n ∷ []) → ⊥
-low_code n c o h (inl less) = let same : o.pass ≡ n = h.0 in omega arith
-low_code n c o h (inr later) = before_nil _ later.1
+low_code n c o h k = grind arith
 
 -- those of one code, in one pass
 abbrev pub code_rows : ℕ → PlanCode → Rows
@@ -190,15 +164,10 @@ abbrev pub table_rows : Rows
 table_rows = both_rows first_rows pass_rows (inl (omega arith))
 
 pub first_high : (o : Found) → first_rows.has o → Before (ranked o) (1 ∷ [])
-first_high o (inl (i, le, h)) = starts_high [] 0 (ranked o) 1 [] (omega arith) (starts_shorter [] 0 (1 ∷ []) i (ranked o) (link_starts i o h))
-first_high o (inr (r, le, h)) = starts_high [] 0 (ranked o) 1 [] (omega arith) (starts_shorter [] 0 (2 ∷ []) r (ranked o) (router_starts r o h))
+first_high o h = grind arith
 
 pub first_sooner : (o : Found) → first_rows.has o → o.pass < 5
-first_sooner o h = by_pass (first_high o h)
-  where
-    by_pass : Before (ranked o) (1 ∷ []) → o.pass < 5
-    by_pass (inl less) = omega arith
-    by_pass (inr later) = absurd (before_nil _ later.1)
+first_sooner o h = grind arith
 
 pub links_high : (o : Found) → links_rows.has o → Before (ranked o) routers_rows.floor
 links_high o (i, le, h) = starts_high (0 ∷ []) 1 (ranked o) 2 (1 ∷ []) (omega arith) (starts_shorter (0 ∷ []) 1 [] i (ranked o) (link_starts i o h))
@@ -239,11 +208,7 @@ module _ (document : Members) (links routers : List Data) where
 
   -- what is found before the last pass
   pub told_finds : {A : Type 0} (R : Found → Type 0) (r : Result A PlanError) → ((o : Found) → R o → o.pass < 5) → Finds IsTold R r → Finds IsOfTables R r
-  told_finds R r sooner h = finds_in IsTold IsOfTables R R r (λ e f. inl f) (λ e row. row) take h
-    where
-      take : (o : Found) → R o → IsOfTables o → IsTold o × R o
-      take o row (inl f) = (f, row)
-      take o row (inr last) = let early : o.pass < 5 = sooner o row in let late : o.pass ≡ 5 = last.2 in absurd (omega arith)
+  told_finds R r sooner h = grind arith
 
   in_link : (i : ℕ) (o : Found) → 1 ≤ i → (link_rows i).has o → table_rows.has o
   in_link i o le h = inl (inl (i, le, h))

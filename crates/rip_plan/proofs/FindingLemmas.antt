@@ -2,14 +2,28 @@
 -- asked, or one of them and none before it.
 use Rattle.std.proofs.Common.{◌≡◌, ℕ, ◌+◌, ◌<◌, ◌≤◌, ◌⊎◌, inl, inr, List, [], ◌∷◌, ◌++◌, length, length-append, append_assoc, Bool, true, false, cond, Option, Some, None, Result, Ok, Err, refl, sym, ap, subst, ◌∙◌, arith}
 use Rattle.std.proofs.lemmas.List.{append-nil}
-use Rattle.std.proofs.lemmas.Bool.{cases_lt}
 use Rattle.rip_plan.specs.declared.error.At.{At}
 use Rattle.rip_plan.specs.declared.error.PlanCode.{PlanCode}
 use Rattle.rip_plan.specs.declared.error.PlanError.{PlanError}
 use Rattle.rip_plan.specs.Fault.{fault, ◌>>=◌, wanted, steps}
 use Rattle.rip_plan.specs.PlanFaults.{Before, pass_of, rank}
 use Rattle.rip_plan.proofs.OrderLemmas.{before_trans, before_not, Starts, starts_apart, starts_low}
-use Rattle.rip_plan.proofs.BindLemmas.{bind_ok}
+
+-- ---- what a chain of steps that came to its end passed through
+
+pub bind_ok : {A B : Type 0} (r : Result A PlanError) (f : A → Result B PlanError) (t : B) → (r >>= f) ≡ Ok t → (x : A) × (r ≡ Ok x) × (f x ≡ Ok t)
+bind_ok r f t h = grind arith
+
+pub wanted_ok : {A B : Type 0} (e : PlanError) (o : Option A) (f : A → Result B PlanError) (t : B) → (wanted e o >>= f) ≡ Ok t → (x : A) × (o ≡ Some x) × (f x ≡ Ok t)
+wanted_ok e o f t h = grind arith
+
+pub guard_ok : {B : Type 0} (b : Bool) (e : PlanError) (r : Result B PlanError) (t : B) → cond b (Err e) r ≡ Ok t → (b ≡ false) × (r ≡ Ok t)
+guard_ok b e r t h = grind arith
+
+pub ok_same : {A : Type 0} (x y : A) → ◌≡◌ {A = Result A PlanError} (Ok x) (Ok y) → x ≡ y
+ok_same x y h = cc
+
+-- ---- what is found
 
 -- an error, and the pass over the text that finds it
 pub record Found : Type 0 where
@@ -65,12 +79,10 @@ Finds F R (Err e) = (pass : ℕ) × F (record { pass = pass; error = e }) × R (
 -- other words for the faults and for the rows
 pub finds_in : {A : Type 0} (F G R S : Found → Type 0) (r : Result A PlanError) → ((e : Found) → F e → G e) → ((e : Found) → R e → S e) → ((o : Found) → S o → G o → F o × R o) → Finds F R r →
     Finds G S r
-finds_in F G R S (Ok x) give name take h = λ o s g. let (f, r) = take o s g in h o r f
-finds_in F G R S (Err e) give name take h = let o : Found = record { pass = h.0; error = e } in (h.0, give o h.1, name o h.2, λ o s g before. let (f, r) = take o s g in h.3 o r f before)
+finds_in F G R S r h k g w = grind arith
 
 skip : {A : Type 0} (F R : Found → Type 0) (e : Found) (r : Result A PlanError) → (F e → ⊥) → Finds F R r → Finds F (λ o. (o ≡ e) ⊎ R o) r
-skip F R e (Ok x) clear h = λ o row f. elim row [ inl same ↦ clear (subst F same f) | inr later ↦ h o later f ]
-skip F R e (Err d) clear h = (h.0, h.1, inr h.2, λ o row f before. elim row [ inl same ↦ clear (subst F same f) | inr later ↦ h.3 o later f before ])
+skip F R e r h k = grind arith
 
 pub guard_finds : {A : Type 0} (F : Found → Type 0) (t : Bool) (e : Found) (rows : Rows) → Before (ranked e) rows.floor → (r : Result A PlanError)
     → (t ≡ true → F e) → (t ≡ false → F e → ⊥) → (t ≡ false → Finds F rows.has r) → Finds F (λ o. (o ≡ e) ⊎ rows.has o) (cond t (Err e.error) r)
@@ -139,15 +151,10 @@ steps_from {S} {A} F step R p starts all s each past (x ∷ xs) done u k e split
     (steps_push step 1 done x s u t k e taken is)))
   where
     name : (o : Found) → R k o ⊎ Each R (k + 1) o → Each R k o
-    name o (inl here) = (k, omega arith, here)
-    name o (inr (m, le, later)) = (m, omega arith, later)
+    name o h = grind arith
 
     split_row : (o : Found) → Each R k o → R k o ⊎ Each R (k + 1) o
-    split_row o (m, le, row) =
-        elim (cases_lt k m) [
-          | inl less ↦ inr (m, omega arith, row)
-          | inr ge ↦ let same : m ≡ k = omega arith in inl (subst (λ (n : ℕ). R n o) same row)
-        ]
+    split_row o h = grind arith
 
 pub steps_finds : {S A : Type 0} (F : Found → Type 0) (step : ℕ → A → S → Result S PlanError) (R : ℕ → Found → Type 0) (p : List ℕ) → ((n : ℕ) (o : Found) → R n o → Starts p n (ranked o))
     → (all : List A) (s : S) → FindsAt F step R all s → ((m : ℕ) (o : Found) → length all < m → R m o → F o → ⊥)

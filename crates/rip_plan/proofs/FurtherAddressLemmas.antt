@@ -1,5 +1,5 @@
 -- Where the further addresses of interfaces stand, and how many there are.
-use Rattle.std.proofs.Common.{◌≡◌, ℕ, suc, ◌+◌, ◌<◌, List, [], ◌∷◌, ◌++◌, length, length-append, map, Some, refl, subst, sym, ap, ◌∙◌, arith}
+use Rattle.std.proofs.Common.{◌≡◌, ℕ, ◌+◌, ◌<◌, List, [], ◌∷◌, ◌++◌, length, length-append, map, Some, refl, subst, sym, ap, ◌∙◌, arith}
 use Rattle.std.specs.Prelude.{slice_get, codes as codes_of}
 use Rattle.std.proofs.lemmas.Option.{same_Some, slice_get_within}
 use Rattle.std.proofs.lemmas.List.{length-map}
@@ -31,15 +31,13 @@ abbrev spots_at : (ℕ → At) → ℕ → Data → List At
 spots_at at j d = map (λ (y : Data). at j) (also_items d)
 
 of_flat : (at : ℕ → At) (j : ℕ) (ds : List Data) → also_spots_of at j ds ≡ flat (spots_at at) j ds
-of_flat at j [] = refl
-of_flat at j (d ∷ ds) = ap (λ (l : List At). spots_at at j d ++ l) (of_flat at (j + 1) ds)
+of_flat at j ds = grind arith
 
 abbrev spots_of_router : ℕ → Data → List At
 spots_of_router r d = also_spots_of (RouterInterface r) 1 (items_in (get (codes_of "interface") d))
 
 spots_flat : (r : ℕ) (ds : List Data) → also_spots_from r ds ≡ flat spots_of_router r ds
-spots_flat r [] = refl
-spots_flat r (d ∷ ds) = ap (λ (l : List At). spots_of_router r d ++ l) (spots_flat (r + 1) ds)
+spots_flat r ds = grind arith
 
 of_spot : (at : ℕ → At) (j : ℕ) (ds : List Data) (k : ℕ) (a : At) → slice_get (also_spots_of at j ds) k ≡ Some a → (m : ℕ) × (x : Data) × (a ≡ at (j + m)) × (slice_get ds m ≡ Some x)
 of_spot at j ds k a h =
@@ -56,7 +54,6 @@ also_spot r ds k a h =
 pub also_item : (routers : List Data) (k i j : ℕ) → slice_get (also_spots routers) k ≡ Some (RouterInterface i j) → (x : Data) × IsItem (codes_of "interface") routers i j x
 also_item routers k i j h =
     let s = also_spot 1 routers k (RouterInterface i j) h in
-    let same : RouterInterface i j ≡ RouterInterface (1 + s.n) (suc s.j) = s.is in
     (s.x, item_of (codes_of "interface") routers s.n s.j s.x s.item i j (cc) (cc))
 
 -- ---- how many there are

@@ -1,6 +1,6 @@
 -- The addresses of interfaces in one list, in which order they stand, and what is found there.
 use Rattle.std.proofs.Common.{◌≡◌, ℕ, zero, suc, ◌+◌, inl, inr, List, [], ◌∷◌, ◌++◌, true, Some, None, refl, sym, ◌∙◌, ap, arith, ◌<◌, ◌⊎◌}
-use Rattle.std.proofs.lemmas.Bool.{and_from, and_parts, cases_Bool, eq-eqb, eqb-true}
+use Rattle.std.proofs.lemmas.Bool.{and_from, cases_Bool, eq-eqb}
 use Rattle.std.specs.Prelude.{slice_get, ◌==◌}
 use Rattle.std.proofs.lemmas.Option.{none-some, same_Some}
 use Rattle.rip_plan.specs.declared.addresses.Held.{Held}
@@ -66,9 +66,7 @@ held_in is also k h e =
 -- ---- the first interface with an address
 
 same_held : (h : Held) (l a : ℕ) → is_at l a h ≡ true → h ≡ record { interface = h.interface; link = l; address = a }
-same_held h l a e =
-    let (link, address) = and_parts (h.link == l) (h.address == a) e in
-    rw (← eqb-true h.link l link, ← eqb-true h.address a address) refl
+same_held h l a e = grind arith
 
 holder_found : (l a i : ℕ) (hs : List Held) → holder_at l a hs ≡ Some i → (k : ℕ) × (slice_get hs k ≡ Some (record { interface = i; link = l; address = a }))
 holder_found l a i [] e = absurd (none-some i e)

@@ -1,6 +1,6 @@
 -- A plan without a fault keeps the laws.
-use Rattle.std.proofs.Common.{◌≡◌, ℕ, zero, suc, ◌+◌, ◌^◌, ◌<◌, ◌≤◌, ◌⊎◌, inl, inr, List, [], ◌∷◌, ◌++◌, length, map, Bool, true, false, ◌&&◌, Some, Result, Ok, refl, sym, ◌∙◌, ap, subst, arith}
-use Rattle.std.specs.Prelude.{◌==◌, pos, slice_get, codes as codes_of}
+use Rattle.std.proofs.Common.{◌≡◌, ℕ, zero, suc, ◌+◌, ◌^◌, ◌<◌, ◌≤◌, ◌⊎◌, inl, inr, List, [], ◌∷◌, ◌++◌, length, map, Bool, true, false, ◌&&◌, Some, Ok, refl, sym, ◌∙◌, ap, subst, arith}
+use Rattle.std.specs.Prelude.{◌==◌, slice_get, codes as codes_of}
 use Rattle.std.specs.List.{IsDistinct, list_any}
 use Rattle.std.proofs.lemmas.Bool.{and_parts, cases_lt, both_ways, cases_Bool, eq-eqb, eqb-true}
 use Rattle.std.proofs.lemmas.Bool.Decides.{nat_tests}
@@ -19,12 +19,12 @@ use Rattle.rip_plan.specs.declared.parts.Seat.{Seat}
 use Rattle.rip_plan.specs.declared.parts.Seat.TheVariants as seats
 use Rattle.rip_plan.specs.DocumentTables.{Has, IsSomeList}
 use Rattle.rip_plan.specs.Draft.{Sketch, has_address}
-use Rattle.rip_plan.specs.Fault.{◌>>=◌, fault}
+use Rattle.rip_plan.specs.Fault.{fault}
 use Rattle.rip_plan.specs.Fields.{list_of}
 use Rattle.rip_plan.specs.Network.{Network, cost_on, is_of, network_of_sketch}
 use Rattle.rip_plan.specs.Passes.{same_prefix}
 use Rattle.rip_plan.specs.Seats.{is_on}
-use Rattle.rip_plan.specs.PlanFaults.{AreTwice, DoMeet, HasTables, HasWrongCost, HasWrongDirect, HaveOneAddress, IsAstray, IsClash, IsFault, IsMisnamed, IsOutsideOf, IsText, TableFault, also_spots, interface_spots, pass_of, place_spots}
+use Rattle.rip_plan.specs.PlanFaults.{AreTwice, DoMeet, HasTables, HasWrongCost, HasWrongDirect, HaveOneAddress, IsAstray, IsClash, IsFault, IsMisnamed, IsText, TableFault, also_spots, interface_spots, pass_of, place_spots}
 use Rattle.rip_plan.specs.PlanOf.{AreAlsoOf, HasItems, IsAddressOf, IsCostOf, IsDirectOf, IsGatewayOf, IsInterfaceOf, IsNameOf, IsOnLink, IsOwned, IsPlaceOf, IsPlanOfText, Matched, Placement, PlanOf, each_once, items_in, items_under}
 use Rattle.rip_plan.specs.PlanText.{sketch_of}
 use Rattle.rip_plan.specs.Relations.{Carries, HasAddress, HasAddresses, HasOwnAddress, IsAttached, IsConnected, IsEachOnce, IsGateway, IsInside, IsInterface, IsLawful, IsOn, IsOwnAt, IsPlace, IsPrefix}
@@ -36,7 +36,7 @@ use Rattle.rip_plan.proofs.MatchingLemmas.{matched_left, matched_length}
 use Rattle.rip_plan.proofs.NumberingLemmas.{once_distinct, once_kept, same_self}
 use Rattle.rip_plan.proofs.NumbersWhereLemmas.{at_contains}
 use Rattle.rip_plan.proofs.OnePlanLemmas.{items_same}
-use Rattle.rip_plan.proofs.PlanMatchLemmas.{network_matches}
+use Rattle.rip_plan.proofs.PlanMatchLemmas.{matches}
 use Rattle.rip_plan.proofs.PlanPartLemmas.{apart, names_differ, also_counted, carrier_has, prefix_place, interface_table, interfaces_count, its_place, own_table, places_count}
 use Rattle.rip_plan.proofs.SpotLemmas.{interface_spot, place_spot, under_item}
 use Rattle.rip_plan.proofs.TextFaultLemmas.{faultless, read_or_told, whole_fault}
@@ -55,20 +55,11 @@ names_good laws names ds named none k name h =
 
 -- ---- costs
 
-in_range : (most c : ℕ) → (IsOutsideOf most (pos c) → ⊥) → (1 ≤ c) × (c ≤ most)
-in_range most c none =
-    elim (cases_lt c 1) [
-      | inl low ↦ absurd (none (λ e same least few. let is : c ≡ e = cc in omega arith))
-      | inr least ↦ elim (cases_lt most c) [ inl high ↦ absurd (none (λ e same one few. let is : c ≡ e = cc in omega arith)) | inr few ↦ (least, few) ]
-    ]
-
 cost_good : (d : Data) (c : ℕ) → IsCostOf d c → (HasWrongCost d → ⊥) → (1 ≤ c) × (c ≤ 15)
-cost_good d c (inl given) none = in_range 15 c (λ out. none (pos c, given, out))
-cost_good d c (inr given) none = let one : c ≡ 1 = given.1 in (omega arith, omega arith)
+cost_good d c h k = grind arith
 
 direct_good : (d : Data) (c e : ℕ) → IsCostOf d c → (1 ≤ c) × (c ≤ 15) → IsDirectOf d c e → (HasWrongDirect d → ⊥) → (1 ≤ e) × (e ≤ c)
-direct_good d c e cost good (inl given) none = in_range c e (λ out. none (c, pos e, cost, good.0, good.1, given, out))
-direct_good d c e cost good (inr given) none = let same : e ≡ c = given.1 in (omega (arith, good.0), omega arith)
+direct_good d c e h k g w = grind arith
 
 -- ---- lists
 
@@ -208,7 +199,6 @@ module _ (laws : TextLaws) (bytes : List ℕ) (document : Members) (n : Network)
                   let on : is_on l q.seat ≡ true = ap (is_on l) seat ∙ here in
                   let test : has_address block a ≡ true = grind (arith, nat_tests) in
                   let inner : has_address q.prefix a ≡ true = ap (λ (b : Block). has_address b a) one ∙ test in
-                  let clash : true ≡ false = rw (on, inner) at off in
                   cc;
             },
           ))
@@ -377,12 +367,9 @@ module _ (laws : TextLaws) (bytes : List ℕ) (document : Members) (n : Network)
 pub not_long : (bytes : List ℕ) → ((e : PlanError) → IsFault bytes e → ⊥) → length bytes ≤ 1048576
 not_long bytes none = elim (cases_lt 1048576 (length bytes)) [ inl more ↦ absurd (none (fault codes.Limit Text) (0, inl (inl more, refl))) | inr few ↦ few ]
 
-read_text : (laws : TextLaws) (bytes : List ℕ) (s : Sketch) → sketch_of bytes ≡ Ok s → IsPlanOfText bytes (network_of_sketch s)
-read_text laws bytes s h = network_matches laws bytes (network_of_sketch s) (ap (λ (r : Result Sketch PlanError). r >>= (λ t. Ok (network_of_sketch t))) h)
-
 pub lawful : (laws : TextLaws) (bytes : List ℕ) (s : Sketch) → sketch_of bytes ≡ Ok s → IsLawful (network_of_sketch s)
 lawful laws bytes s h =
-    let is = read_text laws bytes s h in
+    let is = matches laws bytes s h in
     let none = faultless laws bytes s h in
     let text : IsText bytes is.document = record { short = not_long bytes none; reads = is.reads } in
     lawful_plan laws bytes is.document (network_of_sketch s) is.plan (record { text = text; has_links = is.plan.has_links; has_routers = is.plan.has_routers }) none
@@ -390,6 +377,6 @@ lawful laws bytes s h =
 pub plan_stands : (laws : TextLaws) (bytes : List ℕ) → ((e : PlanError) → IsFault bytes e → ⊥) → (n : Network) × IsPlanOfText bytes n × IsLawful n
 plan_stands laws bytes none =
     elim (read_or_told laws bytes) [
-      | inl (s, h) ↦ (network_of_sketch s, read_text laws bytes s h, lawful laws bytes s h)
+      | inl (s, h) ↦ (network_of_sketch s, matches laws bytes s h, lawful laws bytes s h)
       | inr (d, h, told) ↦ absurd (none d (told.pass, told.found))
     ]

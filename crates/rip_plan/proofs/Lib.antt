@@ -1,16 +1,12 @@
 pub mod KeyLemmas
 pub mod NameLemmas
-pub mod LoopLemmas
 pub mod ClashLemmas
 pub mod BackLemmas
 pub mod BelowLemmas
-pub mod BindLemmas
 pub mod ItemLemmas
 pub mod FlatLemmas
-pub mod FirstFoundLemmas
 pub mod TextLemmas
 pub mod NumberingLemmas
-pub mod SecondPassLemmas
 pub mod SketchPlanLemmas
 pub mod CellLemmas
 pub mod NumbersWhereLemmas
@@ -18,7 +14,6 @@ pub mod HeldAddressLemmas
 pub mod LookupLemmas
 pub mod LeafRouterLemmas
 pub mod PlanAnswerLemmas
-pub mod WithinPlanLemmas
 pub mod MatchingLemmas
 pub mod TableLemmas
 pub mod DocumentTableLemmas

@@ -1,6 +1,6 @@
 -- What the look-ups of a lawful plan find, in the words of its relations.
+use Rattle.rip_plan.proofs.ClashLemmas.{find_gives, find_none}
 use Rattle.std.proofs.Common.{◌≡◌, ℕ, zero, suc, ◌+◌, ◌⊎◌, inl, inr, List, [], ◌∷◌, Bool, true, ◌&&◌, Option, Some, None, refl, sym, ◌∙◌, ap, subst, arith}
-use Rattle.rip_plan.proofs.FirstFoundLemmas.{find_gives, find_none}
 use Rattle.std.proofs.lemmas.Bool.{and_parts, both_ways, cases_Bool, eq-eqb, eqb-true}
 use Rattle.std.specs.Prelude.{slice_get, ◌==◌, find}
 use Rattle.std.specs.Option.{option_or}
@@ -89,12 +89,10 @@ cost_there r l d a c (suc i) b (x ∷ xs) h e =
     ]
 
 or_parts : {A : Type 0} (o p : Option A) (x : A) → option_or o p ≡ Some x → (o ≡ Some x) ⊎ (p ≡ Some x)
-or_parts None p x h = inr h
-or_parts (Some y) p x h = inl h
+or_parts o p x h = grind arith
 
 or_none : {A : Type 0} (o p : Option A) → option_or o p ≡ None → (o ≡ None) × (p ≡ None)
-or_none None p h = (refl, h)
-or_none (Some y) p h = absurd cc
+or_none o p h = grind arith
 
 direct_found : (r k c : ℕ) (is : List Interface) (qs : List Place) → direct_at r k is qs ≡ Some c
     → (j : ℕ) × (seat : Seat) × (slice_get qs j ≡ Some (record { prefix = k; seat = seat })) × (cost_at r is seat ≡ Some c)
@@ -177,8 +175,7 @@ direct_finds n laws r k c h =
 -- ---- carriers
 
 pub on_seat : (l : ℕ) (seat : Seat) → seated.is_on l seat ≡ true → seat ≡ seats.Link l
-on_seat l (seats.Link m) e = let same : m ≡ l = grind (arith, nat_tests) in ap seats.Link same
-on_seat l (seats.Own own) e = absurd cc
+on_seat l seat h = grind arith
 
 pub carrier_gives : (n : Network) (l k j : ℕ) → first_carrying l k 0 n.places ≡ Some j → Carries n l k
 carrier_gives n l k j h =
@@ -198,8 +195,7 @@ carrier_finds n l k (j, place) e =
 -- ---- a router's own prefixes
 
 own_owner : (r : ℕ) (seat : Seat) → seated.is_with r seat ≡ true → (own : OwnPrefix) × (seat ≡ seats.Own own) × (own.router ≡ r)
-own_owner r (seats.Link l) e = absurd cc
-own_owner r (seats.Own own) e = (own, refl, grind (arith, nat_tests))
+own_owner r seat h = grind arith
 
 -- the first item that passes stands at the first number that passes
 pub find_at : {A : Type 0} (test : A → Bool) (n : ℕ) (xs : List A) (k i : ℕ) → position_from test n xs ≡ Some k → k ≡ n + i → find test xs ≡ slice_get xs i

@@ -1,12 +1,12 @@
 -- Prefixes have one number each, each place has the number of its prefix, and the prefixes that are numbered are those of the places, each once.
 use Rattle.std.proofs.Common.{◌≡◌, ℕ, ◌+◌, inl, inr, List, [], ◌∷◌, ◌++◌, length, append_assoc, Bool, true, false, cond, suc, Option, Some, None, refl, sym, ◌∙◌, ap, arith, subst, map, filter, not, ◌&&◌, ◌||◌}
-use Rattle.std.specs.Prelude.{slice_get, ◌==◌}
+use Rattle.std.specs.Prelude.{slice_get}
 use Rattle.std.specs.List.{list_any, position_from, AllByRecursion, IsDistinct}
 use Rattle.std.specs.Option.{option_or}
-use Rattle.std.proofs.lemmas.Bool.{both_ways, cases_Bool, and_parts, false_from_ne_true, or_parts}
+use Rattle.std.proofs.lemmas.Bool.{cases_Bool}
 use Rattle.std.proofs.lemmas.List.{append-nil}
 use Rattle.std.proofs.lemmas.Bool.Decides.{nat_tests}
-use Rattle.rip_wire.specs.Prefix.{Block, block}
+use Rattle.rip_wire.specs.Prefix.{Block}
 use Rattle.rip_plan.specs.declared.parts.Place.{Place}
 use Rattle.rip_plan.specs.declared.draft.DraftPlace.{DraftPlace}
 use Rattle.rip_plan.specs.Passes.{same_prefix}
@@ -17,11 +17,7 @@ use Rattle.std.proofs.lemmas.List.Folds.{list_any-append}
 use Rattle.rip_plan.proofs.MatchingLemmas.{filter_both, filter_all}
 
 pub same_is : (p q : Block) → same_prefix p q ≡ true → p ≡ q
-same_is p q h =
-    let parts = and_parts (p.network == q.network) (p.prefix_len == q.prefix_len) h in
-    let networks : p.network ≡ q.network = grind (arith, nat_tests) in
-    let lengths : p.prefix_len ≡ q.prefix_len = grind (arith, nat_tests) in
-    ap (λ a. block a p.prefix_len) networks ∙ ap (λ b. block q.network b) lengths
+same_is p q h = grind arith
 
 pub same_self : (p : Block) → same_prefix p p ≡ true
 same_self p = grind (arith, nat_tests)
@@ -30,17 +26,10 @@ pub same_from : (p q : Block) → p ≡ q → same_prefix p q ≡ true
 same_from p q h = rw h (same_self q)
 
 pub same_flips : (p q : Block) → same_prefix p q ≡ same_prefix q p
-same_flips p q =
-    elim (cases_Bool (same_prefix p q)) [
-      | inl e ↦ e ∙ sym (same_from q p (sym (same_is p q e)))
-      | inr e ↦ e ∙ sym (false_from_ne_true (same_prefix q p) (λ f. both_ways (same_prefix p q) e (same_from p q (sym (same_is q p f)))))
-    ]
+same_flips p q = grind arith
 
 pub none_same : (p : Block) (ps : List Block) → list_any (same_prefix p) ps ≡ false → list_any (λ q. same_prefix q p) ps ≡ false
-none_same p [] h = refl
-none_same p (q ∷ qs) h =
-    let parts = or_parts (same_prefix p q) (list_any (same_prefix p) qs) h in
-    rw (sym (same_flips p q) ∙ parts.0) (none_same p qs parts.1)
+none_same p ps h = grind arith
 
 -- the place has the number of its prefix, and the seat
 abbrev pub IsNumbered : List Block → Place → DraftPlace → Type 0
@@ -89,8 +78,7 @@ position_push test n (y ∷ ys) x =
     elim (cases_Bool (test y)) [ inl e ↦ rw e refl | inr e ↦ rw (e, position_push test (n + 1) ys x, same) refl ]
 
 pub or_nothing : {A : Type 0} (o : Option A) → option_or o None ≡ o
-or_nothing None = refl
-or_nothing (Some x) = refl
+or_nothing o = grind arith
 
 -- a prefix that is new gets the next number
 pub new_number : (ps : List Block) (d p : Block) → number_of_prefix d ps ≡ None → cond (same_prefix d p) (Some (length ps)) (number_of_prefix p ps) ≡ number_of_prefix p (ps ++ d ∷ [])
@@ -112,10 +100,7 @@ new_push : (ps : List Block) (b q : Block) → is_new (ps ++ b ∷ []) q ≡ (no
 new_push ps b q = ap not (list_any-append (λ p. same_prefix p q) ps (b ∷ [])) ∙ by_tests (list_any (λ p. same_prefix p q) ps) (same_prefix b q)
   where
     by_tests : (a c : Bool) → not (a || (c || false)) ≡ (not c && not a)
-    by_tests true true = refl
-    by_tests true false = refl
-    by_tests false true = refl
-    by_tests false false = refl
+    by_tests a c = grind arith
 
 -- a prefix that is new among prefixes that have b is not b
 new_other : (ps : List Block) (b q : Block) → is_new ps b ≡ false → is_new ps q ≡ (not (same_prefix b q) && is_new ps q)

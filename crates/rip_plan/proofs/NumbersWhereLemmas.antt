@@ -49,10 +49,7 @@ low test n xs k h =
     omega (arith, at.2)
 
 rising_cons : (n : ℕ) (ws : List ℕ) → ((k : ℕ) → k < length ws → n + 1 ≤ get_or ws k 0) → IsStrictlyIncreasing ws → IsStrictlyIncreasing (n ∷ ws)
-rising_cons n ws above rising zero h = omega (arith, above 0)
-rising_cons n ws above rising (suc k) h =
-    let at : suc k + 1 ≡ suc (k + 1) = omega arith in
-    rw at (rising k (omega arith))
+rising_cons n ws h g = grind arith
 
 pub rising : {A : Type 0} (test : A → Bool) (n : ℕ) (xs : List A) → IsStrictlyIncreasing (numbers_where test n xs)
 rising test n [] = λ k h. absurd (omega arith)

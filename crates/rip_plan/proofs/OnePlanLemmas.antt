@@ -1,14 +1,13 @@
 -- A document has one plan.
-use Rattle.std.proofs.Common.{◌≡◌, ℕ, inl, inr, List, ◌++◌, map, Bool, true, false, Option, Some, None, refl, sym, ◌∙◌, ap, subst}
+use Rattle.std.proofs.Common.{◌≡◌, ℕ, ◌⊎◌, List, ◌++◌, map, Bool, true, false, Option, Some, None, refl, sym, ◌∙◌, ap, subst, arith}
 use Rattle.std.specs.Prelude.{pos, slice_get, codes as codes_of}
 use Rattle.std.proofs.lemmas.Option.{none-some, same_Some}
-use Rattle.toml.specs.Data.{Data, Members, string, boolean, integer, array, table, get}
+use Rattle.toml.specs.Data.{Data, Members, string, boolean, integer, table, get}
 use Rattle.rip_wire.specs.Prefix.{Block}
 use Rattle.rip_plan.specs.declared.parts.Interface.{Interface}
 use Rattle.rip_plan.specs.declared.parts.Place.{Place}
 use Rattle.rip_plan.specs.declared.parts.Seat.{Seat}
 use Rattle.rip_plan.specs.declared.parts.Seat.TheVariants as seats
-use Rattle.rip_plan.specs.Fields.{list_of}
 use Rattle.rip_plan.specs.Passes.{same_prefix}
 use Rattle.rip_plan.specs.Network.{Network}
 use Rattle.rip_plan.specs.PlanOf.{Matched, HasText, HasItems, IsAddressOf, AreAlsoOf, IsCostOf, IsDirectOf, IsFlagOf, IsGatewayOf, IsLinkOf, IsNameOf, items_in, items_under, IsInterfaceOf, Placement, IsOnLink, IsOwned, IsPlaceOf, each_once, PlanOf, IsFirstNamed}
@@ -21,36 +20,27 @@ pub text_same : (key : List ℕ) (d : Data) (s t : List ℕ) → HasText key d s
 text_same key d s t h k = let same : string s ≡ string t = same_Some (string s) (string t) (sym h ∙ k) in cc
 
 pub items_same : (key : List ℕ) (d : Data) (xs ys : List Data) → HasItems key d xs → HasItems key d ys → xs ≡ ys
-items_same key d xs ys (i, h, e) (j, k, f) =
-    let same : array i ≡ array j = same_Some (array i) (array j) (sym h ∙ k) in
-    let one : i ≡ j = cc in
-    sym e ∙ ap list_of one ∙ f
+items_same key d xs ys (i, h, e) (j, k, f) = grind arith
+
+-- what stands there, or what is meant where nothing stands
+either_same : {A : Type 0} (o : Option Data) (make : A → Data) → ((x y : A) → make x ≡ make y → x ≡ y) → (b c : A) → b ≡ c → (x y : A)
+    → (o ≡ Some (make x)) ⊎ ((o ≡ None) × (x ≡ b)) → (o ≡ Some (make y)) ⊎ ((o ≡ None) × (y ≡ c)) → x ≡ y
+either_same o make h b c k x y g e = grind arith
+
+one_number : (x y : ℕ) → integer (pos x) ≡ integer (pos y) → x ≡ y
+one_number x y same = let whole : pos x ≡ pos y = cc in cc
 
 pub cost_same : (d : Data) (b c : ℕ) → IsCostOf d b → IsCostOf d c → b ≡ c
-cost_same d b c (inl h) (inl k) = let same : integer (pos b) ≡ integer (pos c) = same_Some _ _ (sym h ∙ k) in let whole : pos b ≡ pos c = cc in cc
-cost_same d b c (inl h) (inr k) = absurd (none-some _ (sym k.0 ∙ h))
-cost_same d b c (inr h) (inl k) = absurd (none-some _ (sym h.0 ∙ k))
-cost_same d b c (inr h) (inr k) = h.1 ∙ sym k.1
+cost_same d b c h k = either_same (get (codes_of "cost") d) (λ x. integer (pos x)) one_number 1 1 refl b c h k
 
 direct_same : (d : Data) (b c : ℕ) → b ≡ c → (x y : ℕ) → IsDirectOf d b x → IsDirectOf d c y → x ≡ y
-direct_same d b c e x y (inl h) (inl k) = let same : integer (pos x) ≡ integer (pos y) = same_Some _ _ (sym h ∙ k) in let whole : pos x ≡ pos y = cc in cc
-direct_same d b c e x y (inl h) (inr k) = absurd (none-some _ (sym k.0 ∙ h))
-direct_same d b c e x y (inr h) (inl k) = absurd (none-some _ (sym h.0 ∙ k))
-direct_same d b c e x y (inr h) (inr k) = h.1 ∙ e ∙ sym k.1
+direct_same d b c e x y h k = either_same (get (codes_of "direct") d) (λ x. integer (pos x)) one_number b c e x y h k
 
 flag_same : (key : List ℕ) (d : Data) (b c : Bool) → b ≡ c → (x y : Bool) → IsFlagOf key b d x → IsFlagOf key c d y → x ≡ y
-flag_same key d b c e x y (inl h) (inl k) = let same : boolean x ≡ boolean y = same_Some _ _ (sym h ∙ k) in cc
-flag_same key d b c e x y (inl h) (inr k) = absurd (none-some _ (sym k.0 ∙ h))
-flag_same key d b c e x y (inr h) (inl k) = absurd (none-some _ (sym h.0 ∙ k))
-flag_same key d b c e x y (inr h) (inr k) = h.1 ∙ e ∙ sym k.1
+flag_same key d b c e x y h k = either_same (get key d) boolean (λ x y same. cc) b c e x y h k
 
 link_same : (names others : List (List ℕ)) → names ≡ others → (d : Data) (l m : Option ℕ) → IsLinkOf names d l → IsLinkOf others d m → l ≡ m
-link_same names others same d None None h k = refl
-link_same names others same d None (Some m) h k = absurd (none-some _ (sym h ∙ k.1))
-link_same names others same d (Some l) None h k = absurd (none-some _ (sym k ∙ h.1))
-link_same names others same d (Some l) (Some m) h k =
-    let one : h.0 ≡ k.0 = text_same (codes_of "link") d h.0 k.0 h.1 k.1 in
-    ap (λ (n : ℕ). Some n) (one_named names h.0 k.0 l m one h.2 (subst (λ (ns : List (List ℕ)). IsFirstNamed ns k.0 m) (sym same) k.2))
+link_same names others h d l m k g = grind arith
 
 gateway_same : (laws : TextLaws) (d : Data) (a b : Option ℕ) → IsGatewayOf d a → IsGatewayOf d b → a ≡ b
 gateway_same laws d None None h k = refl
@@ -75,7 +65,6 @@ interface_same laws names others same b c root x y at h k =
 
 address_same : (laws : TextLaws) (a b : ℕ) (d : Data) → IsAddressOf a d → IsAddressOf b d → a ≡ b
 address_same laws a b d (t, h, is) (u, k, its) =
-    let same : string t ≡ string u = sym h ∙ k in
     let one : t ≡ u = cc in
     one_address laws t u a b one is its
 
@@ -87,7 +76,6 @@ placement_same x y e f = ap (λ (v : Block). record x { prefix = v }) e ∙ ap (
 
 on_link_same : (laws : TextLaws) (x y : Placement) (at : ℕ × Data) → IsOnLink x at → IsOnLink y at → x ≡ y
 on_link_same laws x y at h k =
-    let same : string h.text ≡ string k.text = sym h.is_text ∙ k.is_text in
     let text : h.text ≡ k.text = cc in
     placement_same x y (one_prefix laws h.text k.text x.prefix y.prefix text h.prefix k.prefix) (h.seat ∙ sym k.seat)
 

@@ -1,5 +1,5 @@
 -- The order in which faults are told.
-use Rattle.std.proofs.Common.{◌≡◌, ℕ, ◌<◌, ◌≤◌, ◌⊎◌, inl, inr, List, [], ◌∷◌, ◌++◌, length, refl, sym, arith}
+use Rattle.std.proofs.Common.{◌≡◌, ℕ, ◌<◌, ◌≤◌, ◌⊎◌, inl, inr, List, [], ◌∷◌, ◌++◌, length, refl, arith}
 use Rattle.std.proofs.lemmas.Bool.{cases_lt}
 use Rattle.rip_plan.specs.PlanFaults.{Before}
 
@@ -11,8 +11,6 @@ before_trans (x ∷ xs) (y ∷ ys) (z ∷ zs) (inl h) (inl k) = inl (omega arith
 before_trans (x ∷ xs) (y ∷ ys) (z ∷ zs) (inl h) (inr k) = let same : y ≡ z = k.0 in inl (omega arith)
 before_trans (x ∷ xs) (y ∷ ys) (z ∷ zs) (inr h) (inl k) = let same : x ≡ y = h.0 in inl (omega arith)
 before_trans (x ∷ xs) (y ∷ ys) (z ∷ zs) (inr h) (inr k) =
-    let first : x ≡ y = h.0 in
-    let second : y ≡ z = k.0 in
     inr (omega arith, before_trans xs ys zs h.1 k.1)
 
 pub before_not : (xs : List ℕ) → Before xs xs → ⊥
@@ -42,9 +40,7 @@ before_or (x ∷ xs) (y ∷ ys) e =
     ]
   where
     tails : x ≡ y → ((xs ≡ ys) ⊎ Before xs ys) ⊎ Before ys xs → ((x ∷ xs ≡ y ∷ ys) ⊎ Before (x ∷ xs) (y ∷ ys)) ⊎ Before (y ∷ ys) (x ∷ xs)
-    tails same (inl (inl h)) = inl (inl (rw (same, h) refl))
-    tails same (inl (inr h)) = inl (inr (inr (same, h)))
-    tails same (inr h) = inr (inr (sym same, h))
+    tails h k = grind arith
 
 -- the numbers start with p, and then n
 abbrev pub Starts : List ℕ → ℕ → List ℕ → Type 0

@@ -1,10 +1,9 @@
 -- What the later passes find of the faults of a plan.
-use Rattle.std.proofs.Common.{◌≡◌, ℕ, ◌+◌, ◌<◌, ◌⊎◌, inl, inr, suc, List, [], ◌∷◌, ◌++◌, length, true, false, ◌||◌, Option, Some, None, Result, refl, sym, ap, subst, ◌∙◌, arith, Bool}
-use Rattle.rip_plan.proofs.FirstFoundLemmas.{Clashes, FirstSo, Passes, first_clashing, first_passing}
+use Rattle.std.proofs.Common.{◌≡◌, ℕ, ◌+◌, ◌<◌, ◌⊎◌, inl, inr, suc, List, [], ◌∷◌, ◌++◌, length, true, false, ◌||◌, Option, Some, None, Result, refl, sym, ap, subst, ◌∙◌, arith, Bool, zero, map}
 use Rattle.rip_plan.proofs.SketchPlanLemmas.{as_interface, interface_as, place_in, place_from, touch, touches, there_on, on_there}
 use Rattle.std.specs.Prelude.{slice_get, find, option_map, unwrap_or, map, ◌==◌}
 use Rattle.std.specs.List.{IsDistinct, list_any}
-use Rattle.std.proofs.lemmas.Option.{same_Some, slice_get_within}
+use Rattle.std.proofs.lemmas.Option.{same_Some, slice_get_within, none-some}
 use Rattle.std.proofs.lemmas.Bool.{eq-eqb, eqb-true, cases_order, true_from_ne_false, and_parts, or_cases, or_right, not-true, not-false, both_ways, false_from_ne_true}
 use Rattle.std.proofs.lemmas.Bool.Decides.{nat_tests}
 use Rattle.toml.specs.Data.{Data, Members}
@@ -22,25 +21,79 @@ use Rattle.rip_plan.specs.declared.parts.Seat.TheVariants as seats
 use Rattle.rip_plan.specs.Codes.{number_of_code}
 use Rattle.rip_plan.specs.Fault.{fault}
 use Rattle.rip_plan.specs.Draft.{Sketch}
-use Rattle.rip_plan.specs.Passes.{first_clash, touched, touching, same_prefix, do_meet, is_same_link, have_common, are_twice, is_astray, is_bare, is_there, none_found, second_passes, spot_of, duplicate_in, twice_in, taken_address_in, bare_in, astray_in}
-use Rattle.rip_plan.specs.Addresses.{have_one_address}
+use Rattle.rip_plan.specs.Passes.{first_clash, touched, touching, same_prefix, do_meet, is_same_link, have_common, are_twice, is_astray, is_bare, is_there, none_found, second_passes, spot_of, duplicate_in, twice_in, taken_address_in, bare_in, astray_in, first_bare}
+use Rattle.rip_plan.specs.Addresses.{have_one_address, held_from}
 use Rattle.rip_plan.specs.Network.{Network, network_of_sketch}
 use Rattle.rip_plan.specs.Relations.{IsAttachedAt, IsInterface, IsPlace}
 use Rattle.rip_plan.specs.PlanOf.{PlanOf}
-use Rattle.rip_plan.specs.PlanFaults.{TableFault, IsAstray, IsClash, IsBare, IsSo, DoMeet, AreTwice, HasOneTwice, HaveOneAddress, Before, pass_of, rank, position, place_spots, interface_spots}
+use Rattle.rip_plan.specs.PlanFaults.{TableFault, IsAstray, IsClash, IsBare, IsSo, DoMeet, AreTwice, HasOneTwice, HaveOneAddress, Before, rank, position, place_spots, interface_spots}
 use Rattle.rip_plan.proofs.OrderLemmas.{before_trans, before_not}
 use Rattle.rip_plan.proofs.FindingLemmas.{Found, Finds, finds_in, bind_rows}
 use Rattle.rip_plan.proofs.FaultRowLemmas.{IsAstrayAt, IsLast, IsOfTables, IsTold, told_finds, code_rows, code_high, last_two, last_three, last_four, pass_rows}
-use Rattle.rip_plan.proofs.HeldAddressLemmas.{address_held, first_held, held_address, held_at, held_order}
+use Rattle.rip_plan.proofs.HeldAddressLemmas.{address_held, first_held, held_address, held_at, held_order, held_in}
 use Rattle.rip_plan.proofs.OnePlanLemmas.{one_plan}
 use Rattle.rip_plan.proofs.PlanPartLemmas.{own_table}
 use Rattle.rip_plan.proofs.SpotLemmas.{place_ahead, interface_ahead, place_spot, interface_spot}
 use Rattle.rip_plan.proofs.PlanMatchLemmas.{place_ats, interface_ats}
 use Rattle.rip_plan.proofs.ItemLemmas.{cases_option, any_at, any_finds, distinct_at, get_seen, see_got, get_some}
 use Rattle.rip_plan.proofs.NumberingLemmas.{numbered_once, once_distinct, same_is, same_from}
-use Rattle.rip_plan.proofs.SecondPassLemmas.{address_spot, at_number, bare_found, common, held, held_spot, number_at, numbers_from, taken_address}
-use Rattle.rip_plan.proofs.ClashLemmas.{meeting_seen}
+use Rattle.rip_plan.proofs.ClashLemmas.{Clashes, FirstSo, Passes, first_clashing, first_passing, meeting_seen}
 use Rattle.rip_plan.proofs.TextLemmas.{TextLaws}
+
+-- the addresses of all interfaces
+abbrev held : List DraftInterface → List (List ℕ) → List Held
+held interfaces also = held_from 0 (map (λ i. i.interface) interfaces) also
+
+-- ---- an address stands at an interface
+
+held_spot : (interfaces : List DraftInterface) (also : List (List ℕ)) (k : ℕ) (h : Held) → slice_get (held interfaces also) k ≡ Some h
+    → (d : DraftInterface) × (slice_get interfaces h.interface ≡ Some d)
+held_spot interfaces also k h at =
+    let c = held_in (map (λ (i : DraftInterface). i.interface) interfaces) also k h at in
+    let (d, there, same) = get_seen (λ (i : DraftInterface). i.interface) interfaces h.interface c.u.x.0 c.listed in
+    (d, there)
+
+-- where an address stands in the text
+abbrev address_spot : List DraftInterface → Held → At
+address_spot interfaces h = unwrap_or (spot_of interfaces h.interface) Text
+
+taken_address : (interfaces : List DraftInterface) (also : List (List ℕ))
+    → taken_address_in interfaces also ≡ option_map (address_spot interfaces) (first_clash have_one_address [] (held interfaces also))
+taken_address interfaces also =
+    elim (cases_option (first_clash have_one_address [] (held interfaces also))) [
+      | inl e ↦ rw e refl
+      | inr (h, e) ↦
+          let (k, at, is, before) = subst (FirstSo (Clashes have_one_address (held interfaces also)) (held interfaces also)) e (first_clashing have_one_address (held interfaces also)) in
+          let (d, there) = held_spot interfaces also k h at in
+          rw (e, there) refl
+    ]
+
+-- ---- each router has an interface
+
+abbrev numbers_from : ℕ → ℕ → List ℕ
+numbers_from k zero = []
+numbers_from k (suc n) = k ∷ numbers_from (k + 1) n
+
+number_at : (k n m r : ℕ) → slice_get (numbers_from k n) m ≡ Some r → (r ≡ k + m) × (m < n)
+number_at k zero m r h = absurd (none-some r h)
+number_at k (suc n) zero r h = let same : k ≡ r = same_Some k r h in (omega arith, omega arith)
+number_at k (suc n) (suc m) r h = let later = number_at (k + 1) n m r h in (omega (arith, later.0), omega (arith, later.1))
+
+at_number : (k n m : ℕ) → m < n → slice_get (numbers_from k n) m ≡ Some (k + m)
+at_number k zero m h = absurd (omega arith)
+at_number k (suc n) zero h = ap (λ (r : ℕ). Some r) (omega arith)
+at_number k (suc n) (suc m) h = at_number (k + 1) n m (omega arith) ∙ ap (λ (r : ℕ). Some r) (omega arith)
+
+bare_found : (is : List DraftInterface) (k n : ℕ) → first_bare is k n ≡ find (is_bare is) (numbers_from k n)
+bare_found is k zero = refl
+bare_found is k (suc n) = rw (bare_found is (k + 1) n) refl
+
+-- two seats touch a router
+common : (rs ss : List ℕ) (r : ℕ) → list_any (λ s. s == r) rs ≡ true → list_any (λ s. s == r) ss ≡ true → have_common rs ss ≡ true
+common rs ss r h k =
+    let found = any_finds (λ s. s == r) ss k in
+    let same : found.1 ≡ r = grind (arith, nat_tests) in
+    any_at (λ s. list_any (λ t. t == s) rs) ss found.0 found.1 found.2 (rw same h)
 
 -- ---- one pass
 
@@ -126,8 +179,7 @@ clash_finds {A} F n c see xs spots stand ahead clash Clash gives takes told clea
 
 module _ (s : Sketch) where
   on_one : (seat other : Seat) → is_same_link seat other ≡ true → (l : ℕ) × (seat ≡ seats.Link l) × (other ≡ seats.Link l)
-  on_one (seats.Link l) (seats.Link m) h = let same : l ≡ m = grind (arith, nat_tests) in (l, refl, ap seats.Link (sym same))
-  on_one seat other h = absurd cc
+  on_one seat other h = grind arith
 
   meet_gives : (j k : ℕ) (y x : DraftPlace) → slice_get s.places j ≡ Some y → slice_get s.places k ≡ Some x → do_meet (touching s.interfaces y) (touching s.interfaces x) ≡ true
       → DoMeet (network_of_sketch s) j k
@@ -210,8 +262,7 @@ module _ (s : Sketch) where
 
   taken_of : (i l a j k m : ℕ) → j < k → slice_get (held s.interfaces s.also) j ≡ Some (record { interface = m; link = l; address = a })
       → slice_get (held s.interfaces s.also) k ≡ Some (record { interface = i; link = l; address = a }) → IsTaken i
-  taken_of i l a j k m less there at =
-      (k, record { interface = i; link = l; address = a }, at, (j, record { interface = m; link = l; address = a }, less, there, grind (arith, nat_tests)), refl)
+  taken_of i l a j k m less there at = grind arith
 
   address_takes : (m i : ℕ) → m < i → HaveOneAddress (network_of_sketch s) m i → IsTaken i
   address_takes m i ahead (l, a, h, g) =
@@ -236,12 +287,7 @@ module _ (s : Sketch) where
 
   -- an own prefix whose router is not on its link
   astray_own : (seat : Seat) → is_astray s.interfaces seat ≡ true → (own : OwnPrefix) × (l : ℕ) × (seat ≡ seats.Own own) × (own.link ≡ Some l) × (is_there s.interfaces own.router l ≡ false)
-  astray_own (seats.Link l) h = absurd cc
-  astray_own (seats.Own own) h =
-      elim (cases_option own.link) [
-        | inl e ↦ let clash = rw e at h in absurd cc
-        | inr (l, e) ↦ (own, l, refl, e, not-true (is_there s.interfaces own.router l) (rw e at h))
-      ]
+  astray_own seat h = grind arith
 
   astray_gives : (k : ℕ) (d : DraftPlace) → slice_get s.places k ≡ Some d → is_astray s.interfaces d.seat ≡ true → IsAstray (network_of_sketch s) k
   astray_gives k d at h =
@@ -432,8 +478,7 @@ module _ (laws : TextLaws) (document : Members) (links routers : List Data) (s :
     where
       take : (o : Found) → (o.pass ≡ 5) × (o.error.code ≡ codes.UnknownLink) → IsOfTables document links routers o
           → IsLast document links routers o × ((o.pass ≡ 5) × (o.error.code ≡ codes.UnknownLink))
-      take o row (inl f) = let late : o.pass ≡ 5 = row.0 in let early : o.pass ≡ 0 = f.1 ∙ ap pass_of row.1 in absurd (omega arith)
-      take o row (inr f) = (f, row)
+      take o h k = grind arith
 
   pub passes_find : Finds (IsOfTables document links routers) pass_rows.has (second_passes s)
   unfolding second_passes

@@ -1,10 +1,10 @@
 -- What a lawful plan answers from its look-ups.
-use Rattle.std.proofs.Common.{◌≡◌, ◌<◌, ◌≤◌, ◌↔◌, ◌⊎◌, inl, inr, arith, ℕ, Bool, true, false, ◌||◌, Option, Some, None, List, [], ◌∷◌, length, refl, sym, ◌∙◌, ap}
-use Rattle.std.specs.Prelude.{option_and_then, unwrap_or, Decides, IfSome}
-use Rattle.std.specs.List.{list_any}
+use Rattle.std.proofs.Common.{◌≡◌, ◌<◌, ◌≤◌, ◌↔◌, ◌⊎◌, inl, inr, arith, ℕ, Bool, true, false, Option, Some, None, List, [], ◌∷◌, length, refl, sym, ◌∙◌, ap, get_or}
+use Rattle.std.specs.Prelude.{option_and_then, unwrap_or, Decides, IfSome, slice_get, Some}
+use Rattle.std.specs.List.{list_any, All}
 use Rattle.std.specs.Option.{is_some, option_map_or}
 use Rattle.std.proofs.lemmas.Bool.{cases_Bool, or_cases, or_left, or_parts, or_right}
-use Rattle.std.proofs.lemmas.Option.{none-some, slice_get_within}
+use Rattle.std.proofs.lemmas.Option.{none-some, slice_get_within, slice_get-get_or}
 use Rattle.rip_plan.proofs.ItemLemmas.{cases_option}
 use Rattle.rip_wire.specs.Prefix.{Block}
 use Rattle.rip_plan.specs.declared.parts.OwnPrefix.{OwnPrefix}
@@ -15,6 +15,7 @@ use Rattle.rip_plan.specs.Seats.{gateway_of, is_kept, link_of}
 use Rattle.rip_plan.specs.Network.{Network, is_owned, own_seat, direct_at, first_carrying, found_at, number_of_prefix}
 use Rattle.rip_plan.specs.Relations.{IsAt, IsAttached, IsGateway, IsKept, IsOwnWith, IsPrefix, IsDirect, Touches, Carries, IsLawful}
 use Rattle.rip_plan.proofs.LookupLemmas.{interface_of, prefix_of_number, number_of_planned, HasOwnSeat, own_says, own_gives, own_finds, direct_gives, direct_finds, carrier_gives, carrier_finds, found_gives, found_finds}
+use Rattle.rip_plan.specs.Rows.{IsLinkBelow, IsOwnerBelow}
 
 pub found_exact : (n : Network) → IsLawful n → (name : List ℕ) (a : ℕ) (o : Option ℕ) → o ≡ found_at n name a → (i : ℕ) → (o ≡ Some i) ↔ IsAt n name a i
 found_exact n laws name a o e i = (λ h. found_gives n name a i (sym e ∙ h), λ h. e ∙ found_finds n laws name a i h)
@@ -28,8 +29,7 @@ direct_exact n laws r k o e c = (λ h. direct_gives n r k c (sym e ∙ h), λ h.
 
 -- a number that the plan does not have has no cost, and each cost is at least 1
 past_not : {a b r k : ℕ} → (a ≤ r) ⊎ (b ≤ k) → r < a → k < b → ⊥
-past_not (inl le) router prefix = omega arith
-past_not (inr le) router prefix = omega arith
+past_not h g e = grind arith
 
 pub direct_past : (n : Network) → IsLawful n → (r k : ℕ) → (length n.routers ≤ r) ⊎ (length n.prefixes ≤ k) → direct_at r k n.interfaces n.places ≡ None
 direct_past n laws r k past =
@@ -65,15 +65,8 @@ none_kept r k (q ∷ qs) h =
 pub none_attached : (r k : ℕ) (places : List Place) → list_any (λ (q : Place). is_kept q.seat) places ≡ false → option_and_then link_of (own_seat r k places) ≡ None
 none_attached r k places h = by_seat (own_seat r k places) (none_kept r k places h)
   where
-    no_link : (kept : Bool) (link : Option ℕ) → (kept || is_some link) ≡ false → link ≡ None
-    no_link true link e = absurd cc
-    no_link false (Some l) e = absurd cc
-    no_link false None e = refl
-
     by_seat : (o : Option Seat) → option_map_or is_kept o false ≡ false → option_and_then link_of o ≡ None
-    by_seat None e = refl
-    by_seat (Some (seats.Link l)) e = refl
-    by_seat (Some (seats.Own own)) e = no_link own.kept own.link e
+    by_seat o h = grind arith
 
 pub own_past : (n : Network) → IsLawful n → (r k : ℕ) → (length n.routers ≤ r) ⊎ (length n.prefixes ≤ k) → own_seat r k n.places ≡ None
 own_past n laws r k past =
@@ -170,3 +163,34 @@ gateway_planned n laws r p o e k a planned =
 
 pub gateway_unplanned : (n : Network) (r : ℕ) (p : Block) (o : Option ℕ) → o ≡ gateway_at n r p → ((k : ℕ) → IsPrefix n k p → ⊥) → o ≡ None
 gateway_unplanned n r p o e none = e ∙ ap (option_and_then (λ m. option_and_then gateway_of (own_seat r m n.places))) (no_number n p none)
+
+-- ---- the numbers that the parts of a plan give are numbers that the plan has
+
+module _ (n : Network) (laws : IsLawful n) where
+  pub interfaces_links : All (λ i. i.link < length n.links) n.interfaces
+  interfaces_links k d h =
+      let x = get_or n.interfaces k d in
+      laws.link_known k x.router x.link x.cost (record { address = x.address; direct = x.direct; poison = x.poison; listed = slice_get-get_or n.interfaces k d h })
+
+  pub interfaces_routers : All (λ i. i.router < length n.routers) n.interfaces
+  interfaces_routers k d h =
+      let x = get_or n.interfaces k d in
+      laws.router_known k x.router x.link x.cost (record { address = x.address; direct = x.direct; poison = x.poison; listed = slice_get-get_or n.interfaces k d h })
+
+  pub places_prefixes : All (λ q. q.prefix < length n.prefixes) n.places
+  places_prefixes k d h =
+      let q = get_or n.places k d in
+      laws.prefix_known k q.prefix q.seat (record { listed = slice_get-get_or n.places k d h })
+
+  pub places_links : All (λ q. IsLinkBelow (length n.links) q.seat) n.places
+  places_links k d h = by_seat (get_or n.places k d).seat (slice_get-get_or n.places k d h)
+    where
+      by_seat : (seat : Seat) → slice_get n.places k ≡ Some (record { prefix = (get_or n.places k d).prefix; seat = seat }) → IsLinkBelow (length n.links) seat
+      by_seat seat h = grind arith
+
+  pub places_owners : All (λ q. IsOwnerBelow (length n.routers) q.seat) n.places
+  places_owners k d h = by_seat (get_or n.places k d).seat (slice_get-get_or n.places k d h)
+    where
+      by_seat : (seat : Seat) → slice_get n.places k ≡ Some (record { prefix = (get_or n.places k d).prefix; seat = seat }) → IsOwnerBelow (length n.routers) seat
+      by_seat (seats.Link l) e = tt
+      by_seat (seats.Own own) e = laws.owner_known k (get_or n.places k d).prefix own.router own.cost (record { own = own; place = record { listed = e }; router = refl; says = refl })

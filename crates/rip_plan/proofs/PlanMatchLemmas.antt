@@ -15,15 +15,12 @@ use Rattle.rip_wire.specs.Address.{address_in}
 use Rattle.rip_wire.specs.Name.{is_name}
 use Rattle.rip_plan.specs.Names.{is_one_of, number_of_name}
 use Rattle.rip_plan.specs.Passes.{second_passes}
-use Rattle.std.proofs.lemmas.Bool.{or_parts}
-use Rattle.std.proofs.lemmas.Bool.Decides.{nat_tests}
 use Rattle.rip_plan.specs.Fault.{fault, ◌>>=◌, steps}
 use Rattle.rip_plan.specs.Fields.{◌&>◌, link_fields, interface_fields, own_fields, router_fields, root_fields, cost_of, direct_of, addresses_in, address_if, link_if, is_version}
 use Rattle.rip_plan.specs.Draft.{Sketch, prefix_step, link_step, interface_step, own_step, router_step, is_outside, is_full, with_interface, with_place}
 use Rattle.rip_plan.specs.PlanText.{empty, document_of, sketch_of_document, sketch_of}
 use Rattle.rip_plan.specs.Network.{Network, network_in, network_of_sketch}
 use Rattle.rip_plan.specs.PlanOf.{Matched, IsAddressOf, AreAlsoOf, IsNameOf, items_under, IsInterfaceOf, Placement, IsOnLink, IsOwned, IsPlaceOf, each_once, PlanOf, IsPlanOfText}
-use Rattle.rip_plan.proofs.BindLemmas.{bind_ok, guard_ok, ok_same, wanted_ok}
 use Rattle.rip_plan.proofs.NumberingLemmas.{numbered_once, IsNumbered, numbers}
 use Rattle.rip_plan.proofs.MatchingLemmas.{matched_append, matched_seen}
 use Rattle.rip_plan.proofs.SpotLemmas.{with_number}
@@ -34,6 +31,7 @@ use Rattle.rip_plan.specs.declared.error.At.{At}
 use Rattle.rip_plan.proofs.DocumentTableLemmas.{interface_texts, link_table, own_texts, root_table, router_table}
 use Rattle.rip_plan.proofs.TableLemmas.{addresses_are, cost_is, direct_is, flag_meant, gateway_is, link_is, text_is}
 use Rattle.rip_plan.proofs.TextLemmas.{TextLaws, address_is, prefix_is, first_named}
+use Rattle.rip_plan.proofs.FindingLemmas.{bind_ok, guard_ok, ok_same, wanted_ok}
 
 abbrev pub placement : DraftPlace → Placement
 placement d = record { prefix = d.prefix; seat = d.seat }
@@ -62,9 +60,7 @@ place_taken new s t h = let (room, h1) = guard_ok (nat_le 1024 (length s.places)
 
 -- there is room for one more interface with these addresses
 pub room_for : (s : Sketch) (also : List ℕ) → is_full s also ≡ false → (length s.interfaces + 1 ≤ 1024) × (sum_by length s.also + length also ≤ 1024)
-room_for s also h =
-    let parts = or_parts (nat_le 1024 (length s.interfaces)) (nat_lt 1024 (sum_by length s.also + length also)) h in
-    (grind (arith, nat_tests, parts.0), grind (arith, nat_tests, parts.1))
+room_for s also h = grind arith
 
 few_more : (new : DraftInterface) (s u : Sketch) (also : List ℕ) → is_full s also ≡ false → u ≡ with_interface new also s → sum_by length u.also ≤ 1024
 few_more new s u also free made = omega (arith, (room_for s also free).1, ap (λ (v : Sketch). sum_by length v.also) made, sum_by_push length s.also also)
@@ -401,7 +397,7 @@ document_matches laws doc links routers poison s is read =
     blocks_seen [] = refl
     blocks_seen (d ∷ ds) = ap (λ (l : List Block). d.prefix ∷ l) (blocks_seen ds)
 
-matches : (laws : TextLaws) (bytes : List ℕ) (s : Sketch) → sketch_of bytes ≡ Ok s → IsPlanOfText bytes (network_of_sketch s)
+pub matches : (laws : TextLaws) (bytes : List ℕ) (s : Sketch) → sketch_of bytes ≡ Ok s → IsPlanOfText bytes (network_of_sketch s)
 unfolding sketch_of sketch_of_document
 matches laws bytes s h =
     let (long, h1) = guard_ok (nat_lt 1048576 (length bytes)) (fault codes.Limit Text) _ s h in

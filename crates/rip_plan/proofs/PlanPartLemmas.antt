@@ -123,12 +123,10 @@ link_prefix links routers names on_links owned link_prefixes own_prefixes l k q 
     elim (get_split on_links owned k q at) [
       | inl here ↦
           let ((m, x), is, on) = matched_left IsOnLink on_links (items_under (codes_of "prefixes") 0 links) k q link_prefixes here.0 in
-          let one : seats.Link l ≡ seats.Link m = sym seat ∙ on.seat in
           let number : m ≡ l = cc in
           (k, on.text, is ∙ ap (λ (v : ℕ). Some (v, x)) number ∙ ap (λ (y : Data). Some (l, y)) on.is_text, on.prefix)
       | inr there ↦
           let (x, is, own) = matched_left (IsOwned names) owned (items_under (codes_of "own") 0 routers) there.0 q own_prefixes there.2 in
-          let clash : seats.Link l ≡ seats.Own own.own = sym seat ∙ own.seat in
           absurd cc
     ]
 
@@ -137,7 +135,6 @@ pub prefix_place : (links : List Data) (on_links : List Placement) → Matched I
     → (k : ℕ) × (q : Placement) × (slice_get on_links k ≡ Some q) × (q.seat ≡ seats.Link l) × ((text : List ℕ) × IsPrefixText text q.prefix × IsPrefixText text p)
 prefix_place links on_links link_prefixes l p (k, text, at, parsed) =
     let (q, listed, of) = matched_right IsOnLink on_links (items_under (codes_of "prefixes") 0 links) k (l, string text) link_prefixes at in
-    let strings : string text ≡ string of.text = of.is_text in
     let same : text ≡ of.text = cc in
     (k, q, listed, of.seat, (of.text, of.prefix, subst (λ (t : List ℕ). IsPrefixText t p) same parsed))
 

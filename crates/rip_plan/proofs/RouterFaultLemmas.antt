@@ -31,7 +31,7 @@ use Rattle.rip_plan.proofs.FurtherAddressLemmas.{also_here, also_in, also_items,
 use Rattle.rip_plan.proofs.OrderLemmas.{starts_high}
 use Rattle.rip_plan.proofs.SpotLemmas.{with_number, nth_from, place_once, interface_once, own_here, under_here, nth_here, item_once, count_of}
 use Rattle.rip_plan.proofs.ItemLemmas.{any_at, any_finds, position_none, get_seen, see_got, get_left}
-use Rattle.rip_plan.proofs.TableLemmas.{IsTextIf, addresses_told, addresses_clear, cost_fits, direct_fits, direct_is, direct_within, gateway_fits, gateway_is, link_is, map_none, cost_is, cost_within, cost_told, direct_told, gateway_told, IsReadOf, addresses_read}
+use Rattle.rip_plan.proofs.TableLemmas.{IsTextIf, addresses_told, addresses_clear, cost_fits, gateway_fits, gateway_is, link_is, map_none, cost_is, cost_within, cost_told, direct_told, gateway_told, IsReadOf, addresses_read}
 use Rattle.std.proofs.lemmas.List.{map-append}
 use Rattle.rip_plan.proofs.MatchingLemmas.{matched_left, matched_length, matched_right}
 use Rattle.rip_plan.proofs.OnePlanLemmas.{text_same}
@@ -149,13 +149,7 @@ metric_told x f fields c costs none =
     (c, z, cost_is (get (codes_of "cost") x) f.cost c fields.cost costs, least, most, is, bad)
 
 costs_clear : (x : Data) (f : InterfaceFields) → HasInterfaceFields x f → (c e : ℕ) → cost_of f.cost ≡ Some c → direct_of c f.direct ≡ Some e → HasWrongCost x ⊎ HasWrongDirect x → ⊥
-costs_clear x f fields c e costs directs wrong =
-    let cost = cost_is (get (codes_of "cost") x) f.cost c fields.cost costs in
-    let good = cost_within f.cost c costs in
-    elim wrong [
-      | inl bad ↦ cost_fits x c cost good bad
-      | inr bad ↦ direct_fits x c e cost (direct_is (get (codes_of "direct") x) c f.direct e fields.direct directs) (direct_within c f.direct e good.0 directs) bad
-    ]
+costs_clear x f fields c e costs directs wrong = grind arith
 
 -- ---- interfaces
 
@@ -163,12 +157,10 @@ self_on : (l : ℕ) (q : DraftPlace) → q.seat ≡ seats.Link l → is_on l q.s
 self_on l q e = rw e (grind (arith, nat_tests))
 
 not_both : (a b : Bool) → (a && not b) ≡ false → a ≡ true → b ≡ true
-not_both true true e h = refl
-not_both a b e h = absurd cc
+not_both a b h k = grind arith
 
 both_not : (a b : Bool) → (a && not b) ≡ true → (a ≡ true) × (b ≡ false)
-both_not true false e = (refl, refl)
-both_not a b e = absurd cc
+both_not a b h = grind arith
 
 -- the prefixes of a link are those of the places on it
 module _ (laws : TextLaws) (links done : List Data) (poison : Bool) (v : Sketch) (read : TablesRead links done poison v)

@@ -52,15 +52,13 @@ abbrev pub numbered_items : List ℕ → ℕ → Data → List (ℕ × Data)
 numbered_items key n d = map (with_number n) (items_in (get key d))
 
 pub items_flat : (key : List ℕ) (n : ℕ) (ds : List Data) → items_under key n ds ≡ flat (numbered_items key) n ds
-items_flat key n [] = refl
-items_flat key n (d ∷ ds) = ap (λ (l : List (ℕ × Data)). numbered_items key n d ++ l) (items_flat key (n + 1) ds)
+items_flat key n ds = grind arith
 
 abbrev spots_in : List ℕ → (ℕ → ℕ → At) → ℕ → Data → List At
 spots_in key at i d = spots_of (at i) 1 (items_in (get key d))
 
 spots_flat : (key : List ℕ) (at : ℕ → ℕ → At) (i : ℕ) (ds : List Data) → spots_under key at i ds ≡ flat (spots_in key at) i ds
-spots_flat key at i [] = refl
-spots_flat key at i (d ∷ ds) = ap (λ (l : List At). spots_in key at i d ++ l) (spots_flat key at (i + 1) ds)
+spots_flat key at i ds = grind arith
 
 same_counts : (key : List ℕ) (at : ℕ → ℕ → At) (i n : ℕ) (d : Data) → length (spots_in key at i d) ≡ length (numbered_items key n d)
 same_counts key at i n d = count_of (at i) 1 (items_in (get key d)) ∙ sym (length-map (items_in (get key d)) (with_number n))
@@ -124,8 +122,7 @@ under_ahead key at order i ds k m a b less h g =
     (order (i + u.i) (1 + u.j) (i + v.i) (1 + v.j) (elim (in_order (spots_in key at) i ds k m a b u v less) [ inl before ↦ inl (omega arith) | inr (same, before) ↦ inr (omega arith, omega arith) ]))
 
 ordered : (at : ℕ → ℕ → At) (part group : ℕ) → ((i j : ℕ) → position (at i j) ≡ part ∷ i ∷ group ∷ j ∷ []) → Ordered at
-ordered at part group places i j n m (inl h) = rw (places i j, places n m) (inr (refl, inl h))
-ordered at part group places i j n m (inr h) = rw (places i j, places n m) (inr (refl, inr (h.0, inr (refl, inl h.1))))
+ordered at part group h = grind arith
 
 pub interface_ahead : (routers : List Data) (k m : ℕ) (a b : At) → k < m → slice_get (interface_spots routers) k ≡ Some a → slice_get (interface_spots routers) m ≡ Some b → Ahead a b
 interface_ahead routers k m a b less h g = under_ahead (codes_of "interface") RouterInterface (ordered RouterInterface 2 1 (λ i j. refl)) 1 routers k m a b less h g
@@ -148,8 +145,6 @@ place_ahead links routers k m a b less h g =
           elim (get_split here later m b g) [
             | inl f ↦ let past : k ≡ length here + e.0 = e.1 in let within : m < length here = f.1 in absurd (omega arith)
             | inr f ↦
-                let one : k ≡ length here + e.0 = e.1 in
-                let two : m ≡ length here + f.0 = f.1 in
                 under_ahead (codes_of "own") RouterOwn (ordered RouterOwn 2 2 (λ i j. refl)) 1 routers e.0 f.0 a b (omega arith) e.2 f.2
           ]
     ]
@@ -206,7 +201,6 @@ own_item links routers k i j h =
 pub interface_item : (routers : List Data) (k i j : ℕ) → slice_get (interface_spots routers) k ≡ Some (RouterInterface i j) → (x : Data) × IsItem (codes_of "interface") routers i j x
 interface_item routers k i j h =
     let s = spot_under (codes_of "interface") RouterInterface 1 routers k (RouterInterface i j) h in
-    let same : RouterInterface i j ≡ RouterInterface (1 + s.n) (suc s.j) = s.is in
     (s.x, item_of (codes_of "interface") routers s.n s.j s.x s.item i j (cc) (cc))
 
 -- the spot of an item has the number of the items before it
@@ -238,6 +232,4 @@ nth_here done x rest n e = let same : n ≡ suc (length done) = omega arith in r
 -- ---- one item has a number
 
 pub item_once : (key : List ℕ) (ds : List Data) (i j : ℕ) (x y : Data) → IsItem key ds i j x → IsItem key ds i j y → x ≡ y
-item_once key ds i j x y (d, is, it) (e, js, jt) =
-    let same : d ≡ e = same_Some d e (sym is ∙ js) in
-    same_Some x y (sym it ∙ ap (λ (z : Data). nth (items_in (get key z)) j) same ∙ jt)
+item_once key ds i j x y (d, is, it) (e, js, jt) = grind arith

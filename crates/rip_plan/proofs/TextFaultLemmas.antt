@@ -1,6 +1,6 @@
 -- The first fault of a text is the one that is told, and a text that is read has none.
 use Rattle.std.proofs.Common.{◌≡◌, ◌≢◌, ℕ, ◌<◌, ◌≤◌, ◌⊎◌, ◌↔◌, inl, inr, List, [], ◌∷◌, length, Bool, true, false, cond, not, ◌||◌, Option, Some, None, Result, Ok, Err, refl, sym, ap, subst, ◌∙◌, arith}
-use Rattle.std.proofs.lemmas.Bool.{both_ways, cases_Bool, or_cases, or_parts, not-false, not-true}
+use Rattle.std.proofs.lemmas.Bool.{both_ways, cases_Bool, not-false, not-true}
 use Rattle.std.specs.Prelude.{pos, nat_lt, ◌==◌, codes as codes_of}
 use Rattle.std.specs.Result.{result_err}
 use Rattle.std.proofs.lemmas.Option.{none-some, same_Some}
@@ -18,12 +18,11 @@ use Rattle.rip_plan.specs.Fault.{fault, ◌>>=◌, steps, wanted}
 use Rattle.rip_plan.specs.Fields.{is_version, root_fields}
 use Rattle.rip_plan.specs.Network.{network_of_sketch}
 use Rattle.rip_plan.specs.Passes.{second_passes}
-use Rattle.rip_plan.specs.PlanOf.{HasItems, PlanOf}
+use Rattle.rip_plan.specs.PlanOf.{PlanOf}
 use Rattle.rip_plan.specs.PlanText.{empty, document_of, sketch_of_document, sketch_of}
 use Rattle.rip_plan.specs.PlanFaults.{IsText, HasTables, TableFault, FaultAt, AstrayAt, IsFound, IsFault, PlanFault, Before, pass_of, rank, place_spots}
-use Rattle.rip_plan.proofs.BindLemmas.{bind_ok}
-use Rattle.rip_plan.proofs.FaultRowLemmas.{by_code, IsAstrayAt, IsOfTables, IsTold, covers, told_finds, first_rows, first_high, first_sooner, links_rows, links_high, routers_rows, pass_rows, table_rows}
-use Rattle.rip_plan.proofs.FindingLemmas.{Found, ranked, row_at, Rows, row_then, Finds, finds_in, guard_finds, want_finds, bind_rows}
+use Rattle.rip_plan.proofs.FaultRowLemmas.{IsAstrayAt, IsOfTables, IsTold, covers, told_finds, first_rows, first_high, first_sooner, links_rows, links_high, routers_rows, pass_rows, table_rows}
+use Rattle.rip_plan.proofs.FindingLemmas.{Found, ranked, row_at, Rows, row_then, Finds, finds_in, guard_finds, want_finds, bind_rows, bind_ok}
 use Rattle.rip_plan.proofs.LinkFaultLemmas.{links_find}
 use Rattle.rip_plan.proofs.OnePlanLemmas.{items_same}
 use Rattle.rip_plan.proofs.OrderLemmas.{before_not, before_trans, before_or}
@@ -56,8 +55,7 @@ module _ (laws : TextLaws) (document : Members) (links routers : List Data) (poi
       then_ok F s (second_passes s) (passes_find laws document links routers s plan read.places_stand read.interfaces_stand spots))
     where
       then_ok : (F : Found → Type 0) (s : Sketch) (r : Result (Unit {0}) PlanError) → Finds F pass_rows.has r → Finds F pass_rows.has (r >>= (λ _. Ok s))
-      then_ok F s (Ok x) h = h
-      then_ok F s (Err e) h = h
+      then_ok F s r h = grind arith
 
 -- ---- the document
 
@@ -85,14 +83,12 @@ kind bytes pass c place (inr h) = absurd h.0
 
 -- a fault of a place where nothing is astray
 in_table : (bytes : List ℕ) (pass : ℕ) (c : PlanCode) (place : At) → (AstrayAt bytes place → ⊥) → IsFound bytes pass (fault c place) → FaultAt bytes c place
-in_table bytes pass c place none (inl h) = h.0
-in_table bytes pass c place none (inr h) = absurd (none h.0)
+in_table bytes pass c place h k = grind arith
 
 -- ---- the version
 
 pub version_is : (o : Option Data) → is_version o ≡ true → o ≡ Some (integer (pos 1))
-version_is (Some (integer (pos n))) h = let one : n ≡ 1 = grind (arith, nat_tests) in ap (λ (m : ℕ). Some (integer (pos m))) one
-version_is o h = absurd cc
+version_is o h = grind arith
 
 pub version_told : (o : Option Data) → not (is_version o) ≡ true → o ≢ Some (integer (pos 1))
 version_told o h same = both_ways (is_version o) (not-true (is_version o) h) (ap is_version same)
@@ -105,18 +101,10 @@ same_document bytes document other h text = same_Some other document (sym text.r
 -- bytes have one document, with one list of links and one of routers
 module _ (bytes : List ℕ) (document : Members) (links routers : List Data) (has : HasTables bytes document links routers) where
   pub one_tables : (other : Members) (ls rs : List Data) → HasTables bytes other ls rs → ◌≡◌ {A = Members × List Data × List Data} (other, ls, rs) (document, links, routers)
-  one_tables other ls rs h =
-      let same = same_document bytes document other has.text.reads h.text in
-      let one : ls ≡ links = items_same (codes_of "link") (table document) ls links (subst (λ (m : Members). HasItems (codes_of "link") (table m) ls) same h.has_links) has.has_links in
-      let two : rs ≡ routers = items_same (codes_of "router") (table document) rs routers (subst (λ (m : Members). HasItems (codes_of "router") (table m) rs) same h.has_routers) has.has_routers in
-      rw (same, one, two) refl
+  one_tables other ls rs h = grind arith
 
   pub whole_fault : (c : PlanCode) (place : At) → TableFault document links routers c place → FaultAt bytes c place
-  whole_fault codes.Syntax Text h = absurd h
-  whole_fault codes.Version Version h = absurd h
-  whole_fault codes.Key Text h = absurd h
-  whole_fault codes.Limit Text h = absurd h
-  whole_fault c place h = (document, links, routers, has, h)
+  whole_fault c place h = grind arith
 
   pub one_fault : (c : PlanCode) (place : At) (other : Members) (ls rs : List Data) → HasTables bytes other ls rs → TableFault other ls rs c place → TableFault document links routers c place
   one_fault c place other ls rs h f = subst (λ (t : Members × List Data × List Data). TableFault t.0 t.1 t.2 c place) (one_tables other ls rs h) f
@@ -163,13 +151,10 @@ module _ (laws : TextLaws) (bytes : List ℕ) (document : Members) (short : leng
   from_version = row_then (row_at codes.Version Version) from_key (inr (refl, inr (refl, inr (refl, inr (refl, inr (refl, inl (omega arith)))))))
 
   over_told : (links routers : List Data) → (nat_lt 512 (length links) || nat_lt 128 (length routers)) ≡ true → (512 < length links) ⊎ (128 < length routers)
-  over_told links routers h =
-      elim (or_cases (nat_lt 512 (length links)) (nat_lt 128 (length routers)) h) [ inl more ↦ inl (grind (arith, nat_tests)) | inr more ↦ inr (grind (arith, nat_tests)) ]
+  over_told links routers h = grind arith
 
   over_clear : (links routers : List Data) → (nat_lt 512 (length links) || nat_lt 128 (length routers)) ≡ false → (512 < length links) ⊎ (128 < length routers) → ⊥
-  over_clear links routers h over =
-      let (few, small) = or_parts (nat_lt 512 (length links)) (nat_lt 128 (length routers)) h in
-      elim over [ inl more ↦ grind (arith, nat_tests, few) | inr more ↦ grind (arith, nat_tests, small) ]
+  over_clear links routers h over = grind arith
 
   document_finds : Finds (IsTextFault bytes) from_version.has (sketch_of_document document)
   unfolding sketch_of_document
@@ -208,8 +193,7 @@ module _ (laws : TextLaws) (bytes : List ℕ) (document : Members) (short : leng
 
       by_fault : (links routers : List Data) (o : Found) → table_rows.has o → Before (ranked o) (0 ∷ 1 ∷ 1 ∷ []) ⊎ IsOfTables document links routers o
           → IsOfTables document links routers o × table_rows.has o
-      by_fault links routers o here (inl before) = absurd (table_rows.low o here before)
-      by_fault links routers o here (inr t) = (t, here)
+      by_fault links routers o h k = grind arith
 
   row_covered : (c : PlanCode) (place : At) → FaultAt bytes c place → from_version.has (row_at c place)
   row_covered codes.Syntax Text h = absurd (none-some document (sym h.1 ∙ reads))
@@ -238,20 +222,10 @@ text_finds laws bytes =
     ]
   where
     past_long : 1048576 < length bytes → (o : Found) → Kind bytes o → Before (ranked o) (ranked (row_at codes.Limit Text)) → ⊥
-    past_long more o (long same) before = before_not (ranked (row_at codes.Limit Text)) (subst (λ (e : Found). Before (ranked e) (ranked (row_at codes.Limit Text))) same before)
-    past_long more o (not_document same short none) before = omega arith
-    past_long more o (of_document d t) before = let short : length bytes ≤ 1048576 = t.short in omega arith
-
-    not_first : Before (ranked (row_at codes.Limit Text)) (ranked (row_at codes.Syntax Text)) → ⊥
-    not_first b =
-        let late = ranked (row_at codes.Limit Text) in
-        before_not late (before_trans late (ranked (row_at codes.Syntax Text)) late b (by_code Text codes.Syntax codes.Limit refl (omega arith)))
+    past_long h o k g = grind arith
 
     past_syntax : document_of bytes ≡ None → (o : Found) → Kind bytes o → Before (ranked o) (ranked (row_at codes.Syntax Text)) → ⊥
-    past_syntax none o (long same) before = not_first (subst (λ (e : Found). Before (ranked e) (ranked (row_at codes.Syntax Text))) same before)
-    past_syntax none o (not_document same short none') before = before_not (ranked (row_at codes.Syntax Text))
-        (subst (λ (e : Found). Before (ranked e) (ranked (row_at codes.Syntax Text))) same before)
-    past_syntax none o (of_document d t) before = none-some d (sym none ∙ t.reads)
+    past_syntax h o k g = grind arith
 
     by_document : length bytes ≤ 1048576 → (o : Option Members) → document_of bytes ≡ o → Finds (IsTextFault bytes) (λ o. Unit {0}) (wanted (fault codes.Syntax Text) o >>= sketch_of_document)
     by_document short None e = (0, inl ((short, e), refl), tt, λ o u f before. past_syntax e o (kind bytes o.pass o.error.code o.error.place f) before)
@@ -267,8 +241,7 @@ code_from n =
 
 code_back : (c : PlanCode) → code_from (number_of_code c) ≡ c
 unfolding code_from
-code_back codes.Syntax = refl
-code_back c = refl
+code_back c = grind arith
 
 error_from : List ℕ → PlanError
 error_from (pass ∷ part ∷ i ∷ group ∷ j ∷ code ∷ []) =
@@ -288,8 +261,7 @@ from_rank bytes pass c Text (inr h) = absurd h.0
 from_rank bytes pass c place h = ap (λ (d : PlanCode). fault d place) (code_back c)
 
 rank_length : (pass : ℕ) (c : PlanCode) (place : At) → length (rank pass (fault c place)) ≡ 6
-rank_length pass c (Link i) = omega arith
-rank_length pass c place = omega arith
+rank_length pass c place = grind arith
 
 pub fault_first : (laws : TextLaws) (bytes : List ℕ) (e : PlanError) → sketch_of bytes ≡ Err e → PlanFault bytes e
 fault_first laws bytes e h =
@@ -354,12 +326,4 @@ none_told laws bytes =
 
 -- no code of a fault is Memory
 pub never_memory : (bytes : List ℕ) (e : PlanError) → PlanFault bytes e → e.code ≢ codes.Memory
-never_memory bytes e p memory =
-    elim p.found [
-      | inl f ↦ by_place e.place (subst (λ (c : PlanCode). FaultAt bytes c e.place) memory f.0)
-      | inr f ↦ let clash : codes.UnknownLink ≡ codes.Memory = sym f.1 ∙ memory in absurd cc
-    ]
-  where
-    by_place : (place : At) → FaultAt bytes codes.Memory place → ⊥
-    by_place Text f = f.4
-    by_place place f = f.4
+never_memory bytes e p memory = grind arith

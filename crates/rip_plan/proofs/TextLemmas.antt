@@ -22,10 +22,7 @@ first_named name names l h =
     )
 
 pub one_named : (names : List (List ℕ)) (name other : List ℕ) (l m : ℕ) → name ≡ other → IsFirstNamed names name l → IsFirstNamed names other m → l ≡ m
-one_named names name other l m same h k =
-    let le : l ≤ m = h.1 m (k.0 ∙ ap (λ (t : List ℕ). Some t) (sym same)) in
-    let ge : m ≤ l = k.1 l (h.0 ∙ ap (λ (t : List ℕ). Some t) same) in
-    omega arith
+one_named names name other l m same h k = grind arith
 
 -- the laws of names, addresses and prefixes
 pub record TextLaws : Type 0 where

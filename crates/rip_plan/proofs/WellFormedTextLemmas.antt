@@ -1,5 +1,5 @@
 -- Bytes without a fault are the well-formed ones.
-use Rattle.std.proofs.Common.{◌≡◌, ℕ, zero, suc, ◌+◌, ◌<◌, ◌≤◌, ◌⊎◌, inl, inr, List, map, length, sum, not, Some, refl, sym, ◌∙◌, ap, subst, arith}
+use Rattle.std.proofs.Common.{◌≡◌, ℕ, zero, suc, ◌+◌, ◌<◌, ◌≤◌, ◌⊎◌, inl, inr, List, length, not, Some, refl, sym, ◌∙◌, ap, subst, arith}
 use Rattle.std.specs.Prelude.{slice_get, get_or, codes as codes_of}
 use Rattle.std.specs.List.{All}
 use Rattle.std.proofs.lemmas.Bool.{cases_Bool}
@@ -107,7 +107,6 @@ module _ (laws : TextLaws) (bytes : List ℕ) (w : IsWellFormed bytes) where
       let few : length w.network.interfaces ≤ 1024 = w.lawful.few_interfaces in
       past_not (interface_spots w.plan.routers) (RouterInterface r j) (omega (arith, interfaces_count w.document w.network w.plan)) f
   interface_limit r j (inr f) =
-      let few : sum (map length w.network.also) ≤ 1024 = w.lawful.few_also in
       past_not (also_spots w.plan.routers) (RouterInterface r j) (omega (arith, also_counted w.document w.network w.plan)) f
 
   interface_cost : (x : Data) → HasInterface w.document w.network w.plan x → HasWrongCost x ⊎ HasWrongDirect x → ⊥

@@ -1,8 +1,6 @@
 use Rattle.std.proofs.Common.{◌≡◌, ℕ, ◌-◌, ◌*◌, ◌<◌, ◌∷◌, take, ◌++◌, drop, length, arith, ◌∙◌, ap}
 use Rattle.std.specs.Prelude.{◌==◌}
-use Rattle.std.proofs.lemmas.Nat.{mul-add-lt}
 use Rattle.rip_plan.specs.declared.parts.Seat.{Seat}
-use Rattle.rip_plan.specs.declared.parts.Seat.TheVariants.{Link, Own}
 use Rattle.rip_plan.specs.Network.{cost_at, direct_at}
 use Rattle.rip_plan.specs.Rows.{IsOwnerBelow, IsOwnerWithin}
 use Rattle.rip_plan.proofs.BackLemmas.{back_is}
@@ -10,8 +8,7 @@ use Rattle.rip_plan.proofs.CellLemmas.{place_written, written_back}
 use Rattle.rip_plan.proofs.index.costs_of.Goals as goal
 
 owner_within : (routers w p cells : ℕ) (seat : Seat) → IsOwnerBelow routers seat → p < w → cells ≡ routers * w → IsOwnerWithin w p cells seat
-owner_within routers w p cells (Link l) h below e = tt
-owner_within routers w p cells (Own own) h below e = omega (arith, mul-add-lt own.router w p routers h below)
+owner_within routers w p cells seat h k g = grind arith
 
 pub write_costs_at-requires-clause-owner : goal.write_costs_at-requires-clause-owner
 write_costs_at-requires-clause-owner c =
@@ -28,11 +25,9 @@ loop-i-preserved c =
     let i = c.loop-i.i in
     let is = c.args.interfaces.now in
     let places = c.args.places.now in
-    let w = c.args.prefixes in
     let q = c.index-places-i.result in
     let new = c.write_costs_at.new.costs in
     let value = c.as_mut_slice.ensures.value in
-    let count : length c.as_mut_slice.result.now ≡ length costs.items = ap length value in
     let same : length new ≡ length costs.items = omega arith in
     let back : take costs.len (new ++ drop (length new) costs.items) ≡ new = written_back new costs.items costs.len (omega (arith, c.as_mut_slice.ensures.len)) same in
     let front : drop (i - 1) places ≡ q ∷ drop i places = back_is places i q (omega arith) (omega arith) c.index-places-i.is in

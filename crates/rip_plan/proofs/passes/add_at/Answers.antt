@@ -1,4 +1,4 @@
-use Rattle.std.proofs.Common.{◌≡◌, List, [], ◌∷◌, ◌++◌, Bool, true, false, cond, Option, Some, None, refl, ap, ◌∙◌, Vec, Global}
+use Rattle.std.proofs.Common.{◌≡◌, List, [], ◌∷◌, ◌++◌, Bool, true, cond, Option, Some, None, refl, ap, ◌∙◌, Vec, Global, arith}
 use Rattle.std.specs.HashMap.{get}
 use Rattle.std.specs.Option.{option_map_or}
 use Rattle.rip_wire.specs.Prefix.{Block}
@@ -10,8 +10,7 @@ use Rattle.rip_plan.proofs.passes.add_at.Goals.{in-Some, in-None}
 
 seat_added : {A V : Type 0} (view : V → List A) (here : Bool) (at old removed new : Option V) (v : V) (x : A) → new ≡ cond here (Some v) removed → removed ≡ cond here None old
     → view v ≡ option_map_or view at [] ++ x ∷ [] → (here ≡ true → at ≡ old) → option_map_or view new [] ≡ cond here (option_map_or view old [] ++ x ∷ []) (option_map_or view old [])
-seat_added view true at old removed new v x f g pushed same = rw f (pushed ∙ ap (λ o. option_map_or view o [] ++ x ∷ []) (same refl))
-seat_added view false at old removed new v x f g pushed same = rw (f, g) refl
+seat_added view here at old removed new v x h k g e = grind arith
 
 pub returns : goal.returns
 returns g c b =

@@ -1,4 +1,4 @@
-use Rattle.std.proofs.Common.{◌≡◌, ℕ, ◌+◌, List, [], ◌++◌, ◌∷◌, ◌&&◌, Vec, None, map, take, sym, ap, ◌∙◌, refl}
+use Rattle.std.proofs.Common.{◌≡◌, ℕ, ◌+◌, List, [], ◌++◌, ◌∷◌, ◌&&◌, Vec, None, map, take, sym, ap, ◌∙◌, arith}
 use Rattle.std.specs.Prelude.{option_map, filter, nat_eq}
 use Rattle.std.specs.HashMap.{HashMap}
 use Rattle.std.specs.List.{list_any}
@@ -6,7 +6,7 @@ use Rattle.std.proofs.lemmas.List.{at_drop_all, take_more}
 use Rattle.rip_plan.specs.declared.draft.DraftInterface.{DraftInterface}
 use Rattle.rip_plan.specs.declared.draft.DraftPlace.{DraftPlace}
 use Rattle.rip_plan.specs.declared.parts.Seat.{Seat}
-use Rattle.rip_plan.specs.declared.parts.Seat.TheVariants.{Link, Own}
+use Rattle.rip_plan.specs.declared.parts.Seat.TheVariants.{Link}
 use Rattle.rip_plan.specs.Passes.{do_meet, first_clash, same_prefix, touched, touching}
 use Rattle.rip_plan.specs.Touches.{listed, seats_meet, touched_by}
 use Rattle.rip_plan.proofs.ClashLemmas.{any_listed, clash_here, clash_later, listed_push, meeting_seen}
@@ -20,13 +20,11 @@ met interfaces by same front p seats h =
     rw h (any_listed (λ (q : DraftPlace). q.seat) (λ q. same_prefix q.prefix p.prefix) (λ other. seats_meet by other p.seat) front ∙ each front)
   where
     each : (qs : List DraftPlace) → list_any (λ q. same_prefix q.prefix p.prefix && seats_meet by q.seat p.seat) qs ≡ list_any (λ q. do_meet (touching interfaces q) (touching interfaces p)) qs
-    each [] = refl
-    each (q ∷ qs) = rw (each qs, same q.seat, same p.seat) refl
+    each qs = grind arith
 
 touched_same : {S G : Type 0} (on_links : HashMap ℕ (Vec ℕ G) S) (interfaces : List DraftInterface) → ((l : ℕ) → listed nat_eq on_links l ≡ touched interfaces (Link l)) → (seat : Seat)
     → touched_by on_links seat ≡ touched interfaces seat
-touched_same on_links interfaces h (Link l) = h l
-touched_same on_links interfaces h (Own own) = refl
+touched_same on_links interfaces h seat = grind arith
 
 pub returns-then-meets_earlier : goal.returns-then-meets_earlier
 returns-then-meets_earlier c =

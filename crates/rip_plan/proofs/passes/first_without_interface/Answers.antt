@@ -1,13 +1,9 @@
-use Rattle.std.proofs.Common.{◌+◌, ap, not, sym, ◌∙◌}
-use Rattle.std.specs.Prelude.{option_map}
-use Rattle.rip_plan.specs.declared.error.At.TheVariants.{Router}
-use Rattle.rip_plan.proofs.ClashLemmas.{bare_here, bare_later}
+use Rattle.std.proofs.Common.{ap, not, sym, ◌∙◌, arith}
+use Rattle.rip_plan.proofs.ClashLemmas.{bare_later}
 use Rattle.rip_plan.proofs.passes.first_without_interface.Goals as goal
 
 pub returns-then-not-has_interface : goal.returns-then-not-has_interface
-returns-then-not-has_interface c =
-    ap (option_map (λ r. Router (r + 1))) (bare_here c.args.interfaces.now c.args.routers c.loop-r.r _ c.loop-r-test.true
-    (ap not (sym c.has_interface.ensures ∙ c.if-not-has_interface.true)) c.loop-r.invariant)
+returns-then-not-has_interface c = grind arith
 
 pub loop-r-preserved : goal.loop-r-preserved
 loop-r-preserved c = bare_later c.args.interfaces.now c.args.routers c.loop-r.r _ c.loop-r-test.true (ap not (sym c.has_interface.ensures ∙ c.if-not-has_interface.false)) c.loop-r.invariant

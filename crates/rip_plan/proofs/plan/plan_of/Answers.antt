@@ -14,7 +14,7 @@ use Rattle.rip_plan.specs.Seats.{is_kept}
 use Rattle.rip_plan.proofs.BelowLemmas.{length-each_below}
 use Rattle.rip_plan.proofs.NumberingLemmas.{IsNumbered, numbers}
 use Rattle.rip_plan.proofs.MatchingLemmas.{matched_length}
-use Rattle.rip_plan.proofs.WithinPlanLemmas.{interfaces_links, interfaces_routers, places_prefixes, places_links, places_owners}
+use Rattle.rip_plan.proofs.PlanAnswerLemmas.{interfaces_links, interfaces_routers, places_prefixes, places_links, places_owners}
 use Rattle.rip_plan.proofs.plan.plan_of.Goals as goal
 
 prefixes_are : {ps : List Block} {qs : List Place} {ds es : List DraftPlace} → (ps, qs) ≡ numbered [] [] ds → ds ≡ es → ps ≡ (numbered [] [] es).0
@@ -54,7 +54,6 @@ all_addresses-requires c =
 
 pub carriers_of-requires-clause-few_prefixes : goal.carriers_of-requires-clause-few_prefixes
 carriers_of-requires-clause-few_prefixes c =
-    let n : Network = network_of_sketch (sketch c.args.draft) in
     few c.in_ok-prefixes.prefixes.items c.as_slice-2.result.now c.args.draft.places.items c.len-4.result c.in_ok-prefixes.ensures.few c.as_slice-2.ensures.value c.requires.few_places (omega arith)
 
 pub carriers_of-requires-clause-prefixes : goal.carriers_of-requires-clause-prefixes
@@ -74,7 +73,6 @@ carriers_of-requires-clause-seats c =
 
 pub costs_of-requires-clause-few_prefixes : goal.costs_of-requires-clause-few_prefixes
 costs_of-requires-clause-few_prefixes c =
-    let n : Network = network_of_sketch (sketch c.args.draft) in
     few c.in_ok-prefixes.prefixes.items c.as_slice-2.result.now c.args.draft.places.items c.len-6.result c.in_ok-prefixes.ensures.few c.as_slice-2.ensures.value c.requires.few_places (omega arith)
 
 pub costs_of-requires-clause-routers : goal.costs_of-requires-clause-routers
@@ -119,14 +117,10 @@ costs_of-requires-clause-owners c =
 
 pub owners_of-requires-clause-few_prefixes : goal.owners_of-requires-clause-few_prefixes
 owners_of-requires-clause-few_prefixes c =
-    let n : Network = network_of_sketch (sketch c.args.draft) in
     few c.in_ok-prefixes.prefixes.items c.as_slice-2.result.now c.args.draft.places.items c.len-8.result c.in_ok-prefixes.ensures.few c.as_slice-2.ensures.value c.requires.few_places (omega arith)
 
 pub owners_of-requires-clause-few_places : goal.owners_of-requires-clause-few_places
-owners_of-requires-clause-few_places c =
-    let n : Network = network_of_sketch (sketch c.args.draft) in
-    let places : c.as_slice-12.result.now ≡ n.places = c.as_slice-12.ensures.value ∙ places_are c.in_ok-prefixes.ensures.parts c.as_slice-2.ensures.value in
-    omega (arith, ap length places, c.requires.few_places)
+owners_of-requires-clause-few_places c = grind arith
 
 pub owners_of-requires-clause-prefixes : goal.owners_of-requires-clause-prefixes
 owners_of-requires-clause-prefixes c =

@@ -13,11 +13,11 @@ use Rattle.rip_plan.proofs.plan.Plan.own_seat.Goals as goal
 use Rattle.rip_plan.proofs.plan.Plan.own_seat.Goals.{then-len-router-via-then-len-router, then-len-router-via-else-len-router+then-len-prefix}
 
 -- the number that the rows have for a router and a prefix
-number_at : (cells : List (Option ℕ)) (places : List Place) (rows w r k : ℕ) (o : Option ℕ) → AreOwners w places cells → length cells ≡ rows * w → r < rows → k < w → o ≡ get_or cells (r * w + k) o →
-    o ≡ first_owned r k 0 places
-number_at cells places rows w r k o are room router column is =
+number_at : (cells : List (Option ℕ)) (places : List Place) (rows w r k row : ℕ) (o : Option ℕ) → AreOwners w places cells → length cells ≡ rows * w → r < rows → k < w → row ≡ w
+    → o ≡ get_or cells (r * row + k) o → o ≡ first_owned r k 0 places
+number_at cells places rows w r k row o are room router column same is =
     let within : r * w + k < length cells = omega (arith, room, mul-add-lt r w k rows router column) in
-    get_or_read cells (r * w + k) o within is None ∙ are r k column
+    get_or_read cells (r * w + k) o within (rw same at is) None ∙ are r k column
 
 pub returns-then-len-router : goal.returns-then-len-router
 returns-then-len-router c =
@@ -34,10 +34,8 @@ pub index-requires-in-Some : goal.index-requires-in-Some
 index-requires-in-Some c =
     let inside = c.self.inside in
     let w = length inside.prefixes.items in
-    let row : c.len-2.result ≡ w = omega arith in
-    let cell : c.index.result.now ≡ get_or inside.owners.items (c.args.router * w + c.args.prefix) c.index.result.now = rw row at c.index.ensures in
-    let number = number_at inside.owners.items inside.places.items (length inside.routers.items) w c.args.router c.args.prefix c.index.result.now c.self.invariant.owners c.self.invariant.owners_room
-    (omega arith) (omega (arith, c.len-else-len-router.ensures)) cell in
+    let number = number_at inside.owners.items inside.places.items (length inside.routers.items) w c.args.router c.args.prefix c.len-2.result c.index.result.now c.self.invariant.owners
+    c.self.invariant.owners_room (omega arith) (omega (arith, c.len-else-len-router.ensures)) (omega arith) c.index.ensures in
     let (q, at, owned) = at_first (is_owned c.args.router c.args.prefix) inside.places.items c.in-Some.place (sym number ∙ c.in-Some.is) in
     omega (arith, slice_get_within inside.places.items c.in-Some.place q at, c.from.ensures)
 
@@ -45,10 +43,8 @@ pub returns-in-Some : goal.returns-in-Some
 returns-in-Some c =
     let inside = c.self.inside in
     let w = length inside.prefixes.items in
-    let row : c.len-2.result ≡ w = omega arith in
-    let cell : c.index.result.now ≡ get_or inside.owners.items (c.args.router * w + c.args.prefix) c.index.result.now = rw row at c.index.ensures in
-    let number = number_at inside.owners.items inside.places.items (length inside.routers.items) w c.args.router c.args.prefix c.index.result.now c.self.invariant.owners c.self.invariant.owners_room
-    (omega arith) (omega (arith, c.len-else-len-router.ensures)) cell in
+    let number = number_at inside.owners.items inside.places.items (length inside.routers.items) w c.args.router c.args.prefix c.len-2.result c.index.result.now c.self.invariant.owners
+    c.self.invariant.owners_room (omega arith) (omega (arith, c.len-else-len-router.ensures)) (omega arith) c.index.ensures in
     let (q, at, owned) = at_first (is_owned c.args.router c.args.prefix) inside.places.items c.in-Some.place (sym number ∙ c.in-Some.is) in
     let x = c.index-in-Some.result.now in
     let within : c.from.result < length inside.places.items = omega (arith, slice_get_within inside.places.items c.in-Some.place q at, c.from.ensures) in
@@ -61,8 +57,6 @@ pub returns-in-None : goal.returns-in-None
 returns-in-None c =
     let inside = c.self.inside in
     let w = length inside.prefixes.items in
-    let row : c.len-2.result ≡ w = omega arith in
-    let cell : c.index.result.now ≡ get_or inside.owners.items (c.args.router * w + c.args.prefix) c.index.result.now = rw row at c.index.ensures in
-    let number = number_at inside.owners.items inside.places.items (length inside.routers.items) w c.args.router c.args.prefix c.index.result.now c.self.invariant.owners c.self.invariant.owners_room
-    (omega arith) (omega (arith, c.len-else-len-router.ensures)) cell in
+    let number = number_at inside.owners.items inside.places.items (length inside.routers.items) w c.args.router c.args.prefix c.len-2.result c.index.result.now c.self.invariant.owners
+    c.self.invariant.owners_room (omega arith) (omega (arith, c.len-else-len-router.ensures)) (omega arith) c.index.ensures in
     rw (← c.self.view_is) (sym (ap (option_map (λ (y : Place). y.seat)) (find_past (is_owned c.args.router c.args.prefix) 0 inside.places.items (sym number ∙ c.in-None.is))))
