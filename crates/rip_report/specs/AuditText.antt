@@ -57,13 +57,14 @@ metric_part hidden metric equation =
     (if hidden then codes "leaf " else []) ++ codes "metric " ++ decimal metric
     ++ codes ", equation " ++ decimal equation
 
--- `, link c does not give it`: the way, which gives another metric
+-- `, link c does not give it`: the way, which does not give the metric
 abbrev pub wrong_way_part : Network → Way → List ℕ
 wrong_way_part n (Over l) = codes ", link " ++ name_of n.links l ++ codes " does not give it"
 wrong_way_part n Here = codes ", no planned place gives it"
 wrong_way_part n Unreachable = codes ", no planned place gives it"
 
--- what fails at a place: its way, where the metric is the equation's, or else the metric
+-- what fails at a place: `metric 2, link c does not give it`, where the metric is the equation's,
+-- or else the metric
 abbrev pub unsettled_part : Network → Place2 → List ℕ
 unsettled_part n f =
     if f.metric == f.equation then codes "metric " ++ decimal f.metric ++ wrong_way_part n f.way
