@@ -60,15 +60,13 @@ other n m alike i x at = go (slice_get m.interfaces i) refl
 
 interface_to : (n m : Network) → AreAlike n m → (i r l c : ℕ) → IsInterface n i r l c → IsInterface m i r l c
 interface_to n m alike i r l c its =
-    let x : Interface = record { router = r; link = l; address = its.address; cost = c; direct = its.direct; poison = its.poison } in
-    let its' = other n m alike i x its.listed in
-    record { address = its.address; direct = its.direct; poison = its'.0; listed = its'.1 }
+    let (poison, at) = other n m alike i its.interface its.listed in
+    record { interface = record its.interface { poison = poison }; listed = at; router = its.router; link = its.link; cost = its.cost }
 
 connected_to : (n m : Network) → AreAlike n m → (i r l c : ℕ) → IsConnected n i r l c → IsConnected m i r l c
 connected_to n m alike i r l d its =
-    let x : Interface = record { router = r; link = l; address = its.address; cost = its.cost; direct = d; poison = its.poison } in
-    let its' = other n m alike i x its.listed in
-    record { address = its.address; cost = its.cost; poison = its'.0; listed = its'.1 }
+    let (poison, at) = other n m alike i its.interface its.listed in
+    record { interface = record its.interface { poison = poison }; listed = at; router = its.router; link = its.link; direct = its.direct }
 
 same : (n m : Network) → AreAlike n m → Same n m
 same n m alike = record {

@@ -34,10 +34,12 @@ each_direct_gives n r p test ok v d = go d.0 d.1
     at k s place = when_gives (p == p) (each_cost n r test s) (each_gives (λ k q. when (q.prefix == p) (each_cost n r test q.seat)) n.places ok k _ place.listed) (same p)
 
     go : (k : ℕ) → Touches n k p r v → test v ≡ true
-    go k (inl h) =
-        when_gives ((r == r) && (h.0 == h.0)) (test v)
-        (each_gives (λ i x. when ((x.router == r) && (x.link == h.0)) (test x.direct)) n.interfaces (at k (Link h.0) h.1) h.2.0 _ h.2.1.listed)
-        (and_from _ _ (same r) (same h.0))
+    go k (inl (l, place, (i, on))) =
+        let x = on.interface in
+        let holds = when_gives ((x.router == r) && (x.link == l)) (test x.direct)
+        (each_gives (λ i x. when ((x.router == r) && (x.link == l)) (test x.direct)) n.interfaces (at k (Link l) place) i x on.listed)
+        (and_from _ _ (eq-eqb x.router r on.router) (eq-eqb x.link l on.link)) in
+        rw on.direct at holds
     go k (inr h) = rw h.says at (when_gives (h.own.router == r) (test h.own.cost) (at k (Own h.own) h.place) (eq-eqb _ _ h.router))
 
 -- no place of the prefix touches the router
@@ -53,18 +55,10 @@ is_direct n r p m = some (λ k q. (q.prefix == p) && some_cost n r m q.seat) n.p
 
 -- an interface that is what it is tested for
 its_own : (n : Network) (i r l c : ℕ) (x : Interface) → slice_get n.interfaces i ≡ Some x → x.router ≡ r → x.link ≡ l → x.cost ≡ c → IsInterface n i r l c
-its_own n i r l c x at router link cost =
-    let there : IsInterface n i x.router x.link x.cost = record { address = x.address; direct = x.direct; poison = x.poison; listed = at } in
-    let there' : IsInterface n i r x.link x.cost = rw router at there in
-    let there'' : IsInterface n i r l x.cost = rw link at there' in
-    rw cost at there''
+its_own n i r l c x at router link cost = record { interface = x; listed = at; router = router; link = link; cost = cost }
 
 its_connected : (n : Network) (i r l d : ℕ) (x : Interface) → slice_get n.interfaces i ≡ Some x → x.router ≡ r → x.link ≡ l → x.direct ≡ d → IsConnected n i r l d
-its_connected n i r l d x at router link direct =
-    let there : IsConnected n i x.router x.link x.direct = record { address = x.address; cost = x.cost; poison = x.poison; listed = at } in
-    let there' : IsConnected n i r x.link x.direct = rw router at there in
-    let there'' : IsConnected n i r l x.direct = rw link at there' in
-    rw direct at there''
+its_connected n i r l d x at router link direct = record { interface = x; listed = at; router = router; link = link; direct = direct }
 
 is_direct_gives : (n : Network) (r p m : ℕ) → is_direct n r p m ≡ true → IsDirect n r p m
 is_direct_gives n r p m ok =
@@ -179,13 +173,16 @@ each_offer n shown r p test =
 
 each_offer_gives : (n : Network) (shown : State) (r p : ℕ) (test : ℕ → Bool) → each_offer n shown r p test ≡ true → (l s v : ℕ) → Offers n shown r l s p v → test v ≡ true
 each_offer_gives n shown r p test ok l s v o =
-    let here = when_gives (r == r) _
-    (each_gives (λ i x. when (x.router == r) (each (λ j y. when ((y.link == x.link) && not (y.router == r)) (test (offer shown x.cost j p))) n.interfaces)) n.interfaces ok o.here.0 _ o.here.1.listed)
-    (same r) in
-    let there = when_gives ((l == l) && not (s == r)) (test (offer shown o.cost o.interface p))
-    (each_gives (λ j y. when ((y.link == l) && not (y.router == r)) (test (offer shown o.cost j p))) n.interfaces here o.interface _ o.there.listed)
-    (and_from _ _ (same l) (not_from_false _ (ne_eqb s r o.neighbour.other))) in
-    rw o.value there
+    let own = o.here.1 in
+    let x = own.interface in
+    let y = o.there.interface in
+    let here = when_gives (x.router == r) _
+    (each_gives (λ i x. when (x.router == r) (each (λ j y. when ((y.link == x.link) && not (y.router == r)) (test (offer shown x.cost j p))) n.interfaces)) n.interfaces ok o.here.0 x own.listed)
+    (eq-eqb x.router r own.router) in
+    let there = when_gives ((y.link == x.link) && not (y.router == r)) (test (offer shown x.cost o.interface p))
+    (each_gives (λ j y. when ((y.link == x.link) && not (y.router == r)) (test (offer shown x.cost j p))) n.interfaces here o.interface y o.there.listed)
+    (and_from _ _ (eq-eqb y.link x.link (o.there.link ∙ sym own.link)) (not_from_false _ (ne_eqb y.router r (λ e. o.neighbour.other (sym o.there.router ∙ e))))) in
+    rw (o.value, ← own.cost) there
 
 abbrev some_offer : Network → State → ℕ → ℕ → ℕ → ℕ → Bool
 some_offer n shown r l p m =
@@ -452,14 +449,17 @@ fits_gives n shown r p t ok =
       told = record {
         way_fits = fits_way_gives n r p t.metric t.way g.0;
         as_told = λ i l c its.
-            may_show_gives n r l p t.metric t.way (metric_at shown i p)
-            (when_gives (r == r) _ (each_gives (λ i x. when (x.router == r) (may_show n r x.link p t.metric t.way (metric_at shown i p))) n.interfaces g.1 i _ its.listed) (same r));
+            let shows = when_gives (its.interface.router == r) _
+            (each_gives (λ i x. when (x.router == r) (may_show n r x.link p t.metric t.way (metric_at shown i p))) n.interfaces g.1 i its.interface its.listed)
+            (eq-eqb its.interface.router r its.router) in
+            may_show_gives n r l p t.metric t.way (metric_at shown i p) (rw its.link at shows);
       };
       hidden = λ i l c leaf.
-          let a = when_gives (r == r) _
-          (each_gives (λ i x. when (x.router == r) (some (λ j y. (y.router == r) && not (j == i)) n.interfaces || fits_hidden n shown r i x.link p t)) n.interfaces h.1 i _ leaf.has.listed)
-          (same r) in
-          elim (or_cases _ (fits_hidden n shown r i l p t) a) [
+          let x = leaf.has.interface in
+          let a = when_gives (x.router == r) _
+          (each_gives (λ i x. when (x.router == r) (some (λ j y. (y.router == r) && not (j == i)) n.interfaces || fits_hidden n shown r i x.link p t)) n.interfaces h.1 i x leaf.has.listed)
+          (eq-eqb x.router r leaf.has.router) in
+          elim (or_cases _ (fits_hidden n shown r i l p t) (rw leaf.has.link at a)) [
             | inl other ↦
                 let f = some_gives (λ j y. (y.router == r) && not (j == i)) n.interfaces other in
                 let parts = and_parts _ _ f.3 in

@@ -269,7 +269,7 @@ module _ (n : Network) (ok : Passes n) where
       empty (x ∷ xs) e = cc e
 
   one_address : (i l : ℕ) (all : List ℕ) → (h : HasAddresses n i l all) → (x : Interface) × (slice_get n.interfaces i ≡ Some x) × (x.link ≡ l) × (all ≡ x.address ∷ [])
-  one_address i l all h = (h.interface, h.listed, h.on, h.all ∙ ap (λ xs. h.interface.address ∷ xs) (alone i h.also h.further))
+  one_address i l all h = (h.interface, h.listed, h.link, h.all ∙ ap (λ xs. h.interface.address ∷ xs) (alone i h.also h.further))
 
   its_address : (i l a : ℕ) → HasAddress n i l a → (x : Interface) × (slice_get n.interfaces i ≡ Some x) × (x.link ≡ l) × (a ≡ x.address)
   its_address i l a h =
@@ -289,8 +289,8 @@ module _ (n : Network) (ok : Passes n) where
   seat_touched k p r c (inl h) =
       let i = h.2.0 in
       let its = h.2.1 in
-      let test = some_holds (λ i x. (x.router == r) && (x.link == h.0)) n.interfaces i _ its.listed (and_from (r == r) (h.0 == h.0) (eq-eqb r r refl) (eq-eqb h.0 h.0 refl)) in
-      (Link h.0, h.1, test, (fit_parts i _ its.listed).0)
+      let test = some_holds (λ i x. (x.router == r) && (x.link == h.0)) n.interfaces i its.interface its.listed (and_from _ _ (eq-eqb _ r its.router) (eq-eqb _ h.0 its.link)) in
+      (Link h.0, h.1, test, rw its.router at (fit_parts i its.interface its.listed).0)
   seat_touched k p r c (inr h) =
       (Own h.own, h.place, eq-eqb _ _ h.router, rw h.router at (own_fits k p h.own h.place).0)
 
@@ -346,7 +346,7 @@ module _ (n : Network) (ok : Passes n) where
 
   inside : (i l a p : ℕ) → HasOwnAddress n i l a → Carries n l p → IsInside n l a
   inside i l a p h carries =
-      let x : Interface = record { router = h.router; link = l; address = a; cost = h.cost; direct = h.direct; poison = h.poison } in
+      let x = h.interface in
       let here = some_holds (λ k q. is_link l q.seat) n.places carries.0 _ carries.1.listed (eq-eqb l l refl) in
       let found = some_gives (λ k q. is_link l q.seat && some (λ p b. (p == q.prefix) && contains b a) n.prefixes) n.places
       (when_gives _ (is_inside n x) (each_gives (is_inside_prefixes n) n.interfaces ok.inside i x h.listed) here) in
@@ -361,8 +361,7 @@ module _ (n : Network) (ok : Passes n) where
   one_interface : (r : ℕ) → r < length n.routers → (i l c : ℕ) × IsInterface n i r l c
   one_interface r lt =
       let h = some_gives (λ i x. x.router == r) n.interfaces (below_gives (λ r. some (λ i x. x.router == r) n.interfaces) (length n.routers) (and_parts _ _ ok.has).0 r lt) in
-      let there : IsInterface n h.0 h.1.router h.1.link h.1.cost = record { address = h.1.address; direct = h.1.direct; poison = h.1.poison; listed = h.2 } in
-      (h.0, h.1.link, h.1.cost, rw (eqb-true _ _ h.3) at there)
+      (h.0, h.1.link, h.1.cost, record { interface = h.1; listed = h.2; router = eqb-true _ _ h.3; link = refl; cost = refl })
 
   one_place : (p : ℕ) → p < length n.prefixes → (k : ℕ) × (s : Seat) × IsPlace n k p s
   one_place p lt =
@@ -373,8 +372,8 @@ module _ (n : Network) (ok : Passes n) where
 
   direct_most : (i r l c d : ℕ) → IsInterface n i r l c → IsConnected n i r l d → d ≤ c
   direct_most i r l c d its h =
-      let same : h.cost ≡ c = ap (λ (x : Interface). x.cost) (same_Some _ _ (sym h.listed ∙ its.listed)) in
-      omega (arith, (fit_parts i _ h.listed).7, same)
+      let same : h.interface.cost ≡ c = ap (λ (x : Interface). x.cost) (same_Some _ _ (sym h.listed ∙ its.listed)) ∙ its.cost in
+      omega (arith, (fit_parts i h.interface h.listed).7, h.direct, same)
 
   attached_there : (r p l : ℕ) → IsAttached n r p l → IsOn n r l
   attached_there r p l h =
@@ -382,9 +381,7 @@ module _ (n : Network) (ok : Passes n) where
       let found = some_gives (λ i x. (x.router == r) && (x.link == l)) n.interfaces test in
       let x = found.1 in
       let parts = and_parts (x.router == r) (x.link == l) found.3 in
-      let there : IsInterface n found.0 x.router x.link x.cost = record { address = x.address; direct = x.direct; poison = x.poison; listed = found.2 } in
-      let there' : IsInterface n found.0 r x.link x.cost = rw (eqb-true _ _ parts.0) at there in
-      (x.cost, (found.0, rw (eqb-true _ _ parts.1) at there'))
+      (x.cost, (found.0, record { interface = x; listed = found.2; router = eqb-true _ _ parts.0; link = eqb-true _ _ parts.1; cost = refl }))
 
   addresses_once : (i l : ℕ) (all : List ℕ) → HasAddresses n i l all → IsEachOnce all
   addresses_once i l all h = let one = one_address i l all h in rw one.3 (single one.0.address)
@@ -413,13 +410,13 @@ module _ (n : Network) (ok : Passes n) where
         router_named = named n.routers ok.routers tested;
         link_names_differ = names_differ n.links ok.links;
         router_names_differ = names_differ n.routers ok.routers;
-        router_known = λ i r l c h. (fit_parts i _ h.listed).0;
-        link_known = λ i r l c h. (fit_parts i _ h.listed).1;
-        cost_least = λ i r l c h. (fit_parts i _ h.listed).2;
-        cost_most = λ i r l c h. (fit_parts i _ h.listed).3;
+        router_known = λ i r l c h. rw h.router at (fit_parts i h.interface h.listed).0;
+        link_known = λ i r l c h. rw h.link at (fit_parts i h.interface h.listed).1;
+        cost_least = λ i r l c h. rw h.cost at (fit_parts i h.interface h.listed).2;
+        cost_most = λ i r l c h. rw h.cost at (fit_parts i h.interface h.listed).3;
         one_interface = one_interface;
-        one_on_link = λ i j r l c d a b. apart i j _ _ a.listed b.listed refl (inl refl);
-        direct_least = λ i r l d h. (fit_parts i _ h.listed).6;
+        one_on_link = λ i j r l c d a b. apart i j _ _ a.listed b.listed (a.link ∙ sym b.link) (inl (a.router ∙ sym b.router));
+        direct_least = λ i r l d h. rw h.direct at (fit_parts i h.interface h.listed).6;
         direct_most = direct_most;
         also_listed = eqb-true _ _ (and_parts _ _ ok.also).0;
         address_known = λ i l a h. let x = its_address i l a h in rw x.3 (fit_parts i x.0 x.1).4;

@@ -102,18 +102,17 @@ module _ (n : Network) (shown : State) (r i p : ℕ) (own : Interface) (mine : o
       reached : (v ≡ 16) ⊎ IsOfferAt n.interfaces shown own p v → (v ≡ 16) ⊎ ((l s : ℕ) × Offers n shown r l s p v)
       reached (inl e) = inl e
       reached (inr o) =
-          let there : IsInterface n o.number o.its.router o.its.link o.its.cost = record { address = o.its.address; direct = o.its.direct; poison = o.its.poison; listed = o.listed } in
-          let there' : IsInterface n o.number o.its.router own.link o.its.cost = rw o.across.link at there in
+          let there : IsInterface n o.number o.its.router own.link o.its.cost = record { interface = o.its; listed = o.listed; router = refl; link = o.across.link; cost = refl } in
           inr (
             own.link,
             o.its.router,
             record {
-              neighbour = record { other = λ e. o.across.other (e ∙ sym mine); here = (own.cost, (i, leaf.has)); there = (o.its.cost, (o.number, there')) };
+              neighbour = record { other = λ e. o.across.other (e ∙ sym mine); here = (own.cost, (i, leaf.has)); there = (o.its.cost, (o.number, there)) };
               cost = own.cost;
               here = (i, leaf.has);
               interface = o.number;
               its_cost = o.its.cost;
-              there = there';
+              there = there;
               value = o.value;
             },
           )
@@ -123,9 +122,9 @@ module _ (n : Network) (shown : State) (r i p : ℕ) (own : Interface) (mine : o
           let e = leaf.only o.here.0 k o.cost o.here.1 in
           let at : IsInterface n i r k o.cost = rw e at o.here.1 in
           let same = its_link n i r k o.cost r own.link own.cost at leaf.has in
-          let its : Interface = record { router = s; link = k; address = o.there.address; cost = o.its_cost; direct = o.there.direct; poison = o.there.poison } in
+          let its = o.there.interface in
           let le : v ≤ heard_from shown own.cost o.interface p =
-          below o.interface its (slice_get_within n.interfaces o.interface its o.there.listed) o.there.listed (record { link = same.1; other = λ e. o.neighbour.other (e ∙ mine) }) in
+          below o.interface its (slice_get_within n.interfaces o.interface its o.there.listed) o.there.listed (record { link = o.there.link ∙ same.1; other = λ e. o.neighbour.other (sym o.there.router ∙ e ∙ mine) }) in
           omega (arith, le, o.value, same.2)
 
   -- the same, told by the offers over its link
@@ -289,4 +288,4 @@ module _ (n : Network) (shown : State) (r i p : ℕ) (own : Interface) (mine : o
 -- a leaf has a route that fits where one could be behind what it shows
 pub leaf_route : (n : Network) (shown : State) (r i l c p : ℕ) → IsLeaf n r i l c → IsLawful n → IsInRange n shown → (u : Route) → Tells n shown r p u → (t : Route) × FitsShown n shown r p t
 leaf_route n shown r i l c p leaf plan range =
-    a_route n shown r i p (record { router = r; link = l; address = leaf.has.address; cost = c; direct = leaf.has.direct; poison = leaf.has.poison }) refl leaf plan range
+    a_route n shown r i p leaf.has.interface leaf.has.router (rw (leaf.has.link, leaf.has.cost) leaf) plan range

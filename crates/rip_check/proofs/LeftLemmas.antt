@@ -1,6 +1,6 @@
 -- What is left of a network after a failure.
 use Rattle.std.proofs.Common.{◌≡◌, ℕ, zero, suc, ◌<◌, ◌≤◌, ◌⊎◌, ◌↔◌, inl, inr, Bool, true, false, not, cond, List, [], ◌∷◌, length, Option, None, Some, slice_get, refl, ap, ◌∙◌, arith}
-use Rattle.rip_plan.proofs.LookupLemmas.{one_seat, own_says}
+use Rattle.rip_plan.proofs.LookupLemmas.{interface_of, one_seat, own_says}
 use Rattle.std.specs.List.{filter}
 use Rattle.std.specs.Prelude.{eqb}
 use Rattle.std.proofs.lemmas.Bool.{eqb-true, eq-eqb, and_parts, and_from}
@@ -10,7 +10,7 @@ use Rattle.rip_plan.specs.declared.parts.Seat.{Seat}
 use Rattle.rip_plan.specs.declared.parts.Seat.TheVariants.{Link, Own}
 use Rattle.rip_plan.specs.Network.{Network}
 use Rattle.rip_plan.specs.Relations.{Carries, HasCost, IsAttached, IsConnected, IsDirect, IsKept, IsLawful, IsOn, IsOwnWith, IsPlace, Touches}
-use Rattle.rip_check.proofs.PlanLemmas.{own_moved}
+use Rattle.rip_check.proofs.PlanLemmas.{its_direct, own_moved}
 use Rattle.rip_check.proofs.TellingLemmas.{IsSound, reached_most}
 use Rattle.rip_check.specs.declared.failures.Failure.{Failure}
 use Rattle.rip_check.specs.declared.failures.Failure.TheVariants as failures
@@ -88,24 +88,24 @@ still_listed n (Some f) i x e r_up l_up = filter_at (is_alive (Some f)) n.interf
 module _ (n : Network) (f : Option Failure) where
   -- an interface that is left was one, of a router and on a link that are up
   pub was_cost : (r l c : ℕ) → HasCost (network_left n f) r l c → HasCost n r l c × (is_router_up f r ≡ true) × (is_link_up f l ≡ true)
-  was_cost r l c has =
-      let h = was_listed n f has.0 _ has.1.listed in
-      ((h.0, record { address = has.1.address; direct = has.1.direct; poison = has.1.poison; listed = h.1 }), h.2, h.3)
+  was_cost r l c (j, is) =
+      let (i, at, r_up, l_up) = was_listed n f j is.interface is.listed in
+      ((i, record { interface = is.interface; listed = at; router = is.router; link = is.link; cost = is.cost }), rw is.router at r_up, rw is.link at l_up)
 
   pub still_cost : (r l c : ℕ) → HasCost n r l c → is_router_up f r ≡ true → is_link_up f l ≡ true → HasCost (network_left n f) r l c
-  still_cost r l c has r_up l_up =
-      let h = still_listed n f has.0 _ has.1.listed r_up l_up in
-      (h.0, record { address = has.1.address; direct = has.1.direct; poison = has.1.poison; listed = h.1 })
+  still_cost r l c (i, is) r_up l_up =
+      let (j, at) = still_listed n f i is.interface is.listed (rw is.router r_up) (rw is.link l_up) in
+      (j, record { interface = is.interface; listed = at; router = is.router; link = is.link; cost = is.cost })
 
   was_connected : (j r l d : ℕ) → IsConnected (network_left n f) j r l d → ((i : ℕ) × IsConnected n i r l d) × (is_router_up f r ≡ true) × (is_link_up f l ≡ true)
   was_connected j r l d is =
-      let h = was_listed n f j _ is.listed in
-      ((h.0, record { address = is.address; cost = is.cost; poison = is.poison; listed = h.1 }), h.2, h.3)
+      let (i, at, r_up, l_up) = was_listed n f j is.interface is.listed in
+      ((i, record { interface = is.interface; listed = at; router = is.router; link = is.link; direct = is.direct }), rw is.router at r_up, rw is.link at l_up)
 
   still_connected : (i r l d : ℕ) → IsConnected n i r l d → is_router_up f r ≡ true → is_link_up f l ≡ true → (j : ℕ) × IsConnected (network_left n f) j r l d
   still_connected i r l d is r_up l_up =
-      let h = still_listed n f i _ is.listed r_up l_up in
-      (h.0, record { address = is.address; cost = is.cost; poison = is.poison; listed = h.1 })
+      let (j, at) = still_listed n f i is.interface is.listed (rw is.router r_up) (rw is.link l_up) in
+      (j, record { interface = is.interface; listed = at; router = is.router; link = is.link; direct = is.direct })
 
 -- ---- places
 
@@ -162,7 +162,7 @@ module _ (n : Network) (f : Option Failure) where
   pub still_direct : (r p c : ℕ) → is_router_up f r ≡ true → ((l : ℕ) → Carries n l p → IsOn n r l → is_link_up f l ≡ true) → ((l : ℕ) → IsAttached n r p l → is_link_up f l ≡ true) →
       IsDirect n r p c → IsDirect (network_left n f) r p c
   still_direct r p c r_up carried attached (k, inl at) =
-      let on : IsOn n r at.0 = (at.2.1.cost, (at.2.0, record { address = at.2.1.address; direct = c; poison = at.2.1.poison; listed = at.2.1.listed })) in
+      let on : IsOn n r at.0 = (at.2.1.interface.cost, (at.2.0, interface_of n at.2.0 r at.0 c at.2.1)) in
       let l_up = carried at.0 (k, at.1) on in
       let h = still_place n f k p _ at.1 l_up in
       (h.0, inl (at.0, h.1, still_connected n f at.2.0 r at.0 c at.2.1 r_up l_up))
@@ -243,19 +243,19 @@ module _ (n : Network) (plan : IsLawful n) where
     pub carried_up : (r p c l : ℕ) → IsDirect (network_left n f) r p c → Carries n l p → IsOn n r l → is_link_up f l ≡ true
     carried_up r p c l direct carried on = go direct
       where
-        touch : Touches n carried.0 p r on.1.1.direct
-        touch = inl (l, carried.1, (on.1.0, record { address = on.1.1.address; cost = on.0; poison = on.1.1.poison; listed = on.1.1.listed }))
+        touch : Touches n carried.0 p r on.1.1.interface.direct
+        touch = inl (l, carried.1, (on.1.0, its_direct n on.1.0 r l on.0 on.1.1))
 
         go : IsDirect (network_left n f) r p c → is_link_up f l ≡ true
         go (k, inl here) =
             let h = was_place n f k p _ here.1 in
             let j = was_connected n f here.2.0 r here.0 c here.2.1 in
-            let same = one_touch h.0 carried.0 p r c on.1.1.direct _ _ (inl (here.0, h.1, j.0)) touch h.1 carried.1 in
+            let same = one_touch h.0 carried.0 p r c on.1.1.interface.direct _ _ (inl (here.0, h.1, j.0)) touch h.1 carried.1 in
             let named : here.0 ≡ l = link_same here.0 l same in
             rw named at h.2
         go (k, inr own) =
             let h = was_place n f k p _ own.place in
-            let same = one_touch carried.0 h.0 p r on.1.1.direct c _ _ touch (inr (own_moved own h.1)) carried.1 h.1 in
+            let same = one_touch carried.0 h.0 p r on.1.1.interface.direct c _ _ touch (inr (own_moved own h.1)) carried.1 h.1 in
             absurd (link_clash l own.own same)
 
     -- what is left is sound
@@ -304,7 +304,7 @@ left_routers n (Some f) = refl
 
 -- who has a prefix is a router of the plan
 pub direct_known : (n : Network) → IsLawful n → (r p c : ℕ) → IsDirect n r p c → r < length n.routers
-direct_known n plan r p c (k, inl at) = plan.router_known at.2.0 r at.0 at.2.1.cost (record { address = at.2.1.address; direct = c; poison = at.2.1.poison; listed = at.2.1.listed })
+direct_known n plan r p c (k, inl at) = plan.router_known at.2.0 r at.0 at.2.1.interface.cost (interface_of n at.2.0 r at.0 c at.2.1)
 direct_known n plan r p c (k, inr own) = plan.owner_known k p r c own
 
 -- a path after the failure is one before it, where no router has the prefix attached to what has failed

@@ -32,7 +32,7 @@ told_is_shown n s each =
   where
     on : (i : ℕ) (o : Option Interface) → slice_get n.interfaces i ≡ o → poisons n i ≡ true
     on i None at = ap (λ (o : Option Interface). option_map_or (λ x. x.poison) o true) at
-    on i (Some x) at = surely_poisons n i (each i x.router x.link x.cost (record { address = x.address; direct = x.direct; poison = x.poison; listed = at }))
+    on i (Some x) at = surely_poisons n i (each i x.router x.link x.cost (record { interface = x; listed = at; router = refl; link = refl; cost = refl }))
 
 -- ---- where fewer poison
 

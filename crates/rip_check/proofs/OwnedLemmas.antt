@@ -13,17 +13,11 @@ use Rattle.rip_plan.specs.Relations.{IsInterface, IsLeaf}
 -- an interface is one router's, on one link, at one cost
 pub its_link : (n : Network) (i r l c s k d : ℕ) → IsInterface n i r l c → IsInterface n i s k d → (r ≡ s) × (l ≡ k) × (c ≡ d)
 its_link n i r l c s k d a b =
-    let same : record {
-      router = r;
-      link = l;
-      address = a.address;
-      cost = c;
-      direct = a.direct;
-      poison = a.poison;
-    } ≡ record { router = s; link = k; address = b.address; cost = d; direct = b.direct; poison = b.poison } =
-    same_Some (record { router = r; link = l; address = a.address; cost = c; direct = a.direct; poison = a.poison })
-    (record { router = s; link = k; address = b.address; cost = d; direct = b.direct; poison = b.poison }) (sym a.listed ∙ b.listed) in
-    (ap (λ (x : Interface). x.router) same, ap (λ (x : Interface). x.link) same, ap (λ (x : Interface). x.cost) same)
+    let same : a.interface ≡ b.interface = same_Some a.interface b.interface (sym a.listed ∙ b.listed) in (
+      sym a.router ∙ ap (λ (x : Interface). x.router) same ∙ b.router,
+      sym a.link ∙ ap (λ (x : Interface). x.link) same ∙ b.link,
+      sym a.cost ∙ ap (λ (x : Interface). x.cost) same ∙ b.cost,
+    )
 
 pub within : (n : Network) (i r l c : ℕ) → IsInterface n i r l c → i < length n.interfaces
 within n i r l c at = slice_get_within n.interfaces i _ at.listed

@@ -19,7 +19,7 @@ module _ (n : Network) (plain : IsPlain n) where
       go (inl h) =
           let at = h.2.1 in
           let its = interface_of n h.2.0 r h.0 v at in
-          let same : v ≡ at.cost = plain.direct h.2.0 r h.0 at.cost v its at in
+          let same : v ≡ at.interface.cost = plain.direct h.2.0 r h.0 at.interface.cost v its at in
           inl (h.0, h.1, (h.2.0, rw same its))
       go (inr h) = inr h
 
@@ -30,7 +30,7 @@ module _ (n : Network) (plain : IsPlain n) where
       go (inl x) =
           let its = x.2.1 in
           let at = its_direct n x.2.0 r x.0 v its in
-          let same : its.direct ≡ v = plain.direct x.2.0 r x.0 v its.direct its at in
+          let same : its.interface.direct ≡ v = plain.direct x.2.0 r x.0 v its.interface.direct its at in
           let at' : IsConnected n x.2.0 r x.0 v = rw same at at in
           inl (x.0, x.1, (x.2.0, at'))
       go (inr x) = inr x

@@ -127,14 +127,14 @@ attached_ne n r p l o b exact e = go (option_eq eqb o (Some l)) refl e
 -- ---- direct metrics
 
 -- the direct metric of an interface
-pub its_direct : (n : Network) (i r l c : ℕ) → (h : IsInterface n i r l c) → IsConnected n i r l h.direct
-its_direct n i r l c h = record { address = h.address; cost = c; poison = h.poison; listed = h.listed }
+pub its_direct : (n : Network) (i r l c : ℕ) → (h : IsInterface n i r l c) → IsConnected n i r l h.interface.direct
+its_direct n i r l c h = record { interface = h.interface; listed = h.listed; router = h.router; link = h.link; direct = refl }
 
 -- on a link of the prefix a router has it at no more than the link costs it
 pub carried_direct : (n : Network) → IsLawful n → (r l c p : ℕ) → HasCost n r l c → Carries n l p → (d : ℕ) × IsDirect n r p d × (d ≤ c)
 carried_direct n plan r l c p has on =
     let there = its_direct n has.0 r l c has.1 in
-    (has.1.direct, (on.0, inl (l, on.1, (has.0, there))), plan.direct_most has.0 r l c has.1.direct has.1 there)
+    (has.1.interface.direct, (on.0, inl (l, on.1, (has.0, there))), plan.direct_most has.0 r l c has.1.interface.direct has.1 there)
 
 pub attached_kept : (n : Network) (r p l : ℕ) → IsAttached n r p l → IsKept n r p
 attached_kept n r p l at = inr (l, at)
@@ -151,7 +151,7 @@ module _ (n : Network) (plan : IsLawful n) where
       let own = kept_own n r p kept in
       let has = on.1 in
       let there = its_direct n has.0 r l on.0 has.1 in
-      let same : carried.0 ≡ own.0 = plan.touched_once carried.0 own.0 p r has.1.direct own.1 (inl (l, carried.1, (has.0, there))) (inr own.2) in
+      let same : carried.0 ≡ own.0 = plan.touched_once carried.0 own.0 p r has.1.interface.direct own.1 (inl (l, carried.1, (has.0, there))) (inr own.2) in
       let place : IsPlace n own.0 p (Link l) = rw same at carried.1 in
       let seats : Link l ≡ Own own.2.own = one_seat n own.0 p (Link l) _ place own.2.place in
       cc seats
@@ -170,7 +170,7 @@ module _ (n : Network) (plan : IsLawful n) where
   carried_link r p l k a b x y =
       let here = its_direct n a.1.0 r l a.0 a.1.1 in
       let there = its_direct n b.1.0 r k b.0 b.1.1 in
-      let same : x.0 ≡ y.0 = plan.touched_once x.0 y.0 p r a.1.1.direct b.1.1.direct (inl (l, x.1, (a.1.0, here))) (inl (k, y.1, (b.1.0, there))) in
+      let same : x.0 ≡ y.0 = plan.touched_once x.0 y.0 p r a.1.1.interface.direct b.1.1.interface.direct (inl (l, x.1, (a.1.0, here))) (inl (k, y.1, (b.1.0, there))) in
       let place : IsPlace n y.0 p (Link l) = rw same at x.1 in
       let seats : Link l ≡ Link k = one_seat n y.0 p (Link l) (Link k) place y.1 in
       cc seats
@@ -200,5 +200,5 @@ module _ (n : Network) (plan : IsLawful n) where
       go : Touches n h.0 p r d → d ≤ 15
       go (inl x) =
           let its = interface_of n x.2.0 r x.0 d x.2.1 in
-          omega (arith, plan.direct_most x.2.0 r x.0 x.2.1.cost d its x.2.1, plan.cost_most x.2.0 r x.0 x.2.1.cost its)
+          omega (arith, plan.direct_most x.2.0 r x.0 x.2.1.interface.cost d its x.2.1, plan.cost_most x.2.0 r x.0 x.2.1.interface.cost its)
       go (inr x) = plan.own_cost_most h.0 p r d x

@@ -42,16 +42,15 @@ two_or_leaf n r i l c has =
     elim (find_below (IsAnother n r i) (another_or_not n r i) (length n.interfaces)) [
       | inl h ↦
           let x = h.2 in
-          let there : IsInterface n h.0 x.own.router x.own.link x.own.cost = record { address = x.own.address; direct = x.own.direct; poison = x.own.poison; listed = x.listed } in
-          let there' : IsInterface n h.0 r x.own.link x.own.cost = rw x.its at there in
-          inl (i, h.0, l, x.own.link, c, x.own.cost, has, there', λ e. x.other (sym e))
+          let there : IsInterface n h.0 r x.own.link x.own.cost = record { interface = x.own; listed = x.listed; router = x.its; link = refl; cost = refl } in
+          inl (i, h.0, l, x.own.link, c, x.own.cost, has, there, λ e. x.other (sym e))
       | inr none ↦
           inr (record {
             has = has;
             only = λ j k d h.
                 elim (cases_eq j i) [
                   | inl e ↦ e
-                  | inr other ↦ absurd (none j (slice_get_within n.interfaces j _ h.listed) (record { own = _; other = other; listed = h.listed; its = refl }))
+                  | inr other ↦ absurd (none j (slice_get_within n.interfaces j _ h.listed) (record { own = h.interface; other = other; listed = h.listed; its = h.router }))
                 ];
           })
     ]

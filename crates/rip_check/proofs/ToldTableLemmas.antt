@@ -46,7 +46,7 @@ told_metrics n s i r l c p m its lt = (by_shown (metric_at s i p) refl, back)
         inr (at, keeps, is)
     by_shown (Some v) at e = inl (at ∙ sym (told_shown (poisons n) s i p v lt at) ∙ e)
 
-    at_last : (b : Bool) → its.poison ≡ b → (Poisons n i → ⊥) → m ≡ 16 → cond b None (Some 16) ≡ Some m
+    at_last : (b : Bool) → its.interface.poison ≡ b → (Poisons n i → ⊥) → m ≡ 16 → cond b None (Some 16) ≡ Some m
     at_last true on keeps is = absurd (keeps (record { interface = _; listed = its.listed; poisons = on }))
     at_last false off keeps is = ap Some (sym is)
 
@@ -55,7 +55,7 @@ told_metrics n s i r l c p m its lt = (by_shown (metric_at s i p) refl, back)
     back (inr (none, keeps, is)) =
         told_silent (poisons n) s i p lt none
         ∙ ap (λ (b : Bool). cond b None (Some 16)) (its_poison n i _ its.listed)
-        ∙ at_last its.poison refl keeps is
+        ∙ at_last its.interface.poison refl keeps is
 
 -- nothing and 16 offer the same
 unwrapped : (poison : Bool) (x : Option ℕ) → unwrap_or (told_of poison x) 16 ≡ unwrap_or x 16

@@ -69,9 +69,7 @@ another_or_not n shown r p i j = go (cases_eq j i) (poisoned_or_not n shown r p 
     go (inr other) (inr not) = inr (λ h. not h.0)
 
 on_its_link : (n : Network) (shown : State) (r p i : ℕ) (h : IsPoisoned n shown r p i) → IsInterface n i r h.own.link h.own.cost
-on_its_link n shown r p i h =
-    let there : IsInterface n i h.own.router h.own.link h.own.cost = record { address = h.own.address; direct = h.own.direct; poison = h.own.poison; listed = h.listed } in
-    rw h.its at there
+on_its_link n shown r p i h = record { interface = h.own; listed = h.listed; router = h.its; link = refl; cost = refl }
 
 module _ (n : Network) (plan : IsLawful n) (shown : State) (range : IsInRange n shown) (r p : ℕ)
     (no_two : ShowsTwo n shown r p → ⊥) (each : ShowsEach n shown r p) where
@@ -199,7 +197,7 @@ module _ (n : Network) (plan : IsLawful n) (shown : State) (range : IsInRange n 
         held j k d there g on =
             let its = on_its_link n shown r p o h in
             let there' : IsInterface n o r k d = rw (only j g) at there in
-            let link : h.own.link ≡ k = ap (λ (y : Interface). y.link) (same_Some _ _ (sym its.listed ∙ there'.listed)) in
+            let link : h.own.link ≡ k = ap (λ (y : Interface). y.link) (same_Some _ _ (sym its.listed ∙ there'.listed)) ∙ there'.link in
             rw link at on
 
     two_shown : Shows16Twice n shown r p
@@ -248,8 +246,7 @@ module _ (n : Network) (plan : IsLawful n) (shown : State) (range : IsInRange n 
         elim (find_below (IsOther n shown r p) (other_or_not n shown r p) (length n.interfaces)) [
           | inl h ↦
               let o = h.2 in
-              let its : IsInterface n h.0 o.own.router o.own.link o.own.cost = record { address = o.own.address; direct = o.own.direct; poison = o.own.poison; listed = o.listed } in
-              let there : IsInterface n h.0 r o.own.link o.own.cost = rw o.its at its in
+              let there : IsInterface n h.0 r o.own.link o.own.cost = record { interface = o.own; listed = o.listed; router = o.its; link = refl; cost = refl } in
               let b = below h.0 o.own.link o.own.cost there (λ g. o.shows g.shows) in
               (h.0, b.0, record { link = o.own.link; cost = o.own.cost; its = there; shows = b.1; below = b.3 })
           | inr none ↦ absurd (no_route _ (all_tell (λ j k d there. each_16 j k d there none)))
@@ -259,7 +256,7 @@ module _ (n : Network) (plan : IsLawful n) (shown : State) (range : IsInRange n 
         each_16 j k d there none =
             elim (is_16 (metric_at shown j p)) [
               | inl is ↦ is
-              | inr not ↦ absurd (none j (slice_get_within n.interfaces j _ there.listed) (record { own = _; listed = there.listed; its = refl; shows = not }))
+              | inr not ↦ absurd (none j (slice_get_within n.interfaces j _ there.listed) (record { own = there.interface; listed = there.listed; its = there.router; shows = not }))
             ]
 
   -- a leaf shows its route, or that it has none

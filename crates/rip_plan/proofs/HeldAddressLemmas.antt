@@ -87,7 +87,7 @@ holder_there l a i (suc k) (h ∷ hs) at e = elim (cases_Bool (is_at l a h)) [ i
 -- ---- of a network
 
 addresses_at : (n : Network) (k : ℕ) (h : Held) (c : HeldIn n.interfaces n.also k h) → HasAddresses n h.interface h.link (c.u.x.0.address ∷ c.u.x.1)
-addresses_at n k h c = record { interface = c.u.x.0; listed = c.listed; on = c.link; also = c.u.x.1; further = c.its; all = refl }
+addresses_at n k h c = record { interface = c.u.x.0; listed = c.listed; link = c.link; also = c.u.x.1; further = c.its; all = refl }
 
 pub held_address : (n : Network) (i l a k : ℕ) → slice_get (addresses_of n) k ≡ Some (record { interface = i; link = l; address = a }) → HasAddress n i l a
 held_address n i l a k h =
@@ -108,7 +108,7 @@ held_at n i l all has j a at =
     let number : 0 + i ≡ i = omega arith in
     in_flat held_of 0 (with_further n.interfaces n.also) (addresses_of n) (held_flat 0 n.interfaces n.also) i j (has.interface, has.also) _ pair here (first_held n i + j) refl
     ∙ ap (λ (m : ℕ). Some (record { interface = m; link = has.interface.link; address = a })) number
-    ∙ ap (λ (m : ℕ). Some (record { interface = i; link = m; address = a })) has.on
+    ∙ ap (λ (m : ℕ). Some (record { interface = i; link = m; address = a })) has.link
 
 pub address_held : (n : Network) (i l a : ℕ) → HasAddress n i l a → (k : ℕ) × (slice_get (addresses_of n) k ≡ Some (record { interface = i; link = l; address = a }))
 address_held n i l a (all, has, holds) = let (j, at) = at_contains all a holds in (first_held n i + j, held_at n i l all has j a at)

@@ -31,7 +31,7 @@ use Rattle.rip_plan.specs.Relations.{Carries, HasAddress, HasAddresses, HasOwnAd
 use Rattle.rip_plan.proofs.DocumentTableLemmas.{by_root}
 use Rattle.rip_plan.proofs.FurtherAddressLemmas.{also_spot}
 use Rattle.rip_plan.proofs.ItemLemmas.{all_at, all_here, any_finds, cases_option, distinct_at, get_left, get_seen, get_some, get_split, none_at}
-use Rattle.rip_plan.proofs.LookupLemmas.{cost_found, cost_there, on_seat}
+use Rattle.rip_plan.proofs.LookupLemmas.{cost_found, cost_there, interface_of, on_seat}
 use Rattle.rip_plan.proofs.MatchingLemmas.{matched_left, matched_length}
 use Rattle.rip_plan.proofs.NumberingLemmas.{once_distinct, once_kept, same_self}
 use Rattle.rip_plan.proofs.NumbersWhereLemmas.{at_contains}
@@ -100,37 +100,43 @@ module _ (laws : TextLaws) (bytes : List ℕ) (document : Members) (n : Network)
       (λ more. let (r, m, at) = its_spot i here in not c (RouterInterface r m) (told r m (j, i, at, more, back)))
 
   costs_good : (i r l c : ℕ) → IsInterface n i r l c → (1 ≤ c) × (c ≤ 15)
-  costs_good i r l c h = let t = interface_table document n plan i _ h.listed in cost_good t.x c t.of.cost (λ bad. not codes.Cost (RouterInterface (suc t.r) (suc t.j)) (t.x, t.item, inl bad))
+  costs_good i r l c h =
+      let t = interface_table document n plan i h.interface h.listed in
+      rw (← h.cost) (cost_good t.x h.interface.cost t.of.cost (λ bad. not codes.Cost (RouterInterface (suc t.r) (suc t.j)) (t.x, t.item, inl bad)))
 
-  directs_good : (i r l d : ℕ) → (h : IsConnected n i r l d) → (1 ≤ d) × (d ≤ h.cost)
+  directs_good : (i r l d : ℕ) → (h : IsConnected n i r l d) → (1 ≤ d) × (d ≤ h.interface.cost)
   directs_good i r l d h =
-      let t = interface_table document n plan i _ h.listed in
-      direct_good t.x h.cost d t.of.cost (costs_good i r l h.cost (record { address = h.address; direct = d; poison = h.poison; listed = h.listed })) t.of.direct
-      (λ bad. not codes.Cost (RouterInterface (suc t.r) (suc t.j)) (t.x, t.item, inr bad))
+      let t = interface_table document n plan i h.interface h.listed in
+      rw (← h.direct)
+      (direct_good t.x h.interface.cost h.interface.direct t.of.cost (costs_good i r l h.interface.cost (interface_of n i r l d h)) t.of.direct
+      (λ bad. not codes.Cost (RouterInterface (suc t.r) (suc t.j)) (t.x, t.item, inr bad)))
 
   direct_most : (i r l c d : ℕ) → IsInterface n i r l c → IsConnected n i r l d → d ≤ c
   direct_most i r l c d h k =
-      let cost : k.cost ≡ c = ap (λ (v : Interface). v.cost) (same_Some _ _ (sym k.listed ∙ h.listed)) in
+      let cost : k.interface.cost ≡ c = ap (λ (v : Interface). v.cost) (same_Some _ _ (sym k.listed ∙ h.listed)) ∙ h.cost in
       let good = directs_good i r l d k in
       omega (arith, good.1)
 
   router_known : (i r l c : ℕ) → IsInterface n i r l c → r < length n.routers
   router_known i r l c h =
-      let t = interface_table document n plan i _ h.listed in
-      omega (arith, t.of.router, slice_get_within plan.routers t.r t.item.0 t.item.1, matched_length IsNameOf n.routers plan.routers plan.router_names)
+      let t = interface_table document n plan i h.interface h.listed in
+      omega (arith, t.of.router, h.router, slice_get_within plan.routers t.r t.item.0 t.item.1, matched_length IsNameOf n.routers plan.routers plan.router_names)
 
   link_known : (i r l c : ℕ) → IsInterface n i r l c → l < length n.links
-  link_known i r l c h = let t = interface_table document n plan i _ h.listed in slice_get_within n.links l t.of.link_name t.of.link.0
+  link_known i r l c h =
+      let t = interface_table document n plan i h.interface h.listed in
+      rw (← h.link) (slice_get_within n.links h.interface.link t.of.link_name t.of.link.0)
 
   one_interface : (r : ℕ) → r < length n.routers → (i l c : ℕ) × IsInterface n i r l c
   one_interface r less =
       elim (cases_Bool (list_any (is_of r) n.interfaces)) [
         | inl e ↦
             let (i, x, at, test) = any_finds (is_of r) n.interfaces e in
-            let listed = at ∙ ap (λ (m : ℕ). Some (record x { router = m })) (eqb-true x.router r test) in
-            (i, x.link, x.cost, record { address = x.address; direct = x.direct; poison = x.poison; listed = listed })
+            (i, x.link, x.cost, record { interface = x; listed = at; router = eqb-true x.router r test; link = refl; cost = refl })
         | inr e ↦
-            absurd (not codes.NoInterface (Router (r + 1)) (n, plan, (r, refl, less, λ i l c is. both_ways (r == r) (none_at (is_of r) n.interfaces i _ e is.listed) (eq-eqb r r refl))))
+            let none : (i l c : ℕ) → IsInterface n i r l c → ⊥ =
+            λ i l c is. both_ways (is.interface.router == r) (none_at (is_of r) n.interfaces i is.interface e is.listed) (eq-eqb is.interface.router r is.router) in
+            absurd (not codes.NoInterface (Router (r + 1)) (n, plan, (r, refl, less, none)))
       ]
 
   one_on_link : (i j r l c d : ℕ) → IsInterface n i r l c → IsInterface n j r l d → i ≡ j
@@ -163,45 +169,52 @@ module _ (laws : TextLaws) (bytes : List ℕ) (document : Members) (n : Network)
       apart j k (λ less. not codes.DuplicateAddress (RouterInterface r m) (n, plan, inr (i, spot, (l, addresses, its, (j, k, a, less, h, g)))))
       (λ more. not codes.DuplicateAddress (RouterInterface r m) (n, plan, inr (i, spot, (l, addresses, its, (k, j, a, more, g, h)))))
 
-  inside : (i l a p : ℕ) → HasOwnAddress n i l a → Carries n l p → IsInside n l a
-  inside i l a p own (k, place) = by_test (list_any (λ (q : Placement). is_on l q.seat && has_address q.prefix a) plan.on_links) refl
+  -- the address of an interface is inside a prefix of its link
+  inside_of : (i p : ℕ) (x : Interface) → slice_get n.interfaces i ≡ Some x → Carries n x.link p → IsInside n x.link x.address
+  inside_of i p x at (k, place) = by_test (list_any test plan.on_links) refl
     where
-      by_test : (b : Bool) → list_any (λ (q : Placement). is_on l q.seat && has_address q.prefix a) plan.on_links ≡ b → IsInside n l a
+      test : Placement → Bool
+      test q = is_on x.link q.seat && has_address q.prefix x.address
+
+      by_test : (b : Bool) → list_any test plan.on_links ≡ b → IsInside n x.link x.address
       by_test true e =
-          let (m, q, at, tests) = any_finds (λ (q : Placement). is_on l q.seat && has_address q.prefix a) plan.on_links e in
-          let (on, holds) = and_parts (is_on l q.seat) (has_address q.prefix a) tests in
+          let (m, q, at, tests) = any_finds test plan.on_links e in
+          let (on, holds) = and_parts (is_on x.link q.seat) (has_address q.prefix x.address) tests in
           let (number, its, prefix) = its_place document n plan m q (get_left plan.on_links plan.owned m q at) in
-          (number, q.prefix, (m, subst (IsPlace n m number) (on_seat l q.seat on) its), prefix, grind (arith, nat_tests))
+          (number, q.prefix, (m, subst (IsPlace n m number) (on_seat x.link q.seat on) its), prefix, grind (arith, nat_tests))
       by_test false e =
-          let t = interface_table document n plan i _ own.listed in
-          let (d, listed, named) = matched_left IsNameOf n.links plan.links l t.of.link_name plan.link_names t.of.link.0 in
-          let (block, prefix) = get_some n.prefixes p (prefix_known k p (seats.Link l) place) in
+          let t = interface_table document n plan i x at in
+          let (d, listed, named) = matched_left IsNameOf n.links plan.links x.link t.of.link_name plan.link_names t.of.link.0 in
+          let (block, prefix) = get_some n.prefixes p (prefix_known k p (seats.Link x.link) place) in
           absurd (not codes.OutsidePrefix (RouterInterface (suc t.r) (suc t.j)) (
             t.x,
             t.item,
             record {
               text = t.of.text;
               has_address = t.of.has_address;
-              address = a;
+              address = x.address;
               spelled = t.of.address;
               name = t.of.link_name;
               has_link = t.of.has_link;
-              link = l;
+              link = x.link;
               link_table = d;
               listed = listed;
               named = named;
-              some = (block, carrier_has document n plan l p block (k, place) prefix);
+              some = (block, carrier_has document n plan x.link p block (k, place) prefix);
               none = λ block its holds.
-                  let (m, q, at, seat, (text, read, same)) = prefix_place plan.links plan.on_links plan.link_prefixes l block its in
+                  let (m, q, at, seat, (text, read, same)) = prefix_place plan.links plan.on_links plan.link_prefixes x.link block its in
                   let one : q.prefix ≡ block = one_prefix laws text text q.prefix block refl read same in
-                  let off : (is_on l q.seat && has_address q.prefix a) ≡ false = none_at (λ (q : Placement). is_on l q.seat && has_address q.prefix a) plan.on_links m q e at in
-                  let here : is_on l (seats.Link l) ≡ true = grind (arith, nat_tests) in
-                  let on : is_on l q.seat ≡ true = ap (is_on l) seat ∙ here in
-                  let test : has_address block a ≡ true = grind (arith, nat_tests) in
-                  let inner : has_address q.prefix a ≡ true = ap (λ (b : Block). has_address b a) one ∙ test in
+                  let off : (is_on x.link q.seat && has_address q.prefix x.address) ≡ false = none_at test plan.on_links m q e at in
+                  let here : is_on x.link (seats.Link x.link) ≡ true = grind (arith, nat_tests) in
+                  let on : is_on x.link q.seat ≡ true = ap (is_on x.link) seat ∙ here in
+                  let test : has_address block x.address ≡ true = grind (arith, nat_tests) in
+                  let inner : has_address q.prefix x.address ≡ true = ap (λ (b : Block). has_address b x.address) one ∙ test in
                   cc;
             },
           ))
+
+  inside : (i l a p : ℕ) → HasOwnAddress n i l a → Carries n l p → IsInside n l a
+  inside i l a p own carries = rw (← own.link, ← own.address) (inside_of i p own.interface own.listed (subst (λ (m : ℕ). Carries n m p) (sym own.link) carries))
 
   -- ---- prefixes
 
@@ -267,9 +280,11 @@ module _ (laws : TextLaws) (bytes : List ℕ) (document : Members) (n : Network)
       elim (cases_option (cost_on r l n.interfaces)) [
         | inl e ↦
             let t = own_table document n plan k p h.own h.place in
-            let astray : IsAstray n k = (p, r, l, h, λ (c, (i, on)). cost_there r l on.direct on.address c i on.poison n.interfaces on.listed e) in
+            let astray : IsAstray n k = (p, r, l, h, λ (c, (i, on)). cost_there r l i n.interfaces on.interface on.listed on.router on.link e) in
             absurd (none (fault codes.UnknownLink (RouterOwn (1 + t.r) (suc t.j))) (5, inr ((document, plan.links, plan.routers, has, (n, plan, (k, t.spot, astray))), refl, refl)))
-        | inr (d, e) ↦ let (i, (a, c, b, at)) = cost_found r l d n.interfaces e in (c, (i, record { address = a; direct = d; poison = b; listed = at }))
+        | inr (d, e) ↦
+            let (i, (x, at, router, link, direct)) = cost_found r l d n.interfaces e in
+            (x.cost, (i, record { interface = x; listed = at; router = router; link = link; cost = refl }))
       ]
 
   meet_within : (j k : ℕ) → DoMeet n j k → k < length n.places

@@ -59,10 +59,7 @@ number_of_planned n laws p k h =
 
 -- an interface of the list with this router, this link and this direct metric
 abbrev pub IsConnectedIn : List Interface → ℕ → ℕ → ℕ → ℕ → Type 0
-IsConnectedIn is i r l d = (a c : ℕ) × (b : Bool) × (slice_get is i ≡ Some (record { router = r; link = l; address = a; cost = c; direct = d; poison = b }))
-
-same_interface : (x : Interface) (r l d : ℕ) → x.router ≡ r → x.link ≡ l → x.direct ≡ d → x ≡ record { router = r; link = l; address = x.address; cost = x.cost; direct = d; poison = x.poison }
-same_interface x r l d e f g = rw (← e, ← f, ← g) refl
+IsConnectedIn is i r l d = (x : Interface) × (slice_get is i ≡ Some x) × (x.router ≡ r) × (x.link ≡ l) × (x.direct ≡ d)
 
 pub cost_found : (r l d : ℕ) (is : List Interface) → cost_on r l is ≡ Some d → (i : ℕ) × IsConnectedIn is i r l d
 cost_found r l d [] h = absurd (none-some d h)
@@ -70,22 +67,20 @@ cost_found r l d (x ∷ xs) h =
     elim (cases_Bool (x.router == r && x.link == l)) [
       | inl e ↦
           let (router, link) = and_parts (x.router == r) (x.link == l) e in
-          let same = same_interface x r l d (eqb-true x.router r router) (eqb-true x.link l link) (same_Some x.direct d (rw e at h)) in
-          (zero, (x.address, x.cost, x.poison, ap (λ (y : Interface). Some y) same))
-      | inr e ↦ let (i, (a, c, p, at)) = cost_found r l d xs (rw e at h) in (suc i, (a, c, p, at))
+          (zero, (x, refl, eqb-true x.router r router, eqb-true x.link l link, same_Some x.direct d (rw e at h)))
+      | inr e ↦ let (i, found) = cost_found r l d xs (rw e at h) in (suc i, found)
     ]
 
-pub cost_there : (r l d a c i : ℕ) (b : Bool) (is : List Interface) → slice_get is i ≡ Some (record { router = r; link = l; address = a; cost = c; direct = d; poison = b }) → cost_on r l is ≡ None → ⊥
-cost_there r l d a c i b [] h e = absurd (none-some _ h)
-cost_there r l d a c zero b (x ∷ xs) h e =
-    let same = same_Some x _ h in
-    let router : (x.router == r) ≡ true = rw same (grind (arith, nat_tests)) in
-    let link : (x.link == l) ≡ true = rw same (grind (arith, nat_tests)) in
-    none-some x.direct (sym (rw (router, link) at e))
-cost_there r l d a c (suc i) b (x ∷ xs) h e =
-    elim (cases_Bool (x.router == r && x.link == l)) [
-      | inl t ↦ none-some x.direct (sym (rw t at e))
-      | inr t ↦ cost_there r l d a c i b xs h (rw t at e)
+pub cost_there : (r l i : ℕ) (is : List Interface) (x : Interface) → slice_get is i ≡ Some x → x.router ≡ r → x.link ≡ l → cost_on r l is ≡ None → ⊥
+cost_there r l i [] x h router link e = absurd (none-some x h)
+cost_there r l zero (y ∷ ys) x h router link e =
+    let same : y ≡ x = same_Some y x h in
+    let test : (y.router == r && y.link == l) ≡ true = rw same (grind (arith, nat_tests)) in
+    none-some y.direct (sym (rw test at e))
+cost_there r l (suc i) (y ∷ ys) x h router link e =
+    elim (cases_Bool (y.router == r && y.link == l)) [
+      | inl t ↦ none-some y.direct (sym (rw t at e))
+      | inr t ↦ cost_there r l i ys x h router link (rw t at e)
     ]
 
 or_parts : {A : Type 0} (o p : Option A) (x : A) → option_or o p ≡ Some x → (o ≡ Some x) ⊎ (p ≡ Some x)
@@ -122,18 +117,18 @@ direct_there r k (suc j) seat is (q ∷ qs) h e =
 
 cost_touches : (n : Network) (j k r c : ℕ) (seat : Seat) → IsPlace n j k seat → cost_at r n.interfaces seat ≡ Some c → Touches n j k r c
 cost_touches n j k r c (seats.Link l) place h =
-    let (i, (a, cost, poison, at)) = cost_found r l c n.interfaces h in
-    inl (l, place, (i, record { address = a; cost = cost; poison = poison; listed = at }))
+    let (i, (x, at, router, link, direct)) = cost_found r l c n.interfaces h in
+    inl (l, place, (i, record { interface = x; listed = at; router = router; link = link; direct = direct }))
 cost_touches n j k r c (seats.Own own) place h =
     let (of, says) = cond_some (own.router == r) own.cost c h in
     inr (record { own = own; place = place; router = eqb-true own.router r of; says = says })
 
 touch_costs : (n : Network) (j k r c : ℕ) → Touches n j k r c → (seat : Seat) × IsPlace n j k seat × (cost_at r n.interfaces seat ≡ None → ⊥)
-touch_costs n j k r c (inl (l, place, (i, is))) = (seats.Link l, place, λ e. cost_there r l c is.address is.cost i is.poison n.interfaces is.listed e)
+touch_costs n j k r c (inl (l, place, (i, is))) = (seats.Link l, place, λ e. cost_there r l i n.interfaces is.interface is.listed is.router is.link e)
 touch_costs n j k r c (inr h) = (seats.Own h.own, h.place, λ e. let same : (h.own.router == r) ≡ true = grind (arith, nat_tests, h.router) in none-some h.own.cost (sym (rw same at e)))
 
-pub interface_of : (n : Network) (i r l d : ℕ) → (is : IsConnected n i r l d) → IsInterface n i r l is.cost
-interface_of n i r l d is = record { address = is.address; direct = d; poison = is.poison; listed = is.listed }
+pub interface_of : (n : Network) (i r l d : ℕ) → (is : IsConnected n i r l d) → IsInterface n i r l is.interface.cost
+interface_of n i r l d is = record { interface = is.interface; listed = is.listed; router = is.router; link = is.link; cost = refl }
 
 -- a place has one seat
 pub one_seat : (n : Network) (j k : ℕ) (seat other : Seat) → IsPlace n j k seat → IsPlace n j k other → seat ≡ other
@@ -150,9 +145,9 @@ direct_once n laws r k c d (j, h) (m, h') =
         let seat : seats.Link l ≡ seats.Link l' = one_seat n j k _ _ place place' in
         let link : l ≡ l' = cc in
         let is'' : IsConnected n i' r l d = rw (← link) at is' in
-        let same : i ≡ i' = laws.one_on_link i i' r l is.cost is''.cost (interface_of n i r l c is) (interface_of n i' r l d is'') in
+        let same : i ≡ i' = laws.one_on_link i i' r l is.interface.cost is''.interface.cost (interface_of n i r l c is) (interface_of n i' r l d is'') in
         let listed : slice_get n.interfaces i ≡ slice_get n.interfaces i' = ap (slice_get n.interfaces) same in
-        ap (λ (x : Interface). x.direct) (same_Some _ _ (sym is.listed ∙ listed ∙ is''.listed))
+        sym is.direct ∙ ap (λ (x : Interface). x.direct) (same_Some _ _ (sym is.listed ∙ listed ∙ is''.listed)) ∙ is''.direct
     same_touch (inl (l, place, on)) (inr own) = let seat : seats.Link l ≡ seats.Own own.own = one_seat n j k _ _ place own.place in absurd cc
     same_touch (inr own) (inl (l', place', on)) = let seat : seats.Own own.own ≡ seats.Link l' = one_seat n j k _ _ own.place place' in absurd cc
     same_touch (inr own) (inr own') =
@@ -266,18 +261,18 @@ numbers_find test is i x h passes =
 pub on_link_gives : (n : Network) (l i : ℕ) → Contains (numbers_where (is_on l) 0 n.interfaces) i → (r c : ℕ) × IsInterface n i r l c
 on_link_gives n l i h =
     let (x, at, test) = numbers_give (is_on l) n.interfaces i h in
-    (x.router, x.cost, record { address = x.address; direct = x.direct; poison = x.poison; listed = at ∙ ap (λ (m : ℕ). Some (record x { link = m })) (eqb-true x.link l test) })
+    (x.router, x.cost, record { interface = x; listed = at; router = refl; link = eqb-true x.link l test; cost = refl })
 
 pub on_link_finds : (n : Network) (l i r c : ℕ) → IsInterface n i r l c → Contains (numbers_where (is_on l) 0 n.interfaces) i
-on_link_finds n l i r c h = numbers_find (is_on l) n.interfaces i _ h.listed (eq-eqb l l refl)
+on_link_finds n l i r c h = numbers_find (is_on l) n.interfaces i h.interface h.listed (eq-eqb h.interface.link l h.link)
 
 pub of_router_gives : (n : Network) (r i : ℕ) → Contains (numbers_where (is_of r) 0 n.interfaces) i → (l c : ℕ) × IsInterface n i r l c
 of_router_gives n r i h =
     let (x, at, test) = numbers_give (is_of r) n.interfaces i h in
-    (x.link, x.cost, record { address = x.address; direct = x.direct; poison = x.poison; listed = at ∙ ap (λ (m : ℕ). Some (record x { router = m })) (eqb-true x.router r test) })
+    (x.link, x.cost, record { interface = x; listed = at; router = eqb-true x.router r test; link = refl; cost = refl })
 
 pub of_router_finds : (n : Network) (r i l c : ℕ) → IsInterface n i r l c → Contains (numbers_where (is_of r) 0 n.interfaces) i
-of_router_finds n r i l c h = numbers_find (is_of r) n.interfaces i _ h.listed (eq-eqb r r refl)
+of_router_finds n r i l c h = numbers_find (is_of r) n.interfaces i h.interface h.listed (eq-eqb h.interface.router r h.router)
 
 -- ---- an interface by the name of its link and its address
 

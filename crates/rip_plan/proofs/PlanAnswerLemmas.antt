@@ -39,7 +39,7 @@ direct_past n laws r k past =
     ]
   where
     touched : (j c : ℕ) → Touches n j k r c → ⊥
-    touched j c (inl (l, place, (i, is))) = past_not past (laws.router_known i r l is.cost (interface_of n i r l c is)) (laws.prefix_known j k _ place)
+    touched j c (inl (l, place, (i, is))) = past_not past (laws.router_known i r l is.interface.cost (interface_of n i r l c is)) (laws.prefix_known j k _ place)
     touched j c (inr own) = past_not past (laws.owner_known j k r c own) (laws.prefix_known j k _ own.place)
 
 pub direct_zero : (n : Network) → IsLawful n → (r k : ℕ) → unwrap_or (direct_at r k n.interfaces n.places) 0 ≡ 0 → direct_at r k n.interfaces n.places ≡ None
@@ -170,12 +170,12 @@ module _ (n : Network) (laws : IsLawful n) where
   pub interfaces_links : All (λ i. i.link < length n.links) n.interfaces
   interfaces_links k d h =
       let x = get_or n.interfaces k d in
-      laws.link_known k x.router x.link x.cost (record { address = x.address; direct = x.direct; poison = x.poison; listed = slice_get-get_or n.interfaces k d h })
+      laws.link_known k x.router x.link x.cost (record { interface = x; listed = slice_get-get_or n.interfaces k d h; router = refl; link = refl; cost = refl })
 
   pub interfaces_routers : All (λ i. i.router < length n.routers) n.interfaces
   interfaces_routers k d h =
       let x = get_or n.interfaces k d in
-      laws.router_known k x.router x.link x.cost (record { address = x.address; direct = x.direct; poison = x.poison; listed = slice_get-get_or n.interfaces k d h })
+      laws.router_known k x.router x.link x.cost (record { interface = x; listed = slice_get-get_or n.interfaces k d h; router = refl; link = refl; cost = refl })
 
   pub places_prefixes : All (λ q. q.prefix < length n.prefixes) n.places
   places_prefixes k d h =

@@ -28,21 +28,15 @@ module _ (s : Sketch) where
   pub interface_in : (i : ℕ) (v : Interface) → slice_get (network_of_sketch s).interfaces i ≡ Some v → (x : DraftInterface) × (slice_get s.interfaces i ≡ Some x) × (x.interface ≡ v)
   interface_in i v h = get_seen (λ (x : DraftInterface). x.interface) s.interfaces i v h
 
-  -- an interface with this router and this link
-  listed_as : (i : ℕ) (x : DraftInterface) (r l : ℕ) → slice_get s.interfaces i ≡ Some x → x.interface.router ≡ r → x.interface.link ≡ l
-      → slice_get (network_of_sketch s).interfaces i ≡ Some (record x.interface { router = r; link = l })
-  listed_as i x r l at router link =
-      see_got (λ (y : DraftInterface). y.interface) s.interfaces i x at ∙ ap (λ (m : ℕ). Some (record x.interface { router = m })) router
-      ∙ ap (λ (m : ℕ). Some (record x.interface { router = r; link = m })) link
-
   pub interface_as : (i : ℕ) (x : DraftInterface) (r l : ℕ) → slice_get s.interfaces i ≡ Some x → x.interface.router ≡ r → x.interface.link ≡ l
       → IsInterface (network_of_sketch s) i r l x.interface.cost
-  interface_as i x r l at router link = record { address = x.interface.address; direct = x.interface.direct; poison = x.interface.poison; listed = listed_as i x r l at router link }
+  interface_as i x r l at router link =
+      record { interface = x.interface; listed = see_got (λ (y : DraftInterface). y.interface) s.interfaces i x at; router = router; link = link; cost = refl }
 
   pub as_interface : (i r l c : ℕ) → IsInterface (network_of_sketch s) i r l c → (x : DraftInterface) × (slice_get s.interfaces i ≡ Some x) × (x.interface.router ≡ r) × (x.interface.link ≡ l)
   as_interface i r l c is =
-      let (x, at, same) = interface_in i _ is.listed in
-      (x, at, ap (λ (v : Interface). v.router) same, ap (λ (v : Interface). v.link) same)
+      let (x, at, same) = interface_in i is.interface is.listed in
+      (x, at, ap (λ (v : Interface). v.router) same ∙ is.router, ap (λ (v : Interface). v.link) same ∙ is.link)
 
   pub place_in : (k p : ℕ) (seat : Seat) → IsPlace (network_of_sketch s) k p seat
       → (d : DraftPlace) × (slice_get s.places k ≡ Some d) × (slice_get (network_of_sketch s).prefixes p ≡ Some d.prefix) × (seat ≡ d.seat)
@@ -59,9 +53,9 @@ module _ (s : Sketch) where
 
   pub touch : (k p r c : ℕ) → Touches (network_of_sketch s) k p r c → (seat : Seat) × IsPlace (network_of_sketch s) k p seat × (list_any (λ m. m == r) (touched s.interfaces seat) ≡ true)
   touch k p r c (inl (l, place, (i, is))) =
-      let (x, at, same) = interface_in i _ is.listed in
-      let link : x.interface.link ≡ l = ap (λ (v : Interface). v.link) same in
-      let router : x.interface.router ≡ r = ap (λ (v : Interface). v.router) same in
+      let (x, at, same) = interface_in i is.interface is.listed in
+      let link : x.interface.link ≡ l = ap (λ (v : Interface). v.link) same ∙ is.link in
+      let router : x.interface.router ≡ r = ap (λ (v : Interface). v.router) same ∙ is.router in
       let test = any_at (λ (y : DraftInterface). y.interface.link == l && y.interface.router == r) s.interfaces i x at (grind (arith, nat_tests)) in
       (seats.Link l, place, link_touched s.interfaces l r ∙ test)
   touch k p r c (inr h) = let same : (h.own.router == r) ≡ true = grind (arith, nat_tests, h.router) in (seats.Own h.own, h.place, rw same refl)
@@ -70,8 +64,10 @@ module _ (s : Sketch) where
   touches k p r (seats.Link l) place h =
       let (i, x, at, test) = any_finds (λ (y : DraftInterface). y.interface.link == l && y.interface.router == r) s.interfaces (sym (link_touched s.interfaces l r) ∙ h) in
       let (on, of) = and_parts (x.interface.link == l) (x.interface.router == r) test in
-      let listed = listed_as i x r l at (eqb-true x.interface.router r of) (eqb-true x.interface.link l on) in
-      (x.interface.direct, inl (l, place, (i, record { address = x.interface.address; cost = x.interface.cost; poison = x.interface.poison; listed = listed })))
+      let listed = see_got (λ (y : DraftInterface). y.interface) s.interfaces i x at in
+      let router = eqb-true x.interface.router r of in
+      let link = eqb-true x.interface.link l on in
+      (x.interface.direct, inl (l, place, (i, record { interface = x.interface; listed = listed; router = router; link = link; direct = refl })))
   touches k p r (seats.Own own) place h =
       elim (or_cases (own.router == r) false h) [
         | inl one ↦ (own.cost, inr (record { own = own; place = place; router = eqb-true own.router r one; says = refl }))

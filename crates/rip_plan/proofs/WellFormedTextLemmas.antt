@@ -85,7 +85,7 @@ module _ (laws : TextLaws) (bytes : List ℕ) (w : IsWellFormed bytes) where
       (λ p its.
       let (k, q, at, seat, read) = prefix_place w.plan.links w.plan.on_links w.plan.link_prefixes h.i.link p its in
       let (number, place, prefix) = its_place w.document n w.plan k q (get_left w.plan.on_links w.plan.owned k q at) in
-      let is : HasOwnAddress n h.k h.i.link h.i.address = record { router = h.i.router; cost = h.i.cost; direct = h.i.direct; poison = h.i.poison; listed = h.listed } in
+      let is : HasOwnAddress n h.k h.i.link h.i.address = record { interface = h.i; listed = h.listed; link = refl; address = refl } in
       let (other, block, on, its, contains) = w.lawful.inside h.k h.i.link h.i.address number is (k, subst (IsPlace n k number) seat place) in
       (block, carrier_has w.document n w.plan h.i.link other block on its, contains))
       o
@@ -111,8 +111,8 @@ module _ (laws : TextLaws) (bytes : List ℕ) (w : IsWellFormed bytes) where
 
   interface_cost : (x : Data) → HasInterface w.document w.network w.plan x → HasWrongCost x ⊎ HasWrongDirect x → ⊥
   interface_cost x h wrong =
-      let is : IsInterface w.network h.k h.i.router h.i.link h.i.cost = record { address = h.i.address; direct = h.i.direct; poison = h.i.poison; listed = h.listed } in
-      let on : IsConnected w.network h.k h.i.router h.i.link h.i.direct = record { address = h.i.address; cost = h.i.cost; poison = h.i.poison; listed = h.listed } in
+      let is : IsInterface w.network h.k h.i.router h.i.link h.i.cost = record { interface = h.i; listed = h.listed; router = refl; link = refl; cost = refl } in
+      let on : IsConnected w.network h.k h.i.router h.i.link h.i.direct = record { interface = h.i; listed = h.listed; router = refl; link = refl; direct = refl } in
       elim wrong [
         | inl cost ↦ cost_fits x h.i.cost h.of.cost (w.lawful.cost_least h.k _ _ _ is, w.lawful.cost_most h.k _ _ _ is) cost
         | inr direct ↦ direct_fits x h.i.cost h.i.direct h.of.cost h.of.direct (w.lawful.direct_least h.k _ _ _ on, w.lawful.direct_most h.k _ _ _ _ is on) direct

@@ -1,6 +1,6 @@
 -- What stands in a network: who is on which link at what cost, where each prefix is, and the laws
 -- that a plan keeps.
-use Rattle.std.specs.Prelude.{◌≡◌, ◌≢◌, ℕ, ◌<◌, ◌≤◌, ◌^◌, ◌⊎◌, List, ◌∷◌, length, map, sum, Bool, true, Contains, Some, slice_get}
+use Rattle.std.specs.Prelude.{◌≡◌, ◌≢◌, ℕ, ◌<◌, ◌≤◌, ◌^◌, ◌⊎◌, List, ◌∷◌, length, map, sum, true, Contains, Some, slice_get}
 use Rattle.rip_wire.specs.Name.{IsName}
 use Rattle.rip_wire.specs.Prefix.{Block, ContainsAddress, IsBlock}
 use Rattle.rip_plan.specs.declared.limits.TheConstants.{MOST_ALSO, MOST_COST, MOST_INTERFACES, MOST_LINKS, MOST_PLACES, MOST_ROUTERS}
@@ -25,32 +25,20 @@ IsPrefix n k p = slice_get n.prefixes k ≡ Some p
 -- interface i is router r's on link l, and has cost c (RFC 2453, 3.5: the metric of a
 -- directly-connected network)
 pub record IsInterface (n : Network) (i r l c : ℕ) : Type 0 where
-  pub address : ℕ
-  pub direct : ℕ
-  pub poison : Bool
-  pub listed : slice_get n.interfaces i ≡ Some (record {
-    router = r;
-    link = l;
-    address = address;
-    cost = c;
-    direct = direct;
-    poison = poison;
-  })
+  pub interface : Interface
+  pub listed : slice_get n.interfaces i ≡ Some interface
+  pub router : interface.router ≡ r
+  pub link : interface.link ≡ l
+  pub cost : interface.cost ≡ c
 
 -- interface i is router r's on link l, and d is the metric at which the router has the prefixes of
 -- the link
 pub record IsConnected (n : Network) (i r l d : ℕ) : Type 0 where
-  pub address : ℕ
-  pub cost : ℕ
-  pub poison : Bool
-  pub listed : slice_get n.interfaces i ≡ Some (record {
-    router = r;
-    link = l;
-    address = address;
-    cost = cost;
-    direct = d;
-    poison = poison;
-  })
+  pub interface : Interface
+  pub listed : slice_get n.interfaces i ≡ Some interface
+  pub router : interface.router ≡ r
+  pub link : interface.link ≡ l
+  pub direct : interface.direct ≡ d
 
 -- interface i poisons: where its router has a route over the link, it shows 16 there, and does not
 -- leave the route out (RFC 2453, 3.4.3: split horizon with poisoned reverse)
@@ -63,7 +51,7 @@ pub record Poisons (n : Network) (i : ℕ) : Type 0 where
 pub record HasAddresses (n : Network) (i l : ℕ) (addresses : List ℕ) : Type 0 where
   pub interface : Interface
   pub listed : slice_get n.interfaces i ≡ Some interface
-  pub on : interface.link ≡ l
+  pub link : interface.link ≡ l
   pub also : List ℕ
   pub further : slice_get n.also i ≡ Some also
   pub all : addresses ≡ interface.address ∷ also
@@ -75,18 +63,10 @@ HasAddress n i l a =
 
 -- a is interface i's own address, on link l
 pub record HasOwnAddress (n : Network) (i l a : ℕ) : Type 0 where
-  pub router : ℕ
-  pub cost : ℕ
-  pub direct : ℕ
-  pub poison : Bool
-  pub listed : slice_get n.interfaces i ≡ Some (record {
-    router = router;
-    link = l;
-    address = a;
-    cost = cost;
-    direct = direct;
-    poison = poison;
-  })
+  pub interface : Interface
+  pub listed : slice_get n.interfaces i ≡ Some interface
+  pub link : interface.link ≡ l
+  pub address : interface.address ≡ a
 
 -- interface i is on the link of this name and has address a there
 abbrev pub IsAt : Network → List ℕ → ℕ → ℕ → Type 0

@@ -43,9 +43,8 @@ on_below n l numbers exact k lt = let h = on_number n l numbers exact k lt in sl
 -- what was read of an interface on a link
 pub its_own_link : (n : Network) (j r l c : ℕ) (x : Interface) → IsInterface n j r l c → slice_get n.interfaces j ≡ Some x → IsInterface n j x.router l x.cost
 its_own_link n j r l c x is at =
-    let same : record { router = r; link = l; address = is.address; cost = c; direct = is.direct; poison = is.poison } ≡ x =
-    same_Some (record { router = r; link = l; address = is.address; cost = c; direct = is.direct; poison = is.poison }) x (sym is.listed ∙ at) in
-    subst (λ (y : Interface). IsInterface n j y.router l y.cost) same is
+    let link : x.link ≡ l = ap (λ (y : Interface). y.link) (same_Some x is.interface (sym at ∙ is.listed)) ∙ is.link in
+    record { interface = x; listed = at; router = refl; link = link; cost = refl }
 
 -- each interface on a link is at a place of the list
 pub on_place : (n : Network) (l : ℕ) (numbers : List ℕ) → ((i : ℕ) → Contains numbers i ↔ ((r c : ℕ) × IsInterface n i r l c)) → (i r c : ℕ) → IsInterface n i r l c →

@@ -15,22 +15,14 @@ use Rattle.rip_plan.specs.declared.parts.Interface.{Interface}
 
 -- a listed interface, by its router and link
 pub is_listed : (n : Network) (i : ℕ) (x : Interface) → slice_get n.interfaces i ≡ Some x → IsInterface n i x.router x.link x.cost
-is_listed n i x listed = record { address = x.address; direct = x.direct; poison = x.poison; listed = listed }
+is_listed n i x listed = record { interface = x; listed = listed; router = refl; link = refl; cost = refl }
 
 -- what has an address on a link is an interface on it
 pub its_link : (n : Network) (i l a : ℕ) → HasAddress n i l a → (r c : ℕ) × IsInterface n i r l c
 its_link n i l a h =
     let has = h.1 in
-    let x = has.interface in (
-      x.router,
-      x.cost,
-      record {
-        address = x.address;
-        direct = x.direct;
-        poison = x.poison;
-        listed = subst (λ l. slice_get n.interfaces i ≡ Some (record { router = x.router; link = l; address = x.address; cost = x.cost; direct = x.direct; poison = x.poison })) has.on has.listed;
-      },
-    )
+    let x = has.interface in
+    (x.router, x.cost, record { interface = x; listed = has.listed; router = refl; link = has.link; cost = refl })
 
 -- no interface up to this one has the address
 pub none_more : (n : Network) (a i : ℕ) (b : Bool) → ((j l : ℕ) → j < i → HasAddress n j l a → ⊥)

@@ -45,7 +45,7 @@ held_address n i a h = by (slice_get n.interfaces i) refl (slice_get n.also i) r
     by (Some x) e (Some also) f t =
         let (k, b, at, test) = any_finds (λ b. b == a) (x.address ∷ also) t in
         let same : b ≡ a = eqb-true b a test in
-        (x.link, (x.address ∷ also, record { interface = x; listed = e; on = refl; also = also; further = f; all = refl }, contained (x.address ∷ also) k a (at ∙ ap (λ (c : ℕ). Some c) same)))
+        (x.link, (x.address ∷ also, record { interface = x; listed = e; link = refl; also = also; further = f; all = refl }, contained (x.address ∷ also) k a (at ∙ ap (λ (c : ℕ). Some c) same)))
 
 -- ---- gateways
 
@@ -69,6 +69,7 @@ gateway_known n i p a (r, l, c, k, is, prefix, (j, has)) =
     let its : option_map_or (same_prefix p) (slice_get n.prefixes k) false ≡ true = ap (λ (o : Option Block). option_map_or (same_prefix p) o false) prefix ∙ same_self p in
     let test : is_gateway n r p a (record { prefix = k; seat = Own has.own }) ≡ true = rw (seat, its) refl in
     ap (λ (o : Option Interface). option_map_or (λ x. list_any (is_gateway n x.router p a) n.places) o false) is.listed
+    ∙ ap (λ (m : ℕ). list_any (is_gateway n m p a) n.places) is.router
     ∙ any_passes_from_place (is_gateway n r p a) n.places j _ has.place.listed test
 
 pub known_gateway : (n : Network) (i : ℕ) (p : Block) (a : ℕ) → knows_gateway n i p a ≡ true → KnowsGateway n i p a
@@ -85,7 +86,7 @@ known_gateway n i p a h = by (slice_get n.interfaces i) refl h
           x.link,
           x.cost,
           q.prefix,
-          record { address = x.address; direct = x.direct; poison = x.poison; listed = e },
+          record { interface = x; listed = e; router = refl; link = refl; cost = refl },
           prefix_is p (slice_get n.prefixes q.prefix) parts.1,
           (j, record { own = own; place = record { listed = placed }; router = router; says = via }),
         )
@@ -102,9 +103,10 @@ address_decided n i r l c a b is says = decided b (holds_address n i a) (λ h. a
   where
     moved : (l' : ℕ) × HasAddress n i l' a → HasAddress n i l a
     moved (l', (all, has, holds)) =
-        let same : has.interface ≡ record { router = r; link = l; address = is.address; cost = c; direct = is.direct; poison = is.poison } =
-        (let one : Some has.interface ≡ Some (record { router = r; link = l; address = is.address; cost = c; direct = is.direct; poison = is.poison }) = sym has.listed ∙ is.listed in cc one) in
-        (all, record { interface = has.interface; listed = has.listed; on = ap (λ (x : Interface). x.link) same; also = has.also; further = has.further; all = has.all }, holds)
+        let one : Some has.interface ≡ Some is.interface = sym has.listed ∙ is.listed in
+        let same : has.interface ≡ is.interface = cc one in
+        let link : has.interface.link ≡ l = ap (λ (x : Interface). x.link) same ∙ is.link in
+        (all, record { interface = has.interface; listed = has.listed; link = link; also = has.also; further = has.further; all = has.all }, holds)
 
 pub gateway_decided : (n : Network) (i r l c : ℕ) (p : Block) (a : ℕ) (b : Bool) → IsInterface n i r l c
     → ((k : ℕ) → IsPrefix n k p → Decides b (IsGateway n r k a)) → (((k : ℕ) → IsPrefix n k p → ⊥) → b ≡ false) → b ≡ knows_gateway n i p a
@@ -114,9 +116,7 @@ gateway_decided n i r l c p a b is planned unplanned = decided b (knows_gateway 
     router_of {x} {y} h = let same : x ≡ y = cc h in ap (λ (z : Interface). z.router) same
 
     of_router : (r' l' c' : ℕ) → IsInterface n i r' l' c' → r' ≡ r
-    of_router r' l' c' its =
-        let one : Some (record { router = r'; link = l'; address = its.address; cost = c'; direct = its.direct; poison = its.poison }) ≡ Some
-        (record { router = r; link = l; address = is.address; cost = c; direct = is.direct; poison = is.poison }) = sym its.listed ∙ is.listed in router_of one
+    of_router r' l' c' its = sym its.router ∙ router_of (sym its.listed ∙ is.listed) ∙ is.router
 
     back : knows_gateway n i p a ≡ true → b ≡ true
     back h =

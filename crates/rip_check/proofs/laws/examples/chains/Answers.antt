@@ -39,8 +39,8 @@ hop : (r a b : ℕ) → slice_get (chain 15).interfaces (2 * r + 2) ≡ Some (in
     → (chain_tables (suc r) 0).metric ≡ min 16 (1 + unwrap_or (metric_at (chain_shown 15) (2 * r + 1) 0) 16)
     → GoesTo (chain 15) (chain_shown 15) chain_tables 0 (suc r) r
 hop r a b here there way value =
-    let own : IsInterface (chain 15) (2 * r + 2) (suc r) (suc r) 1 = record { address = a; direct = 1; poison = true; listed = here } in
-    let its : IsInterface (chain 15) (2 * r + 1) r (suc r) 1 = record { address = b; direct = 1; poison = true; listed = there } in
+    let own : IsInterface (chain 15) (2 * r + 2) (suc r) (suc r) 1 = record { interface = interface (suc r) (suc r) a 1; listed = here; router = refl; link = refl; cost = refl } in
+    let its : IsInterface (chain 15) (2 * r + 1) r (suc r) 1 = record { interface = interface r (suc r) b 1; listed = there; router = refl; link = refl; cost = refl } in
     let neighbour : IsNeighbour (chain 15) (suc r) (suc r) r = record { other = ne_of_lt (lt-suc_self r); here = (1, (2 * r + 2, own)); there = (1, (2 * r + 1, its)) } in
     record { link = suc r; way = way; offer = record { neighbour = neighbour; cost = 1; here = (2 * r + 2, own); interface = 2 * r + 1; its_cost = 1; there = its; value = value } }
 

@@ -19,9 +19,9 @@ returns-clause-unsettled c =
 
 pub returns-clause-path : goal.returns-clause-path
 returns-clause-path c =
-    let here : IsInterface slope 1 0 1 5 = record { address = octets 192 168 0 1; direct = 5; poison = true; listed = refl } in
-    let there : IsInterface slope 2 1 1 1 = record { address = octets 192 168 0 2; direct = 1; poison = true; listed = refl } in
+    let here : IsInterface slope 1 0 1 5 = record { interface = _; listed = refl; router = refl; link = refl; cost = refl } in
+    let there : IsInterface slope 2 1 1 1 = record { interface = _; listed = refl; router = refl; link = refl; cost = refl } in
     let near : IsNeighbour slope 0 1 1 = record { other = λ e. absurd (omega (arith, e)); here = (5, (1, here)); there = (1, (2, there)) } in
-    let last : IsConnected slope 3 1 2 1 = record { address = octets 10 2 0 1; cost = 1; poison = true; listed = refl } in
+    let last : IsConnected slope 3 1 2 1 = record { interface = _; listed = refl; router = refl; link = refl; direct = refl } in
     let hop : MayHop slope 1 0 1 1 = record { neighbour = near; goes_on = takes slope 0 1 refl; tells = not_attached slope 1 1 1 refl } in
     (5, 1, (1, here), hop, (1, inl (2, record { listed = refl }, (3, last))), refl)

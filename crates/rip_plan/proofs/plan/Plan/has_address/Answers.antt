@@ -21,7 +21,7 @@ decided n laws i l a (Some k) e = (
 
 -- the link of the interface
 link_is : (n : Network) (i r l c : ℕ) (x : Interface) → IsInterface n i r l c → slice_get n.interfaces i ≡ Some x → x.link ≡ l
-link_is n i r l c x is at = ap (λ (y : Interface). y.link) (same_Some x _ (sym at ∙ is.listed))
+link_is n i r l c x is at = ap (λ (y : Interface). y.link) (same_Some x is.interface (sym at ∙ is.listed)) ∙ is.link
 
 pub returns-in-Some : goal.returns-in-Some
 returns-in-Some c = λ r l cost is.

@@ -13,8 +13,8 @@ returns c =
     let same : (x : Interface) → slice_get c.args.self.now.interfaces c.args.i ≡ Some x → x ≡ c.index.result.now = λ x at. same_Some x c.index.result.now (sym at ∙ here) in
     record {
       exact = here;
-      is = record { address = c.index.result.now.address; direct = c.index.result.now.direct; poison = c.index.result.now.poison; listed = here };
-      connected = record { address = c.index.result.now.address; cost = c.index.result.now.cost; poison = c.index.result.now.poison; listed = here };
+      is = record { interface = c.index.result.now; listed = here; router = refl; link = refl; cost = refl };
+      connected = record { interface = c.index.result.now; listed = here; router = refl; link = refl; direct = refl };
       poisons = (
         λ on. record { interface = c.index.result.now; listed = here; poisons = on },
         λ is. ap (λ (x : Interface). x.poison) (sym (same is.interface is.listed)) ∙ is.poisons,

@@ -12,5 +12,5 @@ pub returns : goal.returns
 returns c i r l d k cost at is prefix =
     let number : c.in_ok-number.number ≡ i = same_Some c.in_ok-number.number i ((c.in_ok-number.ensures.exact i).1 at) in
     let listed = ap (slice_get c.args.plan.now.interfaces) number ∙ is.listed in
-    let router : c.interface.result.router ≡ r = ap (λ (v : Interface). v.router) (same_Some c.interface.result _ (sym c.interface.ensures.exact ∙ listed)) in
+    let router : c.interface.result.router ≡ r = ap (λ (v : Interface). v.router) (same_Some c.interface.result is.interface (sym c.interface.ensures.exact ∙ listed)) ∙ is.router in
     subst (λ (m : ℕ). (c.direct.result ≡ Some cost) ↔ IsDirect c.args.plan.now m k cost) router (c.direct.ensures.planned k cost prefix)
