@@ -1,5 +1,5 @@
 -- Tests of a network that is written out, and what they tell: its laws, what is shown of it, and which places hold.
-use Rattle.std.proofs.Common.{◌≡◌, ℕ, zero, suc, ◌+◌, ◌<◌, ◌≤◌, ◌^◌, ◌%◌, ◌/◌, ◌⊎◌, inl, inr, Bool, true, false, not, ◌&&◌, ◌||◌, ◌==◌, nat_le, nat_lt, List, [], ◌∷◌, length, map, sum, get_or, Option, None, Some, slice_get, refl, sym, ◌∙◌, ap, arith}
+use Rattle.std.proofs.Common.{◌≡◌, ℕ, zero, suc, ◌+◌, ◌<◌, ◌≤◌, ◌^◌, ◌%◌, ◌/◌, ◌⊎◌, inl, inr, Bool, true, false, not, ◌&&◌, ◌||◌, ◌==◌, nat_le, nat_lt, List, [], ◌∷◌, length, map, sum, get_or, Option, None, Some, slice_get, refl, sym, ◌∙◌, ap, arith, subst}
 use Rattle.std.specs.List.{Contains}
 use Rattle.std.specs.Str.{bytes_eq}
 use Rattle.std.proofs.lemmas.Bool.{and_parts, and_from, or_cases, or_left, or_right, not-true, both_ways, eqb-true, leb-true, ltb-true, eq-eqb}
@@ -344,19 +344,22 @@ module _ (n : Network) (ok : Passes n) where
   place_is : (k : ℕ) (q : Place) (s : Seat) → slice_get n.places k ≡ Some q → q.seat ≡ s → IsPlace n k q.prefix s
   place_is k q s at e = record { listed = at ∙ ap (λ (t : Seat). Some (record { prefix = q.prefix; seat = t })) e }
 
-  inside : (i l a p : ℕ) → HasOwnAddress n i l a → Carries n l p → IsInside n l a
-  inside i l a p h carries =
-      let x = h.interface in
-      let here = some_holds (λ k q. is_link l q.seat) n.places carries.0 _ carries.1.listed (eq-eqb l l refl) in
-      let found = some_gives (λ k q. is_link l q.seat && some (λ p b. (p == q.prefix) && contains b a) n.prefixes) n.places
-      (when_gives _ (is_inside n x) (each_gives (is_inside_prefixes n) n.interfaces ok.inside i x h.listed) here) in
+  -- the address of an interface is inside a prefix of its link
+  inside_of : (i p : ℕ) (x : Interface) → slice_get n.interfaces i ≡ Some x → Carries n x.link p → IsInside n x.link x.address
+  inside_of i p x at carries =
+      let here = some_holds (λ k q. is_link x.link q.seat) n.places carries.0 _ carries.1.listed (eq-eqb x.link x.link refl) in
+      let found = some_gives (λ k q. is_link x.link q.seat && some (λ p b. (p == q.prefix) && contains b x.address) n.prefixes) n.places
+      (when_gives _ (is_inside n x) (each_gives (is_inside_prefixes n) n.interfaces ok.inside i x at) here) in
       let q = found.1 in
       let parts = and_parts _ _ found.3 in
-      let prefix = some_gives (λ p b. (p == q.prefix) && contains b a) n.prefixes parts.1 in
+      let prefix = some_gives (λ p b. (p == q.prefix) && contains b x.address) n.prefixes parts.1 in
       let both = and_parts _ _ prefix.3 in
       let e : prefix.0 ≡ q.prefix = eqb-true _ _ both.0 in
       let listed : IsPrefix n q.prefix prefix.1 = rw e at prefix.2 in
-      (q.prefix, prefix.1, (found.0, place_is found.0 q (Link l) found.2 (link_of l q.seat parts.0)), listed, eqb-true _ _ both.1)
+      (q.prefix, prefix.1, (found.0, place_is found.0 q (Link x.link) found.2 (link_of x.link q.seat parts.0)), listed, eqb-true _ _ both.1)
+
+  inside : (i l a p : ℕ) → HasOwnAddress n i l a → Carries n l p → IsInside n l a
+  inside i l a p own carries = rw (← own.link, ← own.address) (inside_of i p own.interface own.listed (subst (λ (m : ℕ). Carries n m p) (sym own.link) carries))
 
   one_interface : (r : ℕ) → r < length n.routers → (i l c : ℕ) × IsInterface n i r l c
   one_interface r lt =

@@ -87,7 +87,7 @@ module _ (n : Network) (plan : IsLawful n) (shown : State) (range : IsInRange n 
   below i l c has not =
       let h = said i l c has in
       elim (cases_eq h.0 16) [
-        | inl e ↦ absurd (not (record { own = _; listed = has.listed; its = refl; shows = h.1 ∙ ap Some e }))
+        | inl e ↦ absurd (not (record { own = has.interface; listed = has.listed; its = has.router; shows = h.1 ∙ ap Some e }))
         | inr differs ↦ (h.0, h.1, h.2, strict h.0 h.3 differs)
       ]
     where
@@ -140,7 +140,7 @@ module _ (n : Network) (plan : IsLawful n) (shown : State) (range : IsInRange n 
             elim (poisoned_or_not n shown r p j) [
               | inl g ↦
                   let there' : IsInterface n o r k d = rw (only j g) at there in
-                  inl (ap (λ (y : Interface). y.link) (same_Some _ _ (sym its.listed ∙ there'.listed)), g.shows)
+                  inl (ap (λ (y : Interface). y.link) (same_Some h.own _ (sym h.listed ∙ there'.listed)) ∙ there'.link, g.shows)
               | inr not ↦
                   let b = below j k d there not in
                   inr (λ e. not (moved j k d there e), b.1 ∙ ap Some (same i j l k c d m b.0 has there shows small b.1 b.3))
@@ -195,9 +195,8 @@ module _ (n : Network) (plan : IsLawful n) (shown : State) (range : IsInRange n 
 
         held : (j k d : ℕ) → IsInterface n j r k d → IsPoisoned n shown r p j → MayHoldBack n r p h.own.link → MayHoldBack n r p k
         held j k d there g on =
-            let its = on_its_link n shown r p o h in
             let there' : IsInterface n o r k d = rw (only j g) at there in
-            let link : h.own.link ≡ k = ap (λ (y : Interface). y.link) (same_Some _ _ (sym its.listed ∙ there'.listed)) ∙ there'.link in
+            let link : h.own.link ≡ k = ap (λ (y : Interface). y.link) (same_Some h.own _ (sym h.listed ∙ there'.listed)) ∙ there'.link in
             rw link at on
 
     two_shown : Shows16Twice n shown r p
