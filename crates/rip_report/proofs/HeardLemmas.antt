@@ -1,5 +1,5 @@
 -- Who has an address, what is told of strangers, and parts of texts.
-use Rattle.std.proofs.Common.{◌≡◌, ◌∙◌, ℕ, ◌+◌, ◌<◌, List, [], ◌++◌, length, get_or, Some, Bool, false, inl, inr, ap, append_assoc, subst, arith}
+use Rattle.std.proofs.Common.{◌≡◌, ◌∙◌, ℕ, ◌+◌, ◌<◌, List, [], ◌++◌, length, get_or, Some, Bool, false, inl, inr, ap, append_assoc, subst, arith, refl}
 use Rattle.std.specs.Prelude.{Decides, slice_get}
 use Rattle.std.proofs.lemmas.Bool.{cases_lt}
 use Rattle.std.proofs.lemmas.Bool.Decides.{not_from_Decides}

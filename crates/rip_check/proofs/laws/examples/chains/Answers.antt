@@ -1,4 +1,4 @@
-use Rattle.std.proofs.Common.{◌≡◌, ℕ, ◌+◌, ◌*◌, Some, suc, true, refl, arith, slice_get, min, unwrap_or, ne_of_lt, lt-suc_self}
+use Rattle.std.proofs.Common.{◌≡◌, ℕ, ◌+◌, ◌*◌, Some, suc, refl, arith, slice_get, min, unwrap_or, ne_of_lt, lt-suc_self}
 use Rattle.rip_plan.specs.Relations.{IsInterface, IsNeighbour}
 use Rattle.rip_check.specs.Examples.{IsSettledNetwork, chain, chain_shown, chain_tables, interface}
 use Rattle.rip_check.specs.Metrics.{metric_at}

@@ -1,8 +1,8 @@
-use Rattle.std.proofs.Common.{inl, refl, true, arith}
+use Rattle.std.proofs.Common.{inl, refl, arith}
 use Rattle.rip_plan.specs.Relations.{IsConnected, IsInterface, IsNeighbour}
 use Rattle.rip_check.specs.Paths.{MayHop}
 use Rattle.rip_check.proofs.CheckedPlaceLemmas.{not_attached, takes}
-use Rattle.rip_check.specs.Examples.{octets, slope, slope_shown, slope_tables}
+use Rattle.rip_check.specs.Examples.{slope, slope_shown, slope_tables}
 use Rattle.rip_check.proofs.CheckingLemmas.{Passes}
 use Rattle.rip_check.proofs.ExampleLemmas.{settled, unsettled}
 use Rattle.rip_check.proofs.laws.examples.slope.Goals as goal
