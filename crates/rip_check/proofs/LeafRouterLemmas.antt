@@ -123,8 +123,9 @@ module _ (n : Network) (shown : State) (r i p : ℕ) (own : Interface) (mine : o
           let at : IsInterface n i r k o.cost = rw e at o.here.1 in
           let same = its_link n i r k o.cost r own.link own.cost at leaf.has in
           let its = o.there.interface in
+          let other : its.router ≢ own.router = λ e. o.neighbour.other (sym o.there.router ∙ e ∙ mine) in
           let le : v ≤ heard_from shown own.cost o.interface p =
-          below o.interface its (slice_get_within n.interfaces o.interface its o.there.listed) o.there.listed (record { link = o.there.link ∙ same.1; other = λ e. o.neighbour.other (sym o.there.router ∙ e ∙ mine) }) in
+          below o.interface its (slice_get_within n.interfaces o.interface its o.there.listed) o.there.listed (record { link = o.there.link ∙ same.1; other = other }) in
           omega (arith, le, o.value, same.2)
 
   -- the same, told by the offers over its link
