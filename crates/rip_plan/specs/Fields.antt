@@ -3,7 +3,7 @@ use Rattle.std.specs.Prelude.{ℕ, ℤ, pos, negsuc, List, [], ◌∷◌, codes,
 use Rattle.std.specs.List.{list_all}
 use Rattle.toml.specs.Data.{Data, integer, Items, no_items, item, Members, no_members, member, get_member, as_bool, as_str, as_integer, as_array}
 use Rattle.rip_wire.specs.Address.{address_in}
-use Rattle.rip_plan.specs.declared.limits.TheConstants.{MOST_COST}
+use Rattle.rip_plan.specs.declared.limits.TheConstants.{DEFAULT_COST, DEFAULT_KEPT, DEFAULT_POISON, MOST_COST}
 use Rattle.rip_plan.specs.Keys.{keys_of, the_root, a_link, a_router, an_interface, an_own}
 use Rattle.rip_plan.specs.Names.{is_one_of, number_of_name}
 
@@ -88,9 +88,9 @@ interface_fields ms =
 abbrev pub is_between : ℕ → ℕ → ℕ → Bool
 is_between low high n = nat_le low n && nat_le n high
 
--- a given cost, 1 where none is, and nothing outside 1 to 15
+-- a given cost, the default where none is, and nothing outside 1 to 15
 abbrev pub cost_of : Option ℤ → Option ℕ
-cost_of None = Some 1
+cost_of None = Some DEFAULT_COST
 cost_of (Some (pos n)) = if is_between 1 MOST_COST n then Some n else None
 cost_of (Some (negsuc n)) = None
 
@@ -131,7 +131,7 @@ own_fields ms =
     Some (record {
       prefix = prefix;
       cost = cost;
-      kept = unwrap_or kept false;
+      kept = unwrap_or kept DEFAULT_KEPT;
       link = link;
       via = via;
     })))))))
@@ -169,7 +169,7 @@ root_fields ms =
     (items_at (codes "link") ms &> some_items &> (λ links.
     items_at (codes "router") ms &> some_items &> (λ routers.
     flag_if (get_member (codes "poison") ms) &> (λ poison.
-    Some (links, routers, unwrap_or poison true)))))
+    Some (links, routers, unwrap_or poison DEFAULT_POISON)))))
     else None
 
 -- the version is the integer 1

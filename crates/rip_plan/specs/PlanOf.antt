@@ -1,8 +1,9 @@
 -- What it is for a network to be the plan of a document: each list is matched item by item with the
 -- document's tables.
-use Rattle.std.specs.Prelude.{◌≡◌, ◌⊎◌, ℕ, ◌+◌, ◌≤◌, pos, List, [], ◌∷◌, ◌++◌, map, filter, Bool, true, false, not, codes, Option, None, Some, slice_get}
+use Rattle.std.specs.Prelude.{◌≡◌, ◌⊎◌, ℕ, ◌+◌, ◌≤◌, pos, List, [], ◌∷◌, ◌++◌, map, filter, Bool, not, codes, Option, None, Some, slice_get}
 use Rattle.toml.specs.Data.{Data, Items, Members, string, boolean, integer, array, table, get}
 use Rattle.rip_wire.specs.Prefix.{Block}
+use Rattle.rip_plan.specs.declared.limits.TheConstants.{DEFAULT_COST, DEFAULT_KEPT, DEFAULT_POISON}
 use Rattle.rip_plan.specs.declared.parts.Interface.{Interface}
 use Rattle.rip_plan.specs.declared.parts.OwnPrefix.{OwnPrefix}
 use Rattle.rip_plan.specs.declared.parts.Place.{Place}
@@ -32,10 +33,11 @@ HasText key d text = get key d ≡ Some (string text)
 abbrev pub HasItems : List ℕ → Data → List Data → Type 0
 HasItems key d ds = (items : Items) × (get key d ≡ Some (array items)) × (list_of items ≡ ds)
 
--- the table's cost: what it gives, or 1 where it gives none
+-- the table's cost: what it gives, or the default where it gives none
 abbrev pub IsCostOf : Data → ℕ → Type 0
 IsCostOf d c =
-    (get (codes "cost") d ≡ Some (integer (pos c))) ⊎ ((get (codes "cost") d ≡ None) × (c ≡ 1))
+    (get (codes "cost") d ≡ Some (integer (pos c)))
+    ⊎ ((get (codes "cost") d ≡ None) × (c ≡ DEFAULT_COST))
 
 -- the metric at which the router of this interface's table has the prefixes of the link: what it
 -- gives, or the cost where it gives none
@@ -51,7 +53,7 @@ IsFlagOf key other d flag =
 
 -- whether this own prefix's table says that the prefix is kept
 abbrev pub IsKeptOf : Data → Bool → Type 0
-IsKeptOf = IsFlagOf (codes "kept") false
+IsKeptOf = IsFlagOf (codes "kept") DEFAULT_KEPT
 
 -- whether the interfaces of this table poison: what it says, or what is said for all where it says
 -- nothing
@@ -159,7 +161,7 @@ pub record PlanOf (document : Members) (n : Network) : Type 0 where
   pub has_routers : HasItems (codes "router") (table document) routers
   pub router_names : Matched IsNameOf n.routers routers
   pub poison : Bool
-  pub has_poison : IsPoisonOf true (table document) poison
+  pub has_poison : IsPoisonOf DEFAULT_POISON (table document) poison
   pub interfaces : Matched (IsInterfaceOf n.links poison) n.interfaces
       (items_under (codes "interface") 0 routers)
   pub also : Matched AreAlsoOf n.also (items_under (codes "interface") 0 routers)

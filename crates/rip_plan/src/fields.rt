@@ -8,7 +8,7 @@ ghost use Rattle.rip_plan.specs.Given.{seen_interface, seen_own};
 ghost use Rattle.rip_plan.specs.Fields.{flag_if, integer_if, interface_fields, is_version, items_at, items_if, link_fields, own_fields, root_fields, router_fields, texts_of};
 ghost use Rattle.rip_plan.specs.Names.{is_one_of};
 
-use crate::limits::MOST_COST;
+use crate::limits::{DEFAULT_COST, DEFAULT_KEPT, DEFAULT_POISON, MOST_COST};
 use toml::{Table, Value};
 
 /// What a table holds at a key.
@@ -162,12 +162,12 @@ pub(crate) fn fields_of_interface<'a>(table: &'a Table) -> Option<InterfaceField
     })
 }
 
-/// The cost of an interface or an own prefix, 1 where none is given.
+/// The cost of an interface or an own prefix, the default where none is given.
 pub(crate) fn cost_of(given: Option<i64>) -> Option<u8>
     ensures { result ≡ spec.cost_of given }
 {
     match given {
-        None => Some(1),
+        None => Some(DEFAULT_COST),
         Some(number) => {
             if 1 <= number && number <= i64::from(MOST_COST) {
                 Some(number as u8)
@@ -228,7 +228,7 @@ pub(crate) fn fields_of_own<'a>(table: &'a Table) -> Option<OwnFields<'a>>
     }
     let prefix = text_at(table, "prefix")?;
     let cost = integer_at(table, "cost")?;
-    let kept = flag_at(table, "kept")?.unwrap_or(false);
+    let kept = flag_at(table, "kept")?.unwrap_or(DEFAULT_KEPT);
     let link = text_if(table, "link")?;
     let via = text_if(table, "via")?;
     Some(OwnFields {
@@ -273,7 +273,7 @@ pub(crate) fn fields_of_root<'a>(table: &'a Table) -> Option<(&'a [Value], &'a [
     if routers.is_empty() {
         return None;
     }
-    let poison = flag_at(table, "poison")?.unwrap_or(true);
+    let poison = flag_at(table, "poison")?.unwrap_or(DEFAULT_POISON);
     Some((links, routers, poison))
 }
 

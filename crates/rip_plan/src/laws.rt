@@ -1,7 +1,7 @@
 //! Laws of the definitions alone: functions that do nothing, whose contracts hold of all bytes and
 //! every document.
 
-ghost use Rattle.std.specs.Prelude.{◌≡◌, ◌≢◌, ◌↔◌, ℕ, List, None, Some};
+ghost use Rattle.std.specs.Prelude.{◌≡◌, ◌≢◌, ◌↔◌, ℕ, List, None, Some, true, false};
 ghost use Rattle.toml.specs.Data.{Members};
 ghost use Rattle.rip_plan.specs.Network.{Network, found_at};
 ghost use Rattle.rip_plan.specs.Answers.{first_fault};
@@ -13,10 +13,11 @@ ghost use Rattle.rip_plan.specs.declared.error.PlanCode.TheVariants.{Memory};
 ghost use Rattle.rip_plan.specs.declared.error.PlanError.{PlanError};
 
 use crate::limits::{
-    MOST_ALSO, MOST_COST, MOST_INTERFACES, MOST_LINKS, MOST_PLACES, MOST_PLAN_BYTES, MOST_ROUTERS,
+    DEFAULT_COST, DEFAULT_KEPT, DEFAULT_POISON, MOST_ALSO, MOST_COST, MOST_INTERFACES, MOST_LINKS,
+    MOST_PLACES, MOST_PLAN_BYTES, MOST_ROUTERS,
 };
 
-/// The limits of a plan.
+/// The limits of a plan, and what it means where it does not say it.
 pub fn limits()
     ensures bytes { MOST_PLAN_BYTES ≡ 1048576 }
     ensures links { MOST_LINKS ≡ 512 }
@@ -25,6 +26,9 @@ pub fn limits()
     ensures also { MOST_ALSO ≡ 1024 }
     ensures places { MOST_PLACES ≡ 1024 }
     ensures cost { MOST_COST ≡ 15 }
+    ensures default_cost { DEFAULT_COST ≡ 1 }
+    ensures default_kept { DEFAULT_KEPT ≡ false }
+    ensures default_poison { DEFAULT_POISON ≡ true }
 {}
 
 /// The interface that is found for a link and a sender is the one that has the address there, its

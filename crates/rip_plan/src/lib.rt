@@ -17,7 +17,8 @@ mod reading;
 
 pub use error::{At, PlanCode, PlanError};
 pub use limits::{
-    MOST_ALSO, MOST_COST, MOST_INTERFACES, MOST_LINKS, MOST_PLACES, MOST_PLAN_BYTES, MOST_ROUTERS,
+    DEFAULT_COST, DEFAULT_KEPT, DEFAULT_POISON, MOST_ALSO, MOST_COST, MOST_INTERFACES, MOST_LINKS,
+    MOST_PLACES, MOST_PLAN_BYTES, MOST_ROUTERS,
 };
 pub use parts::{Interface, OwnPrefix, Place, Seat};
 pub use plan::Plan;

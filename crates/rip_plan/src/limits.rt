@@ -1,4 +1,4 @@
-//! The limits of a plan.
+//! The limits of a plan, and what it means where it does not say it.
 
 /// The most bytes of a plan's text.
 pub const MOST_PLAN_BYTES: usize = 1_048_576;
@@ -20,3 +20,12 @@ pub const MOST_PLACES: usize = 1_024;
 
 /// The highest cost of an interface and of an own prefix (RFC 2453, 3.5).
 pub const MOST_COST: u8 = 15;
+
+/// The cost of an interface or an own prefix whose table gives none (RFC 2453, 3.5).
+pub const DEFAULT_COST: u8 = 1;
+
+/// Whether an own prefix is kept whose table does not say it.
+pub const DEFAULT_KEPT: bool = false;
+
+/// Whether interfaces poison where neither their table nor the root says it (RFC 2453, 3.4.3).
+pub const DEFAULT_POISON: bool = true;
