@@ -1,7 +1,8 @@
--- What is found first in a list, an item that passes or one that clashes with an earlier one, and how a loop finds it.
-use Rattle.std.proofs.Common.{◌≡◌, ℕ, suc, inl, inr, ◌+◌, ◌-◌, ◌<◌, List, [], ◌∷◌, ◌++◌, Bool, true, false, cond, not, ◌&&◌, ◌||◌, length, map, take, drop, get_or, Option, Some, refl, sym, ap, ◌∙◌, arith, zero, length-append, append_assoc, None, subst}
+-- What is found first in a list, an item that passes or one that clashes with an earlier one, and how a loop finds it,
+-- from the first item to the last or from the last to the first.
+use Rattle.std.proofs.Common.{◌≡◌, ℕ, suc, inl, inr, ◌+◌, ◌-◌, ◌<◌, List, [], ◌∷◌, ◌++◌, Bool, true, false, cond, not, ◌&&◌, ◌||◌, length, map, take, drop, get_or, Option, Some, refl, sym, ap, ◌∙◌, arith, zero, length-append, append_assoc, None, subst, ◌≤◌}
 use Rattle.std.specs.Prelude.{find, option_map, filter, slice_get}
-use Rattle.std.specs.List.{list_any}
+use Rattle.std.specs.List.{list_any, position_from}
 use Rattle.std.proofs.lemmas.Bool.{cases_Bool, not-false, not-true, cases_lt}
 use Rattle.std.proofs.lemmas.List.{drop_more, map-append, take_more, append-nil}
 use Rattle.rip_plan.proofs.ItemLemmas.{cases_option, any_finds, get_left, get_past, get_split, none_at}
@@ -86,6 +87,17 @@ first_clashing clash xs = clash_from clash [] xs xs refl (λ m z less. absurd (o
 -- what is left of a list from an item on
 pub rest_from : {A : Type 0} (xs : List A) (k : ℕ) (x : A) → k < length xs → x ≡ get_or xs k x → drop k xs ≡ x ∷ drop (k + 1) xs
 rest_from xs k x lt is = drop_more xs k x lt ∙ ap (λ y. y ∷ drop (k + 1) xs) (sym is)
+
+-- the same at the item before i, where a loop goes from the last item to the first
+pub back_at : {A : Type 0} (xs : List A) (i : ℕ) (d : A) → 0 < i → i ≤ length xs → drop (i - 1) xs ≡ get_or xs (i - 1) d ∷ drop i xs
+back_at xs i d some within = let back : i - 1 + 1 ≡ i = omega arith in drop_more xs (i - 1) d (omega arith) ∙ rw back refl
+
+pub back_is : {A : Type 0} (xs : List A) (i : ℕ) (x : A) → 0 < i → i ≤ length xs → x ≡ get_or xs (i - 1) x → drop (i - 1) xs ≡ x ∷ drop i xs
+back_is {A} xs i x some within is = back_at xs i x some within ∙ ap (λ (y : A). y ∷ drop i xs) (sym is)
+
+pub first_back : {A : Type 0} (test : A → Bool) (xs : List A) (i : ℕ) (x : A) → 0 < i → i ≤ length xs → x ≡ get_or xs (i - 1) x
+    → cond (test x) (Some (i - 1)) (position_from test i (drop i xs)) ≡ position_from test (i - 1) (drop (i - 1) xs)
+first_back test xs i x some within is = let back : i - 1 + 1 ≡ i = omega arith in rw (back_is xs i x some within is, back) refl
 
 module _ {A : Type 0} (clash : A → A → Bool) (xs : List A) (k : ℕ) (x : A) (lt : k < length xs) (is : x ≡ get_or xs k x) where
   -- an item that clashes is the first

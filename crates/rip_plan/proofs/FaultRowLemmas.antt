@@ -12,10 +12,8 @@ use Rattle.rip_plan.specs.Fault.{fault, wanted, ◌>>=◌}
 use Rattle.rip_plan.specs.PlanFaults.{Before, position, pass_of, TableFault, IsItem, IsSo, IsAstray, place_spots}
 use Rattle.rip_plan.specs.PlanOf.{PlanOf}
 use Rattle.rip_plan.specs.Network.{Network}
-use Rattle.rip_plan.proofs.OrderLemmas.{Starts, starts_high}
-use Rattle.rip_plan.proofs.FindingLemmas.{Found, ranked, row_at, Rows, no_rows, row_then, both_rows, each_rows, Finds, guard_finds, want_both, want_finds}
-use Rattle.rip_plan.proofs.SpotLemmas.{nth_from, item_from, prefix_item, own_item, interface_item}
-use Rattle.rip_plan.proofs.FurtherAddressLemmas.{also_item}
+use Rattle.rip_plan.proofs.FindingLemmas.{Starts, starts_high, Found, ranked, row_at, Rows, no_rows, row_then, both_rows, each_rows, Finds, guard_finds, want_both, want_finds}
+use Rattle.rip_plan.proofs.SpotLemmas.{nth_from, item_from, prefix_item, own_item, interface_item, also_item}
 
 before_after : (p : List ℕ) (n m : ℕ) → n < m → Before (p ++ n ∷ []) (p ++ m ∷ [])
 before_after [] n m h = inl h

@@ -10,7 +10,7 @@ use Rattle.rip_plan.specs.Network.{Network, addresses_of}
 use Rattle.rip_plan.specs.Relations.{HasAddress, HasAddresses}
 use Rattle.rip_plan.proofs.FlatLemmas.{IsIn, count_ahead, flat, in_flat, in_order, is_in}
 use Rattle.rip_plan.proofs.ItemLemmas.{get_seen, see_got}
-use Rattle.rip_plan.proofs.NumbersWhereLemmas.{contains_at, at_contains}
+use Rattle.rip_plan.proofs.BelowLemmas.{contains_at, at_contains}
 
 -- the interfaces, each with its further addresses
 abbrev with_further : List Interface → List (List ℕ) → List (Interface × List ℕ)

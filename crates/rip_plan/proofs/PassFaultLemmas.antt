@@ -27,8 +27,7 @@ use Rattle.rip_plan.specs.Network.{Network, network_of_sketch}
 use Rattle.rip_plan.specs.Relations.{IsAttachedAt, IsInterface, IsPlace}
 use Rattle.rip_plan.specs.PlanOf.{PlanOf}
 use Rattle.rip_plan.specs.PlanFaults.{TableFault, IsAstray, IsClash, IsBare, IsSo, DoMeet, AreTwice, HasOneTwice, HaveOneAddress, Before, rank, position, place_spots, interface_spots}
-use Rattle.rip_plan.proofs.OrderLemmas.{before_trans, before_not}
-use Rattle.rip_plan.proofs.FindingLemmas.{Found, Finds, finds_in, bind_rows}
+use Rattle.rip_plan.proofs.FindingLemmas.{before_trans, before_not, Found, Finds, finds_in, bind_rows}
 use Rattle.rip_plan.proofs.FaultRowLemmas.{IsAstrayAt, IsLast, IsOfTables, IsTold, told_finds, code_rows, code_high, last_two, last_three, last_four, pass_rows}
 use Rattle.rip_plan.proofs.HeldAddressLemmas.{address_held, first_held, held_address, held_at, held_order, held_in}
 use Rattle.rip_plan.proofs.OnePlanLemmas.{one_plan}

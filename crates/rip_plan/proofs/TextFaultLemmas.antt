@@ -22,13 +22,11 @@ use Rattle.rip_plan.specs.PlanOf.{PlanOf}
 use Rattle.rip_plan.specs.PlanText.{empty, document_of, sketch_of_document, sketch_of}
 use Rattle.rip_plan.specs.PlanFaults.{IsText, HasTables, TableFault, FaultAt, AstrayAt, IsFound, IsFault, PlanFault, Before, pass_of, rank, place_spots}
 use Rattle.rip_plan.proofs.FaultRowLemmas.{IsAstrayAt, IsOfTables, IsTold, covers, told_finds, first_rows, first_high, first_sooner, links_rows, links_high, routers_rows, pass_rows, table_rows}
-use Rattle.rip_plan.proofs.FindingLemmas.{Found, ranked, row_at, Rows, row_then, Finds, finds_in, guard_finds, want_finds, bind_rows, bind_ok}
-use Rattle.rip_plan.proofs.LinkFaultLemmas.{links_find}
+use Rattle.rip_plan.proofs.FindingLemmas.{Found, ranked, row_at, Rows, row_then, Finds, finds_in, guard_finds, want_finds, bind_rows, bind_ok, before_not, before_trans, before_or}
+use Rattle.rip_plan.proofs.TableFaultLemmas.{links_find, routers_find}
 use Rattle.rip_plan.proofs.OnePlanLemmas.{items_same}
-use Rattle.rip_plan.proofs.OrderLemmas.{before_not, before_trans, before_or}
 use Rattle.rip_plan.proofs.PassFaultLemmas.{passes_find}
 use Rattle.rip_plan.proofs.PlanMatchLemmas.{document_matches, tables_read}
-use Rattle.rip_plan.proofs.RouterFaultLemmas.{routers_find}
 use Rattle.rip_plan.proofs.TextLemmas.{TextLaws}
 use Rattle.rip_plan.specs.DocumentTables.{IsRoot}
 use Rattle.rip_plan.proofs.DocumentTableLemmas.{root_not, root_table}
