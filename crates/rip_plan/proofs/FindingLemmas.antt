@@ -10,23 +10,13 @@ use Rattle.rip_plan.specs.declared.error.PlanError.{PlanError}
 use Rattle.rip_plan.specs.Fault.{fault, ◌>>=◌, wanted, steps}
 
 pub before_trans : (xs ys zs : List ℕ) → Before xs ys → Before ys zs → Before xs zs
-before_trans [] ys zs h k = absurd h
-before_trans (x ∷ xs) [] zs h k = absurd h
+before_trans (x ∷ xs) (y ∷ ys) (z ∷ zs) h k = grind (arith, before_trans xs ys zs)
 before_trans (x ∷ xs) (y ∷ ys) [] h k = absurd k
-before_trans (x ∷ xs) (y ∷ ys) (z ∷ zs) (inl h) (inl k) = inl (omega arith)
-before_trans (x ∷ xs) (y ∷ ys) (z ∷ zs) (inl h) (inr k) = let same : y ≡ z = k.0 in inl (omega arith)
-before_trans (x ∷ xs) (y ∷ ys) (z ∷ zs) (inr h) (inl k) = let same : x ≡ y = h.0 in inl (omega arith)
-before_trans (x ∷ xs) (y ∷ ys) (z ∷ zs) (inr h) (inr k) =
-    inr (omega arith, before_trans xs ys zs h.1 k.1)
+before_trans xs ys zs h k = absurd h
 
 pub before_not : (xs : List ℕ) → Before xs xs → ⊥
 before_not [] h = absurd h
-before_not (x ∷ xs) (inl h) = omega arith
-before_not (x ∷ xs) (inr h) = before_not xs h.1
-
-pub before_nil : (xs : List ℕ) → Before xs [] → ⊥
-before_nil [] h = absurd h
-before_nil xs h = absurd h
+before_not (x ∷ xs) h = grind (arith, before_not xs)
 
 -- of two ranks of one length, one is before the other, or they are equal
 pub before_or : (xs ys : List ℕ) → length xs ≡ length ys → ((xs ≡ ys) ⊎ Before xs ys) ⊎ Before ys xs
@@ -55,28 +45,16 @@ Starts (q ∷ p) n (x ∷ xs) = (x ≡ q) × Starts p n xs
 Starts p n [] = ⊥
 
 pub starts_apart : (p : List ℕ) (n m : ℕ) (xs ys : List ℕ) → n < m → Starts p n xs → Starts p m ys → Before ys xs → ⊥
-starts_apart [] n m [] ys h s t b = absurd s
-starts_apart [] n m (x ∷ xs) [] h s t b = absurd t
-starts_apart [] n m (x ∷ xs) (y ∷ ys) h s t (inl b) = let here : x ≡ n = s in let there : y ≡ m = t in omega arith
-starts_apart [] n m (x ∷ xs) (y ∷ ys) h s t (inr b) = let here : x ≡ n = s in let there : y ≡ m = t in let same : y ≡ x = b.0 in omega arith
-starts_apart (q ∷ p) n m [] ys h s t b = absurd s
-starts_apart (q ∷ p) n m (x ∷ xs) [] h s t b = absurd t
-starts_apart (q ∷ p) n m (x ∷ xs) (y ∷ ys) h s t (inl b) = let here : x ≡ q = s.0 in let there : y ≡ q = t.0 in omega arith
-starts_apart (q ∷ p) n m (x ∷ xs) (y ∷ ys) h s t (inr b) = starts_apart p n m xs ys h s.1 t.1 b.1
+starts_apart [] n m (x ∷ xs) (y ∷ ys) h s t b = grind arith
+starts_apart (q ∷ p) n m (x ∷ xs) (y ∷ ys) h s t b = grind (arith, starts_apart p n m xs ys)
+starts_apart p n m xs [] h s t b = absurd b
+starts_apart p n m [] ys h s t b = absurd s
 
--- what starts so is not before the start
-pub starts_low : (p : List ℕ) (n m : ℕ) (ys : List ℕ) → n ≤ m → Starts p m ys → Before ys (p ++ n ∷ []) → ⊥
-starts_low [] n m (y ∷ ys) h t (inl b) = let there : y ≡ m = t in omega arith
-starts_low [] n m (y ∷ ys) h t (inr b) = before_nil ys b.1
-starts_low (q ∷ p) n m (y ∷ ys) h t (inl b) = let there : y ≡ q = t.0 in omega arith
-starts_low (q ∷ p) n m (y ∷ ys) h t (inr b) = starts_low p n m ys h t.1 b.1
-starts_low p n m ys h t b = absurd t
-
--- and is before all that starts with something greater
-pub starts_high : (p : List ℕ) (n : ℕ) (ys : List ℕ) (q : ℕ) (zs : List ℕ) → n < q → Starts p n ys → Before ys (p ++ q ∷ zs)
-starts_high [] n (y ∷ ys) q zs h t = let there : y ≡ n = t in inl (omega arith)
-starts_high (r ∷ p) n (y ∷ ys) q zs h t = inr (t.0, starts_high p n ys q zs h t.1)
-starts_high p n ys q zs h t = absurd t
+-- what starts with more numbers starts with fewer
+pub starts_shorter : (p : List ℕ) (n m : ℕ) (xs : List ℕ) → Starts (p ++ n ∷ []) m xs → Starts p n xs
+starts_shorter [] n m (x ∷ xs) h = h.0
+starts_shorter (r ∷ p) n m (x ∷ xs) h = (h.0, starts_shorter p n m xs h.1)
+starts_shorter p n m [] h = absurd h
 
 -- ---- what a chain of steps that came to its end passed through
 
@@ -106,39 +84,33 @@ ranked o = rank o.pass o.error
 abbrev pub row_at : PlanCode → At → Found
 row_at code place = record { pass = pass_of code; error = fault code place }
 
--- rows of the table of codes, none before the floor
-pub record Rows : Type 1 where
-  pub has : Found → Type 0
-  pub floor : List ℕ
-  pub low : (o : Found) → has o → Before (ranked o) floor → ⊥
+-- rows of which none comes before a rank
+abbrev pub Low : (Found → Type 0) → List ℕ → Type 0
+Low R p = (o : Found) → R o → Before (ranked o) p → ⊥
 
-abbrev pub no_rows : List ℕ → Rows
-no_rows floor = record { has = λ o. ⊥; floor = floor; low = λ o h b. h }
+-- one of these rows, or of R
+abbrev pub Among : List Found → (Found → Type 0) → Found → Type 0
+Among [] R o = R o
+Among (e ∷ es) R o = (o ≡ e) ⊎ Among es R o
 
-pub low_first : (e : Found) (rows : Rows) → Before (ranked e) rows.floor → (o : Found) → (o ≡ e) ⊎ rows.has o → Before (ranked o) (ranked e) → ⊥
-low_first e rows b o (inl same) before = before_not (ranked e) (subst (λ (x : Found). Before (ranked x) (ranked e)) same before)
-low_first e rows b o (inr later) before = rows.low o later (before_trans (ranked o) (ranked e) rows.floor before b)
+-- each of these rows comes before the next, and R after the last
+abbrev pub InTurn : List Found → (Found → Type 0) → Type 0
+InTurn [] R = Unit {0}
+InTurn (e ∷ []) R = Low R (ranked e)
+InTurn (e ∷ d ∷ es) R = Before (ranked e) (ranked d) × InTurn (d ∷ es) R
 
--- a row, and then rows
-abbrev pub row_then : (e : Found) (rows : Rows) → Before (ranked e) rows.floor → Rows
-row_then e rows b = record { has = λ o. (o ≡ e) ⊎ rows.has o; floor = ranked e; low = low_first e rows b }
+first_low : (e : Found) (es : List Found) (R : Found → Type 0) → InTurn (e ∷ es) R → Low (Among (e ∷ es) R) (ranked e)
+first_low e es R turn o (inl same) before = before_not (ranked e) (subst (λ (x : Found). Before (ranked x) (ranked e)) same before)
+first_low e [] R turn o (inr row) before = turn o row before
+first_low e (d ∷ es) R turn o (inr row) before = first_low d es R turn.1 o row (before_trans (ranked o) (ranked e) (ranked d) before turn.0)
 
-pub low_both : (rows more : Rows) → Before rows.floor more.floor → (o : Found) → rows.has o ⊎ more.has o → Before (ranked o) rows.floor → ⊥
-low_both rows more b o (inl h) before = rows.low o h before
-low_both rows more b o (inr h) before = more.low o h (before_trans (ranked o) rows.floor more.floor before b)
-
-abbrev pub both_rows : (rows more : Rows) → Before rows.floor more.floor → Rows
-both_rows rows more b = record { has = λ o. rows.has o ⊎ more.has o; floor = rows.floor; low = low_both rows more b }
+rest_in_turn : (e : Found) (es : List Found) (R : Found → Type 0) → InTurn (e ∷ es) R → InTurn es R
+rest_in_turn e [] R turn = tt
+rest_in_turn e (d ∷ es) R turn = turn.1
 
 -- the rows of each number from k on
 abbrev pub Each : (ℕ → Found → Type 0) → ℕ → Found → Type 0
 Each R k o = (m : ℕ) × (k ≤ m) × R m o
-
-pub low_each : (R : ℕ → Found → Type 0) (p : List ℕ) → ((n : ℕ) (o : Found) → R n o → Starts p n (ranked o)) → (k : ℕ) → (o : Found) → Each R k o → Before (ranked o) (p ++ k ∷ []) → ⊥
-low_each R p starts k o (m, le, h) before = starts_low p k m (ranked o) le (starts m o h) before
-
-abbrev pub each_rows : (R : ℕ → Found → Type 0) (p : List ℕ) → ((n : ℕ) (o : Found) → R n o → Starts p n (ranked o)) → ℕ → Rows
-each_rows R p starts k = record { has = Each R k; floor = p ++ k ∷ []; low = low_each R p starts k }
 
 -- no fault of the rows, or one and none before it
 abbrev pub Finds : (Found → Type 0) → {A : Type 0} → (Found → Type 0) → Result A PlanError → Type 0
@@ -150,40 +122,54 @@ pub finds_in : {A : Type 0} (F G R S : Found → Type 0) (r : Result A PlanError
     Finds G S r
 finds_in F G R S r h k g w = grind arith
 
-skip : {A : Type 0} (F R : Found → Type 0) (e : Found) (r : Result A PlanError) → (F e → ⊥) → Finds F R r → Finds F (λ o. (o ≡ e) ⊎ R o) r
-skip F R e r h k = grind arith
-
-pub guard_finds : {A : Type 0} (F : Found → Type 0) (t : Bool) (e : Found) (rows : Rows) → Before (ranked e) rows.floor → (r : Result A PlanError)
-    → (t ≡ true → F e) → (t ≡ false → F e → ⊥) → (t ≡ false → Finds F rows.has r) → Finds F (λ o. (o ≡ e) ⊎ rows.has o) (cond t (Err e.error) r)
-guard_finds F true e rows b r told clear rest = (e.pass, told refl, inl refl, λ o h f before. low_first e rows b o h before)
-guard_finds F false e rows b r told clear rest = skip F rows.has e r (clear refl) (rest refl)
-
-pub want_finds : {A B : Type 0} (F : Found → Type 0) (e : Found) (v : Option A) (rows : Rows) → Before (ranked e) rows.floor → (f : A → Result B PlanError)
-    → (v ≡ None → F e) → ((x : A) → v ≡ Some x → F e → ⊥) → ((x : A) → v ≡ Some x → Finds F rows.has (f x)) → Finds F (λ o. (o ≡ e) ⊎ rows.has o) (wanted e.error v >>= f)
-want_finds F e None rows b f told clear rest = (e.pass, told refl, inl refl, λ o h g before. low_first e rows b o h before)
-want_finds F e (Some x) rows b f told clear rest = skip F rows.has e (f x) (clear x refl) (rest x refl)
-
--- two things that are wanted, with one row
-pub want_both : {A B C : Type 0} (F : Found → Type 0) (e : Found) (v : Option A) (w : A → Option B) (rows : Rows) → Before (ranked e) rows.floor → (f : A → B → Result C PlanError)
-    → (v ≡ None → F e) → ((x : A) → v ≡ Some x → w x ≡ None → F e) → ((x : A) (y : B) → v ≡ Some x → w x ≡ Some y → F e → ⊥) → ((x : A) (y : B) → v ≡ Some x → w x ≡ Some y → Finds F rows.has (f x y))
-    → Finds F (λ o. (o ≡ e) ⊎ rows.has o) (wanted e.error v >>= (λ x. wanted e.error (w x) >>= f x))
-want_both F e None w rows b f told also clear rest = (e.pass, told refl, inl refl, λ o h g before. low_first e rows b o h before)
-want_both F e (Some x) w rows b f told also clear rest = want_finds F e (w x) rows b (f x) (also x refl) (λ y h. clear x y refl h) (λ y h. rest x y refl h)
-
 -- rows, and then rows that come after
 pub bind_finds : {A B : Type 0} (F R S : Found → Type 0) (r : Result A PlanError) (f : A → Result B PlanError)
     → ((e o : Found) → R e → S o → Before (ranked o) (ranked e) → ⊥) → Finds F R r → ((x : A) → r ≡ Ok x → Finds F S (f x)) → Finds F (λ o. R o ⊎ S o) (r >>= f)
 bind_finds {B = B} F R S (Ok x) f after h rest = by_result (f x) (rest x refl)
   where
     by_result : (q : Result B PlanError) → Finds F S q → Finds F (λ o. R o ⊎ S o) q
-    by_result (Ok y) k = λ o row g. elim row [ inl here ↦ h o here g | inr later ↦ k o later g ]
-    by_result (Err e) k = (k.0, k.1, inr k.2, λ o row g before. elim row [ inl here ↦ h o here g | inr later ↦ k.3 o later g before ])
+    by_result q k = grind arith
 bind_finds F R S (Err e) f after h rest = (h.0, h.1, inl h.2, λ o row g before. elim row [ inl here ↦ h.3 o here g before | inr later ↦ after (record { pass = h.0; error = e }) o h.2 later before ])
 
--- rows whose ranks are below the floor of the others
-pub bind_rows : {A B : Type 0} (F R : Found → Type 0) (rows : Rows) (r : Result A PlanError) (f : A → Result B PlanError)
-    → ((e : Found) → R e → Before (ranked e) rows.floor) → Finds F R r → ((x : A) → r ≡ Ok x → Finds F rows.has (f x)) → Finds F (λ o. R o ⊎ rows.has o) (r >>= f)
-bind_rows F R rows r f until h rest = bind_finds F R rows.has r f (λ e o here later before. rows.low o later (before_trans (ranked o) (ranked e) rows.floor before (until e here))) h rest
+-- ---- rows that are asked one after another
+
+-- the fault that is found is one of these rows or of R, where they come in turn
+pub record Asks {A : Type 0} (F : Found → Type 0) (es : List Found) (R : Found → Type 0) (r : Result A PlanError) : Type 0 where
+  pub finds : InTurn es R → Finds F (Among es R) r
+
+-- the first row is found
+ask_first : {A : Type 0} {F : Found → Type 0} {e : Found} {es : List Found} {R : Found → Type 0} → F e → Asks {A = A} F (e ∷ es) R (Err e.error)
+ask_first {e = e} {es = es} {R = R} h = record { finds = λ turn. (e.pass, h, inl refl, λ o row f before. first_low e es R turn o row before) }
+
+-- the first row is no fault
+ask_later : {A : Type 0} {F : Found → Type 0} {e : Found} {es : List Found} {R : Found → Type 0} {r : Result A PlanError} → (F e → ⊥) → Asks F es R r → Asks F (e ∷ es) R r
+ask_later {F = F} {e = e} {es = es} {R = R} {r = r} h rest = record { finds = λ turn. skip (rest.finds (rest_in_turn e es R turn)) }
+  where
+    skip : Finds F (Among es R) r → Finds F (Among (e ∷ es) R) r
+    skip k = grind arith
+
+-- no more rows of one place
+pub ask_rest : {A : Type 0} {F R : Found → Type 0} {r : Result A PlanError} → Finds F R r → Asks F [] R r
+ask_rest h = record { finds = λ turn. h }
+
+-- a test
+pub ask_guard : {A : Type 0} {F : Found → Type 0} {e : Found} {es : List Found} {R : Found → Type 0} (t : Bool) (r : Result A PlanError)
+    → (t ≡ true → F e) → (t ≡ false → F e → ⊥) → (t ≡ false → Asks F es R r) → Asks F (e ∷ es) R (cond t (Err e.error) r)
+ask_guard true r told clear rest = ask_first (told refl)
+ask_guard false r told clear rest = ask_later (clear refl) (rest refl)
+
+-- a thing that is wanted
+pub ask_wanted : {A B : Type 0} {F : Found → Type 0} {e : Found} {es : List Found} {R : Found → Type 0} (v : Option A) (f : A → Result B PlanError)
+    → (v ≡ None → F e) → ((x : A) → v ≡ Some x → F e → ⊥) → ((x : A) → v ≡ Some x → Asks F es R (f x)) → Asks F (e ∷ es) R (wanted e.error v >>= f)
+ask_wanted None f told clear rest = ask_first (told refl)
+ask_wanted (Some x) f told clear rest = ask_later (clear x refl) (rest x refl)
+
+-- two things that are wanted, with one row
+pub ask_both : {A B C : Type 0} {F : Found → Type 0} {e : Found} {es : List Found} {R : Found → Type 0} (v : Option A) (w : A → Option B) (f : A → B → Result C PlanError)
+    → (v ≡ None → F e) → ((x : A) → v ≡ Some x → w x ≡ None → F e) → ((x : A) (y : B) → v ≡ Some x → w x ≡ Some y → F e → ⊥)
+    → ((x : A) (y : B) → v ≡ Some x → w x ≡ Some y → Asks F es R (f x y)) → Asks F (e ∷ es) R (wanted e.error v >>= (λ x. wanted e.error (w x) >>= f x))
+ask_both None w f told also clear rest = ask_first (told refl)
+ask_both (Some x) w f told also clear rest = ask_wanted (w x) (f x) (also x refl) (λ y h. clear x y refl h) (λ y h. rest x y refl h)
 
 -- ---- steps
 

@@ -1,10 +1,12 @@
 -- What the later passes find of the faults of a plan.
-use Rattle.std.proofs.Common.{◌≡◌, ℕ, ◌+◌, ◌<◌, ◌⊎◌, inl, inr, suc, List, [], ◌∷◌, ◌++◌, length, true, false, ◌||◌, Option, Some, None, Result, refl, sym, ap, subst, ◌∙◌, arith, Bool, zero, map}
+use Rattle.std.proofs.Common.{◌≡◌, ℕ, ◌+◌, ◌<◌, ◌≤◌, ◌⊎◌, inl, inr, suc, List, [], ◌∷◌, ◌++◌, length, true, false, ◌||◌, Option, Some, None, Result, refl, sym, ap, subst, ◌∙◌, arith, Bool, zero, map}
 use Rattle.rip_plan.proofs.SketchPlanLemmas.{as_interface, interface_as, place_in, place_from, touch, touches, there_on, on_there}
 use Rattle.std.specs.Prelude.{slice_get, find, option_map, unwrap_or, map, ◌==◌}
 use Rattle.std.specs.List.{IsDistinct, list_any}
-use Rattle.std.proofs.lemmas.Option.{same_Some, slice_get_within, none-some}
-use Rattle.std.proofs.lemmas.Bool.{eq-eqb, eqb-true, cases_order, true_from_ne_false, and_parts, or_cases, or_right, not-true, not-false, both_ways, false_from_ne_true}
+use Rattle.std.proofs.lemmas.Option.{same_Some, slice_get_within, get_or_from_slice_get, slice_get-get_or}
+use Rattle.std.proofs.lemmas.List.FromFn.{length-range_with_len, get_or-range_with_len}
+use Rattle.std.specs.List.{range_with_len}
+use Rattle.std.proofs.lemmas.Bool.{eq-eqb, eqb-true, cases_lt, cases_order, true_from_ne_false, and_parts, or_cases, or_right, not-true, not-false, both_ways, false_from_ne_true}
 use Rattle.std.proofs.lemmas.Bool.Decides.{nat_tests}
 use Rattle.toml.specs.Data.{Data, Members}
 use Rattle.rip_plan.specs.declared.error.PlanCode.{PlanCode}
@@ -26,9 +28,9 @@ use Rattle.rip_plan.specs.Addresses.{have_one_address, held_from}
 use Rattle.rip_plan.specs.Network.{Network, network_of_sketch}
 use Rattle.rip_plan.specs.Relations.{IsAttachedAt, IsInterface, IsPlace}
 use Rattle.rip_plan.specs.PlanOf.{PlanOf}
-use Rattle.rip_plan.specs.PlanFaults.{TableFault, IsAstray, IsClash, IsBare, IsSo, DoMeet, AreTwice, HasOneTwice, HaveOneAddress, Before, rank, position, place_spots, interface_spots}
-use Rattle.rip_plan.proofs.FindingLemmas.{before_trans, before_not, Found, Finds, finds_in, bind_rows}
-use Rattle.rip_plan.proofs.FaultRowLemmas.{IsAstrayAt, IsLast, IsOfTables, IsTold, told_finds, code_rows, code_high, last_two, last_three, last_four, pass_rows}
+use Rattle.rip_plan.specs.PlanFaults.{pass_of, TableFault, IsAstray, IsClash, IsBare, IsSo, DoMeet, AreTwice, HasOneTwice, HaveOneAddress, Before, rank, position, place_spots, interface_spots}
+use Rattle.rip_plan.proofs.FindingLemmas.{Found, Finds, finds_in, bind_finds, before_trans, before_not, ranked}
+use Rattle.rip_plan.proofs.FaultRowLemmas.{IsAstrayAt, IsLast, IsOfTables, IsTold, told_finds, code_rows, pass_apart, last_two, last_three, last_four, pass_rows}
 use Rattle.rip_plan.proofs.HeldAddressLemmas.{address_held, first_held, held_address, held_at, held_order, held_in}
 use Rattle.rip_plan.proofs.OnePlanLemmas.{one_plan}
 use Rattle.rip_plan.proofs.PlanPartLemmas.{own_table}
@@ -69,21 +71,15 @@ taken_address interfaces also =
 
 -- ---- each router has an interface
 
-abbrev numbers_from : ℕ → ℕ → List ℕ
-numbers_from k zero = []
-numbers_from k (suc n) = k ∷ numbers_from (k + 1) n
+abbrev number_at : (n m r : ℕ) → slice_get (range_with_len 0 n) m ≡ Some r → (r ≡ m) × (m < n)
+number_at n m r h =
+    let within : m < n = omega (arith, slice_get_within (range_with_len 0 n) m r h, length-range_with_len 0 n) in
+    (omega (arith, get_or_from_slice_get (range_with_len 0 n) m r 0 h, get_or-range_with_len 0 n m 0 within), within)
 
-number_at : (k n m r : ℕ) → slice_get (numbers_from k n) m ≡ Some r → (r ≡ k + m) × (m < n)
-number_at k zero m r h = absurd (none-some r h)
-number_at k (suc n) zero r h = let same : k ≡ r = same_Some k r h in (omega arith, omega arith)
-number_at k (suc n) (suc m) r h = let later = number_at (k + 1) n m r h in (omega (arith, later.0), omega (arith, later.1))
+at_number : (n m : ℕ) → m < n → slice_get (range_with_len 0 n) m ≡ Some m
+at_number n m h = slice_get-get_or (range_with_len 0 n) m 0 (omega (arith, length-range_with_len 0 n)) ∙ ap (λ (r : ℕ). Some r) (omega (arith, get_or-range_with_len 0 n m 0 h))
 
-at_number : (k n m : ℕ) → m < n → slice_get (numbers_from k n) m ≡ Some (k + m)
-at_number k zero m h = absurd (omega arith)
-at_number k (suc n) zero h = ap (λ (r : ℕ). Some r) (omega arith)
-at_number k (suc n) (suc m) h = at_number (k + 1) n m (omega arith) ∙ ap (λ (r : ℕ). Some r) (omega arith)
-
-bare_found : (is : List DraftInterface) (k n : ℕ) → first_bare is k n ≡ find (is_bare is) (numbers_from k n)
+bare_found : (is : List DraftInterface) (k n : ℕ) → first_bare is k n ≡ find (is_bare is) (range_with_len k n)
 bare_found is k zero = refl
 bare_found is k (suc n) = rw (bare_found is (k + 1) n) refl
 
@@ -119,35 +115,38 @@ in_pass n c place = record { pass = n; error = fault c place }
 
 pass_finds : {A : Type 0} (F : Found → Type 0) (n : ℕ) (c : PlanCode) (Is : ℕ → A → Type 0) (see : A → At) (xs : List A) (r : Option A) → FirstSo Is xs r → InOrder see xs
     → ((place : At) → Stood Is see xs place → F (in_pass n c place)) → ((place : At) → F (in_pass n c place) → Stood Is see xs place)
-    → Finds F (code_rows n c).has (none_found c (option_map see r))
+    → Finds F (code_rows n c) (none_found c (option_map see r))
 pass_finds {A} F n c Is see xs r first ahead told clear = by_search r first
   where
-    as_found : (o : Found) → (o.pass ≡ n) × (o.error.code ≡ c) → F o → F (in_pass n c o.error.place)
-    as_found o same f = subst F (ap (λ (m : ℕ). record { pass = m; error = o.error }) same.0 ∙ ap (λ (d : PlanCode). in_pass n d o.error.place) same.1) f
+    its : (o : Found) → code_rows n c o → o ≡ in_pass n c o.error.place
+    its o row = grind arith
 
-    by_search : (q : Option A) → FirstSo Is xs q → Finds F (code_rows n c).has (none_found c (option_map see q))
-    by_search None none = λ o same f. let h = clear o.error.place (as_found o same f) in none h.k h.x h.at h.so
-    by_search (Some x) s = (
+    -- no later item stands before an item
+    not_before : (k m : ℕ) (x y : A) → k ≤ m → slice_get xs k ≡ Some x → slice_get xs m ≡ Some y → Before (rank n (fault c (see y))) (rank n (fault c (see x))) → ⊥
+    not_before k m x y le h g before =
+        let here = rank n (fault c (see x)) in
+        elim (cases_lt k m) [
+          | inl less ↦
+              elim (ahead k m x y less h g) [
+                | inl one ↦ before_not here (rw (← one) at before)
+                | inr later ↦
+                    before_not here (before_trans here (rank n (fault c (see y))) here (inr (refl, before_more (position (see x)) (position (see y)) (number_of_code c ∷ []) (number_of_code c ∷ []) later)) before)
+              ]
+          | inr ge ↦ let one : k ≡ m = omega arith in before_not here (rw (same_Some y x (sym g ∙ ap (slice_get xs) (sym one) ∙ h)) at before)
+        ]
+
+    by_search : (q : Option A) → FirstSo Is xs q → Finds F (code_rows n c) (none_found c (option_map see q))
+    by_search None none = λ o row f. let h = clear o.error.place (subst F (its o row) f) in none h.k h.x h.at h.so
+    by_search (Some x) (k, at, is, first) = (
       n,
-      told (see x) (record { k = s.0; x = x; at = s.1; so = s.2; stands = refl }),
+      told (see x) (record { k = k; x = x; at = at; so = is; stands = refl }),
       (refl, refl),
-      λ o same f before.
-          let h = clear o.error.place (as_found o same f) in
-          let mine : Before (rank n (fault c o.error.place)) (rank n (fault c (see x))) =
-          subst (λ (d : PlanCode). Before (rank n (fault d o.error.place)) (rank n (fault c (see x)))) same.1 (subst (λ (m : ℕ). Before (rank m o.error) (rank n (fault c (see x)))) same.0 before) in
-          let at_one : o.error.place ≡ see x → ⊥ = λ place. before_not (rank n (fault c (see x))) (subst (λ (p : At). Before (rank n (fault c p)) (rank n (fault c (see x)))) place mine) in
-          elim (cases_order h.k s.0) [
-            | inl one ↦ let item : h.x ≡ x = same_Some h.x x (sym h.at ∙ ap (slice_get xs) one ∙ s.1) in at_one (sym h.stands ∙ ap see item)
-            | inr (inl sooner) ↦ s.3 h.k h.x sooner h.at h.so
-            | inr (inr later) ↦
-                elim (ahead s.0 h.k x h.x later s.1 h.at) [
-                  | inl one ↦ at_one (sym h.stands ∙ sym one)
-                  | inr past ↦
-                      let after : Before (position (see x)) (position o.error.place) = subst (λ (p : At). Before (position (see x)) (position p)) h.stands past in
-                      let ranked_after : Before (rank n (fault c (see x))) (rank n (fault c o.error.place)) =
-                      inr (refl, before_more (position (see x)) (position o.error.place) (number_of_code c ∷ []) (number_of_code c ∷ []) after) in
-                      before_not (rank n (fault c o.error.place)) (before_trans (rank n (fault c o.error.place)) (rank n (fault c (see x))) (rank n (fault c o.error.place)) mine ranked_after)
-                ]
+      λ o row f before.
+          let h = clear o.error.place (subst F (its o row) f) in
+          let same : o ≡ in_pass n c (see h.x) = its o row ∙ ap (in_pass n c) (sym h.stands) in
+          elim (cases_lt h.k k) [
+            | inl sooner ↦ first h.k h.x sooner h.at h.so
+            | inr le ↦ not_before k h.k x h.x le at h.at (subst (λ (e : Found). Before (ranked e) (ranked (in_pass n c (see x)))) same before)
           ],
     )
 
@@ -158,7 +157,7 @@ clash_finds : {A : Type 0} (F : Found → Type 0) (n : ℕ) (c : PlanCode) (see 
     → ((j k : ℕ) (y x : A) → slice_get xs j ≡ Some y → slice_get xs k ≡ Some x → clash y x ≡ true → Clash j k)
     → ((j k : ℕ) (y x : A) → slice_get xs j ≡ Some y → slice_get xs k ≡ Some x → Clash j k → clash y x ≡ true)
     → ((place : At) → IsClash Clash spots place → F (in_pass n c place)) → ((place : At) → F (in_pass n c place) → IsClash Clash spots place)
-    → Finds F (code_rows n c).has (none_found c (option_map see (first_clash clash [] xs)))
+    → Finds F (code_rows n c) (none_found c (option_map see (first_clash clash [] xs)))
 clash_finds {A} F n c see xs spots stand ahead clash Clash gives takes told clear =
     pass_finds F n c (Clashes clash xs) see xs (first_clash clash [] xs) (first_clashing clash xs)
     (λ k m x y less h g. inr (ahead k m (see x) (see y) less (spot k x h) (spot m y g)))
@@ -340,12 +339,12 @@ module _ (laws : TextLaws) (document : Members) (links routers : List Data) (s :
   duplicate_clear (RouterOwn r j) f = of_plan (λ n. IsClash (DoMeet n) (place_spots links routers) (RouterOwn r j)) f.0 f.1 f.2
   duplicate_clear place f = absurd f
 
-  duplicates_find : Finds (IsTold document links routers) (code_rows 1 codes.DuplicatePrefix).has (none_found codes.DuplicatePrefix (duplicate_in s.interfaces s.places))
+  duplicates_find : Finds (IsTold document links routers) (code_rows 1 codes.DuplicatePrefix) (none_found codes.DuplicatePrefix (duplicate_in s.interfaces s.places))
   duplicates_find =
       rw (← meeting_seen s.interfaces s.places)
       (clash_finds (IsTold document links routers) 1 codes.DuplicatePrefix (λ (p : DraftPlace). p.at) s.places (place_spots links routers) placed (place_ahead links routers)
-      (λ p q. do_meet (touching s.interfaces p) (touching s.interfaces q)) (DoMeet (network_of_sketch s)) (meet_gives s) (meet_takes s) (λ place c. (duplicate_told place c, refl))
-      (λ place f. duplicate_clear place f.0))
+      (λ p q. do_meet (touching s.interfaces p) (touching s.interfaces q)) (DoMeet (network_of_sketch s)) (meet_gives s) (meet_takes s) duplicate_told
+      duplicate_clear)
 
   -- interfaces
   twice_told : (place : At) → IsClash (AreTwice (network_of_sketch s)) (interface_spots routers) place → TableFault document links routers codes.TwiceOnLink place
@@ -356,10 +355,10 @@ module _ (laws : TextLaws) (document : Members) (links routers : List Data) (s :
   twice_clear (RouterInterface r j) f = of_plan (λ n. IsClash (AreTwice n) (interface_spots routers) (RouterInterface r j)) f.0 f.1 f.2
   twice_clear place f = absurd f
 
-  twice_find : Finds (IsTold document links routers) (code_rows 2 codes.TwiceOnLink).has (none_found codes.TwiceOnLink (twice_in s.interfaces))
+  twice_find : Finds (IsTold document links routers) (code_rows 2 codes.TwiceOnLink) (none_found codes.TwiceOnLink (twice_in s.interfaces))
   twice_find =
       clash_finds (IsTold document links routers) 2 codes.TwiceOnLink (λ (i : DraftInterface). i.at) s.interfaces (interface_spots routers) listed (interface_ahead routers) are_twice
-      (AreTwice (network_of_sketch s)) (twice_gives s) (twice_takes s) (λ place c. (twice_told place c, refl)) (λ place f. twice_clear place f.0)
+      (AreTwice (network_of_sketch s)) (twice_gives s) (twice_takes s) twice_told twice_clear
 
   -- addresses
   abbrev IsAddressClash : Network → At → Type 0
@@ -387,7 +386,7 @@ module _ (laws : TextLaws) (document : Members) (links routers : List Data) (s :
         | inr same ↦ inl (ap (λ (i : ℕ). unwrap_or (spot_of s.interfaces i) Text) same.one)
       ]
 
-  addresses_find : Finds (IsTold document links routers) (code_rows 3 codes.DuplicateAddress).has (none_found codes.DuplicateAddress (taken_address_in s.interfaces s.also))
+  addresses_find : Finds (IsTold document links routers) (code_rows 3 codes.DuplicateAddress) (none_found codes.DuplicateAddress (taken_address_in s.interfaces s.also))
   addresses_find =
       let items : List Held = held s.interfaces s.also in
       rw (taken_address s.interfaces s.also)
@@ -397,15 +396,13 @@ module _ (laws : TextLaws) (document : Members) (links routers : List Data) (s :
       (λ place c.
       let (j, y, less, there, meets) = c.so in
       let (d, at, seen) = address_at c.k c.x c.at in
-      let spot : slice_get (interface_spots routers) c.x.interface ≡ Some place = interface_at c.x.interface d at ∙ ap (λ (p : At). Some p) (sym seen ∙ c.stands) in (
-        address_told place c.x.interface spot (elim (address_gives s j c.k y c.x less there c.at meets) [
-          | inl (i, ahead, one) ↦ inl (i, c.x.interface, spot, ahead, one)
-          | inr twice ↦ inr (c.x.interface, spot, twice)
-        ]),
-        refl,
-      ))
+      let spot : slice_get (interface_spots routers) c.x.interface ≡ Some place = interface_at c.x.interface d at ∙ ap (λ (p : At). Some p) (sym seen ∙ c.stands) in
+      address_told place c.x.interface spot (elim (address_gives s j c.k y c.x less there c.at meets) [
+        | inl (i, ahead, one) ↦ inl (i, c.x.interface, spot, ahead, one)
+        | inr twice ↦ inr (c.x.interface, spot, twice)
+      ]))
       (λ place f.
-      elim (address_clear place f.0) [
+      elim (address_clear place f) [
         | inl (m, i, spot, less, one) ↦ taken_at place i spot (address_takes s m i less one)
         | inr (i, spot, twice) ↦ taken_at place i spot (twice_taken s i twice)
       ]))
@@ -431,7 +428,7 @@ module _ (laws : TextLaws) (document : Members) (links routers : List Data) (s :
   astray_clear (RouterOwn r j) f = of_plan (λ n. IsSo (IsAstray n) (place_spots links routers) (RouterOwn r j)) f.0 f.1 f.2
   astray_clear place f = absurd f
 
-  astrays_find : Finds (IsLast document links routers) (code_rows 5 codes.UnknownLink).has (none_found codes.UnknownLink (astray_in s.interfaces s.places))
+  astrays_find : Finds (IsLast document links routers) (code_rows 5 codes.UnknownLink) (none_found codes.UnknownLink (astray_in s.interfaces s.places))
   astrays_find =
       let test = λ (p : DraftPlace). is_astray s.interfaces p.seat in
       pass_finds (IsLast document links routers) 5 codes.UnknownLink (Passes test) (λ (p : DraftPlace). p.at) s.places (find test s.places) (first_passing test s.places)
@@ -449,46 +446,41 @@ module _ (laws : TextLaws) (document : Members) (links routers : List Data) (s :
   bare_clear (Router r) f = (r, refl, of_plan (λ n. IsBare n r) f.0 f.1 f.2)
   bare_clear place f = absurd f
 
-  bare_finds : Finds (IsTold document links routers) (code_rows 4 codes.NoInterface).has (none_found codes.NoInterface (bare_in s.interfaces (length s.routers)))
+  bare_finds : Finds (IsTold document links routers) (code_rows 4 codes.NoInterface) (none_found codes.NoInterface (bare_in s.interfaces (length s.routers)))
   bare_finds =
       let test = is_bare s.interfaces in
-      let numbers : List ℕ = numbers_from 0 (length s.routers) in
+      let numbers : List ℕ = range_with_len 0 (length s.routers) in
       rw (bare_found s.interfaces 0 (length s.routers))
       (pass_finds (IsTold document links routers) 4 codes.NoInterface (Passes test) (λ (r : ℕ). Router (r + 1)) numbers (find test numbers) (first_passing test numbers)
-      (λ k m x y less h g. inr (inr (refl, inl (omega (arith, (number_at 0 (length s.routers) k x h).0, (number_at 0 (length s.routers) m y g).0)))))
+      (λ k m x y less h g. inr (inr (refl, inl (omega (arith, (number_at (length s.routers) k x h).0, (number_at (length s.routers) m y g).0)))))
       (λ place t.
-      let (number, within) = number_at 0 (length s.routers) t.k t.x t.at in
-      (subst (TableFault document links routers codes.NoInterface) t.stands (network_of_sketch s, plan, (t.x, refl, omega arith, bare_gives s t.x t.so)), refl))
+      let (number, within) = number_at (length s.routers) t.k t.x t.at in
+      subst (TableFault document links routers codes.NoInterface) t.stands (network_of_sketch s, plan, (t.x, refl, omega arith, bare_gives s t.x t.so)))
       (λ place f.
-      let (r, is, (k, number, within, none)) = bare_clear place f.0 in
+      let (r, is, (k, number, within, none)) = bare_clear place f in
       let bare = true_from_ne_false (test k) (λ off. bare_takes s k off none) in
-      record { k = k; x = k; at = at_number 0 (length s.routers) k within ∙ ap (λ (m : ℕ). Some m) (omega arith); so = bare; stands = ap Router (sym number) ∙ sym is }))
+      record { k = k; x = k; at = at_number (length s.routers) k within; so = bare; stands = ap Router (sym number) ∙ sym is }))
 
   -- one pass, in the words of all passes
-  of_pass : {A : Type 0} (n : ℕ) (c : PlanCode) (r : Result A PlanError) → n < 5 → Finds (IsTold document links routers) (code_rows n c).has r
-      → Finds (IsOfTables document links routers) (code_rows n c).has r
-  of_pass n c r less h = told_finds document links routers (code_rows n c).has r (λ o row. let same : o.pass ≡ n = row.0 in omega arith) h
+  of_pass : {A : Type 0} (n : ℕ) (c : PlanCode) (r : Result A PlanError) → n ≡ pass_of c → n < 5 → Finds (IsTold document links routers) (code_rows n c) r
+      → Finds (IsOfTables document links routers) (code_rows n c) r
+  of_pass n c r same less h = told_finds document links routers (code_rows n c) r (λ o row. (row.0 ∙ same ∙ ap pass_of (sym row.1), omega (arith, row.0))) h
 
-  last_finds : Finds (IsOfTables document links routers) (code_rows 5 codes.UnknownLink).has (none_found codes.UnknownLink (astray_in s.interfaces s.places))
+  last_finds : Finds (IsOfTables document links routers) (code_rows 5 codes.UnknownLink) (none_found codes.UnknownLink (astray_in s.interfaces s.places))
   last_finds =
-      finds_in (IsLast document links routers) (IsOfTables document links routers) (code_rows 5 codes.UnknownLink).has (code_rows 5 codes.UnknownLink).has
+      finds_in (IsLast document links routers) (IsOfTables document links routers) (code_rows 5 codes.UnknownLink) (code_rows 5 codes.UnknownLink)
       (none_found codes.UnknownLink (astray_in s.interfaces s.places))
       (λ e f. inr f) (λ e row. row) take astrays_find
     where
-      take : (o : Found) → (o.pass ≡ 5) × (o.error.code ≡ codes.UnknownLink) → IsOfTables document links routers o
-          → IsLast document links routers o × ((o.pass ≡ 5) × (o.error.code ≡ codes.UnknownLink))
+      take : (o : Found) → code_rows 5 codes.UnknownLink o → IsOfTables document links routers o → IsLast document links routers o × code_rows 5 codes.UnknownLink o
       take o h k = grind arith
 
-  pub passes_find : Finds (IsOfTables document links routers) pass_rows.has (second_passes s)
+  pub passes_find : Finds (IsOfTables document links routers) pass_rows (second_passes s)
   unfolding second_passes
   passes_find =
       let F = IsOfTables document links routers in
-      bind_rows F (code_rows 1 codes.DuplicatePrefix).has last_four (none_found codes.DuplicatePrefix (duplicate_in s.interfaces s.places)) _
-      (λ e h. code_high 1 codes.DuplicatePrefix e 2 h (omega arith)) (of_pass 1 codes.DuplicatePrefix _ (omega arith) duplicates_find) (λ a is_a.
-      bind_rows F (code_rows 2 codes.TwiceOnLink).has last_three (none_found codes.TwiceOnLink (twice_in s.interfaces)) _ (λ e h. code_high 2 codes.TwiceOnLink e 3 h (omega arith))
-      (of_pass 2 codes.TwiceOnLink _ (omega arith) twice_find) (λ b is_b.
-      bind_rows F (code_rows 3 codes.DuplicateAddress).has last_two (none_found codes.DuplicateAddress (taken_address_in s.interfaces s.also)) _
-      (λ e h. code_high 3 codes.DuplicateAddress e 4 h (omega arith)) (of_pass 3 codes.DuplicateAddress _ (omega arith) addresses_find) (λ c is_c.
-      bind_rows F (code_rows 4 codes.NoInterface).has (code_rows 5 codes.UnknownLink) (none_found codes.NoInterface (bare_in s.interfaces (length s.routers))) _
-      (λ e h. code_high 4 codes.NoInterface e 5 h (omega arith)) (of_pass 4 codes.NoInterface _ (omega arith) bare_finds) (λ d is_d.
+      bind_finds F (code_rows 1 codes.DuplicatePrefix) last_four _ _ (λ e o h k. pass_apart e o (grind arith)) (of_pass 1 codes.DuplicatePrefix _ refl (omega arith) duplicates_find) (λ a is_a.
+      bind_finds F (code_rows 2 codes.TwiceOnLink) last_three _ _ (λ e o h k. pass_apart e o (grind arith)) (of_pass 2 codes.TwiceOnLink _ refl (omega arith) twice_find) (λ b is_b.
+      bind_finds F (code_rows 3 codes.DuplicateAddress) last_two _ _ (λ e o h k. pass_apart e o (grind arith)) (of_pass 3 codes.DuplicateAddress _ refl (omega arith) addresses_find) (λ c is_c.
+      bind_finds F (code_rows 4 codes.NoInterface) (code_rows 5 codes.UnknownLink) _ _ (λ e o h k. pass_apart e o (grind arith)) (of_pass 4 codes.NoInterface _ refl (omega arith) bare_finds) (λ d is_d.
       last_finds))))

@@ -17,11 +17,11 @@ use Rattle.rip_plan.specs.Fault.{steps}
 use Rattle.rip_plan.specs.Fields.{◌&>◌, link_fields, InterfaceFields, interface_fields, own_fields, router_fields, cost_of, direct_of, addresses_in, address_if, link_if}
 use Rattle.rip_plan.specs.Names.{is_one_of, number_of_name}
 use Rattle.rip_plan.specs.Draft.{Sketch, prefix_step, link_step, interface_step, own_step, router_step, is_full, is_outside, has_address}
-use Rattle.rip_plan.specs.PlanOf.{Matched, IsNameOf, items_in, items_under, Placement}
+use Rattle.rip_plan.specs.PlanOf.{HasText, Matched, IsNameOf, items_in, items_under, Placement}
 use Rattle.rip_plan.specs.PlanText.{empty}
 use Rattle.rip_plan.specs.PlanFaults.{nth, IsItem, IsMisnamed, IsNamedAgain, spots_of, spots_under, place_spots, IsPast, NamesNoLink, IsOutside, HasNoAddress, HasPrefix, HasWrongAlso, HasWrongCost, HasWrongDirect, interface_spots, also_spots}
-use Rattle.rip_plan.proofs.FindingLemmas.{Finds, no_rows, steps_finds, row_at, ranked, bind_rows, starts_high}
-use Rattle.rip_plan.proofs.FaultRowLemmas.{by_code, IsTold, guard_told, want_told, prefix_from_limit, prefix_from_prefix, prefix_rows, prefix_starts, prefixes_rows, link_from_duplicate, link_from_name, link_rows, link_starts, links_rows, prefix_row_item, link_row_within, both_told, interface_from_address, interface_from_cost, interface_from_link, interface_from_outside, interface_from_limit, interface_rows, interface_starts, interfaces_rows, own_from_via, own_from_prefix, own_from_cost, own_from_link, own_from_limit, own_rows, own_starts, owns_rows, router_lists, router_from_duplicate, router_from_name, router_rows, router_starts, routers_rows, interface_row_item, own_row_item, router_row_within, starts_shorter}
+use Rattle.rip_plan.proofs.FindingLemmas.{Asks, Each, Finds, ask_both, ask_guard, ask_rest, ask_wanted, bind_finds, row_at, steps_finds}
+use Rattle.rip_plan.proofs.FaultRowLemmas.{IsTold, asked_at, rest_at, turn_at, item_stands, prefix_rows, prefix_starts, link_rows, link_starts, link_within, links_rows, interface_rows, interface_starts, own_rows, own_starts, interfaces_sooner, router_rows, router_starts, router_within, routers_rows}
 use Rattle.rip_plan.proofs.SpotLemmas.{nth_from, place_once, prefix_here, nth_here, item_once, count_of, also_here, also_in, also_items, also_under, also_within, with_number, interface_once, own_here, under_here}
 use Rattle.rip_plan.proofs.ItemLemmas.{any_at, any_finds, get_split, get_left, position_none, get_seen, see_got}
 use Rattle.rip_plan.proofs.TableLemmas.{text_is, IsTextIf, addresses_told, addresses_clear, cost_fits, gateway_fits, gateway_is, link_is, map_none, cost_is, cost_within, cost_told, direct_told, gateway_told, IsReadOf, addresses_read}
@@ -30,7 +30,7 @@ use Rattle.rip_plan.proofs.OnePlanLemmas.{text_same}
 use Rattle.rip_plan.proofs.PlanMatchLemmas.{with_link, links_added, prefixes_added, stood, TablesRead, room_for, with_router, placement, interfaces_added, owns_added, tables_read}
 use Rattle.rip_plan.proofs.LookupLemmas.{name_same, on_seat}
 use Rattle.rip_plan.proofs.TextLemmas.{TextLaws, prefix_is, no_prefix, first_named, address_is, no_address, one_prefix}
-use Rattle.rip_plan.specs.Texts.{IsPrefixText, IsAddressText}
+use Rattle.rip_plan.specs.Texts.{IsNoPrefix, IsPrefixText, IsAddressText}
 use Rattle.rip_plan.specs.DocumentTables.{IsLinkTable, IsString, IsRouterTable, IsInterfaceTable, IsOwnTable}
 use Rattle.rip_plan.proofs.DocumentTableLemmas.{link_not, link_table, string_not, HasInterfaceFields, interface_not, interface_texts, own_not, own_texts, router_not, router_table}
 use Rattle.std.specs.List.{list_any, sum_by}
@@ -43,36 +43,59 @@ use Rattle.rip_plan.specs.Seats.{is_on}
 use Rattle.std.proofs.lemmas.List.{map-append}
 use Rattle.rip_plan.proofs.PlanPartLemmas.{also_flat, also_numbered, also_sum, link_prefix, names_differ, attached_not, inside_not, known_not, prefix_place}
 
+-- ---- a table at hand, and an item of its list at a key
+
+module _ (ds done : List Data) (d : Data) (rest : List Data) (split : ds ≡ done ++ d ∷ rest) where
+  table_here : nth ds (1 + length done) ≡ Some d
+  table_here = rw split (nth_here done d rest (1 + length done) refl)
+
+  table_same : (e : Data) → nth ds (1 + length done) ≡ Some e → e ≡ d
+  table_same e h = same_Some e d (sym h ∙ table_here)
+
+  module _ (key : List ℕ) (front : List Data) (x : Data) (back : List Data) (items : items_in (get key d) ≡ front ++ x ∷ back) where
+    item_here : IsItem key ds (1 + length done) (1 + length front) x
+    item_here = (d, table_here, rw items (nth_here front x back (1 + length front) refl))
+
+    -- what is said of the item is said of x
+    of_item : (P : Data → Type 0) → (y : Data) × IsItem key ds (1 + length done) (1 + length front) y × P y → P x
+    of_item P (y, item, said) = subst P (item_once key ds (1 + length done) (1 + length front) y x item item_here) said
+
+  none_past : (key : List ℕ) (all : List Data) → items_in (get key d) ≡ all → (m : ℕ) → length all < m → (x : Data) × IsItem key ds (1 + length done) m x → ⊥
+  none_past key all items m past (x, (e, is, item)) =
+      let there : nth all m ≡ Some x = ap (λ (l : List Data). nth l m) (sym items ∙ ap (λ (t : Data). items_in (get key t)) (sym (table_same e is))) ∙ item in
+      omega (arith, (nth_from all m x there).1)
+
+-- a place that stands at a number below the most
+not_past : (links routers : List Data) (n : ℕ) (at : At) → slice_get (place_spots links routers) n ≡ Some at → nat_le 1024 n ≡ false → IsPast 1024 (place_spots links routers) at → ⊥
+not_past links routers n at here free (k, there, most) = let same : k ≡ n = place_once links routers k n at there here in grind (arith, nat_tests)
+
+most_most : (n : ℕ) → nat_le 1024 n ≡ true → 1024 ≤ n
+most_most n e = grind (arith, nat_tests)
+
 -- ---- names
 
 module _ (laws : TextLaws) (ds done : List Data) (d : Data) (rest : List Data) (split : ds ≡ done ++ d ∷ rest) where
-  pub table_here : nth ds (1 + length done) ≡ Some d
-  table_here = rw split (nth_here done d rest (1 + length done) refl)
+  misnamed_told : (name : List ℕ) → IsNameOf name d → not (is_name name) ≡ true → IsMisnamed ds (1 + length done)
+  misnamed_told name named bad = (d, name, table_here ds done d rest split, named, λ good. both_ways (is_name name) (not-true (is_name name) bad) ((laws.name name).1 good))
 
-  pub table_same : (e : Data) → nth ds (1 + length done) ≡ Some e → e ≡ d
-  table_same e h = same_Some e d (sym h ∙ table_here)
-
-  pub misnamed_told : (name : List ℕ) → IsNameOf name d → not (is_name name) ≡ true → IsMisnamed ds (1 + length done)
-  misnamed_told name named bad = (d, name, table_here, named, λ good. both_ways (is_name name) (not-true (is_name name) bad) ((laws.name name).1 good))
-
-  pub misnamed_clear : (name : List ℕ) → IsNameOf name d → not (is_name name) ≡ false → IsMisnamed ds (1 + length done) → ⊥
+  misnamed_clear : (name : List ℕ) → IsNameOf name d → not (is_name name) ≡ false → IsMisnamed ds (1 + length done) → ⊥
   misnamed_clear name named good (e, other, is, its, bad) =
-      let same : e ≡ d = table_same e is in
+      let same : e ≡ d = table_same ds done d rest split e is in
       let one : other ≡ name = text_same (codes_of "name") d other name (subst (IsNameOf other) same its) named in
       bad ((laws.name other).0 (not-false (is_name other) (ap (λ (t : List ℕ). not (is_name t)) one ∙ good)))
 
-  pub again_told : (names : List (List ℕ)) → Matched IsNameOf names done → (name : List ℕ) → IsNameOf name d → is_one_of name names ≡ true → IsNamedAgain ds (1 + length done)
+  again_told : (names : List (List ℕ)) → Matched IsNameOf names done → (name : List ℕ) → IsNameOf name d → is_one_of name names ≡ true → IsNamedAgain ds (1 + length done)
   again_told names named name its taken =
       let (k, other, at, test) = any_finds (λ (x : List ℕ). bytes_eq x name) names taken in
       let (earlier, is, its_name) = matched_left IsNameOf names done k other named at in
       let same : other ≡ name = (bytes_eq-Decides other name).0 test in
       let within : k < length done = slice_get_within done k earlier is in
-      (d, earlier, suc k, name, table_here, its, omega arith, rw split (get_left done (d ∷ rest) k earlier is), subst (λ (t : List ℕ). IsNameOf t earlier) same its_name)
+      (d, earlier, suc k, name, table_here ds done d rest split, its, omega arith, rw split (get_left done (d ∷ rest) k earlier is), subst (λ (t : List ℕ). IsNameOf t earlier) same its_name)
 
-  pub again_clear : (names : List (List ℕ)) → Matched IsNameOf names done → (name : List ℕ) → IsNameOf name d → is_one_of name names ≡ false → IsNamedAgain ds (1 + length done) → ⊥
+  again_clear : (names : List (List ℕ)) → Matched IsNameOf names done → (name : List ℕ) → IsNameOf name d → is_one_of name names ≡ false → IsNamedAgain ds (1 + length done) → ⊥
   again_clear names named name its fresh (e, earlier, zero, other, is, its_name, less, there, theirs) = none-some earlier there
   again_clear names named name its fresh (e, earlier, suc k, other, is, its_name, less, there, theirs) =
-      let same : e ≡ d = table_same e is in
+      let same : e ≡ d = table_same ds done d rest split e is in
       let one : other ≡ name = text_same (codes_of "name") d other name (subst (IsNameOf other) same its_name) its in
       let at : slice_get (done ++ d ∷ rest) k ≡ Some earlier = ap (λ (l : List Data). slice_get l k) (sym split) ∙ there in
       elim (get_split done (d ∷ rest) k earlier at) [
@@ -90,26 +113,21 @@ abbrev stood_links : List Data → List At
 stood_links done = spots_under (codes_of "prefixes") LinkPrefix 1 done
 
 module _ (document : Members) (links routers done : List Data) (d : Data) (rest : List Data) (split : links ≡ done ++ d ∷ rest) where
-  prefix_finds : (laws : TextLaws) (front : List Data) (x : Data) (back : List Data) (v : Sketch) → items_in (get (codes_of "prefixes") d) ≡ front ++ x ∷ back
+  prefix_asks : (laws : TextLaws) (front : List Data) (x : Data) (back : List Data) (v : Sketch) → items_in (get (codes_of "prefixes") d) ≡ front ++ x ∷ back
       → length v.places ≡ length (stood_links done) + length front
-      → Finds (IsTold document links routers) (prefix_rows (1 + length done) (1 + length front)).has (prefix_step (1 + length done) (1 + length front) x v)
+      → Asks (IsTold document links routers) (asked_at (LinkPrefix (1 + length done) (1 + length front))) (λ o. ⊥) (prefix_step (1 + length done) (1 + length front) x v)
   unfolding prefix_step
-  prefix_finds laws front x back v items count =
-      want_told document links routers codes.Key (LinkPrefix i j) (as_str x) (prefix_from_prefix i j) (by_code (LinkPrefix i j) codes.Key codes.Prefix refl (omega arith)) _
-      (λ none. (x, item, string_not x none))
-      (λ text is h. h.2 (subst IsString (sym (item_once (codes_of "prefixes") links i j h.0 x h.1 item)) (text, text_is x text is)))
-      (λ text is.
-      want_told document links routers codes.Prefix (LinkPrefix i j) (prefix_in text) (prefix_from_limit i j) (by_code (LinkPrefix i j) codes.Prefix codes.Limit refl (omega arith)) _
-      (λ none. (text, subst (IsItem (codes_of "prefixes") links i j) (text_is x text is) item, no_prefix laws text none))
+  prefix_asks laws front x back v items count =
+      ask_wanted (as_str x) _ (λ none. (x, item, string_not x none)) (λ text is h. of_x (λ y. IsString y → ⊥) h (text, text_is x text is)) (λ text is.
+      ask_wanted (prefix_in text) _ (λ none. (text, subst (IsItem (codes_of "prefixes") links i j) (text_is x text is) item, no_prefix laws text none))
       (λ p parsed h.
       let same : string h.0 ≡ string text = item_once (codes_of "prefixes") links i j (string h.0) x h.1 item ∙ text_is x text is in
       let one : text ≡ h.0 = cc in
       h.2 p (subst (λ (t : List ℕ). IsPrefixText t p) one (prefix_is laws text p parsed)))
       (λ p parsed.
-      guard_told document links routers (nat_le 1024 (length v.places)) codes.Limit (LinkPrefix i j) (no_rows (1 ∷ [])) (inl (omega arith)) _
-      (λ full. (length v.places, here, grind (arith, nat_tests)))
-      (λ free h. let same : h.0 ≡ length v.places = place_once links routers h.0 (length v.places) (LinkPrefix i j) h.1 here in let le : 1024 ≤ h.0 = h.2 in past (length v.places) free (omega arith))
-      (λ free o h f. h)))
+      ask_guard (nat_le 1024 (length v.places)) _ (λ full. (length v.places, here, most_most (length v.places) full))
+      (λ free h. not_past links routers (length v.places) (LinkPrefix i j) here free h)
+      (λ free. ask_rest (λ o h f. h))))
     where
       i : ℕ
       i = 1 + length done
@@ -118,23 +136,23 @@ module _ (document : Members) (links routers done : List Data) (d : Data) (rest 
       j = 1 + length front
 
       item : IsItem (codes_of "prefixes") links (1 + length done) (1 + length front) x
-      item = (d, rw split (nth_here done d rest (1 + length done) refl), rw items (nth_here front x back (1 + length front) refl))
+      item = item_here links done d rest split (codes_of "prefixes") front x back items
+
+      of_x : (P : Data → Type 0) → (y : Data) × IsItem (codes_of "prefixes") links (1 + length done) (1 + length front) y × P y → P x
+      of_x = of_item links done d rest split (codes_of "prefixes") front x back items
 
       here : slice_get (place_spots links routers) (length v.places) ≡ Some (LinkPrefix (1 + length done) (1 + length front))
       here = rw split (prefix_here routers done d rest front x back items (length v.places) count)
 
-      past : (n : ℕ) → nat_le 1024 n ≡ false → 1024 ≤ n → ⊥
-      past n e le = grind (arith, nat_tests)
-
   prefixes_find : (laws : TextLaws) (poison : Bool) (u : Sketch) (name : List ℕ) → steps link_step 1 done (empty poison) ≡ Ok u → (all : List Data) → items_in (get (codes_of "prefixes") d) ≡ all
-      → Finds (IsTold document links routers) (prefixes_rows (1 + length done)).has (steps (prefix_step (1 + length done)) 1 all (with_link name u))
+      → Finds (IsTold document links routers) (Each (prefix_rows (1 + length done)) 1) (steps (prefix_step (1 + length done)) 1 all (with_link name u))
   prefixes_find laws poison u name taken all items =
-      steps_finds (IsTold document links routers) (prefix_step i) (λ j. (prefix_rows i j).has) (0 ∷ 1 ∷ i ∷ 1 ∷ []) (prefix_starts i) all (with_link name u)
+      steps_finds (IsTold document links routers) (prefix_step i) (prefix_rows i) (0 ∷ 1 ∷ i ∷ 1 ∷ []) (prefix_starts i) all (with_link name u)
       (λ front x back v parts steps_taken.
       let before = links_added laws 0 done (empty poison) u taken in
       let inner = prefixes_added laws i 1 front (with_link name u) v steps_taken in
       let places : v.places ≡ before.added ++ inner.added = ap (λ (t : Sketch). t.places) inner.made ∙ ap (λ (t : Sketch). t.places ++ inner.added) before.made in
-      prefix_finds laws front x back v (items ∙ parts)
+      (prefix_asks laws front x back v (items ∙ parts)
       (omega (
         arith,
         ap length places,
@@ -142,50 +160,37 @@ module _ (document : Members) (links routers done : List Data) (d : Data) (rest 
         stood (λ (p : DraftPlace). p.at) before.added (stood_links done) before.stand,
         stood (λ (p : DraftPlace). p.at) inner.added (spots_of (LinkPrefix i) 1 front) inner.stand,
         count_of (LinkPrefix i) 1 front,
-      )))
+      ))).finds (turn_at (LinkPrefix i (1 + length front))))
       (λ m o past row f.
-      let (x, (e, is, item)) = prefix_row_item document links routers i m o row f in
-      let same : e ≡ d = same_Some e d (sym is ∙ rw split (nth_here done d rest i refl)) in
-      let there : nth all m ≡ Some x = ap (λ (l : List Data). nth l m) (sym items ∙ ap (λ (t : Data). items_in (get (codes_of "prefixes") t)) (sym same)) ∙ item in
-      let within : m ≤ length all = (nth_from all m x there).1 in
-      omega arith)
+      none_past links done d rest split (codes_of "prefixes") all items m past
+      (item_stands document links routers (LinkPrefix i m) o (λ n. n) (prefix_starts i m o row).0 f row))
     where
       i : ℕ
       i = 1 + length done
 
-  link_finds : (laws : TextLaws) (poison : Bool) (u : Sketch) → steps link_step 1 done (empty poison) ≡ Ok u
-      → Finds (IsTold document links routers) (link_rows (1 + length done)).has (link_step (1 + length done) d u)
+  link_asks : (laws : TextLaws) (poison : Bool) (u : Sketch) → steps link_step 1 done (empty poison) ≡ Ok u
+      → Asks (IsTold document links routers) (asked_at (Link (1 + length done))) (rest_at (Link (1 + length done))) (link_step (1 + length done) d u)
   unfolding link_step
-  link_finds laws poison u taken =
-      let i : ℕ = 1 + length done in
+  link_asks laws poison u taken =
       let added = links_added laws 0 done (empty poison) u taken in
       let names : u.links ≡ added.names = ap (λ (v : Sketch). v.links) added.made in
       let named : Matched IsNameOf u.links done = subst (λ (l : List (List ℕ)). Matched IsNameOf l done) (sym names) added.named in
-      want_told document links routers codes.Key (Link i) (as_table d &> link_fields) (link_from_name i) (by_code (Link i) codes.Key codes.Name refl (omega arith)) _
-      (λ none. (d, table_here laws links done d rest split, link_not d none))
-      (λ f is h. h.2 (subst IsLinkTable (sym (table_same laws links done d rest split h.0 h.1)) (link_table d f.0 f.1 is).shape))
+      ask_wanted (as_table d &> link_fields) _ (λ none. (d, table_here links done d rest split, link_not d none))
+      (λ f is h. h.2 (subst IsLinkTable (sym (table_same links done d rest split h.0 h.1)) (link_table d f.0 f.1 is).shape))
       (λ f is.
       let table = link_table d f.0 f.1 is in
-      guard_told document links routers (not (is_name f.0)) codes.Name (Link i) (link_from_duplicate i) (by_code (Link i) codes.Name codes.DuplicateName refl (omega arith)) _
-      (λ bad. misnamed_told laws links done d rest split f.0 table.named bad)
+      ask_guard (not (is_name f.0)) _ (λ bad. misnamed_told laws links done d rest split f.0 table.named bad)
       (λ good h. misnamed_clear laws links done d rest split f.0 table.named good h)
       (λ good.
-      guard_told document links routers (is_one_of f.0 u.links) codes.DuplicateName (Link i) (prefixes_rows i) (inr (refl, inr (refl, inr (refl, inl (omega arith))))) _
-      (λ again. again_told laws links done d rest split u.links named f.0 table.named again)
+      ask_guard (is_one_of f.0 u.links) _ (λ again. again_told laws links done d rest split u.links named f.0 table.named again)
       (λ fresh h. again_clear laws links done d rest split u.links named f.0 table.named fresh h)
-      (λ fresh. prefixes_find laws poison u f.0 taken f.1 table.prefixes_are)))
+      (λ fresh. ask_rest (prefixes_find laws poison u f.0 taken f.1 table.prefixes_are))))
 
-pub links_find : (laws : TextLaws) (document : Members) (links routers : List Data) (poison : Bool) → Finds (IsTold document links routers) links_rows.has (steps link_step 1 links (empty poison))
+pub links_find : (laws : TextLaws) (document : Members) (links routers : List Data) (poison : Bool) → Finds (IsTold document links routers) links_rows (steps link_step 1 links (empty poison))
 links_find laws document links routers poison =
-    steps_finds (IsTold document links routers) link_step (λ i. (link_rows i).has) (0 ∷ 1 ∷ []) link_starts links (empty poison)
-    (λ done x rest u split taken. link_finds document links routers done x rest split laws poison u taken)
-    (λ m o past row f. let within : m ≤ length links = link_row_within document links routers m o row f in omega arith)
-
-past_most : (n : ℕ) → nat_le 1024 n ≡ false → 1024 ≤ n → ⊥
-past_most n e le = grind (arith, nat_tests)
-
-most_most : (n : ℕ) → nat_le 1024 n ≡ true → 1024 ≤ n
-most_most n e = grind (arith, nat_tests)
+    steps_finds (IsTold document links routers) link_step link_rows (0 ∷ 1 ∷ []) link_starts links (empty poison)
+    (λ done x rest u split taken. (link_asks document links routers done x rest split laws poison u taken).finds (turn_at (Link (1 + length done))))
+    (λ m o past row f. omega (arith, link_within document links routers m o f row))
 
 -- ---- links by their names
 
@@ -212,51 +217,36 @@ attached_told links v matched x (Some name) has h = unknown_told links v matched
 -- ---- own prefixes
 
 module _ (document : Members) (links routers done : List Data) (d : Data) (rest : List Data) (split : routers ≡ done ++ d ∷ rest) where
-  own_finds : (laws : TextLaws) (front : List Data) (x : Data) (back : List Data) (v : Sketch) → items_in (get (codes_of "own") d) ≡ front ++ x ∷ back → Matched IsNameOf v.links links
+  own_asks : (laws : TextLaws) (front : List Data) (x : Data) (back : List Data) (v : Sketch) → items_in (get (codes_of "own") d) ≡ front ++ x ∷ back → Matched IsNameOf v.links links
       → length v.places ≡ length (spots_under (codes_of "prefixes") LinkPrefix 1 links) + (length (spots_under (codes_of "own") RouterOwn 1 done) + length front)
-      → Finds (IsTold document links routers) (own_rows (1 + length done) (1 + length front)).has (own_step (1 + length done) (1 + length front) x v)
+      → Asks (IsTold document links routers) (asked_at (RouterOwn (1 + length done) (1 + length front))) (λ o. ⊥) (own_step (1 + length done) (1 + length front) x v)
   unfolding own_step
-  own_finds laws front x back v items named count =
-      want_told document links routers codes.Key (RouterOwn r j) (as_table x &> own_fields) (own_from_via r j) (by_code (RouterOwn r j) codes.Key codes.Address refl (omega arith)) _
-      (λ none. (x, item, own_not x none))
-      (λ f is h. h.2 (subst IsOwnTable (sym (one h.0 h.1)) (own_texts x f is).shape))
-      (λ f is.
+  own_asks laws front x back v items named count =
+      ask_wanted (as_table x &> own_fields) _ (λ none. (x, item, own_not x none)) (λ f is h. of_x (λ y. IsOwnTable y → ⊥) h (own_texts x f is).shape) (λ f is.
       let fields = own_texts x f is in
-      want_told document links routers codes.Address (RouterOwn r j) (address_if f.via) (own_from_prefix r j) (by_code (RouterOwn r j) codes.Address codes.Prefix refl (omega arith)) _
-      (λ none. (x, item, gateway_told laws x f.via fields.via none))
-      (λ via gateway h. gateway_fits x via (gateway_is laws x f.via via fields.via gateway) (subst (HasNoAddress (codes_of "via")) (one h.0 h.1) h.2))
+      ask_wanted (address_if f.via) _ (λ none. (x, item, gateway_told laws x f.via fields.via none))
+      (λ via gateway h. gateway_fits x via (gateway_is laws x f.via via fields.via gateway) (of_x (HasNoAddress (codes_of "via")) h))
       (λ via gateway.
-      want_told document links routers codes.Prefix (RouterOwn r j) (prefix_in f.prefix) (own_from_cost r j) (by_code (RouterOwn r j) codes.Prefix codes.Cost refl (omega arith)) _
-      (λ none. (x, f.prefix, item, fields.has_prefix, no_prefix laws f.prefix none))
+      ask_wanted (prefix_in f.prefix) _ (λ none. (x, f.prefix, item, fields.has_prefix, no_prefix laws f.prefix none))
       (λ p parsed h.
-      let same : h.1 ≡ f.prefix = text_same (codes_of "prefix") x h.1 f.prefix (ap (get (codes_of "prefix")) (sym (one h.0 h.2)) ∙ h.3) fields.has_prefix in
-      h.4 p (subst (λ (t : List ℕ). IsPrefixText t p) (sym same) (prefix_is laws f.prefix p parsed)))
+      let (text, has, bad) = of_x (λ y. (text : List ℕ) × HasText (codes_of "prefix") y text × IsNoPrefix text) (h.0, h.2, (h.1, h.3, h.4)) in
+      bad p (subst (λ (t : List ℕ). IsPrefixText t p) (text_same (codes_of "prefix") x f.prefix text fields.has_prefix has) (prefix_is laws f.prefix p parsed)))
       (λ p parsed.
-      want_told document links routers codes.Cost (RouterOwn r j) (cost_of f.cost) (own_from_link r j) (by_code (RouterOwn r j) codes.Cost codes.UnknownLink refl (omega arith)) _
-      (λ none. (x, item, cost_told (get (codes_of "cost") x) f.cost fields.cost none))
-      (λ c costs h. cost_fits x c (cost_is (get (codes_of "cost") x) f.cost c fields.cost costs) (cost_within f.cost c costs) (subst HasWrongCost (one h.0 h.1) h.2))
+      ask_wanted (cost_of f.cost) _ (λ none. (x, item, cost_told (get (codes_of "cost") x) f.cost fields.cost none))
+      (λ c costs h. cost_fits x c (cost_is (get (codes_of "cost") x) f.cost c fields.cost costs) (cost_within f.cost c costs) (of_x HasWrongCost h))
       (λ c costs.
-      want_told document links routers codes.UnknownLink (RouterOwn r j) (link_if f.link v.links) (own_from_limit r j) (by_code (RouterOwn r j) codes.UnknownLink codes.Limit refl (omega arith)) _
-      (λ none. (x, item, attached_told links v named x f.link fields.link none))
-      (λ l known h. attached_not v.links links named x l (link_is v.links x f.link l fields.link known) (subst (NamesNoLink links) (one h.0 h.1) h.2))
+      ask_wanted (link_if f.link v.links) _ (λ none. (x, item, attached_told links v named x f.link fields.link none))
+      (λ l known h. attached_not v.links links named x l (link_is v.links x f.link l fields.link known) (of_x (NamesNoLink links) h))
       (λ l known.
-      guard_told document links routers (nat_le 1024 (length v.places)) codes.Limit (RouterOwn r j) (no_rows (1 ∷ [])) (inl (omega arith)) _
-      (λ full. (length v.places, here, most_most (length v.places) full))
-      (λ free h. let same : h.0 ≡ length v.places = place_once links routers h.0 (length v.places) (RouterOwn r j) h.1 here in let le : 1024 ≤ h.0 = h.2 in past_most (length v.places) free
-      (omega arith))
-      (λ free o h g. h))))))
+      ask_guard (nat_le 1024 (length v.places)) _ (λ full. (length v.places, here, most_most (length v.places) full))
+      (λ free h. not_past links routers (length v.places) (RouterOwn (1 + length done) (1 + length front)) here free h)
+      (λ free. ask_rest (λ o h g. h)))))))
     where
-      r : ℕ
-      r = 1 + length done
-
-      j : ℕ
-      j = 1 + length front
-
       item : IsItem (codes_of "own") routers (1 + length done) (1 + length front) x
-      item = (d, rw split (nth_here done d rest (1 + length done) refl), rw items (nth_here front x back (1 + length front) refl))
+      item = item_here routers done d rest split (codes_of "own") front x back items
 
-      one : (y : Data) → IsItem (codes_of "own") routers (1 + length done) (1 + length front) y → y ≡ x
-      one y h = item_once (codes_of "own") routers (1 + length done) (1 + length front) y x h item
+      of_x : (P : Data → Type 0) → (y : Data) × IsItem (codes_of "own") routers (1 + length done) (1 + length front) y × P y → P x
+      of_x = of_item routers done d rest split (codes_of "own") front x back items
 
       here : slice_get (place_spots links routers) (length v.places) ≡ Some (RouterOwn (1 + length done) (1 + length front))
       here = rw split (own_here links done d rest front x back items (length v.places) count)
@@ -361,63 +351,40 @@ module _ (laws : TextLaws) (links done : List Data) (poison : Bool) (v : Sketch)
       (q.prefix, has_prefix l n q listed on, grind (arith, nat_tests)))
 
 module _ (document : Members) (links routers done : List Data) (d : Data) (rest : List Data) (split : routers ≡ done ++ d ∷ rest) where
-  interface_finds : (laws : TextLaws) (front : List Data) (x : Data) (back : List Data) (poison : Bool) (u v : Sketch) → items_in (get (codes_of "interface") d) ≡ front ++ x ∷ back
+  interface_asks : (laws : TextLaws) (front : List Data) (x : Data) (back : List Data) (poison : Bool) (u v : Sketch) → items_in (get (codes_of "interface") d) ≡ front ++ x ∷ back
       → TablesRead links done poison u → ((l m : ℕ) (name : List ℕ) → slice_get u.links l ≡ Some name → slice_get u.links m ≡ Some name → l ≡ m) → v.links ≡ u.links → v.places ≡ u.places
       → length v.interfaces ≡ length (spots_under (codes_of "interface") RouterInterface 1 done) + length front → sum_by length v.also ≡ also_under done + also_in front → sum_by length v.also ≤ 1024
-      → Finds (IsTold document links routers) (interface_rows (1 + length done) (1 + length front)).has (interface_step (1 + length done) (1 + length front) x v)
+      → Asks (IsTold document links routers) (asked_at (RouterInterface (1 + length done) (1 + length front))) (λ o. ⊥) (interface_step (1 + length done) (1 + length front) x v)
   unfolding interface_step
-  interface_finds laws front x back poison u v items read differ names places count sum few =
+  interface_asks laws front x back poison u v items read differ names places count sum few =
       let named : Matched IsNameOf v.links links = subst (λ (ns : List (List ℕ)). Matched IsNameOf ns links) (sym names) read.link_names in
-      want_told document links routers codes.Key (RouterInterface r j) (as_table x &> interface_fields) (interface_from_address r j)
-      (by_code (RouterInterface r j) codes.Key codes.Address refl (omega arith)) _
-      (λ none. (x, item, interface_not x none))
-      (λ f is h. h.2 (subst IsInterfaceTable (sym (one h.0 h.1)) (interface_texts x f is).shape))
-      (λ f is.
+      ask_wanted (as_table x &> interface_fields) _ (λ none. (x, item, interface_not x none)) (λ f is h. of_x (λ y. IsInterfaceTable y → ⊥) h (interface_texts x f is).shape) (λ f is.
       let fields = interface_texts x f is in
-      both_told document links routers codes.Address (RouterInterface r j) (address_in f.address) (λ a. addresses_in f.also) (interface_from_cost r j)
-      (by_code (RouterInterface r j) codes.Address codes.Cost refl (omega arith)) _
-      (λ none. (x, item, inl (f.address, fields.has_address, no_address laws f.address none)))
+      ask_both (address_in f.address) (λ a. addresses_in f.also) _ (λ none. (x, item, inl (f.address, fields.has_address, no_address laws f.address none)))
       (λ a parsed none. (x, item, inr (also_told laws x f fields none)))
-      (λ a also parsed others h. address_clear laws x f fields a also parsed others (subst (λ (t : Data). HasNoAddress (codes_of "address") t ⊎ HasWrongAlso t) (one h.0 h.1) h.2))
+      (λ a also parsed others h. address_clear laws x f fields a also parsed others (of_x (λ y. HasNoAddress (codes_of "address") y ⊎ HasWrongAlso y) h))
       (λ a also parsed others.
-      both_told document links routers codes.Cost (RouterInterface r j) (cost_of f.cost) (λ c. direct_of c f.direct) (interface_from_link r j)
-      (by_code (RouterInterface r j) codes.Cost codes.UnknownLink refl (omega arith)) _
-      (λ none. (x, item, inl (cost_told (get (codes_of "cost") x) f.cost fields.cost none)))
+      ask_both (cost_of f.cost) (λ c. direct_of c f.direct) _ (λ none. (x, item, inl (cost_told (get (codes_of "cost") x) f.cost fields.cost none)))
       (λ c costs none. (x, item, inr (metric_told x f fields c costs none)))
-      (λ c e costs directs h. costs_clear x f fields c e costs directs (subst (λ (t : Data). HasWrongCost t ⊎ HasWrongDirect t) (one h.0 h.1) h.2))
+      (λ c e costs directs h. costs_clear x f fields c e costs directs (of_x (λ y. HasWrongCost y ⊎ HasWrongDirect y) h))
       (λ c e costs directs.
-      want_told document links routers codes.UnknownLink (RouterInterface r j) (number_of_name f.link v.links) (interface_from_outside r j)
-      (by_code (RouterInterface r j) codes.UnknownLink codes.OutsidePrefix refl (omega arith)) _
-      (λ none. (x, item, unknown_told links v named x f.link fields.has_link none))
-      (λ l known h. known_not v.links links named x f.link l fields.has_link (first_named f.link v.links l known).0 (subst (NamesNoLink links) (one h.0 h.1) h.2))
+      ask_wanted (number_of_name f.link v.links) _ (λ none. (x, item, unknown_told links v named x f.link fields.has_link none))
+      (λ l known h. known_not v.links links named x f.link l fields.has_link (first_named f.link v.links l known).0 (of_x (NamesNoLink links) h))
       (λ l known.
-      guard_told document links routers (is_outside l a v.places) codes.OutsidePrefix (RouterInterface r j) (interface_from_limit r j)
-      (by_code (RouterInterface r j) codes.OutsidePrefix codes.Limit refl (omega arith)) _
-      (λ out. (
-        x,
-        item,
-        outside_told laws links done poison u read differ x f.link f.address a l fields.has_link fields.has_address parsed (ap (number_of_name f.link) (sym names) ∙ known)
-            (ap (is_outside l a) (sym places) ∙ out),
-      ))
-      (λ inside h. outside_clear laws links done poison u read differ x f.link f.address a l fields.has_link fields.has_address parsed (ap (number_of_name f.link) (sym names) ∙ known)
-      (ap (is_outside l a) (sym places) ∙ inside) (subst (IsOutside links) (one h.0 h.1) h.2))
+      let its = ap (number_of_name f.link) (sym names) ∙ known in
+      ask_guard (is_outside l a v.places) _
+      (λ out. (x, item, outside_told laws links done poison u read differ x f.link f.address a l fields.has_link fields.has_address parsed its (ap (is_outside l a) (sym places) ∙ out)))
+      (λ inside h.
+      outside_clear laws links done poison u read differ x f.link f.address a l fields.has_link fields.has_address parsed its (ap (is_outside l a) (sym places) ∙ inside) (of_x (IsOutside links) h))
       (λ inside.
-      guard_told document links routers (is_full v also) codes.Limit (RouterInterface r j) (no_rows (1 ∷ [])) (inl (omega arith)) _
-      (λ full. full_told also (also_length x f fields also others) full)
-      (λ free h. full_clear also (also_length x f fields also others) free h)
-      (λ free o h g. h))))))
+      ask_guard (is_full v also) _ (λ full. full_told also (also_length x f fields also others) full) (λ free h. full_clear also (also_length x f fields also others) free h)
+      (λ free. ask_rest (λ o h g. h)))))))
     where
-      r : ℕ
-      r = 1 + length done
-
-      j : ℕ
-      j = 1 + length front
-
       item : IsItem (codes_of "interface") routers (1 + length done) (1 + length front) x
-      item = (d, rw split (nth_here done d rest (1 + length done) refl), rw items (nth_here front x back (1 + length front) refl))
+      item = item_here routers done d rest split (codes_of "interface") front x back items
 
-      one : (y : Data) → IsItem (codes_of "interface") routers (1 + length done) (1 + length front) y → y ≡ x
-      one y h = item_once (codes_of "interface") routers (1 + length done) (1 + length front) y x h item
+      of_x : (P : Data → Type 0) → (y : Data) × IsItem (codes_of "interface") routers (1 + length done) (1 + length front) y × P y → P x
+      of_x = of_item routers done d rest split (codes_of "interface") front x back items
 
       here : slice_get (interface_spots routers) (length v.interfaces) ≡ Some (RouterInterface (1 + length done) (1 + length front))
       here = rw split (under_here (codes_of "interface") RouterInterface 1 done d rest front x back items (length v.interfaces) count)
@@ -457,20 +424,20 @@ module _ (document : Members) (links routers done : List Data) (d : Data) (rest 
   names_apart : (laws : TextLaws) (l m : ℕ) (name : List ℕ) → slice_get u.links l ≡ Some name → slice_get u.links m ≡ Some name → l ≡ m
   names_apart laws =
       let read = tables_read laws links done poison w u first second in
-      let none : Finds (IsTold document links routers) {A = Sketch} links_rows.has (Ok w) =
-      subst (λ (r : Result Sketch PlanError). Finds (IsTold document links routers) links_rows.has r) first (links_find laws document links routers poison) in
+      let none : Finds (IsTold document links routers) {A = Sketch} links_rows (Ok w) =
+      subst (λ (r : Result Sketch PlanError). Finds (IsTold document links routers) links_rows r) first (links_find laws document links routers poison) in
       names_differ u.links links read.link_names
-      (λ i again. none (row_at codes.DuplicateName (Link i)) (i, (nth_from links i again.0 again.4).0, inr (inr (inl refl))) (again, refl))
+      (λ i again. none (row_at codes.DuplicateName (Link i)) (i, (nth_from links i again.0 again.4).0, inr (inr (inl refl))) again)
 
   interfaces_find : (laws : TextLaws) (name : List ℕ) (all : List Data) → items_in (get (codes_of "interface") d) ≡ all
-      → Finds (IsTold document links routers) (interfaces_rows (1 + length done)).has (steps (interface_step (1 + length done)) 1 all (with_router name u))
+      → Finds (IsTold document links routers) (Each (interface_rows (1 + length done)) 1) (steps (interface_step (1 + length done)) 1 all (with_router name u))
   interfaces_find laws name all items =
-      steps_finds (IsTold document links routers) (interface_step r) (λ j. (interface_rows r j).has) (0 ∷ 2 ∷ r ∷ 1 ∷ []) (interface_starts r) all (with_router name u)
+      steps_finds (IsTold document links routers) (interface_step r) (interface_rows r) (0 ∷ 2 ∷ r ∷ 1 ∷ []) (interface_starts r) all (with_router name u)
       (λ front x back v parts taken.
       let read = tables_read laws links done poison w u first second in
       let inner = interfaces_added laws r 1 front (with_router name u) v taken in
       let also : v.also ≡ u.also ++ inner.further = ap (λ (t : Sketch). t.also) inner.made in
-      interface_finds document links routers done d rest split laws front x back poison u v (items ∙ parts) read (names_apart laws) (ap (λ (t : Sketch). t.links) inner.made)
+      (interface_asks document links routers done d rest split laws front x back poison u v (items ∙ parts) read (names_apart laws) (ap (λ (t : Sketch). t.links) inner.made)
       (ap (λ (t : Sketch). t.places) inner.made)
       (omega (
         arith,
@@ -489,22 +456,19 @@ module _ (document : Members) (links routers done : List Data) (d : Data) (rest 
         also_sum inner.further (map (with_number (r - 1)) front) inner.also_match,
         also_numbered (r - 1) front,
       ))
-      (inner.few read.few))
+      (inner.few read.few)).finds (turn_at (RouterInterface r (1 + length front))))
       (λ m o past row f.
-      let (x, (e, is, item)) = interface_row_item document links routers r m o row f in
-      let same : e ≡ d = same_Some e d (sym is ∙ rw split (nth_here done d rest r refl)) in
-      let there : nth all m ≡ Some x = ap (λ (l : List Data). nth l m) (sym items ∙ ap (λ (t : Data). items_in (get (codes_of "interface") t)) (sym same)) ∙ item in
-      let within : m ≤ length all = (nth_from all m x there).1 in
-      omega arith)
+      none_past routers done d rest split (codes_of "interface") all items m past
+      (item_stands document links routers (RouterInterface r m) o (λ n. n) (interface_starts r m o row).0 f row))
     where
       r : ℕ
       r = 1 + length done
 
   owns_find : (laws : TextLaws) (name : List ℕ) (ins : List Data) (v0 : Sketch) → steps (interface_step (1 + length done)) 1 ins (with_router name u) ≡ Ok v0 → (all : List Data)
       → items_in (get (codes_of "own") d) ≡ all
-      → Finds (IsTold document links routers) (owns_rows (1 + length done)).has (steps (own_step (1 + length done)) 1 all v0)
+      → Finds (IsTold document links routers) (Each (own_rows (1 + length done)) 1) (steps (own_step (1 + length done)) 1 all v0)
   owns_find laws name ins v0 between all items =
-      steps_finds (IsTold document links routers) (own_step r) (λ j. (own_rows r j).has) (0 ∷ 2 ∷ r ∷ 2 ∷ []) (own_starts r) all v0
+      steps_finds (IsTold document links routers) (own_step r) (own_rows r) (0 ∷ 2 ∷ r ∷ 2 ∷ []) (own_starts r) all v0
       (λ front x back v parts taken.
       let read = tables_read laws links done poison w u first second in
       let left = interfaces_added laws r 1 ins (with_router name u) v0 between in
@@ -513,7 +477,7 @@ module _ (document : Members) (links routers done : List Data) (d : Data) (rest 
       let places : v.places ≡ u.places ++ inner.added = ap (λ (t : Sketch). t.places) inner.made ∙ ap (λ (t : Sketch). t.places ++ inner.added) left.made in
       let on_links = spots_under (codes_of "prefixes") LinkPrefix 1 links in
       let own = spots_under (codes_of "own") RouterOwn 1 done in
-      own_finds document links routers done d rest split laws front x back v (items ∙ parts) (subst (λ (l : List (List ℕ)). Matched IsNameOf l links) (sym names) read.link_names)
+      (own_asks document links routers done d rest split laws front x back v (items ∙ parts) (subst (λ (l : List (List ℕ)). Matched IsNameOf l links) (sym names) read.link_names)
       (omega (
         arith,
         ap length places,
@@ -522,43 +486,35 @@ module _ (document : Members) (links routers done : List Data) (d : Data) (rest 
         length-append on_links own,
         stood (λ (p : DraftPlace). p.at) inner.added (spots_of (RouterOwn r) 1 front) inner.stand,
         count_of (RouterOwn r) 1 front,
-      )))
+      ))).finds (turn_at (RouterOwn r (1 + length front))))
       (λ m o past row f.
-      let (x, (e, is, item)) = own_row_item document links routers r m o row f in
-      let same : e ≡ d = same_Some e d (sym is ∙ rw split (nth_here done d rest r refl)) in
-      let there : nth all m ≡ Some x = ap (λ (l : List Data). nth l m) (sym items ∙ ap (λ (t : Data). items_in (get (codes_of "own") t)) (sym same)) ∙ item in
-      let within : m ≤ length all = (nth_from all m x there).1 in
-      omega arith)
+      none_past routers done d rest split (codes_of "own") all items m past
+      (item_stands document links routers (RouterOwn r m) o (λ n. n) (own_starts r m o row).0 f row))
     where
       r : ℕ
       r = 1 + length done
 
-  router_finds : (laws : TextLaws) → Finds (IsTold document links routers) (router_rows (1 + length done)).has (router_step (1 + length done) d u)
+  router_asks : (laws : TextLaws) → Asks (IsTold document links routers) (asked_at (Router (1 + length done))) (rest_at (Router (1 + length done))) (router_step (1 + length done) d u)
   unfolding router_step
-  router_finds laws =
+  router_asks laws =
       let r : ℕ = 1 + length done in
       let named = (tables_read laws links done poison w u first second).router_names in
-      want_told document links routers codes.Key (Router r) (as_table d &> router_fields) (router_from_name r) (by_code (Router r) codes.Key codes.Name refl (omega arith)) _
-      (λ none. (d, table_here laws routers done d rest split, router_not d none))
-      (λ f is h. h.2 (subst IsRouterTable (sym (table_same laws routers done d rest split h.0 h.1)) (router_table d f.0 f.1 f.2 is).shape))
+      ask_wanted (as_table d &> router_fields) _ (λ none. (d, table_here routers done d rest split, router_not d none))
+      (λ f is h. h.2 (subst IsRouterTable (sym (table_same routers done d rest split h.0 h.1)) (router_table d f.0 f.1 f.2 is).shape))
       (λ f is.
       let table = router_table d f.0 f.1 f.2 is in
-      guard_told document links routers (not (is_name f.0)) codes.Name (Router r) (router_from_duplicate r) (by_code (Router r) codes.Name codes.DuplicateName refl (omega arith)) _
-      (λ bad. misnamed_told laws routers done d rest split f.0 table.named bad)
+      ask_guard (not (is_name f.0)) _ (λ bad. misnamed_told laws routers done d rest split f.0 table.named bad)
       (λ good h. misnamed_clear laws routers done d rest split f.0 table.named good h)
       (λ good.
-      guard_told document links routers (is_one_of f.0 u.routers) codes.DuplicateName (Router r) (router_lists r) (inr (refl, inr (refl, inr (refl, inl (omega arith))))) _
-      (λ again. again_told laws routers done d rest split u.routers named f.0 table.named again)
+      ask_guard (is_one_of f.0 u.routers) _ (λ again. again_told laws routers done d rest split u.routers named f.0 table.named again)
       (λ fresh h. again_clear laws routers done d rest split u.routers named f.0 table.named fresh h)
       (λ fresh.
-      bind_rows (IsTold document links routers) (interfaces_rows r).has (owns_rows r) (steps (interface_step r) 1 f.1 (with_router f.0 u)) (steps (own_step r) 1 f.2)
-      (λ e h. starts_high (0 ∷ 2 ∷ r ∷ []) 1 (ranked e) 2 (1 ∷ []) (omega arith) (starts_shorter (0 ∷ 2 ∷ r ∷ []) 1 [] h.0 (ranked e) (interface_starts r h.0 e h.2)))
-      (interfaces_find laws f.0 f.1 table.interfaces_are)
-      (λ v between. owns_find laws f.0 f.1 v between f.2 table.owns_are))))
+      ask_rest (bind_finds (IsTold document links routers) (Each (interface_rows r) 1) (Each (own_rows r) 1) (steps (interface_step r) 1 f.1 (with_router f.0 u)) (steps (own_step r) 1 f.2)
+      (interfaces_sooner r) (interfaces_find laws f.0 f.1 table.interfaces_are) (λ v between. owns_find laws f.0 f.1 v between f.2 table.owns_are)))))
 
 pub routers_find : (laws : TextLaws) (document : Members) (links routers : List Data) (poison : Bool) (w : Sketch) → steps link_step 1 links (empty poison) ≡ Ok w
-    → Finds (IsTold document links routers) routers_rows.has (steps router_step 1 routers w)
+    → Finds (IsTold document links routers) routers_rows (steps router_step 1 routers w)
 routers_find laws document links routers poison w first =
-    steps_finds (IsTold document links routers) router_step (λ r. (router_rows r).has) (0 ∷ 2 ∷ []) router_starts routers w
-    (λ done x rest u split taken. router_finds document links routers done x rest split poison w u first taken laws)
-    (λ m o past row f. let within : m ≤ length routers = router_row_within document links routers m o row f in omega arith)
+    steps_finds (IsTold document links routers) router_step router_rows (0 ∷ 2 ∷ []) router_starts routers w
+    (λ done x rest u split taken. (router_asks document links routers done x rest split poison w u first taken laws).finds (turn_at (Router (1 + length done))))
+    (λ m o past row f. omega (arith, router_within document links routers m o f row))
