@@ -74,17 +74,13 @@ router_starts r o h = grind arith
 abbrev pub code_rows : ℕ → PlanCode → Found → Type 0
 code_rows n c o = (o.pass ≡ n) × (o.error.code ≡ c)
 
-abbrev pub last_two : Found → Type 0
-last_two o = code_rows 4 codes.NoInterface o ⊎ code_rows 5 codes.UnknownLink o
-
-abbrev pub last_three : Found → Type 0
-last_three o = code_rows 3 codes.DuplicateAddress o ⊎ last_two o
-
-abbrev pub last_four : Found → Type 0
-last_four o = code_rows 2 codes.TwiceOnLink o ⊎ last_three o
+-- those of each of these codes, and then those of the last pass
+abbrev pub later_rows : List PlanCode → Found → Type 0
+later_rows [] o = code_rows 5 codes.UnknownLink o
+later_rows (c ∷ cs) o = code_rows (pass_of c) c o ⊎ later_rows cs o
 
 abbrev pub pass_rows : Found → Type 0
-pass_rows o = code_rows 1 codes.DuplicatePrefix o ⊎ last_four o
+pass_rows = later_rows (codes.DuplicatePrefix ∷ codes.TwiceOnLink ∷ codes.DuplicateAddress ∷ codes.NoInterface ∷ [])
 
 pub pass_apart : (e o : Found) → e.pass < o.pass → Before (ranked o) (ranked e) → ⊥
 pass_apart e o h before = grind arith
@@ -106,11 +102,9 @@ table_rows o = first_rows o ⊎ pass_rows o
 pub first_pass : (o : Found) → first_rows o → (o.pass ≡ pass_of o.error.code) × (o.pass ≡ 0)
 first_pass o h = grind arith
 
-pub first_sooner : (o : Found) → first_rows o → (o.pass ≡ pass_of o.error.code) × (o.pass < 5)
-first_sooner o h = grind (arith, first_pass o h)
-
 pub links_sooner : (e o : Found) → links_rows e → routers_rows o → Before (ranked o) (ranked e) → ⊥
-links_sooner e o (i, le, h) (r, le', k) = starts_apart (0 ∷ []) 1 2 (ranked e) (ranked o) (omega arith) (starts_shorter (0 ∷ []) 1 i (ranked e) (link_starts i e h)) (starts_shorter (0 ∷ []) 2 r (ranked o) (router_starts r o k))
+links_sooner e o (i, le, h) (r, le', k) =
+    starts_apart (0 ∷ []) 1 2 (ranked e) (ranked o) (omega arith) (starts_shorter (0 ∷ []) 1 i (ranked e) (link_starts i e h)) (starts_shorter (0 ∷ []) 2 r (ranked o) (router_starts r o k))
 
 pub interfaces_sooner : (r : ℕ) (e o : Found) → Each (interface_rows r) 1 e → Each (own_rows r) 1 o → Before (ranked o) (ranked e) → ⊥
 interfaces_sooner r e o (j, le, h) (m, le', k) =

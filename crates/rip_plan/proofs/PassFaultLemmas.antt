@@ -1,5 +1,5 @@
 -- What the later passes find of the faults of a plan.
-use Rattle.std.proofs.Common.{◌≡◌, ℕ, ◌+◌, ◌<◌, ◌≤◌, ◌⊎◌, inl, inr, suc, List, [], ◌∷◌, ◌++◌, length, true, false, ◌||◌, Option, Some, None, Result, refl, sym, ap, subst, ◌∙◌, arith, Bool, zero, map}
+use Rattle.std.proofs.Common.{◌≡◌, ◌↔◌, ℕ, ◌+◌, ◌<◌, ◌≤◌, ◌⊎◌, inl, inr, suc, List, [], ◌∷◌, ◌++◌, length, true, false, ◌||◌, Option, Some, None, Result, refl, sym, ap, subst, ◌∙◌, arith, Bool, zero, map}
 use Rattle.rip_plan.proofs.SketchPlanLemmas.{as_interface, interface_as, place_in, place_from, touch, touches, there_on, on_there}
 use Rattle.std.specs.Prelude.{slice_get, find, option_map, unwrap_or, map, ◌==◌}
 use Rattle.std.specs.List.{IsDistinct, list_any}
@@ -21,7 +21,7 @@ use Rattle.rip_plan.specs.declared.parts.OwnPrefix.{OwnPrefix}
 use Rattle.rip_plan.specs.declared.parts.Seat.{Seat}
 use Rattle.rip_plan.specs.declared.parts.Seat.TheVariants as seats
 use Rattle.rip_plan.specs.Codes.{number_of_code}
-use Rattle.rip_plan.specs.Fault.{fault}
+use Rattle.rip_plan.specs.Fault.{fault, ◌>>=◌}
 use Rattle.rip_plan.specs.Draft.{Sketch}
 use Rattle.rip_plan.specs.Passes.{first_clash, touched, touching, same_prefix, do_meet, is_same_link, have_common, are_twice, is_astray, is_bare, is_there, none_found, second_passes, spot_of, duplicate_in, twice_in, taken_address_in, bare_in, astray_in, first_bare}
 use Rattle.rip_plan.specs.Addresses.{have_one_address, held_from}
@@ -30,7 +30,7 @@ use Rattle.rip_plan.specs.Relations.{IsAttachedAt, IsInterface, IsPlace}
 use Rattle.rip_plan.specs.PlanOf.{PlanOf}
 use Rattle.rip_plan.specs.PlanFaults.{pass_of, TableFault, IsAstray, IsClash, IsBare, IsSo, DoMeet, AreTwice, HasOneTwice, HaveOneAddress, Before, rank, position, place_spots, interface_spots}
 use Rattle.rip_plan.proofs.FindingLemmas.{Found, Finds, finds_in, bind_finds, before_trans, before_not, ranked}
-use Rattle.rip_plan.proofs.FaultRowLemmas.{IsAstrayAt, IsLast, IsOfTables, IsTold, told_finds, code_rows, pass_apart, last_two, last_three, last_four, pass_rows}
+use Rattle.rip_plan.proofs.FaultRowLemmas.{IsAstrayAt, IsLast, IsOfTables, IsTold, told_finds, code_rows, pass_apart, later_rows, pass_rows}
 use Rattle.rip_plan.proofs.HeldAddressLemmas.{address_held, first_held, held_address, held_at, held_order, held_in}
 use Rattle.rip_plan.proofs.OnePlanLemmas.{one_plan}
 use Rattle.rip_plan.proofs.PlanPartLemmas.{own_table}
@@ -130,7 +130,8 @@ pass_finds {A} F n c Is see xs r first ahead told clear = by_search r first
               elim (ahead k m x y less h g) [
                 | inl one ↦ before_not here (rw (← one) at before)
                 | inr later ↦
-                    before_not here (before_trans here (rank n (fault c (see y))) here (inr (refl, before_more (position (see x)) (position (see y)) (number_of_code c ∷ []) (number_of_code c ∷ []) later)) before)
+                    let after = before_more (position (see x)) (position (see y)) (number_of_code c ∷ []) (number_of_code c ∷ []) later in
+                    before_not here (before_trans here (rank n (fault c (see y))) here (inr (refl, after)) before)
               ]
           | inr ge ↦ let one : k ≡ m = omega arith in before_not here (rw (same_Some y x (sym g ∙ ap (slice_get xs) (sym one) ∙ h)) at before)
         ]
@@ -156,16 +157,16 @@ clash_finds : {A : Type 0} (F : Found → Type 0) (n : ℕ) (c : PlanCode) (see 
     → (clash : A → A → Bool) (Clash : ℕ → ℕ → Type 0)
     → ((j k : ℕ) (y x : A) → slice_get xs j ≡ Some y → slice_get xs k ≡ Some x → clash y x ≡ true → Clash j k)
     → ((j k : ℕ) (y x : A) → slice_get xs j ≡ Some y → slice_get xs k ≡ Some x → Clash j k → clash y x ≡ true)
-    → ((place : At) → IsClash Clash spots place → F (in_pass n c place)) → ((place : At) → F (in_pass n c place) → IsClash Clash spots place)
+    → ((place : At) → IsClash Clash spots place ↔ F (in_pass n c place))
     → Finds F (code_rows n c) (none_found c (option_map see (first_clash clash [] xs)))
-clash_finds {A} F n c see xs spots stand ahead clash Clash gives takes told clear =
+clash_finds {A} F n c see xs spots stand ahead clash Clash gives takes same =
     pass_finds F n c (Clashes clash xs) see xs (first_clash clash [] xs) (first_clashing clash xs)
     (λ k m x y less h g. inr (ahead k m (see x) (see y) less (spot k x h) (spot m y g)))
     (λ place t.
     let (j, y, less, there, meets) = t.so in
-    told place (j, t.k, spot t.k t.x t.at ∙ ap (λ (p : At). Some p) t.stands, less, gives j t.k y t.x there t.at meets))
+    (same place).0 (j, t.k, spot t.k t.x t.at ∙ ap (λ (p : At). Some p) t.stands, less, gives j t.k y t.x there t.at meets))
     (λ place f.
-    let (j, k, at, less, meet) = clear place f in
+    let (j, k, at, less, meet) = (same place).1 f in
     let (x, here, stands) = get_seen see xs k place (ap (λ (l : List At). slice_get l k) stand ∙ at) in
     let (y, there) = get_some xs j (omega (arith, less, slice_get_within xs k x here)) in
     record { k = k; x = x; at = here; so = (j, y, less, there, takes j k y x there here meet); stands = stands })
@@ -324,54 +325,40 @@ module _ (laws : TextLaws) (document : Members) (links routers : List Data) (s :
   at_place : (k : ℕ) (a : At) → slice_get (place_spots links routers) k ≡ Some a → (d : DraftPlace) × (slice_get s.places k ≡ Some d) × (d.at ≡ a)
   at_place k a h = get_seen (λ (p : DraftPlace). p.at) s.places k a (ap (λ (l : List At). slice_get l k) placed ∙ h)
 
+  -- what is so in the plan is so in a network that is the plan
+  in_plan : (P : Network → Type 0) → P (network_of_sketch s) ↔ ((n : Network) × PlanOf document n × P n)
+  in_plan P = (λ h. (network_of_sketch s, plan, h), λ (n, its, h). subst P (one_plan laws document n (network_of_sketch s) its plan) h)
+
   -- prefixes
-  duplicate_told : (place : At) → IsClash (DoMeet (network_of_sketch s)) (place_spots links routers) place → TableFault document links routers codes.DuplicatePrefix place
-  duplicate_told (LinkPrefix i j) c = (network_of_sketch s, plan, c)
-  duplicate_told (RouterOwn r j) c = (network_of_sketch s, plan, c)
-  duplicate_told place (j, k, at, less, meet) = elim (place_spot links routers k place at) [ inl t ↦ let is = t.is in absurd cc | inr t ↦ let is = t.is in absurd cc ]
-
-  -- of a network that is the plan too
-  of_plan : (P : Network → Type 0) → (n : Network) → PlanOf document n → P n → P (network_of_sketch s)
-  of_plan P n its c = subst P (one_plan laws document n (network_of_sketch s) its plan) c
-
-  duplicate_clear : (place : At) → TableFault document links routers codes.DuplicatePrefix place → IsClash (DoMeet (network_of_sketch s)) (place_spots links routers) place
-  duplicate_clear (LinkPrefix i j) f = of_plan (λ n. IsClash (DoMeet n) (place_spots links routers) (LinkPrefix i j)) f.0 f.1 f.2
-  duplicate_clear (RouterOwn r j) f = of_plan (λ n. IsClash (DoMeet n) (place_spots links routers) (RouterOwn r j)) f.0 f.1 f.2
-  duplicate_clear place f = absurd f
+  duplicate_same : (place : At) → IsClash (DoMeet (network_of_sketch s)) (place_spots links routers) place ↔ TableFault document links routers codes.DuplicatePrefix place
+  duplicate_same (LinkPrefix i j) = in_plan (λ n. IsClash (DoMeet n) (place_spots links routers) (LinkPrefix i j))
+  duplicate_same (RouterOwn r j) = in_plan (λ n. IsClash (DoMeet n) (place_spots links routers) (RouterOwn r j))
+  duplicate_same place = (λ c. elim (place_spot links routers c.1 place c.2) [ inl t ↦ let is = t.is in absurd cc | inr t ↦ let is = t.is in absurd cc ], λ f. absurd f)
 
   duplicates_find : Finds (IsTold document links routers) (code_rows 1 codes.DuplicatePrefix) (none_found codes.DuplicatePrefix (duplicate_in s.interfaces s.places))
   duplicates_find =
       rw (← meeting_seen s.interfaces s.places)
       (clash_finds (IsTold document links routers) 1 codes.DuplicatePrefix (λ (p : DraftPlace). p.at) s.places (place_spots links routers) placed (place_ahead links routers)
-      (λ p q. do_meet (touching s.interfaces p) (touching s.interfaces q)) (DoMeet (network_of_sketch s)) (meet_gives s) (meet_takes s) duplicate_told
-      duplicate_clear)
+      (λ p q. do_meet (touching s.interfaces p) (touching s.interfaces q)) (DoMeet (network_of_sketch s)) (meet_gives s) (meet_takes s) duplicate_same)
 
   -- interfaces
-  twice_told : (place : At) → IsClash (AreTwice (network_of_sketch s)) (interface_spots routers) place → TableFault document links routers codes.TwiceOnLink place
-  twice_told (RouterInterface r j) c = (network_of_sketch s, plan, c)
-  twice_told place (j, k, at, less, meet) = let is = (interface_spot routers k place at).is in absurd cc
-
-  twice_clear : (place : At) → TableFault document links routers codes.TwiceOnLink place → IsClash (AreTwice (network_of_sketch s)) (interface_spots routers) place
-  twice_clear (RouterInterface r j) f = of_plan (λ n. IsClash (AreTwice n) (interface_spots routers) (RouterInterface r j)) f.0 f.1 f.2
-  twice_clear place f = absurd f
+  twice_same : (place : At) → IsClash (AreTwice (network_of_sketch s)) (interface_spots routers) place ↔ TableFault document links routers codes.TwiceOnLink place
+  twice_same (RouterInterface r j) = in_plan (λ n. IsClash (AreTwice n) (interface_spots routers) (RouterInterface r j))
+  twice_same place = (λ c. let is = (interface_spot routers c.1 place c.2).is in absurd cc, λ f. absurd f)
 
   twice_find : Finds (IsTold document links routers) (code_rows 2 codes.TwiceOnLink) (none_found codes.TwiceOnLink (twice_in s.interfaces))
   twice_find =
       clash_finds (IsTold document links routers) 2 codes.TwiceOnLink (λ (i : DraftInterface). i.at) s.interfaces (interface_spots routers) listed (interface_ahead routers) are_twice
-      (AreTwice (network_of_sketch s)) (twice_gives s) (twice_takes s) twice_told twice_clear
+      (AreTwice (network_of_sketch s)) (twice_gives s) (twice_takes s) twice_same
 
   -- addresses
   abbrev IsAddressClash : Network → At → Type 0
   IsAddressClash n place = IsClash (HaveOneAddress n) (interface_spots routers) place ⊎ IsSo (HasOneTwice n) (interface_spots routers) place
 
-  address_told : (place : At) → (k : ℕ) → slice_get (interface_spots routers) k ≡ Some place → IsAddressClash (network_of_sketch s) place
-      → TableFault document links routers codes.DuplicateAddress place
-  address_told (RouterInterface r j) k at c = (network_of_sketch s, plan, c)
-  address_told place k at c = let is = (interface_spot routers k place at).is in absurd cc
-
-  address_clear : (place : At) → TableFault document links routers codes.DuplicateAddress place → IsAddressClash (network_of_sketch s) place
-  address_clear (RouterInterface r j) f = of_plan (λ n. IsAddressClash n (RouterInterface r j)) f.0 f.1 f.2
-  address_clear place f = absurd f
+  address_same : (place : At) → IsAddressClash (network_of_sketch s) place ↔ TableFault document links routers codes.DuplicateAddress place
+  address_same (RouterInterface r j) = in_plan (λ n. IsAddressClash n (RouterInterface r j))
+  address_same place =
+      (λ c. elim c [ inl (j, k, at, less, one) ↦ let is = (interface_spot routers k place at).is in absurd cc | inr (k, at, twice) ↦ let is = (interface_spot routers k place at).is in absurd cc ], λ f. absurd f)
 
   -- where an address stands
   address_at : (k : ℕ) (h : Held) → slice_get (held s.interfaces s.also) k ≡ Some h → (d : DraftInterface) × (slice_get s.interfaces h.interface ≡ Some d) × (address_spot s.interfaces h ≡ d.at)
@@ -397,12 +384,12 @@ module _ (laws : TextLaws) (document : Members) (links routers : List Data) (s :
       let (j, y, less, there, meets) = c.so in
       let (d, at, seen) = address_at c.k c.x c.at in
       let spot : slice_get (interface_spots routers) c.x.interface ≡ Some place = interface_at c.x.interface d at ∙ ap (λ (p : At). Some p) (sym seen ∙ c.stands) in
-      address_told place c.x.interface spot (elim (address_gives s j c.k y c.x less there c.at meets) [
+      (address_same place).0 (elim (address_gives s j c.k y c.x less there c.at meets) [
         | inl (i, ahead, one) ↦ inl (i, c.x.interface, spot, ahead, one)
         | inr twice ↦ inr (c.x.interface, spot, twice)
       ]))
       (λ place f.
-      elim (address_clear place f) [
+      elim ((address_same place).1 f) [
         | inl (m, i, spot, less, one) ↦ taken_at place i spot (address_takes s m i less one)
         | inr (i, spot, twice) ↦ taken_at place i spot (twice_taken s i twice)
       ]))
@@ -416,26 +403,23 @@ module _ (laws : TextLaws) (document : Members) (links routers : List Data) (s :
           record { k = k; x = x; at = at; so = clashes; stands = seen ∙ ap (λ (y : DraftInterface). y.at) same ∙ stands }
 
   -- own prefixes
-  astray_told : (place : At) → IsSo (IsAstray (network_of_sketch s)) (place_spots links routers) place → IsAstrayAt document links routers place
-  astray_told place c =
-      let (k, at, (p, r, l, h, none)) = c in
+  astray_same : (place : At) → IsSo (IsAstray (network_of_sketch s)) (place_spots links routers) place ↔ IsAstrayAt document links routers place
+  astray_same (RouterOwn r j) = in_plan (λ n. IsSo (IsAstray n) (place_spots links routers) (RouterOwn r j))
+  astray_same place =
+      (λ (k, at, (p, r, l, h, none)).
       let t = own_table document (network_of_sketch s) plan k p h.own h.place in
-      let here : slice_get (place_spots links routers) k ≡ Some (RouterOwn (1 + t.r) (suc t.j)) = ap (λ (l : List At). slice_get l k) (sym spots) ∙ t.spot in
-      let is : place ≡ RouterOwn (1 + t.r) (suc t.j) = same_Some place (RouterOwn (1 + t.r) (suc t.j)) (sym at ∙ here) in
-      subst (IsAstrayAt document links routers) (sym is) (network_of_sketch s, plan, subst (IsSo (IsAstray (network_of_sketch s)) (place_spots links routers)) is c)
-
-  astray_clear : (place : At) → IsAstrayAt document links routers place → IsSo (IsAstray (network_of_sketch s)) (place_spots links routers) place
-  astray_clear (RouterOwn r j) f = of_plan (λ n. IsSo (IsAstray n) (place_spots links routers) (RouterOwn r j)) f.0 f.1 f.2
-  astray_clear place f = absurd f
+      let is : place ≡ RouterOwn (1 + t.r) (suc t.j) = same_Some place (RouterOwn (1 + t.r) (suc t.j)) (sym at ∙ ap (λ (l : List At). slice_get l k) (sym spots) ∙ t.spot) in
+      absurd cc,
+      λ f. absurd f)
 
   astrays_find : Finds (IsLast document links routers) (code_rows 5 codes.UnknownLink) (none_found codes.UnknownLink (astray_in s.interfaces s.places))
   astrays_find =
       let test = λ (p : DraftPlace). is_astray s.interfaces p.seat in
       pass_finds (IsLast document links routers) 5 codes.UnknownLink (Passes test) (λ (p : DraftPlace). p.at) s.places (find test s.places) (first_passing test s.places)
       (λ k m x y less h g. inr (place_ahead links routers k m x.at y.at less (place_at k x h) (place_at m y g)))
-      (λ place c. (astray_told place (c.k, place_at c.k c.x c.at ∙ ap (λ (p : At). Some p) c.stands, astray_gives s c.k c.x c.at c.so), refl, refl))
+      (λ place c. ((astray_same place).0 (c.k, place_at c.k c.x c.at ∙ ap (λ (p : At). Some p) c.stands, astray_gives s c.k c.x c.at c.so), refl, refl))
       (λ place f.
-      let (k, spot, its) = astray_clear place f.0 in
+      let (k, spot, its) = (astray_same place).1 f.0 in
       let (d, at, stands) = at_place k place spot in
       let (e, there, passes) = astray_takes s k its in
       let same : e ≡ d = same_Some e d (sym there ∙ at) in
@@ -443,7 +427,7 @@ module _ (laws : TextLaws) (document : Members) (links routers : List Data) (s :
 
   -- routers
   bare_clear : (place : At) → TableFault document links routers codes.NoInterface place → (r : ℕ) × (place ≡ Router r) × IsBare (network_of_sketch s) r
-  bare_clear (Router r) f = (r, refl, of_plan (λ n. IsBare n r) f.0 f.1 f.2)
+  bare_clear (Router r) f = (r, refl, (in_plan (λ n. IsBare n r)).1 f)
   bare_clear place f = absurd f
 
   bare_finds : Finds (IsTold document links routers) (code_rows 4 codes.NoInterface) (none_found codes.NoInterface (bare_in s.interfaces (length s.routers)))
@@ -461,11 +445,6 @@ module _ (laws : TextLaws) (document : Members) (links routers : List Data) (s :
       let bare = true_from_ne_false (test k) (λ off. bare_takes s k off none) in
       record { k = k; x = k; at = at_number (length s.routers) k within; so = bare; stands = ap Router (sym number) ∙ sym is }))
 
-  -- one pass, in the words of all passes
-  of_pass : {A : Type 0} (n : ℕ) (c : PlanCode) (r : Result A PlanError) → n ≡ pass_of c → n < 5 → Finds (IsTold document links routers) (code_rows n c) r
-      → Finds (IsOfTables document links routers) (code_rows n c) r
-  of_pass n c r same less h = told_finds document links routers (code_rows n c) r (λ o row. (row.0 ∙ same ∙ ap pass_of (sym row.1), omega (arith, row.0))) h
-
   last_finds : Finds (IsOfTables document links routers) (code_rows 5 codes.UnknownLink) (none_found codes.UnknownLink (astray_in s.interfaces s.places))
   last_finds =
       finds_in (IsLast document links routers) (IsOfTables document links routers) (code_rows 5 codes.UnknownLink) (code_rows 5 codes.UnknownLink)
@@ -475,12 +454,18 @@ module _ (laws : TextLaws) (document : Members) (links routers : List Data) (s :
       take : (o : Found) → code_rows 5 codes.UnknownLink o → IsOfTables document links routers o → IsLast document links routers o × code_rows 5 codes.UnknownLink o
       take o h k = grind arith
 
+  -- one pass, and then those of the codes after it
+  then_passes : {A B : Type 0} (c : PlanCode) (cs : List PlanCode) (r : Result A PlanError) (f : A → Result B PlanError) → ((o : Found) → later_rows cs o → pass_of c < o.pass)
+      → Finds (IsTold document links routers) (code_rows (pass_of c) c) r → ((x : A) → Finds (IsOfTables document links routers) (later_rows cs) (f x))
+      → Finds (IsOfTables document links routers) (later_rows (c ∷ cs)) (r >>= f)
+  then_passes c cs r f later h rest =
+      bind_finds (IsOfTables document links routers) (code_rows (pass_of c) c) (later_rows cs) r f (λ e o row next. pass_apart e o (omega (arith, row.0, later o next)))
+      (told_finds document links routers (code_rows (pass_of c) c) r (λ o row. (row.0 ∙ ap pass_of (sym row.1), grind arith)) h) (λ x is. rest x)
+
   pub passes_find : Finds (IsOfTables document links routers) pass_rows (second_passes s)
   unfolding second_passes
   passes_find =
-      let F = IsOfTables document links routers in
-      bind_finds F (code_rows 1 codes.DuplicatePrefix) last_four _ _ (λ e o h k. pass_apart e o (grind arith)) (of_pass 1 codes.DuplicatePrefix _ refl (omega arith) duplicates_find) (λ a is_a.
-      bind_finds F (code_rows 2 codes.TwiceOnLink) last_three _ _ (λ e o h k. pass_apart e o (grind arith)) (of_pass 2 codes.TwiceOnLink _ refl (omega arith) twice_find) (λ b is_b.
-      bind_finds F (code_rows 3 codes.DuplicateAddress) last_two _ _ (λ e o h k. pass_apart e o (grind arith)) (of_pass 3 codes.DuplicateAddress _ refl (omega arith) addresses_find) (λ c is_c.
-      bind_finds F (code_rows 4 codes.NoInterface) (code_rows 5 codes.UnknownLink) _ _ (λ e o h k. pass_apart e o (grind arith)) (of_pass 4 codes.NoInterface _ refl (omega arith) bare_finds) (λ d is_d.
-      last_finds))))
+      then_passes codes.DuplicatePrefix (codes.TwiceOnLink ∷ codes.DuplicateAddress ∷ codes.NoInterface ∷ []) _ _ (λ o next. grind arith) duplicates_find (λ a.
+      then_passes codes.TwiceOnLink (codes.DuplicateAddress ∷ codes.NoInterface ∷ []) _ _ (λ o next. grind arith) twice_find (λ b.
+      then_passes codes.DuplicateAddress (codes.NoInterface ∷ []) _ _ (λ o next. grind arith) addresses_find (λ c.
+      then_passes codes.NoInterface [] _ _ (λ o next. grind arith) bare_finds (λ d. last_finds))))

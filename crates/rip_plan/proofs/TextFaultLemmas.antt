@@ -21,7 +21,7 @@ use Rattle.rip_plan.specs.Passes.{second_passes}
 use Rattle.rip_plan.specs.PlanOf.{PlanOf}
 use Rattle.rip_plan.specs.PlanText.{empty, document_of, sketch_of_document, sketch_of}
 use Rattle.rip_plan.specs.PlanFaults.{IsText, HasTables, TableFault, FaultAt, AstrayAt, IsFound, IsFault, PlanFault, Before, pass_of, rank}
-use Rattle.rip_plan.proofs.FaultRowLemmas.{IsAstrayAt, IsOfTables, IsTold, covers, first_pass, first_rows, first_sooner, links_rows, links_sooner, pass_apart, pass_rows, routers_rows, table_rows, tables_low, told_finds}
+use Rattle.rip_plan.proofs.FaultRowLemmas.{IsAstrayAt, IsOfTables, IsTold, covers, first_pass, first_rows, links_rows, links_sooner, pass_apart, pass_rows, routers_rows, table_rows, tables_low, told_finds}
 use Rattle.rip_plan.proofs.FindingLemmas.{Among, Asks, Found, Finds, InTurn, ask_guard, ask_rest, ask_wanted, bind_finds, bind_ok, finds_in, ranked, row_at, before_not, before_trans, before_or}
 use Rattle.rip_plan.proofs.TableFaultLemmas.{links_find, routers_find}
 use Rattle.rip_plan.proofs.OnePlanLemmas.{items_same}
@@ -39,7 +39,7 @@ module _ (laws : TextLaws) (document : Members) (links routers : List Data) (poi
       let F = IsOfTables document links routers in
       bind_finds F first_rows pass_rows (steps link_step 1 links (empty poison) >>= steps router_step 1 routers) (λ s. second_passes s >>= (λ _. Ok s))
       (λ e o h later. pass_apart e o (grind (arith, first_pass e h)))
-      (told_finds document links routers first_rows (steps link_step 1 links (empty poison) >>= steps router_step 1 routers) first_sooner
+      (told_finds document links routers first_rows (steps link_step 1 links (empty poison) >>= steps router_step 1 routers) (λ o h. let (same, zero) = first_pass o h in (same, omega arith))
       (bind_finds (IsTold document links routers) links_rows routers_rows (steps link_step 1 links (empty poison)) (steps router_step 1 routers) links_sooner
       (links_find laws document links routers poison) (λ w is. routers_find laws document links routers poison w is)))
       (λ s taken.
@@ -184,7 +184,9 @@ module _ (laws : TextLaws) (bytes : List ℕ) (document : Members) (short : leng
   all_covered o (inr h) = inr (inr (inr (inr (inr (inr (inr (inr (h.2, h.1))))))))
 
   all_find : Finds (IsTextFault bytes) (λ o. Unit {0}) (sketch_of_document document)
-  all_find = finds_in (IsTextFault bytes) (IsTextFault bytes) (Among text_rows table_rows) (λ o. Unit {0}) (sketch_of_document document) (λ e f. f) (λ e r. tt) (λ o u f. (f, all_covered o f)) (document_asks.finds text_turn)
+  all_find =
+      finds_in (IsTextFault bytes) (IsTextFault bytes) (Among text_rows table_rows) (λ o. Unit {0}) (sketch_of_document document) (λ e f. f) (λ e r. tt) (λ o u f. (f, all_covered o f))
+      (document_asks.finds text_turn)
 
 -- ---- the text
 
