@@ -31,9 +31,7 @@ kept_at view vs n f l v kept below is =
     ap view is ∙ sym (get_or-map view vs l v (view v) (omega arith)) ∙ ap (λ xs. get_or xs l (view v)) kept ∙ each_below-at n f l (view v) below
 
 pub kept_within : {V A : Type 0} (view : V → A) (vs : List V) (n : ℕ) (f : ℕ → A) (l : ℕ) → map view vs ≡ each_below n f → l < n → l < length vs
-kept_within view vs n f l kept below =
-    let same : length vs ≡ n = sym (length-map vs view) ∙ ap length kept ∙ length-each_below n f in
-    omega arith
+kept_within view vs n f l kept below = grind (arith, length-map, length-each_below)
 
 -- another value at one number
 pub each_below_set : {A : Type 0} (n : ℕ) (f g : ℕ → A) (l : ℕ) → l < n → ((k : ℕ) → k ≢ l → g k ≡ f k) → set (each_below n f) l (g l) ≡ each_below n g
@@ -129,9 +127,7 @@ passing_number {A} test n (y ∷ ys) (suc i) x h t =
     elim (cases_Bool (test y)) [ inl e ↦ (suc k, rw e later) | inr e ↦ (k, rw e later) ]
 
 low : {A : Type 0} (test : A → Bool) (n : ℕ) (xs : List A) (k : ℕ) → k < length (numbers_where test n xs) → n ≤ get_or (numbers_where test n xs) k 0
-low test n xs k h =
-    let at = number_passes test n xs k (get_or (numbers_where test n xs) k 0) (slice_get-get_or (numbers_where test n xs) k 0 h) in
-    omega (arith, at.2)
+low test n xs k h = grind (arith, number_passes, slice_get-get_or)
 
 rising_cons : (n : ℕ) (ws : List ℕ) → ((k : ℕ) → k < length ws → n + 1 ≤ get_or ws k 0) → IsStrictlyIncreasing ws → IsStrictlyIncreasing (n ∷ ws)
 rising_cons n ws h g = grind arith

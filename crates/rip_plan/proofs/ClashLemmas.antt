@@ -107,10 +107,7 @@ module _ {A : Type 0} (clash : A → A → Bool) (xs : List A) (k : ℕ) (x : A)
   -- after one that does not, the search goes on
   pub clash_later : (total : Option A) → list_any (λ y. clash y x) (take k xs) ≡ false → first_clash clash (take k xs) (drop k xs) ≡ total →
       first_clash clash (take (k + 1) xs) (drop (k + 1) xs) ≡ total
-  clash_later total none so_far =
-      let front : take (k + 1) xs ≡ take k xs ++ x ∷ [] = take_more xs k x lt ∙ ap (λ y. take k xs ++ y ∷ []) (sym is) in
-      let here : first_clash clash (take k xs) (drop k xs) ≡ first_clash clash (take k xs ++ x ∷ []) (drop (k + 1) xs) = rw (rest_from xs k x lt is, none) refl in
-      rw front (sym here ∙ so_far)
+  clash_later total none so_far = grind (arith, take_more, rest_from)
 
 -- the items seen by a function
 any_seen : {A B : Type 0} (see : A → B) (test : B → Bool) (xs : List A) → list_any test (map see xs) ≡ list_any (λ x. test (see x)) xs

@@ -1,5 +1,5 @@
 -- The rows of the table of codes, in the order in which they are asked.
-use Rattle.std.proofs.Common.{◌≡◌, ap, map, ℕ, ◌<◌, ◌≤◌, ◌⊎◌, inl, inr, List, [], ◌∷◌, length, Some, Result, refl, subst, arith}
+use Rattle.std.proofs.Common.{◌≡◌, map, ℕ, ◌<◌, ◌≤◌, ◌⊎◌, inl, inr, List, [], ◌∷◌, length, Some, Result, refl, arith}
 use Rattle.std.specs.Prelude.{codes as codes_of}
 use Rattle.toml.specs.Data.{Data, Members}
 use Rattle.rip_plan.specs.declared.error.PlanCode.{PlanCode}
@@ -10,7 +10,7 @@ use Rattle.rip_plan.specs.declared.error.PlanError.{PlanError}
 use Rattle.rip_plan.specs.PlanFaults.{Before, nth, pass_of, TableFault, IsItem, IsSo, IsAstray, place_spots}
 use Rattle.rip_plan.specs.PlanOf.{PlanOf}
 use Rattle.rip_plan.specs.Network.{Network}
-use Rattle.rip_plan.proofs.FindingLemmas.{Among, Each, Finds, Found, InTurn, Low, ranked, row_at, Starts, starts_apart, starts_shorter}
+use Rattle.rip_plan.proofs.FindingLemmas.{Among, Each, Finds, Found, InTurn, Low, ranked, row_at, Starts}
 use Rattle.rip_plan.proofs.SpotLemmas.{nth_from, item_from, prefix_item, own_item, interface_item, also_item}
 
 -- ---- the rows of one place
@@ -103,12 +103,10 @@ pub first_pass : (o : Found) → first_rows o → (o.pass ≡ pass_of o.error.co
 first_pass o h = grind arith
 
 pub links_sooner : (e o : Found) → links_rows e → routers_rows o → Before (ranked o) (ranked e) → ⊥
-links_sooner e o (i, le, h) (r, le', k) =
-    starts_apart (0 ∷ []) 1 2 (ranked e) (ranked o) (omega arith) (starts_shorter (0 ∷ []) 1 i (ranked e) (link_starts i e h)) (starts_shorter (0 ∷ []) 2 r (ranked o) (router_starts r o k))
+links_sooner e o (i, le, h) (r, le', k) = grind arith
 
 pub interfaces_sooner : (r : ℕ) (e o : Found) → Each (interface_rows r) 1 e → Each (own_rows r) 1 o → Before (ranked o) (ranked e) → ⊥
-interfaces_sooner r e o (j, le, h) (m, le', k) =
-    let p = 0 ∷ 2 ∷ r ∷ [] in starts_apart p 1 2 (ranked e) (ranked o) (omega arith) (starts_shorter p 1 j (ranked e) (interface_starts r j e h)) (starts_shorter p 2 m (ranked o) (own_starts r m o k))
+interfaces_sooner r e o (j, le, h) (m, le', k) = grind arith
 
 pub tables_low : Low table_rows (0 ∷ 1 ∷ [])
 tables_low o h before = grind arith
@@ -193,12 +191,7 @@ module _ (document : Members) (links routers : List Data) where
   among_row place (c ∷ cs) R o (inr row) = among_row place cs R o row
 
   pub stands : (place : At) (o : Found) → o.pass ≡ 0 → IsTold o → Among (asked_at place) (rest_at place) o → StandsAt place ⊎ rest_at place o
-  stands place o zero f row =
-      elim (among_row place (codes_at place) (rest_at place) o row) [
-        | inl (c, is) ↦
-            elim (asked (rest_at place) c place (subst IsTold is f)) [ inl first ↦ inl first.0 | inr later ↦ let same : o.pass ≡ pass_of c = ap (λ (e : Found). e.pass) is in absurd (grind arith) ]
-        | inr rest ↦ inr rest
-      ]
+  stands place o zero f row = grind (arith, among_row, asked)
 
   pub item_stands : (place : At) (o : Found) → (rest_at place o → ⊥) → o.pass ≡ 0 → IsTold o → Among (asked_at place) (rest_at place) o → StandsAt place
   item_stands place o none zero f row = elim (stands place o zero f row) [ inl here ↦ here | inr rest ↦ absurd (none rest) ]

@@ -82,13 +82,7 @@ or_nothing o = grind arith
 
 -- a prefix that is new gets the next number
 pub new_number : (ps : List Block) (d p : Block) → number_of_prefix d ps ≡ None → cond (same_prefix d p) (Some (length ps)) (number_of_prefix p ps) ≡ number_of_prefix p (ps ++ d ∷ [])
-new_number ps d p new =
-    elim (cases_Bool (same_prefix d p)) [
-      | inl e ↦
-          let here : number_of_prefix d (ps ++ d ∷ []) ≡ Some (length ps) = position_push (same_prefix d) 0 ps d ∙ rw (new, same_self d) (ap (λ (m : ℕ). Some m) (omega arith)) in
-          rw e (sym here ∙ ap (λ q. number_of_prefix q (ps ++ d ∷ [])) (same_is d p e))
-      | inr e ↦ let off : same_prefix p d ≡ false = same_flips p d ∙ e in rw e (sym (position_push (same_prefix p) 0 ps d ∙ rw off (or_nothing (number_of_prefix p ps))))
-    ]
+new_number ps d p new = grind (arith, cases_Bool, position_push, same_self, same_is, same_flips, or_nothing)
 
 -- ---- each once
 

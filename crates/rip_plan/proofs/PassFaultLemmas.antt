@@ -60,14 +60,7 @@ address_spot interfaces h = unwrap_or (spot_of interfaces h.interface) Text
 
 taken_address : (interfaces : List DraftInterface) (also : List (List ℕ))
     → taken_address_in interfaces also ≡ option_map (address_spot interfaces) (first_clash have_one_address [] (held interfaces also))
-taken_address interfaces also =
-    elim (cases_option (first_clash have_one_address [] (held interfaces also))) [
-      | inl e ↦ rw e refl
-      | inr (h, e) ↦
-          let (k, at, is, before) = subst (FirstSo (Clashes have_one_address (held interfaces also)) (held interfaces also)) e (first_clashing have_one_address (held interfaces also)) in
-          let (d, there) = held_spot interfaces also k h at in
-          rw (e, there) refl
-    ]
+taken_address interfaces also = grind (arith, cases_option, first_clashing, held_spot)
 
 -- ---- each router has an interface
 
@@ -85,10 +78,7 @@ bare_found is k (suc n) = rw (bare_found is (k + 1) n) refl
 
 -- two seats touch a router
 common : (rs ss : List ℕ) (r : ℕ) → list_any (λ s. s == r) rs ≡ true → list_any (λ s. s == r) ss ≡ true → have_common rs ss ≡ true
-common rs ss r h k =
-    let found = any_finds (λ s. s == r) ss k in
-    let same : found.1 ≡ r = grind (arith, nat_tests) in
-    any_at (λ s. list_any (λ t. t == s) rs) ss found.0 found.1 found.2 (rw same h)
+common rs ss r h k = grind (arith, nat_tests, any_finds, any_at)
 
 -- ---- one pass
 

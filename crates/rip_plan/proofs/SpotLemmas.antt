@@ -169,11 +169,7 @@ item_of key ds n j x h i m e f = let one : i ≡ suc n = omega arith in rw (one,
 
 pub place_spot : (links routers : List Data) (k : ℕ) (a : At) → slice_get (place_spots links routers) k ≡ Some a
     → IsSpot (codes_of "prefixes") LinkPrefix 1 links a ⊎ IsSpot (codes_of "own") RouterOwn 1 routers a
-place_spot links routers k a h =
-    elim (get_split (spots_under (codes_of "prefixes") LinkPrefix 1 links) (spots_under (codes_of "own") RouterOwn 1 routers) k a h) [
-      | inl e ↦ inl (spot_under (codes_of "prefixes") LinkPrefix 1 links k a e.0)
-      | inr e ↦ inr (spot_under (codes_of "own") RouterOwn 1 routers e.0 a e.2)
-    ]
+place_spot links routers k a h = grind (arith, get_split, spot_under)
 
 pub interface_spot : (routers : List Data) (k : ℕ) (a : At) → slice_get (interface_spots routers) k ≡ Some a → IsSpot (codes_of "interface") RouterInterface 1 routers a
 interface_spot routers k a h = spot_under (codes_of "interface") RouterInterface 1 routers k a h

@@ -79,10 +79,7 @@ module _ (laws : TextLaws) (ds done : List Data) (d : Data) (rest : List Data) (
   misnamed_told name named bad = (d, name, table_here ds done d rest split, named, λ good. both_ways (is_name name) (not-true (is_name name) bad) ((laws.name name).1 good))
 
   misnamed_clear : (name : List ℕ) → IsNameOf name d → not (is_name name) ≡ false → IsMisnamed ds (1 + length done) → ⊥
-  misnamed_clear name named good (e, other, is, its, bad) =
-      let same : e ≡ d = table_same ds done d rest split e is in
-      let one : other ≡ name = text_same (codes_of "name") d other name (subst (IsNameOf other) same its) named in
-      bad ((laws.name other).0 (not-false (is_name other) (ap (λ (t : List ℕ). not (is_name t)) one ∙ good)))
+  misnamed_clear name named good (e, other, is, its, bad) = grind (arith, table_same, text_same, not-false)
 
   again_told : (names : List (List ℕ)) → Matched IsNameOf names done → (name : List ℕ) → IsNameOf name d → is_one_of name names ≡ true → IsNamedAgain ds (1 + length done)
   again_told names named name its taken =
@@ -254,9 +251,7 @@ module _ (document : Members) (links routers done : List Data) (d : Data) (rest 
 -- ---- the fields of an interface
 
 also_told : (laws : TextLaws) (x : Data) (f : InterfaceFields) → HasInterfaceFields x f → addresses_in f.also ≡ None → HasWrongAlso x
-also_told laws x f fields none =
-    let (k, text, at, bad) = addresses_told f.also fields.also_texts none in
-    (k, text, ap (λ (l : List Data). slice_get l k) fields.also_are ∙ at, no_address laws text bad)
+also_told laws x f fields none = grind (arith, addresses_told, no_address)
 
 also_length : (x : Data) (f : InterfaceFields) → HasInterfaceFields x f → (also : List ℕ) → addresses_in f.also ≡ Some also → length also ≡ length (also_items x)
 also_length x f fields also others = matched_length IsReadOf also f.also (addresses_read f.also also others) ∙ ap length (sym fields.also_are)
