@@ -3,7 +3,7 @@ use Rattle.std.proofs.Common.{◌≡◌, ◌≢◌, ℕ, zero, suc, ◌+◌, ◌
 use Rattle.std.proofs.lemmas.List.{get_or_append_left, get_or_push, get_or-map, length-map, get_or-set_same, get_or-set_other, same_lists, map-set, take_more, length-take-le}
 use Rattle.std.proofs.Math.ListN.{set, length-set}
 use Rattle.std.specs.Prelude.{◌==◌, slice_get}
-use Rattle.std.proofs.lemmas.Bool.{cases_Bool, cases_lt, cases_eq}
+use Rattle.std.proofs.lemmas.Bool.{cases_Bool, cases_eq}
 use Rattle.std.proofs.lemmas.Bool.Decides.{nat_tests}
 use Rattle.rip_plan.specs.Network.{each_below, numbers_where}
 use Rattle.std.specs.List.{Contains}
@@ -16,13 +16,7 @@ length-each_below (suc n) f = omega (arith, length-append (each_below n f) (f n 
 
 pub each_below-at : {A : Type 0} (n : ℕ) (f : ℕ → A) (l : ℕ) (d : A) → l < n → get_or (each_below n f) l d ≡ f l
 each_below-at zero f l d h = absurd (omega arith)
-each_below-at (suc n) f l d h =
-    elim (cases_lt l n) [
-      | inl below ↦ get_or_append_left (each_below n f) (f n ∷ []) d l (omega (arith, below, length-each_below n f)) ∙ each_below-at n f l d below
-      | inr last ↦
-          let here : l ≡ n = omega (arith, last, h) in
-          rw here (get_or_push (each_below n f) (f n) d n (length-each_below n f))
-    ]
+each_below-at (suc n) f l d h = grind (arith, get_or_append_left (each_below n f) (f n ∷ []) d l, get_or_push (each_below n f) (f n) d n, length-each_below n f, each_below-at n f l d)
 
 -- a list that is kept for each number below n, seen by view
 pub kept_at : {V A : Type 0} (view : V → A) (vs : List V) (n : ℕ) (f : ℕ → A) (l : ℕ) (v : V) → map view vs ≡ each_below n f → l < n → v ≡ get_or vs l v → view v ≡ f l
@@ -51,14 +45,8 @@ each_below_set {A} n f g l within others = same_lists (set (each_below n f) l (g
 -- one more item
 pub numbers_where_push : {A : Type 0} (test : A → Bool) (n : ℕ) (xs : List A) (x : A) →
     numbers_where test n (xs ++ x ∷ []) ≡ cond (test x) (numbers_where test n xs ++ (n + length xs) ∷ []) (numbers_where test n xs)
-numbers_where_push test n [] x = let same : n + 0 ≡ n = omega arith in rw same refl
-numbers_where_push test n (y ∷ ys) x =
-    let same : n + 1 + length ys ≡ n + suc (length ys) = omega arith in
-    let later = numbers_where_push test (n + 1) ys x in
-    elim (cases_Bool (test y)) [
-      | inl e ↦ elim (cases_Bool (test x)) [ inl f ↦ rw (e, later, f, same) refl | inr f ↦ rw (e, later, f) refl ]
-      | inr e ↦ rw (e, later, same) refl
-    ]
+numbers_where_push test n [] x = grind arith
+numbers_where_push test n (y ∷ ys) x = grind (arith, numbers_where_push test (n + 1) ys x)
 
 -- the numbers of the items of each key, with one more item
 pub grouped_more : {A V : Type 0} (view : V → List ℕ) (vs : List V) (n : ℕ) (key : A → ℕ) (xs : List A) (i : ℕ) (x : A) (v w : V)
@@ -115,11 +103,7 @@ number_passes {A} test n (x ∷ xs) k m h = by_head (test x) refl k h (λ j e. n
 -- the number of each item that passes is there
 pub passing_number : {A : Type 0} (test : A → Bool) (n : ℕ) (xs : List A) (i : ℕ) (x : A) → slice_get xs i ≡ Some x → test x ≡ true → (k : ℕ) × (slice_get (numbers_where test n xs) k ≡ Some (n + i))
 passing_number test n [] i x h t = absurd (none-some x h)
-passing_number {A} test n (y ∷ ys) zero x h t =
-    let same : y ≡ x = same_Some y x h in
-    let here : test y ≡ true = ap test same ∙ t in
-    let at : n ≡ n + 0 = omega arith in
-    (zero, rw (here, ← at) refl)
+passing_number test n (y ∷ ys) zero x h t = (zero, grind arith)
 passing_number {A} test n (y ∷ ys) (suc i) x h t =
     let (k, is) = passing_number test (n + 1) ys i x h t in
     let at : n + 1 + i ≡ n + suc i = omega arith in
@@ -134,8 +118,4 @@ rising_cons n ws h g = grind arith
 
 pub rising : {A : Type 0} (test : A → Bool) (n : ℕ) (xs : List A) → IsStrictlyIncreasing (numbers_where test n xs)
 rising test n [] = λ k h. absurd (omega arith)
-rising test n (x ∷ xs) =
-    elim (cases_Bool (test x)) [
-      | inl e ↦ rw e (rising_cons n (numbers_where test (n + 1) xs) (λ k h. low test (n + 1) xs k h) (rising test (n + 1) xs))
-      | inr e ↦ rw e (rising test (n + 1) xs)
-    ]
+rising test n (x ∷ xs) = grind (arith, rising_cons n, low test (n + 1) xs, rising test (n + 1) xs)

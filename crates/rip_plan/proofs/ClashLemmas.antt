@@ -1,11 +1,12 @@
 -- What is found first in a list, an item that passes or one that clashes with an earlier one, and how a loop finds it,
 -- from the first item to the last or from the last to the first.
 use Rattle.std.proofs.Common.{◌≡◌, ℕ, suc, inl, inr, ◌+◌, ◌-◌, ◌<◌, List, [], ◌∷◌, ◌++◌, Bool, true, false, cond, not, ◌&&◌, ◌||◌, length, map, take, drop, get_or, Option, Some, refl, sym, ap, ◌∙◌, arith, zero, length-append, append_assoc, None, subst, ◌≤◌}
+use Rattle.std.proofs.lemmas.List.Elements.{filter-append}
 use Rattle.std.specs.Prelude.{find, option_map, filter, slice_get}
 use Rattle.std.specs.List.{list_any, position_from}
 use Rattle.std.proofs.lemmas.Bool.{cases_Bool, not-false, not-true, cases_lt}
 use Rattle.std.proofs.lemmas.List.{drop_more, map-append, take_more, append-nil}
-use Rattle.rip_plan.proofs.ItemLemmas.{cases_option, any_finds, get_left, get_past, get_split, none_at}
+use Rattle.rip_plan.proofs.ItemLemmas.{any_finds, get_left, get_past, get_split, none_at}
 use Rattle.std.proofs.lemmas.List.Folds.{list_any_more}
 use Rattle.rip_plan.specs.Passes.{do_meet, first_clash, first_bare, is_bare, touching}
 use Rattle.rip_plan.specs.declared.draft.DraftPlace.{DraftPlace}
@@ -117,21 +118,13 @@ any_seen see test (x ∷ xs) = rw (any_seen see test xs) refl
 pub first_clash-map : {A B : Type 0} (see : A → B) (clash : B → B → Bool) (earlier xs : List A) →
     option_map see (first_clash (λ x y. clash (see x) (see y)) earlier xs) ≡ first_clash clash (map see earlier) (map see xs)
 first_clash-map see clash earlier [] = refl
-first_clash-map see clash earlier (x ∷ xs) =
-    elim (cases_Bool (list_any (λ y. clash (see y) (see x)) earlier)) [
-      | inl e ↦ rw (e, any_seen see (λ y. clash y (see x)) earlier, e) refl
-      | inr e ↦ rw (e, any_seen see (λ y. clash y (see x)) earlier, e, ← map-append see earlier (x ∷ [])) (first_clash-map see clash (earlier ++ x ∷ []) xs)
-    ]
+first_clash-map see clash earlier (x ∷ xs) = grind (arith, any_seen see, map-append, first_clash-map see clash (earlier ++ x ∷ []) xs)
 
 -- the places that meet, with the routers that they touch
 pub meeting_seen : (interfaces : List DraftInterface) (places : List DraftPlace) →
     option_map (λ p. p.at) (first_clash (λ p q. do_meet (touching interfaces p) (touching interfaces q)) [] places) ≡ option_map (λ t. t.place.at)
     (first_clash do_meet [] (map (touching interfaces) places))
-meeting_seen interfaces places =
-    elim (cases_option (first_clash (λ p q. do_meet (touching interfaces p) (touching interfaces q)) [] places)) [
-      | inl e ↦ rw (← first_clash-map (touching interfaces) do_meet [] places, e) refl
-      | inr (p, e) ↦ rw (← first_clash-map (touching interfaces) do_meet [] places, e) refl
-    ]
+meeting_seen interfaces places = rw (← first_clash-map (touching interfaces) do_meet [] places) (grind arith)
 
 -- the items that pass, seen by a function
 pub any_listed : {A B : Type 0} (see : A → B) (test : A → Bool) (p : B → Bool) (xs : List A) → list_any p (map see (filter test xs)) ≡ list_any (λ x. test x && p (see x)) xs
@@ -144,12 +137,7 @@ any_kept see test (x ∷ xs) = elim (cases_Bool (test x)) [ inl e ↦ rw e refl 
 
 pub listed_push : {A B : Type 0} (see : A → B) (test : A → Bool) (xs : List A) (x : A) →
     map see (filter test (xs ++ x ∷ [])) ≡ cond (test x) (map see (filter test xs) ++ see x ∷ []) (map see (filter test xs))
-listed_push see test [] x = elim (cases_Bool (test x)) [ inl e ↦ rw e refl | inr e ↦ rw e refl ]
-listed_push see test (y ∷ ys) x =
-    elim (cases_Bool (test y)) [
-      | inl e ↦ elim (cases_Bool (test x)) [ inl f ↦ rw (e, listed_push see test ys x, f) refl | inr f ↦ rw (e, listed_push see test ys x, f) refl ]
-      | inr e ↦ rw (e, listed_push see test ys x) refl
-    ]
+listed_push see test xs x = grind (arith, filter-append test xs (x ∷ []), map-append see, append-nil)
 
 -- a key that a set had already, or that is new
 pub not_added : (had is_new : Bool) → is_new ≡ not had → is_new ≡ false → had ≡ true
@@ -178,7 +166,4 @@ module _ {A : Type 0} (test : A → Bool) (xs : List A) (k : ℕ) (x : A) (lt : 
 
 pub bare_later : (interfaces : List DraftInterface) (n k : ℕ) (total : Option ℕ) → k < n → is_bare interfaces k ≡ false → first_bare interfaces k (n - k) ≡ total →
     first_bare interfaces (k + 1) (n - (k + 1)) ≡ total
-bare_later interfaces n k total lt bare so_far =
-    let left : n - k ≡ suc (n - (k + 1)) = omega arith in
-    let here : first_bare interfaces k (n - k) ≡ first_bare interfaces (k + 1) (n - (k + 1)) = rw (left, bare) refl in
-    sym here ∙ so_far
+bare_later interfaces n k total lt bare so_far = let left : n - k ≡ suc (n - (k + 1)) = omega arith in rw (left, bare) at so_far

@@ -1,7 +1,6 @@
 -- The order in which faults are told, and what is found of the faults of a text by reading on until the first: no fault of
 -- the rows that were asked, or one of them and none before it.
 use Rattle.std.proofs.Common.{◌≡◌, ℕ, ◌<◌, ◌≤◌, ◌⊎◌, inl, inr, List, [], ◌∷◌, ◌++◌, length, refl, arith, ◌+◌, length-append, append_assoc, Bool, true, false, cond, Option, Some, None, Result, Ok, Err, sym, ap, subst, ◌∙◌}
-use Rattle.std.proofs.lemmas.Bool.{cases_lt}
 use Rattle.rip_plan.specs.PlanFaults.{Before, pass_of, rank}
 use Rattle.std.proofs.lemmas.List.{append-nil}
 use Rattle.rip_plan.specs.declared.error.At.{At}
@@ -23,20 +22,7 @@ pub before_or : (xs ys : List ℕ) → length xs ≡ length ys → ((xs ≡ ys) 
 before_or [] [] e = inl (inl refl)
 before_or [] (y ∷ ys) e = absurd (omega arith)
 before_or (x ∷ xs) [] e = absurd (omega arith)
-before_or (x ∷ xs) (y ∷ ys) e =
-    elim (cases_lt x y) [
-      | inl less ↦ inl (inr (inl less))
-      | inr le ↦
-          elim (cases_lt y x) [
-            | inl more ↦ inr (inl more)
-            | inr le' ↦
-                let same : x ≡ y = omega arith in
-                tails same (before_or xs ys (omega arith))
-          ]
-    ]
-  where
-    tails : x ≡ y → ((xs ≡ ys) ⊎ Before xs ys) ⊎ Before ys xs → ((x ∷ xs ≡ y ∷ ys) ⊎ Before (x ∷ xs) (y ∷ ys)) ⊎ Before (y ∷ ys) (x ∷ xs)
-    tails h k = grind arith
+before_or (x ∷ xs) (y ∷ ys) e = grind (arith, before_or xs ys (omega arith))
 
 -- the numbers start with p, and then n
 abbrev pub Starts : List ℕ → ℕ → List ℕ → Type 0
@@ -49,12 +35,6 @@ starts_apart [] n m (x ∷ xs) (y ∷ ys) h s t b = grind arith
 starts_apart (q ∷ p) n m (x ∷ xs) (y ∷ ys) h s t b = grind (arith, starts_apart p n m xs ys)
 starts_apart p n m xs [] h s t b = absurd b
 starts_apart p n m [] ys h s t b = absurd s
-
--- what starts with more numbers starts with fewer
-pub starts_shorter : (p : List ℕ) (n m : ℕ) (xs : List ℕ) → Starts (p ++ n ∷ []) m xs → Starts p n xs
-starts_shorter [] n m (x ∷ xs) h = h.0
-starts_shorter (r ∷ p) n m (x ∷ xs) h = (h.0, starts_shorter p n m xs h.1)
-starts_shorter p n m [] h = absurd h
 
 -- ---- what a chain of steps that came to its end passed through
 
@@ -105,8 +85,7 @@ first_low e [] R turn o (inr row) before = turn o row before
 first_low e (d ∷ es) R turn o (inr row) before = first_low d es R turn.1 o row (before_trans (ranked o) (ranked e) (ranked d) before turn.0)
 
 rest_in_turn : (e : Found) (es : List Found) (R : Found → Type 0) → InTurn (e ∷ es) R → InTurn es R
-rest_in_turn e [] R turn = tt
-rest_in_turn e (d ∷ es) R turn = turn.1
+rest_in_turn e es R turn = grind arith
 
 -- the rows of each number from k on
 abbrev pub Each : (ℕ → Found → Type 0) → ℕ → Found → Type 0
@@ -143,10 +122,7 @@ ask_first {e = e} {es = es} {R = R} h = record { finds = λ turn. (e.pass, h, in
 
 -- the first row is no fault
 ask_later : {A : Type 0} {F : Found → Type 0} {e : Found} {es : List Found} {R : Found → Type 0} {r : Result A PlanError} → (F e → ⊥) → Asks F es R r → Asks F (e ∷ es) R r
-ask_later {F = F} {e = e} {es = es} {R = R} {r = r} h rest = record { finds = λ turn. skip (rest.finds (rest_in_turn e es R turn)) }
-  where
-    skip : Finds F (Among es R) r → Finds F (Among (e ∷ es) R) r
-    skip k = grind arith
+ask_later {e = e} {es = es} {R = R} h rest = record { finds = λ turn. grind (arith, rest.finds (rest_in_turn e es R turn)) }
 
 -- no more rows of one place
 pub ask_rest : {A : Type 0} {F R : Found → Type 0} {r : Result A PlanError} → Finds F R r → Asks F [] R r
@@ -176,14 +152,8 @@ ask_both (Some x) w f told also clear rest = ask_wanted (w x) (f x) (also x refl
 -- a step more
 steps_push : {S A : Type 0} (step : ℕ → A → S → Result S PlanError) (n : ℕ) (xs : List A) (x : A) (s t u : S) (m : ℕ) → m ≡ n + length xs → steps step n xs s ≡ Ok t → step m x t ≡ Ok u →
     steps step n (xs ++ x ∷ []) s ≡ Ok u
-steps_push step n [] x s t u m e h k =
-    let same : s ≡ t = cc in
-    let here : m ≡ n = omega arith in
-    let now : step n x s ≡ Ok u = rw (same, ← here) k in
-    rw now refl
-steps_push step n (y ∷ ys) x s t u m e h k =
-    let (v, first, others) = bind_ok (step n y s) (steps step (n + 1) ys) t h in
-    rw first (steps_push step (n + 1) ys x v t u m (omega arith) others k)
+steps_push step n [] x s t u m e h k = grind arith
+steps_push step n (y ∷ ys) x s t u m e h k = grind (arith, steps_push step (n + 1) ys x)
 
 -- what is asked of the step at an item, after the items before it
 abbrev pub FindsAt : (Found → Type 0) → {S A : Type 0} → (ℕ → A → S → Result S PlanError) → (ℕ → Found → Type 0) → List A → S → Type 0
@@ -198,18 +168,12 @@ steps_from F step R p starts all s each past [] done u k e split taken =
     let count : length all ≡ length done = ap length (split ∙ append-nil done) in
     past m o (omega arith) here f
 steps_from {S} {A} F step R p starts all s each past (x ∷ xs) done u k e split taken =
-    finds_in F F (λ o. R k o ⊎ Each R (k + 1) o) (Each R k) (steps step k (x ∷ xs) u) (λ d f. f) name (λ o row f. (f, split_row o row))
+    finds_in F F (λ o. R k o ⊎ Each R (k + 1) o) (Each R k) (steps step k (x ∷ xs) u) (λ d f. f) (λ o row. grind arith) (λ o row f. grind arith)
     (bind_finds F (R k) (Each R (k + 1)) (step k x u) (steps step (k + 1) xs)
     (λ d o here later before. let (m, le, row) = later in starts_apart p k m (ranked d) (ranked o) (omega arith) (starts k d here) (starts m o row) before)
     (subst (λ (n : ℕ). Finds F (R n) (step n x u)) (sym e) (each done x xs u split taken))
     (λ t is. steps_from F step R p starts all s each past xs (done ++ x ∷ []) t (k + 1) (omega (arith, length-append done (x ∷ []))) (split ∙ sym (append_assoc done (x ∷ []) xs))
     (steps_push step 1 done x s u t k e taken is)))
-  where
-    name : (o : Found) → R k o ⊎ Each R (k + 1) o → Each R k o
-    name o h = grind arith
-
-    split_row : (o : Found) → Each R k o → R k o ⊎ Each R (k + 1) o
-    split_row o h = grind arith
 
 pub steps_finds : {S A : Type 0} (F : Found → Type 0) (step : ℕ → A → S → Result S PlanError) (R : ℕ → Found → Type 0) (p : List ℕ) → ((n : ℕ) (o : Found) → R n o → Starts p n (ranked o))
     → (all : List A) (s : S) → FindsAt F step R all s → ((m : ℕ) (o : Found) → length all < m → R m o → F o → ⊥)

@@ -2,7 +2,6 @@
 use Rattle.std.proofs.Common.{◌≡◌, ℕ, zero, suc, ◌+◌, ◌<◌, ◌≤◌, ◌⊎◌, inl, inr, List, [], ◌∷◌, ◌++◌, length, map, Some, refl, sym, ap, ◌∙◌, arith, length-append, subst}
 use Rattle.std.specs.Prelude.{slice_get, codes as codes_of}
 use Rattle.std.proofs.lemmas.Option.{none-some, same_Some, slice_get_within}
-use Rattle.std.proofs.lemmas.Bool.{cases_lt}
 use Rattle.std.proofs.lemmas.List.{length-map}
 use Rattle.toml.specs.Data.{Data, get}
 use Rattle.rip_plan.specs.declared.error.At.{At}
@@ -126,35 +125,22 @@ place_ahead links routers k m a b less h g =
     let here = spots_under (codes_of "prefixes") LinkPrefix 1 links in
     let later = spots_under (codes_of "own") RouterOwn 1 routers in
     elim (get_split here later k a h) [
-      | inl e ↦
+      | inl (at, within) ↦
           elim (get_split here later m b g) [
-            | inl f ↦ under_ahead (codes_of "prefixes") LinkPrefix (ordered LinkPrefix 1 1 (λ i j. refl)) 1 links k m a b less e.0 f.0
-            | inr f ↦
-                let s = spot_under (codes_of "prefixes") LinkPrefix 1 links k a e.0 in
-                let t = spot_under (codes_of "own") RouterOwn 1 routers f.0 b f.2 in
-                let one : 1 < 2 = omega arith in
-                rw (s.is, t.is) (inl one)
+            | inl f ↦ under_ahead (codes_of "prefixes") LinkPrefix (ordered LinkPrefix 1 1 (λ i j. refl)) 1 links k m a b less at f.0
+            | inr f ↦ rw ((spot_under (codes_of "prefixes") LinkPrefix 1 links k a at).is, (spot_under (codes_of "own") RouterOwn 1 routers f.0 b f.2).is) (inl (omega arith))
           ]
-      | inr e ↦
+      | inr (i, past, at) ↦
           elim (get_split here later m b g) [
-            | inl f ↦ let past : k ≡ length here + e.0 = e.1 in let within : m < length here = f.1 in absurd (omega arith)
-            | inr f ↦
-                under_ahead (codes_of "own") RouterOwn (ordered RouterOwn 2 2 (λ i j. refl)) 1 routers e.0 f.0 a b (omega arith) e.2 f.2
+            | inl f ↦ absurd (omega (arith, f.1))
+            | inr (j, beyond, there) ↦ under_ahead (codes_of "own") RouterOwn (ordered RouterOwn 2 2 (λ n l. refl)) 1 routers i j a b (omega arith) at there
           ]
     ]
 
 -- each spot has one number
 spot_once : (spots : List At) → ((k m : ℕ) (a b : At) → k < m → slice_get spots k ≡ Some a → slice_get spots m ≡ Some b → Ahead a b) → (k m : ℕ) (a : At) → slice_get spots k ≡ Some a
     → slice_get spots m ≡ Some a → k ≡ m
-spot_once spots ahead k m a h g =
-    elim (cases_lt k m) [
-      | inl less ↦ absurd (before_not (position a) (ahead k m a a less h g))
-      | inr le ↦
-          elim (cases_lt m k) [
-            | inl more ↦ absurd (before_not (position a) (ahead m k a a more g h))
-            | inr le' ↦ omega arith
-          ]
-    ]
+spot_once spots ahead k m a h g = grind (arith, ahead k m a a, ahead m k a a, before_not (position a))
 
 pub place_once : (links routers : List Data) (k m : ℕ) (a : At) → slice_get (place_spots links routers) k ≡ Some a → slice_get (place_spots links routers) m ≡ Some a → k ≡ m
 place_once links routers k m a h g = spot_once (place_spots links routers) (place_ahead links routers) k m a h g
