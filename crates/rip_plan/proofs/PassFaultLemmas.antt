@@ -187,9 +187,8 @@ module _ (s : Sketch) where
             (p, inl (l, subst (IsPlace (network_of_sketch s) j p) one_seat place, subst (IsPlace (network_of_sketch s) k p) other_seat here))
         | inr shared ↦
             let (n, r, listed, test) = any_finds (λ m. list_any (λ t. t == m) (touched s.interfaces y.seat)) (touched s.interfaces x.seat) shared in
-            let self : (r == r) ≡ true = grind (arith, nat_tests) in
             let (c, one_touch) = touches s j p r y.seat place test in
-            let (d, other_touch) = touches s k p r x.seat here (any_at (λ m. m == r) (touched s.interfaces x.seat) n r listed self) in
+            let (d, other_touch) = touches s k p r x.seat here (any_at (λ m. m == r) (touched s.interfaces x.seat) n r listed (grind (arith, nat_tests))) in
             (p, inr (r, c, d, one_touch, other_touch))
       ]
 
@@ -199,18 +198,12 @@ module _ (s : Sketch) where
   met j k p seat other y x at there h h' meet =
       let (d, its, prefix, same) = place_in s j p seat h in
       let (e, theirs, block, is) = place_in s k p other h' in
-      let one : d ≡ y = same_Some d y (sym its ∙ at) in
-      let two : e ≡ x = same_Some e x (sym theirs ∙ there) in
-      let blocks : y.prefix ≡ x.prefix = ap (λ (w : DraftPlace). w.prefix) (sym one) ∙ same_Some d.prefix e.prefix (sym prefix ∙ block) ∙ ap (λ (w : DraftPlace). w.prefix) two in
-      let mine : seat ≡ y.seat = same ∙ ap (λ (w : DraftPlace). w.seat) one in
-      let yours : other ≡ x.seat = is ∙ ap (λ (w : DraftPlace). w.seat) two in
-      rw (same_from y.prefix x.prefix blocks, ← mine, ← yours) meet
+      grind (arith, same_from y.prefix x.prefix)
 
   meet_takes : (j k : ℕ) (y x : DraftPlace) → slice_get s.places j ≡ Some y → slice_get s.places k ≡ Some x → DoMeet (network_of_sketch s) j k
       → do_meet (touching s.interfaces y) (touching s.interfaces x) ≡ true
   meet_takes j k y x at there (p, inl (l, h, h')) =
-      let same : (l == l) ≡ true = grind (arith, nat_tests) in
-      met j k p (seats.Link l) (seats.Link l) y x at there h h' (rw same refl)
+      met j k p (seats.Link l) (seats.Link l) y x at there h h' (grind (arith, nat_tests))
   meet_takes j k y x at there (p, inr (r, c, d, h, h')) =
       let (seat, place, here) = touch s j p r c h in
       let (other, its, also) = touch s k p r d h' in
@@ -218,10 +211,7 @@ module _ (s : Sketch) where
 
   twice_gives : (j k : ℕ) (y x : DraftInterface) → slice_get s.interfaces j ≡ Some y → slice_get s.interfaces k ≡ Some x → are_twice y x ≡ true → AreTwice (network_of_sketch s) j k
   twice_gives j k y x at there h =
-      let (routers, links) = and_parts (y.interface.router == x.interface.router) (y.interface.link == x.interface.link) h in
-      let router = sym (eqb-true y.interface.router x.interface.router routers) in
-      let link = sym (eqb-true y.interface.link x.interface.link links) in
-      let its = interface_as s k x y.interface.router y.interface.link there router link in
+      let its = interface_as s k x y.interface.router y.interface.link there (grind (arith, nat_tests)) (grind (arith, nat_tests)) in
       (y.interface.router, y.interface.link, y.interface.cost, x.interface.cost, interface_as s j y y.interface.router y.interface.link at refl refl, its)
 
   twice_takes : (j k : ℕ) (y x : DraftInterface) → slice_get s.interfaces j ≡ Some y → slice_get s.interfaces k ≡ Some x → AreTwice (network_of_sketch s) j k → are_twice y x ≡ true
@@ -234,7 +224,6 @@ module _ (s : Sketch) where
   address_gives : (j k : ℕ) (y x : Held) → j < k → slice_get (held s.interfaces s.also) j ≡ Some y → slice_get (held s.interfaces s.also) k ≡ Some x → have_one_address y x ≡ true
       → ((i : ℕ) × (i < x.interface) × HaveOneAddress (network_of_sketch s) i x.interface) ⊎ HasOneTwice (network_of_sketch s) x.interface
   address_gives j k y x less at there h =
-      let (links, addresses) = and_parts (y.link == x.link) (y.address == x.address) h in
       let link : y.link ≡ x.link = grind (arith, nat_tests) in
       let address : y.address ≡ x.address = grind (arith, nat_tests) in
       let n = network_of_sketch s in
@@ -261,12 +250,10 @@ module _ (s : Sketch) where
       let one : Held = record { interface = m; link = l; address = a } in
       let two : Held = record { interface = i; link = l; address = a } in
       elim (cases_order j k) [
-        | inl same ↦
-            let number : m ≡ i = ap (λ (h : Held). h.interface) (same_Some one two (sym there ∙ ap (slice_get (held s.interfaces s.also)) same ∙ at)) in
-            absurd (omega arith)
+        | inl same ↦ grind arith
         | inr (inl less) ↦ taken_of i l a j k m less there at
         | inr (inr more) ↦
-            absurd (elim (held_order n k j two one more at there) [ inl before ↦ let less : i < m = before in omega arith | inr both ↦ let same : i ≡ m = both.one in omega arith ])
+            absurd (elim (held_order n k j two one more at there) [ inl before ↦ omega (arith, before) | inr both ↦ omega (arith, both.one) ])
       ]
 
   twice_taken : (i : ℕ) → HasOneTwice (network_of_sketch s) i → IsTaken i
@@ -294,8 +281,7 @@ module _ (s : Sketch) where
   bare_gives : (k : ℕ) → is_bare s.interfaces k ≡ true → (i l c : ℕ) → IsInterface (network_of_sketch s) i k l c → ⊥
   bare_gives k h i l c is =
       let (x, at, router, link) = as_interface s i k l c is in
-      both_ways (list_any (λ (y : DraftInterface). y.interface.router == k) s.interfaces) (not-true _ h)
-      (any_at (λ (y : DraftInterface). y.interface.router == k) s.interfaces i x at (eq-eqb x.interface.router k router))
+      grind (arith, nat_tests, any_at (λ (y : DraftInterface). y.interface.router == k) s.interfaces i x at)
 
   bare_takes : (k : ℕ) → is_bare s.interfaces k ≡ false → ((i l c : ℕ) → IsInterface (network_of_sketch s) i k l c → ⊥) → ⊥
   bare_takes k h none =

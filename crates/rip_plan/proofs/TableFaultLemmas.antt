@@ -200,9 +200,7 @@ unknown_told links v matched x name has none = (
   λ l link listed its.
       let (m, at, of) = matched_right IsNameOf v.links links l link matched listed in
       let same : m ≡ name = text_same (codes_of "name") link m name of its in
-      let found : is_one_of name v.links ≡ true = any_at (λ (y : List ℕ). bytes_eq y name) v.links l m at (ap (λ (t : List ℕ). bytes_eq t name) same ∙ name_same name) in
-      let absent : is_one_of name v.links ≡ false = position_none (λ (y : List ℕ). bytes_eq y name) 0 v.links none in
-      cc,
+      grind (arith, any_at (λ (y : List ℕ). bytes_eq y name) v.links l m at, name_same name, position_none (λ (y : List ℕ). bytes_eq y name) 0 v.links none),
 )
 
 -- the same of a link that may be given
