@@ -2,7 +2,7 @@
 use Rattle.std.proofs.Common.{◌≡◌, ℕ, zero, suc, ◌+◌, ◌<◌, ◌≤◌, inl, inr, List, [], ◌∷◌, ◌++◌, length, Bool, true, false, not, Some, Ok, refl, sym, ap, subst, ◌∙◌, arith, length-append, ◌-◌, ◌⊎◌, ◌&&◌, Option, None, Result}
 use Rattle.std.specs.Prelude.{slice_get, nat_le, codes as codes_of, map}
 use Rattle.std.specs.Str.{bytes_eq}
-use Rattle.std.proofs.lemmas.Bool.{both_ways, not-false, not-true, cases_Bool, and_parts, and_from}
+use Rattle.std.proofs.lemmas.Bool.{both_ways, not-false, not-true, cases_Bool, and_parts}
 use Rattle.std.proofs.lemmas.Option.{none-some, same_Some, slice_get_within}
 use Rattle.std.proofs.lemmas.Bool.Decides.{nat_tests}
 use Rattle.std.proofs.lemmas.Slice.Eq.{bytes_eq-Decides}
@@ -56,9 +56,9 @@ module _ (ds done : List Data) (d : Data) (rest : List Data) (split : ds ≡ don
     item_here : IsItem key ds (1 + length done) (1 + length front) x
     item_here = (d, table_here, rw items (nth_here front x back (1 + length front) refl))
 
-    -- what is said of the item is said of x
-    of_item : (P : Data → Type 0) → (y : Data) × IsItem key ds (1 + length done) (1 + length front) y × P y → P x
-    of_item P (y, item, said) = subst P (item_once key ds (1 + length done) (1 + length front) y x item item_here) said
+    -- the item, and what is said of it is said of x
+    item_at : IsItem key ds (1 + length done) (1 + length front) x × ((P : Data → Type 0) → (y : Data) × IsItem key ds (1 + length done) (1 + length front) y × P y → P x)
+    item_at = (item_here, λ P (y, item, said). subst P (item_once key ds (1 + length done) (1 + length front) y x item item_here) said)
 
   none_past : (key : List ℕ) (all : List Data) → items_in (get key d) ≡ all → (m : ℕ) → length all < m → (x : Data) × IsItem key ds (1 + length done) m x → ⊥
   none_past key all items m past (x, (e, is, item)) =
@@ -115,35 +115,25 @@ module _ (document : Members) (links routers done : List Data) (d : Data) (rest 
       → Asks (IsTold document links routers) (asked_at (LinkPrefix (1 + length done) (1 + length front))) (λ o. ⊥) (prefix_step (1 + length done) (1 + length front) x v)
   unfolding prefix_step
   prefix_asks laws front x back v items count =
+      let (item, of_x) = item_at links done d rest split (codes_of "prefixes") front x back items in
       ask_wanted (as_str x) _ (λ none. (x, item, string_not x none)) (λ text is h. of_x (λ y. IsString y → ⊥) h (text, text_is x text is)) (λ text is.
-      ask_wanted (prefix_in text) _ (λ none. (text, subst (IsItem (codes_of "prefixes") links i j) (text_is x text is) item, no_prefix laws text none))
+      ask_wanted (prefix_in text) _ (λ none. (text, subst (IsItem (codes_of "prefixes") links (1 + length done) (1 + length front)) (text_is x text is) item, no_prefix laws text none))
       (λ p parsed h.
-      let same : string h.0 ≡ string text = item_once (codes_of "prefixes") links i j (string h.0) x h.1 item ∙ text_is x text is in
+      let same : string h.0 ≡ string text = item_once (codes_of "prefixes") links (1 + length done) (1 + length front) (string h.0) x h.1 item ∙ text_is x text is in
       let one : text ≡ h.0 = cc in
       h.2 p (subst (λ (t : List ℕ). IsPrefixText t p) one (prefix_is laws text p parsed)))
       (λ p parsed.
       ask_guard (nat_le 1024 (length v.places)) _ (λ full. (length v.places, here, most_most (length v.places) full))
-      (λ free h. not_past links routers (length v.places) (LinkPrefix i j) here free h)
+      (λ free h. not_past links routers (length v.places) (LinkPrefix (1 + length done) (1 + length front)) here free h)
       (λ free. ask_rest (λ o h f. h))))
     where
-      i : ℕ
-      i = 1 + length done
-
-      j : ℕ
-      j = 1 + length front
-
-      item : IsItem (codes_of "prefixes") links (1 + length done) (1 + length front) x
-      item = item_here links done d rest split (codes_of "prefixes") front x back items
-
-      of_x : (P : Data → Type 0) → (y : Data) × IsItem (codes_of "prefixes") links (1 + length done) (1 + length front) y × P y → P x
-      of_x = of_item links done d rest split (codes_of "prefixes") front x back items
-
       here : slice_get (place_spots links routers) (length v.places) ≡ Some (LinkPrefix (1 + length done) (1 + length front))
       here = rw split (prefix_here routers done d rest front x back items (length v.places) count)
 
   prefixes_find : (laws : TextLaws) (poison : Bool) (u : Sketch) (name : List ℕ) → steps link_step 1 done (empty poison) ≡ Ok u → (all : List Data) → items_in (get (codes_of "prefixes") d) ≡ all
       → Finds (IsTold document links routers) (Each (prefix_rows (1 + length done)) 1) (steps (prefix_step (1 + length done)) 1 all (with_link name u))
   prefixes_find laws poison u name taken all items =
+      let i : ℕ = 1 + length done in
       steps_finds (IsTold document links routers) (prefix_step i) (prefix_rows i) (0 ∷ 1 ∷ i ∷ 1 ∷ []) (prefix_starts i) all (with_link name u)
       (λ front x back v parts steps_taken.
       let before = links_added laws 0 done (empty poison) u taken in
@@ -161,10 +151,6 @@ module _ (document : Members) (links routers done : List Data) (d : Data) (rest 
       (λ m o past row f.
       none_past links done d rest split (codes_of "prefixes") all items m past
       (item_stands document links routers (LinkPrefix i m) o (λ n. n) (prefix_starts i m o row).0 f row))
-    where
-      i : ℕ
-      i = 1 + length done
-
   link_asks : (laws : TextLaws) (poison : Bool) (u : Sketch) → steps link_step 1 done (empty poison) ≡ Ok u
       → Asks (IsTold document links routers) (asked_at (Link (1 + length done))) (rest_at (Link (1 + length done))) (link_step (1 + length done) d u)
   unfolding link_step
@@ -217,6 +203,7 @@ module _ (document : Members) (links routers done : List Data) (d : Data) (rest 
       → Asks (IsTold document links routers) (asked_at (RouterOwn (1 + length done) (1 + length front))) (λ o. ⊥) (own_step (1 + length done) (1 + length front) x v)
   unfolding own_step
   own_asks laws front x back v items named count =
+      let (item, of_x) = item_at routers done d rest split (codes_of "own") front x back items in
       ask_wanted (as_table x &> own_fields) _ (λ none. (x, item, own_not x none)) (λ f is h. of_x (λ y. IsOwnTable y → ⊥) h (own_texts x f is).shape) (λ f is.
       let fields = own_texts x f is in
       ask_wanted (address_if f.via) _ (λ none. (x, item, gateway_told laws x f.via fields.via none))
@@ -237,12 +224,6 @@ module _ (document : Members) (links routers done : List Data) (d : Data) (rest 
       (λ free h. not_past links routers (length v.places) (RouterOwn (1 + length done) (1 + length front)) here free h)
       (λ free. ask_rest (λ o h g. h)))))))
     where
-      item : IsItem (codes_of "own") routers (1 + length done) (1 + length front) x
-      item = item_here routers done d rest split (codes_of "own") front x back items
-
-      of_x : (P : Data → Type 0) → (y : Data) × IsItem (codes_of "own") routers (1 + length done) (1 + length front) y × P y → P x
-      of_x = of_item routers done d rest split (codes_of "own") front x back items
-
       here : slice_get (place_spots links routers) (length v.places) ≡ Some (RouterOwn (1 + length done) (1 + length front))
       here = rw split (own_here links done d rest front x back items (length v.places) count)
 
@@ -275,9 +256,6 @@ costs_clear x f fields c e costs directs wrong = grind arith
 
 self_on : (l : ℕ) (q : DraftPlace) → q.seat ≡ seats.Link l → is_on l q.seat ≡ true
 self_on l q e = rw e (grind (arith, nat_tests))
-
-not_both : (a b : Bool) → (a && not b) ≡ false → a ≡ true → b ≡ true
-not_both a b h k = grind arith
 
 both_not : (a b : Bool) → (a && not b) ≡ true → (a ≡ true) × (b ≡ false)
 both_not a b h = grind arith
@@ -323,11 +301,7 @@ module _ (laws : TextLaws) (links done : List Data) (poison : Bool) (v : Sketch)
         some = (q.prefix, has_prefix l k q at on);
         none = λ p its holds.
             let (m, w, there, seat, block) = place_has l p its in
-            let test : (is_on l w.seat && has_address w.prefix a) ≡ true =
-            and_from (is_on l w.seat) (has_address w.prefix a) (self_on l w seat) (ap (λ (b : Block). has_address b a) block ∙ grind (arith, nat_tests)) in
-            let all : list_any (λ (p : DraftPlace). is_on l p.seat && has_address p.prefix a) v.places ≡ true =
-            any_at (λ (p : DraftPlace). is_on l p.seat && has_address p.prefix a) v.places m w there test in
-            cc;
+            grind (arith, nat_tests, self_on l w seat, any_at (λ (q : DraftPlace). is_on l q.seat && has_address q.prefix a) v.places m w there);
       }
 
   outside_clear : (x : Data) (name text : List ℕ) (a l : ℕ) → get (codes_of "link") x ≡ Some (string name)
@@ -337,9 +311,8 @@ module _ (laws : TextLaws) (links done : List Data) (poison : Bool) (v : Sketch)
       inside_not laws v.links links read.link_names differ x name text l a has (first_named name v.links l h).0 has_text (address_is laws text a parsed)
       (λ p its.
       let (k, w, there, seat, block) = place_has l p its in
-      let some : list_any (λ (p : DraftPlace). is_on l p.seat) v.places ≡ true = any_at (λ (p : DraftPlace). is_on l p.seat) v.places k w there (self_on l w seat) in
-      let holds = not_both (list_any (λ (p : DraftPlace). is_on l p.seat) v.places) (list_any (λ (p : DraftPlace). is_on l p.seat && has_address p.prefix a) v.places) inside some in
-      let (n, q, listed, tests) = any_finds (λ (p : DraftPlace). is_on l p.seat && has_address p.prefix a) v.places holds in
+      let some = any_at (λ (p : DraftPlace). is_on l p.seat) v.places k w there (self_on l w seat) in
+      let (n, q, listed, tests) = any_finds (λ (p : DraftPlace). is_on l p.seat && has_address p.prefix a) v.places (grind arith) in
       let (on, within) = and_parts (is_on l q.seat) (has_address q.prefix a) tests in
       (q.prefix, has_prefix l n q listed on, grind (arith, nat_tests)))
 
@@ -350,6 +323,7 @@ module _ (document : Members) (links routers done : List Data) (d : Data) (rest 
       → Asks (IsTold document links routers) (asked_at (RouterInterface (1 + length done) (1 + length front))) (λ o. ⊥) (interface_step (1 + length done) (1 + length front) x v)
   unfolding interface_step
   interface_asks laws front x back poison u v items read differ names places count sum few =
+      let (item, of_x) = item_at routers done d rest split (codes_of "interface") front x back items in
       let named : Matched IsNameOf v.links links = subst (λ (ns : List (List ℕ)). Matched IsNameOf ns links) (sym names) read.link_names in
       ask_wanted (as_table x &> interface_fields) _ (λ none. (x, item, interface_not x none)) (λ f is h. of_x (λ y. IsInterfaceTable y → ⊥) h (interface_texts x f is).shape) (λ f is.
       let fields = interface_texts x f is in
@@ -373,12 +347,6 @@ module _ (document : Members) (links routers done : List Data) (d : Data) (rest 
       ask_guard (is_full v also) _ (λ full. full_told also (also_length x f fields also others) full) (λ free h. full_clear also (also_length x f fields also others) free h)
       (λ free. ask_rest (λ o h g. h)))))))
     where
-      item : IsItem (codes_of "interface") routers (1 + length done) (1 + length front) x
-      item = item_here routers done d rest split (codes_of "interface") front x back items
-
-      of_x : (P : Data → Type 0) → (y : Data) × IsItem (codes_of "interface") routers (1 + length done) (1 + length front) y × P y → P x
-      of_x = of_item routers done d rest split (codes_of "interface") front x back items
-
       here : slice_get (interface_spots routers) (length v.interfaces) ≡ Some (RouterInterface (1 + length done) (1 + length front))
       here = rw split (under_here (codes_of "interface") RouterInterface 1 done d rest front x back items (length v.interfaces) count)
 
@@ -396,18 +364,11 @@ module _ (document : Members) (links routers done : List Data) (d : Data) (rest 
 
       full_clear : (also : List ℕ) → length also ≡ length (also_items x) → is_full v also ≡ false
           → IsPast 1024 (interface_spots routers) (RouterInterface (1 + length done) (1 + length front)) ⊎ IsPast 1024 (also_spots routers) (RouterInterface (1 + length done) (1 + length front)) → ⊥
-      full_clear also same free (inl h) =
-          let room = room_for v also free in
-          let one : h.0 ≡ length v.interfaces = interface_once routers h.0 (length v.interfaces) (RouterInterface (1 + length done) (1 + length front)) h.1 here in
-          let le : 1024 ≤ h.0 = h.2 in
-          omega (arith, room.0)
-      full_clear also same free (inr h) =
-          let room = room_for v also free in
-          let at : slice_get (also_spots (done ++ d ∷ rest)) h.0 ≡ Some (RouterInterface (1 + length done) (1 + length front)) = ap (λ (l : List Data). slice_get (also_spots l) h.0) (sym split)
-          ∙ h.1 in
-          let within = also_within 1 done d rest front x back items h.0 at in
-          let le : 1024 ≤ h.0 = h.2 in
-          omega (arith, room.1, within)
+      full_clear also same free (inl (k, there, most)) =
+          omega (arith, most, (room_for v also free).0, interface_once routers k (length v.interfaces) (RouterInterface (1 + length done) (1 + length front)) there here)
+      full_clear also same free (inr (k, there, most)) =
+          let at = ap (λ (l : List Data). slice_get (also_spots l) k) (sym split) ∙ there in
+          omega (arith, most, (room_for v also free).1, also_within 1 done d rest front x back items k at)
 
 -- ---- routers
 
@@ -425,6 +386,7 @@ module _ (document : Members) (links routers done : List Data) (d : Data) (rest 
   interfaces_find : (laws : TextLaws) (name : List ℕ) (all : List Data) → items_in (get (codes_of "interface") d) ≡ all
       → Finds (IsTold document links routers) (Each (interface_rows (1 + length done)) 1) (steps (interface_step (1 + length done)) 1 all (with_router name u))
   interfaces_find laws name all items =
+      let r : ℕ = 1 + length done in
       steps_finds (IsTold document links routers) (interface_step r) (interface_rows r) (0 ∷ 2 ∷ r ∷ 1 ∷ []) (interface_starts r) all (with_router name u)
       (λ front x back v parts taken.
       let read = tables_read laws links done poison w u first second in
@@ -453,14 +415,11 @@ module _ (document : Members) (links routers done : List Data) (d : Data) (rest 
       (λ m o past row f.
       none_past routers done d rest split (codes_of "interface") all items m past
       (item_stands document links routers (RouterInterface r m) o (λ n. n) (interface_starts r m o row).0 f row))
-    where
-      r : ℕ
-      r = 1 + length done
-
   owns_find : (laws : TextLaws) (name : List ℕ) (ins : List Data) (v0 : Sketch) → steps (interface_step (1 + length done)) 1 ins (with_router name u) ≡ Ok v0 → (all : List Data)
       → items_in (get (codes_of "own") d) ≡ all
       → Finds (IsTold document links routers) (Each (own_rows (1 + length done)) 1) (steps (own_step (1 + length done)) 1 all v0)
   owns_find laws name ins v0 between all items =
+      let r : ℕ = 1 + length done in
       steps_finds (IsTold document links routers) (own_step r) (own_rows r) (0 ∷ 2 ∷ r ∷ 2 ∷ []) (own_starts r) all v0
       (λ front x back v parts taken.
       let read = tables_read laws links done poison w u first second in
@@ -483,10 +442,6 @@ module _ (document : Members) (links routers done : List Data) (d : Data) (rest 
       (λ m o past row f.
       none_past routers done d rest split (codes_of "own") all items m past
       (item_stands document links routers (RouterOwn r m) o (λ n. n) (own_starts r m o row).0 f row))
-    where
-      r : ℕ
-      r = 1 + length done
-
   router_asks : (laws : TextLaws) → Asks (IsTold document links routers) (asked_at (Router (1 + length done))) (rest_at (Router (1 + length done))) (router_step (1 + length done) d u)
   unfolding router_step
   router_asks laws =
