@@ -52,9 +52,7 @@ AreApart {A} clash xs n = (m : ℕ) (z : A) → m < n → slice_get xs m ≡ Som
 clash_from : {A : Type 0} (clash : A → A → Bool) (earlier xs whole : List A) → whole ≡ earlier ++ xs → AreApart clash whole (length earlier)
     → FirstSo (Clashes clash whole) whole (first_clash clash earlier xs)
 clash_from clash earlier [] whole split apart =
-    let same : whole ≡ earlier = split ∙ append-nil earlier in
-    let count : length whole ≡ length earlier = ap length same in
-    λ k x at. apart k x (omega (arith, slice_get_within whole k x at)) at
+    λ k x at. apart k x (omega (arith, slice_get_within whole k x at, ap length (split ∙ append-nil earlier))) at
 clash_from {A} clash earlier (x ∷ xs) whole split apart =
     by_test (list_any (λ y. clash y x) earlier) refl (λ more. clash_from clash (earlier ++ x ∷ []) xs whole (split ∙ sym (append_assoc earlier (x ∷ []) xs)) more)
   where
@@ -76,10 +74,7 @@ clash_from {A} clash earlier (x ∷ xs) whole split apart =
           | inr ge ↦
               let last : m ≡ length earlier = omega arith in
               let same : x ≡ z = same_Some x z (sym here ∙ ap (slice_get whole) (sym last) ∙ at) in
-              let was : slice_get (earlier ++ x ∷ xs) j ≡ Some y = ap (λ (l : List A). slice_get l j) (sym split) ∙ there in
-              let its : slice_get earlier j ≡ Some y = elim (get_split earlier (x ∷ xs) j y was) [ inl e ↦ e.0 | inr e ↦ let past : j ≡ length earlier + e.0 = e.1 in absurd (omega arith) ] in
-              let off : clash y z ≡ false = ap (clash y) (sym same) ∙ none_at (λ y. clash y x) earlier j y e its in
-              absurd cc
+              grind (arith, get_split earlier (x ∷ xs) j y, none_at (λ y. clash y x) earlier j y e)
         ])
 
 pub first_clashing : {A : Type 0} (clash : A → A → Bool) (xs : List A) → FirstSo (Clashes clash xs) xs (first_clash clash [] xs)

@@ -33,7 +33,7 @@ use Rattle.rip_plan.proofs.TextLemmas.{TextLaws, prefix_is, no_prefix, first_nam
 use Rattle.rip_plan.specs.Texts.{IsNoPrefix, IsPrefixText, IsAddressText}
 use Rattle.rip_plan.specs.DocumentTables.{IsLinkTable, IsString, IsRouterTable, IsInterfaceTable, IsOwnTable}
 use Rattle.rip_plan.proofs.DocumentTableLemmas.{link_not, link_table, string_not, HasInterfaceFields, interface_not, interface_texts, own_not, own_texts, router_not, router_table}
-use Rattle.std.specs.List.{list_any, sum_by}
+use Rattle.std.specs.List.{sum_by}
 use Rattle.std.proofs.lemmas.List.Sums.{sum_by-append}
 use Rattle.rip_plan.specs.declared.error.PlanError.{PlanError}
 use Rattle.rip_wire.specs.Address.{address_in}
@@ -257,9 +257,6 @@ costs_clear x f fields c e costs directs wrong = grind arith
 self_on : (l : ℕ) (q : DraftPlace) → q.seat ≡ seats.Link l → is_on l q.seat ≡ true
 self_on l q e = rw e (grind (arith, nat_tests))
 
-both_not : (a b : Bool) → (a && not b) ≡ true → (a ≡ true) × (b ≡ false)
-both_not a b h = grind arith
-
 -- the prefixes of a link are those of the places on it
 module _ (laws : TextLaws) (links done : List Data) (poison : Bool) (v : Sketch) (read : TablesRead links done poison v)
     (differ : (l m : ℕ) (name : List ℕ) → slice_get v.links l ≡ Some name → slice_get v.links m ≡ Some name → l ≡ m) where
@@ -285,8 +282,7 @@ module _ (laws : TextLaws) (links done : List Data) (poison : Bool) (v : Sketch)
       → number_of_name name v.links ≡ Some l → is_outside l a v.places ≡ true → IsOutside links x
   outside_told x name text a l has has_text parsed h out =
       let (d, listed, named) = matched_left IsNameOf v.links links l name read.link_names (first_named name v.links l h).0 in
-      let (some, none) = both_not (list_any (λ (p : DraftPlace). is_on l p.seat) v.places) (list_any (λ (p : DraftPlace). is_on l p.seat && has_address p.prefix a) v.places) out in
-      let (k, q, at, on) = any_finds (λ (p : DraftPlace). is_on l p.seat) v.places some in
+      let (k, q, at, on) = any_finds (λ (p : DraftPlace). is_on l p.seat) v.places (grind arith) in
       record {
         text = text;
         has_address = has_text;

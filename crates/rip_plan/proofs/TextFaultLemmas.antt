@@ -130,11 +130,8 @@ module _ (laws : TextLaws) (bytes : List ℕ) (document : Members) (short : leng
   text_turn : InTurn text_rows table_rows
   text_turn = grind (arith, tables_low)
 
-  over_told : (links routers : List Data) → (nat_lt 512 (length links) || nat_lt 128 (length routers)) ≡ true → (512 < length links) ⊎ (128 < length routers)
-  over_told links routers h = grind arith
-
-  over_clear : (links routers : List Data) → (nat_lt 512 (length links) || nat_lt 128 (length routers)) ≡ false → (512 < length links) ⊎ (128 < length routers) → ⊥
-  over_clear links routers h over = grind arith
+  over : (links routers : List Data) → (nat_lt 512 (length links) || nat_lt 128 (length routers)) ≡ true ↔ ((512 < length links) ⊎ (128 < length routers))
+  over links routers = (λ h. grind arith, λ h. grind (arith, nat_tests))
 
   document_asks : Asks (IsTextFault bytes) text_rows table_rows (sketch_of_document document)
   unfolding sketch_of_document
@@ -152,25 +149,20 @@ module _ (laws : TextLaws) (bytes : List ℕ) (document : Members) (short : leng
       let h = in_table bytes 0 codes.Key Text (λ a. a) f in
       h.2 (subst IsRoot (sym (same_document bytes document h.0 reads h.1)) (root_table document r.0 r.1 r.2 is).shape))
       (λ r is.
-      ask_guard (nat_lt 512 (length r.0) || nat_lt 128 (length r.1)) _ (λ over. inl (inr (document, r.0, r.1, tables r.0 r.1 r.2 is, over_told r.0 r.1 over), refl))
+      ask_guard (nat_lt 512 (length r.0) || nat_lt 128 (length r.1)) _ (λ more. inl (inr (document, r.0, r.1, tables r.0 r.1 r.2 is, (over r.0 r.1).0 more), refl))
       (λ room f. limit_clear r.0 r.1 r.2 is room (in_table bytes 0 codes.Limit Text (λ a. a) f))
       (λ room.
       ask_rest (finds_in (IsOfTables document r.0 r.1) (IsTextFault bytes) table_rows table_rows
       (steps link_step 1 r.0 (empty r.2) >>= steps router_step 1 r.1 >>= (λ s. second_passes s >>= (λ _. Ok s))) (λ o t. whole r.0 r.1 r.2 is o t) (λ o here. here)
-      (λ o here f. by_fault r.0 r.1 o here (split_fault r.0 r.1 r.2 is o.pass o.error.code o.error.place f))
+      (λ o here f. elim (split_fault r.0 r.1 r.2 is o.pass o.error.code o.error.place f) [ inl before ↦ absurd (tables_low o here before) | inr told ↦ (told, here) ])
       (tables_find laws document r.0 r.1 r.2 is)))))
     where
       limit_clear : (links routers : List Data) (poison : Bool) → root_fields document ≡ Some (links, routers, poison) → (nat_lt 512 (length links) || nat_lt 128 (length routers)) ≡ false
           → FaultAt bytes codes.Limit Text → ⊥
       limit_clear links routers poison is room (inl more) = let past : 1048576 < length bytes = more in omega arith
-      limit_clear links routers poison is room (inr (other, ls, rs, has, over)) =
+      limit_clear links routers poison is room (inr (other, ls, rs, has, more)) =
           let same = one_tables bytes document links routers (tables links routers poison is) other ls rs has in
-          over_clear links routers room (subst (λ (t : Members × List Data × List Data). (512 < length t.1) ⊎ (128 < length t.2)) same over)
-
-      by_fault : (links routers : List Data) (o : Found) → table_rows o → Before (ranked o) (0 ∷ 1 ∷ []) ⊎ IsOfTables document links routers o
-          → IsOfTables document links routers o × table_rows o
-      by_fault links routers o h (inl before) = absurd (tables_low o h before)
-      by_fault links routers o h (inr told) = (told, h)
+          both_ways (nat_lt 512 (length links) || nat_lt 128 (length routers)) room ((over links routers).1 (subst (λ (t : Members × List Data × List Data). (512 < length t.1) ⊎ (128 < length t.2)) same more))
 
   row_covered : (c : PlanCode) (place : At) → FaultAt bytes c place → Among text_rows table_rows (row_at c place)
   row_covered codes.Syntax Text h = absurd (none-some document (sym h.1 ∙ reads))

@@ -17,10 +17,7 @@ loop-k-preserved c =
     let k = c.loop-k.k in
     let x = c.index-also-k.result in
     let front : drop k also ≡ x ∷ drop (k + 1) also = rest_from also k x c.loop-k-test.true c.index-also-k.is in
-    ap (λ hs. hs ++ map held (drop (k + 1) also)) c.in_ok-push-2.ensures.items
-    ∙ append_assoc c.loop-k.held.items (held x ∷ []) (map held (drop (k + 1) also))
-    ∙ ap (λ (rest : List ℕ). c.loop-k.held.items ++ map held rest) (sym front)
-    ∙ c.loop-k.invariant
+    rw (c.in_ok-push-2.ensures.items, append_assoc c.loop-k.held.items (held x ∷ []) (map held (drop (k + 1) also))) (rw front at c.loop-k.invariant)
 
 pub returns : goal.returns
 returns c =

@@ -1,6 +1,5 @@
 use Rattle.std.proofs.Common.{◌≡◌, ◌+◌, ◌<◌, ◌++◌, ◌∷◌, [], ℕ, List, Vec, Global, drop, get_or, length, map, append_assoc, ap, arith, sym, ◌∙◌}
 use Rattle.std.proofs.lemmas.List.{append-nil, drop_all, get_or-map, length-map}
-use Rattle.rip_plan.specs.declared.addresses.Held.{Held}
 use Rattle.rip_plan.specs.declared.parts.Interface.{Interface}
 use Rattle.rip_plan.specs.Addresses.{held_by, held_from}
 use Rattle.rip_plan.proofs.ClashLemmas.{rest_from}
@@ -19,13 +18,7 @@ loop-i-preserved c =
     let read : items further ≡ get_or also i (items further) = ap items c.index-also-i.is ∙ sym (get_or-map items c.args.also.now i further (items further) within) in
     let two : drop i also ≡ items further ∷ drop (i + 1) also = rest_from also i (items further) (omega (arith, within, length-map c.args.also.now items)) read in
     let rest = held_from (i + 1) (drop (i + 1) is) (drop (i + 1) also) in
-    let front : held_from i (drop i is) (drop i also) ≡ held_by i x (items further) ++ rest =
-    ap (λ (xs : List Interface). held_from i xs (drop i also)) one ∙ ap (held_from i (x ∷ drop (i + 1) is)) two in
-    ap (λ hs. hs ++ rest) c.in_ok-add_addresses.ensures
-    ∙ ap (λ (own : List ℕ). (c.loop-i.held.items ++ held_by i x own) ++ rest) c.as_slice.ensures.value
-    ∙ append_assoc c.loop-i.held.items (held_by i x (items further)) rest
-    ∙ ap (λ (hs : List Held). c.loop-i.held.items ++ hs) (sym front)
-    ∙ c.loop-i.invariant
+    rw (c.in_ok-add_addresses.ensures, c.as_slice.ensures.value, append_assoc c.loop-i.held.items (held_by i x (items further)) rest) (rw (one, two) at c.loop-i.invariant)
 
 pub returns : goal.returns
 returns c =
