@@ -1,11 +1,14 @@
--- f of each number below n.
-use Rattle.std.proofs.Common.{◌≡◌, ◌≢◌, ℕ, zero, suc, ◌+◌, ◌<◌, List, [], ◌∷◌, ◌++◌, length, map, take, Bool, true, false, cond, get_or, refl, sym, ◌∙◌, ap, arith, length-append, inl, inr}
+-- f of each number below n, and the numbers of the items that pass a test.
+use Rattle.std.proofs.Common.{◌≡◌, ◌≢◌, ℕ, zero, suc, ◌+◌, ◌<◌, List, [], ◌∷◌, ◌++◌, length, map, take, Bool, true, false, cond, get_or, refl, sym, ◌∙◌, ap, arith, length-append, inl, inr, ◌≤◌, Some}
 use Rattle.std.proofs.lemmas.List.{get_or_append_left, get_or_push, get_or-map, length-map, get_or-set_same, get_or-set_other, same_lists, map-set, take_more, length-take-le}
 use Rattle.std.proofs.Math.ListN.{set, length-set}
-use Rattle.std.specs.Prelude.{◌==◌}
-use Rattle.std.proofs.lemmas.Bool.{cases_Bool, cases_lt, cases_eq}
+use Rattle.std.specs.Prelude.{◌==◌, slice_get}
+use Rattle.std.proofs.lemmas.Bool.{cases_Bool, cases_eq}
 use Rattle.std.proofs.lemmas.Bool.Decides.{nat_tests}
 use Rattle.rip_plan.specs.Network.{each_below, numbers_where}
+use Rattle.std.specs.List.{Contains}
+use Rattle.std.specs.List.Sorted.{IsStrictlyIncreasing}
+use Rattle.std.proofs.lemmas.Option.{none-some, same_Some, slice_get_within, get_or_from_slice_get, slice_get-get_or}
 
 pub length-each_below : {A : Type 0} (n : ℕ) (f : ℕ → A) → length (each_below n f) ≡ n
 length-each_below zero f = refl
@@ -13,13 +16,7 @@ length-each_below (suc n) f = omega (arith, length-append (each_below n f) (f n 
 
 pub each_below-at : {A : Type 0} (n : ℕ) (f : ℕ → A) (l : ℕ) (d : A) → l < n → get_or (each_below n f) l d ≡ f l
 each_below-at zero f l d h = absurd (omega arith)
-each_below-at (suc n) f l d h =
-    elim (cases_lt l n) [
-      | inl below ↦ get_or_append_left (each_below n f) (f n ∷ []) d l (omega (arith, below, length-each_below n f)) ∙ each_below-at n f l d below
-      | inr last ↦
-          let here : l ≡ n = omega (arith, last, h) in
-          rw here (get_or_push (each_below n f) (f n) d n (length-each_below n f))
-    ]
+each_below-at (suc n) f l d h = grind (arith, get_or_append_left (each_below n f) (f n ∷ []) d l, get_or_push (each_below n f) (f n) d n, length-each_below n f, each_below-at n f l d)
 
 -- a list that is kept for each number below n, seen by view
 pub kept_at : {V A : Type 0} (view : V → A) (vs : List V) (n : ℕ) (f : ℕ → A) (l : ℕ) (v : V) → map view vs ≡ each_below n f → l < n → v ≡ get_or vs l v → view v ≡ f l
@@ -28,9 +25,7 @@ kept_at view vs n f l v kept below is =
     ap view is ∙ sym (get_or-map view vs l v (view v) (omega arith)) ∙ ap (λ xs. get_or xs l (view v)) kept ∙ each_below-at n f l (view v) below
 
 pub kept_within : {V A : Type 0} (view : V → A) (vs : List V) (n : ℕ) (f : ℕ → A) (l : ℕ) → map view vs ≡ each_below n f → l < n → l < length vs
-kept_within view vs n f l kept below =
-    let same : length vs ≡ n = sym (length-map vs view) ∙ ap length kept ∙ length-each_below n f in
-    omega arith
+kept_within view vs n f l kept below = grind (arith, length-map, length-each_below)
 
 -- another value at one number
 pub each_below_set : {A : Type 0} (n : ℕ) (f g : ℕ → A) (l : ℕ) → l < n → ((k : ℕ) → k ≢ l → g k ≡ f k) → set (each_below n f) l (g l) ≡ each_below n g
@@ -50,14 +45,8 @@ each_below_set {A} n f g l within others = same_lists (set (each_below n f) l (g
 -- one more item
 pub numbers_where_push : {A : Type 0} (test : A → Bool) (n : ℕ) (xs : List A) (x : A) →
     numbers_where test n (xs ++ x ∷ []) ≡ cond (test x) (numbers_where test n xs ++ (n + length xs) ∷ []) (numbers_where test n xs)
-numbers_where_push test n [] x = let same : n + 0 ≡ n = omega arith in rw same refl
-numbers_where_push test n (y ∷ ys) x =
-    let same : n + 1 + length ys ≡ n + suc (length ys) = omega arith in
-    let later = numbers_where_push test (n + 1) ys x in
-    elim (cases_Bool (test y)) [
-      | inl e ↦ elim (cases_Bool (test x)) [ inl f ↦ rw (e, later, f, same) refl | inr f ↦ rw (e, later, f) refl ]
-      | inr e ↦ rw (e, later, same) refl
-    ]
+numbers_where_push test n [] x = grind arith
+numbers_where_push test n (y ∷ ys) x = grind (arith, numbers_where_push test (n + 1) ys x)
 
 -- the numbers of the items of each key, with one more item
 pub grouped_more : {A V : Type 0} (view : V → List ℕ) (vs : List V) (n : ℕ) (key : A → ℕ) (xs : List A) (i : ℕ) (x : A) (v w : V)
@@ -88,3 +77,45 @@ grouped_more {A} view vs n key xs i x v w kept within is below at pushed =
 
     others : (k : ℕ) → k ≢ key x → new k ≡ old k
     others k apart = let off : (key x == k) ≡ false = grind (arith, nat_tests) in more k ∙ rw off refl
+
+pub contains_at : {A : Type 0} (xs : List A) (k : ℕ) (x : A) → slice_get xs k ≡ Some x → Contains xs x
+contains_at xs k x h = (k, slice_get_within xs k x h, get_or_from_slice_get xs k x x h)
+
+pub at_contains : {A : Type 0} (xs : List A) (x : A) → Contains xs x → (k : ℕ) × (slice_get xs k ≡ Some x)
+at_contains {A} xs x c = (c.0, slice_get-get_or xs c.0 x c.1 ∙ ap (λ (y : A). Some y) c.2)
+
+-- each number is that of an item that passes
+pub number_passes : {A : Type 0} (test : A → Bool) (n : ℕ) (xs : List A) (k m : ℕ) → slice_get (numbers_where test n xs) k ≡ Some m →
+    (i : ℕ) × (x : A) × (m ≡ n + i) × (slice_get xs i ≡ Some x) × (test x ≡ true)
+number_passes test n [] k m h = absurd (none-some m h)
+number_passes {A} test n (x ∷ xs) k m h = by_head (test x) refl k h (λ j e. number_passes test (n + 1) xs j m e)
+  where
+    later : (i : ℕ) (y : A) → m ≡ n + 1 + i → slice_get xs i ≡ Some y → test y ≡ true → (j : ℕ) × (z : A) × (m ≡ n + j) × (slice_get (x ∷ xs) j ≡ Some z) × (test z ≡ true)
+    later i y e at t = (suc i, y, omega arith, at, t)
+
+    by_head : (b : Bool) → test x ≡ b → (j : ℕ) → slice_get (cond b (n ∷ numbers_where test (n + 1) xs) (numbers_where test (n + 1) xs)) j ≡ Some m
+        → ((p : ℕ) → slice_get (numbers_where test (n + 1) xs) p ≡ Some m → (i : ℕ) × (y : A) × (m ≡ n + 1 + i) × (slice_get xs i ≡ Some y) × (test y ≡ true))
+        → (i : ℕ) × (y : A) × (m ≡ n + i) × (slice_get (x ∷ xs) i ≡ Some y) × (test y ≡ true)
+    by_head true e zero at others = let same : n ≡ m = same_Some n m at in (zero, x, omega arith, refl, e)
+    by_head true e (suc j) at others = let (i, y, p, q, t) = others j at in later i y p q t
+    by_head false e j at others = let (i, y, p, q, t) = others j at in later i y p q t
+
+-- the number of each item that passes is there
+pub passing_number : {A : Type 0} (test : A → Bool) (n : ℕ) (xs : List A) (i : ℕ) (x : A) → slice_get xs i ≡ Some x → test x ≡ true → (k : ℕ) × (slice_get (numbers_where test n xs) k ≡ Some (n + i))
+passing_number test n [] i x h t = absurd (none-some x h)
+passing_number test n (y ∷ ys) zero x h t = (zero, grind arith)
+passing_number {A} test n (y ∷ ys) (suc i) x h t =
+    let (k, is) = passing_number test (n + 1) ys i x h t in
+    let at : n + 1 + i ≡ n + suc i = omega arith in
+    let later = is ∙ ap (λ (m : ℕ). Some m) at in
+    elim (cases_Bool (test y)) [ inl e ↦ (suc k, rw e later) | inr e ↦ (k, rw e later) ]
+
+low : {A : Type 0} (test : A → Bool) (n : ℕ) (xs : List A) (k : ℕ) → k < length (numbers_where test n xs) → n ≤ get_or (numbers_where test n xs) k 0
+low test n xs k h = grind (arith, number_passes, slice_get-get_or)
+
+rising_cons : (n : ℕ) (ws : List ℕ) → ((k : ℕ) → k < length ws → n + 1 ≤ get_or ws k 0) → IsStrictlyIncreasing ws → IsStrictlyIncreasing (n ∷ ws)
+rising_cons n ws h g = grind arith
+
+pub rising : {A : Type 0} (test : A → Bool) (n : ℕ) (xs : List A) → IsStrictlyIncreasing (numbers_where test n xs)
+rising test n [] = λ k h. absurd (omega arith)
+rising test n (x ∷ xs) = grind (arith, rising_cons n, low test (n + 1) xs, rising test (n + 1) xs)

@@ -12,7 +12,7 @@ use Rattle.rip_plan.specs.declared.parts.Interface.{Interface}
 use Rattle.rip_plan.specs.Network.{numbers_where, is_on, cost_on}
 use Rattle.rip_plan.specs.Rows.{cost_among}
 use Rattle.rip_plan.proofs.ItemLemmas.{get_last, get_left}
-use Rattle.rip_plan.proofs.NumbersWhereLemmas.{number_passes}
+use Rattle.rip_plan.proofs.BelowLemmas.{number_passes}
 
 pub cell_set : {A : Type 0} (xs : List A) (w a b r k : ℕ) (v d : A) → a * w + b < length xs → b < w → k < w
     → get_or (set xs (a * w + b) v) (r * w + k) d ≡ cond (eqb a r && eqb b k) v (get_or xs (r * w + k) d)

@@ -1,10 +1,12 @@
--- What is found first in a list, an item that passes or one that clashes with an earlier one, and how a loop finds it.
-use Rattle.std.proofs.Common.{◌≡◌, ℕ, suc, inl, inr, ◌+◌, ◌-◌, ◌<◌, List, [], ◌∷◌, ◌++◌, Bool, true, false, cond, not, ◌&&◌, ◌||◌, length, map, take, drop, get_or, Option, Some, refl, sym, ap, ◌∙◌, arith, zero, length-append, append_assoc, None, subst}
+-- What is found first in a list, an item that passes or one that clashes with an earlier one, and how a loop finds it,
+-- from the first item to the last or from the last to the first.
+use Rattle.std.proofs.Common.{◌≡◌, ℕ, suc, inl, inr, ◌+◌, ◌-◌, ◌<◌, List, [], ◌∷◌, ◌++◌, Bool, true, false, cond, not, ◌&&◌, ◌||◌, length, map, take, drop, get_or, Option, Some, refl, sym, ap, ◌∙◌, arith, zero, length-append, append_assoc, None, subst, ◌≤◌}
+use Rattle.std.proofs.lemmas.List.Elements.{filter-append}
 use Rattle.std.specs.Prelude.{find, option_map, filter, slice_get}
-use Rattle.std.specs.List.{list_any}
+use Rattle.std.specs.List.{list_any, position_from}
 use Rattle.std.proofs.lemmas.Bool.{cases_Bool, not-false, not-true, cases_lt}
 use Rattle.std.proofs.lemmas.List.{drop_more, map-append, take_more, append-nil}
-use Rattle.rip_plan.proofs.ItemLemmas.{cases_option, any_finds, get_left, get_past, get_split, none_at}
+use Rattle.rip_plan.proofs.ItemLemmas.{any_finds, get_left, get_past, get_split, none_at}
 use Rattle.std.proofs.lemmas.List.Folds.{list_any_more}
 use Rattle.rip_plan.specs.Passes.{do_meet, first_clash, first_bare, is_bare, touching}
 use Rattle.rip_plan.specs.declared.draft.DraftPlace.{DraftPlace}
@@ -50,9 +52,7 @@ AreApart {A} clash xs n = (m : ℕ) (z : A) → m < n → slice_get xs m ≡ Som
 clash_from : {A : Type 0} (clash : A → A → Bool) (earlier xs whole : List A) → whole ≡ earlier ++ xs → AreApart clash whole (length earlier)
     → FirstSo (Clashes clash whole) whole (first_clash clash earlier xs)
 clash_from clash earlier [] whole split apart =
-    let same : whole ≡ earlier = split ∙ append-nil earlier in
-    let count : length whole ≡ length earlier = ap length same in
-    λ k x at. apart k x (omega (arith, slice_get_within whole k x at)) at
+    λ k x at. apart k x (omega (arith, slice_get_within whole k x at, ap length (split ∙ append-nil earlier))) at
 clash_from {A} clash earlier (x ∷ xs) whole split apart =
     by_test (list_any (λ y. clash y x) earlier) refl (λ more. clash_from clash (earlier ++ x ∷ []) xs whole (split ∙ sym (append_assoc earlier (x ∷ []) xs)) more)
   where
@@ -74,10 +74,7 @@ clash_from {A} clash earlier (x ∷ xs) whole split apart =
           | inr ge ↦
               let last : m ≡ length earlier = omega arith in
               let same : x ≡ z = same_Some x z (sym here ∙ ap (slice_get whole) (sym last) ∙ at) in
-              let was : slice_get (earlier ++ x ∷ xs) j ≡ Some y = ap (λ (l : List A). slice_get l j) (sym split) ∙ there in
-              let its : slice_get earlier j ≡ Some y = elim (get_split earlier (x ∷ xs) j y was) [ inl e ↦ e.0 | inr e ↦ let past : j ≡ length earlier + e.0 = e.1 in absurd (omega arith) ] in
-              let off : clash y z ≡ false = ap (clash y) (sym same) ∙ none_at (λ y. clash y x) earlier j y e its in
-              absurd cc
+              grind (arith, get_split earlier (x ∷ xs) j y, none_at (λ y. clash y x) earlier j y e)
         ])
 
 pub first_clashing : {A : Type 0} (clash : A → A → Bool) (xs : List A) → FirstSo (Clashes clash xs) xs (first_clash clash [] xs)
@@ -87,6 +84,17 @@ first_clashing clash xs = clash_from clash [] xs xs refl (λ m z less. absurd (o
 pub rest_from : {A : Type 0} (xs : List A) (k : ℕ) (x : A) → k < length xs → x ≡ get_or xs k x → drop k xs ≡ x ∷ drop (k + 1) xs
 rest_from xs k x lt is = drop_more xs k x lt ∙ ap (λ y. y ∷ drop (k + 1) xs) (sym is)
 
+-- the same at the item before i, where a loop goes from the last item to the first
+pub back_at : {A : Type 0} (xs : List A) (i : ℕ) (d : A) → 0 < i → i ≤ length xs → drop (i - 1) xs ≡ get_or xs (i - 1) d ∷ drop i xs
+back_at xs i d some within = let back : i - 1 + 1 ≡ i = omega arith in drop_more xs (i - 1) d (omega arith) ∙ rw back refl
+
+pub back_is : {A : Type 0} (xs : List A) (i : ℕ) (x : A) → 0 < i → i ≤ length xs → x ≡ get_or xs (i - 1) x → drop (i - 1) xs ≡ x ∷ drop i xs
+back_is {A} xs i x some within is = back_at xs i x some within ∙ ap (λ (y : A). y ∷ drop i xs) (sym is)
+
+pub first_back : {A : Type 0} (test : A → Bool) (xs : List A) (i : ℕ) (x : A) → 0 < i → i ≤ length xs → x ≡ get_or xs (i - 1) x
+    → cond (test x) (Some (i - 1)) (position_from test i (drop i xs)) ≡ position_from test (i - 1) (drop (i - 1) xs)
+first_back test xs i x some within is = let back : i - 1 + 1 ≡ i = omega arith in rw (back_is xs i x some within is, back) refl
+
 module _ {A : Type 0} (clash : A → A → Bool) (xs : List A) (k : ℕ) (x : A) (lt : k < length xs) (is : x ≡ get_or xs k x) where
   -- an item that clashes is the first
   pub clash_here : (total : Option A) → list_any (λ y. clash y x) (take k xs) ≡ true → first_clash clash (take k xs) (drop k xs) ≡ total → Some x ≡ total
@@ -95,10 +103,7 @@ module _ {A : Type 0} (clash : A → A → Bool) (xs : List A) (k : ℕ) (x : A)
   -- after one that does not, the search goes on
   pub clash_later : (total : Option A) → list_any (λ y. clash y x) (take k xs) ≡ false → first_clash clash (take k xs) (drop k xs) ≡ total →
       first_clash clash (take (k + 1) xs) (drop (k + 1) xs) ≡ total
-  clash_later total none so_far =
-      let front : take (k + 1) xs ≡ take k xs ++ x ∷ [] = take_more xs k x lt ∙ ap (λ y. take k xs ++ y ∷ []) (sym is) in
-      let here : first_clash clash (take k xs) (drop k xs) ≡ first_clash clash (take k xs ++ x ∷ []) (drop (k + 1) xs) = rw (rest_from xs k x lt is, none) refl in
-      rw front (sym here ∙ so_far)
+  clash_later total none so_far = grind (arith, take_more, rest_from)
 
 -- the items seen by a function
 any_seen : {A B : Type 0} (see : A → B) (test : B → Bool) (xs : List A) → list_any test (map see xs) ≡ list_any (λ x. test (see x)) xs
@@ -108,21 +113,13 @@ any_seen see test (x ∷ xs) = rw (any_seen see test xs) refl
 pub first_clash-map : {A B : Type 0} (see : A → B) (clash : B → B → Bool) (earlier xs : List A) →
     option_map see (first_clash (λ x y. clash (see x) (see y)) earlier xs) ≡ first_clash clash (map see earlier) (map see xs)
 first_clash-map see clash earlier [] = refl
-first_clash-map see clash earlier (x ∷ xs) =
-    elim (cases_Bool (list_any (λ y. clash (see y) (see x)) earlier)) [
-      | inl e ↦ rw (e, any_seen see (λ y. clash y (see x)) earlier, e) refl
-      | inr e ↦ rw (e, any_seen see (λ y. clash y (see x)) earlier, e, ← map-append see earlier (x ∷ [])) (first_clash-map see clash (earlier ++ x ∷ []) xs)
-    ]
+first_clash-map see clash earlier (x ∷ xs) = grind (arith, any_seen see, map-append, first_clash-map see clash (earlier ++ x ∷ []) xs)
 
 -- the places that meet, with the routers that they touch
 pub meeting_seen : (interfaces : List DraftInterface) (places : List DraftPlace) →
     option_map (λ p. p.at) (first_clash (λ p q. do_meet (touching interfaces p) (touching interfaces q)) [] places) ≡ option_map (λ t. t.place.at)
     (first_clash do_meet [] (map (touching interfaces) places))
-meeting_seen interfaces places =
-    elim (cases_option (first_clash (λ p q. do_meet (touching interfaces p) (touching interfaces q)) [] places)) [
-      | inl e ↦ rw (← first_clash-map (touching interfaces) do_meet [] places, e) refl
-      | inr (p, e) ↦ rw (← first_clash-map (touching interfaces) do_meet [] places, e) refl
-    ]
+meeting_seen interfaces places = rw (← first_clash-map (touching interfaces) do_meet [] places) (grind arith)
 
 -- the items that pass, seen by a function
 pub any_listed : {A B : Type 0} (see : A → B) (test : A → Bool) (p : B → Bool) (xs : List A) → list_any p (map see (filter test xs)) ≡ list_any (λ x. test x && p (see x)) xs
@@ -135,12 +132,7 @@ any_kept see test (x ∷ xs) = elim (cases_Bool (test x)) [ inl e ↦ rw e refl 
 
 pub listed_push : {A B : Type 0} (see : A → B) (test : A → Bool) (xs : List A) (x : A) →
     map see (filter test (xs ++ x ∷ [])) ≡ cond (test x) (map see (filter test xs) ++ see x ∷ []) (map see (filter test xs))
-listed_push see test [] x = elim (cases_Bool (test x)) [ inl e ↦ rw e refl | inr e ↦ rw e refl ]
-listed_push see test (y ∷ ys) x =
-    elim (cases_Bool (test y)) [
-      | inl e ↦ elim (cases_Bool (test x)) [ inl f ↦ rw (e, listed_push see test ys x, f) refl | inr f ↦ rw (e, listed_push see test ys x, f) refl ]
-      | inr e ↦ rw (e, listed_push see test ys x) refl
-    ]
+listed_push see test xs x = grind (arith, filter-append test xs (x ∷ []), map-append see, append-nil)
 
 -- a key that a set had already, or that is new
 pub not_added : (had is_new : Bool) → is_new ≡ not had → is_new ≡ false → had ≡ true
@@ -169,7 +161,4 @@ module _ {A : Type 0} (test : A → Bool) (xs : List A) (k : ℕ) (x : A) (lt : 
 
 pub bare_later : (interfaces : List DraftInterface) (n k : ℕ) (total : Option ℕ) → k < n → is_bare interfaces k ≡ false → first_bare interfaces k (n - k) ≡ total →
     first_bare interfaces (k + 1) (n - (k + 1)) ≡ total
-bare_later interfaces n k total lt bare so_far =
-    let left : n - k ≡ suc (n - (k + 1)) = omega arith in
-    let here : first_bare interfaces k (n - k) ≡ first_bare interfaces (k + 1) (n - (k + 1)) = rw (left, bare) refl in
-    sym here ∙ so_far
+bare_later interfaces n k total lt bare so_far = let left : n - k ≡ suc (n - (k + 1)) = omega arith in rw (left, bare) at so_far

@@ -1,7 +1,7 @@
 -- The addresses of interfaces in one list, in which order they stand, and what is found there.
 use Rattle.std.proofs.Common.{◌≡◌, ℕ, zero, suc, ◌+◌, inl, inr, List, [], ◌∷◌, ◌++◌, true, Some, None, refl, sym, ◌∙◌, ap, arith, ◌<◌, ◌⊎◌}
-use Rattle.std.proofs.lemmas.Bool.{and_from, cases_Bool, eq-eqb}
-use Rattle.std.specs.Prelude.{slice_get, ◌==◌}
+use Rattle.std.proofs.lemmas.Bool.{cases_Bool, eq-eqb}
+use Rattle.std.specs.Prelude.{slice_get}
 use Rattle.std.proofs.lemmas.Option.{none-some, same_Some}
 use Rattle.rip_plan.specs.declared.addresses.Held.{Held}
 use Rattle.rip_plan.specs.declared.parts.Interface.{Interface}
@@ -10,7 +10,7 @@ use Rattle.rip_plan.specs.Network.{Network, addresses_of}
 use Rattle.rip_plan.specs.Relations.{HasAddress, HasAddresses}
 use Rattle.rip_plan.proofs.FlatLemmas.{IsIn, count_ahead, flat, in_flat, in_order, is_in}
 use Rattle.rip_plan.proofs.ItemLemmas.{get_seen, see_got}
-use Rattle.rip_plan.proofs.NumbersWhereLemmas.{contains_at, at_contains}
+use Rattle.rip_plan.proofs.BelowLemmas.{contains_at, at_contains}
 
 -- the interfaces, each with its further addresses
 abbrev with_further : List Interface → List (List ℕ) → List (Interface × List ℕ)
@@ -27,17 +27,15 @@ held_flat n (i ∷ is) [] = refl
 held_flat n (i ∷ is) (further ∷ also) = ap (λ (l : List Held). held_by n i further ++ l) (held_flat (n + 1) is also)
 
 pair_at : (is : List Interface) (also : List (List ℕ)) (i : ℕ) (p : Interface × List ℕ) → slice_get (with_further is also) i ≡ Some p → (slice_get is i ≡ Some p.0) × (slice_get also i ≡ Some p.1)
-pair_at [] also i p h = absurd (none-some p h)
-pair_at (x ∷ is) [] i p h = absurd (none-some p h)
-pair_at (x ∷ is) (further ∷ also) zero p h = (ap (λ (q : Interface × List ℕ). Some q.0) (same_Some (x, further) p h), ap (λ (q : Interface × List ℕ). Some q.1) (same_Some (x, further) p h))
+pair_at (x ∷ is) (further ∷ also) zero p h = grind arith
 pair_at (x ∷ is) (further ∷ also) (suc i) p h = pair_at is also i p h
+pair_at is also i p h = grind arith
 
 at_pair : (is : List Interface) (also : List (List ℕ)) (i : ℕ) (x : Interface) (further : List ℕ) → slice_get is i ≡ Some x → slice_get also i ≡ Some further
     → slice_get (with_further is also) i ≡ Some (x, further)
-at_pair [] also i x further h its = absurd (none-some x h)
-at_pair (y ∷ is) [] i x further h its = absurd (none-some further its)
-at_pair (y ∷ is) (front ∷ also) zero x further h its = rw (same_Some y x h, same_Some front further its) refl
+at_pair (y ∷ is) (front ∷ also) zero x further h its = grind arith
 at_pair (y ∷ is) (front ∷ also) (suc i) x further h its = at_pair is also i x further h its
+at_pair is also i x further h its = grind arith
 
 -- address k of the list is one of an interface
 pub record HeldIn (is : List Interface) (also : List (List ℕ)) (k : ℕ) (h : Held) : Type 0 where
@@ -78,11 +76,8 @@ holder_found l a i (h ∷ hs) e =
 
 holder_there : (l a i k : ℕ) (hs : List Held) → slice_get hs k ≡ Some (record { interface = i; link = l; address = a }) → holder_at l a hs ≡ None → ⊥
 holder_there l a i k [] at e = absurd (none-some _ at)
-holder_there l a i zero (h ∷ hs) at e =
-    let same = same_Some h _ at in
-    let test : is_at l a h ≡ true = rw same (and_from (l == l) (a == a) (eq-eqb l l refl) (eq-eqb a a refl)) in
-    none-some h.interface (sym (rw test at e))
-holder_there l a i (suc k) (h ∷ hs) at e = elim (cases_Bool (is_at l a h)) [ inl t ↦ none-some h.interface (sym (rw t at e)) | inr t ↦ holder_there l a i k hs at (rw t at e) ]
+holder_there l a i zero (h ∷ hs) at e = grind (arith, eq-eqb l l, eq-eqb a a)
+holder_there l a i (suc k) (h ∷ hs) at e = grind (arith, holder_there l a i k hs at)
 
 -- ---- of a network
 

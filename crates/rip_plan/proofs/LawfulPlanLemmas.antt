@@ -29,16 +29,15 @@ use Rattle.rip_plan.specs.PlanOf.{AreAlsoOf, HasItems, IsAddressOf, IsCostOf, Is
 use Rattle.rip_plan.specs.PlanText.{sketch_of}
 use Rattle.rip_plan.specs.Relations.{Carries, HasAddress, HasAddresses, HasOwnAddress, IsAttached, IsConnected, IsEachOnce, IsGateway, IsInside, IsInterface, IsLawful, IsOn, IsOwnAt, IsPlace, IsPrefix}
 use Rattle.rip_plan.proofs.DocumentTableLemmas.{by_root}
-use Rattle.rip_plan.proofs.FurtherAddressLemmas.{also_spot}
+use Rattle.rip_plan.proofs.SpotLemmas.{also_spot, interface_spot, place_spot, under_item}
 use Rattle.rip_plan.proofs.ItemLemmas.{all_at, all_here, any_finds, cases_option, distinct_at, get_left, get_seen, get_some, get_split, none_at}
 use Rattle.rip_plan.proofs.LookupLemmas.{cost_found, cost_there, interface_of, on_seat}
 use Rattle.rip_plan.proofs.MatchingLemmas.{matched_left, matched_length}
 use Rattle.rip_plan.proofs.NumberingLemmas.{once_distinct, once_kept, same_self}
-use Rattle.rip_plan.proofs.NumbersWhereLemmas.{at_contains}
+use Rattle.rip_plan.proofs.BelowLemmas.{at_contains}
 use Rattle.rip_plan.proofs.OnePlanLemmas.{items_same}
 use Rattle.rip_plan.proofs.PlanMatchLemmas.{matches}
 use Rattle.rip_plan.proofs.PlanPartLemmas.{apart, names_differ, also_counted, carrier_has, prefix_place, interface_table, interfaces_count, its_place, own_table, places_count}
-use Rattle.rip_plan.proofs.SpotLemmas.{interface_spot, place_spot, under_item}
 use Rattle.rip_plan.proofs.TextFaultLemmas.{faultless, read_or_told, whole_fault}
 use Rattle.rip_plan.proofs.TextLemmas.{TextLaws, one_prefix}
 

@@ -6,7 +6,7 @@ use Rattle.std.proofs.lemmas.Bool.{cases_lt}
 use Rattle.rip_plan.specs.Network.{Network, is_of, numbers_where}
 use Rattle.rip_plan.specs.Relations.{IsInterface, IsLeaf, HasTwoInterfaces, IsLawful}
 use Rattle.rip_plan.proofs.ItemLemmas.{get_some}
-use Rattle.rip_plan.proofs.NumbersWhereLemmas.{contains_at, at_contains, rising}
+use Rattle.rip_plan.proofs.BelowLemmas.{contains_at, at_contains, rising}
 use Rattle.rip_plan.proofs.LookupLemmas.{of_router_gives, of_router_finds}
 
 abbrev numbers_of : Network → ℕ → List ℕ

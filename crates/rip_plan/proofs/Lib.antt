@@ -1,7 +1,6 @@
 pub mod KeyLemmas
 pub mod NameLemmas
 pub mod ClashLemmas
-pub mod BackLemmas
 pub mod BelowLemmas
 pub mod ItemLemmas
 pub mod FlatLemmas
@@ -9,7 +8,6 @@ pub mod TextLemmas
 pub mod NumberingLemmas
 pub mod SketchPlanLemmas
 pub mod CellLemmas
-pub mod NumbersWhereLemmas
 pub mod HeldAddressLemmas
 pub mod LookupLemmas
 pub mod LeafRouterLemmas
@@ -19,14 +17,11 @@ pub mod TableLemmas
 pub mod DocumentTableLemmas
 pub mod PlanMatchLemmas
 pub mod OnePlanLemmas
-pub mod OrderLemmas
 pub mod FindingLemmas
 pub mod SpotLemmas
-pub mod FurtherAddressLemmas
 pub mod PlanPartLemmas
 pub mod FaultRowLemmas
-pub mod LinkFaultLemmas
-pub mod RouterFaultLemmas
+pub mod TableFaultLemmas
 pub mod PassFaultLemmas
 pub mod TextFaultLemmas
 pub mod LawfulPlanLemmas

@@ -24,7 +24,7 @@ use Rattle.rip_plan.specs.Relations.{IsPrefix, IsInterface, IsConnected, HasAddr
 use Rattle.rip_plan.proofs.HeldAddressLemmas.{holder_gives, holder_none}
 use Rattle.rip_plan.proofs.ItemLemmas.{cases_option, position_finds, position_none, none_at}
 use Rattle.rip_plan.proofs.NumberingLemmas.{same_is, same_self}
-use Rattle.rip_plan.proofs.NumbersWhereLemmas.{contains_at, at_contains, number_passes, passing_number}
+use Rattle.rip_plan.proofs.BelowLemmas.{contains_at, at_contains, number_passes, passing_number}
 
 -- where an item passes, the first that passes is found
 pub at_first : {A : Type 0} (test : A → Bool) (xs : List A) (k : ℕ) → position_from test 0 xs ≡ Some k → (y : A) × (slice_get xs k ≡ Some y) × (test y ≡ true)

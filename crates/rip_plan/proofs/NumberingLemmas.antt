@@ -1,5 +1,5 @@
 -- Prefixes have one number each, each place has the number of its prefix, and the prefixes that are numbered are those of the places, each once.
-use Rattle.std.proofs.Common.{◌≡◌, ℕ, ◌+◌, inl, inr, List, [], ◌∷◌, ◌++◌, length, append_assoc, Bool, true, false, cond, suc, Option, Some, None, refl, sym, ◌∙◌, ap, arith, subst, map, filter, not, ◌&&◌, ◌||◌}
+use Rattle.std.proofs.Common.{◌≡◌, ℕ, ◌+◌, inl, inr, List, [], ◌∷◌, ◌++◌, length, append_assoc, Bool, true, false, cond, Option, Some, None, refl, sym, ◌∙◌, ap, arith, subst, map, filter, not, ◌&&◌}
 use Rattle.std.specs.Prelude.{slice_get}
 use Rattle.std.specs.List.{list_any, position_from, AllByRecursion, IsDistinct}
 use Rattle.std.specs.Option.{option_or}
@@ -72,23 +72,15 @@ numbers ds = let all = places_numbered [] [] ds in subst (λ (qs : List Place). 
 -- ---- a look-up of numbers, as prefixes come in
 
 pub position_push : {A : Type 0} (test : A → Bool) (n : ℕ) (xs : List A) (x : A) → position_from test n (xs ++ x ∷ []) ≡ option_or (position_from test n xs) (cond (test x) (Some (n + length xs)) None)
-position_push test n [] x = let same : n + 0 ≡ n = omega arith in rw same refl
-position_push test n (y ∷ ys) x =
-    let same : n + 1 + length ys ≡ n + suc (length ys) = omega arith in
-    elim (cases_Bool (test y)) [ inl e ↦ rw e refl | inr e ↦ rw (e, position_push test (n + 1) ys x, same) refl ]
+position_push test n [] x = grind arith
+position_push test n (y ∷ ys) x = grind (arith, position_push test (n + 1) ys x)
 
 pub or_nothing : {A : Type 0} (o : Option A) → option_or o None ≡ o
 or_nothing o = grind arith
 
 -- a prefix that is new gets the next number
 pub new_number : (ps : List Block) (d p : Block) → number_of_prefix d ps ≡ None → cond (same_prefix d p) (Some (length ps)) (number_of_prefix p ps) ≡ number_of_prefix p (ps ++ d ∷ [])
-new_number ps d p new =
-    elim (cases_Bool (same_prefix d p)) [
-      | inl e ↦
-          let here : number_of_prefix d (ps ++ d ∷ []) ≡ Some (length ps) = position_push (same_prefix d) 0 ps d ∙ rw (new, same_self d) (ap (λ (m : ℕ). Some m) (omega arith)) in
-          rw e (sym here ∙ ap (λ q. number_of_prefix q (ps ++ d ∷ [])) (same_is d p e))
-      | inr e ↦ let off : same_prefix p d ≡ false = same_flips p d ∙ e in rw e (sym (position_push (same_prefix p) 0 ps d ∙ rw off (or_nothing (number_of_prefix p ps))))
-    ]
+new_number ps d p new = grind (arith, cases_Bool, position_push, same_self, same_is, same_flips, or_nothing)
 
 -- ---- each once
 
@@ -97,10 +89,7 @@ abbrev is_new : List Block → Block → Bool
 is_new ps q = not (list_any (λ p. same_prefix p q) ps)
 
 new_push : (ps : List Block) (b q : Block) → is_new (ps ++ b ∷ []) q ≡ (not (same_prefix b q) && is_new ps q)
-new_push ps b q = ap not (list_any-append (λ p. same_prefix p q) ps (b ∷ [])) ∙ by_tests (list_any (λ p. same_prefix p q) ps) (same_prefix b q)
-  where
-    by_tests : (a c : Bool) → not (a || (c || false)) ≡ (not c && not a)
-    by_tests a c = grind arith
+new_push ps b q = grind (arith, list_any-append)
 
 -- a prefix that is new among prefixes that have b is not b
 new_other : (ps : List Block) (b q : Block) → is_new ps b ≡ false → is_new ps q ≡ (not (same_prefix b q) && is_new ps q)
@@ -142,11 +131,7 @@ filter_kept P test (q ∷ qs) h = elim (cases_Bool (test q)) [ inl e ↦ rw e (h
 filter_distinct : (test : Block → Bool) (qs : List Block) → IsDistinct same_prefix qs → IsDistinct same_prefix (filter test qs)
 unfolding IsDistinct
 filter_distinct test [] d = tt
-filter_distinct test (q ∷ qs) d =
-    elim (cases_Bool (test q)) [
-      | inl e ↦ rw e (filter_kept (λ r. same_prefix q r ≡ false) test qs d.0, filter_distinct test qs d.1)
-      | inr e ↦ rw e (filter_distinct test qs d.1)
-    ]
+filter_distinct test (q ∷ qs) d = grind (arith, filter_kept (λ r. same_prefix q r ≡ false) test qs, filter_distinct test qs)
 
 pub once_distinct : (ps : List Block) → IsDistinct same_prefix (each_once ps)
 unfolding IsDistinct

@@ -1,10 +1,12 @@
 -- What the later passes find of the faults of a plan.
-use Rattle.std.proofs.Common.{◌≡◌, ℕ, ◌+◌, ◌<◌, ◌⊎◌, inl, inr, suc, List, [], ◌∷◌, ◌++◌, length, true, false, ◌||◌, Option, Some, None, Result, refl, sym, ap, subst, ◌∙◌, arith, Bool, zero, map}
+use Rattle.std.proofs.Common.{◌≡◌, ◌↔◌, ℕ, ◌+◌, ◌<◌, ◌≤◌, ◌⊎◌, inl, inr, suc, List, [], ◌∷◌, ◌++◌, length, true, false, ◌||◌, Option, Some, None, Result, refl, sym, ap, subst, ◌∙◌, arith, Bool, zero, map}
 use Rattle.rip_plan.proofs.SketchPlanLemmas.{as_interface, interface_as, place_in, place_from, touch, touches, there_on, on_there}
 use Rattle.std.specs.Prelude.{slice_get, find, option_map, unwrap_or, map, ◌==◌}
 use Rattle.std.specs.List.{IsDistinct, list_any}
-use Rattle.std.proofs.lemmas.Option.{same_Some, slice_get_within, none-some}
-use Rattle.std.proofs.lemmas.Bool.{eq-eqb, eqb-true, cases_order, true_from_ne_false, and_parts, or_cases, or_right, not-true, not-false, both_ways, false_from_ne_true}
+use Rattle.std.proofs.lemmas.Option.{same_Some, slice_get_within, get_or_from_slice_get, slice_get-get_or}
+use Rattle.std.proofs.lemmas.List.FromFn.{length-range_with_len, get_or-range_with_len}
+use Rattle.std.specs.List.{range_with_len}
+use Rattle.std.proofs.lemmas.Bool.{eqb-true, cases_lt, cases_order, true_from_ne_false, and_parts, or_cases, or_right, not-false, both_ways, false_from_ne_true}
 use Rattle.std.proofs.lemmas.Bool.Decides.{nat_tests}
 use Rattle.toml.specs.Data.{Data, Members}
 use Rattle.rip_plan.specs.declared.error.PlanCode.{PlanCode}
@@ -19,17 +21,16 @@ use Rattle.rip_plan.specs.declared.parts.OwnPrefix.{OwnPrefix}
 use Rattle.rip_plan.specs.declared.parts.Seat.{Seat}
 use Rattle.rip_plan.specs.declared.parts.Seat.TheVariants as seats
 use Rattle.rip_plan.specs.Codes.{number_of_code}
-use Rattle.rip_plan.specs.Fault.{fault}
+use Rattle.rip_plan.specs.Fault.{fault, ◌>>=◌}
 use Rattle.rip_plan.specs.Draft.{Sketch}
 use Rattle.rip_plan.specs.Passes.{first_clash, touched, touching, same_prefix, do_meet, is_same_link, have_common, are_twice, is_astray, is_bare, is_there, none_found, second_passes, spot_of, duplicate_in, twice_in, taken_address_in, bare_in, astray_in, first_bare}
 use Rattle.rip_plan.specs.Addresses.{have_one_address, held_from}
 use Rattle.rip_plan.specs.Network.{Network, network_of_sketch}
 use Rattle.rip_plan.specs.Relations.{IsAttachedAt, IsInterface, IsPlace}
 use Rattle.rip_plan.specs.PlanOf.{PlanOf}
-use Rattle.rip_plan.specs.PlanFaults.{TableFault, IsAstray, IsClash, IsBare, IsSo, DoMeet, AreTwice, HasOneTwice, HaveOneAddress, Before, rank, position, place_spots, interface_spots}
-use Rattle.rip_plan.proofs.OrderLemmas.{before_trans, before_not}
-use Rattle.rip_plan.proofs.FindingLemmas.{Found, Finds, finds_in, bind_rows}
-use Rattle.rip_plan.proofs.FaultRowLemmas.{IsAstrayAt, IsLast, IsOfTables, IsTold, told_finds, code_rows, code_high, last_two, last_three, last_four, pass_rows}
+use Rattle.rip_plan.specs.PlanFaults.{pass_of, TableFault, IsAstray, IsClash, IsBare, IsSo, DoMeet, AreTwice, HasOneTwice, HaveOneAddress, Before, rank, position, place_spots, interface_spots}
+use Rattle.rip_plan.proofs.FindingLemmas.{Found, Finds, finds_in, bind_finds, before_trans, before_not, ranked}
+use Rattle.rip_plan.proofs.FaultRowLemmas.{IsAstrayAt, IsLast, IsOfTables, IsTold, told_finds, code_rows, pass_apart, later_rows, pass_rows}
 use Rattle.rip_plan.proofs.HeldAddressLemmas.{address_held, first_held, held_address, held_at, held_order, held_in}
 use Rattle.rip_plan.proofs.OnePlanLemmas.{one_plan}
 use Rattle.rip_plan.proofs.PlanPartLemmas.{own_table}
@@ -59,41 +60,25 @@ address_spot interfaces h = unwrap_or (spot_of interfaces h.interface) Text
 
 taken_address : (interfaces : List DraftInterface) (also : List (List ℕ))
     → taken_address_in interfaces also ≡ option_map (address_spot interfaces) (first_clash have_one_address [] (held interfaces also))
-taken_address interfaces also =
-    elim (cases_option (first_clash have_one_address [] (held interfaces also))) [
-      | inl e ↦ rw e refl
-      | inr (h, e) ↦
-          let (k, at, is, before) = subst (FirstSo (Clashes have_one_address (held interfaces also)) (held interfaces also)) e (first_clashing have_one_address (held interfaces also)) in
-          let (d, there) = held_spot interfaces also k h at in
-          rw (e, there) refl
-    ]
+taken_address interfaces also = grind (arith, cases_option, first_clashing, held_spot)
 
 -- ---- each router has an interface
 
-abbrev numbers_from : ℕ → ℕ → List ℕ
-numbers_from k zero = []
-numbers_from k (suc n) = k ∷ numbers_from (k + 1) n
+abbrev number_at : (n m r : ℕ) → slice_get (range_with_len 0 n) m ≡ Some r → (r ≡ m) × (m < n)
+number_at n m r h =
+    let within : m < n = omega (arith, slice_get_within (range_with_len 0 n) m r h, length-range_with_len 0 n) in
+    (omega (arith, get_or_from_slice_get (range_with_len 0 n) m r 0 h, get_or-range_with_len 0 n m 0 within), within)
 
-number_at : (k n m r : ℕ) → slice_get (numbers_from k n) m ≡ Some r → (r ≡ k + m) × (m < n)
-number_at k zero m r h = absurd (none-some r h)
-number_at k (suc n) zero r h = let same : k ≡ r = same_Some k r h in (omega arith, omega arith)
-number_at k (suc n) (suc m) r h = let later = number_at (k + 1) n m r h in (omega (arith, later.0), omega (arith, later.1))
+at_number : (n m : ℕ) → m < n → slice_get (range_with_len 0 n) m ≡ Some m
+at_number n m h = slice_get-get_or (range_with_len 0 n) m 0 (omega (arith, length-range_with_len 0 n)) ∙ ap (λ (r : ℕ). Some r) (omega (arith, get_or-range_with_len 0 n m 0 h))
 
-at_number : (k n m : ℕ) → m < n → slice_get (numbers_from k n) m ≡ Some (k + m)
-at_number k zero m h = absurd (omega arith)
-at_number k (suc n) zero h = ap (λ (r : ℕ). Some r) (omega arith)
-at_number k (suc n) (suc m) h = at_number (k + 1) n m (omega arith) ∙ ap (λ (r : ℕ). Some r) (omega arith)
-
-bare_found : (is : List DraftInterface) (k n : ℕ) → first_bare is k n ≡ find (is_bare is) (numbers_from k n)
+bare_found : (is : List DraftInterface) (k n : ℕ) → first_bare is k n ≡ find (is_bare is) (range_with_len k n)
 bare_found is k zero = refl
 bare_found is k (suc n) = rw (bare_found is (k + 1) n) refl
 
 -- two seats touch a router
 common : (rs ss : List ℕ) (r : ℕ) → list_any (λ s. s == r) rs ≡ true → list_any (λ s. s == r) ss ≡ true → have_common rs ss ≡ true
-common rs ss r h k =
-    let found = any_finds (λ s. s == r) ss k in
-    let same : found.1 ≡ r = grind (arith, nat_tests) in
-    any_at (λ s. list_any (λ t. t == s) rs) ss found.0 found.1 found.2 (rw same h)
+common rs ss r h k = grind (arith, nat_tests, any_finds, any_at)
 
 -- ---- one pass
 
@@ -120,35 +105,39 @@ in_pass n c place = record { pass = n; error = fault c place }
 
 pass_finds : {A : Type 0} (F : Found → Type 0) (n : ℕ) (c : PlanCode) (Is : ℕ → A → Type 0) (see : A → At) (xs : List A) (r : Option A) → FirstSo Is xs r → InOrder see xs
     → ((place : At) → Stood Is see xs place → F (in_pass n c place)) → ((place : At) → F (in_pass n c place) → Stood Is see xs place)
-    → Finds F (code_rows n c).has (none_found c (option_map see r))
+    → Finds F (code_rows n c) (none_found c (option_map see r))
 pass_finds {A} F n c Is see xs r first ahead told clear = by_search r first
   where
-    as_found : (o : Found) → (o.pass ≡ n) × (o.error.code ≡ c) → F o → F (in_pass n c o.error.place)
-    as_found o same f = subst F (ap (λ (m : ℕ). record { pass = m; error = o.error }) same.0 ∙ ap (λ (d : PlanCode). in_pass n d o.error.place) same.1) f
+    its : (o : Found) → code_rows n c o → o ≡ in_pass n c o.error.place
+    its o row = grind arith
 
-    by_search : (q : Option A) → FirstSo Is xs q → Finds F (code_rows n c).has (none_found c (option_map see q))
-    by_search None none = λ o same f. let h = clear o.error.place (as_found o same f) in none h.k h.x h.at h.so
-    by_search (Some x) s = (
+    -- no later item stands before an item
+    not_before : (k m : ℕ) (x y : A) → k ≤ m → slice_get xs k ≡ Some x → slice_get xs m ≡ Some y → Before (rank n (fault c (see y))) (rank n (fault c (see x))) → ⊥
+    not_before k m x y le h g before =
+        let here = rank n (fault c (see x)) in
+        elim (cases_lt k m) [
+          | inl less ↦
+              elim (ahead k m x y less h g) [
+                | inl one ↦ before_not here (rw (← one) at before)
+                | inr later ↦
+                    let after = before_more (position (see x)) (position (see y)) (number_of_code c ∷ []) (number_of_code c ∷ []) later in
+                    before_not here (before_trans here (rank n (fault c (see y))) here (inr (refl, after)) before)
+              ]
+          | inr ge ↦ let one : k ≡ m = omega arith in before_not here (rw (same_Some y x (sym g ∙ ap (slice_get xs) (sym one) ∙ h)) at before)
+        ]
+
+    by_search : (q : Option A) → FirstSo Is xs q → Finds F (code_rows n c) (none_found c (option_map see q))
+    by_search None none = λ o row f. let h = clear o.error.place (subst F (its o row) f) in none h.k h.x h.at h.so
+    by_search (Some x) (k, at, is, first) = (
       n,
-      told (see x) (record { k = s.0; x = x; at = s.1; so = s.2; stands = refl }),
+      told (see x) (record { k = k; x = x; at = at; so = is; stands = refl }),
       (refl, refl),
-      λ o same f before.
-          let h = clear o.error.place (as_found o same f) in
-          let mine : Before (rank n (fault c o.error.place)) (rank n (fault c (see x))) =
-          subst (λ (d : PlanCode). Before (rank n (fault d o.error.place)) (rank n (fault c (see x)))) same.1 (subst (λ (m : ℕ). Before (rank m o.error) (rank n (fault c (see x)))) same.0 before) in
-          let at_one : o.error.place ≡ see x → ⊥ = λ place. before_not (rank n (fault c (see x))) (subst (λ (p : At). Before (rank n (fault c p)) (rank n (fault c (see x)))) place mine) in
-          elim (cases_order h.k s.0) [
-            | inl one ↦ let item : h.x ≡ x = same_Some h.x x (sym h.at ∙ ap (slice_get xs) one ∙ s.1) in at_one (sym h.stands ∙ ap see item)
-            | inr (inl sooner) ↦ s.3 h.k h.x sooner h.at h.so
-            | inr (inr later) ↦
-                elim (ahead s.0 h.k x h.x later s.1 h.at) [
-                  | inl one ↦ at_one (sym h.stands ∙ sym one)
-                  | inr past ↦
-                      let after : Before (position (see x)) (position o.error.place) = subst (λ (p : At). Before (position (see x)) (position p)) h.stands past in
-                      let ranked_after : Before (rank n (fault c (see x))) (rank n (fault c o.error.place)) =
-                      inr (refl, before_more (position (see x)) (position o.error.place) (number_of_code c ∷ []) (number_of_code c ∷ []) after) in
-                      before_not (rank n (fault c o.error.place)) (before_trans (rank n (fault c o.error.place)) (rank n (fault c (see x))) (rank n (fault c o.error.place)) mine ranked_after)
-                ]
+      λ o row f before.
+          let h = clear o.error.place (subst F (its o row) f) in
+          let same : o ≡ in_pass n c (see h.x) = its o row ∙ ap (in_pass n c) (sym h.stands) in
+          elim (cases_lt h.k k) [
+            | inl sooner ↦ first h.k h.x sooner h.at h.so
+            | inr le ↦ not_before k h.k x h.x le at h.at (subst (λ (e : Found). Before (ranked e) (ranked (in_pass n c (see x)))) same before)
           ],
     )
 
@@ -158,16 +147,16 @@ clash_finds : {A : Type 0} (F : Found → Type 0) (n : ℕ) (c : PlanCode) (see 
     → (clash : A → A → Bool) (Clash : ℕ → ℕ → Type 0)
     → ((j k : ℕ) (y x : A) → slice_get xs j ≡ Some y → slice_get xs k ≡ Some x → clash y x ≡ true → Clash j k)
     → ((j k : ℕ) (y x : A) → slice_get xs j ≡ Some y → slice_get xs k ≡ Some x → Clash j k → clash y x ≡ true)
-    → ((place : At) → IsClash Clash spots place → F (in_pass n c place)) → ((place : At) → F (in_pass n c place) → IsClash Clash spots place)
-    → Finds F (code_rows n c).has (none_found c (option_map see (first_clash clash [] xs)))
-clash_finds {A} F n c see xs spots stand ahead clash Clash gives takes told clear =
+    → ((place : At) → IsClash Clash spots place ↔ F (in_pass n c place))
+    → Finds F (code_rows n c) (none_found c (option_map see (first_clash clash [] xs)))
+clash_finds {A} F n c see xs spots stand ahead clash Clash gives takes same =
     pass_finds F n c (Clashes clash xs) see xs (first_clash clash [] xs) (first_clashing clash xs)
     (λ k m x y less h g. inr (ahead k m (see x) (see y) less (spot k x h) (spot m y g)))
     (λ place t.
     let (j, y, less, there, meets) = t.so in
-    told place (j, t.k, spot t.k t.x t.at ∙ ap (λ (p : At). Some p) t.stands, less, gives j t.k y t.x there t.at meets))
+    (same place).0 (j, t.k, spot t.k t.x t.at ∙ ap (λ (p : At). Some p) t.stands, less, gives j t.k y t.x there t.at meets))
     (λ place f.
-    let (j, k, at, less, meet) = clear place f in
+    let (j, k, at, less, meet) = (same place).1 f in
     let (x, here, stands) = get_seen see xs k place (ap (λ (l : List At). slice_get l k) stand ∙ at) in
     let (y, there) = get_some xs j (omega (arith, less, slice_get_within xs k x here)) in
     record { k = k; x = x; at = here; so = (j, y, less, there, takes j k y x there here meet); stands = stands })
@@ -198,9 +187,8 @@ module _ (s : Sketch) where
             (p, inl (l, subst (IsPlace (network_of_sketch s) j p) one_seat place, subst (IsPlace (network_of_sketch s) k p) other_seat here))
         | inr shared ↦
             let (n, r, listed, test) = any_finds (λ m. list_any (λ t. t == m) (touched s.interfaces y.seat)) (touched s.interfaces x.seat) shared in
-            let self : (r == r) ≡ true = grind (arith, nat_tests) in
             let (c, one_touch) = touches s j p r y.seat place test in
-            let (d, other_touch) = touches s k p r x.seat here (any_at (λ m. m == r) (touched s.interfaces x.seat) n r listed self) in
+            let (d, other_touch) = touches s k p r x.seat here (any_at (λ m. m == r) (touched s.interfaces x.seat) n r listed (grind (arith, nat_tests))) in
             (p, inr (r, c, d, one_touch, other_touch))
       ]
 
@@ -210,18 +198,12 @@ module _ (s : Sketch) where
   met j k p seat other y x at there h h' meet =
       let (d, its, prefix, same) = place_in s j p seat h in
       let (e, theirs, block, is) = place_in s k p other h' in
-      let one : d ≡ y = same_Some d y (sym its ∙ at) in
-      let two : e ≡ x = same_Some e x (sym theirs ∙ there) in
-      let blocks : y.prefix ≡ x.prefix = ap (λ (w : DraftPlace). w.prefix) (sym one) ∙ same_Some d.prefix e.prefix (sym prefix ∙ block) ∙ ap (λ (w : DraftPlace). w.prefix) two in
-      let mine : seat ≡ y.seat = same ∙ ap (λ (w : DraftPlace). w.seat) one in
-      let yours : other ≡ x.seat = is ∙ ap (λ (w : DraftPlace). w.seat) two in
-      rw (same_from y.prefix x.prefix blocks, ← mine, ← yours) meet
+      grind (arith, same_from y.prefix x.prefix)
 
   meet_takes : (j k : ℕ) (y x : DraftPlace) → slice_get s.places j ≡ Some y → slice_get s.places k ≡ Some x → DoMeet (network_of_sketch s) j k
       → do_meet (touching s.interfaces y) (touching s.interfaces x) ≡ true
   meet_takes j k y x at there (p, inl (l, h, h')) =
-      let same : (l == l) ≡ true = grind (arith, nat_tests) in
-      met j k p (seats.Link l) (seats.Link l) y x at there h h' (rw same refl)
+      met j k p (seats.Link l) (seats.Link l) y x at there h h' (grind (arith, nat_tests))
   meet_takes j k y x at there (p, inr (r, c, d, h, h')) =
       let (seat, place, here) = touch s j p r c h in
       let (other, its, also) = touch s k p r d h' in
@@ -229,10 +211,7 @@ module _ (s : Sketch) where
 
   twice_gives : (j k : ℕ) (y x : DraftInterface) → slice_get s.interfaces j ≡ Some y → slice_get s.interfaces k ≡ Some x → are_twice y x ≡ true → AreTwice (network_of_sketch s) j k
   twice_gives j k y x at there h =
-      let (routers, links) = and_parts (y.interface.router == x.interface.router) (y.interface.link == x.interface.link) h in
-      let router = sym (eqb-true y.interface.router x.interface.router routers) in
-      let link = sym (eqb-true y.interface.link x.interface.link links) in
-      let its = interface_as s k x y.interface.router y.interface.link there router link in
+      let its = interface_as s k x y.interface.router y.interface.link there (grind (arith, nat_tests)) (grind (arith, nat_tests)) in
       (y.interface.router, y.interface.link, y.interface.cost, x.interface.cost, interface_as s j y y.interface.router y.interface.link at refl refl, its)
 
   twice_takes : (j k : ℕ) (y x : DraftInterface) → slice_get s.interfaces j ≡ Some y → slice_get s.interfaces k ≡ Some x → AreTwice (network_of_sketch s) j k → are_twice y x ≡ true
@@ -245,7 +224,6 @@ module _ (s : Sketch) where
   address_gives : (j k : ℕ) (y x : Held) → j < k → slice_get (held s.interfaces s.also) j ≡ Some y → slice_get (held s.interfaces s.also) k ≡ Some x → have_one_address y x ≡ true
       → ((i : ℕ) × (i < x.interface) × HaveOneAddress (network_of_sketch s) i x.interface) ⊎ HasOneTwice (network_of_sketch s) x.interface
   address_gives j k y x less at there h =
-      let (links, addresses) = and_parts (y.link == x.link) (y.address == x.address) h in
       let link : y.link ≡ x.link = grind (arith, nat_tests) in
       let address : y.address ≡ x.address = grind (arith, nat_tests) in
       let n = network_of_sketch s in
@@ -272,12 +250,10 @@ module _ (s : Sketch) where
       let one : Held = record { interface = m; link = l; address = a } in
       let two : Held = record { interface = i; link = l; address = a } in
       elim (cases_order j k) [
-        | inl same ↦
-            let number : m ≡ i = ap (λ (h : Held). h.interface) (same_Some one two (sym there ∙ ap (slice_get (held s.interfaces s.also)) same ∙ at)) in
-            absurd (omega arith)
+        | inl same ↦ grind arith
         | inr (inl less) ↦ taken_of i l a j k m less there at
         | inr (inr more) ↦
-            absurd (elim (held_order n k j two one more at there) [ inl before ↦ let less : i < m = before in omega arith | inr both ↦ let same : i ≡ m = both.one in omega arith ])
+            absurd (elim (held_order n k j two one more at there) [ inl before ↦ omega (arith, before) | inr both ↦ omega (arith, both.one) ])
       ]
 
   twice_taken : (i : ℕ) → HasOneTwice (network_of_sketch s) i → IsTaken i
@@ -305,8 +281,7 @@ module _ (s : Sketch) where
   bare_gives : (k : ℕ) → is_bare s.interfaces k ≡ true → (i l c : ℕ) → IsInterface (network_of_sketch s) i k l c → ⊥
   bare_gives k h i l c is =
       let (x, at, router, link) = as_interface s i k l c is in
-      both_ways (list_any (λ (y : DraftInterface). y.interface.router == k) s.interfaces) (not-true _ h)
-      (any_at (λ (y : DraftInterface). y.interface.router == k) s.interfaces i x at (eq-eqb x.interface.router k router))
+      grind (arith, nat_tests, any_at (λ (y : DraftInterface). y.interface.router == k) s.interfaces i x at)
 
   bare_takes : (k : ℕ) → is_bare s.interfaces k ≡ false → ((i l c : ℕ) → IsInterface (network_of_sketch s) i k l c → ⊥) → ⊥
   bare_takes k h none =
@@ -326,54 +301,40 @@ module _ (laws : TextLaws) (document : Members) (links routers : List Data) (s :
   at_place : (k : ℕ) (a : At) → slice_get (place_spots links routers) k ≡ Some a → (d : DraftPlace) × (slice_get s.places k ≡ Some d) × (d.at ≡ a)
   at_place k a h = get_seen (λ (p : DraftPlace). p.at) s.places k a (ap (λ (l : List At). slice_get l k) placed ∙ h)
 
+  -- what is so in the plan is so in a network that is the plan
+  in_plan : (P : Network → Type 0) → P (network_of_sketch s) ↔ ((n : Network) × PlanOf document n × P n)
+  in_plan P = (λ h. (network_of_sketch s, plan, h), λ (n, its, h). subst P (one_plan laws document n (network_of_sketch s) its plan) h)
+
   -- prefixes
-  duplicate_told : (place : At) → IsClash (DoMeet (network_of_sketch s)) (place_spots links routers) place → TableFault document links routers codes.DuplicatePrefix place
-  duplicate_told (LinkPrefix i j) c = (network_of_sketch s, plan, c)
-  duplicate_told (RouterOwn r j) c = (network_of_sketch s, plan, c)
-  duplicate_told place (j, k, at, less, meet) = elim (place_spot links routers k place at) [ inl t ↦ let is = t.is in absurd cc | inr t ↦ let is = t.is in absurd cc ]
+  duplicate_same : (place : At) → IsClash (DoMeet (network_of_sketch s)) (place_spots links routers) place ↔ TableFault document links routers codes.DuplicatePrefix place
+  duplicate_same (LinkPrefix i j) = in_plan (λ n. IsClash (DoMeet n) (place_spots links routers) (LinkPrefix i j))
+  duplicate_same (RouterOwn r j) = in_plan (λ n. IsClash (DoMeet n) (place_spots links routers) (RouterOwn r j))
+  duplicate_same place = (λ c. elim (place_spot links routers c.1 place c.2) [ inl t ↦ let is = t.is in absurd cc | inr t ↦ let is = t.is in absurd cc ], λ f. absurd f)
 
-  -- of a network that is the plan too
-  of_plan : (P : Network → Type 0) → (n : Network) → PlanOf document n → P n → P (network_of_sketch s)
-  of_plan P n its c = subst P (one_plan laws document n (network_of_sketch s) its plan) c
-
-  duplicate_clear : (place : At) → TableFault document links routers codes.DuplicatePrefix place → IsClash (DoMeet (network_of_sketch s)) (place_spots links routers) place
-  duplicate_clear (LinkPrefix i j) f = of_plan (λ n. IsClash (DoMeet n) (place_spots links routers) (LinkPrefix i j)) f.0 f.1 f.2
-  duplicate_clear (RouterOwn r j) f = of_plan (λ n. IsClash (DoMeet n) (place_spots links routers) (RouterOwn r j)) f.0 f.1 f.2
-  duplicate_clear place f = absurd f
-
-  duplicates_find : Finds (IsTold document links routers) (code_rows 1 codes.DuplicatePrefix).has (none_found codes.DuplicatePrefix (duplicate_in s.interfaces s.places))
+  duplicates_find : Finds (IsTold document links routers) (code_rows 1 codes.DuplicatePrefix) (none_found codes.DuplicatePrefix (duplicate_in s.interfaces s.places))
   duplicates_find =
       rw (← meeting_seen s.interfaces s.places)
       (clash_finds (IsTold document links routers) 1 codes.DuplicatePrefix (λ (p : DraftPlace). p.at) s.places (place_spots links routers) placed (place_ahead links routers)
-      (λ p q. do_meet (touching s.interfaces p) (touching s.interfaces q)) (DoMeet (network_of_sketch s)) (meet_gives s) (meet_takes s) (λ place c. (duplicate_told place c, refl))
-      (λ place f. duplicate_clear place f.0))
+      (λ p q. do_meet (touching s.interfaces p) (touching s.interfaces q)) (DoMeet (network_of_sketch s)) (meet_gives s) (meet_takes s) duplicate_same)
 
   -- interfaces
-  twice_told : (place : At) → IsClash (AreTwice (network_of_sketch s)) (interface_spots routers) place → TableFault document links routers codes.TwiceOnLink place
-  twice_told (RouterInterface r j) c = (network_of_sketch s, plan, c)
-  twice_told place (j, k, at, less, meet) = let is = (interface_spot routers k place at).is in absurd cc
+  twice_same : (place : At) → IsClash (AreTwice (network_of_sketch s)) (interface_spots routers) place ↔ TableFault document links routers codes.TwiceOnLink place
+  twice_same (RouterInterface r j) = in_plan (λ n. IsClash (AreTwice n) (interface_spots routers) (RouterInterface r j))
+  twice_same place = (λ c. let is = (interface_spot routers c.1 place c.2).is in absurd cc, λ f. absurd f)
 
-  twice_clear : (place : At) → TableFault document links routers codes.TwiceOnLink place → IsClash (AreTwice (network_of_sketch s)) (interface_spots routers) place
-  twice_clear (RouterInterface r j) f = of_plan (λ n. IsClash (AreTwice n) (interface_spots routers) (RouterInterface r j)) f.0 f.1 f.2
-  twice_clear place f = absurd f
-
-  twice_find : Finds (IsTold document links routers) (code_rows 2 codes.TwiceOnLink).has (none_found codes.TwiceOnLink (twice_in s.interfaces))
+  twice_find : Finds (IsTold document links routers) (code_rows 2 codes.TwiceOnLink) (none_found codes.TwiceOnLink (twice_in s.interfaces))
   twice_find =
       clash_finds (IsTold document links routers) 2 codes.TwiceOnLink (λ (i : DraftInterface). i.at) s.interfaces (interface_spots routers) listed (interface_ahead routers) are_twice
-      (AreTwice (network_of_sketch s)) (twice_gives s) (twice_takes s) (λ place c. (twice_told place c, refl)) (λ place f. twice_clear place f.0)
+      (AreTwice (network_of_sketch s)) (twice_gives s) (twice_takes s) twice_same
 
   -- addresses
   abbrev IsAddressClash : Network → At → Type 0
   IsAddressClash n place = IsClash (HaveOneAddress n) (interface_spots routers) place ⊎ IsSo (HasOneTwice n) (interface_spots routers) place
 
-  address_told : (place : At) → (k : ℕ) → slice_get (interface_spots routers) k ≡ Some place → IsAddressClash (network_of_sketch s) place
-      → TableFault document links routers codes.DuplicateAddress place
-  address_told (RouterInterface r j) k at c = (network_of_sketch s, plan, c)
-  address_told place k at c = let is = (interface_spot routers k place at).is in absurd cc
-
-  address_clear : (place : At) → TableFault document links routers codes.DuplicateAddress place → IsAddressClash (network_of_sketch s) place
-  address_clear (RouterInterface r j) f = of_plan (λ n. IsAddressClash n (RouterInterface r j)) f.0 f.1 f.2
-  address_clear place f = absurd f
+  address_same : (place : At) → IsAddressClash (network_of_sketch s) place ↔ TableFault document links routers codes.DuplicateAddress place
+  address_same (RouterInterface r j) = in_plan (λ n. IsAddressClash n (RouterInterface r j))
+  address_same place =
+      (λ c. elim c [ inl (j, k, at, less, one) ↦ let is = (interface_spot routers k place at).is in absurd cc | inr (k, at, twice) ↦ let is = (interface_spot routers k place at).is in absurd cc ], λ f. absurd f)
 
   -- where an address stands
   address_at : (k : ℕ) (h : Held) → slice_get (held s.interfaces s.also) k ≡ Some h → (d : DraftInterface) × (slice_get s.interfaces h.interface ≡ Some d) × (address_spot s.interfaces h ≡ d.at)
@@ -388,7 +349,7 @@ module _ (laws : TextLaws) (document : Members) (links routers : List Data) (s :
         | inr same ↦ inl (ap (λ (i : ℕ). unwrap_or (spot_of s.interfaces i) Text) same.one)
       ]
 
-  addresses_find : Finds (IsTold document links routers) (code_rows 3 codes.DuplicateAddress).has (none_found codes.DuplicateAddress (taken_address_in s.interfaces s.also))
+  addresses_find : Finds (IsTold document links routers) (code_rows 3 codes.DuplicateAddress) (none_found codes.DuplicateAddress (taken_address_in s.interfaces s.also))
   addresses_find =
       let items : List Held = held s.interfaces s.also in
       rw (taken_address s.interfaces s.also)
@@ -398,15 +359,13 @@ module _ (laws : TextLaws) (document : Members) (links routers : List Data) (s :
       (λ place c.
       let (j, y, less, there, meets) = c.so in
       let (d, at, seen) = address_at c.k c.x c.at in
-      let spot : slice_get (interface_spots routers) c.x.interface ≡ Some place = interface_at c.x.interface d at ∙ ap (λ (p : At). Some p) (sym seen ∙ c.stands) in (
-        address_told place c.x.interface spot (elim (address_gives s j c.k y c.x less there c.at meets) [
-          | inl (i, ahead, one) ↦ inl (i, c.x.interface, spot, ahead, one)
-          | inr twice ↦ inr (c.x.interface, spot, twice)
-        ]),
-        refl,
-      ))
+      let spot : slice_get (interface_spots routers) c.x.interface ≡ Some place = interface_at c.x.interface d at ∙ ap (λ (p : At). Some p) (sym seen ∙ c.stands) in
+      (address_same place).0 (elim (address_gives s j c.k y c.x less there c.at meets) [
+        | inl (i, ahead, one) ↦ inl (i, c.x.interface, spot, ahead, one)
+        | inr twice ↦ inr (c.x.interface, spot, twice)
+      ]))
       (λ place f.
-      elim (address_clear place f.0) [
+      elim ((address_same place).1 f) [
         | inl (m, i, spot, less, one) ↦ taken_at place i spot (address_takes s m i less one)
         | inr (i, spot, twice) ↦ taken_at place i spot (twice_taken s i twice)
       ]))
@@ -420,26 +379,23 @@ module _ (laws : TextLaws) (document : Members) (links routers : List Data) (s :
           record { k = k; x = x; at = at; so = clashes; stands = seen ∙ ap (λ (y : DraftInterface). y.at) same ∙ stands }
 
   -- own prefixes
-  astray_told : (place : At) → IsSo (IsAstray (network_of_sketch s)) (place_spots links routers) place → IsAstrayAt document links routers place
-  astray_told place c =
-      let (k, at, (p, r, l, h, none)) = c in
+  astray_same : (place : At) → IsSo (IsAstray (network_of_sketch s)) (place_spots links routers) place ↔ IsAstrayAt document links routers place
+  astray_same (RouterOwn r j) = in_plan (λ n. IsSo (IsAstray n) (place_spots links routers) (RouterOwn r j))
+  astray_same place =
+      (λ (k, at, (p, r, l, h, none)).
       let t = own_table document (network_of_sketch s) plan k p h.own h.place in
-      let here : slice_get (place_spots links routers) k ≡ Some (RouterOwn (1 + t.r) (suc t.j)) = ap (λ (l : List At). slice_get l k) (sym spots) ∙ t.spot in
-      let is : place ≡ RouterOwn (1 + t.r) (suc t.j) = same_Some place (RouterOwn (1 + t.r) (suc t.j)) (sym at ∙ here) in
-      subst (IsAstrayAt document links routers) (sym is) (network_of_sketch s, plan, subst (IsSo (IsAstray (network_of_sketch s)) (place_spots links routers)) is c)
+      let is : place ≡ RouterOwn (1 + t.r) (suc t.j) = same_Some place (RouterOwn (1 + t.r) (suc t.j)) (sym at ∙ ap (λ (l : List At). slice_get l k) (sym spots) ∙ t.spot) in
+      absurd cc,
+      λ f. absurd f)
 
-  astray_clear : (place : At) → IsAstrayAt document links routers place → IsSo (IsAstray (network_of_sketch s)) (place_spots links routers) place
-  astray_clear (RouterOwn r j) f = of_plan (λ n. IsSo (IsAstray n) (place_spots links routers) (RouterOwn r j)) f.0 f.1 f.2
-  astray_clear place f = absurd f
-
-  astrays_find : Finds (IsLast document links routers) (code_rows 5 codes.UnknownLink).has (none_found codes.UnknownLink (astray_in s.interfaces s.places))
+  astrays_find : Finds (IsLast document links routers) (code_rows 5 codes.UnknownLink) (none_found codes.UnknownLink (astray_in s.interfaces s.places))
   astrays_find =
       let test = λ (p : DraftPlace). is_astray s.interfaces p.seat in
       pass_finds (IsLast document links routers) 5 codes.UnknownLink (Passes test) (λ (p : DraftPlace). p.at) s.places (find test s.places) (first_passing test s.places)
       (λ k m x y less h g. inr (place_ahead links routers k m x.at y.at less (place_at k x h) (place_at m y g)))
-      (λ place c. (astray_told place (c.k, place_at c.k c.x c.at ∙ ap (λ (p : At). Some p) c.stands, astray_gives s c.k c.x c.at c.so), refl, refl))
+      (λ place c. ((astray_same place).0 (c.k, place_at c.k c.x c.at ∙ ap (λ (p : At). Some p) c.stands, astray_gives s c.k c.x c.at c.so), refl, refl))
       (λ place f.
-      let (k, spot, its) = astray_clear place f.0 in
+      let (k, spot, its) = (astray_same place).1 f.0 in
       let (d, at, stands) = at_place k place spot in
       let (e, there, passes) = astray_takes s k its in
       let same : e ≡ d = same_Some e d (sym there ∙ at) in
@@ -447,49 +403,45 @@ module _ (laws : TextLaws) (document : Members) (links routers : List Data) (s :
 
   -- routers
   bare_clear : (place : At) → TableFault document links routers codes.NoInterface place → (r : ℕ) × (place ≡ Router r) × IsBare (network_of_sketch s) r
-  bare_clear (Router r) f = (r, refl, of_plan (λ n. IsBare n r) f.0 f.1 f.2)
+  bare_clear (Router r) f = (r, refl, (in_plan (λ n. IsBare n r)).1 f)
   bare_clear place f = absurd f
 
-  bare_finds : Finds (IsTold document links routers) (code_rows 4 codes.NoInterface).has (none_found codes.NoInterface (bare_in s.interfaces (length s.routers)))
+  bare_finds : Finds (IsTold document links routers) (code_rows 4 codes.NoInterface) (none_found codes.NoInterface (bare_in s.interfaces (length s.routers)))
   bare_finds =
       let test = is_bare s.interfaces in
-      let numbers : List ℕ = numbers_from 0 (length s.routers) in
+      let numbers : List ℕ = range_with_len 0 (length s.routers) in
       rw (bare_found s.interfaces 0 (length s.routers))
       (pass_finds (IsTold document links routers) 4 codes.NoInterface (Passes test) (λ (r : ℕ). Router (r + 1)) numbers (find test numbers) (first_passing test numbers)
-      (λ k m x y less h g. inr (inr (refl, inl (omega (arith, (number_at 0 (length s.routers) k x h).0, (number_at 0 (length s.routers) m y g).0)))))
+      (λ k m x y less h g. inr (inr (refl, inl (omega (arith, (number_at (length s.routers) k x h).0, (number_at (length s.routers) m y g).0)))))
       (λ place t.
-      let (number, within) = number_at 0 (length s.routers) t.k t.x t.at in
-      (subst (TableFault document links routers codes.NoInterface) t.stands (network_of_sketch s, plan, (t.x, refl, omega arith, bare_gives s t.x t.so)), refl))
+      let (number, within) = number_at (length s.routers) t.k t.x t.at in
+      subst (TableFault document links routers codes.NoInterface) t.stands (network_of_sketch s, plan, (t.x, refl, omega arith, bare_gives s t.x t.so)))
       (λ place f.
-      let (r, is, (k, number, within, none)) = bare_clear place f.0 in
+      let (r, is, (k, number, within, none)) = bare_clear place f in
       let bare = true_from_ne_false (test k) (λ off. bare_takes s k off none) in
-      record { k = k; x = k; at = at_number 0 (length s.routers) k within ∙ ap (λ (m : ℕ). Some m) (omega arith); so = bare; stands = ap Router (sym number) ∙ sym is }))
+      record { k = k; x = k; at = at_number (length s.routers) k within; so = bare; stands = ap Router (sym number) ∙ sym is }))
 
-  -- one pass, in the words of all passes
-  of_pass : {A : Type 0} (n : ℕ) (c : PlanCode) (r : Result A PlanError) → n < 5 → Finds (IsTold document links routers) (code_rows n c).has r
-      → Finds (IsOfTables document links routers) (code_rows n c).has r
-  of_pass n c r less h = told_finds document links routers (code_rows n c).has r (λ o row. let same : o.pass ≡ n = row.0 in omega arith) h
-
-  last_finds : Finds (IsOfTables document links routers) (code_rows 5 codes.UnknownLink).has (none_found codes.UnknownLink (astray_in s.interfaces s.places))
+  last_finds : Finds (IsOfTables document links routers) (code_rows 5 codes.UnknownLink) (none_found codes.UnknownLink (astray_in s.interfaces s.places))
   last_finds =
-      finds_in (IsLast document links routers) (IsOfTables document links routers) (code_rows 5 codes.UnknownLink).has (code_rows 5 codes.UnknownLink).has
+      finds_in (IsLast document links routers) (IsOfTables document links routers) (code_rows 5 codes.UnknownLink) (code_rows 5 codes.UnknownLink)
       (none_found codes.UnknownLink (astray_in s.interfaces s.places))
       (λ e f. inr f) (λ e row. row) take astrays_find
     where
-      take : (o : Found) → (o.pass ≡ 5) × (o.error.code ≡ codes.UnknownLink) → IsOfTables document links routers o
-          → IsLast document links routers o × ((o.pass ≡ 5) × (o.error.code ≡ codes.UnknownLink))
+      take : (o : Found) → code_rows 5 codes.UnknownLink o → IsOfTables document links routers o → IsLast document links routers o × code_rows 5 codes.UnknownLink o
       take o h k = grind arith
 
-  pub passes_find : Finds (IsOfTables document links routers) pass_rows.has (second_passes s)
+  -- one pass, and then those of the codes after it
+  then_passes : {A B : Type 0} (c : PlanCode) (cs : List PlanCode) (r : Result A PlanError) (f : A → Result B PlanError) → ((o : Found) → later_rows cs o → pass_of c < o.pass)
+      → Finds (IsTold document links routers) (code_rows (pass_of c) c) r → ((x : A) → Finds (IsOfTables document links routers) (later_rows cs) (f x))
+      → Finds (IsOfTables document links routers) (later_rows (c ∷ cs)) (r >>= f)
+  then_passes c cs r f later h rest =
+      bind_finds (IsOfTables document links routers) (code_rows (pass_of c) c) (later_rows cs) r f (λ e o row next. pass_apart e o (omega (arith, row.0, later o next)))
+      (told_finds document links routers (code_rows (pass_of c) c) r (λ o row. (row.0 ∙ ap pass_of (sym row.1), grind arith)) h) (λ x is. rest x)
+
+  pub passes_find : Finds (IsOfTables document links routers) pass_rows (second_passes s)
   unfolding second_passes
   passes_find =
-      let F = IsOfTables document links routers in
-      bind_rows F (code_rows 1 codes.DuplicatePrefix).has last_four (none_found codes.DuplicatePrefix (duplicate_in s.interfaces s.places)) _
-      (λ e h. code_high 1 codes.DuplicatePrefix e 2 h (omega arith)) (of_pass 1 codes.DuplicatePrefix _ (omega arith) duplicates_find) (λ a is_a.
-      bind_rows F (code_rows 2 codes.TwiceOnLink).has last_three (none_found codes.TwiceOnLink (twice_in s.interfaces)) _ (λ e h. code_high 2 codes.TwiceOnLink e 3 h (omega arith))
-      (of_pass 2 codes.TwiceOnLink _ (omega arith) twice_find) (λ b is_b.
-      bind_rows F (code_rows 3 codes.DuplicateAddress).has last_two (none_found codes.DuplicateAddress (taken_address_in s.interfaces s.also)) _
-      (λ e h. code_high 3 codes.DuplicateAddress e 4 h (omega arith)) (of_pass 3 codes.DuplicateAddress _ (omega arith) addresses_find) (λ c is_c.
-      bind_rows F (code_rows 4 codes.NoInterface).has (code_rows 5 codes.UnknownLink) (none_found codes.NoInterface (bare_in s.interfaces (length s.routers))) _
-      (λ e h. code_high 4 codes.NoInterface e 5 h (omega arith)) (of_pass 4 codes.NoInterface _ (omega arith) bare_finds) (λ d is_d.
-      last_finds))))
+      then_passes codes.DuplicatePrefix (codes.TwiceOnLink ∷ codes.DuplicateAddress ∷ codes.NoInterface ∷ []) _ _ (λ o next. grind arith) duplicates_find (λ a.
+      then_passes codes.TwiceOnLink (codes.DuplicateAddress ∷ codes.NoInterface ∷ []) _ _ (λ o next. grind arith) twice_find (λ b.
+      then_passes codes.DuplicateAddress (codes.NoInterface ∷ []) _ _ (λ o next. grind arith) addresses_find (λ c.
+      then_passes codes.NoInterface [] _ _ (λ o next. grind arith) bare_finds (λ d. last_finds))))

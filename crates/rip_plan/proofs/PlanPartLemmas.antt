@@ -17,12 +17,11 @@ use Rattle.rip_plan.specs.PlanOf.{AreAlsoOf, HasText, IsLinkOf, IsAddressOf, IsI
 use Rattle.rip_plan.specs.Relations.{Carries, IsPlace, IsPrefix}
 use Rattle.rip_plan.specs.Texts.{IsAddressText, IsPrefixText}
 use Rattle.rip_plan.proofs.FlatLemmas.{count_ahead, in_flat}
-use Rattle.rip_plan.proofs.FurtherAddressLemmas.{also_count, also_in, also_items, also_under}
+use Rattle.rip_plan.proofs.SpotLemmas.{also_count, also_in, also_items, also_under, items_flat, numbered_items, spots_count, under_item, with_number}
 use Rattle.rip_plan.proofs.ItemLemmas.{get_split, see_got, get_past}
 use Rattle.rip_plan.proofs.MatchingLemmas.{matched_left, matched_length, matched_right}
 use Rattle.rip_plan.proofs.OnePlanLemmas.{text_same}
 use Rattle.rip_plan.proofs.TextLemmas.{TextLaws, one_address}
-use Rattle.rip_plan.proofs.SpotLemmas.{items_flat, numbered_items, spots_count, under_item, with_number}
 
 -- ---- items of the document
 

@@ -20,15 +20,13 @@ use Rattle.rip_plan.specs.Network.{network_of_sketch}
 use Rattle.rip_plan.specs.Passes.{second_passes}
 use Rattle.rip_plan.specs.PlanOf.{PlanOf}
 use Rattle.rip_plan.specs.PlanText.{empty, document_of, sketch_of_document, sketch_of}
-use Rattle.rip_plan.specs.PlanFaults.{IsText, HasTables, TableFault, FaultAt, AstrayAt, IsFound, IsFault, PlanFault, Before, pass_of, rank, place_spots}
-use Rattle.rip_plan.proofs.FaultRowLemmas.{IsAstrayAt, IsOfTables, IsTold, covers, told_finds, first_rows, first_high, first_sooner, links_rows, links_high, routers_rows, pass_rows, table_rows}
-use Rattle.rip_plan.proofs.FindingLemmas.{Found, ranked, row_at, Rows, row_then, Finds, finds_in, guard_finds, want_finds, bind_rows, bind_ok}
-use Rattle.rip_plan.proofs.LinkFaultLemmas.{links_find}
+use Rattle.rip_plan.specs.PlanFaults.{IsText, HasTables, TableFault, FaultAt, AstrayAt, IsFound, IsFault, PlanFault, Before, pass_of, rank}
+use Rattle.rip_plan.proofs.FaultRowLemmas.{IsAstrayAt, IsOfTables, IsTold, covers, first_pass, first_rows, links_rows, links_sooner, pass_apart, pass_rows, routers_rows, table_rows, tables_low, told_finds}
+use Rattle.rip_plan.proofs.FindingLemmas.{Among, Asks, Found, Finds, InTurn, ask_guard, ask_rest, ask_wanted, bind_finds, bind_ok, finds_in, ranked, row_at, before_not, before_trans, before_or}
+use Rattle.rip_plan.proofs.TableFaultLemmas.{links_find, routers_find}
 use Rattle.rip_plan.proofs.OnePlanLemmas.{items_same}
-use Rattle.rip_plan.proofs.OrderLemmas.{before_not, before_trans, before_or}
 use Rattle.rip_plan.proofs.PassFaultLemmas.{passes_find}
 use Rattle.rip_plan.proofs.PlanMatchLemmas.{document_matches, tables_read}
-use Rattle.rip_plan.proofs.RouterFaultLemmas.{routers_find}
 use Rattle.rip_plan.proofs.TextLemmas.{TextLaws}
 use Rattle.rip_plan.specs.DocumentTables.{IsRoot}
 use Rattle.rip_plan.proofs.DocumentTableLemmas.{root_not, root_table}
@@ -36,14 +34,14 @@ use Rattle.rip_plan.proofs.DocumentTableLemmas.{root_not, root_table}
 -- ---- the tables
 
 module _ (laws : TextLaws) (document : Members) (links routers : List Data) (poison : Bool) (root : root_fields document ≡ Some (links, routers, poison)) where
-  tables_find : Finds (IsOfTables document links routers) table_rows.has (steps link_step 1 links (empty poison) >>= steps router_step 1 routers >>= (λ s. second_passes s >>= (λ _. Ok s)))
+  tables_find : Finds (IsOfTables document links routers) table_rows (steps link_step 1 links (empty poison) >>= steps router_step 1 routers >>= (λ s. second_passes s >>= (λ _. Ok s)))
   tables_find =
       let F = IsOfTables document links routers in
-      let T = IsTold document links routers in
-      bind_rows F first_rows.has pass_rows (steps link_step 1 links (empty poison) >>= steps router_step 1 routers) (λ s. second_passes s >>= (λ _. Ok s)) (λ e h. first_high e h)
-      (told_finds document links routers first_rows.has (steps link_step 1 links (empty poison) >>= steps router_step 1 routers) first_sooner
-      (bind_rows T links_rows.has routers_rows (steps link_step 1 links (empty poison)) (steps router_step 1 routers) (λ e h. links_high e h) (links_find laws document links routers poison)
-      (λ w is. routers_find laws document links routers poison w is)))
+      bind_finds F first_rows pass_rows (steps link_step 1 links (empty poison) >>= steps router_step 1 routers) (λ s. second_passes s >>= (λ _. Ok s))
+      (λ e o h later. pass_apart e o (grind (arith, first_pass e h)))
+      (told_finds document links routers first_rows (steps link_step 1 links (empty poison) >>= steps router_step 1 routers) (λ o h. let (same, zero) = first_pass o h in (same, omega arith))
+      (bind_finds (IsTold document links routers) links_rows routers_rows (steps link_step 1 links (empty poison)) (steps router_step 1 routers) links_sooner
+      (links_find laws document links routers poison) (λ w is. routers_find laws document links routers poison w is)))
       (λ s taken.
       let (w, first, second) = bind_ok (steps link_step 1 links (empty poison)) (steps router_step 1 routers) s taken in
       let read = tables_read laws links routers poison w s first second in
@@ -51,10 +49,9 @@ module _ (laws : TextLaws) (document : Members) (links routers : List Data) (poi
       let root_is = root_table document links routers poison root in
       let tables : plan.links ≡ links = items_same (codes_of "link") (table document) plan.links links plan.has_links root_is.has_links in
       let others : plan.routers ≡ routers = items_same (codes_of "router") (table document) plan.routers routers plan.has_routers root_is.has_routers in
-      let spots : place_spots plan.links plan.routers ≡ place_spots links routers = ap (λ (ds : List Data). place_spots ds plan.routers) tables ∙ ap (place_spots links) others in
-      then_ok F s (second_passes s) (passes_find laws document links routers s plan read.places_stand read.interfaces_stand spots))
+      then_ok F s (second_passes s) (passes_find laws document links routers s plan read.places_stand read.interfaces_stand (rw (tables, others) refl)))
     where
-      then_ok : (F : Found → Type 0) (s : Sketch) (r : Result (Unit {0}) PlanError) → Finds F pass_rows.has r → Finds F pass_rows.has (r >>= (λ _. Ok s))
+      then_ok : (F : Found → Type 0) (s : Sketch) (r : Result (Unit {0}) PlanError) → Finds F pass_rows r → Finds F pass_rows (r >>= (λ _. Ok s))
       then_ok F s r h = grind arith
 
 -- ---- the document
@@ -62,24 +59,9 @@ module _ (laws : TextLaws) (document : Members) (links routers : List Data) (poi
 abbrev IsTextFault : List ℕ → Found → Type 0
 IsTextFault bytes o = IsFound bytes o.pass o.error
 
--- a fault of a text whose document is at hand
-data Kind (bytes : List ℕ) (o : Found) : Type 0 where
-  long : o ≡ row_at codes.Limit Text → Kind bytes o
-  not_document : o ≡ row_at codes.Syntax Text → length bytes ≤ 1048576 → document_of bytes ≡ None → Kind bytes o
-  of_document : (document : Members) → IsText bytes document → Kind bytes o
-
 -- an error of the pass of its code
 pass_same : (pass : ℕ) (c : PlanCode) (place : At) → pass ≡ pass_of c → record { pass = pass; error = fault c place } ≡ row_at c place
 pass_same pass c place same = ap (λ (n : ℕ). record { pass = n; error = fault c place }) same
-
-kind : (bytes : List ℕ) (pass : ℕ) (c : PlanCode) (place : At) → IsFound bytes pass (fault c place) → Kind bytes (record { pass = pass; error = fault c place })
-kind bytes pass codes.Syntax Text (inl h) = not_document (pass_same pass codes.Syntax Text h.1) h.0.0 h.0.1
-kind bytes pass codes.Version Version (inl h) = of_document h.0.0 h.0.1
-kind bytes pass codes.Key Text (inl h) = of_document h.0.0 h.0.1
-kind bytes pass codes.Limit Text (inl h) = long (pass_same pass codes.Limit Text h.1)
-kind bytes pass c place (inl h) = of_document h.0.0 h.0.3.text
-kind bytes pass c (RouterOwn r j) (inr h) = of_document h.0.0 h.0.3.text
-kind bytes pass c place (inr h) = absurd h.0
 
 -- a fault of a place where nothing is astray
 in_table : (bytes : List ℕ) (pass : ℕ) (c : PlanCode) (place : At) → (AstrayAt bytes place → ⊥) → IsFound bytes pass (fault c place) → FaultAt bytes c place
@@ -123,7 +105,7 @@ module _ (laws : TextLaws) (bytes : List ℕ) (document : Members) (short : leng
 
     -- a fault is one of the text as a whole, or of the tables
     split_fault : (pass : ℕ) (c : PlanCode) (place : At) → IsFound bytes pass (fault c place)
-        → Before (rank pass (fault c place)) (0 ∷ 1 ∷ 1 ∷ []) ⊎ IsOfTables document links routers (record { pass = pass; error = fault c place })
+        → Before (rank pass (fault c place)) (0 ∷ 1 ∷ []) ⊎ IsOfTables document links routers (record { pass = pass; error = fault c place })
     split_fault pass codes.Syntax Text (inl h) = inl (inr (h.1, inl (omega arith)))
     split_fault pass codes.Version Version (inl h) = inl (inr (h.1, inl (omega arith)))
     split_fault pass codes.Key Text (inl h) = inl (inr (h.1, inl (omega arith)))
@@ -141,27 +123,20 @@ module _ (laws : TextLaws) (bytes : List ℕ) (document : Members) (short : leng
     whole o (inl h) = inl (whole_fault bytes document links routers tables o.error.code o.error.place h.0, h.1)
     whole o (inr h) = inr (whole_astray o.error.place h.0, h.1, h.2)
 
-  abbrev from_limit : Rows
-  from_limit = row_then (row_at codes.Limit Text) table_rows (inr (refl, inl (omega arith)))
+  -- the rows of the text as a whole, and then those of the tables
+  abbrev text_rows : List Found
+  text_rows = row_at codes.Version Version ∷ row_at codes.Key Text ∷ row_at codes.Limit Text ∷ []
 
-  abbrev from_key : Rows
-  from_key = row_then (row_at codes.Key Text) from_limit (inr (refl, inr (refl, inr (refl, inr (refl, inr (refl, inl (omega arith)))))))
+  text_turn : InTurn text_rows table_rows
+  text_turn = grind (arith, tables_low)
 
-  abbrev from_version : Rows
-  from_version = row_then (row_at codes.Version Version) from_key (inr (refl, inr (refl, inr (refl, inr (refl, inr (refl, inl (omega arith)))))))
+  over : (links routers : List Data) → (nat_lt 512 (length links) || nat_lt 128 (length routers)) ≡ true ↔ ((512 < length links) ⊎ (128 < length routers))
+  over links routers = (λ h. grind arith, λ h. grind (arith, nat_tests))
 
-  over_told : (links routers : List Data) → (nat_lt 512 (length links) || nat_lt 128 (length routers)) ≡ true → (512 < length links) ⊎ (128 < length routers)
-  over_told links routers h = grind arith
-
-  over_clear : (links routers : List Data) → (nat_lt 512 (length links) || nat_lt 128 (length routers)) ≡ false → (512 < length links) ⊎ (128 < length routers) → ⊥
-  over_clear links routers h over = grind arith
-
-  document_finds : Finds (IsTextFault bytes) from_version.has (sketch_of_document document)
+  document_asks : Asks (IsTextFault bytes) text_rows table_rows (sketch_of_document document)
   unfolding sketch_of_document
-  document_finds =
-      guard_finds (IsTextFault bytes) (not (is_version (get_member (codes_of "version") document))) (row_at codes.Version Version) from_key
-      (inr (refl, inr (refl, inr (refl, inr (refl, inr (refl, inl (omega arith))))))) _
-      (λ bad. inl ((document, text, version_told (get_member (codes_of "version") document) bad), refl))
+  document_asks =
+      ask_guard (not (is_version (get_member (codes_of "version") document))) _ (λ bad. inl ((document, text, version_told (get_member (codes_of "version") document) bad), refl))
       (λ good f.
       let h = in_table bytes 0 codes.Version Version (λ a. a) f in
       let same = same_document bytes document h.0 reads h.1 in
@@ -169,47 +144,51 @@ module _ (laws : TextLaws) (bytes : List ℕ) (document : Members) (short : leng
       version_is (get_member (codes_of "version") document) (not-false (is_version (get_member (codes_of "version") document)) good) in
       h.2 (ap (get_member (codes_of "version")) same ∙ its))
       (λ good.
-      want_finds (IsTextFault bytes) (row_at codes.Key Text) (root_fields document) from_limit (inr (refl, inr (refl, inr (refl, inr (refl, inr (refl, inl (omega arith))))))) _
-      (λ none. inl ((document, text, root_not document none), refl))
+      ask_wanted (root_fields document) _ (λ none. inl ((document, text, root_not document none), refl))
       (λ r is f.
       let h = in_table bytes 0 codes.Key Text (λ a. a) f in
       h.2 (subst IsRoot (sym (same_document bytes document h.0 reads h.1)) (root_table document r.0 r.1 r.2 is).shape))
       (λ r is.
-      guard_finds (IsTextFault bytes) (nat_lt 512 (length r.0) || nat_lt 128 (length r.1)) (row_at codes.Limit Text) table_rows (inr (refl, inl (omega arith))) _
-      (λ over. inl (inr (document, r.0, r.1, tables r.0 r.1 r.2 is, over_told r.0 r.1 over), refl))
+      ask_guard (nat_lt 512 (length r.0) || nat_lt 128 (length r.1)) _ (λ more. inl (inr (document, r.0, r.1, tables r.0 r.1 r.2 is, (over r.0 r.1).0 more), refl))
       (λ room f. limit_clear r.0 r.1 r.2 is room (in_table bytes 0 codes.Limit Text (λ a. a) f))
       (λ room.
-      finds_in (IsOfTables document r.0 r.1) (IsTextFault bytes) table_rows.has table_rows.has
+      ask_rest (finds_in (IsOfTables document r.0 r.1) (IsTextFault bytes) table_rows table_rows
       (steps link_step 1 r.0 (empty r.2) >>= steps router_step 1 r.1 >>= (λ s. second_passes s >>= (λ _. Ok s))) (λ o t. whole r.0 r.1 r.2 is o t) (λ o here. here)
-      (λ o here f. by_fault r.0 r.1 o here (split_fault r.0 r.1 r.2 is o.pass o.error.code o.error.place f))
-      (tables_find laws document r.0 r.1 r.2 is))))
+      (λ o here f. elim (split_fault r.0 r.1 r.2 is o.pass o.error.code o.error.place f) [ inl before ↦ absurd (tables_low o here before) | inr told ↦ (told, here) ])
+      (tables_find laws document r.0 r.1 r.2 is)))))
     where
       limit_clear : (links routers : List Data) (poison : Bool) → root_fields document ≡ Some (links, routers, poison) → (nat_lt 512 (length links) || nat_lt 128 (length routers)) ≡ false
           → FaultAt bytes codes.Limit Text → ⊥
       limit_clear links routers poison is room (inl more) = let past : 1048576 < length bytes = more in omega arith
-      limit_clear links routers poison is room (inr (other, ls, rs, has, over)) =
+      limit_clear links routers poison is room (inr (other, ls, rs, has, more)) =
           let same = one_tables bytes document links routers (tables links routers poison is) other ls rs has in
-          over_clear links routers room (subst (λ (t : Members × List Data × List Data). (512 < length t.1) ⊎ (128 < length t.2)) same over)
+          both_ways (nat_lt 512 (length links) || nat_lt 128 (length routers)) room ((over links routers).1 (subst (λ (t : Members × List Data × List Data). (512 < length t.1) ⊎ (128 < length t.2)) same more))
 
-      by_fault : (links routers : List Data) (o : Found) → table_rows.has o → Before (ranked o) (0 ∷ 1 ∷ 1 ∷ []) ⊎ IsOfTables document links routers o
-          → IsOfTables document links routers o × table_rows.has o
-      by_fault links routers o h k = grind arith
-
-  row_covered : (c : PlanCode) (place : At) → FaultAt bytes c place → from_version.has (row_at c place)
+  row_covered : (c : PlanCode) (place : At) → FaultAt bytes c place → Among text_rows table_rows (row_at c place)
   row_covered codes.Syntax Text h = absurd (none-some document (sym h.1 ∙ reads))
   row_covered codes.Version Version h = inl refl
   row_covered codes.Key Text h = inr (inl refl)
   row_covered codes.Limit Text h = inr (inr (inl refl))
   row_covered c place h = inr (inr (inr (covers h.0 h.1 h.2 c place h.4)))
 
-  all_covered : (o : Found) → IsTextFault bytes o → from_version.has o
-  all_covered o (inl h) = subst from_version.has (sym (pass_same o.pass o.error.code o.error.place h.1)) (row_covered o.error.code o.error.place h.0)
+  all_covered : (o : Found) → IsTextFault bytes o → Among text_rows table_rows o
+  all_covered o (inl h) = subst (Among text_rows table_rows) (sym (pass_same o.pass o.error.code o.error.place h.1)) (row_covered o.error.code o.error.place h.0)
   all_covered o (inr h) = inr (inr (inr (inr (inr (inr (inr (inr (h.2, h.1))))))))
 
   all_find : Finds (IsTextFault bytes) (λ o. Unit {0}) (sketch_of_document document)
-  all_find = finds_in (IsTextFault bytes) (IsTextFault bytes) from_version.has (λ o. Unit {0}) (sketch_of_document document) (λ e f. f) (λ e r. tt) (λ o u f. (f, all_covered o f)) document_finds
+  all_find =
+      finds_in (IsTextFault bytes) (IsTextFault bytes) (Among text_rows table_rows) (λ o. Unit {0}) (sketch_of_document document) (λ e f. f) (λ e r. tt) (λ o u f. (f, all_covered o f))
+      (document_asks.finds text_turn)
 
 -- ---- the text
+
+-- a fault whose code stands before Limit is one of a short text
+short_of : (bytes : List ℕ) (c : PlanCode) (place : At) → number_of_code c < 15 → FaultAt bytes c place → length bytes ≤ 1048576
+short_of bytes codes.Syntax Text less h = h.0
+short_of bytes codes.Version Version less h = h.1.short
+short_of bytes codes.Key Text less h = h.1.short
+short_of bytes codes.Limit Text less h = absurd (omega arith)
+short_of bytes c place less h = h.3.text.short
 
 text_finds : (laws : TextLaws) (bytes : List ℕ) → Finds (IsTextFault bytes) (λ o. Unit {0}) (sketch_of bytes)
 unfolding sketch_of
@@ -217,18 +196,19 @@ text_finds laws bytes =
     elim (cases_Bool (nat_lt 1048576 (length bytes))) [
       | inl e ↦
           let more : 1048576 < length bytes = grind (arith, nat_tests) in
-          rw e (0, inl (inl more, refl), tt, λ o u f before. past_long more o (kind bytes o.pass o.error.code o.error.place f) before)
+          rw e (0, inl (inl more, refl), tt, λ o u f before. past_long more o f before)
       | inr e ↦ rw e (by_document (grind (arith, nat_tests)) (document_of bytes) refl)
     ]
   where
-    past_long : 1048576 < length bytes → (o : Found) → Kind bytes o → Before (ranked o) (ranked (row_at codes.Limit Text)) → ⊥
-    past_long h o k g = grind arith
+    past_long : 1048576 < length bytes → (o : Found) → IsTextFault bytes o → Before (ranked o) (ranked (row_at codes.Limit Text)) → ⊥
+    past_long more o (inl h) before = let short = short_of bytes o.error.code o.error.place (grind arith) h.0 in omega (arith, short)
+    past_long more o (inr h) before = grind arith
 
-    past_syntax : document_of bytes ≡ None → (o : Found) → Kind bytes o → Before (ranked o) (ranked (row_at codes.Syntax Text)) → ⊥
-    past_syntax h o k g = grind arith
+    none_sooner : (o : Found) → Before (ranked o) (ranked (row_at codes.Syntax Text)) → ⊥
+    none_sooner o before = grind arith
 
     by_document : length bytes ≤ 1048576 → (o : Option Members) → document_of bytes ≡ o → Finds (IsTextFault bytes) (λ o. Unit {0}) (wanted (fault codes.Syntax Text) o >>= sketch_of_document)
-    by_document short None e = (0, inl ((short, e), refl), tt, λ o u f before. past_syntax e o (kind bytes o.pass o.error.code o.error.place f) before)
+    by_document short None e = (0, inl ((short, e), refl), tt, λ o u f before. none_sooner o before)
     by_document short (Some document) e = all_find laws bytes document short e
 
 -- ---- a fault is known by its rank

@@ -19,14 +19,13 @@ use Rattle.rip_plan.specs.PlanFaults.{AreTwice, AstrayAt, DoMeet, FaultAt, HasNo
 use Rattle.rip_plan.specs.PlanOf.{AreAlsoOf, IsAddressOf, IsNameOf, IsOnLink, IsPlanOfText, Matched, PlanOf, items_under}
 use Rattle.rip_plan.specs.Relations.{HasOwnAddress, IsConnected, IsInterface, IsLawful, IsOwnAt, IsPlace}
 use Rattle.rip_plan.specs.WellFormed.{IsWellFormed}
-use Rattle.rip_plan.proofs.FurtherAddressLemmas.{also_items}
+use Rattle.rip_plan.proofs.SpotLemmas.{also_items, under_item}
 use Rattle.rip_plan.proofs.LawfulPlanLemmas.{not_long}
 use Rattle.rip_plan.proofs.ItemLemmas.{get_left, get_past}
 use Rattle.rip_plan.proofs.MatchingLemmas.{matched_length, matched_right}
 use Rattle.rip_plan.proofs.OnePlanLemmas.{one_plan, text_same}
 use Rattle.rip_plan.proofs.TableLemmas.{cost_fits, direct_fits, gateway_fits}
 use Rattle.rip_plan.proofs.PlanPartLemmas.{attached_not, inside_not, known_not, HasInterface, HasOwn, also_counted, carrier_has, prefix_place, interfaces_count, item_under, its_interface, its_own, its_place, names_good, places_count}
-use Rattle.rip_plan.proofs.SpotLemmas.{under_item}
 use Rattle.rip_plan.proofs.TextFaultLemmas.{one_astray, one_fault, one_tables, same_document, version_is, version_told, whole_fault}
 use Rattle.rip_plan.proofs.TextLemmas.{TextLaws}
 use Rattle.rip_plan.specs.Texts.{IsAddressText, IsPrefixText}

@@ -1,6 +1,7 @@
 use Rattle.std.proofs.Common.{◌≡◌, ◌+◌, ◌++◌, ◌∷◌, [], ℕ, List, drop, map, append_assoc, ap, sym, ◌∙◌}
-use Rattle.std.proofs.lemmas.List.{append-nil, drop_more, drop_all}
+use Rattle.std.proofs.lemmas.List.{append-nil, drop_all}
 use Rattle.rip_plan.specs.declared.addresses.Held.{Held}
+use Rattle.rip_plan.proofs.ClashLemmas.{rest_from}
 use Rattle.rip_plan.proofs.addresses.add_addresses.Goals as goal
 
 pub loop-k-init : goal.loop-k-init
@@ -15,11 +16,8 @@ loop-k-preserved c =
     let also = c.args.also.now in
     let k = c.loop-k.k in
     let x = c.index-also-k.result in
-    let front : drop k also ≡ x ∷ drop (k + 1) also = drop_more also k x c.loop-k-test.true ∙ ap (λ (a : ℕ). a ∷ drop (k + 1) also) (sym c.index-also-k.is) in
-    ap (λ hs. hs ++ map held (drop (k + 1) also)) c.in_ok-push-2.ensures.items
-    ∙ append_assoc c.loop-k.held.items (held x ∷ []) (map held (drop (k + 1) also))
-    ∙ ap (λ (rest : List ℕ). c.loop-k.held.items ++ map held rest) (sym front)
-    ∙ c.loop-k.invariant
+    let front : drop k also ≡ x ∷ drop (k + 1) also = rest_from also k x c.loop-k-test.true c.index-also-k.is in
+    rw (c.in_ok-push-2.ensures.items, append_assoc c.loop-k.held.items (held x ∷ []) (map held (drop (k + 1) also))) (rw front at c.loop-k.invariant)
 
 pub returns : goal.returns
 returns c =

@@ -1,13 +1,9 @@
 use Rattle.std.proofs.Common.{◌≡◌, ◌+◌, ◌<◌, ◌++◌, ◌∷◌, [], ℕ, List, Vec, Global, drop, get_or, length, map, append_assoc, ap, arith, sym, ◌∙◌}
-use Rattle.std.proofs.lemmas.List.{append-nil, drop_all, drop_more, get_or-map, length-map}
-use Rattle.rip_plan.specs.declared.addresses.Held.{Held}
+use Rattle.std.proofs.lemmas.List.{append-nil, drop_all, get_or-map, length-map}
 use Rattle.rip_plan.specs.declared.parts.Interface.{Interface}
 use Rattle.rip_plan.specs.Addresses.{held_by, held_from}
+use Rattle.rip_plan.proofs.ClashLemmas.{rest_from}
 use Rattle.rip_plan.proofs.addresses.all_addresses.Goals as goal
-
--- what is left from a number on
-next : {A : Type 0} (xs : List A) (i : ℕ) (x : A) → i < length xs → x ≡ get_or xs i x → drop i xs ≡ x ∷ drop (i + 1) xs
-next {A} xs i x lt is = drop_more xs i x lt ∙ ap (λ (y : A). y ∷ drop (i + 1) xs) (sym is)
 
 pub loop-i-preserved : goal.loop-i-preserved
 loop-i-preserved c =
@@ -17,18 +13,12 @@ loop-i-preserved c =
     let i = c.loop-i.i in
     let x = c.index-interfaces-i.result in
     let further = c.index-also-i.result in
-    let one : drop i is ≡ x ∷ drop (i + 1) is = next is i x c.loop-i-test.true c.index-interfaces-i.is in
+    let one : drop i is ≡ x ∷ drop (i + 1) is = rest_from is i x c.loop-i-test.true c.index-interfaces-i.is in
     let within : i < length c.args.also.now = omega (arith, c.requires, c.loop-i-test.true) in
     let read : items further ≡ get_or also i (items further) = ap items c.index-also-i.is ∙ sym (get_or-map items c.args.also.now i further (items further) within) in
-    let two : drop i also ≡ items further ∷ drop (i + 1) also = next also i (items further) (omega (arith, within, length-map c.args.also.now items)) read in
+    let two : drop i also ≡ items further ∷ drop (i + 1) also = rest_from also i (items further) (omega (arith, within, length-map c.args.also.now items)) read in
     let rest = held_from (i + 1) (drop (i + 1) is) (drop (i + 1) also) in
-    let front : held_from i (drop i is) (drop i also) ≡ held_by i x (items further) ++ rest =
-    ap (λ (xs : List Interface). held_from i xs (drop i also)) one ∙ ap (held_from i (x ∷ drop (i + 1) is)) two in
-    ap (λ hs. hs ++ rest) c.in_ok-add_addresses.ensures
-    ∙ ap (λ (own : List ℕ). (c.loop-i.held.items ++ held_by i x own) ++ rest) c.as_slice.ensures.value
-    ∙ append_assoc c.loop-i.held.items (held_by i x (items further)) rest
-    ∙ ap (λ (hs : List Held). c.loop-i.held.items ++ hs) (sym front)
-    ∙ c.loop-i.invariant
+    rw (c.in_ok-add_addresses.ensures, c.as_slice.ensures.value, append_assoc c.loop-i.held.items (held_by i x (items further)) rest) (rw (one, two) at c.loop-i.invariant)
 
 pub returns : goal.returns
 returns c =

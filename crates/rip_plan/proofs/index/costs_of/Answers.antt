@@ -3,7 +3,7 @@ use Rattle.std.specs.Prelude.{◌==◌}
 use Rattle.rip_plan.specs.declared.parts.Seat.{Seat}
 use Rattle.rip_plan.specs.Network.{cost_at, direct_at}
 use Rattle.rip_plan.specs.Rows.{IsOwnerBelow, IsOwnerWithin}
-use Rattle.rip_plan.proofs.BackLemmas.{back_is}
+use Rattle.rip_plan.proofs.ClashLemmas.{back_is}
 use Rattle.rip_plan.proofs.CellLemmas.{place_written, written_back}
 use Rattle.rip_plan.proofs.index.costs_of.Goals as goal
 

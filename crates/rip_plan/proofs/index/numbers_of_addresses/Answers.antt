@@ -2,7 +2,7 @@ use Rattle.std.proofs.Common.{◌≡◌, ◌-◌, ◌∷◌, arith, refl, cond, 
 use Rattle.std.specs.HashMap.{get}
 use Rattle.rip_plan.specs.Addresses.{holder_at, is_at}
 use Rattle.rip_plan.specs.Network.{pair_eq}
-use Rattle.rip_plan.proofs.BackLemmas.{back_is}
+use Rattle.rip_plan.proofs.ClashLemmas.{back_is}
 use Rattle.rip_plan.proofs.index.numbers_of_addresses.Goals as goal
 
 pub loop-k-preserved : goal.loop-k-preserved

@@ -6,7 +6,7 @@ use Rattle.rip_plan.specs.declared.parts.Seat.TheVariants.{Own}
 use Rattle.rip_plan.specs.Network.{is_owned}
 use Rattle.rip_plan.specs.Rows.{IsOwnerBelow, owner_cell}
 use Rattle.rip_plan.specs.Seats as seated
-use Rattle.rip_plan.proofs.BackLemmas.{first_back}
+use Rattle.rip_plan.proofs.ClashLemmas.{first_back}
 use Rattle.rip_plan.proofs.CellLemmas.{cell_set}
 use Rattle.rip_plan.proofs.index.owners_of.Goals as goal
 

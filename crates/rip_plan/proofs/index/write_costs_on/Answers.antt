@@ -3,7 +3,7 @@ use Rattle.std.specs.Prelude.{◌==◌, slice_get}
 use Rattle.std.proofs.lemmas.Option.{slice_get-get_or}
 use Rattle.rip_plan.specs.declared.parts.Interface.{Interface}
 use Rattle.rip_plan.specs.Rows.{cell, cost_among}
-use Rattle.rip_plan.proofs.BackLemmas.{back_at}
+use Rattle.rip_plan.proofs.ClashLemmas.{back_at}
 use Rattle.rip_plan.proofs.CellLemmas.{cell_set, cost_written}
 use Rattle.rip_plan.proofs.index.write_costs_on.Goals as goal
 

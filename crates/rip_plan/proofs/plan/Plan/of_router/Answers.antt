@@ -1,8 +1,7 @@
 use Rattle.std.proofs.Common.{◌≡◌, ◌<◌, ℕ, length, arith, ◌∙◌, refl, string_bytes, Vec, Global}
 use Rattle.std.proofs.lemmas.List.{length-map}
 use Rattle.rip_plan.specs.Network.{numbers_where, is_of}
-use Rattle.rip_plan.proofs.BelowLemmas.{kept_at, kept_within}
-use Rattle.rip_plan.proofs.NumbersWhereLemmas.{rising}
+use Rattle.rip_plan.proofs.BelowLemmas.{kept_at, kept_within, rising}
 use Rattle.rip_plan.proofs.LookupLemmas.{of_router_gives, of_router_finds}
 use Rattle.rip_plan.proofs.plan.Plan.of_router.Goals as goal
 

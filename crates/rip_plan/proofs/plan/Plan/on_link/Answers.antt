@@ -1,8 +1,7 @@
 use Rattle.std.proofs.Common.{◌≡◌, ◌<◌, ℕ, length, arith, ◌∙◌, refl, string_bytes, Vec, Global}
 use Rattle.std.proofs.lemmas.List.{length-map}
 use Rattle.rip_plan.specs.Network.{numbers_where, is_on}
-use Rattle.rip_plan.proofs.BelowLemmas.{kept_at, kept_within}
-use Rattle.rip_plan.proofs.NumbersWhereLemmas.{rising}
+use Rattle.rip_plan.proofs.BelowLemmas.{kept_at, kept_within, rising}
 use Rattle.rip_plan.proofs.LookupLemmas.{on_link_gives, on_link_finds}
 use Rattle.rip_plan.proofs.plan.Plan.on_link.Goals as goal
 
