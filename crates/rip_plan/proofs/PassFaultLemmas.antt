@@ -115,16 +115,8 @@ pass_finds {A} F n c Is see xs r first ahead told clear = by_search r first
     not_before : (k m : ℕ) (x y : A) → k ≤ m → slice_get xs k ≡ Some x → slice_get xs m ≡ Some y → Before (rank n (fault c (see y))) (rank n (fault c (see x))) → ⊥
     not_before k m x y le h g before =
         let here = rank n (fault c (see x)) in
-        elim (cases_lt k m) [
-          | inl less ↦
-              elim (ahead k m x y less h g) [
-                | inl one ↦ before_not here (rw (← one) at before)
-                | inr later ↦
-                    let after = before_more (position (see x)) (position (see y)) (number_of_code c ∷ []) (number_of_code c ∷ []) later in
-                    before_not here (before_trans here (rank n (fault c (see y))) here (inr (refl, after)) before)
-              ]
-          | inr ge ↦ let one : k ≡ m = omega arith in before_not here (rw (same_Some y x (sym g ∙ ap (slice_get xs) (sym one) ∙ h)) at before)
-        ]
+        let there = rank n (fault c (see y)) in
+        grind (arith, ahead k m x y, before_not here, before_trans here there here, before_more (position (see x)) (position (see y)) (number_of_code c ∷ []) (number_of_code c ∷ []))
 
     by_search : (q : Option A) → FirstSo Is xs q → Finds F (code_rows n c) (none_found c (option_map see q))
     by_search None none = λ o row f. let h = clear o.error.place (subst F (its o row) f) in none h.k h.x h.at h.so

@@ -99,8 +99,7 @@ module _ (laws : TextLaws) (ds done : List Data) (d : Data) (rest : List Data) (
         | inl found ↦
             let (m, listed, of) = matched_right IsNameOf names done k earlier named found.0 in
             let its_own : m ≡ name = text_same (codes_of "name") earlier m other of theirs ∙ one in
-            let taken : is_one_of name names ≡ true = any_at (λ (x : List ℕ). bytes_eq x name) names k m listed (ap (λ (t : List ℕ). bytes_eq t name) its_own ∙ name_same name) in
-            absurd cc
+            grind (arith, any_at (λ (x : List ℕ). bytes_eq x name) names k m listed, name_same name)
         | inr past ↦ let count : k ≡ length done + past.0 = past.1 in absurd (omega arith)
       ]
 

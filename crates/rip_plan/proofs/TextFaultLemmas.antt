@@ -251,14 +251,7 @@ fault_first laws bytes e h =
       found = found.1;
       first = λ other o f.
           let lengths : length (rank found.0 e) ≡ length (rank other o) = rank_length found.0 e.code e.place ∙ sym (rank_length other o.code o.place) in
-          elim (before_or (rank found.0 e) (rank other o) lengths) [
-            | inl either ↦
-                elim either [
-                  | inl same ↦ inl (sym (from_rank bytes other o.code o.place f) ∙ ap error_from (sym same) ∙ from_rank bytes found.0 e.code e.place found.1)
-                  | inr later ↦ inr later
-                ]
-            | inr sooner ↦ absurd (found.3 (record { pass = other; error = o }) tt f sooner)
-          ];
+          grind (arith, before_or (rank found.0 e) (rank other o) lengths, from_rank bytes other o.code o.place f, from_rank bytes found.0 e.code e.place found.1, found.3 (record { pass = other; error = o }) tt f);
     }
 
 pub faultless : (laws : TextLaws) (bytes : List ℕ) (s : Sketch) → sketch_of bytes ≡ Ok s → (e : PlanError) → IsFault bytes e → ⊥
@@ -281,14 +274,7 @@ fault_in r = result_err (r >>= (λ s. Ok (network_of_sketch s)))
 
 one_first : (bytes : List ℕ) (d e : PlanError) → PlanFault bytes d → PlanFault bytes e → d ≡ e
 one_first bytes d e p q =
-    elim (q.first p.pass d p.found) [
-      | inl same ↦ same
-      | inr after ↦
-          elim (p.first q.pass e q.found) [
-            | inl same ↦ sym same
-            | inr later ↦ absurd (before_not (rank p.pass d) (before_trans (rank p.pass d) (rank q.pass e) (rank p.pass d) later after))
-          ]
-    ]
+    grind (arith, q.first p.pass d p.found, p.first q.pass e q.found, before_not (rank p.pass d), before_trans (rank p.pass d) (rank q.pass e) (rank p.pass d))
 
 pub fault_told : (laws : TextLaws) (bytes : List ℕ) (e : PlanError) → (first_fault bytes ≡ Some e) ↔ PlanFault bytes e
 fault_told laws bytes e =
