@@ -326,7 +326,11 @@ module _ (laws : TextLaws) (document : Members) (links routers : List Data) (s :
   address_same : (place : At) → IsAddressClash (network_of_sketch s) place ↔ TableFault document links routers codes.DuplicateAddress place
   address_same (RouterInterface r j) = in_plan (λ n. IsAddressClash n (RouterInterface r j))
   address_same place =
-      (λ c. elim c [ inl (j, k, at, less, one) ↦ let is = (interface_spot routers k place at).is in absurd cc | inr (k, at, twice) ↦ let is = (interface_spot routers k place at).is in absurd cc ], λ f. absurd f)
+      (λ c. elim c [
+        | inl (j, k, at, less, one) ↦ let is = (interface_spot routers k place at).is in absurd cc
+        | inr (k, at, twice) ↦ let is = (interface_spot routers k place at).is in absurd cc
+      ],
+      λ f. absurd f)
 
   -- where an address stands
   address_at : (k : ℕ) (h : Held) → slice_get (held s.interfaces s.also) k ≡ Some h → (d : DraftInterface) × (slice_get s.interfaces h.interface ≡ Some d) × (address_spot s.interfaces h ≡ d.at)

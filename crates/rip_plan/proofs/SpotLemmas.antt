@@ -195,12 +195,12 @@ prefix_here routers done d rest front x back e n h =
     (under_here (codes_of "prefixes") LinkPrefix 1 done d rest front x back e n h)
 
 pub own_here : (links done : List Data) (d : Data) (rest front : List Data) (x : Data) (back : List Data) → items_in (get (codes_of "own") d) ≡ front ++ x ∷ back
-    → (n : ℕ) → n ≡ length (spots_under (codes_of "prefixes") LinkPrefix 1 links) + (length (spots_under (codes_of "own") RouterOwn 1 done) + length front)
-    → slice_get (place_spots links (done ++ d ∷ rest)) n ≡ Some (RouterOwn (1 + length done) (1 + length front))
+    → (n : ℕ) → n ≡ length (place_spots links done) + length front → slice_get (place_spots links (done ++ d ∷ rest)) n ≡ Some (RouterOwn (1 + length done) (1 + length front))
 own_here links done d rest front x back e n h =
-    get_past (spots_under (codes_of "prefixes") LinkPrefix 1 links) (spots_under (codes_of "own") RouterOwn 1 (done ++ d ∷ rest))
-    (length (spots_under (codes_of "own") RouterOwn 1 done) + length front) n h
-    ∙ under_here (codes_of "own") RouterOwn 1 done d rest front x back e (length (spots_under (codes_of "own") RouterOwn 1 done) + length front) refl
+    let on_links = spots_under (codes_of "prefixes") LinkPrefix 1 links in
+    let own = spots_under (codes_of "own") RouterOwn 1 done in
+    get_past on_links (spots_under (codes_of "own") RouterOwn 1 (done ++ d ∷ rest)) (length own + length front) n (omega (arith, h, length-append on_links own))
+    ∙ under_here (codes_of "own") RouterOwn 1 done d rest front x back e (length own + length front) refl
 
 pub nth_here : {A : Type 0} (done : List A) (x : A) (rest : List A) (n : ℕ) → n ≡ 1 + length done → nth (done ++ x ∷ rest) n ≡ Some x
 nth_here done x rest n e = let same : n ≡ suc (length done) = omega arith in rw same (get_front done x rest)

@@ -162,7 +162,8 @@ module _ (laws : TextLaws) (bytes : List ℕ) (document : Members) (short : leng
       limit_clear links routers poison is room (inl more) = let past : 1048576 < length bytes = more in omega arith
       limit_clear links routers poison is room (inr (other, ls, rs, has, more)) =
           let same = one_tables bytes document links routers (tables links routers poison is) other ls rs has in
-          both_ways (nat_lt 512 (length links) || nat_lt 128 (length routers)) room ((over links routers).1 (subst (λ (t : Members × List Data × List Data). (512 < length t.1) ⊎ (128 < length t.2)) same more))
+          both_ways (nat_lt 512 (length links) || nat_lt 128 (length routers)) room
+          ((over links routers).1 (subst (λ (t : Members × List Data × List Data). (512 < length t.1) ⊎ (128 < length t.2)) same more))
 
   row_covered : (c : PlanCode) (place : At) → FaultAt bytes c place → Among text_rows table_rows (row_at c place)
   row_covered codes.Syntax Text h = absurd (none-some document (sym h.1 ∙ reads))
@@ -251,7 +252,8 @@ fault_first laws bytes e h =
       found = found.1;
       first = λ other o f.
           let lengths : length (rank found.0 e) ≡ length (rank other o) = rank_length found.0 e.code e.place ∙ sym (rank_length other o.code o.place) in
-          grind (arith, before_or (rank found.0 e) (rank other o) lengths, from_rank bytes other o.code o.place f, from_rank bytes found.0 e.code e.place found.1, found.3 (record { pass = other; error = o }) tt f);
+          let later = found.3 (record { pass = other; error = o }) tt f in
+          grind (arith, before_or (rank found.0 e) (rank other o) lengths, from_rank bytes other o.code o.place f, from_rank bytes found.0 e.code e.place found.1, later);
     }
 
 pub faultless : (laws : TextLaws) (bytes : List ℕ) (s : Sketch) → sketch_of bytes ≡ Ok s → (e : PlanError) → IsFault bytes e → ⊥
