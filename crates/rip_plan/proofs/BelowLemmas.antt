@@ -3,7 +3,7 @@ use Rattle.std.proofs.Common.{◌≡◌, ◌≢◌, ℕ, zero, suc, ◌+◌, ◌
 use Rattle.std.proofs.lemmas.List.{get_or_append_left, get_or_push, get_or-map, length-map, get_or-set_same, get_or-set_other, same_lists, map-set, take_more, length-take-le}
 use Rattle.std.proofs.Math.ListN.{set, length-set}
 use Rattle.std.specs.Prelude.{◌==◌, slice_get}
-use Rattle.std.proofs.lemmas.Bool.{cases_Bool, cases_eq}
+use Rattle.std.proofs.lemmas.Bool.{cases_Bool}
 use Rattle.std.proofs.lemmas.Bool.Decides.{nat_tests}
 use Rattle.rip_plan.specs.Network.{each_below, numbers_where}
 use Rattle.std.specs.List.{Contains}
@@ -37,10 +37,7 @@ each_below_set {A} n f g l within others = same_lists (set (each_below n f) l (g
     at : (k : ℕ) (d : A) → k < length (set (each_below n f) l (g l)) → get_or (set (each_below n f) l (g l)) k d ≡ get_or (each_below n g) k d
     at k d h =
         let below : k < n = omega (arith, length-set (each_below n f) l (g l), length-each_below n f) in
-        elim (cases_eq k l) [
-          | inl e ↦ rw e (get_or-set_same (each_below n f) l (g l) d (omega (arith, length-each_below n f)) ∙ sym (each_below-at n g l d within))
-          | inr apart ↦ get_or-set_other (each_below n f) l k (g l) d apart ∙ each_below-at n f k d below ∙ sym (others k apart) ∙ sym (each_below-at n g k d below)
-        ]
+        grind (arith, get_or-set_same (each_below n f) l (g l) d, get_or-set_other (each_below n f) l k (g l) d, length-each_below n f, each_below-at n f k d, each_below-at n g k d, others k)
 
 -- one more item
 pub numbers_where_push : {A : Type 0} (test : A → Bool) (n : ℕ) (xs : List A) (x : A) →

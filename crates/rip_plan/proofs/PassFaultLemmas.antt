@@ -6,7 +6,7 @@ use Rattle.std.specs.List.{IsDistinct, list_any}
 use Rattle.std.proofs.lemmas.Option.{same_Some, slice_get_within, get_or_from_slice_get, slice_get-get_or}
 use Rattle.std.proofs.lemmas.List.FromFn.{length-range_with_len, get_or-range_with_len}
 use Rattle.std.specs.List.{range_with_len}
-use Rattle.std.proofs.lemmas.Bool.{eqb-true, cases_lt, cases_order, true_from_ne_false, and_parts, or_cases, or_right, not-false, both_ways, false_from_ne_true}
+use Rattle.std.proofs.lemmas.Bool.{eqb-true, cases_lt, true_from_ne_false, and_parts, or_cases, or_right, not-false, both_ways, false_from_ne_true}
 use Rattle.std.proofs.lemmas.Bool.Decides.{nat_tests}
 use Rattle.toml.specs.Data.{Data, Members}
 use Rattle.rip_plan.specs.declared.error.PlanCode.{PlanCode}
@@ -241,12 +241,7 @@ module _ (s : Sketch) where
       let (k, at) = address_held n i l a g in
       let one : Held = record { interface = m; link = l; address = a } in
       let two : Held = record { interface = i; link = l; address = a } in
-      elim (cases_order j k) [
-        | inl same ↦ grind arith
-        | inr (inl less) ↦ taken_of i l a j k m less there at
-        | inr (inr more) ↦
-            absurd (elim (held_order n k j two one more at there) [ inl before ↦ omega (arith, before) | inr both ↦ omega (arith, both.one) ])
-      ]
+      grind (arith, taken_of i l a j k m, held_order n k j two one)
 
   twice_taken : (i : ℕ) → HasOneTwice (network_of_sketch s) i → IsTaken i
   twice_taken i (l, addresses, has, (j, k, a, less, one, two)) =

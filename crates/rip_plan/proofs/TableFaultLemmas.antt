@@ -100,8 +100,7 @@ module _ (laws : TextLaws) (ds done : List Data) (d : Data) (rest : List Data) (
   again_clear names named name its fresh (e, earlier, suc k, other, is, its_name, less, there, theirs) =
       let same : e ≡ d = table_same ds done d rest split e is in
       let one : other ≡ name = text_same (codes_of "name") d other name (subst (IsNameOf other) same its_name) its in
-      let at : slice_get (done ++ d ∷ rest) k ≡ Some earlier = ap (λ (l : List Data). slice_get l k) (sym split) ∙ there in
-      elim (get_split done (d ∷ rest) k earlier at) [
+      elim (get_split done (d ∷ rest) k earlier (rw split at there)) [
         | inl found ↦
             let (m, listed, of) = matched_right IsNameOf names done k earlier named found.0 in
             let its_own : m ≡ name = text_same (codes_of "name") earlier m other of theirs ∙ one in
