@@ -320,12 +320,13 @@ module _ (laws : TextLaws) (document : Members) (links routers : List Data) (s :
 
   address_same : (place : At) → IsAddressClash (network_of_sketch s) place ↔ TableFault document links routers codes.DuplicateAddress place
   address_same (RouterInterface r j) = in_plan (λ n. IsAddressClash n (RouterInterface r j))
-  address_same place =
-      (λ c. elim c [
-        | inl (j, k, at, less, one) ↦ let is = (interface_spot routers k place at).is in absurd cc
-        | inr (k, at, twice) ↦ let is = (interface_spot routers k place at).is in absurd cc
-      ],
-      λ f. absurd f)
+  address_same place = (
+    λ c. elim c [
+      | inl (j, k, at, less, one) ↦ let is = (interface_spot routers k place at).is in absurd cc
+      | inr (k, at, twice) ↦ let is = (interface_spot routers k place at).is in absurd cc
+    ],
+    λ f. absurd f,
+  )
 
   -- where an address stands
   address_at : (k : ℕ) (h : Held) → slice_get (held s.interfaces s.also) k ≡ Some h → (d : DraftInterface) × (slice_get s.interfaces h.interface ≡ Some d) × (address_spot s.interfaces h ≡ d.at)
@@ -372,12 +373,13 @@ module _ (laws : TextLaws) (document : Members) (links routers : List Data) (s :
   -- own prefixes
   astray_same : (place : At) → IsSo (IsAstray (network_of_sketch s)) (place_spots links routers) place ↔ IsAstrayAt document links routers place
   astray_same (RouterOwn r j) = in_plan (λ n. IsSo (IsAstray n) (place_spots links routers) (RouterOwn r j))
-  astray_same place =
-      (λ (k, at, (p, r, l, h, none)).
-      let t = own_table document (network_of_sketch s) plan k p h.own h.place in
-      let is : place ≡ RouterOwn (1 + t.r) (suc t.j) = same_Some place (RouterOwn (1 + t.r) (suc t.j)) (sym at ∙ ap (λ (l : List At). slice_get l k) (sym spots) ∙ t.spot) in
-      absurd cc,
-      λ f. absurd f)
+  astray_same place = (
+    λ (k, at, (p, r, l, h, none)).
+        let t = own_table document (network_of_sketch s) plan k p h.own h.place in
+        let is : place ≡ RouterOwn (1 + t.r) (suc t.j) = same_Some place (RouterOwn (1 + t.r) (suc t.j)) (sym at ∙ ap (λ (l : List At). slice_get l k) (sym spots) ∙ t.spot) in
+        absurd cc,
+    λ f. absurd f,
+  )
 
   astrays_find : Finds (IsLast document links routers) (code_rows 5 codes.UnknownLink) (none_found codes.UnknownLink (astray_in s.interfaces s.places))
   astrays_find =
