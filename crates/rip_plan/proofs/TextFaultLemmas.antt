@@ -130,6 +130,7 @@ module _ (laws : TextLaws) (bytes : List ℕ) (document : Members) (short : leng
   text_turn : InTurn text_rows table_rows
   text_turn = grind (arith, tables_low)
 
+  -- too many links or routers
   over : (links routers : List Data) → (nat_lt 512 (length links) || nat_lt 128 (length routers)) ≡ true ↔ ((512 < length links) ⊎ (128 < length routers))
   over links routers = (λ h. grind arith, λ h. grind (arith, nat_tests))
 
@@ -140,9 +141,7 @@ module _ (laws : TextLaws) (bytes : List ℕ) (document : Members) (short : leng
       (λ good f.
       let h = in_table bytes 0 codes.Version Version (λ a. a) f in
       let same = same_document bytes document h.0 reads h.1 in
-      let its : get_member (codes_of "version") document ≡ Some (integer (pos 1)) =
-      version_is (get_member (codes_of "version") document) (not-false (is_version (get_member (codes_of "version") document)) good) in
-      h.2 (ap (get_member (codes_of "version")) same ∙ its))
+      h.2 (ap (get_member (codes_of "version")) same ∙ version_is (get_member (codes_of "version") document) (not-false (is_version (get_member (codes_of "version") document)) good)))
       (λ good.
       ask_wanted (root_fields document) _ (λ none. inl ((document, text, root_not document none), refl))
       (λ r is f.
