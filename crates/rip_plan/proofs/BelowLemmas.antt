@@ -3,7 +3,7 @@ use Rattle.std.proofs.Common.{◌≡◌, ◌≢◌, ℕ, zero, suc, ◌+◌, ◌
 use Rattle.std.proofs.lemmas.List.{get_or_append_left, get_or_push, get_or-map, length-map, get_or-set_same, get_or-set_other, same_lists, map-set, take_more, length-take-le}
 use Rattle.std.proofs.Math.ListN.{set, length-set}
 use Rattle.std.specs.Prelude.{◌==◌, slice_get}
-use Rattle.std.proofs.lemmas.Bool.{cases_Bool, cases_eq}
+use Rattle.std.proofs.lemmas.Bool.{cases_Bool}
 use Rattle.std.proofs.lemmas.Bool.Decides.{nat_tests}
 use Rattle.rip_plan.specs.Network.{each_below, numbers_where}
 use Rattle.std.specs.List.{Contains}
@@ -37,10 +37,7 @@ each_below_set {A} n f g l within others = same_lists (set (each_below n f) l (g
     at : (k : ℕ) (d : A) → k < length (set (each_below n f) l (g l)) → get_or (set (each_below n f) l (g l)) k d ≡ get_or (each_below n g) k d
     at k d h =
         let below : k < n = omega (arith, length-set (each_below n f) l (g l), length-each_below n f) in
-        elim (cases_eq k l) [
-          | inl e ↦ rw e (get_or-set_same (each_below n f) l (g l) d (omega (arith, length-each_below n f)) ∙ sym (each_below-at n g l d within))
-          | inr apart ↦ get_or-set_other (each_below n f) l k (g l) d apart ∙ each_below-at n f k d below ∙ sym (others k apart) ∙ sym (each_below-at n g k d below)
-        ]
+        grind (arith, get_or-set_same (each_below n f) l (g l) d, get_or-set_other (each_below n f) l k (g l) d, length-each_below n f, each_below-at n f k d, each_below-at n g k d, others k)
 
 -- one more item
 pub numbers_where_push : {A : Type 0} (test : A → Bool) (n : ℕ) (xs : List A) (x : A) →
@@ -64,19 +61,14 @@ grouped_more {A} view vs n key xs i x v w kept within is below at pushed =
 
     more : (k : ℕ) → new k ≡ cond (key x == k) (old k ++ i ∷ []) (old k)
     more k =
-        let test = λ (y : A). key y == k in
-        let count : 0 + length (take i xs) ≡ i = omega (arith, length-take-le i xs (omega arith)) in
         let front : take (i + 1) xs ≡ take i xs ++ x ∷ [] = take_more xs i x within ∙ ap (λ y. take i xs ++ y ∷ []) (sym is) in
-        ap (numbers_where test 0) front ∙ numbers_where_push test 0 (take i xs) x ∙ ap (λ m. cond (key x == k) (old k ++ m ∷ []) (old k)) count
+        grind (arith, length-take-le i xs, numbers_where_push (λ (y : A). key y == k) 0 (take i xs) x)
 
     here : view w ≡ new (key x)
-    here =
-        let same : (key x == key x) ≡ true = grind (arith, nat_tests) in
-        let before : view v ≡ old (key x) = kept_at view vs n old (key x) v kept below at in
-        pushed ∙ ap (λ ls. ls ++ i ∷ []) before ∙ sym (more (key x) ∙ rw same refl)
+    here = grind (arith, nat_tests, kept_at view vs n old (key x) v kept below at, more (key x))
 
     others : (k : ℕ) → k ≢ key x → new k ≡ old k
-    others k apart = let off : (key x == k) ≡ false = grind (arith, nat_tests) in more k ∙ rw off refl
+    others k apart = grind (arith, nat_tests, more k)
 
 pub contains_at : {A : Type 0} (xs : List A) (k : ℕ) (x : A) → slice_get xs k ≡ Some x → Contains xs x
 contains_at xs k x h = (k, slice_get_within xs k x h, get_or_from_slice_get xs k x x h)
@@ -106,9 +98,7 @@ passing_number test n [] i x h t = absurd (none-some x h)
 passing_number test n (y ∷ ys) zero x h t = (zero, grind arith)
 passing_number {A} test n (y ∷ ys) (suc i) x h t =
     let (k, is) = passing_number test (n + 1) ys i x h t in
-    let at : n + 1 + i ≡ n + suc i = omega arith in
-    let later = is ∙ ap (λ (m : ℕ). Some m) at in
-    elim (cases_Bool (test y)) [ inl e ↦ (suc k, rw e later) | inr e ↦ (k, rw e later) ]
+    elim (cases_Bool (test y)) [ inl e ↦ (suc k, grind arith) | inr e ↦ (k, grind arith) ]
 
 low : {A : Type 0} (test : A → Bool) (n : ℕ) (xs : List A) (k : ℕ) → k < length (numbers_where test n xs) → n ≤ get_or (numbers_where test n xs) k 0
 low test n xs k h = grind (arith, number_passes, slice_get-get_or)

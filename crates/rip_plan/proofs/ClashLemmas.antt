@@ -1,6 +1,6 @@
 -- What is found first in a list, an item that passes or one that clashes with an earlier one, and how a loop finds it,
 -- from the first item to the last or from the last to the first.
-use Rattle.std.proofs.Common.{◌≡◌, ℕ, suc, inl, inr, ◌+◌, ◌-◌, ◌<◌, List, [], ◌∷◌, ◌++◌, Bool, true, false, cond, not, ◌&&◌, ◌||◌, length, map, take, drop, get_or, Option, Some, refl, sym, ap, ◌∙◌, arith, zero, length-append, append_assoc, None, subst, ◌≤◌}
+use Rattle.std.proofs.Common.{◌≡◌, ℕ, suc, inl, inr, ◌+◌, ◌-◌, ◌<◌, List, [], ◌∷◌, ◌++◌, Bool, true, false, cond, not, ◌&&◌, length, map, take, drop, get_or, Option, Some, refl, sym, ap, ◌∙◌, arith, zero, length-append, append_assoc, None, subst, ◌≤◌}
 use Rattle.std.proofs.lemmas.List.Elements.{filter-append}
 use Rattle.std.specs.Prelude.{find, option_map, filter, slice_get}
 use Rattle.std.specs.List.{list_any, position_from}
@@ -141,12 +141,9 @@ not_added had is_new h e = not-false had (sym h ∙ e)
 pub added : (had is_new : Bool) → is_new ≡ not had → is_new ≡ true → had ≡ false
 added had is_new h e = not-true had (sym h ∙ e)
 
-pub or_turned : (a b : Bool) → cond a true b ≡ (b || a)
-or_turned a b = grind arith
-
 -- one more item that a set was given
 pub seen_more : {A : Type 0} (test : A → Bool) (xs : List A) (k : ℕ) (x : A) → k < length xs → x ≡ get_or xs k x → cond (test x) true (list_any test (take k xs)) ≡ list_any test (take (k + 1) xs)
-seen_more test xs k x lt is = or_turned (test x) (list_any test (take k xs)) ∙ ap (λ y. list_any test (take k xs) || test y) is ∙ sym (list_any_more test xs k x lt)
+seen_more test xs k x lt is = grind (arith, list_any_more test xs k x lt)
 
 -- ---- the first item that passes
 

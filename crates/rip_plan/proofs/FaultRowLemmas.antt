@@ -196,7 +196,7 @@ module _ (document : Members) (links routers : List Data) where
   pub item_stands : (place : At) (o : Found) → (rest_at place o → ⊥) → o.pass ≡ 0 → IsTold o → Among (asked_at place) (rest_at place) o → StandsAt place
   item_stands place o none zero f row = elim (stands place o zero f row) [ inl here ↦ here | inr rest ↦ absurd (none rest) ]
 
-  -- the number of a table whose row is told, or a row of its lists
+  -- a table whose row is told, or a row of its lists, is one of the document's
   pub link_within : (i : ℕ) (o : Found) → IsTold o → link_rows i o → i ≤ length links
   link_within i o f row =
       elim (stands (Link i) o (link_starts i o row).0 f row) [

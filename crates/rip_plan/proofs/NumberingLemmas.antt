@@ -59,8 +59,7 @@ places_numbered ps qs (d ∷ ds) =
     its_number None e = get_last ps d.prefix
     its_number (Some n) e =
         let (i, q, at, is, same) = position_finds (same_prefix d.prefix) 0 ps n e in
-        let here : n ≡ i = omega (arith, at) in
-        ap (slice_get ps) here ∙ is ∙ ap (λ (b : Block). Some b) (sym (same_is d.prefix q same))
+        grind (arith, same_is d.prefix q)
 
     kept : (o : Option ℕ) (k : ℕ) (b : Block) → slice_get ps k ≡ Some b → slice_get (with_prefix ps d.prefix o) k ≡ Some b
     kept None k b h = get_left ps (d.prefix ∷ []) k b h
@@ -104,8 +103,7 @@ step ps b None h rest =
     ∙ rw new refl
 step ps b (Some k) h rest =
     let (i, q, at, is, same) = position_finds (same_prefix b) 0 ps k h in
-    let there : list_any (λ p. same_prefix p b) ps ≡ true = any_at (λ p. same_prefix p b) ps i q is (ap (λ (p : Block). same_prefix p b) (sym (same_is b q same)) ∙ same_self b) in
-    let old : is_new ps b ≡ false = ap not there in
+    let old : is_new ps b ≡ false = grind (arith, any_at (λ p. same_prefix p b) ps i q is, same_is b q, same_self b) in
     ap (λ (l : List Block). ps ++ l) (sym (filter_both (is_new ps) (λ q. not (same_prefix b q)) (is_new ps) (λ q. new_other ps b q old) (each_once rest)))
     ∙ rw old refl
 

@@ -6,7 +6,7 @@ use Rattle.std.specs.List.{IsDistinct, list_any}
 use Rattle.std.proofs.lemmas.Option.{same_Some, slice_get_within, get_or_from_slice_get, slice_get-get_or}
 use Rattle.std.proofs.lemmas.List.FromFn.{length-range_with_len, get_or-range_with_len}
 use Rattle.std.specs.List.{range_with_len}
-use Rattle.std.proofs.lemmas.Bool.{eqb-true, cases_lt, cases_order, true_from_ne_false, and_parts, or_cases, or_right, not-false, both_ways, false_from_ne_true}
+use Rattle.std.proofs.lemmas.Bool.{eqb-true, cases_lt, true_from_ne_false, and_parts, or_cases, or_right, not-false, both_ways, false_from_ne_true}
 use Rattle.std.proofs.lemmas.Bool.Decides.{nat_tests}
 use Rattle.toml.specs.Data.{Data, Members}
 use Rattle.rip_plan.specs.declared.error.PlanCode.{PlanCode}
@@ -115,16 +115,8 @@ pass_finds {A} F n c Is see xs r first ahead told clear = by_search r first
     not_before : (k m : ℕ) (x y : A) → k ≤ m → slice_get xs k ≡ Some x → slice_get xs m ≡ Some y → Before (rank n (fault c (see y))) (rank n (fault c (see x))) → ⊥
     not_before k m x y le h g before =
         let here = rank n (fault c (see x)) in
-        elim (cases_lt k m) [
-          | inl less ↦
-              elim (ahead k m x y less h g) [
-                | inl one ↦ before_not here (rw (← one) at before)
-                | inr later ↦
-                    let after = before_more (position (see x)) (position (see y)) (number_of_code c ∷ []) (number_of_code c ∷ []) later in
-                    before_not here (before_trans here (rank n (fault c (see y))) here (inr (refl, after)) before)
-              ]
-          | inr ge ↦ let one : k ≡ m = omega arith in before_not here (rw (same_Some y x (sym g ∙ ap (slice_get xs) (sym one) ∙ h)) at before)
-        ]
+        let there = rank n (fault c (see y)) in
+        grind (arith, ahead k m x y, before_not here, before_trans here there here, before_more (position (see x)) (position (see y)) (number_of_code c ∷ []) (number_of_code c ∷ []))
 
     by_search : (q : Option A) → FirstSo Is xs q → Finds F (code_rows n c) (none_found c (option_map see q))
     by_search None none = λ o row f. let h = clear o.error.place (subst F (its o row) f) in none h.k h.x h.at h.so
@@ -249,12 +241,7 @@ module _ (s : Sketch) where
       let (k, at) = address_held n i l a g in
       let one : Held = record { interface = m; link = l; address = a } in
       let two : Held = record { interface = i; link = l; address = a } in
-      elim (cases_order j k) [
-        | inl same ↦ grind arith
-        | inr (inl less) ↦ taken_of i l a j k m less there at
-        | inr (inr more) ↦
-            absurd (elim (held_order n k j two one more at there) [ inl before ↦ omega (arith, before) | inr both ↦ omega (arith, both.one) ])
-      ]
+      grind (arith, taken_of i l a j k m, held_order n k j two one)
 
   twice_taken : (i : ℕ) → HasOneTwice (network_of_sketch s) i → IsTaken i
   twice_taken i (l, addresses, has, (j, k, a, less, one, two)) =
@@ -333,8 +320,13 @@ module _ (laws : TextLaws) (document : Members) (links routers : List Data) (s :
 
   address_same : (place : At) → IsAddressClash (network_of_sketch s) place ↔ TableFault document links routers codes.DuplicateAddress place
   address_same (RouterInterface r j) = in_plan (λ n. IsAddressClash n (RouterInterface r j))
-  address_same place =
-      (λ c. elim c [ inl (j, k, at, less, one) ↦ let is = (interface_spot routers k place at).is in absurd cc | inr (k, at, twice) ↦ let is = (interface_spot routers k place at).is in absurd cc ], λ f. absurd f)
+  address_same place = (
+    λ c. elim c [
+      | inl (j, k, at, less, one) ↦ let is = (interface_spot routers k place at).is in absurd cc
+      | inr (k, at, twice) ↦ let is = (interface_spot routers k place at).is in absurd cc
+    ],
+    λ f. absurd f,
+  )
 
   -- where an address stands
   address_at : (k : ℕ) (h : Held) → slice_get (held s.interfaces s.also) k ≡ Some h → (d : DraftInterface) × (slice_get s.interfaces h.interface ≡ Some d) × (address_spot s.interfaces h ≡ d.at)
@@ -381,12 +373,13 @@ module _ (laws : TextLaws) (document : Members) (links routers : List Data) (s :
   -- own prefixes
   astray_same : (place : At) → IsSo (IsAstray (network_of_sketch s)) (place_spots links routers) place ↔ IsAstrayAt document links routers place
   astray_same (RouterOwn r j) = in_plan (λ n. IsSo (IsAstray n) (place_spots links routers) (RouterOwn r j))
-  astray_same place =
-      (λ (k, at, (p, r, l, h, none)).
-      let t = own_table document (network_of_sketch s) plan k p h.own h.place in
-      let is : place ≡ RouterOwn (1 + t.r) (suc t.j) = same_Some place (RouterOwn (1 + t.r) (suc t.j)) (sym at ∙ ap (λ (l : List At). slice_get l k) (sym spots) ∙ t.spot) in
-      absurd cc,
-      λ f. absurd f)
+  astray_same place = (
+    λ (k, at, (p, r, l, h, none)).
+        let t = own_table document (network_of_sketch s) plan k p h.own h.place in
+        let is : place ≡ RouterOwn (1 + t.r) (suc t.j) = same_Some place (RouterOwn (1 + t.r) (suc t.j)) (sym at ∙ ap (λ (l : List At). slice_get l k) (sym spots) ∙ t.spot) in
+        absurd cc,
+    λ f. absurd f,
+  )
 
   astrays_find : Finds (IsLast document links routers) (code_rows 5 codes.UnknownLink) (none_found codes.UnknownLink (astray_in s.interfaces s.places))
   astrays_find =

@@ -1,5 +1,5 @@
 -- Where the items of lists and the further addresses of interfaces stand, in which order, and how many there are.
-use Rattle.std.proofs.Common.{◌≡◌, ℕ, zero, suc, ◌+◌, ◌<◌, ◌≤◌, ◌⊎◌, inl, inr, List, [], ◌∷◌, ◌++◌, length, map, Some, refl, sym, ap, ◌∙◌, arith, length-append, subst}
+use Rattle.std.proofs.Common.{◌≡◌, ℕ, zero, suc, ◌+◌, ◌<◌, ◌≤◌, ◌⊎◌, inl, inr, List, [], ◌∷◌, ◌++◌, length, map, Some, refl, sym, ap, ◌∙◌, arith, length-append}
 use Rattle.std.specs.Prelude.{slice_get, codes as codes_of}
 use Rattle.std.proofs.lemmas.Option.{none-some, same_Some, slice_get_within}
 use Rattle.std.proofs.lemmas.List.{length-map}
@@ -9,7 +9,7 @@ use Rattle.rip_plan.specs.declared.error.At.TheVariants.{LinkPrefix, RouterInter
 use Rattle.rip_plan.specs.PlanOf.{items_in, items_under}
 use Rattle.rip_plan.specs.PlanFaults.{nth, IsItem, spots_of, spots_under, place_spots, interface_spots, position, Before, also_spots, also_spots_from, also_spots_of}
 use Rattle.rip_plan.proofs.ItemLemmas.{get_split, get_left, get_past, get_seen, get_some, see_got}
-use Rattle.rip_plan.proofs.FlatLemmas.{ahead_front, flat, in_flat, in_order, is_in, same_ahead, same_length, count_ahead}
+use Rattle.rip_plan.proofs.FlatLemmas.{ahead_front, flat, in_flat, in_order, is_in, same_ahead, same_length}
 use Rattle.rip_plan.proofs.FindingLemmas.{before_not}
 
 pub nth_from : {A : Type 0} (xs : List A) (i : ℕ) (x : A) → nth xs i ≡ Some x → (1 ≤ i) × (i ≤ length xs)
@@ -195,12 +195,12 @@ prefix_here routers done d rest front x back e n h =
     (under_here (codes_of "prefixes") LinkPrefix 1 done d rest front x back e n h)
 
 pub own_here : (links done : List Data) (d : Data) (rest front : List Data) (x : Data) (back : List Data) → items_in (get (codes_of "own") d) ≡ front ++ x ∷ back
-    → (n : ℕ) → n ≡ length (spots_under (codes_of "prefixes") LinkPrefix 1 links) + (length (spots_under (codes_of "own") RouterOwn 1 done) + length front)
-    → slice_get (place_spots links (done ++ d ∷ rest)) n ≡ Some (RouterOwn (1 + length done) (1 + length front))
+    → (n : ℕ) → n ≡ length (place_spots links done) + length front → slice_get (place_spots links (done ++ d ∷ rest)) n ≡ Some (RouterOwn (1 + length done) (1 + length front))
 own_here links done d rest front x back e n h =
-    get_past (spots_under (codes_of "prefixes") LinkPrefix 1 links) (spots_under (codes_of "own") RouterOwn 1 (done ++ d ∷ rest))
-    (length (spots_under (codes_of "own") RouterOwn 1 done) + length front) n h
-    ∙ under_here (codes_of "own") RouterOwn 1 done d rest front x back e (length (spots_under (codes_of "own") RouterOwn 1 done) + length front) refl
+    let on_links = spots_under (codes_of "prefixes") LinkPrefix 1 links in
+    let own = spots_under (codes_of "own") RouterOwn 1 done in
+    get_past on_links (spots_under (codes_of "own") RouterOwn 1 (done ++ d ∷ rest)) (length own + length front) n (omega (arith, h, length-append on_links own))
+    ∙ under_here (codes_of "own") RouterOwn 1 done d rest front x back e (length own + length front) refl
 
 pub nth_here : {A : Type 0} (done : List A) (x : A) (rest : List A) (n : ℕ) → n ≡ 1 + length done → nth (done ++ x ∷ rest) n ≡ Some x
 nth_here done x rest n e = let same : n ≡ suc (length done) = omega arith in rw same (get_front done x rest)
@@ -294,13 +294,9 @@ of_within at one j front x back k h =
     let all = front ++ x ∷ back in
     let u = is_in (spots_at at) j all (also_spots_of at j all) (of_flat at j all) k (at (j + length front)) h in
     let (y, is, same) = get_seen (λ (z : Data). at (j + u.i)) (also_items u.x) u.j (at (j + length front)) u.of in
-    let number : j + u.i ≡ j + length front = one (j + u.i) (j + length front) same in
-    let index : u.i ≡ length front = omega arith in
-    let item : u.x ≡ x = same_Some u.x x (sym u.at ∙ ap (slice_get all) index ∙ get_front front x back) in
-    let within : u.j < length (also_items x) = subst (λ (z : Data). u.j < length (also_items z)) item (slice_get_within (also_items u.x) u.j y is) in
-    let count : count_ahead (spots_at at) j all u.i ≡ also_in front =
-    ap (count_ahead (spots_at at) j all) index ∙ ahead_front (spots_at at) j front x back ∙ sym (ap length (of_flat at j front)) ∙ of_count at j front in
-    omega (arith, u.number)
+    let index : u.i ≡ length front = omega (arith, one (j + u.i) (j + length front) same) in
+    let within = slice_get_within (also_items u.x) u.j y is in
+    grind (arith, u.number, get_front front x back, ahead_front (spots_at at) j front x back, of_flat at j front, of_count at j front)
 
 pub also_within : (r : ℕ) (done : List Data) (d : Data) (rest front : List Data) (x : Data) (back : List Data) → items_in (get (codes_of "interface") d) ≡ front ++ x ∷ back → (k : ℕ)
     → slice_get (also_spots_from r (done ++ d ∷ rest)) k ≡ Some (RouterInterface (r + length done) (1 + length front)) → k < also_under done + (also_in front + length (also_items x))
@@ -316,6 +312,4 @@ also_within r done d rest front x back e k h =
     ap (λ (l : List Data). slice_get (also_spots_of (RouterInterface (r + u.i)) 1 l) u.j) (sym (ap (λ (z : Data). items_in (get (codes_of "interface") z)) item ∙ e)) ∙ u.of
     ∙ ap (λ (q : ℕ). Some (RouterInterface q (1 + length front))) number in
     let within = of_within (RouterInterface (r + u.i)) (λ n q same. cc) 1 front x back u.j at in
-    let count : count_ahead spots_of_router r all u.i ≡ also_under done =
-    ap (count_ahead spots_of_router r all) index ∙ ahead_front spots_of_router r done d rest ∙ sym (ap length (further_flat r done)) ∙ also_count r done in
-    omega (arith, u.number, within)
+    grind (arith, u.number, within, ahead_front spots_of_router r done d rest, further_flat r done, also_count r done)

@@ -65,6 +65,12 @@ module _ (ds done : List Data) (d : Data) (rest : List Data) (split : ds ≡ don
       let there : nth all m ≡ Some x = ap (λ (l : List Data). nth l m) (sym items ∙ ap (λ (t : Data). items_in (get key t)) (sym (table_same e is))) ∙ item in
       omega (arith, (nth_from all m x there).1)
 
+-- how many were read before an item: those before its list, and the front of the list
+stand_before : {A : Type 0} (see : A → At) (at : ℕ → At) (all before added : List A) (spots : List At) (front : List Data) → all ≡ before ++ added → map see before ≡ spots
+    → map see added ≡ spots_of at 1 front → length all ≡ length spots + length front
+stand_before see at all before added spots front made stand here =
+    omega (arith, ap length made, length-append before added, stood see before spots stand, stood see added (spots_of at 1 front) here, count_of at 1 front)
+
 -- a place that stands at a number below the most
 not_past : (links routers : List Data) (n : ℕ) (at : At) → slice_get (place_spots links routers) n ≡ Some at → nat_le 1024 n ≡ false → IsPast 1024 (place_spots links routers) at → ⊥
 not_past links routers n at here free (k, there, most) = let same : k ≡ n = place_once links routers k n at there here in grind (arith, nat_tests)
@@ -94,13 +100,11 @@ module _ (laws : TextLaws) (ds done : List Data) (d : Data) (rest : List Data) (
   again_clear names named name its fresh (e, earlier, suc k, other, is, its_name, less, there, theirs) =
       let same : e ≡ d = table_same ds done d rest split e is in
       let one : other ≡ name = text_same (codes_of "name") d other name (subst (IsNameOf other) same its_name) its in
-      let at : slice_get (done ++ d ∷ rest) k ≡ Some earlier = ap (λ (l : List Data). slice_get l k) (sym split) ∙ there in
-      elim (get_split done (d ∷ rest) k earlier at) [
+      elim (get_split done (d ∷ rest) k earlier (rw split at there)) [
         | inl found ↦
             let (m, listed, of) = matched_right IsNameOf names done k earlier named found.0 in
             let its_own : m ≡ name = text_same (codes_of "name") earlier m other of theirs ∙ one in
-            let taken : is_one_of name names ≡ true = any_at (λ (x : List ℕ). bytes_eq x name) names k m listed (ap (λ (t : List ℕ). bytes_eq t name) its_own ∙ name_same name) in
-            absurd cc
+            grind (arith, any_at (λ (x : List ℕ). bytes_eq x name) names k m listed, name_same name)
         | inr past ↦ let count : k ≡ length done + past.0 = past.1 in absurd (omega arith)
       ]
 
@@ -139,18 +143,12 @@ module _ (document : Members) (links routers done : List Data) (d : Data) (rest 
       let before = links_added laws 0 done (empty poison) u taken in
       let inner = prefixes_added laws i 1 front (with_link name u) v steps_taken in
       let places : v.places ≡ before.added ++ inner.added = ap (λ (t : Sketch). t.places) inner.made ∙ ap (λ (t : Sketch). t.places ++ inner.added) before.made in
-      (prefix_asks laws front x back v (items ∙ parts)
-      (omega (
-        arith,
-        ap length places,
-        length-append before.added inner.added,
-        stood (λ (p : DraftPlace). p.at) before.added (stood_links done) before.stand,
-        stood (λ (p : DraftPlace). p.at) inner.added (spots_of (LinkPrefix i) 1 front) inner.stand,
-        count_of (LinkPrefix i) 1 front,
-      ))).finds (turn_at (LinkPrefix i (1 + length front))))
+      let count = stand_before (λ (p : DraftPlace). p.at) (LinkPrefix i) v.places before.added inner.added (stood_links done) front places before.stand inner.stand in
+      (prefix_asks laws front x back v (items ∙ parts) count).finds (turn_at (LinkPrefix i (1 + length front))))
       (λ m o past row f.
       none_past links done d rest split (codes_of "prefixes") all items m past
       (item_stands document links routers (LinkPrefix i m) o (λ n. n) (prefix_starts i m o row).0 f row))
+
   link_asks : (laws : TextLaws) (poison : Bool) (u : Sketch) → steps link_step 1 done (empty poison) ≡ Ok u
       → Asks (IsTold document links routers) (asked_at (Link (1 + length done))) (rest_at (Link (1 + length done))) (link_step (1 + length done) d u)
   unfolding link_step
@@ -199,7 +197,7 @@ attached_told links v matched x (Some name) has h = unknown_told links v matched
 
 module _ (document : Members) (links routers done : List Data) (d : Data) (rest : List Data) (split : routers ≡ done ++ d ∷ rest) where
   own_asks : (laws : TextLaws) (front : List Data) (x : Data) (back : List Data) (v : Sketch) → items_in (get (codes_of "own") d) ≡ front ++ x ∷ back → Matched IsNameOf v.links links
-      → length v.places ≡ length (spots_under (codes_of "prefixes") LinkPrefix 1 links) + (length (spots_under (codes_of "own") RouterOwn 1 done) + length front)
+      → length v.places ≡ length (place_spots links done) + length front
       → Asks (IsTold document links routers) (asked_at (RouterOwn (1 + length done) (1 + length front))) (λ o. ⊥) (own_step (1 + length done) (1 + length front) x v)
   unfolding own_step
   own_asks laws front x back v items named count =
@@ -390,14 +388,8 @@ module _ (document : Members) (links routers done : List Data) (d : Data) (rest 
       let also : v.also ≡ u.also ++ inner.further = ap (λ (t : Sketch). t.also) inner.made in
       (interface_asks document links routers done d rest split laws front x back poison u v (items ∙ parts) read (names_apart laws) (ap (λ (t : Sketch). t.links) inner.made)
       (ap (λ (t : Sketch). t.places) inner.made)
-      (omega (
-        arith,
-        ap (λ (t : Sketch). length t.interfaces) inner.made,
-        length-append u.interfaces inner.added,
-        stood (λ (i : DraftInterface). i.at) u.interfaces (interface_spots done) read.interfaces_stand,
-        stood (λ (i : DraftInterface). i.at) inner.added (spots_of (RouterInterface r) 1 front) inner.stand,
-        count_of (RouterInterface r) 1 front,
-      ))
+      (stand_before (λ (i : DraftInterface). i.at) (RouterInterface r) v.interfaces u.interfaces inner.added (interface_spots done) front (ap (λ (t : Sketch). t.interfaces) inner.made)
+      read.interfaces_stand inner.stand)
       (omega (
         arith,
         ap (sum_by length) also,
@@ -411,6 +403,7 @@ module _ (document : Members) (links routers done : List Data) (d : Data) (rest 
       (λ m o past row f.
       none_past routers done d rest split (codes_of "interface") all items m past
       (item_stands document links routers (RouterInterface r m) o (λ n. n) (interface_starts r m o row).0 f row))
+
   owns_find : (laws : TextLaws) (name : List ℕ) (ins : List Data) (v0 : Sketch) → steps (interface_step (1 + length done)) 1 ins (with_router name u) ≡ Ok v0 → (all : List Data)
       → items_in (get (codes_of "own") d) ≡ all
       → Finds (IsTold document links routers) (Each (own_rows (1 + length done)) 1) (steps (own_step (1 + length done)) 1 all v0)
@@ -423,21 +416,13 @@ module _ (document : Members) (links routers done : List Data) (d : Data) (rest 
       let inner = owns_added laws r 1 front v0 v taken in
       let names : v.links ≡ u.links = ap (λ (t : Sketch). t.links) inner.made ∙ ap (λ (t : Sketch). t.links) left.made in
       let places : v.places ≡ u.places ++ inner.added = ap (λ (t : Sketch). t.places) inner.made ∙ ap (λ (t : Sketch). t.places ++ inner.added) left.made in
-      let on_links = spots_under (codes_of "prefixes") LinkPrefix 1 links in
-      let own = spots_under (codes_of "own") RouterOwn 1 done in
-      (own_asks document links routers done d rest split laws front x back v (items ∙ parts) (subst (λ (l : List (List ℕ)). Matched IsNameOf l links) (sym names) read.link_names)
-      (omega (
-        arith,
-        ap length places,
-        length-append u.places inner.added,
-        stood (λ (p : DraftPlace). p.at) u.places (place_spots links done) read.places_stand,
-        length-append on_links own,
-        stood (λ (p : DraftPlace). p.at) inner.added (spots_of (RouterOwn r) 1 front) inner.stand,
-        count_of (RouterOwn r) 1 front,
-      ))).finds (turn_at (RouterOwn r (1 + length front))))
+      let named = subst (λ (l : List (List ℕ)). Matched IsNameOf l links) (sym names) read.link_names in
+      let count = stand_before (λ (p : DraftPlace). p.at) (RouterOwn r) v.places u.places inner.added (place_spots links done) front places read.places_stand inner.stand in
+      (own_asks document links routers done d rest split laws front x back v (items ∙ parts) named count).finds (turn_at (RouterOwn r (1 + length front))))
       (λ m o past row f.
       none_past routers done d rest split (codes_of "own") all items m past
       (item_stands document links routers (RouterOwn r m) o (λ n. n) (own_starts r m o row).0 f row))
+
   router_asks : (laws : TextLaws) → Asks (IsTold document links routers) (asked_at (Router (1 + length done))) (rest_at (Router (1 + length done))) (router_step (1 + length done) d u)
   unfolding router_step
   router_asks laws =

@@ -130,6 +130,7 @@ module _ (laws : TextLaws) (bytes : List ℕ) (document : Members) (short : leng
   text_turn : InTurn text_rows table_rows
   text_turn = grind (arith, tables_low)
 
+  -- too many links or routers
   over : (links routers : List Data) → (nat_lt 512 (length links) || nat_lt 128 (length routers)) ≡ true ↔ ((512 < length links) ⊎ (128 < length routers))
   over links routers = (λ h. grind arith, λ h. grind (arith, nat_tests))
 
@@ -140,9 +141,7 @@ module _ (laws : TextLaws) (bytes : List ℕ) (document : Members) (short : leng
       (λ good f.
       let h = in_table bytes 0 codes.Version Version (λ a. a) f in
       let same = same_document bytes document h.0 reads h.1 in
-      let its : get_member (codes_of "version") document ≡ Some (integer (pos 1)) =
-      version_is (get_member (codes_of "version") document) (not-false (is_version (get_member (codes_of "version") document)) good) in
-      h.2 (ap (get_member (codes_of "version")) same ∙ its))
+      h.2 (ap (get_member (codes_of "version")) same ∙ version_is (get_member (codes_of "version") document) (not-false (is_version (get_member (codes_of "version") document)) good)))
       (λ good.
       ask_wanted (root_fields document) _ (λ none. inl ((document, text, root_not document none), refl))
       (λ r is f.
@@ -162,7 +161,8 @@ module _ (laws : TextLaws) (bytes : List ℕ) (document : Members) (short : leng
       limit_clear links routers poison is room (inl more) = let past : 1048576 < length bytes = more in omega arith
       limit_clear links routers poison is room (inr (other, ls, rs, has, more)) =
           let same = one_tables bytes document links routers (tables links routers poison is) other ls rs has in
-          both_ways (nat_lt 512 (length links) || nat_lt 128 (length routers)) room ((over links routers).1 (subst (λ (t : Members × List Data × List Data). (512 < length t.1) ⊎ (128 < length t.2)) same more))
+          both_ways (nat_lt 512 (length links) || nat_lt 128 (length routers)) room
+          ((over links routers).1 (subst (λ (t : Members × List Data × List Data). (512 < length t.1) ⊎ (128 < length t.2)) same more))
 
   row_covered : (c : PlanCode) (place : At) → FaultAt bytes c place → Among text_rows table_rows (row_at c place)
   row_covered codes.Syntax Text h = absurd (none-some document (sym h.1 ∙ reads))
@@ -251,14 +251,8 @@ fault_first laws bytes e h =
       found = found.1;
       first = λ other o f.
           let lengths : length (rank found.0 e) ≡ length (rank other o) = rank_length found.0 e.code e.place ∙ sym (rank_length other o.code o.place) in
-          elim (before_or (rank found.0 e) (rank other o) lengths) [
-            | inl either ↦
-                elim either [
-                  | inl same ↦ inl (sym (from_rank bytes other o.code o.place f) ∙ ap error_from (sym same) ∙ from_rank bytes found.0 e.code e.place found.1)
-                  | inr later ↦ inr later
-                ]
-            | inr sooner ↦ absurd (found.3 (record { pass = other; error = o }) tt f sooner)
-          ];
+          let later = found.3 (record { pass = other; error = o }) tt f in
+          grind (arith, before_or (rank found.0 e) (rank other o) lengths, from_rank bytes other o.code o.place f, from_rank bytes found.0 e.code e.place found.1, later);
     }
 
 pub faultless : (laws : TextLaws) (bytes : List ℕ) (s : Sketch) → sketch_of bytes ≡ Ok s → (e : PlanError) → IsFault bytes e → ⊥
@@ -281,14 +275,7 @@ fault_in r = result_err (r >>= (λ s. Ok (network_of_sketch s)))
 
 one_first : (bytes : List ℕ) (d e : PlanError) → PlanFault bytes d → PlanFault bytes e → d ≡ e
 one_first bytes d e p q =
-    elim (q.first p.pass d p.found) [
-      | inl same ↦ same
-      | inr after ↦
-          elim (p.first q.pass e q.found) [
-            | inl same ↦ sym same
-            | inr later ↦ absurd (before_not (rank p.pass d) (before_trans (rank p.pass d) (rank q.pass e) (rank p.pass d) later after))
-          ]
-    ]
+    grind (arith, q.first p.pass d p.found, p.first q.pass e q.found, before_not (rank p.pass d), before_trans (rank p.pass d) (rank q.pass e) (rank p.pass d))
 
 pub fault_told : (laws : TextLaws) (bytes : List ℕ) (e : PlanError) → (first_fault bytes ≡ Some e) ↔ PlanFault bytes e
 fault_told laws bytes e =
