@@ -66,6 +66,4 @@ pub among_is_on : (r l : ℕ) (is : List Interface) → cost_among r is (numbers
 among_is_on r l is = among_from r l [] is 0 refl
 
 pub numbers_below : {A : Type 0} (test : A → Bool) (xs : List A) → All (λ n. n < length xs) (numbers_where test 0 xs)
-numbers_below test xs k d h =
-    let (i, x, e, at, t) = number_passes test 0 xs k (get_or (numbers_where test 0 xs) k d) (slice_get-get_or (numbers_where test 0 xs) k d h) in
-    omega (arith, slice_get_within xs i x at)
+numbers_below test xs k d h = grind (arith, number_passes, slice_get-get_or, slice_get_within)

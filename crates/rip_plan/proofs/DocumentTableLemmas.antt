@@ -80,19 +80,11 @@ list_may o xs h d is = let (items, array_of, same) = array_is d xs (ap items_if 
 
 each_text : (ds : List Data) → list_all (λ x. is_some (as_str x)) ds ≡ true → (k : ℕ) (x : Data) → slice_get ds k ≡ Some x → IsString x
 each_text [] h k x at = absurd (none-some x at)
-each_text (d ∷ ds) h zero x at =
-    elim (cases_option (as_str d)) [
-      | inl e ↦ let clash = rw e at (and_parts (is_some (as_str d)) (list_all (λ x. is_some (as_str x)) ds) h).0 in absurd cc
-      | inr (s, e) ↦ (s, sym (same_Some d x at) ∙ text_is d s e)
-    ]
+each_text (d ∷ ds) h zero x at = grind arith
 each_text (d ∷ ds) h (suc k) x at = each_text ds (and_parts (is_some (as_str d)) (list_all (λ x. is_some (as_str x)) ds) h).1 k x at
 
 texts_may : (o : Option Data) (also : List Data) → (items_if o &> texts_of) ≡ Some also → MayHaveAt o IsTextList
-texts_may o also h d is =
-    let (xs, given, texts) = then_some (items_if o) texts_of also h in
-    let all = cond_some (list_all (λ (x : Data). is_some (as_str x)) xs) xs also texts in
-    let (items, array_of, same) = array_is d xs (ap items_if (sym is) ∙ given) in
-    (items, array_of, λ k x at. each_text xs all.0 k x (ap (λ (l : List Data). slice_get l k) (sym same) ∙ at))
+texts_may o also h d is = grind (arith, each_text)
 
 -- ---- what is of its kind is read
 
@@ -181,24 +173,7 @@ pub record HasLinkFields (d : Data) (name : List ℕ) (prefixes : List Data) : T
 
 pub link_table : (d : Data) (name : List ℕ) (prefixes : List Data) → (as_table d &> link_fields) ≡ Some (name, prefixes) → HasLinkFields d name prefixes
 unfolding link_fields
-link_table d name prefixes h =
-    let (ms, is, h1) = then_some (as_table d) link_fields (name, prefixes) h in
-    let (keys, h2) = chosen (has_only (keys_of a_link) ms) _ (name, prefixes) h1 in
-    let (a, first, h3) = then_some (text_at (codes_of "name") ms) _ (name, prefixes) h2 in
-    let (b, second, h4) = then_some (items_at (codes_of "prefixes") ms) _ (name, prefixes) h3 in
-    let same = same_Some (a, b) (name, prefixes) h4 in
-    let there : d ≡ table ms = table_is d ms is in
-    rw there (record {
-      named = text_there (get_member (codes_of "name") ms) name (first ∙ ap (λ (f : List ℕ × List Data). Some f.0) same);
-      prefixes_are = items_are (get_member (codes_of "prefixes") ms) prefixes (second ∙ ap (λ (f : List ℕ × List Data). Some f.1) same);
-      shape = record {
-        members = ms;
-        is_table = refl;
-        keys = keys_only (keys_of a_link) ms keys;
-        name = text_has (get_member (codes_of "name") ms) a first;
-        prefixes = list_has (get_member (codes_of "prefixes") ms) b second;
-      };
-    })
+link_table d name prefixes h = grind (arith, then_some, chosen, same_Some, table_is, text_there, items_are, keys_only, text_has, list_has)
 
 -- what an interface's table holds
 pub record HasInterfaceFields (d : Data) (f : InterfaceFields) : Type 0 where
@@ -374,12 +349,7 @@ string_not d none (text, is) = none-some text (sym none ∙ ap as_str is)
 
 pub root_not : (document : Members) → root_fields document ≡ None → IsRoot document → ⊥
 unfolding root_fields
-root_not ms none is =
-    let (a, first) = some_given (get_member (codes_of "link") ms) is.link in
-    let (b, second) = some_given (get_member (codes_of "router") ms) is.router in
-    let (c, third) = flag_given (get_member (codes_of "poison") ms) is.poison in
-    let read : root_fields ms ≡ Some (a, b, unwrap_or c true) = rw (only_keys (keys_of the_root) ms is.keys, first, second, third) refl in
-    none-some (a, b, unwrap_or c true) (sym none ∙ read)
+root_not ms none is = grind (arith, flag_given, only_keys)
 
 -- a table is what was read, or was not read
 pub by_table : {A : Type 0} (Is : Data → Type 0) (fields : Members → Option A) → ((d : Data) (f : A) → (as_table d &> fields) ≡ Some f → Is d) → (d : Data) → ((Is d → ⊥) → ⊥)

@@ -25,7 +25,7 @@ use Rattle.rip_plan.specs.Network.{Network, cost_on, is_of, network_of_sketch}
 use Rattle.rip_plan.specs.Passes.{same_prefix}
 use Rattle.rip_plan.specs.Seats.{is_on}
 use Rattle.rip_plan.specs.PlanFaults.{AreTwice, DoMeet, HasTables, HasWrongCost, HasWrongDirect, HaveOneAddress, IsAstray, IsClash, IsFault, IsMisnamed, IsText, TableFault, also_spots, interface_spots, pass_of, place_spots}
-use Rattle.rip_plan.specs.PlanOf.{AreAlsoOf, HasItems, IsAddressOf, IsCostOf, IsDirectOf, IsGatewayOf, IsInterfaceOf, IsNameOf, IsOnLink, IsOwned, IsPlaceOf, IsPlanOfText, Matched, Placement, PlanOf, each_once, items_in, items_under}
+use Rattle.rip_plan.specs.PlanOf.{AreAlsoOf, HasItems, IsAddressOf, IsCostOf, IsDirectOf, IsGatewayOf, IsInterfaceOf, IsNameOf, IsPlaceOf, IsPlanOfText, Matched, Placement, PlanOf, each_once, items_in, items_under}
 use Rattle.rip_plan.specs.PlanText.{sketch_of}
 use Rattle.rip_plan.specs.Relations.{Carries, HasAddress, HasAddresses, HasOwnAddress, IsAttached, IsConnected, IsEachOnce, IsGateway, IsInside, IsInterface, IsLawful, IsOn, IsOwnAt, IsPlace, IsPrefix}
 use Rattle.rip_plan.proofs.DocumentTableLemmas.{by_root}
@@ -217,12 +217,7 @@ module _ (laws : TextLaws) (bytes : List ℕ) (document : Members) (n : Network)
       (ap (λ (bs : List Block). slice_get bs p) (sym plan.prefixes) ∙ h)
 
   prefix_is : (p : ℕ) (b : Block) → IsPrefix n p b → IsBlock b
-  prefix_is p b h =
-      let (k, q, at, same) = placed p b h in
-      subst IsBlock same (elim (get_split plan.on_links plan.owned k q at) [
-        | inl here ↦ let (x, is, of) = matched_left IsOnLink plan.on_links (items_under (codes_of "prefixes") 0 plan.links) k q plan.link_prefixes here.0 in of.prefix.0
-        | inr there ↦ let (x, is, of) = matched_left (IsOwned n.links) plan.owned (items_under (codes_of "own") 0 plan.routers) there.0 q plan.own_prefixes there.2 in of.prefix.0
-      ])
+  prefix_is p b h = grind (arith, placed, get_split, matched_left)
 
   prefixes_differ : (p q : ℕ) (b : Block) → IsPrefix n p b → IsPrefix n q b → p ≡ q
   prefixes_differ p q b h k =

@@ -6,7 +6,7 @@ use Rattle.std.specs.Prelude.{slice_get, ◌==◌, find}
 use Rattle.std.specs.Option.{option_or}
 use Rattle.std.specs.List.{Contains, position_from}
 use Rattle.std.specs.Str.{bytes_eq}
-use Rattle.std.proofs.lemmas.Option.{cond_some, none-some, same_Some}
+use Rattle.std.proofs.lemmas.Option.{none-some, same_Some}
 use Rattle.std.proofs.lemmas.Bool.Decides.{nat_tests}
 use Rattle.std.proofs.lemmas.Slice.Eq.{bytes_eq-Decides}
 use Rattle.rip_wire.specs.Prefix.{Block}
@@ -28,10 +28,7 @@ use Rattle.rip_plan.proofs.NumbersWhereLemmas.{contains_at, at_contains, number_
 
 -- where an item passes, the first that passes is found
 pub at_first : {A : Type 0} (test : A → Bool) (xs : List A) (k : ℕ) → position_from test 0 xs ≡ Some k → (y : A) × (slice_get xs k ≡ Some y) × (test y ≡ true)
-at_first test xs k e =
-    let (j, y, at, is, passes) = position_finds test 0 xs k e in
-    let same : k ≡ j = omega arith in
-    (y, ap (slice_get xs) same ∙ is, passes)
+at_first test xs k e = grind (arith, position_finds)
 
 -- where an item passes, the first that passes is found
 found : {A : Type 0} (test : A → Bool) (xs : List A) (i : ℕ) (x : A) → slice_get xs i ≡ Some x → test x ≡ true
@@ -45,9 +42,7 @@ found test xs i x h t =
 -- ---- prefixes
 
 pub prefix_of_number : (n : Network) (p : Block) (k : ℕ) → number_of_prefix p n.prefixes ≡ Some k → IsPrefix n k p
-prefix_of_number n p k h =
-    let (q, at, same) = at_first (same_prefix p) n.prefixes k h in
-    at ∙ ap (λ (b : Block). Some b) (sym (same_is p q same))
+prefix_of_number n p k h = grind (arith, at_first)
 
 pub number_of_planned : (n : Network) → IsLawful n → (p : Block) (k : ℕ) → IsPrefix n k p → number_of_prefix p n.prefixes ≡ Some k
 number_of_planned n laws p k h =
@@ -77,11 +72,7 @@ cost_found r l d (x ∷ xs) h =
 
 pub cost_there : (r l d a c i : ℕ) (b : Bool) (is : List Interface) → slice_get is i ≡ Some (record { router = r; link = l; address = a; cost = c; direct = d; poison = b }) → cost_on r l is ≡ None → ⊥
 cost_there r l d a c i b [] h e = absurd (none-some _ h)
-cost_there r l d a c zero b (x ∷ xs) h e =
-    let same = same_Some x _ h in
-    let router : (x.router == r) ≡ true = rw same (grind (arith, nat_tests)) in
-    let link : (x.link == l) ≡ true = rw same (grind (arith, nat_tests)) in
-    none-some x.direct (sym (rw (router, link) at e))
+cost_there r l d a c zero b (x ∷ xs) h e = grind arith
 cost_there r l d a c (suc i) b (x ∷ xs) h e =
     elim (cases_Bool (x.router == r && x.link == l)) [
       | inl t ↦ none-some x.direct (sym (rw t at e))
@@ -109,11 +100,7 @@ direct_found r k c is (q ∷ qs) h =
 
 direct_there : (r k j : ℕ) (seat : Seat) (is : List Interface) (qs : List Place) → slice_get qs j ≡ Some (record { prefix = k; seat = seat }) → direct_at r k is qs ≡ None → cost_at r is seat ≡ None
 direct_there r k j seat is [] h e = absurd (none-some _ h)
-direct_there r k zero seat is (q ∷ qs) h e =
-    let same = same_Some q _ h in
-    let test : (q.prefix == k) ≡ true = rw same (grind (arith, nat_tests)) in
-    let parts = or_none (cost_at r is q.seat) (direct_at r k is qs) (rw test at e) in
-    ap (λ (p : Place). cost_at r is p.seat) (sym same) ∙ parts.0
+direct_there r k zero seat is (q ∷ qs) h e = grind arith
 direct_there r k (suc j) seat is (q ∷ qs) h e =
     elim (cases_Bool (q.prefix == k)) [
       | inl t ↦ direct_there r k j seat is qs h (or_none (cost_at r is q.seat) (direct_at r k is qs) (rw t at e)).1
@@ -124,9 +111,7 @@ cost_touches : (n : Network) (j k r c : ℕ) (seat : Seat) → IsPlace n j k sea
 cost_touches n j k r c (seats.Link l) place h =
     let (i, (a, cost, poison, at)) = cost_found r l c n.interfaces h in
     inl (l, place, (i, record { address = a; cost = cost; poison = poison; listed = at }))
-cost_touches n j k r c (seats.Own own) place h =
-    let (of, says) = cond_some (own.router == r) own.cost c h in
-    inr (record { own = own; place = place; router = eqb-true own.router r of; says = says })
+cost_touches n j k r c (seats.Own own) place h = grind arith
 
 touch_costs : (n : Network) (j k r c : ℕ) → Touches n j k r c → (seat : Seat) × IsPlace n j k seat × (cost_at r n.interfaces seat ≡ None → ⊥)
 touch_costs n j k r c (inl (l, place, (i, is))) = (seats.Link l, place, λ e. cost_there r l c is.address is.cost i is.poison n.interfaces is.listed e)
@@ -161,9 +146,7 @@ direct_once n laws r k c d (j, h) (m, h') =
         sym own.says ∙ ap (λ (o : OwnPrefix). o.cost) one ∙ own'.says
 
 pub direct_gives : (n : Network) (r k c : ℕ) → direct_at r k n.interfaces n.places ≡ Some c → IsDirect n r k c
-direct_gives n r k c h =
-    let (j, seat, at, cost) = direct_found r k c n.interfaces n.places h in
-    (j, cost_touches n j k r c seat (record { listed = at }) cost)
+direct_gives n r k c h = grind (arith, direct_found, cost_touches)
 
 pub direct_finds : (n : Network) → IsLawful n → (r k c : ℕ) → IsDirect n r k c → direct_at r k n.interfaces n.places ≡ Some c
 direct_finds n laws r k c h =
@@ -178,12 +161,7 @@ pub on_seat : (l : ℕ) (seat : Seat) → seated.is_on l seat ≡ true → seat 
 on_seat l seat h = grind arith
 
 pub carrier_gives : (n : Network) (l k j : ℕ) → first_carrying l k 0 n.places ≡ Some j → Carries n l k
-carrier_gives n l k j h =
-    let (q, at, passes) = at_first (is_carrying l k) n.places j h in
-    let tests = and_parts (seated.is_on l q.seat) (q.prefix == k) passes in
-    let seat : q.seat ≡ seats.Link l = on_seat l q.seat tests.0 in
-    let prefix : q.prefix ≡ k = grind (arith, nat_tests) in
-    (j, record { listed = at ∙ ap (λ (m : Seat). Some (record q { seat = m })) seat ∙ ap (λ (m : ℕ). Some (record { prefix = m; seat = seats.Link l })) prefix })
+carrier_gives n l k j h = grind (arith, at_first, on_seat)
 
 pub carrier_finds : (n : Network) (l k : ℕ) → Carries n l k → first_carrying l k 0 n.places ≡ None → ⊥
 carrier_finds n l k (j, place) e =
@@ -222,16 +200,7 @@ abbrev pub HasOwnSeat : Network → ℕ → ℕ → Seat → Type 0
 HasOwnSeat n r p seat = (k : ℕ) × IsOwnWith n k p r (λ own. seat ≡ seats.Own own)
 
 pub own_gives : (n : Network) (r p : ℕ) (seat : Seat) → own_seat r p n.places ≡ Some seat → HasOwnSeat n r p seat
-own_gives n r p seat h =
-    elim (cases_option (find (is_owned r p) n.places)) [
-      | inl e ↦ absurd (none-some seat (rw e at h))
-      | inr (q, e) ↦
-          let (k, at, test) = find_gives (is_owned r p) n.places q e in
-          let tests = and_parts (seated.is_with r q.seat) (q.prefix == p) test in
-          let (own, is, router) = own_owner r q.seat tests.0 in
-          let place = at ∙ ap (λ (m : Seat). Some (record q { seat = m })) is ∙ ap (λ (m : ℕ). Some (record { prefix = m; seat = seats.Own own })) (eqb-true q.prefix p tests.1) in
-          (k, record { own = own; place = record { listed = place }; router = router; says = sym (same_Some q.seat seat (rw e at h)) ∙ is })
-    ]
+own_gives n r p seat h = grind (arith, find_gives)
 
 pub own_finds : {Says : OwnPrefix → Type 0} (n : Network) → IsLawful n → (k p r : ℕ) (h : IsOwnWith n k p r Says) → own_seat r p n.places ≡ Some (seats.Own h.own)
 own_finds n laws k p r h =

@@ -1,5 +1,5 @@
 -- A document has one plan.
-use Rattle.std.proofs.Common.{◌≡◌, ℕ, ◌⊎◌, List, ◌++◌, map, Bool, true, false, Option, Some, None, refl, sym, ◌∙◌, ap, subst, arith}
+use Rattle.std.proofs.Common.{◌≡◌, ℕ, ◌⊎◌, List, ◌++◌, map, Bool, true, Option, Some, None, refl, sym, ◌∙◌, ap, subst, arith}
 use Rattle.std.specs.Prelude.{pos, slice_get, codes as codes_of}
 use Rattle.std.proofs.lemmas.Option.{none-some, same_Some}
 use Rattle.toml.specs.Data.{Data, Members, string, boolean, integer, table, get}
@@ -7,7 +7,6 @@ use Rattle.rip_wire.specs.Prefix.{Block}
 use Rattle.rip_plan.specs.declared.parts.Interface.{Interface}
 use Rattle.rip_plan.specs.declared.parts.Place.{Place}
 use Rattle.rip_plan.specs.declared.parts.Seat.{Seat}
-use Rattle.rip_plan.specs.declared.parts.Seat.TheVariants as seats
 use Rattle.rip_plan.specs.Passes.{same_prefix}
 use Rattle.rip_plan.specs.Network.{Network}
 use Rattle.rip_plan.specs.PlanOf.{Matched, HasText, HasItems, IsAddressOf, AreAlsoOf, IsCostOf, IsDirectOf, IsFlagOf, IsGatewayOf, IsLinkOf, IsNameOf, items_in, items_under, IsInterfaceOf, Placement, IsOnLink, IsOwned, IsPlaceOf, each_once, PlanOf, IsFirstNamed}
@@ -75,22 +74,10 @@ placement_same : (x y : Placement) → x.prefix ≡ y.prefix → x.seat ≡ y.se
 placement_same x y e f = ap (λ (v : Block). record x { prefix = v }) e ∙ ap (λ (v : Seat). record { prefix = y.prefix; seat = v }) f
 
 on_link_same : (laws : TextLaws) (x y : Placement) (at : ℕ × Data) → IsOnLink x at → IsOnLink y at → x ≡ y
-on_link_same laws x y at h k =
-    let text : h.text ≡ k.text = cc in
-    placement_same x y (one_prefix laws h.text k.text x.prefix y.prefix text h.prefix k.prefix) (h.seat ∙ sym k.seat)
+on_link_same laws x y at h k = grind (arith, one_prefix)
 
 owned_same : (laws : TextLaws) (names others : List (List ℕ)) → names ≡ others → (x y : Placement) (at : ℕ × Data) → IsOwned names x at → IsOwned others y at → x ≡ y
-owned_same laws names others same x y at h k =
-    let text : h.text ≡ k.text = text_same (codes_of "prefix") at.1 h.text k.text h.has_prefix k.has_prefix in
-    let a = h.own in
-    let b = k.own in
-    let router : a.router ≡ b.router = h.router ∙ sym k.router in
-    let cost : a.cost ≡ b.cost = cost_same at.1 a.cost b.cost h.cost k.cost in
-    let kept : a.kept ≡ b.kept = flag_same (codes_of "kept") at.1 false false refl a.kept b.kept h.kept k.kept in
-    let link : a.link ≡ b.link = link_same names others same at.1 a.link b.link h.link k.link in
-    let via : a.via ≡ b.via = gateway_same laws at.1 a.via b.via h.via k.via in
-    let own : a ≡ record { router = b.router; cost = b.cost; kept = b.kept; link = b.link; via = b.via } = rw (← router, ← cost, ← kept, ← link, ← via) refl in
-    placement_same x y (one_prefix laws h.text k.text x.prefix y.prefix text h.prefix k.prefix) (h.seat ∙ ap seats.Own own ∙ sym k.seat)
+owned_same laws names others same x y at h k = grind (arith, text_same, cost_same, flag_same, link_same, gateway_same, one_prefix)
 
 place_same : (n m : Network) (bs : List Block) → n.prefixes ≡ each_once bs → n.prefixes ≡ m.prefixes → (x y : Place) (p : Placement) → IsPlaceOf n x p → IsPlaceOf m y p → x ≡ y
 place_same n m bs once same x y p h k =

@@ -63,10 +63,7 @@ none_kept r k (q ∷ qs) h =
     elim (cases_Bool (is_owned r k q)) [ inl e ↦ rw e off | inr e ↦ rw e (none_kept r k qs later) ]
 
 pub none_attached : (r k : ℕ) (places : List Place) → list_any (λ (q : Place). is_kept q.seat) places ≡ false → option_and_then link_of (own_seat r k places) ≡ None
-none_attached r k places h = by_seat (own_seat r k places) (none_kept r k places h)
-  where
-    by_seat : (o : Option Seat) → option_map_or is_kept o false ≡ false → option_and_then link_of o ≡ None
-    by_seat o h = grind arith
+none_attached r k places h = grind (arith, none_kept)
 
 pub own_past : (n : Network) → IsLawful n → (r k : ℕ) → (length n.routers ≤ r) ⊎ (length n.prefixes ≤ k) → own_seat r k n.places ≡ None
 own_past n laws r k past =
@@ -118,18 +115,10 @@ gateway_exact n laws r k o e a = seat_exact gateway_of (λ own. own.via) (λ own
 -- ---- carriers
 
 pub carrier_past : (n : Network) → IsLawful n → (l k : ℕ) → (length n.links ≤ l) ⊎ (length n.prefixes ≤ k) → is_some (first_carrying l k 0 n.places) ≡ false
-carrier_past n laws l k past =
-    elim (cases_option (first_carrying l k 0 n.places)) [
-      | inl e ↦ ap is_some e
-      | inr (j, e) ↦ let (m, place) = carrier_gives n l k j e in absurd (past_not past (laws.seat_known m k l place) (laws.prefix_known m k _ place))
-    ]
+carrier_past n laws l k past = grind (arith, carrier_gives)
 
 pub carries_exact : (n : Network) (l k : ℕ) (b : Bool) → b ≡ is_some (first_carrying l k 0 n.places) → Decides b (Carries n l k)
-carries_exact n l k b e =
-    elim (cases_option (first_carrying l k 0 n.places)) [
-      | inl f ↦ (λ h. let off : b ≡ false = e ∙ ap is_some f in absurd cc, λ h. absurd (carrier_finds n l k h f))
-      | inr (j, f) ↦ (λ h. carrier_gives n l k j f, λ h. e ∙ ap is_some f)
-    ]
+carries_exact n l k b e = grind (arith, carrier_finds, carrier_gives)
 
 no_number : (n : Network) (p : Block) → ((k : ℕ) → IsPrefix n k p → ⊥) → number_of_prefix p n.prefixes ≡ None
 no_number n p none = elim (cases_option (number_of_prefix p n.prefixes)) [ inl e ↦ e | inr (k, e) ↦ absurd (none k (prefix_of_number n p k e)) ]
@@ -148,8 +137,7 @@ abbrev has_carrier : Network → ℕ → Block → Bool
 has_carrier n l p = is_some (option_and_then (λ k. first_carrying l k 0 n.places) (number_of_prefix p n.prefixes))
 
 pub carries_planned : (n : Network) → IsLawful n → (l : ℕ) (p : Block) (b : Bool) → b ≡ has_carrier n l p → (k : ℕ) → IsPrefix n k p → Decides b (Carries n l k)
-carries_planned n laws l p b e k planned =
-    carries_exact n l k b (e ∙ ap (λ (o : Option ℕ). is_some (option_and_then (λ m. first_carrying l m 0 n.places) o)) (number_of_planned n laws p k planned))
+carries_planned n laws l p b e k planned = grind (arith, carries_exact, number_of_planned)
 
 pub carries_unplanned : (n : Network) (l : ℕ) (p : Block) (b : Bool) → b ≡ has_carrier n l p → ((k : ℕ) → IsPrefix n k p → ⊥) → b ≡ false
 carries_unplanned n l p b e none = e ∙ ap (λ (o : Option ℕ). is_some (option_and_then (λ m. first_carrying l m 0 n.places) o)) (no_number n p none)
@@ -183,10 +171,7 @@ module _ (n : Network) (laws : IsLawful n) where
       laws.prefix_known k q.prefix q.seat (record { listed = slice_get-get_or n.places k d h })
 
   pub places_links : All (λ q. IsLinkBelow (length n.links) q.seat) n.places
-  places_links k d h = by_seat (get_or n.places k d).seat (slice_get-get_or n.places k d h)
-    where
-      by_seat : (seat : Seat) → slice_get n.places k ≡ Some (record { prefix = (get_or n.places k d).prefix; seat = seat }) → IsLinkBelow (length n.links) seat
-      by_seat seat h = grind arith
+  places_links k d h = grind (arith, slice_get-get_or)
 
   pub places_owners : All (λ q. IsOwnerBelow (length n.routers) q.seat) n.places
   places_owners k d h = by_seat (get_or n.places k d).seat (slice_get-get_or n.places k d h)

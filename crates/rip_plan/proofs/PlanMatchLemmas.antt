@@ -414,6 +414,4 @@ matches laws bytes s h =
 
 -- of a network that the bytes are
 pub network_matches : (laws : TextLaws) (bytes : List ℕ) (n : Network) → network_in bytes ≡ Ok n → IsPlanOfText bytes n
-network_matches laws bytes n h =
-    let (s, read, made) = bind_ok (sketch_of bytes) (λ t. Ok (network_of_sketch t)) n h in
-    subst (IsPlanOfText bytes) (ok_same (network_of_sketch s) n made) (matches laws bytes s read)
+network_matches laws bytes n h = grind (arith, ok_same, matches)

@@ -64,19 +64,13 @@ also_numbered n (d ∷ ds) = omega (arith, also_numbered n ds)
 
 pub also_flat : (n : ℕ) (ds : List Data) → also_at (items_under (codes_of "interface") n ds) ≡ also_under ds
 also_flat n [] = refl
-also_flat n (d ∷ ds) =
-    let here = items_in (get (codes_of "interface") d) in
-    omega (arith, also_flat (n + 1) ds, also_append (map (with_number n) here) (items_under (codes_of "interface") (n + 1) ds), also_numbered n here)
+also_flat n (d ∷ ds) = grind (arith, also_append, also_numbered, also_flat (n + 1) ds)
 
 -- ---- names
 
 pub names_good : (names : List (List ℕ)) (ds : List Data) → Matched IsNameOf names ds → (i k : ℕ) (name : List ℕ) (d : Data) → i ≡ suc k → nth ds i ≡ Some d → IsNameOf name d
     → slice_get names k ≡ Some name
-names_good names ds named (suc i) k name d number at its =
-    let same : i ≡ k = omega arith in
-    let (other, listed, of) = matched_right IsNameOf names ds i d named at in
-    let one : other ≡ name = text_same (codes_of "name") d other name of its in
-    ap (slice_get names) (sym same) ∙ listed ∙ ap (λ (t : List ℕ). Some t) one
+names_good names ds named (suc i) k name d number at its = grind (arith, matched_right)
 names_good names ds named zero k name d number at its = absurd (omega arith)
 
 pub apart : (i j : ℕ) → (i < j → ⊥) → (j < i → ⊥) → i ≡ j
@@ -92,9 +86,7 @@ names_differ names ds named none l m name h k =
 -- a link of the list has the name
 pub known_not : (names : List (List ℕ)) (ds : List Data) → Matched IsNameOf names ds → (x : Data) (name : List ℕ) (l : ℕ) → HasText (codes_of "link") x name → slice_get names l ≡ Some name
     → NamesNoLink ds x → ⊥
-known_not names ds named x name l has known (other, its, none) =
-    let (d, listed, of) = matched_left IsNameOf names ds l name named known in
-    none l d listed (subst (λ (t : List ℕ). IsNameOf t d) (text_same (codes_of "link") x name other has its) of)
+known_not names ds named x name l has known (other, its, none) = grind (arith, matched_left)
 
 pub attached_not : (names : List (List ℕ)) (ds : List Data) → Matched IsNameOf names ds → (x : Data) (link : Option ℕ) → IsLinkOf names x link → NamesNoLink ds x → ⊥
 attached_not names ds named x None is (name, has, none) = none-some (string name) (sym is ∙ has)
@@ -119,48 +111,24 @@ inside_not laws names ds named differ x name text l a has known has_text spelled
 pub link_prefix : (links routers : List Data) (names : List (List ℕ)) (on_links owned : List Placement)
     → Matched IsOnLink on_links (items_under (codes_of "prefixes") 0 links) → Matched (IsOwned names) owned (items_under (codes_of "own") 0 routers)
     → (l k : ℕ) (q : Placement) → slice_get (on_links ++ owned) k ≡ Some q → q.seat ≡ seats.Link l → HasPrefix links l q.prefix
-link_prefix links routers names on_links owned link_prefixes own_prefixes l k q at seat =
-    elim (get_split on_links owned k q at) [
-      | inl here ↦
-          let ((m, x), is, on) = matched_left IsOnLink on_links (items_under (codes_of "prefixes") 0 links) k q link_prefixes here.0 in
-          let number : m ≡ l = cc in
-          (k, on.text, is ∙ ap (λ (v : ℕ). Some (v, x)) number ∙ ap (λ (y : Data). Some (l, y)) on.is_text, on.prefix)
-      | inr there ↦
-          let (x, is, own) = matched_left (IsOwned names) owned (items_under (codes_of "own") 0 routers) there.0 q own_prefixes there.2 in
-          absurd cc
-    ]
+link_prefix links routers names on_links owned link_prefixes own_prefixes l k q at seat = grind (arith, get_split, matched_left)
 
 -- and each of the list is on the link
 pub prefix_place : (links : List Data) (on_links : List Placement) → Matched IsOnLink on_links (items_under (codes_of "prefixes") 0 links) → (l : ℕ) (p : Block) → HasPrefix links l p
     → (k : ℕ) × (q : Placement) × (slice_get on_links k ≡ Some q) × (q.seat ≡ seats.Link l) × ((text : List ℕ) × IsPrefixText text q.prefix × IsPrefixText text p)
-prefix_place links on_links link_prefixes l p (k, text, at, parsed) =
-    let (q, listed, of) = matched_right IsOnLink on_links (items_under (codes_of "prefixes") 0 links) k (l, string text) link_prefixes at in
-    let same : text ≡ of.text = cc in
-    (k, q, listed, of.seat, (of.text, of.prefix, subst (λ (t : List ℕ). IsPrefixText t p) same parsed))
+prefix_place links on_links link_prefixes l p (k, text, at, parsed) = grind (arith, matched_right)
 
 -- ---- a plan
 
 module _ (document : Members) (n : Network) (plan : PlanOf document n) where
   pub places_count : length n.places ≡ length (place_spots plan.links plan.routers)
-  places_count =
-      omega (
-        arith,
-        matched_length (IsPlaceOf n) n.places (plan.on_links ++ plan.owned) plan.places,
-        length-append plan.on_links plan.owned,
-        matched_length IsOnLink plan.on_links (items_under (codes_of "prefixes") 0 plan.links) plan.link_prefixes,
-        matched_length (IsOwned n.links) plan.owned (items_under (codes_of "own") 0 plan.routers) plan.own_prefixes,
-        spots_count (codes_of "prefixes") LinkPrefix 1 0 plan.links,
-        spots_count (codes_of "own") RouterOwn 1 0 plan.routers,
-        length-append (spots_under (codes_of "prefixes") LinkPrefix 1 plan.links) (spots_under (codes_of "own") RouterOwn 1 plan.routers),
-      )
+  places_count = grind (arith, matched_length, length-append, spots_count)
 
   pub interfaces_count : length n.interfaces ≡ length (interface_spots plan.routers)
-  interfaces_count = matched_length (IsInterfaceOf n.links plan.poison) n.interfaces (items_under (codes_of "interface") 0 plan.routers) plan.interfaces
-      ∙ sym (spots_count (codes_of "interface") RouterInterface 1 0 plan.routers)
+  interfaces_count = grind (arith, matched_length, spots_count)
 
   pub also_counted : sum (map length n.also) ≡ length (also_spots plan.routers)
-  also_counted =
-      omega (arith, also_count 1 plan.routers, sum-map length n.also, also_sum n.also (items_under (codes_of "interface") 0 plan.routers) plan.also, also_flat 0 plan.routers)
+  also_counted = grind (arith, also_count, sum-map, also_sum, also_flat)
 
   -- the interface of an item
   pub record HasInterface (x : Data) : Type 0 where
@@ -192,9 +160,7 @@ module _ (document : Members) (n : Network) (plan : PlanOf document n) where
 
   -- the place of a placement
   pub its_place : (k : ℕ) (q : Placement) → slice_get (plan.on_links ++ plan.owned) k ≡ Some q → (p : ℕ) × IsPlace n k p q.seat × IsPrefix n p q.prefix
-  its_place k q h =
-      let (y, listed, of) = matched_right (IsPlaceOf n) n.places (plan.on_links ++ plan.owned) k q plan.places h in
-      (y.prefix, record { listed = listed ∙ ap (λ s. Some (record { prefix = y.prefix; seat = s })) of.seat }, of.prefix)
+  its_place k q h = grind (arith, matched_right)
 
   -- the table of an interface
   pub record InterfaceTable (v : Interface) : Type 0 where

@@ -31,18 +31,14 @@ module _ (s : Sketch) where
   -- an interface with this router and this link
   listed_as : (i : ℕ) (x : DraftInterface) (r l : ℕ) → slice_get s.interfaces i ≡ Some x → x.interface.router ≡ r → x.interface.link ≡ l
       → slice_get (network_of_sketch s).interfaces i ≡ Some (record x.interface { router = r; link = l })
-  listed_as i x r l at router link =
-      see_got (λ (y : DraftInterface). y.interface) s.interfaces i x at ∙ ap (λ (m : ℕ). Some (record x.interface { router = m })) router
-      ∙ ap (λ (m : ℕ). Some (record x.interface { router = r; link = m })) link
+  listed_as i x r l at router link = grind (arith, see_got)
 
   pub interface_as : (i : ℕ) (x : DraftInterface) (r l : ℕ) → slice_get s.interfaces i ≡ Some x → x.interface.router ≡ r → x.interface.link ≡ l
       → IsInterface (network_of_sketch s) i r l x.interface.cost
   interface_as i x r l at router link = record { address = x.interface.address; direct = x.interface.direct; poison = x.interface.poison; listed = listed_as i x r l at router link }
 
   pub as_interface : (i r l c : ℕ) → IsInterface (network_of_sketch s) i r l c → (x : DraftInterface) × (slice_get s.interfaces i ≡ Some x) × (x.interface.router ≡ r) × (x.interface.link ≡ l)
-  as_interface i r l c is =
-      let (x, at, same) = interface_in i _ is.listed in
-      (x, at, ap (λ (v : Interface). v.router) same, ap (λ (v : Interface). v.link) same)
+  as_interface i r l c is = grind (arith, interface_in)
 
   pub place_in : (k p : ℕ) (seat : Seat) → IsPlace (network_of_sketch s) k p seat
       → (d : DraftPlace) × (slice_get s.places k ≡ Some d) × (slice_get (network_of_sketch s).prefixes p ≡ Some d.prefix) × (seat ≡ d.seat)
@@ -58,12 +54,7 @@ module _ (s : Sketch) where
   -- ---- the routers that a seat touches
 
   pub touch : (k p r c : ℕ) → Touches (network_of_sketch s) k p r c → (seat : Seat) × IsPlace (network_of_sketch s) k p seat × (list_any (λ m. m == r) (touched s.interfaces seat) ≡ true)
-  touch k p r c (inl (l, place, (i, is))) =
-      let (x, at, same) = interface_in i _ is.listed in
-      let link : x.interface.link ≡ l = ap (λ (v : Interface). v.link) same in
-      let router : x.interface.router ≡ r = ap (λ (v : Interface). v.router) same in
-      let test = any_at (λ (y : DraftInterface). y.interface.link == l && y.interface.router == r) s.interfaces i x at (grind (arith, nat_tests)) in
-      (seats.Link l, place, link_touched s.interfaces l r ∙ test)
+  touch k p r c (inl (l, place, (i, is))) = grind (arith, interface_in, any_at, link_touched)
   touch k p r c (inr h) = let same : (h.own.router == r) ≡ true = grind (arith, nat_tests, h.router) in (seats.Own h.own, h.place, rw same refl)
 
   pub touches : (k p r : ℕ) (seat : Seat) → IsPlace (network_of_sketch s) k p seat → list_any (λ m. m == r) (touched s.interfaces seat) ≡ true → (c : ℕ) × Touches (network_of_sketch s) k p r c

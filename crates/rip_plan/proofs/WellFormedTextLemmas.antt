@@ -27,7 +27,7 @@ use Rattle.rip_plan.proofs.OnePlanLemmas.{one_plan, text_same}
 use Rattle.rip_plan.proofs.TableLemmas.{cost_fits, direct_fits, gateway_fits}
 use Rattle.rip_plan.proofs.PlanPartLemmas.{attached_not, inside_not, known_not, HasInterface, HasOwn, also_counted, carrier_has, prefix_place, interfaces_count, item_under, its_interface, its_own, its_place, names_good, places_count}
 use Rattle.rip_plan.proofs.SpotLemmas.{under_item}
-use Rattle.rip_plan.proofs.TextFaultLemmas.{one_astray, one_fault, one_tables, same_document, version_is, version_told, whole_fault}
+use Rattle.rip_plan.proofs.TextFaultLemmas.{one_astray, one_fault, same_document, version_is, version_told, whole_fault}
 use Rattle.rip_plan.proofs.TextLemmas.{TextLaws}
 use Rattle.rip_plan.specs.Texts.{IsAddressText, IsPrefixText}
 use Rattle.rip_plan.specs.DocumentTables.{IsLinkTable, IsRouterTable, IsInterfaceTable, IsOwnTable, IsRoot}
@@ -205,9 +205,7 @@ module _ (laws : TextLaws) (bytes : List ℕ) (w : IsWellFormed bytes) where
   fault_not codes.Version Version f = f.2 (ap (λ (m : Members). get (codes_of "version") (table m)) (same_document bytes w.document f.0 w.text.reads f.1) ∙ w.version)
   fault_not codes.Key Text f = f.2 (subst IsRoot (sym (same_document bytes w.document f.0 w.text.reads f.1)) w.root)
   fault_not codes.Limit Text (inl more) = let few : length bytes ≤ 1048576 = w.text.short in let past : 1048576 < length bytes = more in omega arith
-  fault_not codes.Limit Text (inr (other, ls, rs, has, over)) =
-      let same = one_tables bytes w.document w.plan.links w.plan.routers tables other ls rs has in
-      over_not (subst (λ (t : Members × List Data × List Data). (512 < length t.1) ⊎ (128 < length t.2)) same over)
+  fault_not codes.Limit Text (inr (other, ls, rs, has, over)) = grind (arith, tables, over_not)
   fault_not c place f = table_not c place (one_fault bytes w.document w.plan.links w.plan.routers tables c place f.0 f.1 f.2 f.3 f.4)
 
   last_not : (place : At) → AstrayAt bytes place → ⊥

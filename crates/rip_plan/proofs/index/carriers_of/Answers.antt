@@ -46,6 +46,4 @@ loop-i-preserved c =
     ]
 
 pub returns-clause-flags : goal.returns-clause-flags
-returns-clause-flags c = λ l k h.
-    let all : take c.loop-i.i c.args.places.now ≡ c.args.places.now = take_all c.loop-i.i c.args.places.now c.loop-i-test.false in
-    c.loop-i.invariant.1 l k h ∙ ap (list_any (is_carrying l k)) all ∙ sym (any_found (is_carrying l k) 0 c.args.places.now)
+returns-clause-flags c = grind (arith, take_all, any_found)

@@ -47,10 +47,7 @@ all_of-requires c =
     rw (routers, interfaces) (interfaces_routers n c.requires)
 
 pub all_addresses-requires : goal.all_addresses-requires
-all_addresses-requires c =
-    let n : Network = network_of_sketch (sketch c.args.draft) in
-    let interfaces : c.as_slice-5.result.now ≡ n.interfaces = c.as_slice-5.ensures.value ∙ interfaces_are c.in_ok-interfaces.ensures c.as_slice.ensures.value in
-    omega (arith, c.requires.also_listed, length-map c.args.draft.also.items (λ (w : Vec ℕ Global). w.items), ap length interfaces, ap length c.as_slice-6.ensures.value)
+all_addresses-requires c = grind (arith, length-map)
 
 pub carriers_of-requires-clause-few_prefixes : goal.carriers_of-requires-clause-few_prefixes
 carriers_of-requires-clause-few_prefixes c =

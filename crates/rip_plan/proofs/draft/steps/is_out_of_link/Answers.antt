@@ -8,18 +8,13 @@ use Rattle.rip_wire.specs.Prefix.{Block}
 use Rattle.rip_plan.specs.declared.draft.DraftPlace.{DraftPlace}
 use Rattle.rip_plan.specs.Draft.{has_address, is_outside}
 use Rattle.rip_plan.specs.Seats.{is_on}
-use Rattle.rip_plan.proofs.ClashLemmas.{any_kept, any_listed}
+use Rattle.rip_plan.proofs.ClashLemmas.{any_listed}
 use Rattle.rip_plan.proofs.draft.steps.is_out_of_link.Goals as goal
 
 -- an address outside of a link, by the prefixes on it
 outside_by : (l a : ℕ) (places : List DraftPlace) (blocks : List Block) → blocks ≡ map (λ p. p.prefix) (filter (λ p. is_on l p.seat) places)
     → (list_any (λ b. true) blocks && not (list_any (λ b. has_address b a) blocks)) ≡ is_outside l a places
-outside_by l a places blocks h =
-    let test = λ (p : DraftPlace). is_on l p.seat in
-    let some : list_any test places ≡ list_any (λ b. true) blocks = any_kept (λ (p : DraftPlace). p.prefix) test places ∙ ap (list_any (λ b. true)) (sym h) in
-    let inside : list_any (λ b. has_address b a) blocks ≡ list_any (λ p. test p && has_address p.prefix a) places =
-    ap (list_any (λ b. has_address b a)) h ∙ any_listed (λ (p : DraftPlace). p.prefix) test (λ b. has_address b a) places in
-    rw (← some, inside) refl
+outside_by l a places blocks h = grind (arith, any_listed)
 
 any_some : (blocks : List Block) → (length blocks ≡ 0 → ⊥) → list_any (λ b. true) blocks ≡ true
 any_some [] h = absurd (h refl)

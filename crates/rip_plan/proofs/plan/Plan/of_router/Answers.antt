@@ -7,12 +7,7 @@ use Rattle.rip_plan.proofs.LookupLemmas.{of_router_gives, of_router_finds}
 use Rattle.rip_plan.proofs.plan.Plan.of_router.Goals as goal
 
 pub index-requires : goal.index-requires
-index-requires c =
-    let below : c.args.router < length c.self.inside.routers.items = rw (← length-map c.self.inside.routers.items string_bytes) (rw (← c.self.view_is) at c.requires) in
-    let within : c.args.router < length c.self.inside.of_router.items =
-    kept_within (λ (w : Vec ℕ Global). w.items) c.self.inside.of_router.items (length c.self.inside.routers.items)
-    (λ l. numbers_where (is_of l) 0 c.self.inside.interfaces.items) c.args.router c.self.invariant.of_router below in
-    omega arith
+index-requires c = grind (arith, length-map, kept_within)
 
 pub returns : goal.returns
 returns c =

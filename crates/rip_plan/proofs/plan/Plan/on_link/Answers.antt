@@ -7,12 +7,7 @@ use Rattle.rip_plan.proofs.LookupLemmas.{on_link_gives, on_link_finds}
 use Rattle.rip_plan.proofs.plan.Plan.on_link.Goals as goal
 
 pub index-requires : goal.index-requires
-index-requires c =
-    let below : c.args.link < length c.self.inside.links.items = rw (← length-map c.self.inside.links.items string_bytes) (rw (← c.self.view_is) at c.requires) in
-    let within : c.args.link < length c.self.inside.on_link.items =
-    kept_within (λ (w : Vec ℕ Global). w.items) c.self.inside.on_link.items (length c.self.inside.links.items)
-    (λ l. numbers_where (is_on l) 0 c.self.inside.interfaces.items) c.args.link c.self.invariant.on_link below in
-    omega arith
+index-requires c = grind (arith, length-map, kept_within)
 
 pub returns : goal.returns
 returns c =
