@@ -1,9 +1,8 @@
 -- Rows of w cells, one after another in one list, as they are written and read.
-use Rattle.std.proofs.Common.{◌≡◌, ℕ, inl, inr, ◌+◌, ◌*◌, ◌<◌, List, [], ◌∷◌, ◌++◌, length, take, drop, get_or, append_assoc, length-append, Bool, cond, ◌&&◌, Option, Some, None, refl, sym, arith, eqb}
+use Rattle.std.proofs.Common.{◌≡◌, ℕ, inl, inr, ◌+◌, ◌*◌, ◌<◌, List, [], ◌∷◌, ◌++◌, length, take, drop, get_or, append_assoc, length-append, Bool, cond, ◌&&◌, Some, refl, sym, arith, eqb}
 use Rattle.std.proofs.Math.ListN.{set}
-use Rattle.std.specs.Prelude.{slice_get, ◌==◌, unwrap_or}
+use Rattle.std.specs.Prelude.{slice_get, ◌==◌}
 use Rattle.std.specs.List.{All}
-use Rattle.std.specs.Option.{option_or}
 use Rattle.std.proofs.lemmas.Bool.{and_from, and_parts, both_ways, cases_Bool, eq-eqb, eqb-true}
 use Rattle.std.proofs.lemmas.List.{get_or-set_same, get_or-set_other, take_at}
 use Rattle.std.proofs.lemmas.Nat.{same_from_place}
@@ -31,18 +30,6 @@ pub written_back : {A : Type 0} (ys xs : List A) (n : ℕ) → n ≡ length xs �
 written_back ys xs n e f = take_at ys (drop (length ys) xs) n (omega arith)
 
 -- ---- costs as they are written
-
--- one more interface, with cost c of router s
-pub cost_written : (a b : Bool) (c old : ℕ) (o : Option ℕ) → cond (a && b) c (cond b (unwrap_or o old) old) ≡ cond b (unwrap_or (option_or (cond a (Some c) None) o) old) old
-cost_written a b c old o = grind arith
-
--- an owner's cost
-pub own_written : (a b : Bool) (c old : ℕ) → cond (a && b) c old ≡ cond b (unwrap_or (cond a (Some c) None) old) old
-own_written a b c old = grind arith
-
--- one more place
-pub place_written : (b : Bool) (o rest : Option ℕ) → cond b (unwrap_or o (unwrap_or rest 0)) (unwrap_or rest 0) ≡ unwrap_or (cond b (option_or o rest) rest) 0
-place_written b o rest = grind arith
 
 -- ---- the interfaces on a link by their numbers
 

@@ -172,9 +172,6 @@ carrier_finds n l k (j, place) e =
 
 -- ---- a router's own prefixes
 
-own_owner : (r : ℕ) (seat : Seat) → seated.is_with r seat ≡ true → (own : OwnPrefix) × (seat ≡ seats.Own own) × (own.router ≡ r)
-own_owner r seat h = grind arith
-
 -- the first item that passes stands at the first number that passes
 pub find_at : {A : Type 0} (test : A → Bool) (n : ℕ) (xs : List A) (k i : ℕ) → position_from test n xs ≡ Some k → k ≡ n + i → find test xs ≡ slice_get xs i
 find_at test n [] k i h e = absurd (none-some k h)

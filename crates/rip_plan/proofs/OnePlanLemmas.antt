@@ -70,9 +70,6 @@ address_same laws a b d (t, h, is) (u, k, its) =
 also_same : (laws : TextLaws) (xs ys : List ℕ) (at : ℕ × Data) → AreAlsoOf xs at → AreAlsoOf ys at → xs ≡ ys
 also_same laws xs ys at h k = matched_same IsAddressOf IsAddressOf (address_same laws) xs ys (items_in (get (codes_of "also") at.1)) h k
 
-placement_same : (x y : Placement) → x.prefix ≡ y.prefix → x.seat ≡ y.seat → x ≡ y
-placement_same x y e f = ap (λ (v : Block). record x { prefix = v }) e ∙ ap (λ (v : Seat). record { prefix = y.prefix; seat = v }) f
-
 on_link_same : (laws : TextLaws) (x y : Placement) (at : ℕ × Data) → IsOnLink x at → IsOnLink y at → x ≡ y
 on_link_same laws x y at h k = grind (arith, one_prefix)
 

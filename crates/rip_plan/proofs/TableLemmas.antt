@@ -1,13 +1,13 @@
 -- What the tables of a document hold, where their fields were read.
 use Rattle.std.proofs.Common.{◌≡◌, ℕ, zero, suc, ◌≤◌, ◌⊎◌, inl, inr, List, [], ◌∷◌, Bool, true, cond, Option, Some, None, refl, sym, ◌∙◌, ap, subst, arith}
-use Rattle.std.specs.Prelude.{ℤ, pos, is_some, option_and_then, option_map, slice_get, unwrap_or, codes as codes_of}
+use Rattle.std.specs.Prelude.{ℤ, pos, is_some, option_map, slice_get, unwrap_or, codes as codes_of}
 use Rattle.std.specs.List.{list_all}
 use Rattle.std.proofs.lemmas.Option.{none-some, same_Some}
-use Rattle.toml.specs.Data.{Data, Items, Members, string, integer, boolean, array, table, get, as_bool, as_str, as_integer, as_array, as_table}
+use Rattle.toml.specs.Data.{Data, Members, string, integer, boolean, table, get, as_str, as_table}
 use Rattle.rip_wire.specs.Address.{address_in}
-use Rattle.rip_plan.specs.Fields.{◌&>◌, list_of, items_if, integer_if, flag_if, text_if, address_if, link_if, addresses_in, cost_of, direct_of}
+use Rattle.rip_plan.specs.Fields.{◌&>◌, integer_if, address_if, link_if, addresses_in, cost_of, direct_of}
 use Rattle.rip_plan.specs.Names.{number_of_name}
-use Rattle.rip_plan.specs.PlanOf.{IsAddressOf, IsCostOf, IsDirectOf, IsGatewayOf, IsLinkOf, Matched, items_in}
+use Rattle.rip_plan.specs.PlanOf.{IsAddressOf, IsCostOf, IsDirectOf, IsGatewayOf, IsLinkOf, Matched}
 use Rattle.rip_plan.specs.PlanFaults.{HasNoAddress, HasWrongCost, HasWrongDirect, IsOutsideOf}
 use Rattle.std.proofs.lemmas.Bool.{and_parts}
 use Rattle.rip_plan.proofs.ItemLemmas.{cases_option}
@@ -27,24 +27,6 @@ table_is d ms h = grind arith
 pub text_is : (d : Data) (t : List ℕ) → as_str d ≡ Some t → d ≡ string t
 text_is d t h = grind arith
 
-pub integer_is : (d : Data) (z : ℤ) → as_integer d ≡ Some z → d ≡ integer z
-integer_is d z h = grind arith
-
-pub array_is : (d : Data) (xs : List Data) → option_map list_of (as_array d) ≡ Some xs → (items : Items) × (d ≡ array items) × (list_of items ≡ xs)
-array_is d xs h = grind arith
-
-pub text_there : (o : Option Data) (t : List ℕ) → option_and_then as_str o ≡ Some t → o ≡ Some (string t)
-text_there o t h = grind arith
-
-pub items_there : (o : Option Data) (xs : List Data) → option_map list_of (option_and_then as_array o) ≡ Some xs → (items : Items) × (o ≡ Some (array items)) × (list_of items ≡ xs)
-items_there o xs h = grind arith
-
-pub items_given : (o : Option Data) (xs : List Data) → items_if o ≡ Some xs → items_in o ≡ xs
-items_given o xs h = grind arith
-
-pub items_are : (o : Option Data) (xs : List Data) → option_map list_of (option_and_then as_array o) ≡ Some xs → items_in o ≡ xs
-items_are o xs h = let (items, is, same) = items_there o xs h in rw is same
-
 -- an integer that stands there, or the one that is meant where nothing stands
 -- a value that was read, or is none
 pub map_some : {A : Type 0} (o : Option A) (given : Option A) → option_map Some o ≡ Some given → (x : A) × (o ≡ Some x) × (Some x ≡ given)
@@ -59,16 +41,10 @@ cost_is o given c h e = grind arith
 pub direct_is : (o : Option Data) (cost : ℕ) (given : Option ℤ) (c : ℕ) → integer_if o ≡ Some given → direct_of cost given ≡ Some c → (o ≡ Some (integer (pos c))) ⊎ ((o ≡ None) × (c ≡ cost))
 direct_is o cost given c h e = grind arith
 
-pub boolean_is : (d : Data) (b : Bool) → as_bool d ≡ Some b → d ≡ boolean b
-boolean_is d b h = grind arith
-
 -- a flag stands there, or nothing
 abbrev pub IsFlagIf : Option Data → Option Bool → Type 0
 IsFlagIf o None = o ≡ None
 IsFlagIf o (Some b) = o ≡ Some (boolean b)
-
-pub flag_if_is : (o : Option Data) (given : Option Bool) → flag_if o ≡ Some given → IsFlagIf o given
-flag_if_is o given h = grind arith
 
 -- the flag that is meant: the one that stands there, or the other one
 pub flag_meant : (o : Option Data) (given : Option Bool) (other : Bool) → IsFlagIf o given → (o ≡ Some (boolean (unwrap_or given other))) ⊎ ((o ≡ None) × (unwrap_or given other ≡ other))
@@ -78,9 +54,6 @@ flag_meant o given other h = grind arith
 abbrev pub IsTextIf : Option Data → Option (List ℕ) → Type 0
 IsTextIf o None = o ≡ None
 IsTextIf o (Some t) = o ≡ Some (string t)
-
-pub text_if_is : (o : Option Data) (t : Option (List ℕ)) → text_if o ≡ Some t → IsTextIf o t
-text_if_is o t h = grind arith
 
 pub link_is : (links : List (List ℕ)) (d : Data) (name : Option (List ℕ)) (link : Option ℕ) → IsTextIf (get (codes_of "link") d) name → link_if name links ≡ Some link → IsLinkOf links d link
 link_is links d None link has h = let same : None ≡ link = same_Some None link h in subst (IsLinkOf links d) same has
