@@ -33,11 +33,7 @@ at_first test xs k e = grind (arith, position_finds)
 -- where an item passes, the first that passes is found
 found : {A : Type 0} (test : A → Bool) (xs : List A) (i : ℕ) (x : A) → slice_get xs i ≡ Some x → test x ≡ true
     → (k : ℕ) × (y : A) × (position_from test 0 xs ≡ Some k) × (slice_get xs k ≡ Some y) × (test y ≡ true)
-found test xs i x h t =
-    elim (cases_option (position_from test 0 xs)) [
-      | inl e ↦ absurd (both_ways (test x) (none_at test xs i x (position_none test 0 xs e) h) t)
-      | inr (k, e) ↦ let (y, at, passes) = at_first test xs k e in (k, y, e, at, passes)
-    ]
+found test xs i x h t = grind (arith, at_first test xs, none_at test xs i x, position_none test 0 xs)
 
 -- ---- prefixes
 
@@ -45,10 +41,7 @@ pub prefix_of_number : (n : Network) (p : Block) (k : ℕ) → number_of_prefix 
 prefix_of_number n p k h = grind (arith, at_first)
 
 pub number_of_planned : (n : Network) → IsLawful n → (p : Block) (k : ℕ) → IsPrefix n k p → number_of_prefix p n.prefixes ≡ Some k
-number_of_planned n laws p k h =
-    let (j, q, e, at, same) = found (same_prefix p) n.prefixes k p h (same_self p) in
-    let one : j ≡ k = laws.prefixes_differ j k p (at ∙ ap (λ (b : Block). Some b) (sym (same_is p q same))) h in
-    e ∙ ap (λ (m : ℕ). Some m) one
+number_of_planned n laws p k h = let (j, q, e, at, same) = found (same_prefix p) n.prefixes k p h (same_self p) in grind (arith, same_is p q same, laws.prefixes_differ j k p)
 
 -- ---- direct costs
 
@@ -63,21 +56,14 @@ pub cost_found : (r l d : ℕ) (is : List Interface) → cost_on r l is ≡ Some
 cost_found r l d [] h = absurd (none-some d h)
 cost_found r l d (x ∷ xs) h =
     elim (cases_Bool (x.router == r && x.link == l)) [
-      | inl e ↦
-          let (router, link) = and_parts (x.router == r) (x.link == l) e in
-          let same = same_interface x r l d (eqb-true x.router r router) (eqb-true x.link l link) (same_Some x.direct d (rw e at h)) in
-          (zero, (x.address, x.cost, x.poison, ap (λ (y : Interface). Some y) same))
+      | inl e ↦ (zero, (x.address, x.cost, x.poison, grind arith))
       | inr e ↦ let (i, (a, c, p, at)) = cost_found r l d xs (rw e at h) in (suc i, (a, c, p, at))
     ]
 
 pub cost_there : (r l d a c i : ℕ) (b : Bool) (is : List Interface) → slice_get is i ≡ Some (record { router = r; link = l; address = a; cost = c; direct = d; poison = b }) → cost_on r l is ≡ None → ⊥
 cost_there r l d a c i b [] h e = absurd (none-some _ h)
 cost_there r l d a c zero b (x ∷ xs) h e = grind arith
-cost_there r l d a c (suc i) b (x ∷ xs) h e =
-    elim (cases_Bool (x.router == r && x.link == l)) [
-      | inl t ↦ none-some x.direct (sym (rw t at e))
-      | inr t ↦ cost_there r l d a c i b xs h (rw t at e)
-    ]
+cost_there r l d a c (suc i) b (x ∷ xs) h e = grind (arith, cost_there r l d a c i b xs h)
 
 or_parts : {A : Type 0} (o p : Option A) (x : A) → option_or o p ≡ Some x → (o ≡ Some x) ⊎ (p ≡ Some x)
 or_parts o p x h = grind arith
@@ -101,11 +87,7 @@ direct_found r k c is (q ∷ qs) h =
 direct_there : (r k j : ℕ) (seat : Seat) (is : List Interface) (qs : List Place) → slice_get qs j ≡ Some (record { prefix = k; seat = seat }) → direct_at r k is qs ≡ None → cost_at r is seat ≡ None
 direct_there r k j seat is [] h e = absurd (none-some _ h)
 direct_there r k zero seat is (q ∷ qs) h e = grind arith
-direct_there r k (suc j) seat is (q ∷ qs) h e =
-    elim (cases_Bool (q.prefix == k)) [
-      | inl t ↦ direct_there r k j seat is qs h (or_none (cost_at r is q.seat) (direct_at r k is qs) (rw t at e)).1
-      | inr t ↦ direct_there r k j seat is qs h (rw t at e)
-    ]
+direct_there r k (suc j) seat is (q ∷ qs) h e = grind (arith, direct_there r k j seat is qs h)
 
 cost_touches : (n : Network) (j k r c : ℕ) (seat : Seat) → IsPlace n j k seat → cost_at r n.interfaces seat ≡ Some c → Touches n j k r c
 cost_touches n j k r c (seats.Link l) place h =
@@ -164,25 +146,14 @@ pub carrier_gives : (n : Network) (l k j : ℕ) → first_carrying l k 0 n.place
 carrier_gives n l k j h = grind (arith, at_first, on_seat)
 
 pub carrier_finds : (n : Network) (l k : ℕ) → Carries n l k → first_carrying l k 0 n.places ≡ None → ⊥
-carrier_finds n l k (j, place) e =
-    let link : (l == l) ≡ true = grind (arith, nat_tests) in
-    let prefix : (k == k) ≡ true = grind (arith, nat_tests) in
-    let (m, q, f, at, passes) = found (is_carrying l k) n.places j (record { prefix = k; seat = seats.Link l }) place.listed (rw (link, prefix) refl) in
-    none-some m (sym e ∙ f)
+carrier_finds n l k (j, place) e = grind (arith, found (is_carrying l k) n.places j (record { prefix = k; seat = seats.Link l }) place.listed, nat_tests)
 
 -- ---- a router's own prefixes
 
 -- the first item that passes stands at the first number that passes
 pub find_at : {A : Type 0} (test : A → Bool) (n : ℕ) (xs : List A) (k i : ℕ) → position_from test n xs ≡ Some k → k ≡ n + i → find test xs ≡ slice_get xs i
 find_at test n [] k i h e = absurd (none-some k h)
-find_at test n (x ∷ xs) k i h e =
-    elim (cases_Bool (test x)) [
-      | inl t ↦ let same : n ≡ k = same_Some n k (rw t at h) in let first : i ≡ 0 = omega arith in rw (t, first) refl
-      | inr t ↦
-          let (m, y, at, is, passes) = position_finds test (n + 1) xs k (rw t at h) in
-          let next : i ≡ suc m = omega (arith, at) in
-          rw (t, next) (find_at test (n + 1) xs k m (rw t at h) at)
-    ]
+find_at test n (x ∷ xs) k i h e = grind (arith, position_finds test (n + 1) xs k, find_at test (n + 1) xs k)
 
 pub find_past : {A : Type 0} (test : A → Bool) (n : ℕ) (xs : List A) → position_from test n xs ≡ None → find test xs ≡ None
 find_past test n [] h = refl
@@ -202,32 +173,22 @@ own_gives n r p seat h = grind (arith, find_gives)
 pub own_finds : {Says : OwnPrefix → Type 0} (n : Network) → IsLawful n → (k p r : ℕ) (h : IsOwnWith n k p r Says) → own_seat r p n.places ≡ Some (seats.Own h.own)
 own_finds n laws k p r h =
     elim (cases_option (find (is_owned r p) n.places)) [
-      | inl e ↦
-          let with : (h.own.router == r) ≡ true = grind (arith, nat_tests, h.router) in
-          let its : (p == p) ≡ true = grind (arith, nat_tests) in
-          absurd (find_none (is_owned r p) n.places k (record { prefix = p; seat = seats.Own h.own }) h.place.listed (rw (with, its) refl) e)
+      | inl e ↦ absurd (find_none (is_owned r p) n.places k (record { prefix = p; seat = seats.Own h.own }) h.place.listed (grind (arith, nat_tests, h.router)) e)
       | inr (q, e) ↦
-          let found : own_seat r p n.places ≡ Some q.seat = rw e refl in
-          let (j, has) = own_gives n r p q.seat found in
+          let (j, has) = own_gives n r p q.seat (rw e refl) in
           let same : j ≡ k = laws.touched_once j k p r has.own.cost h.own.cost (inr (own_says has refl)) (inr (own_says h refl)) in
-          let its : IsPlace n k p (seats.Own has.own) = subst (λ (m : ℕ). IsPlace n m p (seats.Own has.own)) same has.place in
-          found ∙ ap (λ (s : Seat). Some s) (has.says ∙ one_seat n k p _ _ its h.place)
+          let its : IsPlace n k p (seats.Own has.own) = rw same at has.place in
+          rw e (ap (λ (s : Seat). Some s) (has.says ∙ one_seat n k p _ _ its h.place))
     ]
 
 -- ---- interfaces on a link and of a router
 
 -- the numbers of the interfaces that pass
 numbers_give : (test : Interface → Bool) (is : List Interface) (i : ℕ) → Contains (numbers_where test 0 is) i → (x : Interface) × (slice_get is i ≡ Some x) × (test x ≡ true)
-numbers_give test is i h =
-    let (k, at) = at_contains (numbers_where test 0 is) i h in
-    let (j, x, e, listed, passes) = number_passes test 0 is k i at in
-    let same : i ≡ j = omega arith in
-    (x, ap (slice_get is) same ∙ listed, passes)
+numbers_give test is i h = let (k, at) = at_contains (numbers_where test 0 is) i h in grind (arith, number_passes test 0 is k i at)
 
 numbers_find : (test : Interface → Bool) (is : List Interface) (i : ℕ) (x : Interface) → slice_get is i ≡ Some x → test x ≡ true → Contains (numbers_where test 0 is) i
-numbers_find test is i x h passes =
-    let (k, at) = passing_number test 0 is i x h passes in
-    contains_at (numbers_where test 0 is) k i (at ∙ ap (λ (m : ℕ). Some m) (omega arith))
+numbers_find test is i x h passes = let (k, at) = passing_number test 0 is i x h passes in grind (arith, contains_at (numbers_where test 0 is) k i)
 
 pub on_link_gives : (n : Network) (l i : ℕ) → Contains (numbers_where (is_on l) 0 n.interfaces) i → (r c : ℕ) × IsInterface n i r l c
 on_link_gives n l i h =
@@ -262,17 +223,9 @@ holder_finds n laws i l a has =
     ]
 
 pub found_gives : (n : Network) (name : List ℕ) (a i : ℕ) → found_at n name a ≡ Some i → IsAt n name a i
-found_gives n name a i h =
-    elim (cases_option (number_of_name name n.links)) [
-      | inl e ↦ absurd (none-some i (rw e at h))
-      | inr (l, e) ↦
-          let (other, at, same) = at_first (λ m. bytes_eq m name) n.links l e in
-          (l, at ∙ ap (λ (m : List ℕ). Some m) (name_is other name same), holder_gives n i l a (rw e at h))
-    ]
+found_gives n name a i h = grind (arith, at_first (λ m. bytes_eq m name) n.links, bytes_eq-Decides, holder_gives n i)
 
 pub found_finds : (n : Network) → IsLawful n → (name : List ℕ) (a i : ℕ) → IsAt n name a i → found_at n name a ≡ Some i
 found_finds n laws name a i (l, named, here) =
-    let (k, other, e, at, same) = found (λ m. bytes_eq m name) n.links l name named (name_same name) in
-    let link : k ≡ l = laws.link_names_differ k l name (at ∙ ap (λ (m : List ℕ). Some m) (name_is other name same)) named in
-    let value : found_at n name a ≡ holder_at l a (addresses_of n) = rw (e, link) refl in
-    value ∙ holder_finds n laws i l a here
+    let (k, other, e, at, same) = found (λ m. bytes_eq m name) n.links l name named ((bytes_eq-Decides name name).1 refl) in
+    grind (arith, bytes_eq-Decides other name, laws.link_names_differ k l name, holder_finds n laws i l a here)

@@ -50,17 +50,9 @@ gateway_same laws d (Some a) (Some b) h k = let one : h.0 ≡ k.0 = text_same (c
 interface_same : (laws : TextLaws) (names others : List (List ℕ)) → names ≡ others → (b c : Bool) → b ≡ c → (x y : Interface) (at : ℕ × Data) → IsInterfaceOf names b x at
     → IsInterfaceOf others c y at → x ≡ y
 interface_same laws names others same b c root x y at h k =
-    let router : x.router ≡ y.router = h.router ∙ sym k.router in
-    let name : h.link_name ≡ k.link_name = text_same (codes_of "link") at.1 h.link_name k.link_name h.has_link k.has_link in
+    let name = text_same (codes_of "link") at.1 h.link_name k.link_name h.has_link k.has_link in
     let link : x.link ≡ y.link = one_named names h.link_name k.link_name x.link y.link name h.link (subst (λ (ns : List (List ℕ)). IsFirstNamed ns k.link_name y.link) (sym same) k.link) in
-    let text : h.text ≡ k.text = text_same (codes_of "address") at.1 h.text k.text h.has_address k.has_address in
-    let address : x.address ≡ y.address = one_address laws h.text k.text x.address y.address text h.address k.address in
-    let cost : x.cost ≡ y.cost = cost_same at.1 x.cost y.cost h.cost k.cost in
-    let direct : x.direct ≡ y.direct = direct_same at.1 x.cost y.cost cost x.direct y.direct h.direct k.direct in
-    let poison : x.poison ≡ y.poison = flag_same (codes_of "poison") at.1 b c root x.poison y.poison h.poisons k.poisons in
-    let all : x ≡ record { router = y.router; link = y.link; address = y.address; cost = y.cost; direct = y.direct; poison = y.poison } =
-    rw (← router, ← link, ← address, ← cost, ← direct, ← poison) refl in
-    all
+    grind (arith, one_address, text_same, cost_same, direct_same, flag_same)
 
 address_same : (laws : TextLaws) (a b : ℕ) (d : Data) → IsAddressOf a d → IsAddressOf b d → a ≡ b
 address_same laws a b d (t, h, is) (u, k, its) =
@@ -87,31 +79,16 @@ pub one_plan : (laws : TextLaws) (document : Members) (n m : Network) → PlanOf
 one_plan laws document n m p q =
     let link_tables : q.links ≡ p.links = items_same (codes_of "link") (table document) q.links p.links q.has_links p.has_links in
     let router_tables : q.routers ≡ p.routers = items_same (codes_of "router") (table document) q.routers p.routers q.has_routers p.has_routers in
-    let names : n.links ≡ m.links =
-    matched_same IsNameOf IsNameOf (λ x y d h k. text_same (codes_of "name") d x y h k) n.links m.links p.links p.link_names
-    (subst (Matched IsNameOf m.links) link_tables q.link_names) in
-    let others : n.routers ≡ m.routers =
-    matched_same IsNameOf IsNameOf (λ x y d h k. text_same (codes_of "name") d x y h k) n.routers m.routers p.routers p.router_names
-    (subst (Matched IsNameOf m.routers) router_tables q.router_names) in
+    let names : n.links ≡ m.links = matched_same IsNameOf IsNameOf (λ x y d h k. text_same (codes_of "name") d x y h k) _ _ _ p.link_names (rw link_tables at q.link_names) in
+    let others : n.routers ≡ m.routers = matched_same IsNameOf IsNameOf (λ x y d h k. text_same (codes_of "name") d x y h k) _ _ _ p.router_names (rw router_tables at q.router_names) in
     let poison : p.poison ≡ q.poison = flag_same (codes_of "poison") (table document) true true refl p.poison q.poison p.has_poison q.has_poison in
     let interfaces : n.interfaces ≡ m.interfaces =
-    matched_same (IsInterfaceOf n.links p.poison) (IsInterfaceOf m.links q.poison) (interface_same laws n.links m.links names p.poison q.poison poison) n.interfaces m.interfaces
-    (items_under (codes_of "interface") 0 p.routers) p.interfaces
-    (subst (λ (ds : List Data). Matched (IsInterfaceOf m.links q.poison) m.interfaces (items_under (codes_of "interface") 0 ds)) router_tables q.interfaces) in
-    let also : n.also ≡ m.also =
-    matched_same AreAlsoOf AreAlsoOf (also_same laws) n.also m.also (items_under (codes_of "interface") 0 p.routers) p.also
-    (subst (λ (ds : List Data). Matched AreAlsoOf m.also (items_under (codes_of "interface") 0 ds)) router_tables q.also) in
-    let on_links : p.on_links ≡ q.on_links =
-    matched_same IsOnLink IsOnLink (on_link_same laws) p.on_links q.on_links (items_under (codes_of "prefixes") 0 p.links) p.link_prefixes
-    (subst (λ (ds : List Data). Matched IsOnLink q.on_links (items_under (codes_of "prefixes") 0 ds)) link_tables q.link_prefixes) in
-    let owned : p.owned ≡ q.owned =
-    matched_same (IsOwned n.links) (IsOwned m.links) (owned_same laws n.links m.links names) p.owned q.owned (items_under (codes_of "own") 0 p.routers) p.own_prefixes
-    (subst (λ (ds : List Data). Matched (IsOwned m.links) q.owned (items_under (codes_of "own") 0 ds)) router_tables q.own_prefixes) in
+    matched_same _ _ (interface_same laws n.links m.links names p.poison q.poison poison) _ _ _ p.interfaces (rw router_tables at q.interfaces) in
+    let also : n.also ≡ m.also = matched_same AreAlsoOf AreAlsoOf (also_same laws) _ _ _ p.also (rw router_tables at q.also) in
+    let on_links : p.on_links ≡ q.on_links = matched_same IsOnLink IsOnLink (on_link_same laws) _ _ _ p.link_prefixes (rw link_tables at q.link_prefixes) in
+    let owned : p.owned ≡ q.owned = matched_same _ _ (owned_same laws n.links m.links names) _ _ _ p.own_prefixes (rw router_tables at q.own_prefixes) in
     let placements : q.on_links ++ q.owned ≡ p.on_links ++ p.owned = ap (λ (ps : List Placement). ps ++ q.owned) (sym on_links) ∙ ap (λ (ps : List Placement). p.on_links ++ ps) (sym owned) in
     let prefixes : n.prefixes ≡ m.prefixes = p.prefixes ∙ ap (λ (ps : List Placement). each_once (map (λ (x : Placement). x.prefix) ps)) (sym placements) ∙ sym q.prefixes in
     let places : n.places ≡ m.places =
-    matched_same (IsPlaceOf n) (IsPlaceOf m) (place_same n m (map (λ (x : Placement). x.prefix) (p.on_links ++ p.owned)) p.prefixes prefixes) n.places m.places (p.on_links ++ p.owned) p.places
-    (subst (Matched (IsPlaceOf m) m.places) placements q.places) in
-    let all : n ≡ record { links = m.links; routers = m.routers; interfaces = m.interfaces; also = m.also; prefixes = m.prefixes; places = m.places } =
-    rw (← names, ← others, ← interfaces, ← also, ← prefixes, ← places) refl in
-    all
+    matched_same _ _ (place_same n m (map (λ (x : Placement). x.prefix) (p.on_links ++ p.owned)) p.prefixes prefixes) _ _ _ p.places (rw placements at q.places) in
+    rw (← names, ← others, ← interfaces, ← also, ← prefixes, ← places) refl

@@ -33,18 +33,10 @@ lists_are : (lists : List (List ℕ)) (count : ℕ) (f : ℕ → List ℕ) → l
 lists_are lists count f h = let same : length lists ≡ count = ap length h ∙ length-each_below count f in rw same h
 
 pub all_on-requires : goal.all_on-requires
-all_on-requires c =
-    let n : Network = network_of_sketch (sketch c.args.draft) in
-    let links : c.len.result ≡ length n.links = omega (arith, length-map c.args.draft.links.items string_bytes) in
-    let interfaces : c.as_slice-3.result.now ≡ n.interfaces = c.as_slice-3.ensures.value ∙ interfaces_are c.in_ok-interfaces.ensures c.as_slice.ensures.value in
-    rw (links, interfaces) (interfaces_links n c.requires)
+all_on-requires c = grind (arith, length-map, interfaces_links (network_of_sketch (sketch c.args.draft)) c.requires)
 
 pub all_of-requires : goal.all_of-requires
-all_of-requires c =
-    let n : Network = network_of_sketch (sketch c.args.draft) in
-    let routers : c.len-2.result ≡ length n.routers = omega (arith, length-map c.args.draft.routers.items string_bytes) in
-    let interfaces : c.as_slice-4.result.now ≡ n.interfaces = c.as_slice-4.ensures.value ∙ interfaces_are c.in_ok-interfaces.ensures c.as_slice.ensures.value in
-    rw (routers, interfaces) (interfaces_routers n c.requires)
+all_of-requires c = grind (arith, length-map, interfaces_routers (network_of_sketch (sketch c.args.draft)) c.requires)
 
 pub all_addresses-requires : goal.all_addresses-requires
 all_addresses-requires c = grind (arith, length-map)
@@ -54,30 +46,17 @@ carriers_of-requires-clause-few_prefixes c =
     few c.in_ok-prefixes.prefixes.items c.as_slice-2.result.now c.args.draft.places.items c.len-4.result c.in_ok-prefixes.ensures.few c.as_slice-2.ensures.value c.requires.few_places (omega arith)
 
 pub carriers_of-requires-clause-prefixes : goal.carriers_of-requires-clause-prefixes
-carriers_of-requires-clause-prefixes c =
-    let n : Network = network_of_sketch (sketch c.args.draft) in
-    let blocks : c.in_ok-prefixes.prefixes.items ≡ n.prefixes = prefixes_are c.in_ok-prefixes.ensures.parts c.as_slice-2.ensures.value in
-    let prefixes : c.len-4.result ≡ length n.prefixes = omega (arith, ap length blocks) in
-    let places : c.as_slice-8.result.now ≡ n.places = c.as_slice-8.ensures.value ∙ places_are c.in_ok-prefixes.ensures.parts c.as_slice-2.ensures.value in
-    rw (prefixes, places) (places_prefixes n c.requires)
+carriers_of-requires-clause-prefixes c = grind (arith, length-map, places_prefixes (network_of_sketch (sketch c.args.draft)) c.requires)
 
 pub carriers_of-requires-clause-seats : goal.carriers_of-requires-clause-seats
-carriers_of-requires-clause-seats c =
-    let n : Network = network_of_sketch (sketch c.args.draft) in
-    let links : c.len-3.result ≡ length n.links = omega (arith, length-map c.args.draft.links.items string_bytes) in
-    let places : c.as_slice-8.result.now ≡ n.places = c.as_slice-8.ensures.value ∙ places_are c.in_ok-prefixes.ensures.parts c.as_slice-2.ensures.value in
-    rw (links, places) (places_links n c.requires)
+carriers_of-requires-clause-seats c = grind (arith, length-map, places_links (network_of_sketch (sketch c.args.draft)) c.requires)
 
 pub costs_of-requires-clause-few_prefixes : goal.costs_of-requires-clause-few_prefixes
 costs_of-requires-clause-few_prefixes c =
     few c.in_ok-prefixes.prefixes.items c.as_slice-2.result.now c.args.draft.places.items c.len-6.result c.in_ok-prefixes.ensures.few c.as_slice-2.ensures.value c.requires.few_places (omega arith)
 
 pub costs_of-requires-clause-routers : goal.costs_of-requires-clause-routers
-costs_of-requires-clause-routers c =
-    let n : Network = network_of_sketch (sketch c.args.draft) in
-    let routers : c.len-5.result ≡ length n.routers = omega (arith, length-map c.args.draft.routers.items string_bytes) in
-    let interfaces : c.as_slice-9.result.now ≡ n.interfaces = c.as_slice-9.ensures.value ∙ interfaces_are c.in_ok-interfaces.ensures c.as_slice.ensures.value in
-    rw (routers, interfaces) (interfaces_routers n c.requires)
+costs_of-requires-clause-routers c = grind (arith, length-map, interfaces_routers (network_of_sketch (sketch c.args.draft)) c.requires)
 
 pub costs_of-requires-clause-lists : goal.costs_of-requires-clause-lists
 costs_of-requires-clause-lists c =
@@ -87,12 +66,7 @@ costs_of-requires-clause-lists c =
     (ap (map items) c.as_slice-10.ensures.value ∙ c.in_ok-on_link.ensures ∙ ap (λ is. each_below c.len.result (λ l. numbers_where (is_on l) 0 is)) same)
 
 pub costs_of-requires-clause-prefixes : goal.costs_of-requires-clause-prefixes
-costs_of-requires-clause-prefixes c =
-    let n : Network = network_of_sketch (sketch c.args.draft) in
-    let blocks : c.in_ok-prefixes.prefixes.items ≡ n.prefixes = prefixes_are c.in_ok-prefixes.ensures.parts c.as_slice-2.ensures.value in
-    let prefixes : c.len-6.result ≡ length n.prefixes = omega (arith, ap length blocks) in
-    let places : c.as_slice-11.result.now ≡ n.places = c.as_slice-11.ensures.value ∙ places_are c.in_ok-prefixes.ensures.parts c.as_slice-2.ensures.value in
-    rw (prefixes, places) (places_prefixes n c.requires)
+costs_of-requires-clause-prefixes c = grind (arith, length-map, places_prefixes (network_of_sketch (sketch c.args.draft)) c.requires)
 
 pub costs_of-requires-clause-links : goal.costs_of-requires-clause-links
 costs_of-requires-clause-links c =
@@ -106,11 +80,7 @@ costs_of-requires-clause-links c =
     rw (links, places) (places_links n c.requires)
 
 pub costs_of-requires-clause-owners : goal.costs_of-requires-clause-owners
-costs_of-requires-clause-owners c =
-    let n : Network = network_of_sketch (sketch c.args.draft) in
-    let routers : c.len-5.result ≡ length n.routers = omega (arith, length-map c.args.draft.routers.items string_bytes) in
-    let places : c.as_slice-11.result.now ≡ n.places = c.as_slice-11.ensures.value ∙ places_are c.in_ok-prefixes.ensures.parts c.as_slice-2.ensures.value in
-    rw (routers, places) (places_owners n c.requires)
+costs_of-requires-clause-owners c = grind (arith, length-map, places_owners (network_of_sketch (sketch c.args.draft)) c.requires)
 
 pub owners_of-requires-clause-few_prefixes : goal.owners_of-requires-clause-few_prefixes
 owners_of-requires-clause-few_prefixes c =
@@ -120,19 +90,10 @@ pub owners_of-requires-clause-few_places : goal.owners_of-requires-clause-few_pl
 owners_of-requires-clause-few_places c = grind arith
 
 pub owners_of-requires-clause-prefixes : goal.owners_of-requires-clause-prefixes
-owners_of-requires-clause-prefixes c =
-    let n : Network = network_of_sketch (sketch c.args.draft) in
-    let blocks : c.in_ok-prefixes.prefixes.items ≡ n.prefixes = prefixes_are c.in_ok-prefixes.ensures.parts c.as_slice-2.ensures.value in
-    let prefixes : c.len-8.result ≡ length n.prefixes = omega (arith, ap length blocks) in
-    let places : c.as_slice-12.result.now ≡ n.places = c.as_slice-12.ensures.value ∙ places_are c.in_ok-prefixes.ensures.parts c.as_slice-2.ensures.value in
-    rw (prefixes, places) (places_prefixes n c.requires)
+owners_of-requires-clause-prefixes c = grind (arith, length-map, places_prefixes (network_of_sketch (sketch c.args.draft)) c.requires)
 
 pub owners_of-requires-clause-owners : goal.owners_of-requires-clause-owners
-owners_of-requires-clause-owners c =
-    let n : Network = network_of_sketch (sketch c.args.draft) in
-    let routers : c.len-7.result ≡ length n.routers = omega (arith, length-map c.args.draft.routers.items string_bytes) in
-    let places : c.as_slice-12.result.now ≡ n.places = c.as_slice-12.ensures.value ∙ places_are c.in_ok-prefixes.ensures.parts c.as_slice-2.ensures.value in
-    rw (routers, places) (places_owners n c.requires)
+owners_of-requires-clause-owners c = grind (arith, length-map, places_owners (network_of_sketch (sketch c.args.draft)) c.requires)
 
 pub invariant_of-result : goal.invariant_of-result
 invariant_of-result c =
