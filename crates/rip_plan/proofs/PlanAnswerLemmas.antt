@@ -58,9 +58,7 @@ direct_zero n laws r k zero =
 -- where no seat is kept, no router keeps a prefix, and none is attached
 pub none_kept : (r k : ℕ) (places : List Place) → list_any (λ (q : Place). is_kept q.seat) places ≡ false → option_map_or is_kept (own_seat r k places) false ≡ false
 none_kept r k [] h = refl
-none_kept r k (q ∷ qs) h =
-    let (off, later) = or_parts (is_kept q.seat) (list_any (λ (p : Place). is_kept p.seat) qs) h in
-    elim (cases_Bool (is_owned r k q)) [ inl e ↦ rw e off | inr e ↦ rw e (none_kept r k qs later) ]
+none_kept r k (q ∷ qs) h = grind (arith, none_kept r k qs)
 
 pub none_attached : (r k : ℕ) (places : List Place) → list_any (λ (q : Place). is_kept q.seat) places ≡ false → option_and_then link_of (own_seat r k places) ≡ None
 none_attached r k places h = grind (arith, none_kept)
@@ -69,9 +67,7 @@ pub own_past : (n : Network) → IsLawful n → (r k : ℕ) → (length n.router
 own_past n laws r k past =
     elim (cases_option (own_seat r k n.places)) [
       | inl e ↦ e
-      | inr (seat, e) ↦
-          let (j, has) = own_gives n r k seat e in
-          absurd (past_not past (laws.owner_known j k r has.own.cost (own_says has refl)) (laws.prefix_known j k _ has.place))
+      | inr (seat, e) ↦ let (j, has) = own_gives n r k seat e in grind (arith, laws.owner_known j k r has.own.cost (own_says has refl), laws.prefix_known j k _ has.place)
     ]
 
 pub kept_exact : (n : Network) → IsLawful n → (r k : ℕ) (o : Option Seat) (b : Bool) → o ≡ own_seat r k n.places → b ≡ option_map_or is_kept o false → Decides b (IsKept n r k)
@@ -166,9 +162,7 @@ module _ (n : Network) (laws : IsLawful n) where
       laws.router_known k x.router x.link x.cost (record { address = x.address; direct = x.direct; poison = x.poison; listed = slice_get-get_or n.interfaces k d h })
 
   pub places_prefixes : All (λ q. q.prefix < length n.prefixes) n.places
-  places_prefixes k d h =
-      let q = get_or n.places k d in
-      laws.prefix_known k q.prefix q.seat (record { listed = slice_get-get_or n.places k d h })
+  places_prefixes k d h = let q = get_or n.places k d in laws.prefix_known k q.prefix q.seat (grind (arith, slice_get-get_or n.places k d h))
 
   pub places_links : All (λ q. IsLinkBelow (length n.links) q.seat) n.places
   places_links k d h = grind (arith, slice_get-get_or)

@@ -37,10 +37,9 @@ pub item_under : (key : List ℕ) (ds : List Data) (i j : ℕ) (x : Data) → Is
 item_under key ds zero j x (d, is, item) = absurd (none-some d is)
 item_under key ds (suc m) zero x (d, is, item) = absurd (none-some x item)
 item_under key ds (suc m) (suc j) x (d, is, item) =
-    let k = count_ahead (numbered_items key) 0 ds m + j in
     let there = see_got (with_number (0 + m)) (items_in (get key d)) j x item in
-    let at = in_flat (numbered_items key) 0 ds (items_under key 0 ds) (items_flat key 0 ds) m j d (0 + m, x) is there k refl in
-    record { k = k; m = m; number = refl; at = at ∙ ap (λ (n : ℕ). Some (n, x)) (omega arith) }
+    let at = in_flat (numbered_items key) 0 ds (items_under key 0 ds) (items_flat key 0 ds) m j d (0 + m, x) is there _ refl in
+    record { k = count_ahead (numbered_items key) 0 ds m + j; m = m; number = refl; at = grind arith }
 
 -- ---- further addresses
 
@@ -173,9 +172,7 @@ module _ (document : Members) (n : Network) (plan : PlanOf document n) where
   pub interface_table : (i : ℕ) (v : Interface) → slice_get n.interfaces i ≡ Some v → InterfaceTable v
   interface_table i v h =
       let ((r, x), listed, of) = matched_left (IsInterfaceOf n.links plan.poison) n.interfaces (items_under (codes_of "interface") 0 plan.routers) i v plan.interfaces h in
-      let u = under_item (codes_of "interface") RouterInterface 1 0 plan.routers i r x listed in
-      let same : r ≡ u.t = omega (arith, u.number) in
-      record { r = r; j = u.j; x = x; item = rw (← same) at u.item; of = of }
+      grind (arith, under_item (codes_of "interface") RouterInterface 1 0 plan.routers i r x listed)
 
   -- the table of a router's own prefix
   pub record OwnTable (k p : ℕ) (own : OwnPrefix) : Type 0 where
@@ -193,15 +190,11 @@ module _ (document : Members) (n : Network) (plan : PlanOf document n) where
       let on_links = spots_under (codes_of "prefixes") LinkPrefix 1 plan.links in
       let (q, at, of) = matched_left (IsPlaceOf n) n.places (plan.on_links ++ plan.owned) k _ plan.places place.listed in
       elim (get_split plan.on_links plan.owned k q at) [
-        | inl here ↦
-            let (x, is, on) = matched_left IsOnLink plan.on_links (items_under (codes_of "prefixes") 0 plan.links) k q plan.link_prefixes here.0 in
-            let seat : seats.Own own ≡ seats.Link x.0 = of.seat ∙ on.seat in
-            absurd cc
+        | inl here ↦ absurd (grind (arith, matched_left IsOnLink plan.on_links (items_under (codes_of "prefixes") 0 plan.links) k q plan.link_prefixes here.0))
         | inr there ↦
             let ((r, x), listed, owned) = matched_left (IsOwned n.links) plan.owned (items_under (codes_of "own") 0 plan.routers) there.0 q plan.own_prefixes there.2 in
             let u = under_item (codes_of "own") RouterOwn 1 0 plan.routers there.0 r x listed in
             let same : u.t ≡ r = omega (arith, u.number) in
-            let seat : seats.Own own ≡ seats.Own owned.own = of.seat ∙ owned.seat in
             let count = matched_length IsOnLink plan.on_links (items_under (codes_of "prefixes") 0 plan.links) plan.link_prefixes in
             let past : k ≡ length on_links + there.0 = omega (arith, there.1, spots_count (codes_of "prefixes") LinkPrefix 1 0 plan.links, count) in
             record {
@@ -211,14 +204,12 @@ module _ (document : Members) (n : Network) (plan : PlanOf document n) where
               x = x;
               item = rw same at u.item;
               of = owned;
-              is = cc;
-              spot = get_past on_links (spots_under (codes_of "own") RouterOwn 1 plan.routers) there.0 k past ∙ u.spot
-                  ∙ ap (λ (m : ℕ). Some (RouterOwn (1 + m) (suc u.j))) same;
+              is = grind arith;
+              spot = grind (arith, get_past on_links (spots_under (codes_of "own") RouterOwn 1 plan.routers) there.0 k past, u.spot);
             }
       ]
 
   pub carrier_has : (l p : ℕ) (block : Block) → Carries n l p → IsPrefix n p block → HasPrefix plan.links l block
   carrier_has l p block (k, place) prefix =
       let (q, at, of) = matched_left (IsPlaceOf n) n.places (plan.on_links ++ plan.owned) k _ plan.places place.listed in
-      let same : q.prefix ≡ block = same_Some q.prefix block (sym of.prefix ∙ prefix) in
-      subst (HasPrefix plan.links l) same (link_prefix plan.links plan.routers n.links plan.on_links plan.owned plan.link_prefixes plan.own_prefixes l k q at (sym of.seat))
+      grind (arith, link_prefix plan.links plan.routers n.links plan.on_links plan.owned plan.link_prefixes plan.own_prefixes l k q at)

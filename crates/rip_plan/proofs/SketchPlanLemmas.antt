@@ -42,14 +42,10 @@ module _ (s : Sketch) where
 
   pub place_in : (k p : ℕ) (seat : Seat) → IsPlace (network_of_sketch s) k p seat
       → (d : DraftPlace) × (slice_get s.places k ≡ Some d) × (slice_get (network_of_sketch s).prefixes p ≡ Some d.prefix) × (seat ≡ d.seat)
-  place_in k p seat h =
-      let (d, at, (prefix, same)) = matched_left (IsNumbered (network_of_sketch s).prefixes) (network_of_sketch s).places s.places k (record { prefix = p; seat = seat }) (numbers s.places) h.listed in
-      (d, at, prefix, same)
+  place_in k p seat h = grind (arith, matched_left (IsNumbered (network_of_sketch s).prefixes) (network_of_sketch s).places s.places k (record { prefix = p; seat = seat }) (numbers s.places) h.listed)
 
   pub place_from : (k : ℕ) (d : DraftPlace) → slice_get s.places k ≡ Some d → (p : ℕ) × IsPlace (network_of_sketch s) k p d.seat × IsPrefix (network_of_sketch s) p d.prefix
-  place_from k d h =
-      let (q, is, (prefix, seat)) = matched_right (IsNumbered (network_of_sketch s).prefixes) (network_of_sketch s).places s.places k d (numbers s.places) h in
-      (q.prefix, record { listed = is ∙ ap (λ x. Some (record { prefix = q.prefix; seat = x })) seat }, prefix)
+  place_from k d h = grind (arith, matched_right (IsNumbered (network_of_sketch s).prefixes) (network_of_sketch s).places s.places k d (numbers s.places) h)
 
   -- ---- the routers that a seat touches
 
@@ -63,19 +59,14 @@ module _ (s : Sketch) where
       let (on, of) = and_parts (x.interface.link == l) (x.interface.router == r) test in
       let listed = listed_as i x r l at (eqb-true x.interface.router r of) (eqb-true x.interface.link l on) in
       (x.interface.direct, inl (l, place, (i, record { address = x.interface.address; cost = x.interface.cost; poison = x.interface.poison; listed = listed })))
-  touches k p r (seats.Own own) place h =
-      elim (or_cases (own.router == r) false h) [
-        | inl one ↦ (own.cost, inr (record { own = own; place = place; router = eqb-true own.router r one; says = refl }))
-        | inr none ↦ absurd cc
-      ]
+  touches k p r (seats.Own own) place h = (own.cost, inr (grind arith))
 
   -- ---- the routers on a link
 
   pub there_on : (r l : ℕ) → is_there s.interfaces r l ≡ true → IsOn (network_of_sketch s) r l
   there_on r l h =
       let (i, x, at, test) = any_finds (λ (y : DraftInterface). y.interface.router == r && y.interface.link == l) s.interfaces h in
-      let (of, on) = and_parts (x.interface.router == r) (x.interface.link == l) test in
-      (x.interface.cost, (i, interface_as i x r l at (eqb-true x.interface.router r of) (eqb-true x.interface.link l on)))
+      (x.interface.cost, (i, interface_as i x r l at (grind arith) (grind arith)))
 
   pub on_there : (r l : ℕ) → IsOn (network_of_sketch s) r l → is_there s.interfaces r l ≡ true
   on_there r l (c, (i, is)) =
