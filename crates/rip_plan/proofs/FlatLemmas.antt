@@ -29,21 +29,17 @@ from_flat : {A B : Type 0} (f : ℕ → A → List B) (n : ℕ) (xs : List A) (k
 from_flat f n [] k b h = absurd (none-some b h)
 from_flat f n (x ∷ xs) k b h =
     elim (get_split (f n x) (flat f (n + 1) xs) k b h) [
-      | inl e ↦ let number : n + 0 ≡ n = omega arith in record { i = zero; x = x; at = refl; j = k; of = rw number e.0; number = omega arith }
+      | inl e ↦ record { i = zero; x = x; at = refl; j = k; of = grind arith; number = omega arith }
       | inr e ↦
           let u = from_flat f (n + 1) xs e.0 b e.2 in
-          let number : n + suc u.i ≡ n + 1 + u.i = omega arith in
-          record { i = suc u.i; x = u.x; at = u.at; j = u.j; of = rw number u.of; number = omega (arith, e.1, u.number) }
+          record { i = suc u.i; x = u.x; at = u.at; j = u.j; of = grind arith; number = omega (arith, e.1, u.number) }
     ]
 
 to_flat : {A B : Type 0} (f : ℕ → A → List B) (n : ℕ) (xs : List A) (i j : ℕ) (x : A) (b : B) → slice_get xs i ≡ Some x → slice_get (f (n + i) x) j ≡ Some b
     → (k : ℕ) → k ≡ count_ahead f n xs i + j → slice_get (flat f n xs) k ≡ Some b
 to_flat f n [] i j x b h of k e = absurd (none-some x h)
 to_flat f n (y ∷ xs) zero j x b h of k e = grind (arith, get_left)
-to_flat f n (y ∷ xs) (suc i) j x b h of k e =
-    let number : n + suc i ≡ n + 1 + i = omega arith in
-    let later = count_ahead f (n + 1) xs i + j in
-    get_past (f n y) (flat f (n + 1) xs) later k (omega arith) ∙ to_flat f (n + 1) xs i j x b h (rw number at of) later refl
+to_flat f n (y ∷ xs) (suc i) j x b h of k e = grind (arith, get_past (f n y) (flat f (n + 1) xs) (count_ahead f (n + 1) xs i + j) k, to_flat f (n + 1) xs i j x b h)
 
 -- the same of a list that is equal to it
 pub is_in : {A B : Type 0} (f : ℕ → A → List B) (n : ℕ) (xs : List A) (l : List B) → l ≡ flat f n xs → (k : ℕ) (b : B) → slice_get l k ≡ Some b → IsIn f n xs k b

@@ -91,11 +91,7 @@ position_finds test n (x ∷ xs) k h =
 pub position_first : {A : Type 0} (test : A → Bool) (n : ℕ) (xs : List A) (k : ℕ) → position_from test n xs ≡ Some k → (i : ℕ) (x : A) → slice_get xs i ≡ Some x → test x ≡ true → k ≤ n + i
 position_first test n [] k h i x at passes = absurd (none-some k h)
 position_first test n (x ∷ xs) k h zero y at passes = let here : test x ≡ true = ap test (same_Some x y at) ∙ passes in let same : n ≡ k = same_Some n k (rw here at h) in omega arith
-position_first test n (x ∷ xs) k h (suc i) y at passes =
-    elim (cases_Bool (test x)) [
-      | inl e ↦ let same : n ≡ k = same_Some n k (rw e at h) in omega arith
-      | inr e ↦ omega (arith, position_first test (n + 1) xs k (rw e at h) i y at passes)
-    ]
+position_first test n (x ∷ xs) k h (suc i) y at passes = grind (arith, position_first test (n + 1) xs k)
 
 pub position_none : {A : Type 0} (test : A → Bool) (n : ℕ) (xs : List A) → position_from test n xs ≡ None → list_any test xs ≡ false
 position_none test n [] h = refl

@@ -111,10 +111,8 @@ pub addresses_read : (ds : List Data) (also : List ℕ) → addresses_in ds ≡ 
 addresses_read [] also h = let same : [] ≡ also = same_Some [] also h in subst (λ (l : List ℕ). Matched IsReadOf l []) same tt
 addresses_read (d ∷ ds) also h =
     let (a, first, h1) = then_some (as_str d &> address_in) _ also h in
-    let (text, is, parsed) = then_some (as_str d) address_in a first in
     let (others, rest, h2) = then_some (addresses_in ds) _ also h1 in
-    let same : a ∷ others ≡ also = same_Some (a ∷ others) also h2 in
-    subst (λ (l : List ℕ). Matched IsReadOf l (d ∷ ds)) same ((text, text_is d text is, parsed), addresses_read ds others rest)
+    grind (arith, addresses_read ds others rest)
 
 -- the addresses of these texts
 pub addresses_are : (laws : TextLaws) (ds : List Data) (also : List ℕ) → addresses_in ds ≡ Some also → Matched IsAddressOf also ds
@@ -140,7 +138,4 @@ addresses_told (d ∷ ds) all h =
     ]
 
 pub addresses_clear : (laws : TextLaws) (ds : List Data) (also : List ℕ) → addresses_in ds ≡ Some also → (k : ℕ) (text : List ℕ) → slice_get ds k ≡ Some (string text) → IsNoAddress text → ⊥
-addresses_clear laws ds also h k text at none =
-    let (a, listed, (t, is, spelled)) = matched_right IsAddressOf also ds k (string text) (addresses_are laws ds also h) at in
-    let one : t ≡ text = cc in
-    none a (subst (λ (s : List ℕ). IsAddressText s a) one spelled)
+addresses_clear laws ds also h k text at none = grind (arith, matched_right IsAddressOf also ds k (string text) (addresses_are laws ds also h) at, none)

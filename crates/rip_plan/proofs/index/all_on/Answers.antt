@@ -9,6 +9,5 @@ index_mut-requires c = grind (arith, kept_within)
 pub loop-i-preserved : goal.loop-i-preserved
 loop-i-preserved c =
     let x = c.index-interfaces-i.result in
-    let below : x.link < c.args.links = rw (← c.index-interfaces-i.is) at (c.requires c.loop-i.i x (omega arith)) in
     grouped_more (λ (w : Vec ℕ Global). w.items) c.loop-i.all.items c.args.links (λ (y : Interface). y.link) c.args.interfaces.now c.loop-i.i x c.index_mut.result.now c.push.new.self
-    c.loop-i.invariant (omega arith) c.index-interfaces-i.is below c.index_mut.ensures.value c.in_ok-push.ensures.items
+    c.loop-i.invariant (omega arith) c.index-interfaces-i.is (grind arith) c.index_mut.ensures.value c.in_ok-push.ensures.items

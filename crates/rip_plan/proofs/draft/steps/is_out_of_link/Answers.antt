@@ -23,24 +23,12 @@ any_some (b ∷ bs) h = refl
 pub returns-then-not-is_empty : goal.returns-then-not-is_empty
 returns-then-not-is_empty c =
     let blocks = c.in-Some.prefixes.now.items in
-    let kept : blocks ≡ map (λ p. p.prefix) (filter (λ p. is_on c.args.link p.seat) c.args.draft.now.places.items) =
-    ap (λ (o : Option (Vec Block Global)). option_map_or (λ v. v.items) o []) c.in-Some.ensures.value ∙ c.args.draft.now.blocked c.args.link in
-    let len : c.in-Some.prefixes.now.len ≡ length blocks = omega (arith, ap length c.as_slice.ensures.value, c.as_slice.ensures.len) in
-    let some : list_any (λ b. true) blocks ≡ true = any_some blocks (λ e. let zero : c.in-Some.prefixes.now.len ≡ 0 = len ∙ e in grind (arith, nat_tests)) in
-    let has : c.has_address_in.result ≡ list_any (λ b. has_address b c.args.address) blocks = c.has_address_in.ensures ∙ ap (list_any (λ b. has_address b c.args.address)) c.as_slice.ensures.value in
-    rw has (ap (λ s. s && not (list_any (λ b. has_address b c.args.address) blocks)) (sym some) ∙ outside_by c.args.link c.args.address c.args.draft.now.places.items blocks kept)
+    grind (arith, nat_tests, any_some blocks, outside_by c.args.link c.args.address c.args.draft.now.places.items blocks, c.args.draft.now.blocked c.args.link)
 
 pub returns-else-not-is_empty : goal.returns-else-not-is_empty
 returns-else-not-is_empty c =
     let blocks = c.in-Some.prefixes.now.items in
-    let kept : blocks ≡ map (λ p. p.prefix) (filter (λ p. is_on c.args.link p.seat) c.args.draft.now.places.items) =
-    ap (λ (o : Option (Vec Block Global)). option_map_or (λ v. v.items) o []) c.in-Some.ensures.value ∙ c.args.draft.now.blocked c.args.link in
-    let zero : c.in-Some.prefixes.now.len ≡ 0 = grind (arith, nat_tests) in
-    let none : blocks ≡ [] = nil_from_length blocks (omega (arith, c.in-Some.prefixes.now.ok)) in
-    rw c.if-not-is_empty.false (ap (λ bs. list_any (λ b. true) bs && not (list_any (λ b. has_address b c.args.address) bs)) (sym none)
-    ∙ outside_by c.args.link c.args.address c.args.draft.now.places.items blocks kept)
+    grind (arith, nat_tests, nil_from_length blocks, outside_by c.args.link c.args.address c.args.draft.now.places.items blocks, c.args.draft.now.blocked c.args.link)
 
 pub returns-in-None : goal.returns-in-None
-returns-in-None c =
-    outside_by c.args.link c.args.address c.args.draft.now.places.items [] (ap (λ (o : Option (Vec Block Global)). option_map_or (λ v. v.items) o []) c.in-None.ensures.value
-    ∙ c.args.draft.now.blocked c.args.link)
+returns-in-None c = grind (arith, outside_by c.args.link c.args.address c.args.draft.now.places.items [], c.args.draft.now.blocked c.args.link)

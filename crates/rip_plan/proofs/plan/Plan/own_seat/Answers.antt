@@ -20,9 +20,8 @@ returns-then-len-router c = grind (arith, length-map, own_past)
 pub index-requires-in-Some : goal.index-requires-in-Some
 index-requires-in-Some c =
     let inside = c.self.inside in
-    let w = length inside.prefixes.items in
-    let number = number_at inside.owners.items inside.places.items (length inside.routers.items) w c.args.router c.args.prefix c.len-2.result c.index.result.now c.self.invariant.owners
-    c.self.invariant.owners_room (omega arith) (omega (arith, c.len-else-len-router.ensures)) (omega arith) c.index.ensures in
+    let number = number_at inside.owners.items inside.places.items (length inside.routers.items) (length inside.prefixes.items) c.args.router c.args.prefix c.len-2.result c.index.result.now
+    c.self.invariant.owners c.self.invariant.owners_room (omega arith) (omega (arith, c.len-else-len-router.ensures)) (omega arith) c.index.ensures in
     let (q, at, owned) = at_first (is_owned c.args.router c.args.prefix) inside.places.items c.in-Some.place (sym number ∙ c.in-Some.is) in
     omega (arith, slice_get_within inside.places.items c.in-Some.place q at, c.from.ensures)
 
