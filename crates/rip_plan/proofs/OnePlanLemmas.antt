@@ -69,11 +69,7 @@ owned_same : (laws : TextLaws) (names others : List (List ℕ)) → names ≡ ot
 owned_same laws names others same x y at h k = grind (arith, text_same, cost_same, flag_same, link_same, gateway_same, one_prefix)
 
 place_same : (n m : Network) (bs : List Block) → n.prefixes ≡ each_once bs → n.prefixes ≡ m.prefixes → (x y : Place) (p : Placement) → IsPlaceOf n x p → IsPlaceOf m y p → x ≡ y
-place_same n m bs once same x y p h k =
-    let here : slice_get (each_once bs) x.prefix ≡ Some p.prefix = ap (λ (ps : List Block). slice_get ps x.prefix) (sym once) ∙ h.prefix in
-    let there : slice_get (each_once bs) y.prefix ≡ Some p.prefix = ap (λ (ps : List Block). slice_get ps y.prefix) (sym once ∙ same) ∙ k.prefix in
-    let number : x.prefix ≡ y.prefix = distinct_at same_prefix (each_once bs) x.prefix y.prefix p.prefix p.prefix (once_distinct bs) here there (same_self p.prefix) (same_self p.prefix) in
-    ap (λ (v : ℕ). record x { prefix = v }) number ∙ ap (λ (v : Seat). record { prefix = y.prefix; seat = v }) (h.seat ∙ sym k.seat)
+place_same n m bs once same x y p h k = grind (arith, distinct_at same_prefix (each_once bs) x.prefix y.prefix p.prefix p.prefix (once_distinct bs), same_self p.prefix)
 
 pub one_plan : (laws : TextLaws) (document : Members) (n m : Network) → PlanOf document n → PlanOf document m → n ≡ m
 one_plan laws document n m p q =

@@ -124,17 +124,10 @@ pub addresses_told : (ds : List Data) → list_all (λ x. is_some (as_str x)) ds
 addresses_told [] all h = absurd (none-some [] (sym h))
 addresses_told (d ∷ ds) all h =
     let (is, others) = and_parts (is_some (as_str d)) (list_all (λ x. is_some (as_str x)) ds) all in
-    elim (cases_option (as_str d)) [
-      | inl e ↦ let clash = rw e at is in absurd cc
-      | inr (text, e) ↦
-          elim (cases_option (address_in text)) [
-            | inl none ↦ (zero, text, ap (λ (x : Data). Some x) (text_is d text e), none)
-            | inr (a, i) ↦
-                elim (cases_option (addresses_in ds)) [
-                  | inl none ↦ let (m, t, at, bad) = addresses_told ds others none in (suc m, t, at, bad)
-                  | inr (more, j) ↦ absurd (none-some (a ∷ more) (sym (rw (e, i, j) at h)))
-                ]
-          ]
+    elim (cases_option (addresses_in ds)) [
+      | inl rest ↦ let (m, t, at, bad) = addresses_told ds others rest in (suc m, t, at, bad)
+      | inr (more, rest) ↦
+          elim (cases_option (as_str d)) [ inl e ↦ absurd (grind arith) | inr (text, e) ↦ (zero, text, ap (λ (x : Data). Some x) (text_is d text e), grind arith) ]
     ]
 
 pub addresses_clear : (laws : TextLaws) (ds : List Data) (also : List ℕ) → addresses_in ds ≡ Some also → (k : ℕ) (text : List ℕ) → slice_get ds k ≡ Some (string text) → IsNoAddress text → ⊥
