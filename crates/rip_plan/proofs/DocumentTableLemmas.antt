@@ -132,10 +132,6 @@ router_table d name interfaces owns h =
     let (ms, is, h1) = then_some (as_table d) router_fields (name, interfaces, owns) h in
     rw (table_is d ms is) (grind (arith, keys_only))
 
--- a table whose members were read was read
-not_read : {A : Type 0} (fields : Members → Option A) (d : Data) (ms : Members) → d ≡ table ms → (f : A) × (fields ms ≡ Some f) → (as_table d &> fields) ≡ None → ⊥
-not_read fields d ms is (f, read) none = none-some f (sym none ∙ ap (λ (x : Data). as_table x &> fields) is ∙ read)
-
 pub link_not : (d : Data) → (as_table d &> link_fields) ≡ None → IsLinkTable d → ⊥
 unfolding link_fields
 link_not d none is = grind (arith, only_keys (keys_of a_link) is.members (rw is.is_table at is.keys))

@@ -6,14 +6,13 @@ use Rattle.std.proofs.lemmas.Bool.{and_parts, cases_lt, both_ways, cases_Bool, e
 use Rattle.std.proofs.lemmas.Bool.Decides.{nat_tests}
 use Rattle.std.proofs.lemmas.Option.{same_Some, slice_get_within}
 use Rattle.toml.specs.Data.{Data, Members, get, string, table}
-use Rattle.rip_wire.specs.Name.{IsName, is_name}
+use Rattle.rip_wire.specs.Name.{IsName}
 use Rattle.rip_wire.specs.Prefix.{Block, IsBlock}
 use Rattle.rip_plan.specs.declared.error.PlanCode.{PlanCode}
 use Rattle.rip_plan.specs.declared.error.PlanCode.TheVariants as codes
 use Rattle.rip_plan.specs.declared.error.PlanError.{PlanError}
 use Rattle.rip_plan.specs.declared.error.At.{At}
 use Rattle.rip_plan.specs.declared.error.At.TheVariants.{Text, Link, LinkPrefix, Router, RouterInterface, RouterOwn}
-use Rattle.rip_plan.specs.declared.parts.Interface.{Interface}
 use Rattle.rip_plan.specs.declared.parts.OwnPrefix.{OwnPrefix}
 use Rattle.rip_plan.specs.declared.parts.Seat.{Seat}
 use Rattle.rip_plan.specs.declared.parts.Seat.TheVariants as seats
@@ -25,7 +24,7 @@ use Rattle.rip_plan.specs.Network.{Network, cost_on, is_of, network_of_sketch}
 use Rattle.rip_plan.specs.Passes.{same_prefix}
 use Rattle.rip_plan.specs.Seats.{is_on}
 use Rattle.rip_plan.specs.PlanFaults.{AreTwice, DoMeet, HasTables, HasWrongCost, HasWrongDirect, HaveOneAddress, IsAstray, IsClash, IsFault, IsMisnamed, IsText, TableFault, also_spots, interface_spots, pass_of, place_spots}
-use Rattle.rip_plan.specs.PlanOf.{AreAlsoOf, HasItems, IsAddressOf, IsCostOf, IsDirectOf, IsGatewayOf, IsInterfaceOf, IsNameOf, IsPlaceOf, IsPlanOfText, Matched, Placement, PlanOf, each_once, items_in, items_under}
+use Rattle.rip_plan.specs.PlanOf.{AreAlsoOf, HasItems, IsAddressOf, IsCostOf, IsDirectOf, IsInterfaceOf, IsNameOf, IsPlaceOf, IsPlanOfText, Matched, Placement, PlanOf, each_once, items_in, items_under}
 use Rattle.rip_plan.specs.PlanText.{sketch_of}
 use Rattle.rip_plan.specs.Relations.{Carries, HasAddress, HasAddresses, HasOwnAddress, IsAttached, IsConnected, IsEachOnce, IsGateway, IsInside, IsInterface, IsLawful, IsOn, IsOwnAt, IsPlace, IsPrefix}
 use Rattle.rip_plan.proofs.DocumentTableLemmas.{by_root}

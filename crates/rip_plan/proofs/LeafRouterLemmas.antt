@@ -1,7 +1,7 @@
 -- A router with one interface, and one with more.
-use Rattle.std.proofs.Common.{◌≡◌, ◌≢◌, ℕ, ◌<◌, ◌≤◌, inl, inr, List, length, get_or, Some, sym, ◌∙◌, ap, arith}
+use Rattle.std.proofs.Common.{◌≡◌, ◌≢◌, ℕ, ◌<◌, ◌≤◌, inl, inr, List, length, get_or, Some, arith}
 use Rattle.std.specs.Prelude.{slice_get}
-use Rattle.std.proofs.lemmas.Option.{same_Some, slice_get_within, get_or_from_slice_get}
+use Rattle.std.proofs.lemmas.Option.{slice_get_within, get_or_from_slice_get}
 use Rattle.std.proofs.lemmas.Bool.{cases_lt}
 use Rattle.rip_plan.specs.Network.{Network, is_of, numbers_where}
 use Rattle.rip_plan.specs.Relations.{IsInterface, IsLeaf, HasTwoInterfaces, IsLawful}
@@ -41,8 +41,8 @@ leaf_of_one n r one =
     let (i, at) = get_some (numbers_of n r) 0 (omega arith) in
     let (l, c, has) = interface_at n r 0 i at in
     let only : (j k d : ℕ) → IsInterface n j r k d → j ≡ i = λ j k d h.
-        let (m, there) = at_contains (numbers_of n r) j (of_router_finds n r j k d h) in
-        grind (arith, slice_get_within (numbers_of n r) m j there) in
+    let (m, there) = at_contains (numbers_of n r) j (of_router_finds n r j k d h) in
+    grind (arith, slice_get_within (numbers_of n r) m j there) in
     (i, l, c, record { has = has; only = only })
 
 pub one_of_leaf : (n : Network) (r i l c : ℕ) → IsLeaf n r i l c → length (numbers_of n r) ≡ 1

@@ -1,7 +1,7 @@
 -- What the look-ups of a lawful plan find, in the words of its relations.
 use Rattle.rip_plan.proofs.ClashLemmas.{find_gives, find_none}
 use Rattle.std.proofs.Common.{◌≡◌, ℕ, zero, suc, ◌+◌, ◌⊎◌, inl, inr, List, [], ◌∷◌, Bool, true, ◌&&◌, Option, Some, None, refl, sym, ◌∙◌, ap, subst, arith}
-use Rattle.std.proofs.lemmas.Bool.{and_parts, both_ways, cases_Bool, eq-eqb, eqb-true}
+use Rattle.std.proofs.lemmas.Bool.{cases_Bool, eq-eqb, eqb-true}
 use Rattle.std.specs.Prelude.{slice_get, ◌==◌, find}
 use Rattle.std.specs.Option.{option_or}
 use Rattle.std.specs.List.{Contains, position_from}
@@ -17,7 +17,6 @@ use Rattle.rip_plan.specs.declared.parts.Seat.{Seat}
 use Rattle.rip_plan.specs.declared.parts.Seat.TheVariants as seats
 use Rattle.rip_plan.specs.Seats as seated
 use Rattle.rip_plan.specs.Passes.{same_prefix}
-use Rattle.rip_plan.specs.Names.{number_of_name}
 use Rattle.rip_plan.specs.Addresses.{holder_at}
 use Rattle.rip_plan.specs.Network.{Network, addresses_of, number_of_prefix, found_at, is_on, is_of, numbers_where, is_carrying, first_carrying, is_owned, own_seat, cost_on, cost_at, direct_at}
 use Rattle.rip_plan.specs.Relations.{IsPrefix, IsInterface, IsConnected, HasAddress, IsAt, IsPlace, IsOwnWith, Carries, Touches, IsDirect, IsLawful}
@@ -49,9 +48,6 @@ number_of_planned n laws p k h = let (j, q, e, at, same) = found (same_prefix p)
 abbrev pub IsConnectedIn : List Interface → ℕ → ℕ → ℕ → ℕ → Type 0
 IsConnectedIn is i r l d = (a c : ℕ) × (b : Bool) × (slice_get is i ≡ Some (record { router = r; link = l; address = a; cost = c; direct = d; poison = b }))
 
-same_interface : (x : Interface) (r l d : ℕ) → x.router ≡ r → x.link ≡ l → x.direct ≡ d → x ≡ record { router = r; link = l; address = x.address; cost = x.cost; direct = d; poison = x.poison }
-same_interface x r l d e f g = rw (← e, ← f, ← g) refl
-
 pub cost_found : (r l d : ℕ) (is : List Interface) → cost_on r l is ≡ Some d → (i : ℕ) × IsConnectedIn is i r l d
 cost_found r l d [] h = absurd (none-some d h)
 cost_found r l d (x ∷ xs) h =
@@ -67,9 +63,6 @@ cost_there r l d a c (suc i) b (x ∷ xs) h e = grind (arith, cost_there r l d a
 
 or_parts : {A : Type 0} (o p : Option A) (x : A) → option_or o p ≡ Some x → (o ≡ Some x) ⊎ (p ≡ Some x)
 or_parts o p x h = grind arith
-
-or_none : {A : Type 0} (o p : Option A) → option_or o p ≡ None → (o ≡ None) × (p ≡ None)
-or_none o p h = grind arith
 
 direct_found : (r k c : ℕ) (is : List Interface) (qs : List Place) → direct_at r k is qs ≡ Some c
     → (j : ℕ) × (seat : Seat) × (slice_get qs j ≡ Some (record { prefix = k; seat = seat })) × (cost_at r is seat ≡ Some c)
@@ -207,9 +200,6 @@ pub of_router_finds : (n : Network) (r i l c : ℕ) → IsInterface n i r l c �
 of_router_finds n r i l c h = numbers_find (is_of r) n.interfaces i _ h.listed (eq-eqb r r refl)
 
 -- ---- an interface by the name of its link and its address
-
-name_is : (a b : List ℕ) → bytes_eq a b ≡ true → a ≡ b
-name_is a b h = (bytes_eq-Decides a b).0 h
 
 pub name_same : (a : List ℕ) → bytes_eq a a ≡ true
 name_same a = (bytes_eq-Decides a a).1 refl

@@ -3,7 +3,7 @@ use Rattle.std.proofs.Common.{◌≡◌, ◌<◌, ◌≤◌, ◌↔◌, ◌⊎�
 use Rattle.std.specs.Prelude.{option_and_then, unwrap_or, Decides, IfSome, slice_get, Some}
 use Rattle.std.specs.List.{list_any, All}
 use Rattle.std.specs.Option.{is_some, option_map_or}
-use Rattle.std.proofs.lemmas.Bool.{cases_Bool, or_cases, or_left, or_parts, or_right}
+use Rattle.std.proofs.lemmas.Bool.{or_cases, or_left, or_right}
 use Rattle.std.proofs.lemmas.Option.{none-some, slice_get_within, slice_get-get_or}
 use Rattle.rip_plan.proofs.ItemLemmas.{cases_option}
 use Rattle.rip_wire.specs.Prefix.{Block}
@@ -12,7 +12,7 @@ use Rattle.rip_plan.specs.declared.parts.Place.{Place}
 use Rattle.rip_plan.specs.declared.parts.Seat.{Seat}
 use Rattle.rip_plan.specs.declared.parts.Seat.TheVariants as seats
 use Rattle.rip_plan.specs.Seats.{gateway_of, is_kept, link_of}
-use Rattle.rip_plan.specs.Network.{Network, is_owned, own_seat, direct_at, first_carrying, found_at, number_of_prefix}
+use Rattle.rip_plan.specs.Network.{Network, own_seat, direct_at, first_carrying, found_at, number_of_prefix}
 use Rattle.rip_plan.specs.Relations.{IsAt, IsAttached, IsGateway, IsKept, IsOwnWith, IsPrefix, IsDirect, Touches, Carries, IsLawful}
 use Rattle.rip_plan.proofs.LookupLemmas.{interface_of, prefix_of_number, number_of_planned, HasOwnSeat, own_says, own_gives, own_finds, direct_gives, direct_finds, carrier_gives, carrier_finds, found_gives, found_finds}
 use Rattle.rip_plan.specs.Rows.{IsLinkBelow, IsOwnerBelow}

@@ -1,8 +1,8 @@
 -- The plan of what was read: its parts, the routers that a seat of it touches, and those on a link.
-use Rattle.std.proofs.Common.{◌≡◌, ℕ, inl, inr, List, true, false, ◌&&◌, Some, refl, sym, ◌∙◌, ap, arith}
+use Rattle.std.proofs.Common.{◌≡◌, ℕ, inl, inr, List, true, ◌&&◌, Some, refl, sym, ◌∙◌, arith}
 use Rattle.std.specs.Prelude.{slice_get, ◌==◌}
 use Rattle.std.specs.List.{list_any}
-use Rattle.std.proofs.lemmas.Bool.{and_parts, eqb-true, or_cases}
+use Rattle.std.proofs.lemmas.Bool.{and_parts, eqb-true}
 use Rattle.std.proofs.lemmas.Bool.Decides.{nat_tests}
 use Rattle.rip_plan.specs.declared.draft.DraftInterface.{DraftInterface}
 use Rattle.rip_plan.specs.declared.draft.DraftPlace.{DraftPlace}

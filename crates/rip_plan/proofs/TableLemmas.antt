@@ -13,7 +13,7 @@ use Rattle.std.proofs.lemmas.Bool.{and_parts}
 use Rattle.rip_plan.proofs.ItemLemmas.{cases_option}
 use Rattle.rip_plan.proofs.MatchingLemmas.{matched_right, matched_weaker}
 use Rattle.rip_plan.proofs.TextLemmas.{TextLaws, address_is, first_named}
-use Rattle.rip_plan.specs.Texts.{IsAddressText, IsNoAddress}
+use Rattle.rip_plan.specs.Texts.{IsNoAddress}
 
 pub then_some : {A B : Type 0} (o : Option A) (f : A → Option B) (y : B) → (o &> f) ≡ Some y → (x : A) × (o ≡ Some x) × (f x ≡ Some y)
 then_some o f y h = grind arith

@@ -1,4 +1,4 @@
-use Rattle.std.proofs.Common.{◌<◌, ℕ, arith, Vec, Global}
+use Rattle.std.proofs.Common.{ℕ, arith, Vec, Global}
 use Rattle.rip_plan.specs.declared.parts.Interface.{Interface}
 use Rattle.rip_plan.proofs.BelowLemmas.{grouped_more, kept_within}
 use Rattle.rip_plan.proofs.index.all_on.Goals as goal

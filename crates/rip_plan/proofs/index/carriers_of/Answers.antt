@@ -1,14 +1,9 @@
-use Rattle.std.proofs.Common.{◌≡◌, ◌+◌, ◌*◌, ◌<◌, ◌&&◌, ℕ, Bool, Vec, Global, length, cond, take, arith, refl, sym, ◌∙◌, ap, length-set, true, false}
-use Rattle.std.proofs.Math.ListN.{set}
-use Rattle.std.specs.Prelude.{◌==◌}
-use Rattle.std.specs.List.{list_any}
+use Rattle.std.proofs.Common.{◌<◌, ℕ, arith, length-set}
 use Rattle.std.proofs.lemmas.List.{take_all}
 use Rattle.std.proofs.lemmas.Nat.{mul-add-lt}
-use Rattle.rip_plan.specs.declared.parts.Seat.{Seat}
 use Rattle.rip_plan.specs.declared.parts.Seat.TheVariants.{Link}
-use Rattle.rip_plan.specs.Seats as seated
 use Rattle.rip_plan.specs.Network.{is_carrying}
-use Rattle.rip_plan.specs.Rows.{IsLinkBelow, flag}
+use Rattle.rip_plan.specs.Rows.{IsLinkBelow}
 use Rattle.rip_plan.proofs.CellLemmas.{cell_set}
 use Rattle.rip_plan.proofs.ClashLemmas.{seen_more}
 use Rattle.rip_plan.proofs.ItemLemmas.{any_found}

@@ -1,7 +1,4 @@
-use Rattle.std.proofs.Common.{◌≡◌, ◌-◌, ◌∷◌, arith, refl, cond, drop, ap, sym, Some, ◌∙◌}
-use Rattle.std.specs.HashMap.{get}
-use Rattle.rip_plan.specs.Addresses.{holder_at, is_at}
-use Rattle.rip_plan.specs.Network.{pair_eq}
+use Rattle.std.proofs.Common.{arith}
 use Rattle.rip_plan.proofs.BackLemmas.{back_is}
 use Rattle.rip_plan.proofs.index.numbers_of_addresses.Goals as goal
 

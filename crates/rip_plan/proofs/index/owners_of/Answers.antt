@@ -1,11 +1,8 @@
-use Rattle.std.proofs.Common.{◌≡◌, ◌+◌, ◌-◌, ◌*◌, ◌<◌, ◌&&◌, ℕ, Bool, Option, Some, None, length, cond, arith, sym, ◌∙◌, ap, length-set}
-use Rattle.std.specs.Prelude.{◌==◌}
+use Rattle.std.proofs.Common.{◌-◌, ◌<◌, arith, length-set}
 use Rattle.std.proofs.lemmas.Nat.{mul-add-lt}
-use Rattle.rip_plan.specs.declared.parts.Seat.{Seat}
 use Rattle.rip_plan.specs.declared.parts.Seat.TheVariants.{Own}
 use Rattle.rip_plan.specs.Network.{is_owned}
-use Rattle.rip_plan.specs.Rows.{IsOwnerBelow, owner_cell}
-use Rattle.rip_plan.specs.Seats as seated
+use Rattle.rip_plan.specs.Rows.{IsOwnerBelow}
 use Rattle.rip_plan.proofs.BackLemmas.{first_back}
 use Rattle.rip_plan.proofs.CellLemmas.{cell_set}
 use Rattle.rip_plan.proofs.index.owners_of.Goals as goal

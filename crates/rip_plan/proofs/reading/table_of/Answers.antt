@@ -1,9 +1,5 @@
-use Rattle.std.proofs.Common.{arith, ◌≡◌, true, inl, inr, sym, Some}
-use Rattle.std.specs.Str.{is_utf8}
+use Rattle.std.proofs.Common.{arith}
 use Rattle.std.proofs.lemmas.Str.{is_utf8-from_IsUtf8, IsUtf8-from_is_utf8}
-use Rattle.std.proofs.lemmas.Bool.{cases_Bool}
-use Rattle.toml.specs.View.{table_view}
-use Rattle.toml.specs.Parse.{parse_document}
 use Rattle.rip_plan.proofs.reading.table_of.Goals as goal
 
 pub returns-in-Ok-table_from_str-clause-ok : goal.returns-in-Ok-table_from_str-clause-ok

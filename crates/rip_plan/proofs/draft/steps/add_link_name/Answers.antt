@@ -1,4 +1,4 @@
-use Rattle.std.proofs.Common.{◌≡◌, ◌++◌, ◌∷◌, [], List, length, map, cond, arith, ap, ◌∙◌, refl, Result, string_bytes}
+use Rattle.std.proofs.Common.{◌≡◌, ◌++◌, ◌∷◌, [], List, length, map, cond, arith, ap, ◌∙◌, Result, string_bytes}
 use Rattle.std.specs.Result.{IsOk, is_ok}
 use Rattle.std.proofs.lemmas.List.{length-map, map_push}
 use Rattle.std.proofs.lemmas.Map.Text.{hash_map_updates_text}

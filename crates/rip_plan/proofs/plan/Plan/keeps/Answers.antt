@@ -1,7 +1,5 @@
-use Rattle.std.proofs.Common.{arith, ◌≡◌, false, subst, ap, refl, sym, ◌∙◌}
-use Rattle.std.specs.Option.{option_map_or}
-use Rattle.rip_plan.specs.Network.{Network, own_seat}
-use Rattle.rip_plan.specs.Seats.{is_kept}
+use Rattle.std.proofs.Common.{arith, false, refl}
+use Rattle.rip_plan.specs.Network.{own_seat}
 use Rattle.rip_plan.proofs.PlanAnswerLemmas.{kept_exact, none_kept}
 use Rattle.rip_plan.proofs.plan.Plan.keeps.Goals as goal
 

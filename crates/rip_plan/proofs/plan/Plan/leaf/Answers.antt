@@ -1,7 +1,6 @@
-use Rattle.std.proofs.Common.{arith, ◌≡◌, ℕ, length, ap, sym, ◌∙◌}
+use Rattle.std.proofs.Common.{arith, ◌≡◌, ℕ, length, ap}
 use Rattle.std.specs.Prelude.{◌==◌}
 use Rattle.std.proofs.lemmas.Bool.Decides.{nat_tests}
-use Rattle.std.proofs.lemmas.Bool.{both_ways, eq-eqb, eqb-true, ne_eqb, not-true, not_from_false}
 use Rattle.rip_plan.specs.Network.{numbers_where, is_of}
 use Rattle.rip_plan.proofs.LeafRouterLemmas.{leaf_of_one, one_of_leaf, two_of_other, other_of_two}
 use Rattle.rip_plan.proofs.plan.Plan.leaf.Goals as goal

@@ -1,4 +1,4 @@
-use Rattle.std.proofs.Common.{◌≡◌, ◌<◌, ℕ, length, arith, ◌∙◌, refl, string_bytes, Vec, Global}
+use Rattle.std.proofs.Common.{◌≡◌, arith}
 use Rattle.std.proofs.lemmas.List.{length-map}
 use Rattle.rip_plan.specs.Network.{numbers_where, is_of}
 use Rattle.rip_plan.proofs.BelowLemmas.{kept_at, kept_within}
