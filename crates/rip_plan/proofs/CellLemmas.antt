@@ -25,8 +25,6 @@ cell_set {A} xs w a b r k v d h p q =
 pub written_back : {A : Type 0} (ys xs : List A) (n : ℕ) → n ≡ length xs → length ys ≡ length xs → take n (ys ++ drop (length ys) xs) ≡ ys
 written_back ys xs n e f = take_at ys (drop (length ys) xs) n (omega arith)
 
--- ---- costs as they are written
-
 -- ---- the interfaces on a link by their numbers
 
 here_is : {A : Type 0} (front xs : List A) (x : A) (n : ℕ) → n ≡ length front → slice_get (front ++ x ∷ xs) n ≡ Some x

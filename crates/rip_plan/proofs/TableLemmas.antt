@@ -27,7 +27,6 @@ table_is d ms h = grind arith
 pub text_is : (d : Data) (t : List ℕ) → as_str d ≡ Some t → d ≡ string t
 text_is d t h = grind arith
 
--- an integer that stands there, or the one that is meant where nothing stands
 -- a value that was read, or is none
 pub map_some : {A : Type 0} (o : Option A) (given : Option A) → option_map Some o ≡ Some given → (x : A) × (o ≡ Some x) × (Some x ≡ given)
 map_some o given h = grind arith
@@ -35,6 +34,7 @@ map_some o given h = grind arith
 pub map_none : {A : Type 0} (o : Option A) → ◌≡◌ {A = Option (Option A)} (option_map Some o) None → o ≡ None
 map_none o h = grind arith
 
+-- an integer that stands there, or the one that is meant where nothing stands
 pub cost_is : (o : Option Data) (given : Option ℤ) (c : ℕ) → integer_if o ≡ Some given → cost_of given ≡ Some c → (o ≡ Some (integer (pos c))) ⊎ ((o ≡ None) × (c ≡ 1))
 cost_is o given c h e = grind arith
 

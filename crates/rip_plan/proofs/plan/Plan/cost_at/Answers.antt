@@ -3,7 +3,6 @@ use Rattle.std.proofs.lemmas.Nat.{mul-add-lt}
 use Rattle.std.proofs.lemmas.List.{length-map}
 use Rattle.rip_plan.proofs.PlanAnswerLemmas.{direct_past, direct_zero}
 use Rattle.rip_plan.proofs.plan.Plan.cost_at.Goals as goal
-use Rattle.rip_plan.proofs.plan.Plan.cost_at.Goals.{then-len-router-via-then-len-router, then-len-router-via-else-len-router+then-len-prefix}
 
 pub returns-then-len-router : goal.returns-then-len-router
 returns-then-len-router c = grind (arith, length-map, direct_past)

@@ -25,4 +25,4 @@ returns-in-Some c =
     λ r l cost is. grind (arith, decided c.args.self.now c.lawful.ensures c.args.i l c.args.address (Some c.in-Some.number), link_is c.args.self.now c.args.i r l cost c.interface-link.result is)
 
 pub returns-in-None : goal.returns-in-None
-returns-in-None c = λ r l cost is. grind (arith, decided c.args.self.now c.lawful.ensures c.args.i l c.args.address (None), link_is c.args.self.now c.args.i r l cost c.interface-link.result is)
+returns-in-None c = λ r l cost is. grind (arith, decided c.args.self.now c.lawful.ensures c.args.i l c.args.address None, link_is c.args.self.now c.args.i r l cost c.interface-link.result is)

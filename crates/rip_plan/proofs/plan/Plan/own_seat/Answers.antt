@@ -7,7 +7,6 @@ use Rattle.rip_plan.specs.Rows.{AreOwners}
 use Rattle.rip_plan.proofs.LookupLemmas.{at_first, find_at, find_past}
 use Rattle.rip_plan.proofs.PlanAnswerLemmas.{own_past}
 use Rattle.rip_plan.proofs.plan.Plan.own_seat.Goals as goal
-use Rattle.rip_plan.proofs.plan.Plan.own_seat.Goals.{then-len-router-via-then-len-router, then-len-router-via-else-len-router+then-len-prefix}
 
 -- the number that the rows have for a router and a prefix
 number_at : (cells : List (Option ℕ)) (places : List Place) (rows w r k row : ℕ) (o : Option ℕ) → AreOwners w places cells → length cells ≡ rows * w → r < rows → k < w → row ≡ w
