@@ -2,7 +2,7 @@
 use Rattle.std.proofs.Common.{◌≡◌, ℕ, zero, suc, ◌+◌, ◌<◌, ◌≤◌, ◌⊎◌, inl, inr, List, [], ◌∷◌, ◌++◌, length, length-append, Some, refl, sym, ap, ◌∙◌, arith}
 use Rattle.std.specs.Prelude.{slice_get}
 use Rattle.std.proofs.lemmas.Bool.{cases_order}
-use Rattle.std.proofs.lemmas.Option.{none-some, same_Some, slice_get_within}
+use Rattle.std.proofs.lemmas.Option.{none-some, slice_get_within}
 use Rattle.rip_plan.proofs.ItemLemmas.{get_left, get_past, get_split}
 
 -- the lists of the items, which are counted from n
@@ -29,24 +29,17 @@ from_flat : {A B : Type 0} (f : ℕ → A → List B) (n : ℕ) (xs : List A) (k
 from_flat f n [] k b h = absurd (none-some b h)
 from_flat f n (x ∷ xs) k b h =
     elim (get_split (f n x) (flat f (n + 1) xs) k b h) [
-      | inl e ↦ let number : n + 0 ≡ n = omega arith in record { i = zero; x = x; at = refl; j = k; of = rw number e.0; number = omega arith }
+      | inl e ↦ record { i = zero; x = x; at = refl; j = k; of = grind arith; number = omega arith }
       | inr e ↦
           let u = from_flat f (n + 1) xs e.0 b e.2 in
-          let number : n + suc u.i ≡ n + 1 + u.i = omega arith in
-          record { i = suc u.i; x = u.x; at = u.at; j = u.j; of = rw number u.of; number = omega (arith, e.1, u.number) }
+          record { i = suc u.i; x = u.x; at = u.at; j = u.j; of = grind arith; number = omega (arith, e.1, u.number) }
     ]
 
 to_flat : {A B : Type 0} (f : ℕ → A → List B) (n : ℕ) (xs : List A) (i j : ℕ) (x : A) (b : B) → slice_get xs i ≡ Some x → slice_get (f (n + i) x) j ≡ Some b
     → (k : ℕ) → k ≡ count_ahead f n xs i + j → slice_get (flat f n xs) k ≡ Some b
 to_flat f n [] i j x b h of k e = absurd (none-some x h)
-to_flat f n (y ∷ xs) zero j x b h of k e =
-    let number : n + 0 ≡ n = omega arith in
-    let same : k ≡ j = omega arith in
-    rw (same, same_Some y x h) (get_left (f n x) (flat f (n + 1) xs) j b (rw number at of))
-to_flat f n (y ∷ xs) (suc i) j x b h of k e =
-    let number : n + suc i ≡ n + 1 + i = omega arith in
-    let later = count_ahead f (n + 1) xs i + j in
-    get_past (f n y) (flat f (n + 1) xs) later k (omega arith) ∙ to_flat f (n + 1) xs i j x b h (rw number at of) later refl
+to_flat f n (y ∷ xs) zero j x b h of k e = grind (arith, get_left)
+to_flat f n (y ∷ xs) (suc i) j x b h of k e = grind (arith, get_past (f n y) (flat f (n + 1) xs) (count_ahead f (n + 1) xs i + j) k, to_flat f (n + 1) xs i j x b h)
 
 -- the same of a list that is equal to it
 pub is_in : {A B : Type 0} (f : ℕ → A → List B) (n : ℕ) (xs : List A) (l : List B) → l ≡ flat f n xs → (k : ℕ) (b : B) → slice_get l k ≡ Some b → IsIn f n xs k b
@@ -61,13 +54,8 @@ in_flat {A} {B} f n xs l e i j x b h of k number = ap (λ (m : List B). slice_ge
 ahead_next : {A B : Type 0} (f : ℕ → A → List B) (n : ℕ) (xs : List A) (i m : ℕ) (x : A) → slice_get xs i ≡ Some x → i < m → count_ahead f n xs i + length (f (n + i) x) ≤ count_ahead f n xs m
 ahead_next f n [] i m x h less = absurd (none-some x h)
 ahead_next f n (y ∷ xs) i zero x h less = absurd (omega arith)
-ahead_next f n (y ∷ xs) zero (suc m) x h less =
-    let number : n + 0 ≡ n = omega arith in
-    rw (number, ← same_Some y x h) (omega arith)
-ahead_next f n (y ∷ xs) (suc i) (suc m) x h less =
-    let number : n + suc i ≡ n + 1 + i = omega arith in
-    let later = ahead_next f (n + 1) xs i m x h (omega arith) in
-    rw number (omega arith)
+ahead_next f n (y ∷ xs) zero (suc m) x h less = grind arith
+ahead_next f n (y ∷ xs) (suc i) (suc m) x h less = grind (arith, ahead_next f (n + 1) xs i m x h (omega arith))
 
 pub in_order : {A B : Type 0} (f : ℕ → A → List B) (n : ℕ) (xs : List A) (k m : ℕ) (a b : B) (u : IsIn f n xs k a) (v : IsIn f n xs m b) → k < m → (u.i < v.i) ⊎ ((u.i ≡ v.i) × (u.j < v.j))
 in_order f n xs k m a b u v less =
@@ -88,8 +76,7 @@ same_ahead f g same n m (x ∷ xs) (suc i) = omega (arith, same n m x, same_ahea
 pub same_length : {A B C : Type 0} (f : ℕ → A → List B) (g : ℕ → A → List C) → ((i j : ℕ) (x : A) → length (f i x) ≡ length (g j x)) → (n m : ℕ) (xs : List A)
     → length (flat f n xs) ≡ length (flat g m xs)
 same_length f g same n m [] = refl
-same_length f g same n m (x ∷ xs) =
-    omega (arith, same n m x, same_length f g same (n + 1) (m + 1) xs, length-append (f n x) (flat f (n + 1) xs), length-append (g m x) (flat g (m + 1) xs))
+same_length f g same n m (x ∷ xs) = grind (arith, length-append, same_length f g same (n + 1) (m + 1) xs)
 
 pub ahead_front : {A B : Type 0} (f : ℕ → A → List B) (n : ℕ) (done : List A) (d : A) (rest : List A) → count_ahead f n (done ++ d ∷ rest) (length done) ≡ length (flat f n done)
 ahead_front f n [] d rest = refl

@@ -32,14 +32,8 @@ pub distinct_at : {A : Type 0} (clash : A → A → Bool) (xs : List A) (i j : �
 unfolding IsDistinct
 distinct_at clash [] i j x y d h k e f = absurd (none-some x h)
 distinct_at clash (z ∷ zs) zero zero x y d h k e f = refl
-distinct_at clash (z ∷ zs) zero (suc j) x y d h k e f =
-    let apart : clash z y ≡ false = all_at (λ w. clash z w ≡ false) zs j y d.0 k in
-    let same : z ≡ x = same_Some z x h in
-    absurd cc
-distinct_at clash (z ∷ zs) (suc i) zero x y d h k e f =
-    let apart : clash z x ≡ false = all_at (λ w. clash z w ≡ false) zs i x d.0 h in
-    let same : z ≡ y = same_Some z y k in
-    absurd cc
+distinct_at clash (z ∷ zs) zero (suc j) x y d h k e f = grind (arith, all_at)
+distinct_at clash (z ∷ zs) (suc i) zero x y d h k e f = grind (arith, all_at)
 distinct_at clash (z ∷ zs) (suc i) (suc j) x y d h k e f = let same : i ≡ j = distinct_at clash zs i j x y d.1 h k e f in omega arith
 
 -- ---- one more item
@@ -63,11 +57,7 @@ pub get_split : {A : Type 0} (xs ys : List A) (k : ℕ) (a : A) → slice_get (x
     → ((slice_get xs k ≡ Some a) × (k < length xs)) ⊎ ((m : ℕ) × (k ≡ length xs + m) × (slice_get ys m ≡ Some a))
 get_split [] ys k a h = inr (k, omega arith, h)
 get_split (x ∷ xs) ys zero a h = inl (h, omega arith)
-get_split (x ∷ xs) ys (suc k) a h =
-    elim (get_split xs ys k a h) [
-      | inl e ↦ let less : k < length xs = e.1 in inl (e.0, omega arith)
-      | inr e ↦ let same : k ≡ length xs + e.0 = e.1 in inr (e.0, omega arith, e.2)
-    ]
+get_split (x ∷ xs) ys (suc k) a h = grind (arith, get_split xs ys k a h)
 
 pub get_last : {A : Type 0} (xs : List A) (x : A) → slice_get (xs ++ x ∷ []) (length xs) ≡ Some x
 get_last xs x = get_past xs (x ∷ []) 0 (length xs) (omega arith)
@@ -101,11 +91,7 @@ position_finds test n (x ∷ xs) k h =
 pub position_first : {A : Type 0} (test : A → Bool) (n : ℕ) (xs : List A) (k : ℕ) → position_from test n xs ≡ Some k → (i : ℕ) (x : A) → slice_get xs i ≡ Some x → test x ≡ true → k ≤ n + i
 position_first test n [] k h i x at passes = absurd (none-some k h)
 position_first test n (x ∷ xs) k h zero y at passes = let here : test x ≡ true = ap test (same_Some x y at) ∙ passes in let same : n ≡ k = same_Some n k (rw here at h) in omega arith
-position_first test n (x ∷ xs) k h (suc i) y at passes =
-    elim (cases_Bool (test x)) [
-      | inl e ↦ let same : n ≡ k = same_Some n k (rw e at h) in omega arith
-      | inr e ↦ omega (arith, position_first test (n + 1) xs k (rw e at h) i y at passes)
-    ]
+position_first test n (x ∷ xs) k h (suc i) y at passes = grind (arith, position_first test (n + 1) xs k)
 
 pub position_none : {A : Type 0} (test : A → Bool) (n : ℕ) (xs : List A) → position_from test n xs ≡ None → list_any test xs ≡ false
 position_none test n [] h = refl

@@ -6,14 +6,13 @@ use Rattle.std.proofs.lemmas.Bool.{and_parts, cases_lt, both_ways, cases_Bool, e
 use Rattle.std.proofs.lemmas.Bool.Decides.{nat_tests}
 use Rattle.std.proofs.lemmas.Option.{same_Some, slice_get_within}
 use Rattle.toml.specs.Data.{Data, Members, get, string, table}
-use Rattle.rip_wire.specs.Name.{IsName, is_name}
+use Rattle.rip_wire.specs.Name.{IsName}
 use Rattle.rip_wire.specs.Prefix.{Block, IsBlock}
 use Rattle.rip_plan.specs.declared.error.PlanCode.{PlanCode}
 use Rattle.rip_plan.specs.declared.error.PlanCode.TheVariants as codes
 use Rattle.rip_plan.specs.declared.error.PlanError.{PlanError}
 use Rattle.rip_plan.specs.declared.error.At.{At}
 use Rattle.rip_plan.specs.declared.error.At.TheVariants.{Text, Link, LinkPrefix, Router, RouterInterface, RouterOwn}
-use Rattle.rip_plan.specs.declared.parts.Interface.{Interface}
 use Rattle.rip_plan.specs.declared.parts.OwnPrefix.{OwnPrefix}
 use Rattle.rip_plan.specs.declared.parts.Seat.{Seat}
 use Rattle.rip_plan.specs.declared.parts.Seat.TheVariants as seats
@@ -25,7 +24,7 @@ use Rattle.rip_plan.specs.Network.{Network, cost_on, is_of, network_of_sketch}
 use Rattle.rip_plan.specs.Passes.{same_prefix}
 use Rattle.rip_plan.specs.Seats.{is_on}
 use Rattle.rip_plan.specs.PlanFaults.{AreTwice, DoMeet, HasTables, HasWrongCost, HasWrongDirect, HaveOneAddress, IsAstray, IsClash, IsFault, IsMisnamed, IsText, TableFault, also_spots, interface_spots, pass_of, place_spots}
-use Rattle.rip_plan.specs.PlanOf.{AreAlsoOf, HasItems, IsAddressOf, IsCostOf, IsDirectOf, IsGatewayOf, IsInterfaceOf, IsNameOf, IsOnLink, IsOwned, IsPlaceOf, IsPlanOfText, Matched, Placement, PlanOf, each_once, items_in, items_under}
+use Rattle.rip_plan.specs.PlanOf.{AreAlsoOf, HasItems, IsAddressOf, IsCostOf, IsDirectOf, IsInterfaceOf, IsNameOf, IsPlaceOf, IsPlanOfText, Matched, Placement, PlanOf, each_once, items_in, items_under}
 use Rattle.rip_plan.specs.PlanText.{sketch_of}
 use Rattle.rip_plan.specs.Relations.{Carries, HasAddress, HasAddresses, HasOwnAddress, IsAttached, IsConnected, IsEachOnce, IsGateway, IsInside, IsInterface, IsLawful, IsOn, IsOwnAt, IsPlace, IsPrefix}
 use Rattle.rip_plan.proofs.DocumentTableLemmas.{by_root}
@@ -47,10 +46,7 @@ names_good : (laws : TextLaws) (names : List (List ℕ)) (ds : List Data) → Ma
     → IsName name
 names_good laws names ds named none k name h =
     let (d, at, its) = matched_left IsNameOf names ds k name named h in
-    elim (cases_Bool (is_name name)) [
-      | inl e ↦ (laws.name name).0 e
-      | inr e ↦ absurd (none (suc k) (d, name, at, its, λ good. both_ways (is_name name) e ((laws.name name).1 good)))
-    ]
+    grind (arith, laws.name name, none (suc k))
 
 -- ---- costs
 
@@ -87,8 +83,7 @@ module _ (laws : TextLaws) (bytes : List ℕ) (document : Members) (n : Network)
   its_spot : (k : ℕ) → k < length n.interfaces → (r j : ℕ) × (slice_get (interface_spots plan.routers) k ≡ Some (RouterInterface r j))
   its_spot k within =
       let (a, at) = get_some (interface_spots plan.routers) k (omega (arith, interfaces_count document n plan)) in
-      let s = interface_spot plan.routers k a at in
-      (1 + s.n, suc s.j, at ∙ ap (λ (x : At). Some x) s.is)
+      grind (arith, interface_spot plan.routers k a at)
 
   -- two interfaces that clash where none does are one
   one_of : (c : PlanCode) (Clash : Network → ℕ → ℕ → Type 0)
@@ -111,15 +106,12 @@ module _ (laws : TextLaws) (bytes : List ℕ) (document : Members) (n : Network)
       (λ bad. not codes.Cost (RouterInterface (suc t.r) (suc t.j)) (t.x, t.item, inr bad)))
 
   direct_most : (i r l c d : ℕ) → IsInterface n i r l c → IsConnected n i r l d → d ≤ c
-  direct_most i r l c d h k =
-      let cost : k.interface.cost ≡ c = ap (λ (v : Interface). v.cost) (same_Some _ _ (sym k.listed ∙ h.listed)) ∙ h.cost in
-      let good = directs_good i r l d k in
-      omega (arith, good.1)
+  direct_most i r l c d h k = grind (arith, directs_good i r l d k)
 
   router_known : (i r l c : ℕ) → IsInterface n i r l c → r < length n.routers
   router_known i r l c h =
       let t = interface_table document n plan i h.interface h.listed in
-      omega (arith, t.of.router, h.router, slice_get_within plan.routers t.r t.item.0 t.item.1, matched_length IsNameOf n.routers plan.routers plan.router_names)
+      grind (arith, slice_get_within plan.routers t.r t.item.0 t.item.1, matched_length IsNameOf n.routers plan.routers plan.router_names)
 
   link_known : (i r l c : ℕ) → IsInterface n i r l c → l < length n.links
   link_known i r l c h =
@@ -224,17 +216,11 @@ module _ (laws : TextLaws) (bytes : List ℕ) (document : Members) (n : Network)
   placed : (p : ℕ) (b : Block) → IsPrefix n p b → IsPlaced b
   placed p b h =
       let blocks = map (λ (q : Placement). q.prefix) (plan.on_links ++ plan.owned) in
-      all_at IsPlaced (each_once blocks) p b
-      (once_kept IsPlaced blocks (all_here IsPlaced blocks (λ k b at. let (q, there, same) = get_seen (λ (q : Placement). q.prefix) (plan.on_links ++ plan.owned) k b at in (k, q, there, same))))
-      (ap (λ (bs : List Block). slice_get bs p) (sym plan.prefixes) ∙ h)
+      let seen = all_here IsPlaced blocks (λ k c at. grind (arith, get_seen (λ (q : Placement). q.prefix) (plan.on_links ++ plan.owned) k c at)) in
+      all_at IsPlaced (each_once blocks) p b (once_kept IsPlaced blocks seen) (rw plan.prefixes at h)
 
   prefix_is : (p : ℕ) (b : Block) → IsPrefix n p b → IsBlock b
-  prefix_is p b h =
-      let (k, q, at, same) = placed p b h in
-      subst IsBlock same (elim (get_split plan.on_links plan.owned k q at) [
-        | inl here ↦ let (x, is, of) = matched_left IsOnLink plan.on_links (items_under (codes_of "prefixes") 0 plan.links) k q plan.link_prefixes here.0 in of.prefix.0
-        | inr there ↦ let (x, is, of) = matched_left (IsOwned n.links) plan.owned (items_under (codes_of "own") 0 plan.routers) there.0 q plan.own_prefixes there.2 in of.prefix.0
-      ])
+  prefix_is p b h = grind (arith, placed, get_split, matched_left)
 
   prefixes_differ : (p q : ℕ) (b : Block) → IsPrefix n p b → IsPrefix n q b → p ≡ q
   prefixes_differ p q b h k =
@@ -260,8 +246,7 @@ module _ (laws : TextLaws) (bytes : List ℕ) (document : Members) (n : Network)
   owner_known : (k p r c : ℕ) → IsOwnAt n k p r c → r < length n.routers
   owner_known k p r c h =
       let t = own_table document n plan k p h.own h.place in
-      let router : r ≡ t.r = sym h.router ∙ ap (λ (o : OwnPrefix). o.router) (sym t.is) ∙ t.of.router in
-      omega (arith, slice_get_within plan.routers t.r t.item.0 t.item.1, matched_length IsNameOf n.routers plan.routers plan.router_names)
+      grind (arith, slice_get_within plan.routers t.r t.item.0 t.item.1, matched_length IsNameOf n.routers plan.routers plan.router_names)
 
   own_costs_good : (k p r c : ℕ) → IsOwnAt n k p r c → (1 ≤ c) × (c ≤ 15)
   own_costs_good k p r c h =
@@ -269,10 +254,7 @@ module _ (laws : TextLaws) (bytes : List ℕ) (document : Members) (n : Network)
       cost_good t.x c (subst (IsCostOf t.x) (ap (λ (o : OwnPrefix). o.cost) t.is ∙ h.says) t.of.cost) (λ bad. not codes.Cost (RouterOwn (suc t.r) (suc t.j)) (t.x, t.item, bad))
 
   gateway_known : (r p a : ℕ) → IsGateway n r p a → a < 2 ^ 32
-  gateway_known r p a (k, h) =
-      let t = own_table document n plan k p h.own h.place in
-      let its : IsGatewayOf t.x (Some a) = subst (IsGatewayOf t.x) (ap (λ (o : OwnPrefix). o.via) t.is ∙ h.says) t.of.via in
-      its.2.0
+  gateway_known r p a (k, h) = grind (arith, (own_table document n plan k p h.own h.place).of.via)
 
   attached_there : (r p l : ℕ) → IsAttached n r p l → IsOn n r l
   attached_there r p l (k, h) =
@@ -303,17 +285,15 @@ module _ (laws : TextLaws) (bytes : List ℕ) (document : Members) (n : Network)
 
   few_interfaces : length (interface_spots plan.routers) ≤ 1024
   few_interfaces =
-      few_spots (interface_spots plan.routers)
-      (λ k a at past.
+      few_spots (interface_spots plan.routers) (λ k a at past.
       let s = interface_spot plan.routers k a at in
-      not codes.Limit (RouterInterface (1 + s.n) (suc s.j)) (inl (k, at ∙ ap (λ (x : At). Some x) s.is, past)))
+      not codes.Limit (RouterInterface (1 + s.n) (suc s.j)) (inl (k, grind arith, past)))
 
   few_also : length (also_spots plan.routers) ≤ 1024
   few_also =
-      few_spots (also_spots plan.routers)
-      (λ k a at past.
+      few_spots (also_spots plan.routers) (λ k a at past.
       let s = also_spot 1 plan.routers k a at in
-      not codes.Limit (RouterInterface (1 + s.n) (suc s.j)) (inr (k, at ∙ ap (λ (x : At). Some x) s.is, past)))
+      not codes.Limit (RouterInterface (1 + s.n) (suc s.j)) (inr (k, grind arith, past)))
 
   few_places : length (place_spots plan.links plan.routers) ≤ 1024
   few_places =

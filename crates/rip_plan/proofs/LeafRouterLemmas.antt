@@ -1,7 +1,7 @@
 -- A router with one interface, and one with more.
-use Rattle.std.proofs.Common.{◌≡◌, ◌≢◌, ℕ, ◌<◌, ◌≤◌, inl, inr, List, length, get_or, Some, sym, ◌∙◌, ap, arith}
+use Rattle.std.proofs.Common.{◌≡◌, ◌≢◌, ℕ, ◌<◌, ◌≤◌, inl, inr, List, length, get_or, Some, arith}
 use Rattle.std.specs.Prelude.{slice_get}
-use Rattle.std.proofs.lemmas.Option.{same_Some, slice_get_within, get_or_from_slice_get}
+use Rattle.std.proofs.lemmas.Option.{slice_get_within, get_or_from_slice_get}
 use Rattle.std.proofs.lemmas.Bool.{cases_lt}
 use Rattle.rip_plan.specs.Network.{Network, is_of, numbers_where}
 use Rattle.rip_plan.specs.Relations.{IsInterface, IsLeaf, HasTwoInterfaces, IsLawful}
@@ -39,18 +39,11 @@ some_of n r i l c h =
 pub leaf_of_one : (n : Network) (r : ℕ) → length (numbers_of n r) ≡ 1 → (i l c : ℕ) × IsLeaf n r i l c
 leaf_of_one n r one =
     let (i, at) = get_some (numbers_of n r) 0 (omega arith) in
-    let (l, c, has) = interface_at n r 0 i at in (
-      i,
-      l,
-      c,
-      record {
-        has = has;
-        only = λ j k d h.
-            let (m, there) = at_contains (numbers_of n r) j (of_router_finds n r j k d h) in
-            let first : m ≡ 0 = omega (arith, slice_get_within (numbers_of n r) m j there) in
-            same_Some j i (sym there ∙ ap (slice_get (numbers_of n r)) first ∙ at);
-      },
-    )
+    let (l, c, has) = interface_at n r 0 i at in
+    let only : (j k d : ℕ) → IsInterface n j r k d → j ≡ i = λ j k d h.
+    let (m, there) = at_contains (numbers_of n r) j (of_router_finds n r j k d h) in
+    grind (arith, slice_get_within (numbers_of n r) m j there) in
+    (i, l, c, record { has = has; only = only })
 
 pub one_of_leaf : (n : Network) (r i l c : ℕ) → IsLeaf n r i l c → length (numbers_of n r) ≡ 1
 one_of_leaf n r i l c leaf =
@@ -75,5 +68,4 @@ pub other_of_two : (n : Network) (r : ℕ) → HasTwoInterfaces n r → length (
 other_of_two n r (i, j, l, k, c, d, one, other, apart) h =
     let (a, at) = at_contains (numbers_of n r) i (of_router_finds n r i l c one) in
     let (b, there) = at_contains (numbers_of n r) j (of_router_finds n r j k d other) in
-    let first : a ≡ b = omega (arith, slice_get_within (numbers_of n r) a i at, slice_get_within (numbers_of n r) b j there) in
-    apart (same_Some i j (sym at ∙ ap (slice_get (numbers_of n r)) first ∙ there))
+    grind (arith, slice_get_within (numbers_of n r) a i at, slice_get_within (numbers_of n r) b j there)

@@ -1,12 +1,12 @@
 -- What the look-ups of a lawful plan find, in the words of its relations.
 use Rattle.rip_plan.proofs.ClashLemmas.{find_gives, find_none}
 use Rattle.std.proofs.Common.{◌≡◌, ℕ, zero, suc, ◌+◌, ◌⊎◌, inl, inr, List, [], ◌∷◌, Bool, true, ◌&&◌, Option, Some, None, refl, sym, ◌∙◌, ap, subst, arith}
-use Rattle.std.proofs.lemmas.Bool.{and_parts, both_ways, cases_Bool, eq-eqb, eqb-true}
+use Rattle.std.proofs.lemmas.Bool.{cases_Bool, eq-eqb, eqb-true}
 use Rattle.std.specs.Prelude.{slice_get, ◌==◌, find}
 use Rattle.std.specs.Option.{option_or}
 use Rattle.std.specs.List.{Contains, position_from}
 use Rattle.std.specs.Str.{bytes_eq}
-use Rattle.std.proofs.lemmas.Option.{cond_some, none-some, same_Some}
+use Rattle.std.proofs.lemmas.Option.{none-some, same_Some}
 use Rattle.std.proofs.lemmas.Bool.Decides.{nat_tests}
 use Rattle.std.proofs.lemmas.Slice.Eq.{bytes_eq-Decides}
 use Rattle.rip_wire.specs.Prefix.{Block}
@@ -17,7 +17,6 @@ use Rattle.rip_plan.specs.declared.parts.Seat.{Seat}
 use Rattle.rip_plan.specs.declared.parts.Seat.TheVariants as seats
 use Rattle.rip_plan.specs.Seats as seated
 use Rattle.rip_plan.specs.Passes.{same_prefix}
-use Rattle.rip_plan.specs.Names.{number_of_name}
 use Rattle.rip_plan.specs.Addresses.{holder_at}
 use Rattle.rip_plan.specs.Network.{Network, addresses_of, number_of_prefix, found_at, is_on, is_of, numbers_where, is_carrying, first_carrying, is_owned, own_seat, cost_on, cost_at, direct_at}
 use Rattle.rip_plan.specs.Relations.{IsPrefix, IsInterface, IsConnected, HasAddress, IsAt, IsPlace, IsOwnWith, Carries, Touches, IsDirect, IsLawful}
@@ -28,32 +27,20 @@ use Rattle.rip_plan.proofs.BelowLemmas.{contains_at, at_contains, number_passes,
 
 -- where an item passes, the first that passes is found
 pub at_first : {A : Type 0} (test : A → Bool) (xs : List A) (k : ℕ) → position_from test 0 xs ≡ Some k → (y : A) × (slice_get xs k ≡ Some y) × (test y ≡ true)
-at_first test xs k e =
-    let (j, y, at, is, passes) = position_finds test 0 xs k e in
-    let same : k ≡ j = omega arith in
-    (y, ap (slice_get xs) same ∙ is, passes)
+at_first test xs k e = grind (arith, position_finds)
 
 -- where an item passes, the first that passes is found
 found : {A : Type 0} (test : A → Bool) (xs : List A) (i : ℕ) (x : A) → slice_get xs i ≡ Some x → test x ≡ true
     → (k : ℕ) × (y : A) × (position_from test 0 xs ≡ Some k) × (slice_get xs k ≡ Some y) × (test y ≡ true)
-found test xs i x h t =
-    elim (cases_option (position_from test 0 xs)) [
-      | inl e ↦ absurd (both_ways (test x) (none_at test xs i x (position_none test 0 xs e) h) t)
-      | inr (k, e) ↦ let (y, at, passes) = at_first test xs k e in (k, y, e, at, passes)
-    ]
+found test xs i x h t = grind (arith, at_first test xs, none_at test xs i x, position_none test 0 xs)
 
 -- ---- prefixes
 
 pub prefix_of_number : (n : Network) (p : Block) (k : ℕ) → number_of_prefix p n.prefixes ≡ Some k → IsPrefix n k p
-prefix_of_number n p k h =
-    let (q, at, same) = at_first (same_prefix p) n.prefixes k h in
-    at ∙ ap (λ (b : Block). Some b) (sym (same_is p q same))
+prefix_of_number n p k h = grind (arith, at_first)
 
 pub number_of_planned : (n : Network) → IsLawful n → (p : Block) (k : ℕ) → IsPrefix n k p → number_of_prefix p n.prefixes ≡ Some k
-number_of_planned n laws p k h =
-    let (j, q, e, at, same) = found (same_prefix p) n.prefixes k p h (same_self p) in
-    let one : j ≡ k = laws.prefixes_differ j k p (at ∙ ap (λ (b : Block). Some b) (sym (same_is p q same))) h in
-    e ∙ ap (λ (m : ℕ). Some m) one
+number_of_planned n laws p k h = let (j, q, e, at, same) = found (same_prefix p) n.prefixes k p h (same_self p) in grind (arith, same_is p q same, laws.prefixes_differ j k p)
 
 -- ---- direct costs
 
@@ -65,29 +52,17 @@ pub cost_found : (r l d : ℕ) (is : List Interface) → cost_on r l is ≡ Some
 cost_found r l d [] h = absurd (none-some d h)
 cost_found r l d (x ∷ xs) h =
     elim (cases_Bool (x.router == r && x.link == l)) [
-      | inl e ↦
-          let (router, link) = and_parts (x.router == r) (x.link == l) e in
-          (zero, (x, refl, eqb-true x.router r router, eqb-true x.link l link, same_Some x.direct d (rw e at h)))
+      | inl e ↦ (zero, (x, grind arith))
       | inr e ↦ let (i, found) = cost_found r l d xs (rw e at h) in (suc i, found)
     ]
 
 pub cost_there : (r l i : ℕ) (is : List Interface) (x : Interface) → slice_get is i ≡ Some x → x.router ≡ r → x.link ≡ l → cost_on r l is ≡ None → ⊥
 cost_there r l i [] x h router link e = absurd (none-some x h)
-cost_there r l zero (y ∷ ys) x h router link e =
-    let same : y ≡ x = same_Some y x h in
-    let test : (y.router == r && y.link == l) ≡ true = rw same (grind (arith, nat_tests)) in
-    none-some y.direct (sym (rw test at e))
-cost_there r l (suc i) (y ∷ ys) x h router link e =
-    elim (cases_Bool (y.router == r && y.link == l)) [
-      | inl t ↦ none-some y.direct (sym (rw t at e))
-      | inr t ↦ cost_there r l i ys x h router link (rw t at e)
-    ]
+cost_there r l zero (y ∷ ys) x h router link e = grind arith
+cost_there r l (suc i) (y ∷ ys) x h router link e = grind (arith, cost_there r l i ys x h)
 
 or_parts : {A : Type 0} (o p : Option A) (x : A) → option_or o p ≡ Some x → (o ≡ Some x) ⊎ (p ≡ Some x)
 or_parts o p x h = grind arith
-
-or_none : {A : Type 0} (o p : Option A) → option_or o p ≡ None → (o ≡ None) × (p ≡ None)
-or_none o p h = grind arith
 
 direct_found : (r k c : ℕ) (is : List Interface) (qs : List Place) → direct_at r k is qs ≡ Some c
     → (j : ℕ) × (seat : Seat) × (slice_get qs j ≡ Some (record { prefix = k; seat = seat })) × (cost_at r is seat ≡ Some c)
@@ -104,24 +79,14 @@ direct_found r k c is (q ∷ qs) h =
 
 direct_there : (r k j : ℕ) (seat : Seat) (is : List Interface) (qs : List Place) → slice_get qs j ≡ Some (record { prefix = k; seat = seat }) → direct_at r k is qs ≡ None → cost_at r is seat ≡ None
 direct_there r k j seat is [] h e = absurd (none-some _ h)
-direct_there r k zero seat is (q ∷ qs) h e =
-    let same = same_Some q _ h in
-    let test : (q.prefix == k) ≡ true = rw same (grind (arith, nat_tests)) in
-    let parts = or_none (cost_at r is q.seat) (direct_at r k is qs) (rw test at e) in
-    ap (λ (p : Place). cost_at r is p.seat) (sym same) ∙ parts.0
-direct_there r k (suc j) seat is (q ∷ qs) h e =
-    elim (cases_Bool (q.prefix == k)) [
-      | inl t ↦ direct_there r k j seat is qs h (or_none (cost_at r is q.seat) (direct_at r k is qs) (rw t at e)).1
-      | inr t ↦ direct_there r k j seat is qs h (rw t at e)
-    ]
+direct_there r k zero seat is (q ∷ qs) h e = grind arith
+direct_there r k (suc j) seat is (q ∷ qs) h e = grind (arith, direct_there r k j seat is qs h)
 
 cost_touches : (n : Network) (j k r c : ℕ) (seat : Seat) → IsPlace n j k seat → cost_at r n.interfaces seat ≡ Some c → Touches n j k r c
 cost_touches n j k r c (seats.Link l) place h =
     let (i, (x, at, router, link, direct)) = cost_found r l c n.interfaces h in
     inl (l, place, (i, record { interface = x; listed = at; router = router; link = link; direct = direct }))
-cost_touches n j k r c (seats.Own own) place h =
-    let (of, says) = cond_some (own.router == r) own.cost c h in
-    inr (record { own = own; place = place; router = eqb-true own.router r of; says = says })
+cost_touches n j k r c (seats.Own own) place h = grind arith
 
 touch_costs : (n : Network) (j k r c : ℕ) → Touches n j k r c → (seat : Seat) × IsPlace n j k seat × (cost_at r n.interfaces seat ≡ None → ⊥)
 touch_costs n j k r c (inl (l, place, (i, is))) = (seats.Link l, place, λ e. cost_there r l i n.interfaces is.interface is.listed is.router is.link e)
@@ -156,9 +121,7 @@ direct_once n laws r k c d (j, h) (m, h') =
         sym own.says ∙ ap (λ (o : OwnPrefix). o.cost) one ∙ own'.says
 
 pub direct_gives : (n : Network) (r k c : ℕ) → direct_at r k n.interfaces n.places ≡ Some c → IsDirect n r k c
-direct_gives n r k c h =
-    let (j, seat, at, cost) = direct_found r k c n.interfaces n.places h in
-    (j, cost_touches n j k r c seat (record { listed = at }) cost)
+direct_gives n r k c h = grind (arith, direct_found, cost_touches)
 
 pub direct_finds : (n : Network) → IsLawful n → (r k c : ℕ) → IsDirect n r k c → direct_at r k n.interfaces n.places ≡ Some c
 direct_finds n laws r k c h =
@@ -173,36 +136,17 @@ pub on_seat : (l : ℕ) (seat : Seat) → seated.is_on l seat ≡ true → seat 
 on_seat l seat h = grind arith
 
 pub carrier_gives : (n : Network) (l k j : ℕ) → first_carrying l k 0 n.places ≡ Some j → Carries n l k
-carrier_gives n l k j h =
-    let (q, at, passes) = at_first (is_carrying l k) n.places j h in
-    let tests = and_parts (seated.is_on l q.seat) (q.prefix == k) passes in
-    let seat : q.seat ≡ seats.Link l = on_seat l q.seat tests.0 in
-    let prefix : q.prefix ≡ k = grind (arith, nat_tests) in
-    (j, record { listed = at ∙ ap (λ (m : Seat). Some (record q { seat = m })) seat ∙ ap (λ (m : ℕ). Some (record { prefix = m; seat = seats.Link l })) prefix })
+carrier_gives n l k j h = grind (arith, at_first, on_seat)
 
 pub carrier_finds : (n : Network) (l k : ℕ) → Carries n l k → first_carrying l k 0 n.places ≡ None → ⊥
-carrier_finds n l k (j, place) e =
-    let link : (l == l) ≡ true = grind (arith, nat_tests) in
-    let prefix : (k == k) ≡ true = grind (arith, nat_tests) in
-    let (m, q, f, at, passes) = found (is_carrying l k) n.places j (record { prefix = k; seat = seats.Link l }) place.listed (rw (link, prefix) refl) in
-    none-some m (sym e ∙ f)
+carrier_finds n l k (j, place) e = grind (arith, found (is_carrying l k) n.places j (record { prefix = k; seat = seats.Link l }) place.listed, nat_tests)
 
 -- ---- a router's own prefixes
-
-own_owner : (r : ℕ) (seat : Seat) → seated.is_with r seat ≡ true → (own : OwnPrefix) × (seat ≡ seats.Own own) × (own.router ≡ r)
-own_owner r seat h = grind arith
 
 -- the first item that passes stands at the first number that passes
 pub find_at : {A : Type 0} (test : A → Bool) (n : ℕ) (xs : List A) (k i : ℕ) → position_from test n xs ≡ Some k → k ≡ n + i → find test xs ≡ slice_get xs i
 find_at test n [] k i h e = absurd (none-some k h)
-find_at test n (x ∷ xs) k i h e =
-    elim (cases_Bool (test x)) [
-      | inl t ↦ let same : n ≡ k = same_Some n k (rw t at h) in let first : i ≡ 0 = omega arith in rw (t, first) refl
-      | inr t ↦
-          let (m, y, at, is, passes) = position_finds test (n + 1) xs k (rw t at h) in
-          let next : i ≡ suc m = omega (arith, at) in
-          rw (t, next) (find_at test (n + 1) xs k m (rw t at h) at)
-    ]
+find_at test n (x ∷ xs) k i h e = grind (arith, position_finds test (n + 1) xs k, find_at test (n + 1) xs k)
 
 pub find_past : {A : Type 0} (test : A → Bool) (n : ℕ) (xs : List A) → position_from test n xs ≡ None → find test xs ≡ None
 find_past test n [] h = refl
@@ -217,46 +161,27 @@ abbrev pub HasOwnSeat : Network → ℕ → ℕ → Seat → Type 0
 HasOwnSeat n r p seat = (k : ℕ) × IsOwnWith n k p r (λ own. seat ≡ seats.Own own)
 
 pub own_gives : (n : Network) (r p : ℕ) (seat : Seat) → own_seat r p n.places ≡ Some seat → HasOwnSeat n r p seat
-own_gives n r p seat h =
-    elim (cases_option (find (is_owned r p) n.places)) [
-      | inl e ↦ absurd (none-some seat (rw e at h))
-      | inr (q, e) ↦
-          let (k, at, test) = find_gives (is_owned r p) n.places q e in
-          let tests = and_parts (seated.is_with r q.seat) (q.prefix == p) test in
-          let (own, is, router) = own_owner r q.seat tests.0 in
-          let place = at ∙ ap (λ (m : Seat). Some (record q { seat = m })) is ∙ ap (λ (m : ℕ). Some (record { prefix = m; seat = seats.Own own })) (eqb-true q.prefix p tests.1) in
-          (k, record { own = own; place = record { listed = place }; router = router; says = sym (same_Some q.seat seat (rw e at h)) ∙ is })
-    ]
+own_gives n r p seat h = grind (arith, find_gives)
 
 pub own_finds : {Says : OwnPrefix → Type 0} (n : Network) → IsLawful n → (k p r : ℕ) (h : IsOwnWith n k p r Says) → own_seat r p n.places ≡ Some (seats.Own h.own)
 own_finds n laws k p r h =
     elim (cases_option (find (is_owned r p) n.places)) [
-      | inl e ↦
-          let with : (h.own.router == r) ≡ true = grind (arith, nat_tests, h.router) in
-          let its : (p == p) ≡ true = grind (arith, nat_tests) in
-          absurd (find_none (is_owned r p) n.places k (record { prefix = p; seat = seats.Own h.own }) h.place.listed (rw (with, its) refl) e)
+      | inl e ↦ absurd (find_none (is_owned r p) n.places k (record { prefix = p; seat = seats.Own h.own }) h.place.listed (grind (arith, nat_tests, h.router)) e)
       | inr (q, e) ↦
-          let found : own_seat r p n.places ≡ Some q.seat = rw e refl in
-          let (j, has) = own_gives n r p q.seat found in
+          let (j, has) = own_gives n r p q.seat (rw e refl) in
           let same : j ≡ k = laws.touched_once j k p r has.own.cost h.own.cost (inr (own_says has refl)) (inr (own_says h refl)) in
-          let its : IsPlace n k p (seats.Own has.own) = subst (λ (m : ℕ). IsPlace n m p (seats.Own has.own)) same has.place in
-          found ∙ ap (λ (s : Seat). Some s) (has.says ∙ one_seat n k p _ _ its h.place)
+          let its : IsPlace n k p (seats.Own has.own) = rw same at has.place in
+          rw e (ap (λ (s : Seat). Some s) (has.says ∙ one_seat n k p _ _ its h.place))
     ]
 
 -- ---- interfaces on a link and of a router
 
 -- the numbers of the interfaces that pass
 numbers_give : (test : Interface → Bool) (is : List Interface) (i : ℕ) → Contains (numbers_where test 0 is) i → (x : Interface) × (slice_get is i ≡ Some x) × (test x ≡ true)
-numbers_give test is i h =
-    let (k, at) = at_contains (numbers_where test 0 is) i h in
-    let (j, x, e, listed, passes) = number_passes test 0 is k i at in
-    let same : i ≡ j = omega arith in
-    (x, ap (slice_get is) same ∙ listed, passes)
+numbers_give test is i h = let (k, at) = at_contains (numbers_where test 0 is) i h in grind (arith, number_passes test 0 is k i at)
 
 numbers_find : (test : Interface → Bool) (is : List Interface) (i : ℕ) (x : Interface) → slice_get is i ≡ Some x → test x ≡ true → Contains (numbers_where test 0 is) i
-numbers_find test is i x h passes =
-    let (k, at) = passing_number test 0 is i x h passes in
-    contains_at (numbers_where test 0 is) k i (at ∙ ap (λ (m : ℕ). Some m) (omega arith))
+numbers_find test is i x h passes = let (k, at) = passing_number test 0 is i x h passes in grind (arith, contains_at (numbers_where test 0 is) k i)
 
 pub on_link_gives : (n : Network) (l i : ℕ) → Contains (numbers_where (is_on l) 0 n.interfaces) i → (r c : ℕ) × IsInterface n i r l c
 on_link_gives n l i h =
@@ -276,9 +201,6 @@ of_router_finds n r i l c h = numbers_find (is_of r) n.interfaces i h.interface 
 
 -- ---- an interface by the name of its link and its address
 
-name_is : (a b : List ℕ) → bytes_eq a b ≡ true → a ≡ b
-name_is a b h = (bytes_eq-Decides a b).0 h
-
 pub name_same : (a : List ℕ) → bytes_eq a a ≡ true
 name_same a = (bytes_eq-Decides a a).1 refl
 
@@ -291,17 +213,9 @@ holder_finds n laws i l a has =
     ]
 
 pub found_gives : (n : Network) (name : List ℕ) (a i : ℕ) → found_at n name a ≡ Some i → IsAt n name a i
-found_gives n name a i h =
-    elim (cases_option (number_of_name name n.links)) [
-      | inl e ↦ absurd (none-some i (rw e at h))
-      | inr (l, e) ↦
-          let (other, at, same) = at_first (λ m. bytes_eq m name) n.links l e in
-          (l, at ∙ ap (λ (m : List ℕ). Some m) (name_is other name same), holder_gives n i l a (rw e at h))
-    ]
+found_gives n name a i h = grind (arith, at_first (λ m. bytes_eq m name) n.links, bytes_eq-Decides, holder_gives n i)
 
 pub found_finds : (n : Network) → IsLawful n → (name : List ℕ) (a i : ℕ) → IsAt n name a i → found_at n name a ≡ Some i
 found_finds n laws name a i (l, named, here) =
-    let (k, other, e, at, same) = found (λ m. bytes_eq m name) n.links l name named (name_same name) in
-    let link : k ≡ l = laws.link_names_differ k l name (at ∙ ap (λ (m : List ℕ). Some m) (name_is other name same)) named in
-    let value : found_at n name a ≡ holder_at l a (addresses_of n) = rw (e, link) refl in
-    value ∙ holder_finds n laws i l a here
+    let (k, other, e, at, same) = found (λ m. bytes_eq m name) n.links l name named ((bytes_eq-Decides name name).1 refl) in
+    grind (arith, bytes_eq-Decides other name, laws.link_names_differ k l name, holder_finds n laws i l a here)

@@ -1,7 +1,6 @@
 -- Lists that are matched item by item.
-use Rattle.std.proofs.Common.{◌≡◌, ℕ, inl, inr, zero, suc, List, [], ◌∷◌, ◌++◌, length, map, filter, Bool, true, ◌&&◌, Some, refl, ◌∙◌, ap, subst, arith}
+use Rattle.std.proofs.Common.{◌≡◌, ℕ, zero, suc, List, [], ◌∷◌, ◌++◌, length, map, filter, Bool, true, ◌&&◌, Some, refl, ap, subst, arith}
 use Rattle.std.specs.Prelude.{slice_get}
-use Rattle.std.proofs.lemmas.Bool.{cases_Bool}
 use Rattle.std.proofs.lemmas.Option.{none-some, same_Some}
 use Rattle.rip_plan.specs.PlanOf.{Matched}
 
@@ -17,8 +16,7 @@ matched_same R S f [] (y ∷ ys) [] m k = absurd k
 matched_same R S f (x ∷ xs) ys [] m k = absurd m
 matched_same R S f [] ys (z ∷ zs) m k = absurd m
 matched_same R S f (x ∷ xs) [] (z ∷ zs) m k = absurd k
-matched_same {A} R S f (x ∷ xs) (y ∷ ys) (z ∷ zs) m k =
-    ap (λ (w : A). w ∷ xs) (f x y z m.0 k.0) ∙ ap (λ (ws : List A). y ∷ ws) (matched_same R S f xs ys zs m.1 k.1)
+matched_same {A} R S f (x ∷ xs) (y ∷ ys) (z ∷ zs) m k = grind (arith, matched_same R S f xs ys zs m.1 k.1)
 
 pub matched_weaker : {A B : Type 0} (R S : A → B → Type 0) → ((x : A) (y : B) → R x y → S x y) → (xs : List A) (ys : List B) → Matched R xs ys → Matched S xs ys
 matched_weaker R S f [] [] m = tt
@@ -55,11 +53,7 @@ matched_length R xs ys m = absurd m
 
 pub filter_both : {A : Type 0} (p q r : A → Bool) → ((x : A) → r x ≡ (q x && p x)) → (xs : List A) → filter p (filter q xs) ≡ filter r xs
 filter_both p q r f [] = refl
-filter_both {A} p q r f (x ∷ xs) =
-    elim (cases_Bool (q x)) [
-      | inl e ↦ elim (cases_Bool (p x)) [ inl g ↦ rw (f x, e, g) (ap (λ (l : List A). x ∷ l) (filter_both p q r f xs)) | inr g ↦ rw (f x, e, g) (filter_both p q r f xs) ]
-      | inr e ↦ rw (f x, e) (filter_both p q r f xs)
-    ]
+filter_both {A} p q r f (x ∷ xs) = grind (arith, filter_both p q r f xs)
 
 pub filter_all : {A : Type 0} (p : A → Bool) → ((x : A) → p x ≡ true) → (xs : List A) → filter p xs ≡ xs
 filter_all p f [] = refl

@@ -1,16 +1,14 @@
 -- A document has one plan.
-use Rattle.std.proofs.Common.{◌≡◌, ℕ, ◌⊎◌, List, ◌++◌, map, Bool, true, false, Option, Some, None, refl, sym, ◌∙◌, ap, subst, arith}
-use Rattle.std.specs.Prelude.{pos, slice_get, codes as codes_of}
+use Rattle.std.proofs.Common.{◌≡◌, ℕ, ◌⊎◌, List, ◌++◌, map, Bool, true, Option, Some, None, refl, sym, ◌∙◌, ap, subst, arith}
+use Rattle.std.specs.Prelude.{pos, codes as codes_of}
 use Rattle.std.proofs.lemmas.Option.{none-some, same_Some}
 use Rattle.toml.specs.Data.{Data, Members, string, boolean, integer, table, get}
 use Rattle.rip_wire.specs.Prefix.{Block}
 use Rattle.rip_plan.specs.declared.parts.Interface.{Interface}
 use Rattle.rip_plan.specs.declared.parts.Place.{Place}
-use Rattle.rip_plan.specs.declared.parts.Seat.{Seat}
-use Rattle.rip_plan.specs.declared.parts.Seat.TheVariants as seats
 use Rattle.rip_plan.specs.Passes.{same_prefix}
 use Rattle.rip_plan.specs.Network.{Network}
-use Rattle.rip_plan.specs.PlanOf.{Matched, HasText, HasItems, IsAddressOf, AreAlsoOf, IsCostOf, IsDirectOf, IsFlagOf, IsGatewayOf, IsLinkOf, IsNameOf, items_in, items_under, IsInterfaceOf, Placement, IsOnLink, IsOwned, IsPlaceOf, each_once, PlanOf, IsFirstNamed}
+use Rattle.rip_plan.specs.PlanOf.{HasText, HasItems, IsAddressOf, AreAlsoOf, IsCostOf, IsDirectOf, IsFlagOf, IsGatewayOf, IsLinkOf, IsNameOf, items_in, IsInterfaceOf, Placement, IsOnLink, IsOwned, IsPlaceOf, each_once, PlanOf, IsFirstNamed}
 use Rattle.rip_plan.proofs.ItemLemmas.{distinct_at}
 use Rattle.rip_plan.proofs.NumberingLemmas.{once_distinct, same_self}
 use Rattle.rip_plan.proofs.MatchingLemmas.{matched_same}
@@ -51,17 +49,9 @@ gateway_same laws d (Some a) (Some b) h k = let one : h.0 ≡ k.0 = text_same (c
 interface_same : (laws : TextLaws) (names others : List (List ℕ)) → names ≡ others → (b c : Bool) → b ≡ c → (x y : Interface) (at : ℕ × Data) → IsInterfaceOf names b x at
     → IsInterfaceOf others c y at → x ≡ y
 interface_same laws names others same b c root x y at h k =
-    let router : x.router ≡ y.router = h.router ∙ sym k.router in
-    let name : h.link_name ≡ k.link_name = text_same (codes_of "link") at.1 h.link_name k.link_name h.has_link k.has_link in
+    let name = text_same (codes_of "link") at.1 h.link_name k.link_name h.has_link k.has_link in
     let link : x.link ≡ y.link = one_named names h.link_name k.link_name x.link y.link name h.link (subst (λ (ns : List (List ℕ)). IsFirstNamed ns k.link_name y.link) (sym same) k.link) in
-    let text : h.text ≡ k.text = text_same (codes_of "address") at.1 h.text k.text h.has_address k.has_address in
-    let address : x.address ≡ y.address = one_address laws h.text k.text x.address y.address text h.address k.address in
-    let cost : x.cost ≡ y.cost = cost_same at.1 x.cost y.cost h.cost k.cost in
-    let direct : x.direct ≡ y.direct = direct_same at.1 x.cost y.cost cost x.direct y.direct h.direct k.direct in
-    let poison : x.poison ≡ y.poison = flag_same (codes_of "poison") at.1 b c root x.poison y.poison h.poisons k.poisons in
-    let all : x ≡ record { router = y.router; link = y.link; address = y.address; cost = y.cost; direct = y.direct; poison = y.poison } =
-    rw (← router, ← link, ← address, ← cost, ← direct, ← poison) refl in
-    all
+    grind (arith, one_address, text_same, cost_same, direct_same, flag_same)
 
 address_same : (laws : TextLaws) (a b : ℕ) (d : Data) → IsAddressOf a d → IsAddressOf b d → a ≡ b
 address_same laws a b d (t, h, is) (u, k, its) =
@@ -71,63 +61,29 @@ address_same laws a b d (t, h, is) (u, k, its) =
 also_same : (laws : TextLaws) (xs ys : List ℕ) (at : ℕ × Data) → AreAlsoOf xs at → AreAlsoOf ys at → xs ≡ ys
 also_same laws xs ys at h k = matched_same IsAddressOf IsAddressOf (address_same laws) xs ys (items_in (get (codes_of "also") at.1)) h k
 
-placement_same : (x y : Placement) → x.prefix ≡ y.prefix → x.seat ≡ y.seat → x ≡ y
-placement_same x y e f = ap (λ (v : Block). record x { prefix = v }) e ∙ ap (λ (v : Seat). record { prefix = y.prefix; seat = v }) f
-
 on_link_same : (laws : TextLaws) (x y : Placement) (at : ℕ × Data) → IsOnLink x at → IsOnLink y at → x ≡ y
-on_link_same laws x y at h k =
-    let text : h.text ≡ k.text = cc in
-    placement_same x y (one_prefix laws h.text k.text x.prefix y.prefix text h.prefix k.prefix) (h.seat ∙ sym k.seat)
+on_link_same laws x y at h k = grind (arith, one_prefix)
 
 owned_same : (laws : TextLaws) (names others : List (List ℕ)) → names ≡ others → (x y : Placement) (at : ℕ × Data) → IsOwned names x at → IsOwned others y at → x ≡ y
-owned_same laws names others same x y at h k =
-    let text : h.text ≡ k.text = text_same (codes_of "prefix") at.1 h.text k.text h.has_prefix k.has_prefix in
-    let a = h.own in
-    let b = k.own in
-    let router : a.router ≡ b.router = h.router ∙ sym k.router in
-    let cost : a.cost ≡ b.cost = cost_same at.1 a.cost b.cost h.cost k.cost in
-    let kept : a.kept ≡ b.kept = flag_same (codes_of "kept") at.1 false false refl a.kept b.kept h.kept k.kept in
-    let link : a.link ≡ b.link = link_same names others same at.1 a.link b.link h.link k.link in
-    let via : a.via ≡ b.via = gateway_same laws at.1 a.via b.via h.via k.via in
-    let own : a ≡ record { router = b.router; cost = b.cost; kept = b.kept; link = b.link; via = b.via } = rw (← router, ← cost, ← kept, ← link, ← via) refl in
-    placement_same x y (one_prefix laws h.text k.text x.prefix y.prefix text h.prefix k.prefix) (h.seat ∙ ap seats.Own own ∙ sym k.seat)
+owned_same laws names others same x y at h k = grind (arith, text_same, cost_same, flag_same, link_same, gateway_same, one_prefix)
 
 place_same : (n m : Network) (bs : List Block) → n.prefixes ≡ each_once bs → n.prefixes ≡ m.prefixes → (x y : Place) (p : Placement) → IsPlaceOf n x p → IsPlaceOf m y p → x ≡ y
-place_same n m bs once same x y p h k =
-    let here : slice_get (each_once bs) x.prefix ≡ Some p.prefix = ap (λ (ps : List Block). slice_get ps x.prefix) (sym once) ∙ h.prefix in
-    let there : slice_get (each_once bs) y.prefix ≡ Some p.prefix = ap (λ (ps : List Block). slice_get ps y.prefix) (sym once ∙ same) ∙ k.prefix in
-    let number : x.prefix ≡ y.prefix = distinct_at same_prefix (each_once bs) x.prefix y.prefix p.prefix p.prefix (once_distinct bs) here there (same_self p.prefix) (same_self p.prefix) in
-    ap (λ (v : ℕ). record x { prefix = v }) number ∙ ap (λ (v : Seat). record { prefix = y.prefix; seat = v }) (h.seat ∙ sym k.seat)
+place_same n m bs once same x y p h k = grind (arith, distinct_at same_prefix (each_once bs) x.prefix y.prefix p.prefix p.prefix (once_distinct bs), same_self p.prefix)
 
 pub one_plan : (laws : TextLaws) (document : Members) (n m : Network) → PlanOf document n → PlanOf document m → n ≡ m
 one_plan laws document n m p q =
     let link_tables : q.links ≡ p.links = items_same (codes_of "link") (table document) q.links p.links q.has_links p.has_links in
     let router_tables : q.routers ≡ p.routers = items_same (codes_of "router") (table document) q.routers p.routers q.has_routers p.has_routers in
-    let names : n.links ≡ m.links =
-    matched_same IsNameOf IsNameOf (λ x y d h k. text_same (codes_of "name") d x y h k) n.links m.links p.links p.link_names
-    (subst (Matched IsNameOf m.links) link_tables q.link_names) in
-    let others : n.routers ≡ m.routers =
-    matched_same IsNameOf IsNameOf (λ x y d h k. text_same (codes_of "name") d x y h k) n.routers m.routers p.routers p.router_names
-    (subst (Matched IsNameOf m.routers) router_tables q.router_names) in
+    let names : n.links ≡ m.links = matched_same IsNameOf IsNameOf (λ x y d h k. text_same (codes_of "name") d x y h k) _ _ _ p.link_names (rw link_tables at q.link_names) in
+    let others : n.routers ≡ m.routers = matched_same IsNameOf IsNameOf (λ x y d h k. text_same (codes_of "name") d x y h k) _ _ _ p.router_names (rw router_tables at q.router_names) in
     let poison : p.poison ≡ q.poison = flag_same (codes_of "poison") (table document) true true refl p.poison q.poison p.has_poison q.has_poison in
     let interfaces : n.interfaces ≡ m.interfaces =
-    matched_same (IsInterfaceOf n.links p.poison) (IsInterfaceOf m.links q.poison) (interface_same laws n.links m.links names p.poison q.poison poison) n.interfaces m.interfaces
-    (items_under (codes_of "interface") 0 p.routers) p.interfaces
-    (subst (λ (ds : List Data). Matched (IsInterfaceOf m.links q.poison) m.interfaces (items_under (codes_of "interface") 0 ds)) router_tables q.interfaces) in
-    let also : n.also ≡ m.also =
-    matched_same AreAlsoOf AreAlsoOf (also_same laws) n.also m.also (items_under (codes_of "interface") 0 p.routers) p.also
-    (subst (λ (ds : List Data). Matched AreAlsoOf m.also (items_under (codes_of "interface") 0 ds)) router_tables q.also) in
-    let on_links : p.on_links ≡ q.on_links =
-    matched_same IsOnLink IsOnLink (on_link_same laws) p.on_links q.on_links (items_under (codes_of "prefixes") 0 p.links) p.link_prefixes
-    (subst (λ (ds : List Data). Matched IsOnLink q.on_links (items_under (codes_of "prefixes") 0 ds)) link_tables q.link_prefixes) in
-    let owned : p.owned ≡ q.owned =
-    matched_same (IsOwned n.links) (IsOwned m.links) (owned_same laws n.links m.links names) p.owned q.owned (items_under (codes_of "own") 0 p.routers) p.own_prefixes
-    (subst (λ (ds : List Data). Matched (IsOwned m.links) q.owned (items_under (codes_of "own") 0 ds)) router_tables q.own_prefixes) in
+    matched_same _ _ (interface_same laws n.links m.links names p.poison q.poison poison) _ _ _ p.interfaces (rw router_tables at q.interfaces) in
+    let also : n.also ≡ m.also = matched_same AreAlsoOf AreAlsoOf (also_same laws) _ _ _ p.also (rw router_tables at q.also) in
+    let on_links : p.on_links ≡ q.on_links = matched_same IsOnLink IsOnLink (on_link_same laws) _ _ _ p.link_prefixes (rw link_tables at q.link_prefixes) in
+    let owned : p.owned ≡ q.owned = matched_same _ _ (owned_same laws n.links m.links names) _ _ _ p.own_prefixes (rw router_tables at q.own_prefixes) in
     let placements : q.on_links ++ q.owned ≡ p.on_links ++ p.owned = ap (λ (ps : List Placement). ps ++ q.owned) (sym on_links) ∙ ap (λ (ps : List Placement). p.on_links ++ ps) (sym owned) in
     let prefixes : n.prefixes ≡ m.prefixes = p.prefixes ∙ ap (λ (ps : List Placement). each_once (map (λ (x : Placement). x.prefix) ps)) (sym placements) ∙ sym q.prefixes in
     let places : n.places ≡ m.places =
-    matched_same (IsPlaceOf n) (IsPlaceOf m) (place_same n m (map (λ (x : Placement). x.prefix) (p.on_links ++ p.owned)) p.prefixes prefixes) n.places m.places (p.on_links ++ p.owned) p.places
-    (subst (Matched (IsPlaceOf m) m.places) placements q.places) in
-    let all : n ≡ record { links = m.links; routers = m.routers; interfaces = m.interfaces; also = m.also; prefixes = m.prefixes; places = m.places } =
-    rw (← names, ← others, ← interfaces, ← also, ← prefixes, ← places) refl in
-    all
+    matched_same _ _ (place_same n m (map (λ (x : Placement). x.prefix) (p.on_links ++ p.owned)) p.prefixes prefixes) _ _ _ p.places (rw placements at q.places) in
+    rw (← names, ← others, ← interfaces, ← also, ← prefixes, ← places) refl

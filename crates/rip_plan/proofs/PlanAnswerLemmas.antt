@@ -3,7 +3,7 @@ use Rattle.std.proofs.Common.{◌≡◌, ◌<◌, ◌≤◌, ◌↔◌, ◌⊎�
 use Rattle.std.specs.Prelude.{option_and_then, unwrap_or, Decides, IfSome, slice_get, Some}
 use Rattle.std.specs.List.{list_any, All}
 use Rattle.std.specs.Option.{is_some, option_map_or}
-use Rattle.std.proofs.lemmas.Bool.{cases_Bool, or_cases, or_left, or_parts, or_right}
+use Rattle.std.proofs.lemmas.Bool.{or_cases, or_left, or_right}
 use Rattle.std.proofs.lemmas.Option.{none-some, slice_get_within, slice_get-get_or}
 use Rattle.rip_plan.proofs.ItemLemmas.{cases_option}
 use Rattle.rip_wire.specs.Prefix.{Block}
@@ -12,7 +12,7 @@ use Rattle.rip_plan.specs.declared.parts.Place.{Place}
 use Rattle.rip_plan.specs.declared.parts.Seat.{Seat}
 use Rattle.rip_plan.specs.declared.parts.Seat.TheVariants as seats
 use Rattle.rip_plan.specs.Seats.{gateway_of, is_kept, link_of}
-use Rattle.rip_plan.specs.Network.{Network, is_owned, own_seat, direct_at, first_carrying, found_at, number_of_prefix}
+use Rattle.rip_plan.specs.Network.{Network, own_seat, direct_at, first_carrying, found_at, number_of_prefix}
 use Rattle.rip_plan.specs.Relations.{IsAt, IsAttached, IsGateway, IsKept, IsOwnWith, IsPrefix, IsDirect, Touches, Carries, IsLawful}
 use Rattle.rip_plan.proofs.LookupLemmas.{interface_of, prefix_of_number, number_of_planned, HasOwnSeat, own_says, own_gives, own_finds, direct_gives, direct_finds, carrier_gives, carrier_finds, found_gives, found_finds}
 use Rattle.rip_plan.specs.Rows.{IsLinkBelow, IsOwnerBelow}
@@ -58,23 +58,16 @@ direct_zero n laws r k zero =
 -- where no seat is kept, no router keeps a prefix, and none is attached
 pub none_kept : (r k : ℕ) (places : List Place) → list_any (λ (q : Place). is_kept q.seat) places ≡ false → option_map_or is_kept (own_seat r k places) false ≡ false
 none_kept r k [] h = refl
-none_kept r k (q ∷ qs) h =
-    let (off, later) = or_parts (is_kept q.seat) (list_any (λ (p : Place). is_kept p.seat) qs) h in
-    elim (cases_Bool (is_owned r k q)) [ inl e ↦ rw e off | inr e ↦ rw e (none_kept r k qs later) ]
+none_kept r k (q ∷ qs) h = grind (arith, none_kept r k qs)
 
 pub none_attached : (r k : ℕ) (places : List Place) → list_any (λ (q : Place). is_kept q.seat) places ≡ false → option_and_then link_of (own_seat r k places) ≡ None
-none_attached r k places h = by_seat (own_seat r k places) (none_kept r k places h)
-  where
-    by_seat : (o : Option Seat) → option_map_or is_kept o false ≡ false → option_and_then link_of o ≡ None
-    by_seat o h = grind arith
+none_attached r k places h = grind (arith, none_kept)
 
 pub own_past : (n : Network) → IsLawful n → (r k : ℕ) → (length n.routers ≤ r) ⊎ (length n.prefixes ≤ k) → own_seat r k n.places ≡ None
 own_past n laws r k past =
     elim (cases_option (own_seat r k n.places)) [
       | inl e ↦ e
-      | inr (seat, e) ↦
-          let (j, has) = own_gives n r k seat e in
-          absurd (past_not past (laws.owner_known j k r has.own.cost (own_says has refl)) (laws.prefix_known j k _ has.place))
+      | inr (seat, e) ↦ let (j, has) = own_gives n r k seat e in grind (arith, laws.owner_known j k r has.own.cost (own_says has refl), laws.prefix_known j k _ has.place)
     ]
 
 pub kept_exact : (n : Network) → IsLawful n → (r k : ℕ) (o : Option Seat) (b : Bool) → o ≡ own_seat r k n.places → b ≡ option_map_or is_kept o false → Decides b (IsKept n r k)
@@ -118,18 +111,10 @@ gateway_exact n laws r k o e a = seat_exact gateway_of (λ own. own.via) (λ own
 -- ---- carriers
 
 pub carrier_past : (n : Network) → IsLawful n → (l k : ℕ) → (length n.links ≤ l) ⊎ (length n.prefixes ≤ k) → is_some (first_carrying l k 0 n.places) ≡ false
-carrier_past n laws l k past =
-    elim (cases_option (first_carrying l k 0 n.places)) [
-      | inl e ↦ ap is_some e
-      | inr (j, e) ↦ let (m, place) = carrier_gives n l k j e in absurd (past_not past (laws.seat_known m k l place) (laws.prefix_known m k _ place))
-    ]
+carrier_past n laws l k past = grind (arith, carrier_gives)
 
 pub carries_exact : (n : Network) (l k : ℕ) (b : Bool) → b ≡ is_some (first_carrying l k 0 n.places) → Decides b (Carries n l k)
-carries_exact n l k b e =
-    elim (cases_option (first_carrying l k 0 n.places)) [
-      | inl f ↦ (λ h. let off : b ≡ false = e ∙ ap is_some f in absurd cc, λ h. absurd (carrier_finds n l k h f))
-      | inr (j, f) ↦ (λ h. carrier_gives n l k j f, λ h. e ∙ ap is_some f)
-    ]
+carries_exact n l k b e = grind (arith, carrier_finds, carrier_gives)
 
 no_number : (n : Network) (p : Block) → ((k : ℕ) → IsPrefix n k p → ⊥) → number_of_prefix p n.prefixes ≡ None
 no_number n p none = elim (cases_option (number_of_prefix p n.prefixes)) [ inl e ↦ e | inr (k, e) ↦ absurd (none k (prefix_of_number n p k e)) ]
@@ -148,8 +133,7 @@ abbrev has_carrier : Network → ℕ → Block → Bool
 has_carrier n l p = is_some (option_and_then (λ k. first_carrying l k 0 n.places) (number_of_prefix p n.prefixes))
 
 pub carries_planned : (n : Network) → IsLawful n → (l : ℕ) (p : Block) (b : Bool) → b ≡ has_carrier n l p → (k : ℕ) → IsPrefix n k p → Decides b (Carries n l k)
-carries_planned n laws l p b e k planned =
-    carries_exact n l k b (e ∙ ap (λ (o : Option ℕ). is_some (option_and_then (λ m. first_carrying l m 0 n.places) o)) (number_of_planned n laws p k planned))
+carries_planned n laws l p b e k planned = grind (arith, carries_exact, number_of_planned)
 
 pub carries_unplanned : (n : Network) (l : ℕ) (p : Block) (b : Bool) → b ≡ has_carrier n l p → ((k : ℕ) → IsPrefix n k p → ⊥) → b ≡ false
 carries_unplanned n l p b e none = e ∙ ap (λ (o : Option ℕ). is_some (option_and_then (λ m. first_carrying l m 0 n.places) o)) (no_number n p none)
@@ -178,15 +162,10 @@ module _ (n : Network) (laws : IsLawful n) where
       laws.router_known k x.router x.link x.cost (record { interface = x; listed = slice_get-get_or n.interfaces k d h; router = refl; link = refl; cost = refl })
 
   pub places_prefixes : All (λ q. q.prefix < length n.prefixes) n.places
-  places_prefixes k d h =
-      let q = get_or n.places k d in
-      laws.prefix_known k q.prefix q.seat (record { listed = slice_get-get_or n.places k d h })
+  places_prefixes k d h = let q = get_or n.places k d in laws.prefix_known k q.prefix q.seat (grind (arith, slice_get-get_or n.places k d h))
 
   pub places_links : All (λ q. IsLinkBelow (length n.links) q.seat) n.places
-  places_links k d h = by_seat (get_or n.places k d).seat (slice_get-get_or n.places k d h)
-    where
-      by_seat : (seat : Seat) → slice_get n.places k ≡ Some (record { prefix = (get_or n.places k d).prefix; seat = seat }) → IsLinkBelow (length n.links) seat
-      by_seat seat h = grind arith
+  places_links k d h = grind (arith, slice_get-get_or)
 
   pub places_owners : All (λ q. IsOwnerBelow (length n.routers) q.seat) n.places
   places_owners k d h = by_seat (get_or n.places k d).seat (slice_get-get_or n.places k d h)

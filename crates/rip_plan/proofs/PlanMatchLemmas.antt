@@ -124,8 +124,7 @@ links_added laws k (x ∷ xs) s t h =
     record {
       names = f.0 ∷ rest.names;
       added = inner.added ++ rest.added;
-      made = rw (← append_assoc s.links (f.0 ∷ []) rest.names, ← append_assoc s.places inner.added rest.added)
-          (rest.made ∙ ap (λ (v : Sketch). record v { links = v.links ++ rest.names; places = v.places ++ rest.added }) inner.made);
+      made = grind (arith, append_assoc);
       named = (fields.named, rest.named);
       placed = rw (map-append placement inner.added rest.added, fields.prefixes_are)
           (matched_append IsOnLink (map placement inner.added) (map placement rest.added) (map (with_number k) f.1) (items_under (codes_of "prefixes") (k + 1) xs) (rw (back k) at inner.match)
@@ -281,26 +280,14 @@ routers_added laws k (x ∷ xs) s t h =
     let inner = interfaces_added laws (k + 1) 1 f.1 (with_router f.0 s) v one in
     let own = owns_added laws (k + 1) 1 f.2 v u two in
     let rest = routers_added laws (k + 1) xs u t others in
-    let here : u ≡ record s { routers = s.routers ++ f.0 ∷ []; interfaces = s.interfaces ++ inner.added; also = s.also ++ inner.further; places = s.places ++ own.added } =
-    own.made ∙ ap (λ (v : Sketch). record v { places = v.places ++ own.added }) inner.made in
+    let here : u ≡ record s { routers = s.routers ++ f.0 ∷ []; interfaces = s.interfaces ++ inner.added; also = s.also ++ inner.further; places = s.places ++ own.added } = grind arith in
     let between : v.links ≡ s.links = ap (λ (v : Sketch). v.links) inner.made in
     record {
       names = f.0 ∷ rest.names;
       interfaces = inner.added ++ rest.interfaces;
       also = inner.further ++ rest.also;
       owned = own.added ++ rest.owned;
-      made = rw (
-        ← append_assoc s.routers (f.0 ∷ []) rest.names,
-        ← append_assoc s.interfaces inner.added rest.interfaces,
-        ← append_assoc s.also inner.further rest.also,
-        ← append_assoc s.places own.added rest.owned,
-      )
-          (rest.made ∙ ap (λ (v : Sketch). record v {
-            routers = v.routers ++ rest.names;
-            interfaces = v.interfaces ++ rest.interfaces;
-            also = v.also ++ rest.also;
-            places = v.places ++ rest.owned;
-          }) here);
+      made = grind (arith, append_assoc);
       named = (fields.named, rest.named);
       on_links = rw (map-append its_interface inner.added rest.interfaces, fields.interfaces_are)
           (matched_append (IsInterfaceOf s.links s.poison) (map its_interface inner.added) (map its_interface rest.interfaces) (map (with_number k) f.1)
@@ -310,8 +297,7 @@ routers_added laws k (x ∷ xs) s t h =
           (items_under (codes_of "interface") (k + 1) xs) (rw (back k) at inner.also_match) rest.further);
       own = rw (map-append placement own.added rest.owned, fields.owns_are)
           (matched_append (IsOwned s.links) (map placement own.added) (map placement rest.owned) (map (with_number k) f.2) (items_under (codes_of "own") (k + 1) xs)
-          (subst (λ (names : List (List ℕ)). Matched (IsOwned names) (map placement own.added) (map (with_number k) f.2)) between (rw (back k) at own.match))
-          (subst (λ (names : List (List ℕ)). Matched (IsOwned names) (map placement rest.owned) (items_under (codes_of "own") (k + 1) xs)) (ap (λ (v : Sketch). v.links) here) rest.own));
+          (rw (between, back k) at own.match) (rw (ap (λ (v : Sketch). v.links) here) at rest.own));
       interfaces_stand = rw (map-append (λ (i : DraftInterface). i.at) inner.added rest.interfaces, fields.interfaces_are, inner.stand, rest.interfaces_stand) refl;
       own_stand = rw (map-append (λ (p : DraftPlace). p.at) own.added rest.owned, fields.owns_are, own.stand, rest.own_stand) refl;
       few = λ few. rest.few (rw (ap (λ (v : Sketch). v.also) own.made) (inner.few few));
@@ -345,15 +331,8 @@ tables_read laws links routers poison between s first second =
     let read = links_added laws 0 links (empty poison) between first in
     let more = routers_added laws 0 routers between s second in
     let start : Sketch = record { links = read.names; routers = []; poison = poison; interfaces = []; also = []; places = read.added } in
-    let made : s ≡ record start { routers = more.names; interfaces = more.interfaces; also = more.also; places = read.added ++ more.owned } =
-    more.made ∙ ap (λ (v : Sketch). record v {
-      routers = v.routers ++ more.names;
-      interfaces = v.interfaces ++ more.interfaces;
-      also = v.also ++ more.also;
-      places = v.places ++ more.owned;
-    }) read.made in
-    let none : sum_by length between.also ≤ 1024 = rw (ap (λ (v : Sketch). v.also) read.made) (omega arith) in
-    let few : sum_by length more.also ≤ 1024 = rw (ap (λ (v : Sketch). v.also) made) at (more.few none) in
+    let made : s ≡ record start { routers = more.names; interfaces = more.interfaces; also = more.also; places = read.added ++ more.owned } = grind arith in
+    let few : sum_by length more.also ≤ 1024 = grind (arith, more.few) in
     subst (TablesRead links routers poison) (sym made) (record {
       link_names = read.named;
       router_names = more.named;
@@ -414,6 +393,4 @@ matches laws bytes s h =
 
 -- of a network that the bytes are
 pub network_matches : (laws : TextLaws) (bytes : List ℕ) (n : Network) → network_in bytes ≡ Ok n → IsPlanOfText bytes n
-network_matches laws bytes n h =
-    let (s, read, made) = bind_ok (sketch_of bytes) (λ t. Ok (network_of_sketch t)) n h in
-    subst (IsPlanOfText bytes) (ok_same (network_of_sketch s) n made) (matches laws bytes s read)
+network_matches laws bytes n h = grind (arith, ok_same, matches)

@@ -3,7 +3,7 @@ use Rattle.std.proofs.Common.{◌≡◌, ℕ, zero, suc, ◌+◌, inl, inr, List
 use Rattle.std.specs.Prelude.{slice_get, codes as codes_of}
 use Rattle.std.specs.List.{sum_by}
 use Rattle.std.proofs.lemmas.List.Sums.{sum-map, sum_by-cons}
-use Rattle.std.proofs.lemmas.Option.{none-some, same_Some}
+use Rattle.std.proofs.lemmas.Option.{none-some}
 use Rattle.std.proofs.lemmas.Bool.{cases_lt}
 use Rattle.toml.specs.Data.{Data, Members, get, string}
 use Rattle.rip_wire.specs.Prefix.{Block, ContainsAddress}
@@ -36,10 +36,9 @@ pub item_under : (key : List ℕ) (ds : List Data) (i j : ℕ) (x : Data) → Is
 item_under key ds zero j x (d, is, item) = absurd (none-some d is)
 item_under key ds (suc m) zero x (d, is, item) = absurd (none-some x item)
 item_under key ds (suc m) (suc j) x (d, is, item) =
-    let k = count_ahead (numbered_items key) 0 ds m + j in
     let there = see_got (with_number (0 + m)) (items_in (get key d)) j x item in
-    let at = in_flat (numbered_items key) 0 ds (items_under key 0 ds) (items_flat key 0 ds) m j d (0 + m, x) is there k refl in
-    record { k = k; m = m; number = refl; at = at ∙ ap (λ (n : ℕ). Some (n, x)) (omega arith) }
+    let at = in_flat (numbered_items key) 0 ds (items_under key 0 ds) (items_flat key 0 ds) m j d (0 + m, x) is there _ refl in
+    record { k = count_ahead (numbered_items key) 0 ds m + j; m = m; number = refl; at = grind arith }
 
 -- ---- further addresses
 
@@ -63,19 +62,13 @@ also_numbered n (d ∷ ds) = omega (arith, also_numbered n ds)
 
 pub also_flat : (n : ℕ) (ds : List Data) → also_at (items_under (codes_of "interface") n ds) ≡ also_under ds
 also_flat n [] = refl
-also_flat n (d ∷ ds) =
-    let here = items_in (get (codes_of "interface") d) in
-    omega (arith, also_flat (n + 1) ds, also_append (map (with_number n) here) (items_under (codes_of "interface") (n + 1) ds), also_numbered n here)
+also_flat n (d ∷ ds) = grind (arith, also_append, also_numbered, also_flat (n + 1) ds)
 
 -- ---- names
 
 pub names_good : (names : List (List ℕ)) (ds : List Data) → Matched IsNameOf names ds → (i k : ℕ) (name : List ℕ) (d : Data) → i ≡ suc k → nth ds i ≡ Some d → IsNameOf name d
     → slice_get names k ≡ Some name
-names_good names ds named (suc i) k name d number at its =
-    let same : i ≡ k = omega arith in
-    let (other, listed, of) = matched_right IsNameOf names ds i d named at in
-    let one : other ≡ name = text_same (codes_of "name") d other name of its in
-    ap (slice_get names) (sym same) ∙ listed ∙ ap (λ (t : List ℕ). Some t) one
+names_good names ds named (suc i) k name d number at its = grind (arith, matched_right)
 names_good names ds named zero k name d number at its = absurd (omega arith)
 
 pub apart : (i j : ℕ) → (i < j → ⊥) → (j < i → ⊥) → i ≡ j
@@ -91,9 +84,7 @@ names_differ names ds named none l m name h k =
 -- a link of the list has the name
 pub known_not : (names : List (List ℕ)) (ds : List Data) → Matched IsNameOf names ds → (x : Data) (name : List ℕ) (l : ℕ) → HasText (codes_of "link") x name → slice_get names l ≡ Some name
     → NamesNoLink ds x → ⊥
-known_not names ds named x name l has known (other, its, none) =
-    let (d, listed, of) = matched_left IsNameOf names ds l name named known in
-    none l d listed (subst (λ (t : List ℕ). IsNameOf t d) (text_same (codes_of "link") x name other has its) of)
+known_not names ds named x name l has known (other, its, none) = grind (arith, matched_left)
 
 pub attached_not : (names : List (List ℕ)) (ds : List Data) → Matched IsNameOf names ds → (x : Data) (link : Option ℕ) → IsLinkOf names x link → NamesNoLink ds x → ⊥
 attached_not names ds named x None is (name, has, none) = none-some (string name) (sym is ∙ has)
@@ -118,48 +109,24 @@ inside_not laws names ds named differ x name text l a has known has_text spelled
 pub link_prefix : (links routers : List Data) (names : List (List ℕ)) (on_links owned : List Placement)
     → Matched IsOnLink on_links (items_under (codes_of "prefixes") 0 links) → Matched (IsOwned names) owned (items_under (codes_of "own") 0 routers)
     → (l k : ℕ) (q : Placement) → slice_get (on_links ++ owned) k ≡ Some q → q.seat ≡ seats.Link l → HasPrefix links l q.prefix
-link_prefix links routers names on_links owned link_prefixes own_prefixes l k q at seat =
-    elim (get_split on_links owned k q at) [
-      | inl here ↦
-          let ((m, x), is, on) = matched_left IsOnLink on_links (items_under (codes_of "prefixes") 0 links) k q link_prefixes here.0 in
-          let number : m ≡ l = cc in
-          (k, on.text, is ∙ ap (λ (v : ℕ). Some (v, x)) number ∙ ap (λ (y : Data). Some (l, y)) on.is_text, on.prefix)
-      | inr there ↦
-          let (x, is, own) = matched_left (IsOwned names) owned (items_under (codes_of "own") 0 routers) there.0 q own_prefixes there.2 in
-          absurd cc
-    ]
+link_prefix links routers names on_links owned link_prefixes own_prefixes l k q at seat = grind (arith, get_split, matched_left)
 
 -- and each of the list is on the link
 pub prefix_place : (links : List Data) (on_links : List Placement) → Matched IsOnLink on_links (items_under (codes_of "prefixes") 0 links) → (l : ℕ) (p : Block) → HasPrefix links l p
     → (k : ℕ) × (q : Placement) × (slice_get on_links k ≡ Some q) × (q.seat ≡ seats.Link l) × ((text : List ℕ) × IsPrefixText text q.prefix × IsPrefixText text p)
-prefix_place links on_links link_prefixes l p (k, text, at, parsed) =
-    let (q, listed, of) = matched_right IsOnLink on_links (items_under (codes_of "prefixes") 0 links) k (l, string text) link_prefixes at in
-    let same : text ≡ of.text = cc in
-    (k, q, listed, of.seat, (of.text, of.prefix, subst (λ (t : List ℕ). IsPrefixText t p) same parsed))
+prefix_place links on_links link_prefixes l p (k, text, at, parsed) = grind (arith, matched_right)
 
 -- ---- a plan
 
 module _ (document : Members) (n : Network) (plan : PlanOf document n) where
   pub places_count : length n.places ≡ length (place_spots plan.links plan.routers)
-  places_count =
-      omega (
-        arith,
-        matched_length (IsPlaceOf n) n.places (plan.on_links ++ plan.owned) plan.places,
-        length-append plan.on_links plan.owned,
-        matched_length IsOnLink plan.on_links (items_under (codes_of "prefixes") 0 plan.links) plan.link_prefixes,
-        matched_length (IsOwned n.links) plan.owned (items_under (codes_of "own") 0 plan.routers) plan.own_prefixes,
-        spots_count (codes_of "prefixes") LinkPrefix 1 0 plan.links,
-        spots_count (codes_of "own") RouterOwn 1 0 plan.routers,
-        length-append (spots_under (codes_of "prefixes") LinkPrefix 1 plan.links) (spots_under (codes_of "own") RouterOwn 1 plan.routers),
-      )
+  places_count = grind (arith, matched_length, length-append, spots_count)
 
   pub interfaces_count : length n.interfaces ≡ length (interface_spots plan.routers)
-  interfaces_count = matched_length (IsInterfaceOf n.links plan.poison) n.interfaces (items_under (codes_of "interface") 0 plan.routers) plan.interfaces
-      ∙ sym (spots_count (codes_of "interface") RouterInterface 1 0 plan.routers)
+  interfaces_count = grind (arith, matched_length, spots_count)
 
   pub also_counted : sum (map length n.also) ≡ length (also_spots plan.routers)
-  also_counted =
-      omega (arith, also_count 1 plan.routers, sum-map length n.also, also_sum n.also (items_under (codes_of "interface") 0 plan.routers) plan.also, also_flat 0 plan.routers)
+  also_counted = grind (arith, also_count, sum-map, also_sum, also_flat)
 
   -- the interface of an item
   pub record HasInterface (x : Data) : Type 0 where
@@ -191,9 +158,7 @@ module _ (document : Members) (n : Network) (plan : PlanOf document n) where
 
   -- the place of a placement
   pub its_place : (k : ℕ) (q : Placement) → slice_get (plan.on_links ++ plan.owned) k ≡ Some q → (p : ℕ) × IsPlace n k p q.seat × IsPrefix n p q.prefix
-  its_place k q h =
-      let (y, listed, of) = matched_right (IsPlaceOf n) n.places (plan.on_links ++ plan.owned) k q plan.places h in
-      (y.prefix, record { listed = listed ∙ ap (λ s. Some (record { prefix = y.prefix; seat = s })) of.seat }, of.prefix)
+  its_place k q h = grind (arith, matched_right)
 
   -- the table of an interface
   pub record InterfaceTable (v : Interface) : Type 0 where
@@ -206,9 +171,7 @@ module _ (document : Members) (n : Network) (plan : PlanOf document n) where
   pub interface_table : (i : ℕ) (v : Interface) → slice_get n.interfaces i ≡ Some v → InterfaceTable v
   interface_table i v h =
       let ((r, x), listed, of) = matched_left (IsInterfaceOf n.links plan.poison) n.interfaces (items_under (codes_of "interface") 0 plan.routers) i v plan.interfaces h in
-      let u = under_item (codes_of "interface") RouterInterface 1 0 plan.routers i r x listed in
-      let same : r ≡ u.t = omega (arith, u.number) in
-      record { r = r; j = u.j; x = x; item = rw (← same) at u.item; of = of }
+      grind (arith, under_item (codes_of "interface") RouterInterface 1 0 plan.routers i r x listed)
 
   -- the table of a router's own prefix
   pub record OwnTable (k p : ℕ) (own : OwnPrefix) : Type 0 where
@@ -226,15 +189,11 @@ module _ (document : Members) (n : Network) (plan : PlanOf document n) where
       let on_links = spots_under (codes_of "prefixes") LinkPrefix 1 plan.links in
       let (q, at, of) = matched_left (IsPlaceOf n) n.places (plan.on_links ++ plan.owned) k _ plan.places place.listed in
       elim (get_split plan.on_links plan.owned k q at) [
-        | inl here ↦
-            let (x, is, on) = matched_left IsOnLink plan.on_links (items_under (codes_of "prefixes") 0 plan.links) k q plan.link_prefixes here.0 in
-            let seat : seats.Own own ≡ seats.Link x.0 = of.seat ∙ on.seat in
-            absurd cc
+        | inl here ↦ absurd (grind (arith, matched_left IsOnLink plan.on_links (items_under (codes_of "prefixes") 0 plan.links) k q plan.link_prefixes here.0))
         | inr there ↦
             let ((r, x), listed, owned) = matched_left (IsOwned n.links) plan.owned (items_under (codes_of "own") 0 plan.routers) there.0 q plan.own_prefixes there.2 in
             let u = under_item (codes_of "own") RouterOwn 1 0 plan.routers there.0 r x listed in
             let same : u.t ≡ r = omega (arith, u.number) in
-            let seat : seats.Own own ≡ seats.Own owned.own = of.seat ∙ owned.seat in
             let count = matched_length IsOnLink plan.on_links (items_under (codes_of "prefixes") 0 plan.links) plan.link_prefixes in
             let past : k ≡ length on_links + there.0 = omega (arith, there.1, spots_count (codes_of "prefixes") LinkPrefix 1 0 plan.links, count) in
             record {
@@ -244,14 +203,12 @@ module _ (document : Members) (n : Network) (plan : PlanOf document n) where
               x = x;
               item = rw same at u.item;
               of = owned;
-              is = cc;
-              spot = get_past on_links (spots_under (codes_of "own") RouterOwn 1 plan.routers) there.0 k past ∙ u.spot
-                  ∙ ap (λ (m : ℕ). Some (RouterOwn (1 + m) (suc u.j))) same;
+              is = grind arith;
+              spot = grind (arith, get_past on_links (spots_under (codes_of "own") RouterOwn 1 plan.routers) there.0 k past, u.spot);
             }
       ]
 
   pub carrier_has : (l p : ℕ) (block : Block) → Carries n l p → IsPrefix n p block → HasPrefix plan.links l block
   carrier_has l p block (k, place) prefix =
       let (q, at, of) = matched_left (IsPlaceOf n) n.places (plan.on_links ++ plan.owned) k _ plan.places place.listed in
-      let same : q.prefix ≡ block = same_Some q.prefix block (sym of.prefix ∙ prefix) in
-      subst (HasPrefix plan.links l) same (link_prefix plan.links plan.routers n.links plan.on_links plan.owned plan.link_prefixes plan.own_prefixes l k q at (sym of.seat))
+      grind (arith, link_prefix plan.links plan.routers n.links plan.on_links plan.owned plan.link_prefixes plan.own_prefixes l k q at)

@@ -1,8 +1,8 @@
 -- The plan of what was read: its parts, the routers that a seat of it touches, and those on a link.
-use Rattle.std.proofs.Common.{◌≡◌, ℕ, inl, inr, List, true, false, ◌&&◌, Some, refl, sym, ◌∙◌, ap, arith}
+use Rattle.std.proofs.Common.{◌≡◌, ℕ, inl, inr, List, true, ◌&&◌, Some, refl, sym, ◌∙◌, arith}
 use Rattle.std.specs.Prelude.{slice_get, ◌==◌}
 use Rattle.std.specs.List.{list_any}
-use Rattle.std.proofs.lemmas.Bool.{and_parts, eqb-true, or_cases}
+use Rattle.std.proofs.lemmas.Bool.{and_parts, eqb-true}
 use Rattle.std.proofs.lemmas.Bool.Decides.{nat_tests}
 use Rattle.rip_plan.specs.declared.draft.DraftInterface.{DraftInterface}
 use Rattle.rip_plan.specs.declared.draft.DraftPlace.{DraftPlace}
@@ -34,30 +34,19 @@ module _ (s : Sketch) where
       record { interface = x.interface; listed = see_got (λ (y : DraftInterface). y.interface) s.interfaces i x at; router = router; link = link; cost = refl }
 
   pub as_interface : (i r l c : ℕ) → IsInterface (network_of_sketch s) i r l c → (x : DraftInterface) × (slice_get s.interfaces i ≡ Some x) × (x.interface.router ≡ r) × (x.interface.link ≡ l)
-  as_interface i r l c is =
-      let (x, at, same) = interface_in i is.interface is.listed in
-      (x, at, ap (λ (v : Interface). v.router) same ∙ is.router, ap (λ (v : Interface). v.link) same ∙ is.link)
+  as_interface i r l c is = grind (arith, interface_in)
 
   pub place_in : (k p : ℕ) (seat : Seat) → IsPlace (network_of_sketch s) k p seat
       → (d : DraftPlace) × (slice_get s.places k ≡ Some d) × (slice_get (network_of_sketch s).prefixes p ≡ Some d.prefix) × (seat ≡ d.seat)
-  place_in k p seat h =
-      let (d, at, (prefix, same)) = matched_left (IsNumbered (network_of_sketch s).prefixes) (network_of_sketch s).places s.places k (record { prefix = p; seat = seat }) (numbers s.places) h.listed in
-      (d, at, prefix, same)
+  place_in k p seat h = grind (arith, matched_left (IsNumbered (network_of_sketch s).prefixes) (network_of_sketch s).places s.places k (record { prefix = p; seat = seat }) (numbers s.places) h.listed)
 
   pub place_from : (k : ℕ) (d : DraftPlace) → slice_get s.places k ≡ Some d → (p : ℕ) × IsPlace (network_of_sketch s) k p d.seat × IsPrefix (network_of_sketch s) p d.prefix
-  place_from k d h =
-      let (q, is, (prefix, seat)) = matched_right (IsNumbered (network_of_sketch s).prefixes) (network_of_sketch s).places s.places k d (numbers s.places) h in
-      (q.prefix, record { listed = is ∙ ap (λ x. Some (record { prefix = q.prefix; seat = x })) seat }, prefix)
+  place_from k d h = grind (arith, matched_right (IsNumbered (network_of_sketch s).prefixes) (network_of_sketch s).places s.places k d (numbers s.places) h)
 
   -- ---- the routers that a seat touches
 
   pub touch : (k p r c : ℕ) → Touches (network_of_sketch s) k p r c → (seat : Seat) × IsPlace (network_of_sketch s) k p seat × (list_any (λ m. m == r) (touched s.interfaces seat) ≡ true)
-  touch k p r c (inl (l, place, (i, is))) =
-      let (x, at, same) = interface_in i is.interface is.listed in
-      let link : x.interface.link ≡ l = ap (λ (v : Interface). v.link) same ∙ is.link in
-      let router : x.interface.router ≡ r = ap (λ (v : Interface). v.router) same ∙ is.router in
-      let test = any_at (λ (y : DraftInterface). y.interface.link == l && y.interface.router == r) s.interfaces i x at (grind (arith, nat_tests)) in
-      (seats.Link l, place, link_touched s.interfaces l r ∙ test)
+  touch k p r c (inl (l, place, (i, is))) = grind (arith, interface_in, any_at, link_touched)
   touch k p r c (inr h) = let same : (h.own.router == r) ≡ true = grind (arith, nat_tests, h.router) in (seats.Own h.own, h.place, rw same refl)
 
   pub touches : (k p r : ℕ) (seat : Seat) → IsPlace (network_of_sketch s) k p seat → list_any (λ m. m == r) (touched s.interfaces seat) ≡ true → (c : ℕ) × Touches (network_of_sketch s) k p r c
@@ -68,19 +57,14 @@ module _ (s : Sketch) where
       let router = eqb-true x.interface.router r of in
       let link = eqb-true x.interface.link l on in
       (x.interface.direct, inl (l, place, (i, record { interface = x.interface; listed = listed; router = router; link = link; direct = refl })))
-  touches k p r (seats.Own own) place h =
-      elim (or_cases (own.router == r) false h) [
-        | inl one ↦ (own.cost, inr (record { own = own; place = place; router = eqb-true own.router r one; says = refl }))
-        | inr none ↦ absurd cc
-      ]
+  touches k p r (seats.Own own) place h = (own.cost, inr (grind arith))
 
   -- ---- the routers on a link
 
   pub there_on : (r l : ℕ) → is_there s.interfaces r l ≡ true → IsOn (network_of_sketch s) r l
   there_on r l h =
       let (i, x, at, test) = any_finds (λ (y : DraftInterface). y.interface.router == r && y.interface.link == l) s.interfaces h in
-      let (of, on) = and_parts (x.interface.router == r) (x.interface.link == l) test in
-      (x.interface.cost, (i, interface_as i x r l at (eqb-true x.interface.router r of) (eqb-true x.interface.link l on)))
+      (x.interface.cost, (i, interface_as i x r l at (grind arith) (grind arith)))
 
   pub on_there : (r l : ℕ) → IsOn (network_of_sketch s) r l → is_there s.interfaces r l ≡ true
   on_there r l (c, (i, is)) =

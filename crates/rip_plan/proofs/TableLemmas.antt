@@ -1,19 +1,19 @@
 -- What the tables of a document hold, where their fields were read.
 use Rattle.std.proofs.Common.{◌≡◌, ℕ, zero, suc, ◌≤◌, ◌⊎◌, inl, inr, List, [], ◌∷◌, Bool, true, cond, Option, Some, None, refl, sym, ◌∙◌, ap, subst, arith}
-use Rattle.std.specs.Prelude.{ℤ, pos, is_some, option_and_then, option_map, slice_get, unwrap_or, codes as codes_of}
+use Rattle.std.specs.Prelude.{ℤ, pos, is_some, option_map, slice_get, unwrap_or, codes as codes_of}
 use Rattle.std.specs.List.{list_all}
 use Rattle.std.proofs.lemmas.Option.{none-some, same_Some}
-use Rattle.toml.specs.Data.{Data, Items, Members, string, integer, boolean, array, table, get, as_bool, as_str, as_integer, as_array, as_table}
+use Rattle.toml.specs.Data.{Data, Members, string, integer, boolean, table, get, as_str, as_table}
 use Rattle.rip_wire.specs.Address.{address_in}
-use Rattle.rip_plan.specs.Fields.{◌&>◌, list_of, items_if, integer_if, flag_if, text_if, address_if, link_if, addresses_in, cost_of, direct_of}
+use Rattle.rip_plan.specs.Fields.{◌&>◌, integer_if, address_if, link_if, addresses_in, cost_of, direct_of}
 use Rattle.rip_plan.specs.Names.{number_of_name}
-use Rattle.rip_plan.specs.PlanOf.{IsAddressOf, IsCostOf, IsDirectOf, IsGatewayOf, IsLinkOf, Matched, items_in}
+use Rattle.rip_plan.specs.PlanOf.{IsAddressOf, IsCostOf, IsDirectOf, IsGatewayOf, IsLinkOf, Matched}
 use Rattle.rip_plan.specs.PlanFaults.{HasNoAddress, HasWrongCost, HasWrongDirect, IsOutsideOf}
 use Rattle.std.proofs.lemmas.Bool.{and_parts}
 use Rattle.rip_plan.proofs.ItemLemmas.{cases_option}
 use Rattle.rip_plan.proofs.MatchingLemmas.{matched_right, matched_weaker}
 use Rattle.rip_plan.proofs.TextLemmas.{TextLaws, address_is, first_named}
-use Rattle.rip_plan.specs.Texts.{IsAddressText, IsNoAddress}
+use Rattle.rip_plan.specs.Texts.{IsNoAddress}
 
 pub then_some : {A B : Type 0} (o : Option A) (f : A → Option B) (y : B) → (o &> f) ≡ Some y → (x : A) × (o ≡ Some x) × (f x ≡ Some y)
 then_some o f y h = grind arith
@@ -27,25 +27,6 @@ table_is d ms h = grind arith
 pub text_is : (d : Data) (t : List ℕ) → as_str d ≡ Some t → d ≡ string t
 text_is d t h = grind arith
 
-pub integer_is : (d : Data) (z : ℤ) → as_integer d ≡ Some z → d ≡ integer z
-integer_is d z h = grind arith
-
-pub array_is : (d : Data) (xs : List Data) → option_map list_of (as_array d) ≡ Some xs → (items : Items) × (d ≡ array items) × (list_of items ≡ xs)
-array_is d xs h = grind arith
-
-pub text_there : (o : Option Data) (t : List ℕ) → option_and_then as_str o ≡ Some t → o ≡ Some (string t)
-text_there o t h = grind arith
-
-pub items_there : (o : Option Data) (xs : List Data) → option_map list_of (option_and_then as_array o) ≡ Some xs → (items : Items) × (o ≡ Some (array items)) × (list_of items ≡ xs)
-items_there o xs h = grind arith
-
-pub items_given : (o : Option Data) (xs : List Data) → items_if o ≡ Some xs → items_in o ≡ xs
-items_given o xs h = grind arith
-
-pub items_are : (o : Option Data) (xs : List Data) → option_map list_of (option_and_then as_array o) ≡ Some xs → items_in o ≡ xs
-items_are o xs h = let (items, is, same) = items_there o xs h in rw is same
-
--- an integer that stands there, or the one that is meant where nothing stands
 -- a value that was read, or is none
 pub map_some : {A : Type 0} (o : Option A) (given : Option A) → option_map Some o ≡ Some given → (x : A) × (o ≡ Some x) × (Some x ≡ given)
 map_some o given h = grind arith
@@ -53,22 +34,17 @@ map_some o given h = grind arith
 pub map_none : {A : Type 0} (o : Option A) → ◌≡◌ {A = Option (Option A)} (option_map Some o) None → o ≡ None
 map_none o h = grind arith
 
+-- an integer that stands there, or the one that is meant where nothing stands
 pub cost_is : (o : Option Data) (given : Option ℤ) (c : ℕ) → integer_if o ≡ Some given → cost_of given ≡ Some c → (o ≡ Some (integer (pos c))) ⊎ ((o ≡ None) × (c ≡ 1))
 cost_is o given c h e = grind arith
 
 pub direct_is : (o : Option Data) (cost : ℕ) (given : Option ℤ) (c : ℕ) → integer_if o ≡ Some given → direct_of cost given ≡ Some c → (o ≡ Some (integer (pos c))) ⊎ ((o ≡ None) × (c ≡ cost))
 direct_is o cost given c h e = grind arith
 
-pub boolean_is : (d : Data) (b : Bool) → as_bool d ≡ Some b → d ≡ boolean b
-boolean_is d b h = grind arith
-
 -- a flag stands there, or nothing
 abbrev pub IsFlagIf : Option Data → Option Bool → Type 0
 IsFlagIf o None = o ≡ None
 IsFlagIf o (Some b) = o ≡ Some (boolean b)
-
-pub flag_if_is : (o : Option Data) (given : Option Bool) → flag_if o ≡ Some given → IsFlagIf o given
-flag_if_is o given h = grind arith
 
 -- the flag that is meant: the one that stands there, or the other one
 pub flag_meant : (o : Option Data) (given : Option Bool) (other : Bool) → IsFlagIf o given → (o ≡ Some (boolean (unwrap_or given other))) ⊎ ((o ≡ None) × (unwrap_or given other ≡ other))
@@ -78,9 +54,6 @@ flag_meant o given other h = grind arith
 abbrev pub IsTextIf : Option Data → Option (List ℕ) → Type 0
 IsTextIf o None = o ≡ None
 IsTextIf o (Some t) = o ≡ Some (string t)
-
-pub text_if_is : (o : Option Data) (t : Option (List ℕ)) → text_if o ≡ Some t → IsTextIf o t
-text_if_is o t h = grind arith
 
 pub link_is : (links : List (List ℕ)) (d : Data) (name : Option (List ℕ)) (link : Option ℕ) → IsTextIf (get (codes_of "link") d) name → link_if name links ≡ Some link → IsLinkOf links d link
 link_is links d None link has h = let same : None ≡ link = same_Some None link h in subst (IsLinkOf links d) same has
@@ -138,10 +111,8 @@ pub addresses_read : (ds : List Data) (also : List ℕ) → addresses_in ds ≡ 
 addresses_read [] also h = let same : [] ≡ also = same_Some [] also h in subst (λ (l : List ℕ). Matched IsReadOf l []) same tt
 addresses_read (d ∷ ds) also h =
     let (a, first, h1) = then_some (as_str d &> address_in) _ also h in
-    let (text, is, parsed) = then_some (as_str d) address_in a first in
     let (others, rest, h2) = then_some (addresses_in ds) _ also h1 in
-    let same : a ∷ others ≡ also = same_Some (a ∷ others) also h2 in
-    subst (λ (l : List ℕ). Matched IsReadOf l (d ∷ ds)) same ((text, text_is d text is, parsed), addresses_read ds others rest)
+    grind (arith, addresses_read ds others rest)
 
 -- the addresses of these texts
 pub addresses_are : (laws : TextLaws) (ds : List Data) (also : List ℕ) → addresses_in ds ≡ Some also → Matched IsAddressOf also ds
@@ -153,21 +124,11 @@ pub addresses_told : (ds : List Data) → list_all (λ x. is_some (as_str x)) ds
 addresses_told [] all h = absurd (none-some [] (sym h))
 addresses_told (d ∷ ds) all h =
     let (is, others) = and_parts (is_some (as_str d)) (list_all (λ x. is_some (as_str x)) ds) all in
-    elim (cases_option (as_str d)) [
-      | inl e ↦ let clash = rw e at is in absurd cc
-      | inr (text, e) ↦
-          elim (cases_option (address_in text)) [
-            | inl none ↦ (zero, text, ap (λ (x : Data). Some x) (text_is d text e), none)
-            | inr (a, i) ↦
-                elim (cases_option (addresses_in ds)) [
-                  | inl none ↦ let (m, t, at, bad) = addresses_told ds others none in (suc m, t, at, bad)
-                  | inr (more, j) ↦ absurd (none-some (a ∷ more) (sym (rw (e, i, j) at h)))
-                ]
-          ]
+    elim (cases_option (addresses_in ds)) [
+      | inl rest ↦ let (m, t, at, bad) = addresses_told ds others rest in (suc m, t, at, bad)
+      | inr (more, rest) ↦
+          elim (cases_option (as_str d)) [ inl e ↦ absurd (grind arith) | inr (text, e) ↦ (zero, text, ap (λ (x : Data). Some x) (text_is d text e), grind arith) ]
     ]
 
 pub addresses_clear : (laws : TextLaws) (ds : List Data) (also : List ℕ) → addresses_in ds ≡ Some also → (k : ℕ) (text : List ℕ) → slice_get ds k ≡ Some (string text) → IsNoAddress text → ⊥
-addresses_clear laws ds also h k text at none =
-    let (a, listed, (t, is, spelled)) = matched_right IsAddressOf also ds k (string text) (addresses_are laws ds also h) at in
-    let one : t ≡ text = cc in
-    none a (subst (λ (s : List ℕ). IsAddressText s a) one spelled)
+addresses_clear laws ds also h k text at none = grind (arith, matched_right IsAddressOf also ds k (string text) (addresses_are laws ds also h) at, none)

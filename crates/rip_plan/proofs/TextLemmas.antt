@@ -1,7 +1,5 @@
 -- What is read of a text is what the text is of.
-use Rattle.std.proofs.Common.{◌≡◌, ◌<◌, ◌≤◌, ◌+◌, ◌^◌, ◌↔◌, ℕ, List, true, Some, None, refl, sym, ◌∙◌, ap, arith}
-use Rattle.std.specs.Prelude.{slice_get}
-use Rattle.std.specs.Str.{bytes_eq}
+use Rattle.std.proofs.Common.{◌≡◌, ◌<◌, ◌^◌, ◌↔◌, ℕ, List, true, Some, None, sym, ◌∙◌, ap, arith}
 use Rattle.std.proofs.lemmas.Slice.Eq.{bytes_eq-Decides}
 use Rattle.std.proofs.lemmas.Option.{none-some, same_Some}
 use Rattle.rip_wire.specs.Address.{address_in, address_text}
@@ -14,12 +12,7 @@ use Rattle.rip_plan.proofs.ItemLemmas.{position_first, position_finds}
 
 -- the number of a name is that of the first that is this one
 pub first_named : (name : List ℕ) (names : List (List ℕ)) (l : ℕ) → number_of_name name names ≡ Some l → IsFirstNamed names name l
-first_named name names l h =
-    let (k, other, number, at, test) = position_finds (λ (y : List ℕ). bytes_eq y name) 0 names l h in
-    let here : l ≡ k = omega arith in (
-      ap (slice_get names) here ∙ at ∙ ap (λ (t : List ℕ). Some t) ((bytes_eq-Decides other name).0 test),
-      λ j there. let le : l ≤ 0 + j = position_first (λ (y : List ℕ). bytes_eq y name) 0 names l h j name there ((bytes_eq-Decides name name).1 refl) in omega arith,
-    )
+first_named name names l h = grind (arith, position_finds, bytes_eq-Decides, position_first)
 
 pub one_named : (names : List (List ℕ)) (name other : List ℕ) (l m : ℕ) → name ≡ other → IsFirstNamed names name l → IsFirstNamed names other m → l ≡ m
 one_named names name other l m same h k = grind arith

@@ -26,7 +26,7 @@ use Rattle.rip_plan.proofs.MatchingLemmas.{matched_length, matched_right}
 use Rattle.rip_plan.proofs.OnePlanLemmas.{one_plan, text_same}
 use Rattle.rip_plan.proofs.TableLemmas.{cost_fits, direct_fits, gateway_fits}
 use Rattle.rip_plan.proofs.PlanPartLemmas.{attached_not, inside_not, known_not, HasInterface, HasOwn, also_counted, carrier_has, prefix_place, interfaces_count, item_under, its_interface, its_own, its_place, names_good, places_count}
-use Rattle.rip_plan.proofs.TextFaultLemmas.{one_astray, one_fault, one_tables, same_document, version_is, version_told, whole_fault}
+use Rattle.rip_plan.proofs.TextFaultLemmas.{one_astray, one_fault, same_document, version_is, version_told, whole_fault}
 use Rattle.rip_plan.proofs.TextLemmas.{TextLaws}
 use Rattle.rip_plan.specs.Texts.{IsAddressText, IsPrefixText}
 use Rattle.rip_plan.specs.DocumentTables.{IsLinkTable, IsRouterTable, IsInterfaceTable, IsOwnTable, IsRoot}
@@ -52,8 +52,7 @@ again_not : (names : List (List ℕ)) (ds : List Data) → Matched IsNameOf name
 again_not names ds named differ zero (d, earlier, k, name, at, its, less, there, theirs) = omega arith
 again_not names ds named differ (suc i) (d, earlier, zero, name, at, its, less, there, theirs) = none-some earlier there
 again_not names ds named differ (suc i) (d, earlier, suc k, name, at, its, less, there, theirs) =
-    let same : i ≡ k = differ i k name (names_good names ds named (suc i) i name d refl at its) (names_good names ds named (suc k) k name earlier refl there theirs) in
-    omega arith
+    grind (arith, differ i k name, names_good names ds named (suc i) i name d refl at its, names_good names ds named (suc k) k name earlier refl there theirs)
 
 -- ---- bytes that are well formed
 
@@ -70,7 +69,7 @@ has_fields Is ds (suc k) d all at lacks = lacks (all_at Is ds k d all at)
 item_fields : (Is : Data → Type 0) (key : List ℕ) (ds : List Data) (i j : ℕ) (x : Data) → All (λ (at : ℕ × Data). Is at.1) (items_under key 0 ds) → IsItem key ds i j x → (Is x → ⊥) → ⊥
 item_fields Is key ds i j x all item lacks =
     let u = item_under key ds i j x item in
-    lacks (all_at (λ (at : ℕ × Data). Is at.1) (items_under key 0 ds) u.k (u.m, x) all u.at)
+    grind (arith, all_at (λ (at : ℕ × Data). Is at.1) (items_under key 0 ds) u.k (u.m, x) all u.at)
 
 module _ (laws : TextLaws) (bytes : List ℕ) (w : IsWellFormed bytes) where
   -- of a network that is the plan too
@@ -102,9 +101,7 @@ module _ (laws : TextLaws) (bytes : List ℕ) (w : IsWellFormed bytes) where
   few_places = let few : length w.network.places ≤ 1024 = w.lawful.few_places in omega (arith, places_count w.document w.network w.plan)
 
   interface_limit : (r j : ℕ) → IsPast 1024 (interface_spots w.plan.routers) (RouterInterface r j) ⊎ IsPast 1024 (also_spots w.plan.routers) (RouterInterface r j) → ⊥
-  interface_limit r j (inl f) =
-      let few : length w.network.interfaces ≤ 1024 = w.lawful.few_interfaces in
-      past_not (interface_spots w.plan.routers) (RouterInterface r j) (omega (arith, interfaces_count w.document w.network w.plan)) f
+  interface_limit r j (inl f) = past_not (interface_spots w.plan.routers) (RouterInterface r j) (grind (arith, w.lawful.few_interfaces, interfaces_count w.document w.network w.plan)) f
   interface_limit r j (inr f) =
       past_not (also_spots w.plan.routers) (RouterInterface r j) (omega (arith, also_counted w.document w.network w.plan)) f
 
@@ -128,8 +125,7 @@ module _ (laws : TextLaws) (bytes : List ℕ) (w : IsWellFormed bytes) where
   its_text : (i j : ℕ) (x : Data) → IsItem (codes_of "prefixes") w.plan.links i j x → (text : List ℕ) × (x ≡ string text) × ((p : Block) × IsPrefixText text p)
   its_text i j x item =
       let u = item_under (codes_of "prefixes") w.plan.links i j x item in
-      let (q, listed, of) = matched_right IsOnLink w.plan.on_links (items_under (codes_of "prefixes") 0 w.plan.links) u.k (u.m, x) w.plan.link_prefixes u.at in
-      (of.text, of.is_text, (q.prefix, of.prefix))
+      grind (arith, matched_right IsOnLink w.plan.on_links (items_under (codes_of "prefixes") 0 w.plan.links) u.k (u.m, x) w.plan.link_prefixes u.at)
 
   address_told : (r j : ℕ) (x : Data) → IsItem (codes_of "interface") w.plan.routers r j x → HasNoAddress (codes_of "address") x ⊎ HasWrongAlso x → ⊥
   address_told r j x item (inl (text, has, none)) =
@@ -138,9 +134,7 @@ module _ (laws : TextLaws) (bytes : List ℕ) (w : IsWellFormed bytes) where
   address_told r j x item (inr (k, text, at, none)) =
       let u = item_under (codes_of "interface") w.plan.routers r j x item in
       let (also, listed, of) = matched_right AreAlsoOf w.network.also (items_under (codes_of "interface") 0 w.plan.routers) u.k (u.m, x) w.plan.also u.at in
-      let (a, there, (other, is, parsed)) = matched_right IsAddressOf also (also_items x) k (string text) of at in
-      let same : other ≡ text = cc in
-      none a (subst (λ (t : List ℕ). IsAddressText t a) same parsed)
+      grind (arith, matched_right IsAddressOf also (also_items x) k (string text) of at, none)
 
   -- no fault of the tables
   table_not : (c : PlanCode) (place : At) → TableFault w.document w.plan.links w.plan.routers c place → ⊥
@@ -150,8 +144,7 @@ module _ (laws : TextLaws) (bytes : List ℕ) (w : IsWellFormed bytes) where
   table_not codes.Key (LinkPrefix i j) f = let (text, is, parsed) = its_text i j f.0 f.1 in f.2 (text, is)
   table_not codes.Prefix (LinkPrefix i j) (text, item, none) =
       let (other, is, (p, parsed)) = its_text i j (string text) item in
-      let same : other ≡ text = cc in
-      none p (subst (λ (t : List ℕ). IsPrefixText t p) same parsed)
+      grind (arith, none p)
   table_not codes.Limit (LinkPrefix i j) f = past_not (place_spots w.plan.links w.plan.routers) (LinkPrefix i j) few_places f
   table_not codes.Key (Router r) f = has_fields IsRouterTable w.plan.routers r f.0 w.router_tables f.1 f.2
   table_not codes.Name (Router r) (d, name, at, its, bad) = bad (misnamed_not w.network.routers w.plan.routers w.plan.router_names IsName w.lawful.router_named r name d at its)
@@ -204,9 +197,7 @@ module _ (laws : TextLaws) (bytes : List ℕ) (w : IsWellFormed bytes) where
   fault_not codes.Version Version f = f.2 (ap (λ (m : Members). get (codes_of "version") (table m)) (same_document bytes w.document f.0 w.text.reads f.1) ∙ w.version)
   fault_not codes.Key Text f = f.2 (subst IsRoot (sym (same_document bytes w.document f.0 w.text.reads f.1)) w.root)
   fault_not codes.Limit Text (inl more) = let few : length bytes ≤ 1048576 = w.text.short in let past : 1048576 < length bytes = more in omega arith
-  fault_not codes.Limit Text (inr (other, ls, rs, has, over)) =
-      let same = one_tables bytes w.document w.plan.links w.plan.routers tables other ls rs has in
-      over_not (subst (λ (t : Members × List Data × List Data). (512 < length t.1) ⊎ (128 < length t.2)) same over)
+  fault_not codes.Limit Text (inr (other, ls, rs, has, over)) = grind (arith, tables, over_not)
   fault_not c place f = table_not c place (one_fault bytes w.document w.plan.links w.plan.routers tables c place f.0 f.1 f.2 f.3 f.4)
 
   last_not : (place : At) → AstrayAt bytes place → ⊥

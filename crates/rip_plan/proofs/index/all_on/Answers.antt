@@ -1,19 +1,13 @@
-use Rattle.std.proofs.Common.{◌<◌, ℕ, take, arith, Vec, Global}
+use Rattle.std.proofs.Common.{ℕ, arith, Vec, Global}
 use Rattle.rip_plan.specs.declared.parts.Interface.{Interface}
-use Rattle.rip_plan.specs.Network.{numbers_where, is_on}
 use Rattle.rip_plan.proofs.BelowLemmas.{grouped_more, kept_within}
 use Rattle.rip_plan.proofs.index.all_on.Goals as goal
 
 pub index_mut-requires : goal.index_mut-requires
-index_mut-requires c =
-    let x = c.index-interfaces-i.result in
-    let below : x.link < c.args.links = rw (← c.index-interfaces-i.is) at (c.requires c.loop-i.i x (omega arith)) in
-    let within = kept_within (λ (w : Vec ℕ Global). w.items) c.loop-i.all.items c.args.links (λ k. numbers_where (is_on k) 0 (take c.loop-i.i c.args.interfaces.now)) x.link c.loop-i.invariant below in
-    omega arith
+index_mut-requires c = grind (arith, kept_within)
 
 pub loop-i-preserved : goal.loop-i-preserved
 loop-i-preserved c =
     let x = c.index-interfaces-i.result in
-    let below : x.link < c.args.links = rw (← c.index-interfaces-i.is) at (c.requires c.loop-i.i x (omega arith)) in
     grouped_more (λ (w : Vec ℕ Global). w.items) c.loop-i.all.items c.args.links (λ (y : Interface). y.link) c.args.interfaces.now c.loop-i.i x c.index_mut.result.now c.push.new.self
-    c.loop-i.invariant (omega arith) c.index-interfaces-i.is below c.index_mut.ensures.value c.in_ok-push.ensures.items
+    c.loop-i.invariant (omega arith) c.index-interfaces-i.is (grind arith) c.index_mut.ensures.value c.in_ok-push.ensures.items

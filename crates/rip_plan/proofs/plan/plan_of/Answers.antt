@@ -33,54 +33,30 @@ lists_are : (lists : List (List ℕ)) (count : ℕ) (f : ℕ → List ℕ) → l
 lists_are lists count f h = let same : length lists ≡ count = ap length h ∙ length-each_below count f in rw same h
 
 pub all_on-requires : goal.all_on-requires
-all_on-requires c =
-    let n : Network = network_of_sketch (sketch c.args.draft) in
-    let links : c.len.result ≡ length n.links = omega (arith, length-map c.args.draft.links.items string_bytes) in
-    let interfaces : c.as_slice-3.result.now ≡ n.interfaces = c.as_slice-3.ensures.value ∙ interfaces_are c.in_ok-interfaces.ensures c.as_slice.ensures.value in
-    rw (links, interfaces) (interfaces_links n c.requires)
+all_on-requires c = grind (arith, length-map, interfaces_links (network_of_sketch (sketch c.args.draft)) c.requires)
 
 pub all_of-requires : goal.all_of-requires
-all_of-requires c =
-    let n : Network = network_of_sketch (sketch c.args.draft) in
-    let routers : c.len-2.result ≡ length n.routers = omega (arith, length-map c.args.draft.routers.items string_bytes) in
-    let interfaces : c.as_slice-4.result.now ≡ n.interfaces = c.as_slice-4.ensures.value ∙ interfaces_are c.in_ok-interfaces.ensures c.as_slice.ensures.value in
-    rw (routers, interfaces) (interfaces_routers n c.requires)
+all_of-requires c = grind (arith, length-map, interfaces_routers (network_of_sketch (sketch c.args.draft)) c.requires)
 
 pub all_addresses-requires : goal.all_addresses-requires
-all_addresses-requires c =
-    let n : Network = network_of_sketch (sketch c.args.draft) in
-    let interfaces : c.as_slice-5.result.now ≡ n.interfaces = c.as_slice-5.ensures.value ∙ interfaces_are c.in_ok-interfaces.ensures c.as_slice.ensures.value in
-    omega (arith, c.requires.also_listed, length-map c.args.draft.also.items (λ (w : Vec ℕ Global). w.items), ap length interfaces, ap length c.as_slice-6.ensures.value)
+all_addresses-requires c = grind (arith, length-map)
 
 pub carriers_of-requires-clause-few_prefixes : goal.carriers_of-requires-clause-few_prefixes
 carriers_of-requires-clause-few_prefixes c =
     few c.in_ok-prefixes.prefixes.items c.as_slice-2.result.now c.args.draft.places.items c.len-4.result c.in_ok-prefixes.ensures.few c.as_slice-2.ensures.value c.requires.few_places (omega arith)
 
 pub carriers_of-requires-clause-prefixes : goal.carriers_of-requires-clause-prefixes
-carriers_of-requires-clause-prefixes c =
-    let n : Network = network_of_sketch (sketch c.args.draft) in
-    let blocks : c.in_ok-prefixes.prefixes.items ≡ n.prefixes = prefixes_are c.in_ok-prefixes.ensures.parts c.as_slice-2.ensures.value in
-    let prefixes : c.len-4.result ≡ length n.prefixes = omega (arith, ap length blocks) in
-    let places : c.as_slice-8.result.now ≡ n.places = c.as_slice-8.ensures.value ∙ places_are c.in_ok-prefixes.ensures.parts c.as_slice-2.ensures.value in
-    rw (prefixes, places) (places_prefixes n c.requires)
+carriers_of-requires-clause-prefixes c = grind (arith, length-map, places_prefixes (network_of_sketch (sketch c.args.draft)) c.requires)
 
 pub carriers_of-requires-clause-seats : goal.carriers_of-requires-clause-seats
-carriers_of-requires-clause-seats c =
-    let n : Network = network_of_sketch (sketch c.args.draft) in
-    let links : c.len-3.result ≡ length n.links = omega (arith, length-map c.args.draft.links.items string_bytes) in
-    let places : c.as_slice-8.result.now ≡ n.places = c.as_slice-8.ensures.value ∙ places_are c.in_ok-prefixes.ensures.parts c.as_slice-2.ensures.value in
-    rw (links, places) (places_links n c.requires)
+carriers_of-requires-clause-seats c = grind (arith, length-map, places_links (network_of_sketch (sketch c.args.draft)) c.requires)
 
 pub costs_of-requires-clause-few_prefixes : goal.costs_of-requires-clause-few_prefixes
 costs_of-requires-clause-few_prefixes c =
     few c.in_ok-prefixes.prefixes.items c.as_slice-2.result.now c.args.draft.places.items c.len-6.result c.in_ok-prefixes.ensures.few c.as_slice-2.ensures.value c.requires.few_places (omega arith)
 
 pub costs_of-requires-clause-routers : goal.costs_of-requires-clause-routers
-costs_of-requires-clause-routers c =
-    let n : Network = network_of_sketch (sketch c.args.draft) in
-    let routers : c.len-5.result ≡ length n.routers = omega (arith, length-map c.args.draft.routers.items string_bytes) in
-    let interfaces : c.as_slice-9.result.now ≡ n.interfaces = c.as_slice-9.ensures.value ∙ interfaces_are c.in_ok-interfaces.ensures c.as_slice.ensures.value in
-    rw (routers, interfaces) (interfaces_routers n c.requires)
+costs_of-requires-clause-routers c = grind (arith, length-map, interfaces_routers (network_of_sketch (sketch c.args.draft)) c.requires)
 
 pub costs_of-requires-clause-lists : goal.costs_of-requires-clause-lists
 costs_of-requires-clause-lists c =
@@ -90,30 +66,15 @@ costs_of-requires-clause-lists c =
     (ap (map items) c.as_slice-10.ensures.value ∙ c.in_ok-on_link.ensures ∙ ap (λ is. each_below c.len.result (λ l. numbers_where (is_on l) 0 is)) same)
 
 pub costs_of-requires-clause-prefixes : goal.costs_of-requires-clause-prefixes
-costs_of-requires-clause-prefixes c =
-    let n : Network = network_of_sketch (sketch c.args.draft) in
-    let blocks : c.in_ok-prefixes.prefixes.items ≡ n.prefixes = prefixes_are c.in_ok-prefixes.ensures.parts c.as_slice-2.ensures.value in
-    let prefixes : c.len-6.result ≡ length n.prefixes = omega (arith, ap length blocks) in
-    let places : c.as_slice-11.result.now ≡ n.places = c.as_slice-11.ensures.value ∙ places_are c.in_ok-prefixes.ensures.parts c.as_slice-2.ensures.value in
-    rw (prefixes, places) (places_prefixes n c.requires)
+costs_of-requires-clause-prefixes c = grind (arith, length-map, places_prefixes (network_of_sketch (sketch c.args.draft)) c.requires)
 
 pub costs_of-requires-clause-links : goal.costs_of-requires-clause-links
 costs_of-requires-clause-links c =
-    let n : Network = network_of_sketch (sketch c.args.draft) in
-    let items = λ (w : Vec ℕ Global). w.items in
-    let lists : map items c.as_slice-10.result.now ≡ each_below c.len.result (λ l. numbers_where (is_on l) 0 c.as_slice-3.result.now) =
-    ap (map items) c.as_slice-10.ensures.value ∙ c.in_ok-on_link.ensures in
-    let count : length (map items c.as_slice-10.result.now) ≡ c.len.result = ap length lists ∙ length-each_below c.len.result (λ l. numbers_where (is_on l) 0 c.as_slice-3.result.now) in
-    let links : length c.as_slice-10.result.now ≡ length n.links = omega (arith, length-map c.args.draft.links.items string_bytes, length-map c.as_slice-10.result.now items) in
-    let places : c.as_slice-11.result.now ≡ n.places = c.as_slice-11.ensures.value ∙ places_are c.in_ok-prefixes.ensures.parts c.as_slice-2.ensures.value in
-    rw (links, places) (places_links n c.requires)
+    let count = length-each_below c.len.result (λ l. numbers_where (is_on l) 0 c.as_slice-3.result.now) in
+    grind (arith, count, length-map, c.in_ok-on_link.ensures, places_links (network_of_sketch (sketch c.args.draft)) c.requires)
 
 pub costs_of-requires-clause-owners : goal.costs_of-requires-clause-owners
-costs_of-requires-clause-owners c =
-    let n : Network = network_of_sketch (sketch c.args.draft) in
-    let routers : c.len-5.result ≡ length n.routers = omega (arith, length-map c.args.draft.routers.items string_bytes) in
-    let places : c.as_slice-11.result.now ≡ n.places = c.as_slice-11.ensures.value ∙ places_are c.in_ok-prefixes.ensures.parts c.as_slice-2.ensures.value in
-    rw (routers, places) (places_owners n c.requires)
+costs_of-requires-clause-owners c = grind (arith, length-map, places_owners (network_of_sketch (sketch c.args.draft)) c.requires)
 
 pub owners_of-requires-clause-few_prefixes : goal.owners_of-requires-clause-few_prefixes
 owners_of-requires-clause-few_prefixes c =
@@ -123,19 +84,10 @@ pub owners_of-requires-clause-few_places : goal.owners_of-requires-clause-few_pl
 owners_of-requires-clause-few_places c = grind arith
 
 pub owners_of-requires-clause-prefixes : goal.owners_of-requires-clause-prefixes
-owners_of-requires-clause-prefixes c =
-    let n : Network = network_of_sketch (sketch c.args.draft) in
-    let blocks : c.in_ok-prefixes.prefixes.items ≡ n.prefixes = prefixes_are c.in_ok-prefixes.ensures.parts c.as_slice-2.ensures.value in
-    let prefixes : c.len-8.result ≡ length n.prefixes = omega (arith, ap length blocks) in
-    let places : c.as_slice-12.result.now ≡ n.places = c.as_slice-12.ensures.value ∙ places_are c.in_ok-prefixes.ensures.parts c.as_slice-2.ensures.value in
-    rw (prefixes, places) (places_prefixes n c.requires)
+owners_of-requires-clause-prefixes c = grind (arith, length-map, places_prefixes (network_of_sketch (sketch c.args.draft)) c.requires)
 
 pub owners_of-requires-clause-owners : goal.owners_of-requires-clause-owners
-owners_of-requires-clause-owners c =
-    let n : Network = network_of_sketch (sketch c.args.draft) in
-    let routers : c.len-7.result ≡ length n.routers = omega (arith, length-map c.args.draft.routers.items string_bytes) in
-    let places : c.as_slice-12.result.now ≡ n.places = c.as_slice-12.ensures.value ∙ places_are c.in_ok-prefixes.ensures.parts c.as_slice-2.ensures.value in
-    rw (routers, places) (places_owners n c.requires)
+owners_of-requires-clause-owners c = grind (arith, length-map, places_owners (network_of_sketch (sketch c.args.draft)) c.requires)
 
 pub invariant_of-result : goal.invariant_of-result
 invariant_of-result c =
@@ -144,21 +96,7 @@ invariant_of-result c =
     let blocks : c.in_ok-prefixes.prefixes.items ≡ n.prefixes = prefixes_are c.in_ok-prefixes.ensures.parts c.as_slice-2.ensures.value in
     let places : c.in_ok-prefixes.places.items ≡ n.places = places_are c.in_ok-prefixes.ensures.parts c.as_slice-2.ensures.value in
     let links : c.len.result ≡ length c.args.draft.links.items = omega arith in
-    let links_3 : c.len-3.result ≡ length c.args.draft.links.items = omega (arith, c.len-3.ensures) in
     let routers : c.len-2.result ≡ length c.args.draft.routers.items = omega (arith, c.len-2.ensures) in
-    let routers_5 : c.len-5.result ≡ length c.args.draft.routers.items = omega (arith, c.len-5.ensures) in
-    let prefixes_4 : c.len-4.result ≡ length c.in_ok-prefixes.prefixes.items = omega (arith, c.len-4.ensures) in
-    let prefixes_6 : c.len-6.result ≡ length c.in_ok-prefixes.prefixes.items = omega (arith, c.len-6.ensures) in
-    let routers_7 : c.len-7.result ≡ length c.args.draft.routers.items = omega (arith, c.len-7.ensures) in
-    let prefixes_8 : c.len-8.result ≡ length c.in_ok-prefixes.prefixes.items = omega (arith, c.len-8.ensures) in
-    let owners : AreOwners c.len-8.result c.as_slice-12.result.now c.in_ok-owners.owners.items = c.in_ok-owners.ensures.owners in
-    let items = λ (w : Vec ℕ Global). w.items in
-    let held : c.as_slice-7.result.now ≡ held_from 0 c.in_ok-interfaces.interfaces.items (map items c.args.draft.also.items) =
-    c.as_slice-7.ensures.value ∙ c.in_ok-held.ensures
-    ∙ ap (λ is. held_from 0 is (map items c.as_slice-6.result.now)) c.as_slice-5.ensures.value
-    ∙ ap (λ vs. held_from 0 c.in_ok-interfaces.interfaces.items (map items vs)) c.as_slice-6.ensures.value in
-    let flags : AreFlags c.len-4.result c.as_slice-8.result.now c.in_ok-carriers.carriers.items = c.in_ok-carriers.ensures.flags in
-    let costs : AreCosts c.len-6.result c.as_slice-9.result.now c.as_slice-11.result.now c.in_ok-costs.costs.items = c.in_ok-costs.ensures.costs in
     record {
       lawful = rw (interfaces, blocks, places) c.requires;
       on_link = c.in_ok-on_link.ensures
@@ -169,12 +107,12 @@ invariant_of-result c =
           ∙ ap (λ is. each_below (length c.args.draft.routers.items) (λ r. numbers_where (is_of r) 0 is)) c.as_slice-4.ensures.value;
       names = λ bs. c.args.draft.numbered bs;
       numbers = λ p. c.in_ok-prefixes.ensures.numbers p;
-      carriers_room = c.in_ok-carriers.ensures.room ∙ rw (links_3, prefixes_4) refl;
-      carriers = rw (prefixes_4, c.as_slice-8.ensures.value) at flags;
-      costs_room = c.in_ok-costs.ensures.room ∙ rw (routers_5, prefixes_6) refl;
-      costs = rw (prefixes_6, c.as_slice-9.ensures.value, c.as_slice-11.ensures.value) at costs;
-      owners_room = c.in_ok-owners.ensures.room ∙ rw (routers_7, prefixes_8) refl;
-      owners = rw (prefixes_8, c.as_slice-12.ensures.value) at owners;
-      any_kept = c.any_kept-any_kept.ensures ∙ ap (list_any (λ (q : Place). is_kept q.seat)) c.as_slice-13.ensures.value;
-      addresses = λ l a. c.in_ok-addresses.ensures l a ∙ ap (holder_at l a) held;
+      carriers_room = grind (arith, c.in_ok-carriers.ensures.room);
+      carriers = λ l k h. grind (arith, c.in_ok-carriers.ensures.flags l k);
+      costs_room = grind (arith, c.in_ok-costs.ensures.room);
+      costs = λ r k h. grind (arith, c.in_ok-costs.ensures.costs r k);
+      owners_room = grind (arith, c.in_ok-owners.ensures.room);
+      owners = λ r k h. grind (arith, c.in_ok-owners.ensures.owners r k);
+      any_kept = grind (arith, c.any_kept-any_kept.ensures);
+      addresses = λ l a. grind (arith, c.in_ok-addresses.ensures l a, c.in_ok-held.ensures);
     }

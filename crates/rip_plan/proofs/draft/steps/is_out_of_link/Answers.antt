@@ -1,25 +1,19 @@
-use Rattle.std.proofs.Common.{◌≡◌, ℕ, List, [], ◌∷◌, true, not, ◌&&◌, length, map, arith, refl, sym, ap, ◌∙◌, Vec, Global, Option}
+use Rattle.std.proofs.Common.{◌≡◌, ℕ, List, [], ◌∷◌, true, not, ◌&&◌, length, map, arith, refl}
 use Rattle.std.specs.Prelude.{filter}
 use Rattle.std.specs.List.{list_any}
-use Rattle.std.specs.Option.{option_map_or}
 use Rattle.std.proofs.lemmas.Bool.Decides.{nat_tests}
 use Rattle.std.proofs.lemmas.List.{nil_from_length}
 use Rattle.rip_wire.specs.Prefix.{Block}
 use Rattle.rip_plan.specs.declared.draft.DraftPlace.{DraftPlace}
 use Rattle.rip_plan.specs.Draft.{has_address, is_outside}
 use Rattle.rip_plan.specs.Seats.{is_on}
-use Rattle.rip_plan.proofs.ClashLemmas.{any_kept, any_listed}
+use Rattle.rip_plan.proofs.ClashLemmas.{any_listed}
 use Rattle.rip_plan.proofs.draft.steps.is_out_of_link.Goals as goal
 
 -- an address outside of a link, by the prefixes on it
 outside_by : (l a : ℕ) (places : List DraftPlace) (blocks : List Block) → blocks ≡ map (λ p. p.prefix) (filter (λ p. is_on l p.seat) places)
     → (list_any (λ b. true) blocks && not (list_any (λ b. has_address b a) blocks)) ≡ is_outside l a places
-outside_by l a places blocks h =
-    let test = λ (p : DraftPlace). is_on l p.seat in
-    let some : list_any test places ≡ list_any (λ b. true) blocks = any_kept (λ (p : DraftPlace). p.prefix) test places ∙ ap (list_any (λ b. true)) (sym h) in
-    let inside : list_any (λ b. has_address b a) blocks ≡ list_any (λ p. test p && has_address p.prefix a) places =
-    ap (list_any (λ b. has_address b a)) h ∙ any_listed (λ (p : DraftPlace). p.prefix) test (λ b. has_address b a) places in
-    rw (← some, inside) refl
+outside_by l a places blocks h = grind (arith, any_listed)
 
 any_some : (blocks : List Block) → (length blocks ≡ 0 → ⊥) → list_any (λ b. true) blocks ≡ true
 any_some [] h = absurd (h refl)
@@ -28,24 +22,12 @@ any_some (b ∷ bs) h = refl
 pub returns-then-not-is_empty : goal.returns-then-not-is_empty
 returns-then-not-is_empty c =
     let blocks = c.in-Some.prefixes.now.items in
-    let kept : blocks ≡ map (λ p. p.prefix) (filter (λ p. is_on c.args.link p.seat) c.args.draft.now.places.items) =
-    ap (λ (o : Option (Vec Block Global)). option_map_or (λ v. v.items) o []) c.in-Some.ensures.value ∙ c.args.draft.now.blocked c.args.link in
-    let len : c.in-Some.prefixes.now.len ≡ length blocks = omega (arith, ap length c.as_slice.ensures.value, c.as_slice.ensures.len) in
-    let some : list_any (λ b. true) blocks ≡ true = any_some blocks (λ e. let zero : c.in-Some.prefixes.now.len ≡ 0 = len ∙ e in grind (arith, nat_tests)) in
-    let has : c.has_address_in.result ≡ list_any (λ b. has_address b c.args.address) blocks = c.has_address_in.ensures ∙ ap (list_any (λ b. has_address b c.args.address)) c.as_slice.ensures.value in
-    rw has (ap (λ s. s && not (list_any (λ b. has_address b c.args.address) blocks)) (sym some) ∙ outside_by c.args.link c.args.address c.args.draft.now.places.items blocks kept)
+    grind (arith, nat_tests, any_some blocks, outside_by c.args.link c.args.address c.args.draft.now.places.items blocks, c.args.draft.now.blocked c.args.link)
 
 pub returns-else-not-is_empty : goal.returns-else-not-is_empty
 returns-else-not-is_empty c =
     let blocks = c.in-Some.prefixes.now.items in
-    let kept : blocks ≡ map (λ p. p.prefix) (filter (λ p. is_on c.args.link p.seat) c.args.draft.now.places.items) =
-    ap (λ (o : Option (Vec Block Global)). option_map_or (λ v. v.items) o []) c.in-Some.ensures.value ∙ c.args.draft.now.blocked c.args.link in
-    let zero : c.in-Some.prefixes.now.len ≡ 0 = grind (arith, nat_tests) in
-    let none : blocks ≡ [] = nil_from_length blocks (omega (arith, c.in-Some.prefixes.now.ok)) in
-    rw c.if-not-is_empty.false (ap (λ bs. list_any (λ b. true) bs && not (list_any (λ b. has_address b c.args.address) bs)) (sym none)
-    ∙ outside_by c.args.link c.args.address c.args.draft.now.places.items blocks kept)
+    grind (arith, nat_tests, nil_from_length blocks, outside_by c.args.link c.args.address c.args.draft.now.places.items blocks, c.args.draft.now.blocked c.args.link)
 
 pub returns-in-None : goal.returns-in-None
-returns-in-None c =
-    outside_by c.args.link c.args.address c.args.draft.now.places.items [] (ap (λ (o : Option (Vec Block Global)). option_map_or (λ v. v.items) o []) c.in-None.ensures.value
-    ∙ c.args.draft.now.blocked c.args.link)
+returns-in-None c = grind (arith, outside_by c.args.link c.args.address c.args.draft.now.places.items [], c.args.draft.now.blocked c.args.link)

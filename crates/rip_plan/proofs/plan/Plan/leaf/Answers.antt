@@ -1,6 +1,6 @@
-use Rattle.std.proofs.Common.{◌≡◌, ℕ, length, ap, sym, ◌∙◌}
+use Rattle.std.proofs.Common.{arith, ◌≡◌, ℕ, length, ap}
 use Rattle.std.specs.Prelude.{◌==◌}
-use Rattle.std.proofs.lemmas.Bool.{both_ways, eq-eqb, eqb-true, ne_eqb, not-true, not_from_false}
+use Rattle.std.proofs.lemmas.Bool.Decides.{nat_tests}
 use Rattle.rip_plan.specs.Network.{numbers_where, is_of}
 use Rattle.rip_plan.proofs.LeafRouterLemmas.{leaf_of_one, one_of_leaf, two_of_other, other_of_two}
 use Rattle.rip_plan.proofs.plan.Plan.leaf.Goals as goal
@@ -12,10 +12,7 @@ returns c =
     let k = length c.of_router.result.now in
     let count : k ≡ length (numbers_where (is_of r) 0 n.interfaces) = ap length c.of_router.ensures.value in
     record {
-      one = (λ h. leaf_of_one n r (sym count ∙ eqb-true k 1 h), λ h. eq-eqb k 1 (count ∙ one_of_leaf n r h.0 h.1 h.2 h.3));
-      more = (
-        λ h. two_of_other n c.lawful.ensures r c.requires (λ e. both_ways (k == 1) (not-true (k == 1) h) (eq-eqb k 1 (count ∙ e))),
-        λ h. not_from_false (k == 1) (ne_eqb k 1 (λ e. other_of_two n r h (sym count ∙ e))),
-      );
+      one = (λ h. leaf_of_one n r (grind (arith, nat_tests)), λ h. grind (arith, one_of_leaf n r h.0 h.1 h.2 h.3, nat_tests));
+      more = (λ h. two_of_other n c.lawful.ensures r c.requires (grind (arith, nat_tests)), λ h. grind (arith, other_of_two n r h, nat_tests));
       count = ap (λ (m : ℕ). m == 1) count;
     }

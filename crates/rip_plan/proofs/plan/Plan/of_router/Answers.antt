@@ -1,4 +1,4 @@
-use Rattle.std.proofs.Common.{◌≡◌, ◌<◌, ℕ, length, arith, ◌∙◌, refl, string_bytes, Vec, Global}
+use Rattle.std.proofs.Common.{◌≡◌, arith}
 use Rattle.std.proofs.lemmas.List.{length-map}
 use Rattle.rip_plan.specs.Network.{numbers_where, is_of}
 use Rattle.rip_plan.proofs.BelowLemmas.{kept_at, kept_within, rising}
@@ -6,19 +6,11 @@ use Rattle.rip_plan.proofs.LookupLemmas.{of_router_gives, of_router_finds}
 use Rattle.rip_plan.proofs.plan.Plan.of_router.Goals as goal
 
 pub index-requires : goal.index-requires
-index-requires c =
-    let below : c.args.router < length c.self.inside.routers.items = rw (← length-map c.self.inside.routers.items string_bytes) (rw (← c.self.view_is) at c.requires) in
-    let within : c.args.router < length c.self.inside.of_router.items =
-    kept_within (λ (w : Vec ℕ Global). w.items) c.self.inside.of_router.items (length c.self.inside.routers.items)
-    (λ l. numbers_where (is_of l) 0 c.self.inside.interfaces.items) c.args.router c.self.invariant.of_router below in
-    omega arith
+index-requires c = grind (arith, length-map, kept_within)
 
 pub returns : goal.returns
 returns c =
-    let below : c.args.router < length c.self.inside.routers.items = rw (← length-map c.self.inside.routers.items string_bytes) (rw (← c.self.view_is) at c.requires) in
-    let here = kept_at (λ (w : Vec ℕ Global). w.items) c.self.inside.of_router.items (length c.self.inside.routers.items)
-    (λ l. numbers_where (is_of l) 0 c.self.inside.interfaces.items) c.args.router c.index.result.now c.self.invariant.of_router below c.index.ensures in
-    let value : c.as_slice.result.now ≡ numbers_where (is_of c.args.router) 0 c.args.self.now.interfaces = c.as_slice.ensures.value ∙ here ∙ rw (← c.self.view_is) refl in
+    let value : c.as_slice.result.now ≡ numbers_where (is_of c.args.router) 0 c.args.self.now.interfaces = grind (arith, length-map, kept_at) in
     record {
       exact = λ i. rw value (of_router_gives c.args.self.now c.args.router i, λ h. of_router_finds c.args.self.now c.args.router i h.0 h.1 h.2);
       ascending = rw value (rising (is_of c.args.router) 0 c.args.self.now.interfaces);

@@ -1,4 +1,4 @@
-use Rattle.std.proofs.Common.{◌≡◌, ◌<◌, ℕ, length, arith, ◌∙◌, refl, string_bytes, Vec, Global}
+use Rattle.std.proofs.Common.{◌≡◌, arith}
 use Rattle.std.proofs.lemmas.List.{length-map}
 use Rattle.rip_plan.specs.Network.{numbers_where, is_on}
 use Rattle.rip_plan.proofs.BelowLemmas.{kept_at, kept_within, rising}
@@ -6,19 +6,11 @@ use Rattle.rip_plan.proofs.LookupLemmas.{on_link_gives, on_link_finds}
 use Rattle.rip_plan.proofs.plan.Plan.on_link.Goals as goal
 
 pub index-requires : goal.index-requires
-index-requires c =
-    let below : c.args.link < length c.self.inside.links.items = rw (← length-map c.self.inside.links.items string_bytes) (rw (← c.self.view_is) at c.requires) in
-    let within : c.args.link < length c.self.inside.on_link.items =
-    kept_within (λ (w : Vec ℕ Global). w.items) c.self.inside.on_link.items (length c.self.inside.links.items)
-    (λ l. numbers_where (is_on l) 0 c.self.inside.interfaces.items) c.args.link c.self.invariant.on_link below in
-    omega arith
+index-requires c = grind (arith, length-map, kept_within)
 
 pub returns : goal.returns
 returns c =
-    let below : c.args.link < length c.self.inside.links.items = rw (← length-map c.self.inside.links.items string_bytes) (rw (← c.self.view_is) at c.requires) in
-    let here = kept_at (λ (w : Vec ℕ Global). w.items) c.self.inside.on_link.items (length c.self.inside.links.items)
-    (λ l. numbers_where (is_on l) 0 c.self.inside.interfaces.items) c.args.link c.index.result.now c.self.invariant.on_link below c.index.ensures in
-    let value : c.as_slice.result.now ≡ numbers_where (is_on c.args.link) 0 c.args.self.now.interfaces = c.as_slice.ensures.value ∙ here ∙ rw (← c.self.view_is) refl in
+    let value : c.as_slice.result.now ≡ numbers_where (is_on c.args.link) 0 c.args.self.now.interfaces = grind (arith, length-map, kept_at) in
     record {
       exact = λ i. rw value (on_link_gives c.args.self.now c.args.link i, λ h. on_link_finds c.args.self.now c.args.link i h.0 h.1 h.2);
       ascending = rw value (rising (is_on c.args.link) 0 c.args.self.now.interfaces);
