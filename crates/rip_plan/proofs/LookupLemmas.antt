@@ -52,7 +52,7 @@ pub cost_found : (r l d : ℕ) (is : List Interface) → cost_on r l is ≡ Some
 cost_found r l d [] h = absurd (none-some d h)
 cost_found r l d (x ∷ xs) h =
     elim (cases_Bool (x.router == r && x.link == l)) [
-      | inl e ↦ (zero, (x, grind arith))
+      | inl e ↦ (zero, (x, refl, grind arith, grind arith, grind arith))
       | inr e ↦ let (i, found) = cost_found r l d xs (rw e at h) in (suc i, found)
     ]
 
