@@ -185,13 +185,8 @@ module _ (laws : TextLaws) (bytes : List ℕ) (document : Members) (n : Network)
               some = (block, carrier_has document n plan l p block (k, place) prefix);
               none = λ block its holds.
                   let (m, q, at, seat, (text, read, same)) = prefix_place plan.links plan.on_links plan.link_prefixes l block its in
-                  let one : q.prefix ≡ block = one_prefix laws text text q.prefix block refl read same in
-                  let off : (is_on l q.seat && has_address q.prefix a) ≡ false = none_at (λ (q : Placement). is_on l q.seat && has_address q.prefix a) plan.on_links m q e at in
-                  let here : is_on l (seats.Link l) ≡ true = grind (arith, nat_tests) in
-                  let on : is_on l q.seat ≡ true = ap (is_on l) seat ∙ here in
-                  let test : has_address block a ≡ true = grind (arith, nat_tests) in
-                  let inner : has_address q.prefix a ≡ true = ap (λ (b : Block). has_address b a) one ∙ test in
-                  cc;
+                  let off = none_at (λ (q : Placement). is_on l q.seat && has_address q.prefix a) plan.on_links m q e at in
+                  grind (arith, nat_tests, one_prefix laws text text q.prefix block refl read same, off);
             },
           ))
 
