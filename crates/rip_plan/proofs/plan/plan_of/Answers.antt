@@ -1,16 +1,12 @@
-use Rattle.std.proofs.Common.{◌≡◌, ◌≤◌, ℕ, List, [], length, map, arith, refl, sym, ◌∙◌, ap, string_bytes, Vec, Global}
-use Rattle.std.specs.List.{list_any}
+use Rattle.std.proofs.Common.{◌≡◌, ◌≤◌, ℕ, List, [], length, map, arith, sym, ◌∙◌, ap, Vec, Global}
 use Rattle.std.proofs.lemmas.List.{length-map}
 use Rattle.rip_wire.specs.Prefix.{Block}
 use Rattle.rip_plan.specs.declared.draft.DraftInterface.{DraftInterface}
 use Rattle.rip_plan.specs.declared.draft.DraftPlace.{DraftPlace}
 use Rattle.rip_plan.specs.declared.parts.Interface.{Interface}
 use Rattle.rip_plan.specs.declared.parts.Place.{Place}
-use Rattle.rip_plan.specs.Addresses.{held_from, holder_at}
 use Rattle.rip_plan.specs.Draft.{sketch}
 use Rattle.rip_plan.specs.Network.{Network, each_below, is_of, is_on, network_of_sketch, numbered, numbers_where}
-use Rattle.rip_plan.specs.Rows.{AreCosts, AreFlags, AreOwners}
-use Rattle.rip_plan.specs.Seats.{is_kept}
 use Rattle.rip_plan.proofs.BelowLemmas.{length-each_below}
 use Rattle.rip_plan.proofs.NumberingLemmas.{IsNumbered, numbers}
 use Rattle.rip_plan.proofs.MatchingLemmas.{matched_length}
