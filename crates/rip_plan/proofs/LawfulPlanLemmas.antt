@@ -195,13 +195,8 @@ module _ (laws : TextLaws) (bytes : List ℕ) (document : Members) (n : Network)
               some = (block, carrier_has document n plan x.link p block (k, place) prefix);
               none = λ block its holds.
                   let (m, q, at, seat, (text, read, same)) = prefix_place plan.links plan.on_links plan.link_prefixes x.link block its in
-                  let one : q.prefix ≡ block = one_prefix laws text text q.prefix block refl read same in
-                  let off : (is_on x.link q.seat && has_address q.prefix x.address) ≡ false = none_at test plan.on_links m q e at in
-                  let here : is_on x.link (seats.Link x.link) ≡ true = grind (arith, nat_tests) in
-                  let on : is_on x.link q.seat ≡ true = ap (is_on x.link) seat ∙ here in
-                  let test : has_address block x.address ≡ true = grind (arith, nat_tests) in
-                  let inner : has_address q.prefix x.address ≡ true = ap (λ (b : Block). has_address b x.address) one ∙ test in
-                  cc;
+                  let off = none_at test plan.on_links m q e at in
+                  grind (arith, nat_tests, one_prefix laws text text q.prefix block refl read same, off);
             },
           ))
 

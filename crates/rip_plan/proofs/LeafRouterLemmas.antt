@@ -40,9 +40,7 @@ pub leaf_of_one : (n : Network) (r : ℕ) → length (numbers_of n r) ≡ 1 → 
 leaf_of_one n r one =
     let (i, at) = get_some (numbers_of n r) 0 (omega arith) in
     let (l, c, has) = interface_at n r 0 i at in
-    let only : (j k d : ℕ) → IsInterface n j r k d → j ≡ i = λ j k d h.
-    let (m, there) = at_contains (numbers_of n r) j (of_router_finds n r j k d h) in
-    grind (arith, slice_get_within (numbers_of n r) m j there) in
+    let only : (j k d : ℕ) → IsInterface n j r k d → j ≡ i = λ j k d h. grind (arith, at_contains (numbers_of n r) j (of_router_finds n r j k d h), slice_get_within (numbers_of n r)) in
     (i, l, c, record { has = has; only = only })
 
 pub one_of_leaf : (n : Network) (r i l c : ℕ) → IsLeaf n r i l c → length (numbers_of n r) ≡ 1
