@@ -8,6 +8,7 @@ use Rattle.std.proofs.lemmas.Option.{same_Some}
 use Rattle.std.proofs.lemmas.Slice.Eq.{bytes_eq-Decides}
 use Rattle.rip_wire.specs.Name.{IsName, is_name}
 use Rattle.rip_wire.specs.Prefix.{Block, IsBlock, size_of}
+use Rattle.rip_plan.proofs.LookupLemmas.{own_inside}
 use Rattle.rip_plan.specs.declared.parts.Interface.{Interface}
 use Rattle.rip_plan.specs.declared.parts.OwnPrefix.{OwnPrefix}
 use Rattle.rip_plan.specs.declared.parts.Seat.{Seat}
@@ -345,8 +346,8 @@ module _ (n : Network) (ok : Passes n) where
   place_is k q s at e = record { listed = at ∙ ap (λ (t : Seat). Some (record { prefix = q.prefix; seat = t })) e }
 
   -- the address of an interface is inside a prefix of its link
-  inside_of : (i p : ℕ) (x : Interface) → slice_get n.interfaces i ≡ Some x → Carries n x.link p → IsInside n x.link x.address
-  inside_of i p x at carries =
+  inside : (i p : ℕ) (x : Interface) → slice_get n.interfaces i ≡ Some x → Carries n x.link p → IsInside n x.link x.address
+  inside i p x at carries =
       let here = some_holds (λ k q. is_link x.link q.seat) n.places carries.0 _ carries.1.listed (eq-eqb x.link x.link refl) in
       let found = some_gives (λ k q. is_link x.link q.seat && some (λ p b. (p == q.prefix) && contains b x.address) n.prefixes) n.places
       (when_gives _ (is_inside n x) (each_gives (is_inside_prefixes n) n.interfaces ok.inside i x at) here) in
@@ -357,9 +358,6 @@ module _ (n : Network) (ok : Passes n) where
       let e : prefix.0 ≡ q.prefix = eqb-true _ _ both.0 in
       let listed : IsPrefix n q.prefix prefix.1 = rw e at prefix.2 in
       (q.prefix, prefix.1, (found.0, place_is found.0 q (Link x.link) found.2 (link_of x.link q.seat parts.0)), listed, eqb-true _ _ both.1)
-
-  inside : (i l a p : ℕ) → HasOwnAddress n i l a → Carries n l p → IsInside n l a
-  inside i l a p own carries = rw (← own.link, ← own.address) (inside_of i p own.interface own.listed (subst (λ (m : ℕ). Carries n m p) (sym own.link) carries))
 
   one_interface : (r : ℕ) → r < length n.routers → (i l c : ℕ) × IsInterface n i r l c
   one_interface r lt =
@@ -428,7 +426,7 @@ module _ (n : Network) (ok : Passes n) where
             let y = its_address j l a g in
             apart i j x.0 y.0 x.1 y.1 (x.2 ∙ sym y.2) (inr (sym x.3 ∙ y.3));
         addresses_once = addresses_once;
-        inside = inside;
+        inside = own_inside n inside;
         prefix_is = λ p b at. (block_parts p b at).0;
         prefixes_differ = prefixes_differ;
         one_place = one_place;

@@ -6,12 +6,12 @@ use Rattle.std.specs.Prelude.{find, option_map, filter, slice_get}
 use Rattle.std.specs.List.{list_any, position_from}
 use Rattle.std.proofs.lemmas.Bool.{cases_Bool, not-false, not-true, cases_lt}
 use Rattle.std.proofs.lemmas.List.{drop_more, map-append, take_more, append-nil}
-use Rattle.rip_plan.proofs.ItemLemmas.{any_finds, get_left, get_past, get_split, none_at}
 use Rattle.std.proofs.lemmas.List.Folds.{list_any_more}
+use Rattle.std.proofs.lemmas.Option.{none-some, same_Some, slice_get_within}
 use Rattle.rip_plan.specs.Passes.{do_meet, first_clash, first_bare, is_bare, touching}
 use Rattle.rip_plan.specs.declared.draft.DraftPlace.{DraftPlace}
 use Rattle.rip_plan.specs.declared.draft.DraftInterface.{DraftInterface}
-use Rattle.std.proofs.lemmas.Option.{none-some, same_Some, slice_get_within}
+use Rattle.rip_plan.proofs.ItemLemmas.{any_finds, get_left, get_past, get_split, none_at}
 
 -- no item that is so, or the first
 abbrev pub FirstSo : {A : Type 0} → (ℕ → A → Type 0) → List A → Option A → Type 0

@@ -10,6 +10,7 @@ use Rattle.std.proofs.lemmas.Map.Text.{is_eq-slice_cmp}
 use Rattle.std.proofs.lemmas.Option.{none-some}
 use Rattle.std.proofs.lemmas.Slice.Eq.{bytes_eq-Decides}
 use Rattle.toml.specs.Data.{Data, Members, get, no_members, member, table, get_member, as_str, as_table}
+use Rattle.rip_plan.specs.declared.limits.TheConstants.{DEFAULT_POISON}
 use Rattle.rip_plan.specs.DocumentTables.{HasOnly, MayHave, IsInterfaceTable, IsLinkTable, IsOwnTable, IsRoot, IsRouterTable, IsString, IsTextList}
 use Rattle.rip_plan.specs.Keys.{keys_of, the_root, a_link, a_router, an_interface, an_own}
 use Rattle.rip_plan.specs.Fields.{InterfaceFields, OwnFields, ◌&>◌, flag_if, has_only, integer_if, interface_fields, items_if, link_fields, own_fields, root_fields, router_fields, text_at, texts_of}
@@ -57,7 +58,7 @@ all_texts (d ∷ ds) each = grind (arith, all_texts ds (λ k x at. each (suc k) 
 pub record HasRootFields (doc : Members) (links routers : List Data) (poison : Bool) : Type 0 where
   pub has_links : HasItems (codes_of "link") (table doc) links
   pub has_routers : HasItems (codes_of "router") (table doc) routers
-  pub has_poison : IsPoisonOf true (table doc) poison
+  pub has_poison : IsPoisonOf DEFAULT_POISON (table doc) poison
   pub shape : IsRoot doc
 
 pub root_table : (doc : Members) (links routers : List Data) (poison : Bool) → root_fields doc ≡ Some (links, routers, poison) → HasRootFields doc links routers poison
@@ -131,6 +132,8 @@ unfolding router_fields
 router_table d name interfaces owns h =
     let (ms, is, h1) = then_some (as_table d) router_fields (name, interfaces, owns) h in
     rw (table_is d ms is) (grind (arith, keys_only))
+
+-- ---- a table whose fields were not read has not its keys, each of its kind
 
 pub link_not : (d : Data) → (as_table d &> link_fields) ≡ None → IsLinkTable d → ⊥
 unfolding link_fields

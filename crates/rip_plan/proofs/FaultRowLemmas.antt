@@ -1,4 +1,5 @@
--- The rows of the table of codes, in the order in which they are asked.
+-- The rows of the table of codes, in the order in which they are asked, and that each fault is told in a row where
+-- something stands.
 use Rattle.std.proofs.Common.{◌≡◌, map, ℕ, ◌<◌, ◌≤◌, ◌⊎◌, inl, inr, List, [], ◌∷◌, length, Some, Result, refl, arith}
 use Rattle.std.specs.Prelude.{codes as codes_of}
 use Rattle.toml.specs.Data.{Data, Members}
@@ -112,7 +113,7 @@ pub tables_low : Low table_rows (0 ∷ 1 ∷ [])
 tables_low o h before = grind arith
 
 module _ (document : Members) (links routers : List Data) where
-  -- in the table of codes
+  -- the fault is one by the table of codes
   abbrev pub IsTold : Found → Type 0
   IsTold o = TableFault document links routers o.error.code o.error.place
 

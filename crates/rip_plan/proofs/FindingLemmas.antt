@@ -1,8 +1,8 @@
--- The order in which faults are told, and what is found of the faults of a text by reading on until the first: no fault of
--- the rows that were asked, or one of them and none before it.
+-- The order in which faults are told, and what is found of the faults of a text by reading on until the first: no
+-- fault of the rows that were asked, or one of them and none before it.
 use Rattle.std.proofs.Common.{◌≡◌, ℕ, ◌<◌, ◌≤◌, ◌⊎◌, inl, inr, List, [], ◌∷◌, ◌++◌, length, refl, arith, ◌+◌, length-append, append_assoc, Bool, true, false, cond, Option, Some, None, Result, Ok, Err, sym, ap, subst, ◌∙◌}
-use Rattle.rip_plan.specs.PlanFaults.{Before, pass_of, rank}
 use Rattle.std.proofs.lemmas.List.{append-nil}
+use Rattle.rip_plan.specs.PlanFaults.{Before, pass_of, rank}
 use Rattle.rip_plan.specs.declared.error.At.{At}
 use Rattle.rip_plan.specs.declared.error.PlanCode.{PlanCode}
 use Rattle.rip_plan.specs.declared.error.PlanError.{PlanError}

@@ -27,11 +27,11 @@ use Rattle.rip_plan.specs.Seats.{is_on}
 use Rattle.rip_plan.specs.PlanFaults.{AreTwice, DoMeet, HasTables, HasWrongCost, HasWrongDirect, HaveOneAddress, IsAstray, IsClash, IsFault, IsMisnamed, IsText, TableFault, also_spots, interface_spots, pass_of, place_spots}
 use Rattle.rip_plan.specs.PlanOf.{AreAlsoOf, HasItems, IsAddressOf, IsCostOf, IsDirectOf, IsInterfaceOf, IsNameOf, IsPlaceOf, IsPlanOfText, Matched, Placement, PlanOf, each_once, items_in, items_under}
 use Rattle.rip_plan.specs.PlanText.{sketch_of}
-use Rattle.rip_plan.specs.Relations.{Carries, HasAddress, HasAddresses, HasOwnAddress, IsAttached, IsConnected, IsEachOnce, IsGateway, IsInside, IsInterface, IsLawful, IsOn, IsOwnAt, IsPlace, IsPrefix}
+use Rattle.rip_plan.specs.Relations.{Carries, HasAddress, HasAddresses, IsAttached, IsConnected, IsEachOnce, IsGateway, IsInside, IsInterface, IsLawful, IsOn, IsOwnAt, IsPlace, IsPrefix}
 use Rattle.rip_plan.proofs.DocumentTableLemmas.{by_root}
 use Rattle.rip_plan.proofs.SpotLemmas.{also_spot, interface_spot, place_spot, under_item}
 use Rattle.rip_plan.proofs.ItemLemmas.{all_at, all_here, any_finds, cases_option, distinct_at, get_left, get_seen, get_some, get_split, none_at}
-use Rattle.rip_plan.proofs.LookupLemmas.{cost_found, cost_there, interface_of, on_seat}
+use Rattle.rip_plan.proofs.LookupLemmas.{cost_found, cost_there, interface_of, on_seat, own_inside}
 use Rattle.rip_plan.proofs.MatchingLemmas.{matched_left, matched_length}
 use Rattle.rip_plan.proofs.NumberingLemmas.{once_distinct, once_kept, same_self}
 use Rattle.rip_plan.proofs.BelowLemmas.{at_contains}
@@ -162,8 +162,8 @@ module _ (laws : TextLaws) (bytes : List ℕ) (document : Members) (n : Network)
       (λ more. not codes.DuplicateAddress (RouterInterface r m) (n, plan, inr (i, spot, (l, addresses, its, (k, j, a, more, g, h)))))
 
   -- the address of an interface is inside a prefix of its link
-  inside_of : (i p : ℕ) (x : Interface) → slice_get n.interfaces i ≡ Some x → Carries n x.link p → IsInside n x.link x.address
-  inside_of i p x at (k, place) = by_test (list_any test plan.on_links) refl
+  inside : (i p : ℕ) (x : Interface) → slice_get n.interfaces i ≡ Some x → Carries n x.link p → IsInside n x.link x.address
+  inside i p x at (k, place) = by_test (list_any test plan.on_links) refl
     where
       test : Placement → Bool
       test q = is_on x.link q.seat && has_address q.prefix x.address
@@ -199,9 +199,6 @@ module _ (laws : TextLaws) (bytes : List ℕ) (document : Members) (n : Network)
                   grind (arith, nat_tests, one_prefix laws text text q.prefix block refl read same, off);
             },
           ))
-
-  inside : (i l a p : ℕ) → HasOwnAddress n i l a → Carries n l p → IsInside n l a
-  inside i l a p own carries = rw (← own.link, ← own.address) (inside_of i p own.interface own.listed (subst (λ (m : ℕ). Carries n m p) (sym own.link) carries))
 
   -- ---- prefixes
 
@@ -337,7 +334,7 @@ module _ (laws : TextLaws) (bytes : List ℕ) (document : Members) (n : Network)
         address_known = address_known;
         addresses_differ = addresses_differ;
         addresses_once = addresses_once;
-        inside = inside;
+        inside = own_inside n inside;
         prefix_is = prefix_is;
         prefixes_differ = prefixes_differ;
         one_place = one_place;

@@ -19,13 +19,13 @@ use Rattle.rip_plan.specs.Seats as seated
 use Rattle.rip_plan.specs.Passes.{same_prefix}
 use Rattle.rip_plan.specs.Addresses.{holder_at}
 use Rattle.rip_plan.specs.Network.{Network, addresses_of, number_of_prefix, found_at, is_on, is_of, numbers_where, is_carrying, first_carrying, is_owned, own_seat, cost_on, cost_at, direct_at}
-use Rattle.rip_plan.specs.Relations.{IsPrefix, IsInterface, IsConnected, HasAddress, IsAt, IsPlace, IsOwnWith, Carries, Touches, IsDirect, IsLawful}
+use Rattle.rip_plan.specs.Relations.{IsPrefix, IsInterface, IsConnected, HasAddress, HasOwnAddress, IsAt, IsInside, IsPlace, IsOwnWith, Carries, Touches, IsDirect, IsLawful}
 use Rattle.rip_plan.proofs.HeldAddressLemmas.{holder_gives, holder_none}
 use Rattle.rip_plan.proofs.ItemLemmas.{cases_option, position_finds, position_none, none_at}
 use Rattle.rip_plan.proofs.NumberingLemmas.{same_is, same_self}
 use Rattle.rip_plan.proofs.BelowLemmas.{contains_at, at_contains, number_passes, passing_number}
 
--- where an item passes, the first that passes is found
+-- an item stands at the number that was found, and passes
 pub at_first : {A : Type 0} (test : A → Bool) (xs : List A) (k : ℕ) → position_from test 0 xs ≡ Some k → (y : A) × (slice_get xs k ≡ Some y) × (test y ≡ true)
 at_first test xs k e = grind (arith, position_finds)
 
@@ -94,6 +94,12 @@ touch_costs n j k r c (inr h) = (seats.Own h.own, h.place, λ e. let same : (h.o
 
 pub interface_of : (n : Network) (i r l d : ℕ) → (is : IsConnected n i r l d) → IsInterface n i r l is.interface.cost
 interface_of n i r l d is = record { interface = is.interface; listed = is.listed; router = is.router; link = is.link; cost = refl }
+
+-- own addresses are inside a prefix of their link, where the address of each interface is
+pub own_inside : (n : Network) → ((i p : ℕ) (x : Interface) → slice_get n.interfaces i ≡ Some x → Carries n x.link p → IsInside n x.link x.address) → (i l a p : ℕ)
+    → HasOwnAddress n i l a → Carries n l p → IsInside n l a
+own_inside n each i l a p own carries =
+    rw (← own.link, ← own.address) (each i p own.interface own.listed (subst (λ (m : ℕ). Carries n m p) (sym own.link) carries))
 
 -- a place has one seat
 pub one_seat : (n : Network) (j k : ℕ) (seat other : Seat) → IsPlace n j k seat → IsPlace n j k other → seat ≡ other

@@ -1,4 +1,5 @@
--- Prefixes have one number each, each place has the number of its prefix, and the prefixes that are numbered are those of the places, each once.
+-- Prefixes have one number each, each place has the number of its prefix, and the prefixes that are numbered are those
+-- of the places, each once.
 use Rattle.std.proofs.Common.{◌≡◌, ℕ, ◌+◌, inl, inr, List, [], ◌∷◌, ◌++◌, length, append_assoc, Bool, true, false, cond, Option, Some, None, refl, sym, ◌∙◌, ap, arith, subst, map, filter, not, ◌&&◌}
 use Rattle.std.specs.Prelude.{slice_get}
 use Rattle.std.specs.List.{list_any, position_from, AllByRecursion, IsDistinct}

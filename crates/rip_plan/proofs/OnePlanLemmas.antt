@@ -1,9 +1,10 @@
 -- A document has one plan.
-use Rattle.std.proofs.Common.{◌≡◌, ℕ, ◌⊎◌, List, ◌++◌, map, Bool, true, Option, Some, None, refl, sym, ◌∙◌, ap, subst, arith}
+use Rattle.std.proofs.Common.{◌≡◌, ℕ, ◌⊎◌, List, ◌++◌, map, Bool, Option, Some, None, refl, sym, ◌∙◌, ap, subst, arith}
 use Rattle.std.specs.Prelude.{pos, codes as codes_of}
 use Rattle.std.proofs.lemmas.Option.{none-some, same_Some}
 use Rattle.toml.specs.Data.{Data, Members, string, boolean, integer, table, get}
 use Rattle.rip_wire.specs.Prefix.{Block}
+use Rattle.rip_plan.specs.declared.limits.TheConstants.{DEFAULT_COST, DEFAULT_POISON}
 use Rattle.rip_plan.specs.declared.parts.Interface.{Interface}
 use Rattle.rip_plan.specs.declared.parts.Place.{Place}
 use Rattle.rip_plan.specs.Passes.{same_prefix}
@@ -29,7 +30,7 @@ one_number : (x y : ℕ) → integer (pos x) ≡ integer (pos y) → x ≡ y
 one_number x y same = let whole : pos x ≡ pos y = cc in cc
 
 pub cost_same : (d : Data) (b c : ℕ) → IsCostOf d b → IsCostOf d c → b ≡ c
-cost_same d b c h k = either_same (get (codes_of "cost") d) (λ x. integer (pos x)) one_number 1 1 refl b c h k
+cost_same d b c h k = either_same (get (codes_of "cost") d) (λ x. integer (pos x)) one_number DEFAULT_COST DEFAULT_COST refl b c h k
 
 direct_same : (d : Data) (b c : ℕ) → b ≡ c → (x y : ℕ) → IsDirectOf d b x → IsDirectOf d c y → x ≡ y
 direct_same d b c e x y h k = either_same (get (codes_of "direct") d) (λ x. integer (pos x)) one_number b c e x y h k
@@ -76,7 +77,7 @@ one_plan laws document n m p q =
     let router_tables : q.routers ≡ p.routers = items_same (codes_of "router") (table document) q.routers p.routers q.has_routers p.has_routers in
     let names : n.links ≡ m.links = matched_same IsNameOf IsNameOf (λ x y d h k. text_same (codes_of "name") d x y h k) _ _ _ p.link_names (rw link_tables at q.link_names) in
     let others : n.routers ≡ m.routers = matched_same IsNameOf IsNameOf (λ x y d h k. text_same (codes_of "name") d x y h k) _ _ _ p.router_names (rw router_tables at q.router_names) in
-    let poison : p.poison ≡ q.poison = flag_same (codes_of "poison") (table document) true true refl p.poison q.poison p.has_poison q.has_poison in
+    let poison : p.poison ≡ q.poison = flag_same (codes_of "poison") (table document) DEFAULT_POISON DEFAULT_POISON refl p.poison q.poison p.has_poison q.has_poison in
     let interfaces : n.interfaces ≡ m.interfaces =
     matched_same _ _ (interface_same laws n.links m.links names p.poison q.poison poison) _ _ _ p.interfaces (rw router_tables at q.interfaces) in
     let also : n.also ≡ m.also = matched_same AreAlsoOf AreAlsoOf (also_same laws) _ _ _ p.also (rw router_tables at q.also) in

@@ -1,11 +1,9 @@
 -- What the later passes find of the faults of a plan.
 use Rattle.std.proofs.Common.{◌≡◌, ◌↔◌, ℕ, ◌+◌, ◌<◌, ◌≤◌, ◌⊎◌, inl, inr, suc, List, [], ◌∷◌, ◌++◌, length, true, false, ◌||◌, Option, Some, None, Result, refl, sym, ap, subst, ◌∙◌, arith, Bool, zero, map}
-use Rattle.rip_plan.proofs.SketchPlanLemmas.{as_interface, interface_as, place_in, place_from, touch, touches, there_on, on_there}
 use Rattle.std.specs.Prelude.{slice_get, find, option_map, unwrap_or, map, ◌==◌}
-use Rattle.std.specs.List.{IsDistinct, list_any}
+use Rattle.std.specs.List.{IsDistinct, list_any, range_with_len}
 use Rattle.std.proofs.lemmas.Option.{same_Some, slice_get_within, get_or_from_slice_get, slice_get-get_or}
 use Rattle.std.proofs.lemmas.List.FromFn.{length-range_with_len, get_or-range_with_len}
-use Rattle.std.specs.List.{range_with_len}
 use Rattle.std.proofs.lemmas.Bool.{eqb-true, cases_lt, true_from_ne_false, and_parts, or_cases, or_right, not-false, both_ways, false_from_ne_true}
 use Rattle.std.proofs.lemmas.Bool.Decides.{nat_tests}
 use Rattle.toml.specs.Data.{Data, Members}
@@ -29,6 +27,7 @@ use Rattle.rip_plan.specs.Network.{Network, network_of_sketch}
 use Rattle.rip_plan.specs.Relations.{IsAttachedAt, IsInterface, IsPlace}
 use Rattle.rip_plan.specs.PlanOf.{PlanOf}
 use Rattle.rip_plan.specs.PlanFaults.{pass_of, TableFault, IsAstray, IsClash, IsBare, IsSo, DoMeet, AreTwice, HasOneTwice, HaveOneAddress, Before, rank, position, place_spots, interface_spots}
+use Rattle.rip_plan.proofs.SketchPlanLemmas.{as_interface, interface_as, place_in, place_from, touch, touches, there_on, on_there}
 use Rattle.rip_plan.proofs.FindingLemmas.{Found, Finds, finds_in, bind_finds, before_trans, before_not, ranked}
 use Rattle.rip_plan.proofs.FaultRowLemmas.{IsAstrayAt, IsLast, IsOfTables, IsTold, told_finds, code_rows, pass_apart, later_rows, pass_rows}
 use Rattle.rip_plan.proofs.HeldAddressLemmas.{address_held, first_held, held_address, held_at, held_order, held_in}
@@ -76,10 +75,6 @@ bare_found : (is : List DraftInterface) (k n : ℕ) → first_bare is k n ≡ fi
 bare_found is k zero = refl
 bare_found is k (suc n) = rw (bare_found is (k + 1) n) refl
 
--- two seats touch a router
-common : (rs ss : List ℕ) (r : ℕ) → list_any (λ s. s == r) rs ≡ true → list_any (λ s. s == r) ss ≡ true → have_common rs ss ≡ true
-common rs ss r h k = grind (arith, nat_tests, any_finds, any_at)
-
 -- ---- one pass
 
 before_more : (xs ys us vs : List ℕ) → Before xs ys → Before (xs ++ us) (ys ++ vs)
@@ -103,6 +98,7 @@ InOrder {A} see xs = (k m : ℕ) (x y : A) → k < m → slice_get xs k ≡ Some
 abbrev in_pass : ℕ → PlanCode → At → Found
 in_pass n c place = record { pass = n; error = fault c place }
 
+-- what a pass finds is its first item that is so, where no later item stands before it
 pass_finds : {A : Type 0} (F : Found → Type 0) (n : ℕ) (c : PlanCode) (Is : ℕ → A → Type 0) (see : A → At) (xs : List A) (r : Option A) → FirstSo Is xs r → InOrder see xs
     → ((place : At) → Stood Is see xs place → F (in_pass n c place)) → ((place : At) → F (in_pass n c place) → Stood Is see xs place)
     → Finds F (code_rows n c) (none_found c (option_map see r))
@@ -157,6 +153,10 @@ clash_finds {A} F n c see xs spots stand ahead clash Clash gives takes same =
     spot k x h = ap (λ (l : List At). slice_get l k) (sym stand) ∙ see_got see xs k x h
 
 -- ---- two places that meet
+
+-- two seats touch a router
+common : (rs ss : List ℕ) (r : ℕ) → list_any (λ s. s == r) rs ≡ true → list_any (λ s. s == r) ss ≡ true → have_common rs ss ≡ true
+common rs ss r h k = grind (arith, nat_tests, any_finds, any_at)
 
 module _ (s : Sketch) where
   on_one : (seat other : Seat) → is_same_link seat other ≡ true → (l : ℕ) × (seat ≡ seats.Link l) × (other ≡ seats.Link l)

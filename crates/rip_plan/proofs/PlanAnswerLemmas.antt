@@ -27,10 +27,10 @@ found_below n name a (Some i) e = let (l, named, here) = found_gives n name a i 
 pub direct_exact : (n : Network) → IsLawful n → (r k : ℕ) (o : Option ℕ) → o ≡ direct_at r k n.interfaces n.places → (c : ℕ) → (o ≡ Some c) ↔ IsDirect n r k c
 direct_exact n laws r k o e c = (λ h. direct_gives n r k c (sym e ∙ h), λ h. e ∙ direct_finds n laws r k c h)
 
--- a number that the plan does not have has no cost, and each cost is at least 1
 past_not : {a b r k : ℕ} → (a ≤ r) ⊎ (b ≤ k) → r < a → k < b → ⊥
 past_not h g e = grind arith
 
+-- a number that the plan does not have has no cost, and each cost is at least 1
 pub direct_past : (n : Network) → IsLawful n → (r k : ℕ) → (length n.routers ≤ r) ⊎ (length n.prefixes ≤ k) → direct_at r k n.interfaces n.places ≡ None
 direct_past n laws r k past =
     elim (cases_option (direct_at r k n.interfaces n.places)) [

@@ -205,10 +205,12 @@ own_here links done d rest front x back e n h =
 pub nth_here : {A : Type 0} (done : List A) (x : A) (rest : List A) (n : ℕ) → n ≡ 1 + length done → nth (done ++ x ∷ rest) n ≡ Some x
 nth_here done x rest n e = let same : n ≡ suc (length done) = omega arith in rw same (get_front done x rest)
 
--- ---- one item has a number
+-- ---- a number has one item
 
 pub item_once : (key : List ℕ) (ds : List Data) (i j : ℕ) (x y : Data) → IsItem key ds i j x → IsItem key ds i j y → x ≡ y
 item_once key ds i j x y (d, is, it) (e, js, jt) = grind arith
+
+-- ---- the further addresses of interfaces
 
 abbrev pub also_items : Data → List Data
 also_items d = items_in (get (codes_of "also") d)
@@ -223,7 +225,7 @@ abbrev pub also_under : List Data → ℕ
 also_under [] = 0
 also_under (d ∷ ds) = also_in (items_in (get (codes_of "interface") d)) + also_under ds
 
--- ---- each stands at an interface
+-- ---- each further address stands at an interface
 
 abbrev spots_at : (ℕ → At) → ℕ → Data → List At
 spots_at at j d = map (λ (y : Data). at j) (also_items d)
@@ -254,7 +256,7 @@ also_item routers k i j h =
     let s = also_spot 1 routers k (RouterInterface i j) h in
     (s.x, item_of (codes_of "interface") routers s.n s.j s.x s.item i j (cc) (cc))
 
--- ---- how many there are
+-- ---- how many further addresses there are
 
 of_count : (at : ℕ → At) (j : ℕ) (ds : List Data) → length (also_spots_of at j ds) ≡ also_in ds
 of_count at j [] = refl
@@ -267,7 +269,7 @@ also_count r (d ∷ ds) =
     let here = also_spots_of (RouterInterface r) 1 (items_in (get (codes_of "interface") d)) in
     omega (arith, also_count (r + 1) ds, length-append here (also_spots_from (r + 1) ds), of_count (RouterInterface r) 1 (items_in (get (codes_of "interface") d)))
 
--- ---- those of one interface stand after those before
+-- ---- the further addresses of an interface stand after those before
 
 of_here : (at : ℕ → At) (j : ℕ) (front : List Data) (x : Data) (back : List Data) (m : ℕ) → m < length (also_items x) → (n : ℕ) → n ≡ also_in front + m
     → slice_get (also_spots_of at j (front ++ x ∷ back)) n ≡ Some (at (j + length front))
@@ -286,7 +288,7 @@ also_here r done d rest front x back e m less n h =
     (RouterInterface (r + length done) (1 + length front)) (get_front done d rest) (rw e spot) n
     (omega (arith, h, ahead_front spots_of_router r done d rest, ap length (further_flat r done), also_count r done))
 
--- ---- and there is none further on
+-- ---- and none of them stands further on
 
 of_within : (at : ℕ → At) → ((n m : ℕ) → at n ≡ at m → n ≡ m) → (j : ℕ) (front : List Data) (x : Data) (back : List Data) (k : ℕ)
     → slice_get (also_spots_of at j (front ++ x ∷ back)) k ≡ Some (at (j + length front)) → k < also_in front + length (also_items x)

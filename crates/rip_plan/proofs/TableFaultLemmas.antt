@@ -2,13 +2,17 @@
 use Rattle.std.proofs.Common.{◌≡◌, ℕ, zero, suc, ◌+◌, ◌<◌, ◌≤◌, inl, inr, List, [], ◌∷◌, ◌++◌, length, Bool, true, false, not, Some, Ok, refl, sym, ap, subst, ◌∙◌, arith, length-append, ◌-◌, ◌⊎◌, ◌&&◌, Option, None, Result}
 use Rattle.std.specs.Prelude.{slice_get, nat_le, codes as codes_of, map}
 use Rattle.std.specs.Str.{bytes_eq}
-use Rattle.std.proofs.lemmas.Bool.{both_ways, not-false, not-true, cases_Bool, and_parts}
+use Rattle.std.proofs.lemmas.Bool.{both_ways, leb-true, not-false, not-true, cases_Bool, and_parts}
 use Rattle.std.proofs.lemmas.Option.{none-some, same_Some, slice_get_within}
 use Rattle.std.proofs.lemmas.Bool.Decides.{nat_tests}
 use Rattle.std.proofs.lemmas.Slice.Eq.{bytes_eq-Decides}
+use Rattle.std.specs.List.{sum_by}
+use Rattle.std.proofs.lemmas.List.Sums.{sum_by-append}
+use Rattle.std.proofs.lemmas.List.{map-append}
 use Rattle.toml.specs.Data.{Data, Members, string, get, as_str, as_table}
 use Rattle.rip_wire.specs.Name.{is_name}
 use Rattle.rip_wire.specs.Prefix.{prefix_in, Block}
+use Rattle.rip_wire.specs.Address.{address_in}
 use Rattle.rip_plan.specs.declared.error.PlanCode.TheVariants as codes
 use Rattle.rip_plan.specs.declared.error.At.{At}
 use Rattle.rip_plan.specs.declared.error.At.TheVariants.{Link, LinkPrefix, Router, RouterInterface, RouterOwn}
@@ -20,6 +24,12 @@ use Rattle.rip_plan.specs.Draft.{Sketch, prefix_step, link_step, interface_step,
 use Rattle.rip_plan.specs.PlanOf.{HasText, Matched, IsNameOf, items_in, items_under, Placement}
 use Rattle.rip_plan.specs.PlanText.{empty}
 use Rattle.rip_plan.specs.PlanFaults.{nth, IsItem, IsMisnamed, IsNamedAgain, spots_of, spots_under, place_spots, IsPast, NamesNoLink, IsOutside, HasNoAddress, HasPrefix, HasWrongAlso, HasWrongCost, HasWrongDirect, interface_spots, also_spots}
+use Rattle.rip_plan.specs.Texts.{IsNoPrefix, IsPrefixText, IsAddressText}
+use Rattle.rip_plan.specs.DocumentTables.{IsLinkTable, IsString, IsRouterTable, IsInterfaceTable, IsOwnTable}
+use Rattle.rip_plan.specs.declared.error.PlanError.{PlanError}
+use Rattle.rip_plan.specs.declared.draft.DraftInterface.{DraftInterface}
+use Rattle.rip_plan.specs.declared.parts.Seat.TheVariants as seats
+use Rattle.rip_plan.specs.Seats.{is_on}
 use Rattle.rip_plan.proofs.FindingLemmas.{Asks, Each, Finds, ask_both, ask_guard, ask_rest, ask_wanted, bind_finds, row_at, steps_finds}
 use Rattle.rip_plan.proofs.FaultRowLemmas.{IsTold, asked_at, rest_at, turn_at, item_stands, prefix_rows, prefix_starts, link_rows, link_starts, link_within, links_rows, interface_rows, interface_starts, own_rows, own_starts, interfaces_sooner, router_rows, router_starts, router_within, routers_rows}
 use Rattle.rip_plan.proofs.SpotLemmas.{nth_from, place_once, prefix_here, nth_here, item_once, count_of, also_here, also_in, also_items, also_under, also_within, with_number, interface_once, own_here, under_here}
@@ -30,17 +40,7 @@ use Rattle.rip_plan.proofs.OnePlanLemmas.{text_same}
 use Rattle.rip_plan.proofs.PlanMatchLemmas.{with_link, links_added, prefixes_added, stood, TablesRead, room_for, with_router, placement, interfaces_added, owns_added, tables_read}
 use Rattle.rip_plan.proofs.LookupLemmas.{name_same, on_seat}
 use Rattle.rip_plan.proofs.TextLemmas.{TextLaws, prefix_is, no_prefix, first_named, address_is, no_address, one_prefix}
-use Rattle.rip_plan.specs.Texts.{IsNoPrefix, IsPrefixText, IsAddressText}
-use Rattle.rip_plan.specs.DocumentTables.{IsLinkTable, IsString, IsRouterTable, IsInterfaceTable, IsOwnTable}
 use Rattle.rip_plan.proofs.DocumentTableLemmas.{link_not, link_table, string_not, HasInterfaceFields, interface_not, interface_texts, own_not, own_texts, router_not, router_table}
-use Rattle.std.specs.List.{sum_by}
-use Rattle.std.proofs.lemmas.List.Sums.{sum_by-append}
-use Rattle.rip_plan.specs.declared.error.PlanError.{PlanError}
-use Rattle.rip_wire.specs.Address.{address_in}
-use Rattle.rip_plan.specs.declared.draft.DraftInterface.{DraftInterface}
-use Rattle.rip_plan.specs.declared.parts.Seat.TheVariants as seats
-use Rattle.rip_plan.specs.Seats.{is_on}
-use Rattle.std.proofs.lemmas.List.{map-append}
 use Rattle.rip_plan.proofs.PlanPartLemmas.{also_flat, also_numbered, also_sum, link_prefix, names_differ, attached_not, inside_not, known_not, prefix_place}
 
 -- ---- a table at hand, and an item of its list at a key
@@ -56,7 +56,7 @@ module _ (ds done : List Data) (d : Data) (rest : List Data) (split : ds ≡ don
     item_here : IsItem key ds (1 + length done) (1 + length front) x
     item_here = (d, table_here, rw items (nth_here front x back (1 + length front) refl))
 
-    -- the item, and what is said of it is said of x
+    -- x is the item at its place, and what is said of the item there is said of x
     item_at : IsItem key ds (1 + length done) (1 + length front) x × ((P : Data → Type 0) → (y : Data) × IsItem key ds (1 + length done) (1 + length front) y × P y → P x)
     item_at = (item_here, λ P (y, item, said). subst P (item_once key ds (1 + length done) (1 + length front) y x item item_here) said)
 
@@ -71,12 +71,9 @@ stand_before : {A : Type 0} (see : A → At) (at : ℕ → At) (all before added
 stand_before see at all before added spots front made stand here =
     omega (arith, ap length made, length-append before added, stood see before spots stand, stood see added (spots_of at 1 front) here, count_of at 1 front)
 
--- a place that stands at a number below the most
+-- a place that stands at a number below the limit is not past it
 not_past : (links routers : List Data) (n : ℕ) (at : At) → slice_get (place_spots links routers) n ≡ Some at → nat_le 1024 n ≡ false → IsPast 1024 (place_spots links routers) at → ⊥
 not_past links routers n at here free (k, there, most) = let same : k ≡ n = place_once links routers k n at there here in grind (arith, nat_tests)
-
-most_most : (n : ℕ) → nat_le 1024 n ≡ true → 1024 ≤ n
-most_most n e = grind (arith, nat_tests)
 
 -- ---- names
 
@@ -127,7 +124,7 @@ module _ (document : Members) (links routers done : List Data) (d : Data) (rest 
       let one : text ≡ h.0 = cc in
       h.2 p (subst (λ (t : List ℕ). IsPrefixText t p) one (prefix_is laws text p parsed)))
       (λ p parsed.
-      ask_guard (nat_le 1024 (length v.places)) _ (λ full. (length v.places, here, most_most (length v.places) full))
+      ask_guard (nat_le 1024 (length v.places)) _ (λ full. (length v.places, here, leb-true 1024 (length v.places) full))
       (λ free h. not_past links routers (length v.places) (LinkPrefix (1 + length done) (1 + length front)) here free h)
       (λ free. ask_rest (λ o h f. h))))
     where
@@ -218,7 +215,7 @@ module _ (document : Members) (links routers done : List Data) (d : Data) (rest 
       ask_wanted (link_if f.link v.links) _ (λ none. (x, item, attached_told links v named x f.link fields.link none))
       (λ l known h. attached_not v.links links named x l (link_is v.links x f.link l fields.link known) (of_x (NamesNoLink links) h))
       (λ l known.
-      ask_guard (nat_le 1024 (length v.places)) _ (λ full. (length v.places, here, most_most (length v.places) full))
+      ask_guard (nat_le 1024 (length v.places)) _ (λ full. (length v.places, here, leb-true 1024 (length v.places) full))
       (λ free h. not_past links routers (length v.places) (RouterOwn (1 + length done) (1 + length front)) here free h)
       (λ free. ask_rest (λ o h g. h)))))))
     where
@@ -348,7 +345,7 @@ module _ (document : Members) (links routers done : List Data) (d : Data) (rest 
           → IsPast 1024 (interface_spots routers) (RouterInterface (1 + length done) (1 + length front)) ⊎ IsPast 1024 (also_spots routers) (RouterInterface (1 + length done) (1 + length front))
       full_told also same full =
           elim (cases_Bool (nat_le 1024 (length v.interfaces))) [
-            | inl e ↦ inl (length v.interfaces, here, most_most (length v.interfaces) e)
+            | inl e ↦ inl (length v.interfaces, here, leb-true 1024 (length v.interfaces) e)
             | inr e ↦
                 let over : 1024 < sum_by length v.also + length also = grind (arith, nat_tests, rw e at full) in
                 let last : ℕ = length (also_items x) - 1 in

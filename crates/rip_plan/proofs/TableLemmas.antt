@@ -5,6 +5,7 @@ use Rattle.std.specs.List.{list_all}
 use Rattle.std.proofs.lemmas.Option.{none-some, same_Some}
 use Rattle.toml.specs.Data.{Data, Members, string, integer, boolean, table, get, as_str, as_table}
 use Rattle.rip_wire.specs.Address.{address_in}
+use Rattle.rip_plan.specs.declared.limits.TheConstants.{DEFAULT_COST}
 use Rattle.rip_plan.specs.Fields.{◌&>◌, integer_if, address_if, link_if, addresses_in, cost_of, direct_of}
 use Rattle.rip_plan.specs.Names.{number_of_name}
 use Rattle.rip_plan.specs.PlanOf.{IsAddressOf, IsCostOf, IsDirectOf, IsGatewayOf, IsLinkOf, Matched}
@@ -35,7 +36,7 @@ pub map_none : {A : Type 0} (o : Option A) → ◌≡◌ {A = Option (Option A)}
 map_none o h = grind arith
 
 -- an integer that stands there, or the one that is meant where nothing stands
-pub cost_is : (o : Option Data) (given : Option ℤ) (c : ℕ) → integer_if o ≡ Some given → cost_of given ≡ Some c → (o ≡ Some (integer (pos c))) ⊎ ((o ≡ None) × (c ≡ 1))
+pub cost_is : (o : Option Data) (given : Option ℤ) (c : ℕ) → integer_if o ≡ Some given → cost_of given ≡ Some c → (o ≡ Some (integer (pos c))) ⊎ ((o ≡ None) × (c ≡ DEFAULT_COST))
 cost_is o given c h e = grind arith
 
 pub direct_is : (o : Option Data) (cost : ℕ) (given : Option ℤ) (c : ℕ) → integer_if o ≡ Some given → direct_of cost given ≡ Some c → (o ≡ Some (integer (pos c))) ⊎ ((o ≡ None) × (c ≡ cost))
@@ -76,7 +77,7 @@ outside : (most : ℕ) (z : ℤ) → direct_of most (Some z) ≡ None → IsOuts
 outside most z none c is least few = grind arith
 
 pub cost_told : (o : Option Data) (given : Option ℤ) → integer_if o ≡ Some given → cost_of given ≡ None → (z : ℤ) × (o ≡ Some (integer z)) × IsOutsideOf 15 z
-cost_told o given h e = let (z, is, none) = integer_told cost_of 1 o given refl h e in (z, is, outside 15 z (sym (cost_direct z) ∙ none))
+cost_told o given h e = let (z, is, none) = integer_told cost_of DEFAULT_COST o given refl h e in (z, is, outside 15 z (sym (cost_direct z) ∙ none))
 
 pub direct_told : (cost : ℕ) (o : Option Data) (given : Option ℤ) → integer_if o ≡ Some given → direct_of cost given ≡ None → (z : ℤ) × (o ≡ Some (integer z)) × IsOutsideOf cost z
 direct_told cost o given h e = let (z, is, none) = integer_told (direct_of cost) cost o given refl h e in (z, is, outside cost z none)

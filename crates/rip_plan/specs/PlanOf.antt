@@ -51,7 +51,8 @@ abbrev pub IsFlagOf : List ℕ → Bool → Data → Bool → Type 0
 IsFlagOf key other d flag =
     (get key d ≡ Some (boolean flag)) ⊎ ((get key d ≡ None) × (flag ≡ other))
 
--- whether this own prefix's table says that the prefix is kept
+-- whether the prefix of this table is kept: what the table says, or the default where it says
+-- nothing
 abbrev pub IsKeptOf : Data → Bool → Type 0
 IsKeptOf = IsFlagOf (codes "kept") DEFAULT_KEPT
 

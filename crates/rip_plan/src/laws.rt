@@ -17,7 +17,7 @@ use crate::limits::{
     MOST_PLACES, MOST_PLAN_BYTES, MOST_ROUTERS,
 };
 
-/// The limits of a plan, and what it means where it does not say it.
+/// The limits of a plan, and its defaults.
 pub fn limits()
     ensures bytes { MOST_PLAN_BYTES ≡ 1048576 }
     ensures links { MOST_LINKS ≡ 512 }

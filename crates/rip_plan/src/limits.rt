@@ -1,4 +1,4 @@
-//! The limits of a plan, and what it means where it does not say it.
+//! The limits of a plan, and its defaults.
 
 /// The most bytes of a plan's text.
 pub const MOST_PLAN_BYTES: usize = 1_048_576;
