@@ -46,9 +46,6 @@ front-least b = elim (begins_section b) as (λ (t : Bool). 8 ≤ (if t then 12 e
 pub front-of-section : (b : List ℕ) → begins_section b ≡ true → front_len b ≡ 12
 front-of-section b is = ap (λ (t : Bool). if t then 12 else 8) is
 
-pub front-of-other : (b : List ℕ) → begins_section b ≡ false → front_len b ≡ 8
-front-of-other b is = ap (λ (t : Bool). if t then 12 else 8) is
-
 pub kind-stays : (order : Order) (xs ys : List ℕ) → 4 ≤ length xs → Extends xs ys → kind_of order ys ≡ kind_of order xs
 kind-stays order xs ys h e =
     ap (λ (t : Bool). if t then kinds.Section else kind_numbered (number_in order 0 ys)) (section-stays xs ys h e)

@@ -53,13 +53,6 @@ some_cost n r m (Own own) = (own.router == r) && (own.cost == m)
 abbrev is_direct : Network → ℕ → ℕ → ℕ → Bool
 is_direct n r p m = some (λ k q. (q.prefix == p) && some_cost n r m q.seat) n.places
 
--- an interface that is what it is tested for
-its_own : (n : Network) (i r l c : ℕ) (x : Interface) → slice_get n.interfaces i ≡ Some x → x.router ≡ r → x.link ≡ l → x.cost ≡ c → IsInterface n i r l c
-its_own n i r l c x at router link cost = record { interface = x; listed = at; router = router; link = link; cost = cost }
-
-its_connected : (n : Network) (i r l d : ℕ) (x : Interface) → slice_get n.interfaces i ≡ Some x → x.router ≡ r → x.link ≡ l → x.direct ≡ d → IsConnected n i r l d
-its_connected n i r l d x at router link direct = record { interface = x; listed = at; router = router; link = link; direct = direct }
-
 is_direct_gives : (n : Network) (r p m : ℕ) → is_direct n r p m ≡ true → IsDirect n r p m
 is_direct_gives n r p m ok =
     let h = some_gives (λ k q. (q.prefix == p) && some_cost n r m q.seat) n.places ok in
@@ -76,7 +69,7 @@ is_direct_gives n r p m ok =
         let h = some_gives (λ i x. ((x.router == r) && (x.link == l)) && (x.direct == m)) n.interfaces costs in
         let parts = and_parts _ _ h.3 in
         let where_ = and_parts _ _ parts.0 in
-        let its = its_connected n h.0 r l m h.1 h.2 (eqb-true _ _ where_.0) (eqb-true _ _ where_.1) (eqb-true _ _ parts.1) in
+        let its : IsConnected n h.0 r l m = record { interface = h.1; listed = h.2; router = eqb-true _ _ where_.0; link = eqb-true _ _ where_.1; direct = eqb-true _ _ parts.1 } in
         (k, inl (l, place_at k q (Link l) at e is, (h.0, its)))
     go k q (Own own) at e is costs =
         let parts = and_parts (own.router == r) (own.cost == m) costs in
@@ -196,8 +189,8 @@ some_offer_gives n shown r l p m ok =
     let g = some_gives (λ j y. ((y.link == l) && not (y.router == r)) && (offer shown h.1.cost j p == m)) n.interfaces parts.1 in
     let its = and_parts _ _ g.3 in
     let near = and_parts _ _ its.0 in
-    let here = its_own n h.0 r l h.1.cost h.1 h.2 (eqb-true _ _ mine.0) (eqb-true _ _ mine.1) refl in
-    let there = its_own n g.0 g.1.router l g.1.cost g.1 g.2 refl (eqb-true _ _ near.0) refl in (
+    let here : IsInterface n h.0 r l h.1.cost = record { interface = h.1; listed = h.2; router = eqb-true _ _ mine.0; link = eqb-true _ _ mine.1; cost = refl } in
+    let there : IsInterface n g.0 g.1.router l g.1.cost = record { interface = g.1; listed = g.2; router = refl; link = eqb-true _ _ near.0; cost = refl } in (
       g.1.router,
       record {
         neighbour = record { other = eqb-false g.1.router r (not-true _ near.1); here = (h.1.cost, (h.0, here)); there = (g.1.cost, (g.0, there)) };
@@ -368,7 +361,7 @@ fits_way_gives n r p m (Over l) ok =
     let g = and_parts (some (λ i x. (x.router == r) && (x.link == l)) n.interfaces) (not (holds_back n r p l)) h.1 in
     let f = some_gives (λ i x. (x.router == r) && (x.link == l)) n.interfaces g.0 in
     let mine = and_parts _ _ f.3 in
-    let its = its_own n f.0 r l f.1.cost f.1 f.2 (eqb-true _ _ mine.0) (eqb-true _ _ mine.1) refl in
+    let its : IsInterface n f.0 r l f.1.cost = record { interface = f.1; listed = f.2; router = eqb-true _ _ mine.0; link = eqb-true _ _ mine.1; cost = refl } in
     (leb-true 1 m metric.0, ltb-true m 16 metric.1, (f.1.cost, (f.0, its)), not_held_back n r p l g.1)
 
 -- what a leaf learned over link l, where it shows 16 there
@@ -463,7 +456,7 @@ fits_gives n shown r p t ok =
             | inl other ↦
                 let f = some_gives (λ j y. (y.router == r) && not (j == i)) n.interfaces other in
                 let parts = and_parts _ _ f.3 in
-                let its = its_own n f.0 r f.1.link f.1.cost f.1 f.2 (eqb-true _ _ parts.0) refl refl in
+                let its : IsInterface n f.0 r f.1.link f.1.cost = record { interface = f.1; listed = f.2; router = eqb-true _ _ parts.0; link = refl; cost = refl } in
                 absurd (eqb-false f.0 i (not-true _ parts.1) (leaf.only f.0 f.1.link f.1.cost its))
             | inr fit ↦ fits_hidden_gives n shown r i l p t fit
           ];

@@ -93,6 +93,3 @@ module _ (n : Network) (p : ℕ) (Fine : ℕ → ℕ → Type 0) where
   next_some None r e was s column = new_first n p Fine s (omega (arith, column.0, e)) (λ t k lt le. was t k (omega (arith, le, column.0, e)) lt tt) column.1 column.2
   next_some (Some a) r e was s column =
       new_first n p Fine s (omega (arith, column.0, e, was.router)) (λ t k lt le. was.before t k lt tt (inl (omega (arith, le, column.0, e)))) column.1 column.2
-
-pub none_yet : (n : Network) (Fine : ℕ → ℕ → Type 0) → AreFine n 0 None Fine
-none_yet n Fine s k known lt late = absurd (omega (arith, lt))

@@ -24,10 +24,6 @@ first-said n line rest judged few e = rw (lt-leb 1000000 n few) (ap (λ j. with_
 pub many-said : (n : ℕ) (line : List ℕ) (rest : List (List ℕ)) → 1000000 ≤ n → all_of n (line ∷ rest) ≡ many_lines
 many-said n line rest many = rw (le-leb 1000000 n many)
 
-pub SameSaid-here : (a : Option AllSaid) → SameSaid a a
-SameSaid-here None = tt
-SameSaid-here (Some all) = refl
-
 pub SameSaid-trans : (a b c : Option AllSaid) → SameSaid a b → SameSaid b c → SameSaid a c
 SameSaid-trans None b c first second = tt
 SameSaid-trans (Some all) None c first second = cc first

@@ -1,5 +1,5 @@
 -- What passing over a line leaves.
-use Rattle.std.proofs.Common.{◌≡◌, ◌+◌, ◌-◌, ◌≤◌, ◌<◌, ℕ, suc, List, [], ◌∷◌, ◌++◌, Option, Some, None, length, take, drop, slice_range, refl, sym, ap, ◌∙◌, arith, append_assoc, inl, inr}
+use Rattle.std.proofs.Common.{◌≡◌, ◌+◌, ◌-◌, ◌≤◌, ◌<◌, ℕ, suc, List, [], ◌∷◌, ◌++◌, Option, Some, None, length, take, drop, slice_range, sym, ap, ◌∙◌, arith, append_assoc, inl, inr}
 use Rattle.std.proofs.lemmas.List.{drop-drop, length-append, get_or_append_left, get_or-append-add}
 use Rattle.std.proofs.lemmas.Bool.{cases_lt}
 use Rattle.std.proofs.Math.Seq.{drop-append_seam, get_or-append_right}
@@ -83,8 +83,3 @@ skip-endless (Some t) None front held keeps none none_held long = absurd keeps
 skip-endless (Some t) (Some ys) front held keeps none none_held long =
     let found = endless-of (front ++ held) ys 18446744073709551615 (none-append front held none none_held) (omega (arith, long, length-append front held)) in
     (found.0, found.1, found.2, ap lines_of (sym keeps ∙ sym (append_assoc front held ys)) ∙ found.3)
-
--- nothing came before what is to come
-pub kept-at_first : (t : Option (List ℕ)) → Keeps t (prepend_known [] t)
-kept-at_first None = tt
-kept-at_first (Some t) = refl

@@ -126,10 +126,6 @@ pub any_listed : {A B : Type 0} (see : A → B) (test : A → Bool) (p : B → B
 any_listed see test p [] = refl
 any_listed see test p (x ∷ xs) = elim (cases_Bool (test x)) [ inl e ↦ rw (e, any_listed see test p xs) refl | inr e ↦ rw (e, any_listed see test p xs) refl ]
 
-pub any_kept : {A B : Type 0} (see : A → B) (test : A → Bool) (xs : List A) → list_any test xs ≡ list_any (λ y. true) (map see (filter test xs))
-any_kept see test [] = refl
-any_kept see test (x ∷ xs) = elim (cases_Bool (test x)) [ inl e ↦ rw e refl | inr e ↦ rw e (any_kept see test xs) ]
-
 pub listed_push : {A B : Type 0} (see : A → B) (test : A → Bool) (xs : List A) (x : A) →
     map see (filter test (xs ++ x ∷ [])) ≡ cond (test x) (map see (filter test xs) ++ see x ∷ []) (map see (filter test xs))
 listed_push see test xs x = grind (arith, filter-append test xs (x ∷ []), map-append see, append-nil)

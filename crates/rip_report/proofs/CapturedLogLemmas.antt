@@ -85,10 +85,6 @@ long-bad = refl
 
 -- ---- lines of three fields
 
--- a line of a link, a sender and a third field, by its parts
-fields-line : List ℕ → List ℕ → List ℕ → List ℕ
-fields-line link sender word = link ++ 32 ∷ (sender ++ 32 ∷ word)
-
 sender-line : (link : List ℕ) (a : ℕ) (word : List ℕ) → sender_part link a ++ word ≡ link ++ 32 ∷ (address_text a ++ 32 ∷ word)
 sender-line link a word =
     append_assoc ((link ++ 32 ∷ []) ++ address_text a) (32 ∷ []) word

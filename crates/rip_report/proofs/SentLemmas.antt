@@ -22,14 +22,6 @@ Sent-on a b c text part rest left s t = record {
 pub Began-on : (a b c : Taken) (text part rest : List ℕ) → Sent a b text (part ++ rest) → Began b c part → Began a c text
 Began-on a b c text part rest s t = record { left = t.left ++ rest; sent = Sent-on a b c text part rest t.left s t.sent }
 
--- all of it went out
-pub Sent-all : (a b c : Taken) (text part : List ℕ) → Sent a b text part → Sent b c part [] → Sent a c text []
-Sent-all a b c text part s t = record {
-  front = s.front ++ t.front;
-  sent = Took-both a b c s.front t.front s.sent t.sent;
-  whole = s.whole ∙ ap (λ (l : List ℕ). s.front ++ l) t.whole ∙ sym (append_assoc s.front t.front []);
-}
-
 pub Began-all : (a b c : Taken) (text part : List ℕ) → Sent a b text part → Began b c part → Began a c text
 Began-all a b c text part s t = record {
   left = t.left;

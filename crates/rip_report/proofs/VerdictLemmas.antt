@@ -120,10 +120,6 @@ pub unsettled_told : (n : Network) (s : State) (all : Bool) (v : Verdict) (f : P
     VerdictText n s all (record { text = text; status = verdict_status v })
 unsettled_told n s all v f text e h lines = let both = rw e at h in rw e (an_unsettled f text both.0 both.1 lines)
 
-pub ifok-map : {A E : Type 0} {P Q : A → Type 0} (r : Result A E) → ((x : A) → P x → Q x) → IfOk r P → IfOk r Q
-ifok-map (Ok x) f p = f x p
-ifok-map (Err e) f p = tt
-
 -- the headline, of what is judged and what is told
 pub headline : (n : Network) (s : State) (IsText : Written → Type 0) (a b : Taken) (outcome : Result Status RunError) → IfOk outcome (IsJudged n s) → IfOk outcome (WentOut IsText a b) →
     IfOk outcome (AnswersRightly n s IsText a b)

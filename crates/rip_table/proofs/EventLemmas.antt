@@ -1,5 +1,5 @@
 -- What lines come to is what the words say.
-use Rattle.std.proofs.Common.{◌≡◌, ◌+◌, ◌≤◌, ℕ, length, drop, Bool, true, false, ◌&&◌, cond, not, ◌==◌, List, [], ◌∷◌, ◌++◌, Option, Some, None, Result, Ok, Err, refl, sym, ap, ◌∙◌, subst}
+use Rattle.std.proofs.Common.{◌≡◌, ◌+◌, ℕ, drop, Bool, true, false, ◌&&◌, cond, not, ◌==◌, List, [], ◌∷◌, ◌++◌, Option, Some, None, Result, Ok, Err, refl, sym, ap, ◌∙◌, subst}
 use Rattle.rip_plan.proofs.NumberingLemmas.{same_self}
 use Rattle.rip_wire.specs.Datagram.{message_or_request}
 use Rattle.rip_wire.specs.Prefix.{Block}
@@ -21,7 +21,7 @@ use Rattle.rip_table.specs.declared.error.TableError.TheVariants.{Changed, NextH
 use Rattle.rip_table.proofs.CheckLemmas.{heard_valid}
 use Rattle.rip_table.proofs.FitLemmas.{Fits-joined}
 use Rattle.std.specs.List.{slice_get}
-use Rattle.rip_table.proofs.PrefixListLemmas.{drop-end, drop-more}
+use Rattle.rip_table.proofs.PrefixListLemmas.{drop-more}
 use Rattle.rip_table.proofs.MetricLemmas.{LowerLaws, front_metrics, response_metrics, same_entries}
 use Rattle.rip_table.proofs.RefusedLemmas.{IsElsewhere-foreign, is_joined, joined_is, joined_of_entries, response_refused}
 use Rattle.rip_table.proofs.SaidLemmas.{interface_below}
@@ -301,6 +301,3 @@ hop_other n i p es k e at same =
 pub hop_local : (n : Network) (i : ℕ) (p : Block) (es : List Entry) (k : ℕ) (e : Entry) → slice_get es k ≡ Some e → is_foreign n i e ≡ false
     → hop_among n i p (drop k es) ≡ hop_among n i p (drop (k + 1) es)
 hop_local n i p es k e at local = ap (hop_among n i p) (drop-more es k e at) ∙ hop_past n i p e (drop (k + 1) es) local
-
-pub hop_none : (n : Network) (i : ℕ) (p : Block) (es : List Entry) (k : ℕ) → length es ≤ k → hop_among n i p (drop k es) ≡ None
-hop_none n i p es k past = ap (hop_among n i p) (drop-end es k past)

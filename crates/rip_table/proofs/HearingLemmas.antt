@@ -54,10 +54,6 @@ Told-more n old all mid events line said here left told is = record {
 pub heard-more : (was mid then : List EventAt → Type 0) (first second : List EventAt) → HoldsMore was mid first → HoldsMore mid then second → HoldsMore was then (first ++ second)
 heard-more was mid then first second one two events holds = subst then (append_assoc events first second) (two (events ++ first) (one events holds))
 
--- it hears of nothing
-pub heard-none : (was : List EventAt → Type 0) → HoldsMore was was []
-heard-none was events holds = subst was (sym (append-nil events)) holds
-
 module _ {X : Type 0} (view : X → Said) (number : X → ℕ) where
   -- a line more is told
   pub ToldKnown-more : (n : Network) (old : State) (all : Option AllSaid) (mid : State) (events : List EventAt) (here left : Option AllSaid) (x : X) → ToldKnown n old all mid events here
@@ -154,11 +150,6 @@ module _ {X : Type 0} (view : X → Said) (number : X → ℕ) where
   stops-end n old None new events here left stopped told gives runs = tt
   stops-end n old (Some all) new events None left stopped told gives runs = absurd told
   stops-end n old (Some all) new events (Some here) left stopped told gives runs = runs ∙ sym (told.too_many ∙ ap (λ (a : AllSaid). a.too_many) gives.0)
-
--- nothing was told yet
-pub told-none : (n : Network) (old : State) (all : Option AllSaid) → ToldKnown n old all old [] all
-told-none n old None = tt
-told-none n old (Some all) = record { taken = []; said = refl; too_many = refl; events_are = refl; state_is = refl }
 
 -- of a log that is not read to its end they say nothing
 pub out-err : (n : Network) (old : State) (all : Option AllSaid) (new : State) (was then : List EventAt → Type 0) (e : CollectAllError) → ToldOutcome n old all new was then (Err e)

@@ -14,7 +14,7 @@ use Rattle.rip_plan.specs.Network.{number_of_prefix}
 use Rattle.rip_plan.specs.Passes.{same_prefix}
 use Rattle.rip_table.specs.State.{IsState, State, is_among}
 use Rattle.rip_table.specs.Numbers.{AreNumbers, metric_among}
-use Rattle.rip_table.proofs.TruthLemmas.{or-false, or-true}
+use Rattle.rip_table.proofs.TruthLemmas.{or-false}
 use Rattle.rip_table.proofs.PrefixListLemmas.{is_among-item, take-more}
 
 pub true-false : {A : Type 0} (b : Bool) → b ≡ true → b ≡ false → A
@@ -115,14 +115,6 @@ metric_among-passed p es j e none at other =
     ∙ metric_among-snoc p (take j es) e
     ∙ ap (λ (o : Option ℕ). option_or o (cond (same_prefix p e.prefix) (Some e.metric) None)) none
     ∙ ap (λ (b : Bool). cond b (Some e.metric) None) other
-
--- an entry that passes
-pub any-item : (test : Entry → Bool) (es : List Entry) (j : ℕ) (e : Entry) → slice_get es j ≡ Some e → test e ≡ true → list_any test es ≡ true
-any-item test [] j e at h = absurd (cc at)
-any-item test (d ∷ es) zero e at h =
-    let is : d ≡ e = cc at in
-    ap (λ (b : Bool). b || list_any test es) (ap test is ∙ h)
-any-item test (d ∷ es) (suc j) e at h = ap (λ (b : Bool). test d || b) (any-item test es j e at h) ∙ or-true (test d)
 
 -- whether one of the entries passes, with one more
 pub any-next : (test : Entry → Bool) (es : List Entry) (j : ℕ) (e : Entry) → slice_get es j ≡ Some e → (list_any test (take j es) || test e) ≡ list_any test (take (j + 1) es)

@@ -1,9 +1,8 @@
 -- Rows of cells: finding them, adding them and writing to them.
-use Rattle.std.proofs.Common.{◌≡◌, ℕ, zero, suc, ◌+◌, ◌<◌, ◌≤◌, Bool, true, false, cond, List, [], ◌∷◌, ◌++◌, length, take, set, replicate, Option, Some, None, is_some, Result, Ok, Err, refl, sym, ap, ◌∙◌, arith, length-append}
+use Rattle.std.proofs.Common.{◌≡◌, ℕ, zero, suc, ◌+◌, ◌<◌, ◌≤◌, Bool, true, false, cond, List, [], ◌∷◌, ◌++◌, length, take, set, replicate, Option, Some, None, refl, sym, ap, ◌∙◌, arith, length-append}
 use Rattle.std.proofs.Math.ListN.{length-set}
 use Rattle.std.specs.List.{slice_get, position, position_from}
 use Rattle.std.specs.Map.{values_of, keys_of}
-use Rattle.std.specs.Result.{OnErr}
 use Rattle.std.specs.declared.vec.Vec.{Vec}
 use Rattle.std.specs.declared.alloc.Global.{Global}
 use Rattle.std.proofs.lemmas.Option.{same_Some, slice_get_within, get_or_from_slice_get, none-some}
@@ -17,7 +16,7 @@ use Rattle.rip_plan.specs.Passes.{same_prefix}
 use Rattle.rip_table.specs.State.{is_among}
 use Rattle.rip_table.specs.Rows.{Rows, IsGrid, heads, planned_rows, rows_of, with_cell, with_row, with_rows}
 use Rattle.rip_table.proofs.PrefixListLemmas.{is_among-item, take-more}
-use Rattle.rip_table.proofs.NumberLemmas.{number-at, number-is, number-none, true-false}
+use Rattle.rip_table.proofs.NumberLemmas.{number-at, number-none, true-false}
 
 abbrev pub Entries : Type 0
 Entries = List (Block × Vec (Option ℕ) Global)
@@ -86,11 +85,6 @@ number_keeps p (q ∷ ps) qs n k h = by (same_prefix p q) h (λ e. number_keeps 
 pub number-keeps : (p : Block) (ps qs : List Block) (k : ℕ) → number_of_prefix p ps ≡ Some k → number_of_prefix p (ps ++ qs) ≡ Some k
 number-keeps p ps qs k h = number_keeps p ps qs 0 k h
 
--- what is so in any case
-pub on_err : {X E P : Type 0} (r : Result X E) → P → OnErr r P
-on_err (Ok x) p = tt
-on_err (Err e) p = p
-
 -- ---- more rows
 
 pub with_row-keeps : (w : ℕ) (rows : Rows) (p q : Block) (k : ℕ) → number_of_prefix q (heads rows) ≡ Some k → number_of_prefix q (heads (with_row w rows p)) ≡ Some k
@@ -118,23 +112,6 @@ with_row-longer w rows p = by (is_among p (heads rows))
     by : (b : Bool) → length rows ≤ length (cond b rows (rows ++ (p, replicate w None) ∷ []))
     by true = omega arith
     by false = omega (arith, length-append rows ((p, replicate w None) ∷ []))
-
--- what is not there was not there before
-pub was_absent : (x y : Bool) → (x ≡ true → y ≡ true) → y ≡ false → x ≡ false
-was_absent true y f h = let k : true ≡ false = sym (f refl) ∙ h in absurd (cc k)
-was_absent false y f h = refl
-
--- a prefix that has a number is in the list, and the other way round
-pub kept-among : (ps qs : List Block) (p : Block) → ((q : Block) (k : ℕ) → number_of_prefix q ps ≡ Some k → number_of_prefix q qs ≡ Some k) → is_among p ps ≡ true → is_among p qs ≡ true
-kept-among ps qs p kept h = by (number_of_prefix p ps) refl (sym (number-is p ps) ∙ h)
-  where
-    by : (o : Option ℕ) → number_of_prefix p ps ≡ o → is_some o ≡ true → is_among p qs ≡ true
-    by None e some = absurd (cc some)
-    by (Some k) e some = number-is p qs ∙ ap is_some (kept p k e)
-
-pub take-all : (rows : Rows) → take (length rows) rows ≡ rows
-take-all [] = refl
-take-all (r ∷ rows) = ap (λ (xs : Rows). r ∷ xs) (take-all rows)
 
 -- ---- writing to a cell
 
