@@ -250,7 +250,6 @@ block-most s taken rest frames room begins are none front last others e (pcapng_
     blocks-most None s (Some now) frames others taken front rest last are none k e
 
 -- a front that is right has no fault
-
 no_header_fault : (b : List ℕ) (o : Order) (t : LinkType) (fs : List Frame) (rest : List ℕ) (code : CaptureCode) → IsPcap b o t fs → HeaderFault o (b ++ rest) code → ⊥
 no_header_fault b o t fs rest code h (cut_header less e) = omega (arith, length-append b rest, header-size b o t fs h)
 no_header_fault b o t fs rest code h (bad_version room bad e) =

@@ -246,9 +246,6 @@ module _ (n : Network) (ok : Passes n) where
         | inr far ↦ inr (when_gives (p == p) _ far (eq-eqb p p refl))
       ]
 
-  link_same : (l : ℕ) → is_same_link (Link l) (Link l) ≡ true
-  link_same l = eq-eqb l l refl
-
   -- what is a router's own passes
   own_fits : (k p : ℕ) (own : OwnPrefix) → IsPlace n k p (Own own) →
       (own.router < length n.routers) × (1 ≤ own.cost) × (own.cost ≤ 15) × (is_there n own.router own.link ≡ true) × (tells_none own.via ≡ true)

@@ -49,9 +49,6 @@ AreSettled n p m metrics =
 
 module _ (n : Network) (p : ℕ) (sound : IsSound n) where
   module _ (m : ℕ) where
-    pub telling_none : (xs : List ℕ) → IsTelling n p m xs xs
-    telling_none xs = record { at_most = λ r. omega arith; chosen = λ r. inl refl }
-
     -- a metric of at most m is not lowered
     pub telling_same : (before after : List ℕ) → IsTelling n p m before after → (r : ℕ) → get_or before r 0 ≤ m → get_or after r 0 ≡ get_or before r 0
     telling_same before after telling r small = go (telling.chosen r)

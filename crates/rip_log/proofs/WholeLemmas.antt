@@ -1,10 +1,9 @@
 -- What a source that went on has given of a whole text.
-use Rattle.std.proofs.Common.{◌≡◌, ℕ, Bool, true, false, List, [], ◌++◌, length, drop, take, Option, None, Some, Result, Ok, Err, refl, sym, ap, ◌∙◌, append_assoc, append-nil, subst}
-use Rattle.std.specs.Io.KnownBytes.{Consumes, Keeps, IsAtEnd, ReadConsumes, prepend_known}
+use Rattle.std.proofs.Common.{◌≡◌, ℕ, Bool, true, false, List, [], ◌++◌, length, drop, Option, refl, sym, ap, ◌∙◌, append_assoc, append-nil, subst}
+use Rattle.std.specs.Io.KnownBytes.{Consumes, Keeps, IsAtEnd, prepend_known}
 use Rattle.std.proofs.KnownBytes.{Consumes-nil, Consumes-trans, Keeps-trans}
 use Rattle.std.proofs.Math.Seq.{drop-append_seam}
 use Rattle.rip_log.proofs.HeldLemmas.{Keeps-held}
-use Rattle.rip_log.specs.Gave.{Gave}
 use Rattle.rip_log.specs.Wholes.{Begins, Went, OfWhole, rest_of}
 
 -- the rest of a whole text behind what was given
@@ -25,16 +24,6 @@ module _ {R : Type 0} (given : R → List ℕ) (coming : R → Option (List ℕ)
     ended = λ h. q.ended (subst (λ s. at_end s ≡ true) (sym (p.ended h)) h) ∙ p.ended h;
   }
 
-  -- what one pull does
-  pub went_by : {E : Type 0} (a b : R) (r : Result ℕ E) (buffer : List ℕ) → Gave (given a) (given b) r buffer → ReadConsumes (coming a) (coming b) r buffer
-      → (at_end a ≡ true → b ≡ a) → Went given coming at_end a b
-  went_by a b (Ok n) buffer gave came rests = record { more = take n buffer; gave = gave; came = came.0; ended = rests }
-  went_by a b (Err e) buffer gave came rests = record { more = []; gave = gave ∙ sym (append-nil (given a)); came = kept (coming a) (coming b) came; ended = rests } where
-    kept : (x y : Option (List ℕ)) → Keeps x y → Consumes x y []
-    kept None y h = tt
-    kept (Some xs) None h = absurd h
-    kept (Some xs) (Some ys) h = sym h
-
   begins_before : (whole : List ℕ) (a b : R) (x : Bool) → at_end a ≡ x → Went given coming at_end a b → Begins whole (given b) (at_end b) → Begins whole (given a) (at_end a)
   begins_before whole a b true e w h = subst (λ s. Begins whole (given s) (at_end s)) (w.ended e) h
   begins_before whole a b false e w h = record {
@@ -46,10 +35,6 @@ module _ {R : Type 0} (given : R → List ℕ) (coming : R → Option (List ℕ)
   -- what a source has begun to give now, it had begun before
   pub begins_back : (whole : List ℕ) (a b : R) → Went given coming at_end a b → Begins whole (given b) (at_end b) → Begins whole (given a) (at_end a)
   begins_back whole a b w h = begins_before whole a b (at_end a) refl w h
-
-  -- and so what holds of all that it may have begun before holds of all that it may have begun now
-  pub of_before : (P : (R → Option (List ℕ)) → Type 0) (a b : R) → Went given coming at_end a b → OfWhole given at_end a P → OfWhole given at_end b P
-  of_before P a b w holds = λ whole h. holds whole (begins_back whole a b w h)
 
   -- bytes that it gave leave what is to come
   pub gives_rest : (whole : List ℕ) (a b : R) (more : List ℕ) → given b ≡ given a ++ more → Begins whole (given b) (at_end b)
@@ -69,19 +54,14 @@ module _ {R : Type 0} (given : R → List ℕ) (coming : R → Option (List ℕ)
       → Keeps (prepend_known held (rest_of given whole a)) (prepend_known all (rest_of given whole b))
   held_rest whole a b held more all gave h e = Keeps-held (rest_of given whole a) (rest_of given whole b) held more all (gives_rest whole a b more gave h) e
 
+  -- and where none came
+  pub held_kept : (whole : List ℕ) (a b : R) (held all : List ℕ) → given b ≡ given a → Begins whole (given b) (at_end b) → all ≡ held
+      → Keeps (prepend_known held (rest_of given whole a)) (prepend_known all (rest_of given whole b))
+  held_kept whole a b held all gave h e = held_rest whole a b held [] all (gave ∙ sym (append-nil (given a))) h (e ∙ sym (append-nil held))
+
   -- what stands after one step stands after two
   pub kept_on : {X : Type 0} (text : (R → Option (List ℕ)) → X → Option (List ℕ)) (source : X → R) (x y z : X) → Went given coming at_end (source y) (source z)
       → OfWhole given at_end (source y) (λ coming. Keeps (text coming x) (text coming y)) → OfWhole given at_end (source z) (λ coming. Keeps (text coming y) (text coming z))
       → OfWhole given at_end (source z) (λ coming. Keeps (text coming x) (text coming z))
   kept_on text source x y z w p q = λ whole h.
       Keeps-trans (text (rest_of given whole) x) (text (rest_of given whole) y) (text (rest_of given whole) z) (p whole (begins_back whole (source y) (source z) w h)) (q whole h)
-
-  -- and where none came
-  pub held_kept : (whole : List ℕ) (a b : R) (held all : List ℕ) → given b ≡ given a → Begins whole (given b) (at_end b) → all ≡ held
-      → Keeps (prepend_known held (rest_of given whole a)) (prepend_known all (rest_of given whole b))
-  held_kept whole a b held all gave h e = held_rest whole a b held [] all (gave ∙ sym (append-nil (given a))) h (e ∙ sym (append-nil held))
-
-  -- what is to come behind what was given, and what follows
-  pub rest_behind : (whole : List ℕ) (a b : R) (w : Went given coming at_end a b) (more : List ℕ) → whole ≡ given b ++ more → rest_of given whole a ≡ Some (w.more ++ more)
-  unfolding rest_of
-  rest_behind whole a b w more e = ap Some (rest-is whole (given a) (w.more ++ more) (e ∙ ap (λ l. l ++ more) w.gave ∙ append_assoc (given a) w.more more))

@@ -1,6 +1,6 @@
 -- What a lawful plan answers from its look-ups.
 use Rattle.std.proofs.Common.{◌≡◌, ◌<◌, ◌≤◌, ◌↔◌, ◌⊎◌, inl, inr, arith, ℕ, Bool, true, false, Option, Some, None, List, [], ◌∷◌, length, refl, sym, ◌∙◌, ap, get_or}
-use Rattle.std.specs.Prelude.{option_and_then, unwrap_or, Decides, IfSome, slice_get, Some}
+use Rattle.std.specs.Prelude.{option_and_then, unwrap_or, Decides, IfSome, slice_get}
 use Rattle.std.specs.List.{list_any, All}
 use Rattle.std.specs.Option.{is_some, option_map_or}
 use Rattle.std.proofs.lemmas.Bool.{or_cases, or_left, or_right}

@@ -1,7 +1,6 @@
 use Rattle.std.proofs.Common.{inl}
 use Rattle.rip_check.proofs.PlanLemmas.{attached_test}
 use Rattle.rip_check.proofs.failures.has_beside.Goals as goal
-use Rattle.rip_check.proofs.failures.has_beside.Goals.{then-is_place, else-is_place}
 
 pub returns-then-eq-clause-lost : goal.returns-then-eq-clause-lost
 returns-then-eq-clause-lost c =
