@@ -1,7 +1,5 @@
 //! Why bytes are no datagram.
 
-use thiserror::Error;
-
 /// What is wrong with the bytes, in the numbering that is printed.
 #[derive(Clone, Copy, Debug, PartialEq, Eq)]
 pub enum WireCode {
@@ -35,8 +33,7 @@ pub enum WireCode {
 }
 
 /// The first fault of a datagram, and the offset of the byte where it stands.
-#[derive(Clone, Copy, Debug, PartialEq, Eq, Error)]
-#[error("{code:?} at byte {at}")]
+#[derive(Clone, Copy, Debug, PartialEq, Eq)]
 pub struct WireError {
     /// What is wrong.
     pub code: WireCode,

@@ -14,10 +14,12 @@ ghost use Rattle.rip_wire.specs.Name as name;
 ghost use Rattle.rip_wire.specs.Response.{IsResponseOf};
 ghost use Rattle.rip_wire.specs.Prefix.{Block, IsBlock, prefix_in, prefix_text};
 
-use crate::limits::{MOST_BYTES, MOST_ENTRIES};
+use crate::limits::{ENTRY_LEN, HEADER_LEN, MOST_BYTES, MOST_ENTRIES};
 
 /// The sizes of a datagram (RFC 2453, section 3.6).
 pub fn limits()
+    ensures header { HEADER_LEN ≡ 4 }
+    ensures entry { ENTRY_LEN ≡ 20 }
     ensures entries { MOST_ENTRIES ≡ 25 }
     ensures bytes { MOST_BYTES ≡ 504 }
 {}
