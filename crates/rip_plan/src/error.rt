@@ -5,7 +5,6 @@ ghost use Rattle.rip_plan.specs.Codes.{number_of_code};
 ghost use Rattle.rip_plan.specs.declared.error.ReadError.TheVariants.{OutOfMemory};
 
 use std::alloc::{AllocError, AllocFailed};
-use thiserror::Error;
 
 /// What is wrong with a plan, in the numbering that is printed.
 #[derive(Clone, Copy, Debug, PartialEq, Eq)]
@@ -77,8 +76,7 @@ pub enum At {
 }
 
 /// The first fault of a plan's text, and where it stands.
-#[derive(Clone, Copy, Debug, PartialEq, Eq, Error)]
-#[error("{code:?} at {place:?}")]
+#[derive(Clone, Copy, Debug, PartialEq, Eq)]
 pub struct PlanError {
     /// What is wrong.
     pub code: PlanCode,
