@@ -1,9 +1,9 @@
 -- What coming to the next line does to what is to be said, and to the log to come.
-use Rattle.std.proofs.Common.{◌≡◌, ◌⊎◌, ◌+◌, ◌<◌, ◌≤◌, ◌∙◌, ℕ, Bool, true, false, not, List, Option, Some, None, Result, Ok, Err, refl, sym, ap, inl, inr, subst}
+use Rattle.std.proofs.Common.{◌≡◌, ◌⊎◌, ◌+◌, ◌<◌, ◌≤◌, ◌∙◌, ℕ, Bool, true, false, not, List, Option, Some, None, Result, Ok, Err, refl, sym, ap, inl, inr, subst, arith}
 use Rattle.std.specs.Option.{option_map}
 use Rattle.rip_log.specs.Advances.{ComesTo, SkipsLines}
 use Rattle.rip_log.specs.Codes.{is_read}
-use Rattle.rip_log.specs.Cuts.{DropsFirst, IsEndless, LongFirst, PassesLines}
+use Rattle.rip_log.specs.Cuts.{DropsFirst, DropsLines, IsEndless, LongFirst, PassesLines}
 use Rattle.rip_log.specs.FoundLines.{said_found}
 use Rattle.rip_log.specs.Lines.{Capture, lines_of}
 use Rattle.rip_log.specs.Logs.{Gives, Log, log_at}
@@ -20,13 +20,14 @@ use Rattle.rip_log.specs.declared.reader.FoundRecord.{FoundRecord}
 use Rattle.rip_log.specs.declared.reader.LogReader.{LogReader}
 use Rattle.rip_log.proofs.JudgeLemmas.{judge-long}
 use Rattle.rip_log.proofs.LogSaidLemmas.{Gives-bad, Gives-end, Gives-failed, Gives-record, log-said_at}
-use Rattle.rip_log.proofs.PassLemmas.{passes_failed, passes_kept, passes_line, passes_long, passes_trans}
+use Rattle.rip_log.proofs.PassLemmas.{drops_failed, drops_kept, drops_line, drops_passed, drops_trans, front_line, front_trans, passes_failed, passes_kept, passes_line, passes_long, passes_trans}
 use Rattle.rip_log.proofs.SaidLemmas.{GivesLine-end, GivesLine-failed, GivesLine-found, GivesLine-long, GivesLine-on, SameSaid-kept, SameSaid-skip, SameSaid-trans, first-said, kept_unread, unread}
 
 pub skips_trans : (t mid left : Option (List ℕ)) (n between after : ℕ)
     → SkipsLines t n mid between → SkipsLines mid between left after → SkipsLines t n left after
 skips_trans t mid left n between after first second = record {
   passed = passes_trans t mid left n between after first.passed second.passed;
+  front = front_trans t mid left first.front second.front;
   said = SameSaid-trans (said_at n t) (said_at between mid) (said_at after left) first.said second.said;
 }
 
@@ -34,6 +35,7 @@ pub skips_line : (t left : Option (List ℕ)) (n after : ℕ)
     → n < 1000000 → TakesLine t left (Ok None) → after ≡ n + 1 → SkipsLines t n left after
 skips_line t left n after few takes count = record {
   passed = passes_line t left n after takes.0 takes.1 count;
+  front = front_line t left takes.0 takes.1;
   said = SameSaid-skip t left n after few takes count;
 }
 
@@ -101,6 +103,25 @@ module _ {R : Type 0} {t left : Option (List ℕ)} {n before : ℕ} {new : LogRe
       → PassesLines t n left after
   passed-failed e {after} c fine same =
       passes_trans t c.at left n before after c.skips.passed (passes_failed c.at left before after e fine c.says same)
+
+  -- the lines before the next were taken, and it too, or it is still there
+  dropped-before : {next : Result (Option FoundLine) LogError} (last : ℕ) (c : ComesTo t n before left new next) → DropsLines c.at before left last → DropsLines t n left last
+  dropped-before last c drops = drops_trans t c.at left n before last (drops_passed t c.at n before before c.skips.passed c.skips.front (omega arith)) drops
+
+  pub dropped-record : (found : FoundRecord) (last : ℕ) → ComesTo t n before left new (Ok (Some (Record found))) → before + 1 ≤ last → DropsLines t n left last
+  dropped-record found last c within = dropped-before last c (drops_line c.at left before last c.says.0 c.says.1 within)
+
+  pub dropped-bad : (found : FoundFault) (last : ℕ) → ComesTo t n before left new (Ok (Some (Bad found))) → before + 1 ≤ last → DropsLines t n left last
+  dropped-bad found last c within = dropped-before last c (drops_line c.at left before last c.says.0 c.says.1 within)
+
+  pub dropped-long : (last : ℕ) → ComesTo t n before left new (Ok (Some Long)) → before ≤ last → DropsLines t n left last
+  dropped-long last c within = dropped-before last c (drops_kept c.at left before last c.says.1 within)
+
+  pub dropped-end : (last : ℕ) → ComesTo t n before left new (Ok None) → before ≤ last → DropsLines t n left last
+  dropped-end last c within = dropped-before last c (drops_kept c.at left before last c.says.0 within)
+
+  pub dropped-failed : (e : LogError) (last : ℕ) → ComesTo t n before left new (Err e) → before ≤ last → DropsLines t n left last
+  dropped-failed e last c within = dropped-before last c (drops_failed c.at left before last e c.says within)
 
   pub unread-failed : (failed : Bool) (e : LogError) {after : ℕ} → ComesTo t n before left new (Err e) → is_read e.code ≡ true → after ≡ before
       → failed ≡ true → IsUnread t n after failed

@@ -21,7 +21,7 @@ pub first-kept : (t m new : Option (List ℕ)) (line : List ℕ) → Keeps t m �
 first-kept None m new line keeps cut = tt
 first-kept (Some t) None new line keeps cut = absurd keeps
 first-kept (Some t) (Some m) None line keeps cut = absurd cut
-first-kept (Some t) (Some m) (Some r) line keeps cut = ap lines_of (sym keeps) ∙ cut
+first-kept (Some t) (Some m) (Some r) line keeps cut = (ap lines_of (sym keeps) ∙ cut.0, cut.1, sym keeps ∙ cut.2)
 
 long-kept : (t m : Option (List ℕ)) → Keeps t m → LongFirst m → LongFirst t
 long-kept None m keeps long = tt

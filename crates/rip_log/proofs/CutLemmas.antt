@@ -24,6 +24,10 @@ range-back items start end at h =
     ∙ drop-take (suc at) (end - (start + at + 1)) (drop start items)
     ∙ ap (take (end - (start + at + 1))) (drop-drop (suc at) start items ∙ ap (λ n. drop n items) (omega arith))
 
+-- the first bytes, and then the others and what follows
+pub cut-at : (xs ys : List ℕ) (n : ℕ) → xs ++ ys ≡ take n xs ++ (drop n xs ++ ys)
+cut-at xs ys n = ap (λ l. l ++ ys) (sym (take-append-drop n xs)) ∙ append_assoc (take n xs) (drop n xs) ys
+
 -- a line that a line feed ends
 pub feed-cut : (old left : Option (List ℕ)) (items : List ℕ) (start end at : ℕ) → start ≤ end → end ≤ length items
     → Keeps old (prepend_known (slice_range items start end) left) → FirstFeed (slice_range items start end) at
@@ -32,10 +36,14 @@ feed-cut None left items start end at ordered within keeps f = tt
 feed-cut (Some t) None items start end at ordered within keeps f = absurd keeps
 feed-cut (Some t) (Some ys) items start end at ordered within keeps f =
     let inside : start + at + 1 ≤ end = omega (arith, f.inside, length-range items start end ordered within) in
-    ap lines_of (sym keeps)
-    ∙ lines_of-feed (slice_range items start end) ys at f
-    ∙ ap (λ l. l ∷ lines_of (drop (suc at) (slice_range items start end) ++ ys)) (range-front items start end at (omega arith))
-    ∙ ap (λ l. slice_range items start (start + at) ∷ lines_of (l ++ ys)) (range-back items start end at inside)
+    let xs = slice_range items start end in (
+      ap lines_of (sym keeps)
+          ∙ lines_of-feed xs ys at f
+          ∙ ap (λ l. l ∷ lines_of (drop (suc at) xs ++ ys)) (range-front items start end at (omega arith))
+          ∙ ap (λ l. slice_range items start (start + at) ∷ lines_of (l ++ ys)) (range-back items start end at inside),
+      take (suc at) xs,
+      sym keeps ∙ cut-at xs ys (suc at) ∙ ap (λ l. take (suc at) xs ++ (l ++ ys)) (range-back items start end at inside),
+    )
 
 last-of : (xs : List ℕ) → NoFeedBelow xs (length xs) → 0 < length xs → lines_of xs ≡ xs ∷ []
 last-of [] none some = absurd (omega arith)
@@ -46,8 +54,11 @@ pub last-cut : (old left : Option (List ℕ)) (xs rest : List ℕ) → rest ≡ 
     → Keeps old (prepend_known xs left) → NoFeedBelow xs (length xs) → FirstLine old (prepend_known rest left) xs
 last-cut None left xs rest empty some end keeps none = tt
 last-cut (Some t) None xs rest empty some end keeps none = absurd keeps
-last-cut (Some t) (Some ys) xs rest empty some end keeps none =
-    ap lines_of (sym keeps ∙ ap (λ l. xs ++ l) end ∙ append-nil xs) ∙ last-of xs none some ∙ ap (λ l. xs ∷ lines_of l) (sym (ap (λ l. l ++ ys) empty ∙ end))
+last-cut (Some t) (Some ys) xs rest empty some end keeps none = (
+  ap lines_of (sym keeps ∙ ap (λ l. xs ++ l) end ∙ append-nil xs) ∙ last-of xs none some ∙ ap (λ l. xs ∷ lines_of l) (sym (ap (λ l. l ++ ys) empty ∙ end)),
+  xs,
+  sym keeps ∙ ap (λ l. xs ++ (l ++ ys)) (sym empty),
+)
 
 long-front_of : (xs ys : List ℕ) → NoFeedBelow xs (length xs) → length xs ≡ 2049 → (line : List ℕ) × (rest : List (List ℕ)) × (2048 < length line) × (lines_of (xs ++ ys) ≡ line ∷ rest)
 long-front_of [] ys none long = absurd (omega arith)

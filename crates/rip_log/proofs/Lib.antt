@@ -24,3 +24,4 @@ pub mod OutcomeLemmas
 pub mod TakenLemmas
 pub mod LogSaidLemmas
 pub mod AdvanceLemmas
+pub mod TwoTextLemmas

@@ -39,12 +39,12 @@ pub SameSaid-skip : (t new : Option (List ℕ)) (n after : ℕ) → n < 1000000 
 SameSaid-skip None new n after few takes count = tt
 SameSaid-skip (Some t) None n after few takes count = absurd takes.1
 SameSaid-skip (Some t) (Some r) n after few takes count =
-    ap Some (ap (λ (k : ℕ). all_of k (lines_of r)) count ∙ sym (ap (all_of n) takes.1 ∙ first-said n takes.0 (lines_of r) (Ok None) few takes.2))
+    ap Some (ap (λ (k : ℕ). all_of k (lines_of r)) count ∙ sym (ap (all_of n) takes.1.0 ∙ first-said n takes.0 (lines_of r) (Ok None) few takes.2))
 
 -- these bytes are those of a long line, and so the line that was taken is
 taken-long : (t new : List ℕ) (line : List ℕ) → LongFirst (Some t) → FirstLine (Some t) (Some new) line → judge line ≡ Err LongLine
 taken-long t new line long cut =
-    let same : long.0 ∷ long.1 ≡ line ∷ lines_of new = sym long.3 ∙ cut in
+    let same : long.0 ∷ long.1 ≡ line ∷ lines_of new = sym long.3 ∙ cut.0 in
     let same_line : long.0 ≡ line = cc same in
     judge-long line (subst (λ (l : List ℕ). 2048 < length l) same_line long.2)
 
@@ -69,7 +69,7 @@ module _ {X : Type 0} (view : X → Said) (number : X → ℕ) where
   GivesLine-found (Some t) None n after line judged x few e says cut count num = absurd cut
   GivesLine-found (Some t) (Some r) n after line judged x few e says cut count num =
       let said : all_of n (lines_of t) ≡ onto_said (record { line = n + 1; said = view x }) (all_of (n + 1) (lines_of r)) =
-      ap (all_of n) cut ∙ first-said n line (lines_of r) judged few e ∙ ap (λ (s : Option Said). with_said (n + 1) s (all_of (n + 1) (lines_of r))) says in
+      ap (all_of n) cut.0 ∙ first-said n line (lines_of r) judged few e ∙ ap (λ (s : Option Said). with_said (n + 1) s (all_of (n + 1) (lines_of r))) says in
       let moved : onto_said (record { line = n + 1; said = view x }) (all_of (n + 1) (lines_of r)) ≡ onto_said (record { line = number x; said = view x }) (all_of after (lines_of r)) =
       ap (λ (k : ℕ). onto_said (record { line = k; said = view x }) (all_of k (lines_of r))) (sym count)
       ∙ ap (λ (k : ℕ). onto_said (record { line = k; said = view x }) (all_of after (lines_of r))) (sym num) in

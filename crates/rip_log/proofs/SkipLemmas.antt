@@ -7,7 +7,7 @@ use Rattle.std.specs.Io.KnownBytes.{Keeps, IsAtEnd, prepend_known}
 use Rattle.rip_log.specs.Lines.{lines_of}
 use Rattle.rip_log.specs.Ends.{NoFeedBelow, FirstFeed}
 use Rattle.rip_log.specs.Cuts.{DropsFirst, IsEndless}
-use Rattle.rip_log.proofs.CutLemmas.{last-cut, length-range, range-back}
+use Rattle.rip_log.proofs.CutLemmas.{cut-at, last-cut, length-range, range-back}
 use Rattle.rip_log.proofs.LineLemmas.{lines_of-feed, lines_of-front}
 
 -- bytes without a line feed, and then others
@@ -41,11 +41,16 @@ skip-feed None left front items start end at ordered within keeps none f = ([], 
 skip-feed (Some t) None front items start end at ordered within keeps none f = absurd keeps
 skip-feed (Some t) (Some ys) front items start end at ordered within keeps none f =
     let held = slice_range items start end in
-    let inside : start + at + 1 ≤ end = omega (arith, f.inside, length-range items start end ordered within) in (
-      take (length front + at) (front ++ held),
-      ap lines_of (sym keeps ∙ sym (append_assoc front held ys))
-          ∙ lines_of-feed (front ++ held) ys (length front + at) (feed-behind front held at none f)
-          ∙ ap (λ l. take (length front + at) (front ++ held) ∷ lines_of (l ++ ys)) (drop-behind front held at ∙ range-back items start end at inside),
+    let all = front ++ held in
+    let inside : start + at + 1 ≤ end = omega (arith, f.inside, length-range items start end ordered within) in
+    let behind = drop-behind front held at ∙ range-back items start end at inside in
+    let whole : t ≡ all ++ ys = sym keeps ∙ sym (append_assoc front held ys) in (
+      take (length front + at) all,
+      (
+        ap lines_of whole ∙ lines_of-feed all ys (length front + at) (feed-behind front held at none f) ∙ ap (λ l. take (length front + at) all ∷ lines_of (l ++ ys)) behind,
+        take (suc (length front + at)) all,
+        whole ∙ cut-at all ys (suc (length front + at)) ∙ ap (λ l. take (suc (length front + at)) all ++ (l ++ ys)) behind,
+      ),
     )
 
 -- bytes that are held are dropped, and stand in front of what is to come then

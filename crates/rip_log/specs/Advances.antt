@@ -1,6 +1,6 @@
 -- How a reader comes to the next line that says something.
 use Rattle.std.specs.Prelude.{◌≡◌, ◌+◌, ◌<◌, ◌≤◌, ℕ, Bool, true, List, Option, None, Result, Ok}
-use Rattle.rip_log.specs.Cuts.{PassesLines}
+use Rattle.rip_log.specs.Cuts.{DropsFront, PassesLines}
 use Rattle.rip_log.specs.NextCall.{IsOver, last_ready, lines_behind, source_of, text}
 use Rattle.rip_log.specs.NextLineCall.{last_ended}
 use Rattle.rip_log.specs.Said.{SameSaid, said_at}
@@ -15,6 +15,7 @@ use Rattle.rip_log.specs.declared.reader.LogReader.{LogReader}
 pub record SkipsLines (t : Option (List ℕ)) (n : ℕ)
     (left : Option (List ℕ)) (after : ℕ) : Type 0 where
   pub passed : PassesLines t n left after
+  pub front : DropsFront t left
   pub said : SameSaid (said_at n t) (said_at after left)
 
 -- lines that say nothing were passed, and the next one is this

@@ -18,7 +18,8 @@ HasLine (Some t) false = t ≡ []
 abbrev pub FirstLine : Option (List ℕ) → Option (List ℕ) → List ℕ → Type 0
 FirstLine None left line = Unit {0}
 FirstLine (Some t) None line = ⊥
-FirstLine (Some t) (Some rest) line = lines_of t ≡ line ∷ lines_of rest
+FirstLine (Some t) (Some rest) line =
+    (lines_of t ≡ line ∷ lines_of rest) × (front : List ℕ) × (t ≡ front ++ rest)
 
 -- known text begins with a line that is too long
 abbrev pub LongFirst : Option (List ℕ) → Type 0
@@ -65,3 +66,17 @@ PassesLines (Some t) n None after = ⊥
 PassesLines (Some t) n (Some rest) after =
     (passed : List (List ℕ))
     × (lines_of t ≡ passed ++ lines_of rest) × (after ≡ n + length passed)
+
+-- known text ends with what is left
+abbrev pub DropsFront : Option (List ℕ) → Option (List ℕ) → Type 0
+DropsFront None left = Unit {0}
+DropsFront (Some t) None = ⊥
+DropsFront (Some t) (Some rest) = (front : List ℕ) × (t ≡ front ++ rest)
+
+-- lines of known text, of which n others come before, were taken off it, and none behind this one
+abbrev pub DropsLines : Option (List ℕ) → ℕ → Option (List ℕ) → ℕ → Type 0
+DropsLines None n left last = Unit {0}
+DropsLines (Some t) n None last = ⊥
+DropsLines (Some t) n (Some rest) last =
+    (front : List ℕ) × (dropped : List (List ℕ)) × (t ≡ front ++ rest)
+    × (lines_of t ≡ dropped ++ lines_of rest) × (n + length dropped ≤ last)

@@ -1,4 +1,5 @@
 pub mod Advances
+pub mod Asked
 pub mod Codes
 pub mod Cuts
 pub mod Ends

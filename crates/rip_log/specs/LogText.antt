@@ -36,6 +36,10 @@ pub record AreLines (text : List ℕ) (lines : List (List ℕ)) : Type 0 where
   pub whole : text ≡ ended_text ended ++ last
   pub parts : lines ≡ ended ++ last_line last
 
+-- the text is empty, or ends in a line feed
+abbrev pub EndsLine : List ℕ → Type 0
+EndsLine text = (text ≡ []) ⊎ ((front : List ℕ) × (text ≡ front ++ 10 ∷ []))
+
 -- one carriage return at the end of the line is dropped
 pub data IsBare (line bare : List ℕ) : Type 0 where
   returned : line ≡ bare ++ 13 ∷ [] → IsBare line bare

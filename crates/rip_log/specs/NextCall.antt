@@ -2,7 +2,7 @@
 use Rattle.std.specs.Prelude.{◌≡◌, ◌+◌, ◌≤◌, ℕ, Bool, true, false, not, List, [], Option, Some, None, Result, Ok, Err, IfOk, IfErr, IfSome, OnOk, is_err}
 use Rattle.rip_wire.specs.Datagram.{datagram_bytes}
 use Rattle.rip_log.specs.Codes.{is_read}
-use Rattle.rip_log.specs.Cuts.{PassesLines}
+use Rattle.rip_log.specs.Cuts.{DropsLines, PassesLines}
 use Rattle.rip_log.specs.Held.{held, ready_lines, text as window_text}
 use Rattle.rip_log.specs.Lines.{Capture}
 use Rattle.rip_log.specs.Logs.{Log, log_at, Gives}
@@ -20,6 +20,10 @@ source_of reader = reader.window.source
 -- the text to come: what is held, and then what the source still gives
 abbrev pub text : {R : Type 0} → (R → Option (List ℕ)) → LogReader R → Option (List ℕ)
 text coming reader = window_text coming reader.window
+
+-- the bytes that the source has given and no line has taken
+abbrev pub held_by : {R : Type 0} → LogReader R → List ℕ
+held_by reader = held reader.window
 
 -- the lines behind the reader
 abbrev pub lines_behind : {R : Type 0} → LogReader R → ℕ
@@ -79,6 +83,10 @@ pub record Answers {R X : Type 0} (given : R → List ℕ) (at_end : R → Bool)
       OfWhole given at_end (source_of new) (λ coming.
       PassesLines (text coming old) (lines_behind old) (text coming new) (lines_behind new))
   pub here : IfErr result (λ e. e.line ≡ lines_behind new + 1)
+  -- no line was taken behind the one that the call asked for, also where that is refused
+  pub drops : OfWhole given at_end (source_of new) (λ coming.
+      DropsLines (text coming old) (lines_behind old) (text coming new)
+      (line_asked number new result))
   -- a record is of a line behind it, and each call has a later one
   pub onward : IfOk result (λ found. IfSome found (λ x.
       (lines_behind old + 1 ≤ lines_behind new) × (number x ≡ lines_behind new)))

@@ -1,7 +1,6 @@
 //! What is wrong with a log.
 
 use rip_wire::WireError;
-use thiserror::Error;
 
 /// Why there is no next record, in the numbering that is printed, from 1 on.
 #[derive(Clone, Copy, Debug, PartialEq, Eq)]
@@ -31,8 +30,7 @@ pub enum LogCode {
 }
 
 /// Why there is no next record, and the number of the line concerned, or 0 where none is.
-#[derive(Clone, Copy, Debug, PartialEq, Eq, Error)]
-#[error("{code:?} at line {line}")]
+#[derive(Clone, Copy, Debug, PartialEq, Eq)]
 pub struct LogError {
     /// What is wrong.
     pub code: LogCode,

@@ -1,7 +1,7 @@
 //! Laws of the definitions alone: functions that do nothing, whose contracts hold of every text and
 //! every log.
 
-ghost use Rattle.std.specs.Prelude.{◌≡◌, ◌⊎◌, ◌↔◌, ◌+◌, ◌^◌, ◌≤◌, ℕ, List, [], ◌∷◌, ◌++◌, length, Option, Some, None, Result, Ok, Err, false, true};
+ghost use Rattle.std.specs.Prelude.{◌≡◌, ◌⊎◌, ◌↔◌, ◌+◌, ◌^◌, ◌≤◌, ℕ, List, [], ◌∷◌, ◌++◌, length, map, Option, Some, None, Result, Ok, Err, false, true};
 ghost use Rattle.std.specs.Option.{option_map};
 ghost use Rattle.rip_log.specs.Codes.{is_read};
 ghost use Rattle.rip_log.specs.Cuts.{PassesLines};
@@ -9,13 +9,13 @@ ghost use Rattle.rip_log.specs.Said.{AllSaid, AreAllSaid, HasNoFault, all_said, 
 ghost use Rattle.rip_log.specs.NextCall.{capture_of, line_of};
 ghost use Rattle.rip_log.specs.Lines.{Capture, judge};
 ghost use Rattle.rip_log.specs.Logs.{Gives, Log, Numbered, log_at, log_in};
-ghost use Rattle.rip_log.specs.LogText.{AreLines, IsLineJudged, LogFailed, LogFault, LogText};
+ghost use Rattle.rip_log.specs.LogText.{AreLines, EndsLine, IsLineJudged, LogFailed, LogFault, LogText};
 ghost use Rattle.rip_log.specs.Runs.{IsTaken, numbered};
 ghost use Rattle.rip_log.specs.declared.error.LogCode.{LogCode};
 ghost use Rattle.rip_log.specs.declared.error.LogError.{LogError};
 ghost use Rattle.rip_log.specs.declared.reader.Record.{Record};
 
-use crate::limits::{MOST_LINE_BYTES, MOST_LINES, MOST_PASSED_BYTES};
+use crate::limits::{MOST_HELD_BYTES, MOST_LINE_BYTES, MOST_LINES, MOST_PASSED_BYTES};
 use rip_wire::laws;
 
 /// The limits of a log.
@@ -23,6 +23,7 @@ pub fn limits()
     ensures bytes { MOST_LINE_BYTES ≡ 2048 }
     ensures lines { MOST_LINES ≡ 1000000 }
     ensures passed { MOST_PASSED_BYTES + 1 ≡ 2 ^ 64 }
+    ensures held { MOST_HELD_BYTES ≡ 32768 }
 {}
 
 /// What is computed of a line is what the words of the format say: it is skipped, or is a record,
@@ -47,6 +48,18 @@ pub fn log_texts()
         ↔ LogFault text records e.line e.code }
 {
     judged_lines();
+}
+
+/// A log of two texts, of which the first ends a line, has the records of both: if no line of it is
+/// bad, none of theirs is. Only the numbers of lines differ.
+pub fn two_texts()
+    ensures { (text more : List ℕ) (records : List Numbered) → EndsLine text →
+        LogText (text ++ more) records → (first second : List Numbered)
+        × LogText text first × LogText more second
+        × (map (λ r. r.capture) records
+        ≡ map (λ r. r.capture) first ++ map (λ r. r.capture) second) }
+{
+    log_texts();
 }
 
 /// What all lines of a text say is what the words of the format say: each that is not skipped is a

@@ -21,7 +21,7 @@ mod window;
 pub use device::Failed;
 pub use digits::decode_digits;
 pub use error::{LogCode, LogError};
-pub use limits::{MOST_LINE_BYTES, MOST_LINES};
+pub use limits::{MOST_HELD_BYTES, MOST_LINE_BYTES, MOST_LINES};
 pub use reader::{BadLine, Line, LogReader, Origin, Record};
 pub use sink::{IntoWrite, Sink};
 pub use source::{FromRead, Source};

@@ -1,13 +1,12 @@
-//! The reader beneath a source.
+//! The reader beneath a source. Nothing here can read it but the call that is handed in.
 
-ghost use Rattle.std.specs.Prelude.{◌≡◌, ◌<◌, ◌++◌, [], ◌∷◌, length};
-ghost use Rattle.std.specs.Io.{ReadsAtMost};
-ghost use Rattle.std.specs.Io.KnownBytes.{ReadConsumes};
+ghost use Rattle.std.specs.Prelude.{◌≡◌, ◌++◌, [], ◌∷◌};
+ghost use Rattle.rip_log.specs.Asked.{GivesAtMost, IsRead};
 ghost use Rattle.rip_log.specs.Outcomes.{outcome_of};
 
 use crate::device::Failed;
 use crate::history::History;
-use std::io::Read;
+use std::io;
 
 /// A reader, and the history of its reads.
 #[derive(Drop)]
@@ -16,7 +15,7 @@ pub struct NotedReader<R> {
     history: History,
 }
 
-impl<R: Read> NotedReader<R> {
+impl<R> NotedReader<R> {
     /// A reader that was not asked yet.
     pub fn new(reader: R) -> NotedReader<R>
         ensures reader { result.reader ≡ reader }
@@ -35,17 +34,33 @@ impl<R: Read> NotedReader<R> {
         self.reader
     }
 
-    /// Reads once into room for some bytes, and notes what came, or that the read failed. Without
-    /// room nothing would come, whether it is the end or not.
-    pub fn read(&mut self, buffer: &mut [u8]) -> Result<usize, Failed>
-        requires room { 0 < length buffer.old }
+    /// The history of its reads, over another reader that was not asked.
+    pub fn over<S>(self, reader: S) -> NotedReader<S>
+    where
+        R: Drop,
+        ensures reader { result.reader ≡ reader }
+        ensures history { result.history.outcomes ≡ self.history.outcomes }
+    {
+        NotedReader {
+            reader,
+            history: self.history,
+        }
+    }
+
+    /// Asks the reader once, by this call of it, and notes what came, or that it failed.
+    pub fn ask<F: FnOnce(&mut R, &mut [u8]) -> io::Result<usize>>(
+        &mut self,
+        read: F,
+        buffer: &mut [u8],
+    ) -> Result<usize, Failed>
+        requires callable { F.IsAlwaysCallable read }
+        requires bound { GivesAtMost F.FnOnce read }
+        ensures asked { IsRead F.FnOnce read self.old.reader self.new.reader
+            buffer.old buffer.new result }
         ensures noted { self.new.history.outcomes
             ≡ self.old.history.outcomes ++ outcome_of result buffer.new ∷ [] }
-        ensures bound { ReadsAtMost result buffer.new }
-        ensures bytes { ReadConsumes (R.remaining self.old.reader) (R.remaining self.new.reader)
-            result buffer.new }
     {
-        match self.reader.read(buffer) {
+        match read(&mut self.reader, buffer) {
             Ok(count) => {
                 self.history.note(&buffer[..count]);
                 Ok(count)

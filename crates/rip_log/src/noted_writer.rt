@@ -1,13 +1,12 @@
-//! The writer beneath a sink.
+//! The writer beneath a sink. Nothing here can write to it but the call that is handed in.
 
-ghost use Rattle.std.specs.Prelude.{◌≡◌, ◌<◌, ◌++◌, [], ◌∷◌, length};
-ghost use Rattle.std.specs.Io.{WritesAtMost};
-ghost use Rattle.std.specs.Io.KnownBytes.{WriteAppends};
+ghost use Rattle.std.specs.Prelude.{◌≡◌, ◌++◌, [], ◌∷◌};
+ghost use Rattle.rip_log.specs.Asked.{IsWritten, TakesAtMost};
 ghost use Rattle.rip_log.specs.Outcomes.{outcome_of};
 
 use crate::device::Failed;
 use crate::history::History;
-use std::io::Write;
+use std::io;
 
 /// A writer, and the history of its writes.
 #[derive(Drop)]
@@ -16,7 +15,7 @@ pub struct NotedWriter<W> {
     history: History,
 }
 
-impl<W: Write> NotedWriter<W> {
+impl<W> NotedWriter<W> {
     /// A writer that was not asked yet.
     pub fn new(writer: W) -> NotedWriter<W>
         ensures writer { result.writer ≡ writer }
@@ -35,16 +34,19 @@ impl<W: Write> NotedWriter<W> {
         self.writer
     }
 
-    /// Writes some bytes once, and notes what was taken, or that the write failed.
-    pub fn write(&mut self, bytes: &[u8]) -> Result<usize, Failed>
-        requires some { 0 < length bytes.now }
+    /// Asks the writer once, by this call of it, and notes what it took, or that it failed.
+    pub fn ask<F: FnOnce(&mut W, &[u8]) -> io::Result<usize>>(
+        &mut self,
+        write: F,
+        bytes: &[u8],
+    ) -> Result<usize, Failed>
+        requires callable { F.IsAlwaysCallable write }
+        requires bound { TakesAtMost F.FnOnce write }
+        ensures asked { IsWritten F.FnOnce write self.old.writer self.new.writer bytes.now result }
         ensures noted { self.new.history.outcomes
             ≡ self.old.history.outcomes ++ outcome_of result bytes.now ∷ [] }
-        ensures bound { WritesAtMost result bytes.now }
-        ensures bytes { WriteAppends (W.contents self.old.writer) (W.contents self.new.writer)
-            result bytes.now }
     {
-        match self.writer.write(bytes) {
+        match write(&mut self.writer, bytes) {
             Ok(count) => {
                 self.history.note(&bytes[..count]);
                 Ok(count)

@@ -4,14 +4,14 @@ ghost use Rattle.std.specs.Prelude.{◌≡◌, ◌≢◌, ◌+◌, ◌≤◌, �
 ghost use Rattle.std.specs.Borrow.{sem};
 ghost use Rattle.std.specs.Io.BufRead.{Rests};
 ghost use Rattle.rip_wire.specs.Name.{is_name};
-ghost use Rattle.rip_log.specs.declared.limits.TheConstants.{MOST_LINES};
+ghost use Rattle.rip_log.specs.declared.limits.TheConstants.{MOST_HELD_BYTES, MOST_LINES};
 
 mod lines;
 
 pub use self::lines::{BadLine, Line, Origin};
 use crate::device::Failed;
 use crate::error::{LogCode, LogError};
-use crate::limits::MOST_LINES;
+use crate::limits::{MOST_HELD_BYTES, MOST_LINES};
 use crate::line::{Fault, Parts, judge_line};
 use crate::source::Source;
 use crate::span::Span;
@@ -104,7 +104,7 @@ pub struct LogReader<R> {
 
 impl<R: Source> LogReader<R> {
     ghost use Rattle.rip_log.specs.contracts.reader.LogReader.{the_row};
-    ghost use Rattle.rip_log.specs.NextCall.{Answers, IsOver, KeepsMarks, NextCall, Pulls, capture_of, has_stopped, line_of, lines_behind, log_to_come, source_of, text};
+    ghost use Rattle.rip_log.specs.NextCall.{Answers, IsOver, KeepsMarks, NextCall, Pulls, capture_of, has_stopped, held_by, line_of, lines_behind, log_to_come, source_of, text};
     ghost use Rattle.rip_log.specs.Logs.{log_in};
     ghost use Rattle.rip_log.specs.Advances.{Advances};
     ghost use Rattle.rip_log.specs.Steps.{FoundIsGood, IsGood, LineSays, Moves, StepsOn, capture_at};
@@ -275,6 +275,13 @@ impl<R: Source> LogReader<R> {
             Ok(None) => Ok(None),
             Ok(Some(found)) => Ok(Some(self.record(found))),
         }
+    }
+
+    /// What it holds of its source is no more than its buffer has room for. Does nothing.
+    pub fn lawful(&self)
+        ensures { length (held_by self.now) ≤ MOST_HELD_BYTES }
+    {
+        let _ = &self.window;
     }
 
     /// The source, as it stands.

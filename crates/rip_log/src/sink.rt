@@ -1,6 +1,6 @@
 //! Devices that take bytes, and keep a mark of their failure.
 
-ghost use Rattle.std.specs.Prelude.{◌≡◌, ◌<◌, ℕ, List, [], Bool, false, length, true, IfOk, is_err};
+ghost use Rattle.std.specs.Prelude.{◌≡◌, ◌<◌, [], Bool, false, length, true, IfOk, is_err};
 ghost use Rattle.std.specs.Io.{WritesAtMost};
 ghost use Rattle.rip_log.specs.Marks.{is_written};
 ghost use Rattle.rip_log.specs.Taken.{Pushed, Taken};
@@ -81,6 +81,24 @@ impl<W: Write> IntoWrite<W> {
         ensures { result ≡ writer_of self }
     {
         self.noted.into_writer()
+    }
+}
+
+impl<W: Write> NotedWriter<W> {
+    ghost use Rattle.std.specs.Prelude.{◌++◌, ◌∷◌};
+    ghost use Rattle.std.specs.Io.KnownBytes.{WriteAppends};
+    ghost use Rattle.rip_log.specs.Outcomes.{outcome_of};
+
+    /// Writes some bytes once, and notes what was taken, or that the write failed.
+    fn write(&mut self, bytes: &[u8]) -> Result<usize, Failed>
+        requires some { 0 < length bytes.now }
+        ensures noted { self.new.history.outcomes
+            ≡ self.old.history.outcomes ++ outcome_of result bytes.now ∷ [] }
+        ensures bound { WritesAtMost result bytes.now }
+        ensures bytes { WriteAppends (W.contents self.old.writer) (W.contents self.new.writer)
+            result bytes.now }
+    {
+        self.ask(W::write, bytes)
     }
 }
 

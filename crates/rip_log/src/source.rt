@@ -111,6 +111,38 @@ impl<R: Read> FromRead<R> {
     {
         self.noted.into_reader()
     }
+
+    /// The source without its reader, which is closed: what its reads came to stays, and its marks.
+    pub fn close(self) -> FromRead<&'static [u8]>
+    where
+        R: Drop,
+        ensures reads { reads_of result ≡ reads_of self }
+        ensures broken { has_failed result ≡ has_failed self }
+        ensures ended { has_ended result ≡ has_ended self }
+    {
+        FromRead {
+            noted: self.noted.over(b"".as_slice()),
+            mark: self.mark,
+        }
+    }
+}
+
+impl<R: Read> NotedReader<R> {
+    ghost use Rattle.std.specs.Prelude.{◌++◌, [], ◌∷◌};
+    ghost use Rattle.rip_log.specs.Outcomes.{outcome_of};
+
+    /// Reads once into room for some bytes, and notes what came, or that the read failed. Without
+    /// room nothing would come, whether it is the end or not.
+    fn read(&mut self, buffer: &mut [u8]) -> Result<usize, Failed>
+        requires room { 0 < length buffer.old }
+        ensures noted { self.new.history.outcomes
+            ≡ self.old.history.outcomes ++ outcome_of result buffer.new ∷ [] }
+        ensures bound { ReadsAtMost result buffer.new }
+        ensures bytes { ReadConsumes (R.remaining self.old.reader) (R.remaining self.new.reader)
+            result buffer.new }
+    {
+        self.ask(R::read, buffer)
+    }
 }
 
 impl<R: Read> Source for FromRead<R> {

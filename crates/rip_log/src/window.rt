@@ -4,17 +4,14 @@ ghost use Rattle.std.specs.Prelude.{◌≡◌, ◌+◌, ◌<◌, ◌≤◌, ◌�
 ghost use Rattle.std.specs.Io.KnownBytes.{Keeps};
 ghost use Rattle.rip_log.specs.Wholes.{OfWhole, Went};
 ghost use Rattle.rip_log.specs.declared.window.RawLine.{RawLine};
-ghost use Rattle.rip_log.specs.declared.window.TheConstants.{BUFFER_LEN};
+ghost use Rattle.rip_log.specs.declared.limits.TheConstants.{MOST_HELD_BYTES};
 
 use crate::device::Failed;
-use crate::limits::MOST_LINE_BYTES;
+use crate::limits::{MOST_HELD_BYTES, MOST_LINE_BYTES};
 use crate::source::Source;
 use crate::span::Span;
 use memchr::memchr;
 use std::alloc::{AllocError, Global};
-
-/// The bytes of the buffer.
-const BUFFER_LEN: usize = 32_768;
 
 /// Where the first line of what is held ends: at a line feed, with the text, or too late.
 #[derive(Clone, Copy)]
@@ -39,8 +36,8 @@ pub struct Window<R> {
     start: usize,
     end: usize,
     ghost ordered: { start ≤ end },
-    ghost within: { end ≤ BUFFER_LEN },
-    ghost room: { vec_len buffer ≡ BUFFER_LEN },
+    ghost within: { end ≤ MOST_HELD_BYTES },
+    ghost room: { vec_len buffer ≡ MOST_HELD_BYTES },
 }
 
 /// Pulls once into what lies behind the first `len` bytes.
@@ -71,7 +68,7 @@ impl<R: Source> Window<R> {
         ensures ok { IfOk result (λ w. (w.source ≡ source) × (held w ≡ [])) }
         ensures err { IfErr result (λ e. e.1 ≡ source) }
     {
-        match vec![in alloc; 0u8; BUFFER_LEN] {
+        match vec![in alloc; 0u8; MOST_HELD_BYTES] {
             Ok(buffer) => Ok(Window {
                 source,
                 buffer,
