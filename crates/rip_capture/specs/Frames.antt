@@ -14,32 +14,32 @@ abbrev pub is_tag : ℕ → Bool
 is_tag kind = (kind == 0x8100 || kind == 0x88A8) || kind == 0x9100
 
 -- what a frame holds, where a type stands at one offset, and what it names begins at the other; a
--- tag is two bytes and the next type; where nothing follows a header or a tag, the frame is short
+-- tag is two bytes and the next type; where a tag is not whole, the frame is short
 pub data Leads (frame : List ℕ) : ℕ → ℕ → Network → Type 0 where
   ipv4 : (at from : ℕ) (held : Network) → number_at 2 at frame ≡ IPV4 → held ≡ Ip from →
       Leads frame at from held
   other : (at from : ℕ) (held : Network) → is_tag (number_at 2 at frame) ≡ false →
       number_at 2 at frame ≢ IPV4 → held ≡ Other → Leads frame at from held
   cut : (at from : ℕ) (held : Network) → is_tag (number_at 2 at frame) ≡ true →
-      length frame ≤ from + TAG → held ≡ Short → Leads frame at from held
+      length frame < from + TAG → held ≡ Short → Leads frame at from held
   tag : (at from : ℕ) (held : Network) → is_tag (number_at 2 at frame) ≡ true →
-      from + TAG < length frame → Leads frame (from + 2) (from + TAG) held →
+      from + TAG ≤ length frame → Leads frame (from + 2) (from + TAG) held →
       Leads frame at from held
 
 -- what a frame holds whose header has so many bytes, and its type at a place
 abbrev pub HoldsTyped : List ℕ → ℕ → ℕ → Network → Type 0
 HoldsTyped frame place header held =
-    ((length frame ≤ header) × (held ≡ Short))
-    ⊎ ((header < length frame) × Leads frame place header held)
+    ((length frame < header) × (held ≡ Short))
+    ⊎ ((header ≤ length frame) × Leads frame place header held)
 
 -- what a loopback's frame holds: a number in the order of the machine that captured, and a packet
 abbrev pub HoldsLoop : List ℕ → Network → Type 0
 HoldsLoop frame (Ip from) =
-    (from ≡ LOOP_HEADER) × (LOOP_HEADER < length frame)
+    (from ≡ LOOP_HEADER) × (LOOP_HEADER ≤ length frame)
     × ((number_in Big 0 frame ≡ LOOP_IPV4) ⊎ (number_in Little 0 frame ≡ LOOP_IPV4))
-HoldsLoop frame Short = length frame ≤ LOOP_HEADER
+HoldsLoop frame Short = length frame < LOOP_HEADER
 HoldsLoop frame Other =
-    (LOOP_HEADER < length frame)
+    (LOOP_HEADER ≤ length frame)
     × (number_in Big 0 frame ≢ LOOP_IPV4) × (number_in Little 0 frame ≢ LOOP_IPV4)
 
 -- what a frame of a link type holds

@@ -1,7 +1,5 @@
 //! What is wrong with a capture file.
 
-use thiserror::Error;
-
 /// Why there is no next packet, in the numbering that is printed, from 1 on.
 #[derive(Clone, Copy, Debug, PartialEq, Eq)]
 pub enum CaptureCode {
@@ -24,8 +22,7 @@ pub enum CaptureCode {
 }
 
 /// Why there is no next packet, and where in the file the part begins that is wrong.
-#[derive(Clone, Copy, Debug, PartialEq, Eq, Error)]
-#[error("{code:?} at {at}")]
+#[derive(Clone, Copy, Debug, PartialEq, Eq)]
 pub struct CaptureError {
     /// What is wrong.
     pub code: CaptureCode,

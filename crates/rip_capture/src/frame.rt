@@ -9,9 +9,9 @@ use crate::numbers::{Order, number_in, u16_at};
 /// What a frame holds.
 #[derive(Clone, Copy)]
 pub enum Network {
-    /// An IPv4 packet, from an offset on.
+    /// An IPv4 packet, from an offset on, where there may be nothing.
     Ip(usize),
-    /// A header or a tag that is not there whole, or one with nothing behind it.
+    /// A header or a tag that is not there whole.
     Short,
     /// Something else.
     Other,
@@ -42,13 +42,13 @@ fn read_typed(frame: &[u8], place: usize, header: usize) -> Network
     ensures holds { HoldsTyped frame.now place header result }
     ensures within { BeginsWithin (length frame.now) result }
 {
-    if frame.len() <= header {
+    if frame.len() < header {
         return Network::Short;
     }
     let mut at = place;
     let mut from = header;
     'tags: while is_tag(u16_at(frame, at)) {
-        if frame.len() - from <= TAG {
+        if frame.len() - from < TAG {
             return Network::Short;
         }
         at = from + 2;
@@ -66,7 +66,7 @@ fn read_loop(frame: &[u8]) -> Network
     ensures holds { HoldsLoop frame.now result }
     ensures within { BeginsWithin (length frame.now) result }
 {
-    if frame.len() <= LOOP_HEADER {
+    if frame.len() < LOOP_HEADER {
         return Network::Short;
     }
     let big = number_in(Order::Big, frame, 0);

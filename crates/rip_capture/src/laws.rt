@@ -18,11 +18,12 @@ ghost use Rattle.rip_capture.specs.declared.span.Span.{Span};
 ghost use Rattle.rip_wire.specs.declared.limits.TheConstants.{HEADER_LEN};
 
 use crate::authentication::{DATA_LEN_AT, DIGEST, ENTRIES_FROM, TRAILER, TRAILER_HEADER};
+use crate::frame::{IPV4, LOOP_HEADER, LOOP_IPV4, TAG};
 use crate::limits::{
     BLOCK_FRONT, FILE_HEADER, GROUP, IP_HEADER, MAGIC_LEN, MOST_BLOCK, MOST_CAPTURED,
     MOST_INTERFACES, MOST_PAYLOAD, PORT, RECORD_HEADER, SECTION, SECTION_FRONT, UDP, UDP_HEADER,
 };
-use crate::password::{AUTHENTICATION, PASSWORD};
+use crate::password::{AUTHENTICATION, PASSWORD, PASSWORD_FROM, PASSWORD_TO};
 
 /// The numbers of RIP over IPv4, and the most bytes of a datagram.
 pub fn datagram_limits()
@@ -32,6 +33,15 @@ pub fn datagram_limits()
     ensures ip_header { IP_HEADER ≡ 20 }
     ensures udp_header { UDP_HEADER ≡ 8 }
     ensures payload { MOST_PAYLOAD ≡ 999 }
+{}
+
+/// The numbers of IPv4 in frames, and the bytes of a loopback's header, and of a tag with the type
+/// behind it (IEEE 802.3 and 802.1Q; tcpdump.org/linktypes.html).
+pub fn frame_numbers()
+    ensures ipv4 { IPV4 ≡ 0x0800 }
+    ensures tag { TAG ≡ 4 }
+    ensures loop_header { LOOP_HEADER ≡ 4 }
+    ensures loop_ipv4 { LOOP_IPV4 ≡ 2 }
 {}
 
 /// The sizes of a file's parts, and the most bytes of a packet.
@@ -60,6 +70,13 @@ pub fn authentication_numbers()
     ensures data_len { DATA_LEN_AT ≡ 11 }
     ensures entries { ENTRIES_FROM ≡ 24 }
     ensures trailer_header { TRAILER_HEADER ≡ 4 }
+{}
+
+/// Where a password stands: the sixteen bytes behind the family and the type of the first entry
+/// (RFC 2453, section 4.1).
+pub fn password_place()
+    ensures from { PASSWORD_FROM ≡ 8 }
+    ensures to { PASSWORD_TO ≡ 24 }
 {}
 
 /// The test of an authentication is true of just the datagrams that have one in the words of the

@@ -1,6 +1,6 @@
 //! What a captured packet carries.
 
-ghost use Rattle.std.specs.Prelude.{◌≡◌, ◌+◌, ◌≤◌, length};
+ghost use Rattle.std.specs.Prelude.{◌+◌, ◌≤◌, length};
 ghost use Rattle.rip_capture.specs.Carries.{Carries, LiesWithin};
 ghost use Rattle.rip_capture.specs.Packets.{IpCarries, IsToGroup};
 
@@ -25,7 +25,7 @@ pub enum Carried {
     Malformed(Address),
     /// A datagram of more than 999 bytes.
     Long(Address),
-    /// The capture lacks the headers that would tell, or what is behind them.
+    /// The capture lacks the headers that would tell.
     Unknown,
     /// A datagram to another address.
     Elsewhere,
