@@ -8,7 +8,7 @@ use Rattle.rip_wire.specs.Prefix.{Block}
 use Rattle.rip_wire.specs.declared.entry.Entry.{Entry}
 use Rattle.rip_plan.specs.Network.{Network}
 use Rattle.rip_log.specs.Logs.{Numbered}
-use Rattle.rip_table.specs.State.{IsState, State}
+use Rattle.rip_table.specs.State.{AreDistinct, IsState, State}
 use Rattle.rip_table.specs.LogJoin.{AreTaken, ComesBefore, HasEntry, IsJoin, IsNamed}
 use Rattle.rip_table.proofs.MakesLemmas.{either_list, front_at}
 
@@ -150,11 +150,11 @@ same_state s t interfaces prefixes shows heard =
 
 -- ---- of a log
 
-abbrev pub log_lists : (n : Network) (old s : State) (log : List Numbered) → IsState s → IsJoin n old log s → Lists (IsNamed n log) old.prefixes s.prefixes
-log_lists n old s log valid join = record {
+abbrev pub log_lists : (n : Network) (old s : State) (log : List Numbered) → AreDistinct s.prefixes → IsJoin n old log s → Lists (IsNamed n log) old.prefixes s.prefixes
+log_lists n old s log differ join = record {
   others = join.others;
   prefixes = join.prefixes;
-  differ = valid.differ;
+  differ = differ;
   order = join.order;
   to = λ p h. elim ((join.listed p).0 h) [
     | inl e ↦ inl e
@@ -163,11 +163,11 @@ log_lists n old s log valid join = record {
   from = λ p k j h. (join.listed p).1 (inr (h.0, h.1, (k, j, h.2)));
 }
 
-pub one_join : (n : Network) (old : State) (log : List Numbered) (s t : State) → IsState s → IsState t → IsJoin n old log s → IsJoin n old log t → s ≡ t
-one_join n old log s t valid_s valid_t first second =
+pub one_join : (n : Network) (old : State) (log : List Numbered) (s t : State) → AreDistinct s.prefixes → AreDistinct t.prefixes → IsJoin n old log s → IsJoin n old log t → s ≡ t
+one_join n old log s t differ_s differ_t first second =
     same_state s t
     (first.interfaces ∙ sym second.interfaces)
-    (one_list (IsNamed n log) old.prefixes s.prefixes t.prefixes (log_lists n old s log valid_s first) (log_lists n old t log valid_t second))
+    (one_list (IsNamed n log) old.prefixes s.prefixes t.prefixes (log_lists n old s log differ_s first) (log_lists n old t log differ_t second))
     (fun_ext (λ i. fun_ext (λ p. same_option (s.shows i p) (t.shows i p) (λ x h. (second.shown i p x).1 ((first.shown i p x).0 h)) (λ x h. (first.shown i p x).1 ((second.shown i p x).0 h)))))
     (fun_ext (λ i. decided (s.heard i) (t.heard i) (λ h. (second.heard i).1 ((first.heard i).0 h)) (λ h. (first.heard i).1 ((second.heard i).0 h))))
 

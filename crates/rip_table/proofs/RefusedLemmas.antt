@@ -390,7 +390,7 @@ module _ (below : LowerLaws) (n : Network) (old : State) (lawful : IsLawful n) (
   accepted_in log s h before after r t cause split join state refused =
       let front = front_joined n old s before after r (ap (joined_records n old) (sym split) ∙ h) in
       let there = made before front.0 front.2 in
-      let same = one_join n old before front.0 t there.1 state there.0 join in
+      let same = one_join n old before front.0 t there.1.differ state.differ there.0 join in
       let again : IsRefused n front.0 r.capture cause = subst (λ (u : State). IsRefused n u r.capture cause) (sym same) refused in
       let clash : ◌≡◌ {A = Result State CollectCause} (Ok front.1) (Err cause) =
       sym front.3 ∙ refused_at below n front.0 r.capture cause lawful there.1 (fits_log n old front.0 before fits front.2) again in
@@ -409,7 +409,7 @@ module _ (below : LowerLaws) (n : Network) (old : State) (lawful : IsLawful n) (
       by : (x : Result State CollectCause) → joined_records n old log ≡ x → joined_records n old log ≡ Ok s
       by (Ok t) is =
           let there = made log t is in
-          is ∙ ap (λ (u : State). Ok u) (one_join n old log t s there.1 h.state there.0 h.join)
+          is ∙ ap (λ (u : State). Ok u) (one_join n old log t s there.1.differ h.state.differ there.0 h.join)
       by (Err cause) is =
           let found = first_refused n old log cause is in
           let first = found.2 in

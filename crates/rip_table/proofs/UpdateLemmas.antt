@@ -61,7 +61,7 @@ new_prefix fields n old new r i e valid join response none = (
 
     all : (k : ℕ) (q : Block) → slice_get join.others k ≡ Some q → e.prefix ≡ q
     all k q at =
-        let found = new_named (IsNamed n (r ∷ [])) old.prefixes new.prefixes (log_lists n old new (r ∷ []) valid join) q (k, at) in
+        let found = new_named (IsNamed n (r ∷ [])) old.prefixes new.prefixes (log_lists n old new (r ∷ []) valid.differ join) q (k, at) in
         let named = found.2 in
         said_one fields n r i named.0 found.0 found.1 named.1 q e response named.2
 
@@ -70,7 +70,7 @@ new_prefix fields n old new r i e valid join response none = (
         let listed = (join.listed e.prefix).1 (inr (i, e.metric, told)) in
         elim (either_list old.prefixes join.others listed.0 e.prefix (ap (λ (ps : List Block). slice_get ps listed.0) (sym join.prefixes) ∙ listed.1)) [
           | inl there ↦ absurd (none (listed.0, there))
-          | inr at ↦ only_item join.others e.prefix (differ_others (IsNamed n (r ∷ [])) old.prefixes new.prefixes (log_lists n old new (r ∷ []) valid join)) all at.0 at.2
+          | inr at ↦ only_item join.others e.prefix (differ_others (IsNamed n (r ∷ [])) old.prefixes new.prefixes (log_lists n old new (r ∷ []) valid.differ join)) all at.0 at.2
         ]
 
 pub changed_metric : (below : LowerLaws) (n : Network) (old s : State) (first second : Numbered) (log : Log) (rest : List Numbered) (i : ℕ) (e f : Entry) → IsLawful n → IsState old → Fits n old

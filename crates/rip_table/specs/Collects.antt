@@ -2,7 +2,8 @@
 use Rattle.std.specs.Prelude.{◌≡◌, ◌<◌, ℕ, ◌+◌, Bool, true, false, List, ◌∷◌, ◌++◌, Option, Some, None, is_ok, Result, Ok, Err, IfErr}
 use Rattle.rip_plan.specs.Network.{Network}
 use Rattle.rip_log.specs.Codes.{is_read}
-use Rattle.rip_log.specs.NextCall.{IsOver, has_stopped, lines_behind, log_to_come, source_of}
+use Rattle.rip_log.specs.Cuts.{DropsLines}
+use Rattle.rip_log.specs.NextCall.{IsOver, has_stopped, lines_behind, log_to_come, source_of, text}
 use Rattle.rip_log.specs.Lines.{Capture}
 use Rattle.rip_log.specs.Logs.{Log, Numbered, IfElse}
 use Rattle.rip_log.specs.Wholes.{OfWhole, Went}
@@ -136,6 +137,9 @@ pub record MovesReader {R : Type 0} (given : R → List ℕ) (coming : R → Opt
   pub behind : has_stopped before ≡ false → IfErr result (λ e. is_log_cause e.cause ≡ false →
       OfWhole given at_end (source_of after) (λ coming.
       StandsBehindKnown (log_to_come coming before) e.line (log_to_come coming after)))
+  -- no line behind the one of the error is taken from the reader
+  pub drops : IfErr result (λ e. OfWhole given at_end (source_of after) (λ coming.
+      DropsLines (text coming before) (lines_behind before) (text coming after) e.line))
 
 -- the marks of the source then
 pub record KeepsSource {R : Type 0} (broken at_end : R → Bool) (before after : LogReader R)

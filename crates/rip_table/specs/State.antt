@@ -46,9 +46,13 @@ pub record IsShown (s : State) (p : Block) (m : ℕ) : Type 0 where
   pub most : m ≤ 16
   pub listed : is_among p s.prefixes ≡ true
 
+-- each prefix stands once in the list
+abbrev pub AreDistinct : List Block → Type 0
+AreDistinct ps =
+    (j k : ℕ) (p : Block) → slice_get ps j ≡ Some p → slice_get ps k ≡ Some p → j ≡ k
+
 -- the prefixes differ, there are not too many, and what is shown is a metric of one of them
 pub record IsState (s : State) : Type 0 where
-  pub differ : (j k : ℕ) (p : Block)
-      → slice_get s.prefixes j ≡ Some p → slice_get s.prefixes k ≡ Some p → j ≡ k
+  pub differ : AreDistinct s.prefixes
   pub few : length s.prefixes ≤ MOST_PREFIXES
   pub shown : (i m : ℕ) (p : Block) → i < s.interfaces → s.shows i p ≡ Some m → IsShown s p m

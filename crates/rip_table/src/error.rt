@@ -5,13 +5,11 @@ ghost use Rattle.std.specs.Prelude.{◌≡◌};
 use rip_log::LogError;
 use rip_wire::{Metric, Prefix};
 use std::alloc::{AllocError, AllocFailed};
-use thiserror::Error;
 
 /// Why a response is refused, in the numbering that is printed.
-#[derive(Clone, Copy, Debug, PartialEq, Eq, Error)]
+#[derive(Clone, Copy, Debug, PartialEq, Eq)]
 pub enum TableError {
     /// The interface gave the prefix another metric before, or earlier in the datagram.
-    #[error("changed prefix {prefix:?} from {old:?} to {new:?}")]
     Changed {
         /// The prefix of the entry.
         prefix: Prefix,
@@ -22,16 +20,13 @@ pub enum TableError {
     },
     /// The metric is below 16, and the next hop is neither 0.0.0.0, nor an address of the sender,
     /// nor a gateway that the plan gives its router for the prefix.
-    #[error("next hop of prefix {prefix:?}")]
     NextHop {
         /// The prefix of the entry.
         prefix: Prefix,
     },
     /// The prefix is new, and the table has 2,048.
-    #[error("too many prefixes")]
     TooManyPrefixes,
     /// A growth was refused.
-    #[error("out of memory")]
     Memory,
 }
 
@@ -56,22 +51,18 @@ impl<T: Drop> From<AllocFailed<T>> for TableError {
 }
 
 /// Why a line of a log is refused.
-#[derive(Clone, Copy, Debug, PartialEq, Eq, Error)]
+#[derive(Clone, Copy, Debug, PartialEq, Eq)]
 pub enum CollectCause {
     /// The line is bad, or could not be read.
-    #[error("{0:?}")]
     Log(LogError),
     /// The table refuses the response.
-    #[error("{0:?}")]
     Table(TableError),
     /// A response whose link and sender no interface of the plan has.
-    #[error("unknown sender")]
     UnknownSender,
 }
 
 /// The first refusal of a log, and its line.
-#[derive(Clone, Copy, Debug, PartialEq, Eq, Error)]
-#[error("line {line}: {cause:?}")]
+#[derive(Clone, Copy, Debug, PartialEq, Eq)]
 pub struct CollectError {
     /// The number of the line, from 1 on.
     pub line: u32,
@@ -80,13 +71,11 @@ pub struct CollectError {
 }
 
 /// Why a log was not read to its end.
-#[derive(Clone, Copy, Debug, PartialEq, Eq, Error)]
+#[derive(Clone, Copy, Debug, PartialEq, Eq)]
 pub enum CollectAllError {
     /// The reader failed, by Read, or had stopped before.
-    #[error("{0:?}")]
     Log(LogError),
     /// The table or the listener was refused memory.
-    #[error("out of memory")]
     Memory,
 }
 

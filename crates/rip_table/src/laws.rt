@@ -10,7 +10,7 @@ ghost use Rattle.rip_log.specs.Lines.{Capture};
 ghost use Rattle.rip_log.specs.Said.{AllSaid, SaidAt, said_at};
 ghost use Rattle.rip_log.specs.Logs.{Log, Numbered, log_at};
 ghost use Rattle.rip_log.specs.declared.limits.TheConstants.{MOST_LINES};
-ghost use Rattle.rip_table.specs.State.{Fits, IsState, State, new_state};
+ghost use Rattle.rip_table.specs.State.{AreDistinct, Fits, IsState, State, new_state};
 ghost use Rattle.rip_table.specs.Joined.{brings_pair, joined_capture, joined_entries, joined_message, joined_records, outcome, refused_at};
 ghost use Rattle.rip_table.specs.Events.{AreCalm, ComeTo, EventAt, all_events, events_of, state_after};
 ghost use Rattle.rip_table.specs.Firsts.{IsUpToRefusal};
@@ -61,11 +61,12 @@ pub fn joined_responses()
         (joined_entries n i old front ≡ Ok new) ↔ AreJoined n i old front new }
 {}
 
-/// A log joined into a table gives one table: two joins of the same log into the same table are
-/// equal, the order of prefixes included.
+/// A log joined into a table gives one table: two joins of the same log into the same table, with
+/// each prefix once, are equal, the order of prefixes included.
 pub fn one_join()
     ensures { (n : Network) (old s t : State) (log : List Numbered) →
-        IsState s → IsState t → IsJoin n old log s → IsJoin n old log t → s ≡ t }
+        AreDistinct s.prefixes → AreDistinct t.prefixes →
+        IsJoin n old log s → IsJoin n old log t → s ≡ t }
 {}
 
 /// A log is refused exactly by its first record that is refused, and its line is that record's;

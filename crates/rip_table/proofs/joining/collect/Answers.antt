@@ -1,6 +1,8 @@
-use Rattle.std.proofs.Common.{◌≡◌, ◌∙◌, arith, sym, refl, false, subst, Some, Ok, Err}
-use Rattle.rip_log.specs.NextCall.{capture_of, line_of, lines_behind, log_to_come, has_stopped, source_of}
+use Rattle.std.proofs.Common.{◌≡◌, ◌∙◌, ℕ, arith, rules, sym, refl, false, subst, Some, Ok, Err}
+use Rattle.rip_log.specs.Cuts.{DropsLines}
+use Rattle.rip_log.specs.NextCall.{capture_of, line_of, lines_behind, log_to_come, has_stopped, source_of, text}
 use Rattle.rip_log.specs.Wholes.{OfWhole, rest_of}
+use Rattle.rip_log.proofs.PassLemmas.{drops_none, drops_trans}
 use Rattle.rip_log.proofs.WholeLemmas.{begins_back, went_on}
 use Rattle.rip_table.specs.State.{State, Fits}
 use Rattle.rip_table.specs.Joined.{MayAllocateFor, is_memory}
@@ -12,6 +14,21 @@ use Rattle.rip_table.proofs.FitLemmas.{Fits-joined}
 use Rattle.rip_table.proofs.BlameLemmas.{Joins-blame, not_log-not_read, at_last, tell, runs, again}
 use Rattle.rip_table.proofs.OutcomeLemmas.{said_outcome}
 use Rattle.rip_table.proofs.joining.collect.Goals as goal
+
+pub records-init : goal.records-init
+records-init g c = record {
+  passed = search rules;
+  went = search rules;
+  fits = search rules;
+  running = search rules;
+  marks = search rules;
+  still = search rules;
+  here = search rules;
+  lines = search rules;
+  drops = λ whole begins.
+      let old = c.args.reader.now in
+      drops_none (text (rest_of g.R.Source.given whole) old) (lines_behind old) (lines_behind old) (omega arith);
+}
 
 pub records-preserved : goal.records-preserved
 records-preserved g c =
@@ -35,6 +52,14 @@ records-preserved g c =
       still = λ was. cc (was, was_run);
       here = λ was. cc (was, was_run);
       lines = let later = h.answers.onward.1 in let first = c.records.invariant.lines in omega arith;
+      drops = λ whole begins.
+          let rest = rest_of S.given whole in
+          let old = c.args.reader.now in
+          let mid = c.records.reader in
+          let before = begins_back S.given S.coming S.at_end whole (source_of mid) (source_of now) h.pulls.went begins in
+          subst (λ (n : ℕ). DropsLines (text rest old) (lines_behind old) (text rest now) n) h.answers.onward.1
+          (drops_trans (text rest old) (text rest mid) (text rest now) (lines_behind old) (lines_behind mid) c.in-Ok-Some.record.line (c.records.invariant.drops whole before)
+          (h.answers.drops whole begins));
     }
 
 pub returns-in-Err-join : goal.returns-in-Err-join
@@ -88,6 +113,11 @@ returns-in-Err-join g c =
             let coming = rest_of S.given whole in
             stands_behind capture_of line_of plan old (log_to_come coming c.args.reader.now) (state c.records.table) (log_to_come coming before) (log_to_come coming after) c.in-Ok-Some.record
             (inv.passed was whole (begins_back S.given S.coming S.at_end whole (source_of before) (source_of after) h.pulls.went begins)) (h.answers.gives run whole begins);
+        drops = λ whole begins.
+            let rest = rest_of S.given whole in
+            let first = c.args.reader.now in
+            drops_trans (text rest first) (text rest before) (text rest after) (lines_behind first) (lines_behind before) c.in-Ok-Some.record.line
+            (inv.drops whole (begins_back S.given S.coming S.at_end whole (source_of before) (source_of after) h.pulls.went begins)) (h.answers.drops whole begins);
       };
       marks = record {
         over = λ fine. cc fine;
@@ -125,6 +155,7 @@ returns-in-Ok-None g c =
         refused = λ was. h.marks.stopped;
         here = tt;
         behind = λ was. tt;
+        drops = tt;
       };
       marks = record {
         over = λ fine. h.marks.over refl;
@@ -162,6 +193,11 @@ returns-in-Err g c =
         refused = λ was. h.marks.stopped;
         here = (h.answers.here, h.answers.here);
         behind = λ was is_record. cc is_record;
+        drops = λ whole begins.
+            let rest = rest_of S.given whole in
+            let first = c.args.reader.now in
+            drops_trans (text rest first) (text rest before) (text rest after) (lines_behind first) (lines_behind before) c.in-Err.error.line
+            (inv.drops whole (begins_back S.given S.coming S.at_end whole (source_of before) (source_of after) h.pulls.went begins)) (h.answers.drops whole begins);
       };
       marks = record {
         over = λ fine. cc fine;

@@ -1,5 +1,6 @@
 use Rattle.std.proofs.Common.{◌≡◌, ◌-◌, ◌≤◌, true, false}
-use Rattle.rip_log.specs.NextCall.{log_to_come, lines_behind, has_stopped, source_of}
+use Rattle.rip_log.specs.Cuts.{DropsLines}
+use Rattle.rip_log.specs.NextCall.{log_to_come, lines_behind, has_stopped, source_of, text}
 use Rattle.rip_log.specs.Wholes.{OfWhole, Went}
 use Rattle.rip_table.specs.State.{Fits}
 use Rattle.rip_table.specs.Collects.{PassedKnown}
@@ -19,6 +20,8 @@ invariant-records g l =
       still : has_stopped l.fn.reader ≡ true → (state l.table ≡ state l.fn.table);
       here : has_stopped l.fn.reader ≡ true → (lines_behind l.reader ≡ lines_behind l.fn.reader);
       lines : lines_behind l.fn.reader ≤ lines_behind l.reader;
+      drops : OfWhole S.given S.at_end (source_of l.reader)
+          (λ coming. DropsLines (text coming l.fn.reader) (lines_behind l.fn.reader) (text coming l.reader) (lines_behind l.reader));
     }
 
 abbrev pub decreases-records : goal.decreases-records
