@@ -1,6 +1,6 @@
 -- Only what is told asks which interfaces poison: plans that are alike but for it have the same paths, and
 -- the same tables are shown.
-use Rattle.std.proofs.Common.{◌≡◌, ◌↔◌, ◌⊎◌, ℕ, ◌<◌, ◌+◌, inl, inr, Bool, true, Option, None, Some, List, [], ◌∷◌, length, min, unwrap_or, slice_get, option_map, refl, sym, ◌∙◌, ap, subst}
+use Rattle.std.proofs.Common.{◌≡◌, ◌↔◌, ◌⊎◌, ◌||◌, ℕ, ◌<◌, ◌+◌, inl, inr, Bool, true, false, not, Option, None, Some, List, [], ◌∷◌, length, min, unwrap_or, slice_get, option_map, refl, sym, ◌∙◌, ap, subst}
 use Rattle.std.specs.Option.{option_map_or}
 use Rattle.std.proofs.lemmas.Option.{none-some, same_Some, slice_get-map}
 use Rattle.rip_plan.specs.Network.{Network}
@@ -19,11 +19,11 @@ use Rattle.rip_check.specs.Tables.{FitsShown, FitsWay, IsHiddenRoute, IsLeastOff
 use Rattle.rip_check.specs.Told.{AreAlike, HasLessPoison, poisoning, poisons, told}
 use Rattle.rip_check.proofs.PlanLemmas.{own_moved}
 use Rattle.rip_check.proofs.LessPoisonLemmas.{fewer_poison}
-use Rattle.rip_check.proofs.ToldTableLemmas.{its_poison, surely_poisons, told_offered}
+use Rattle.rip_check.proofs.ToldTableLemmas.{its_poison, mute, surely_poisons, told_offered}
 
 -- ---- what paths and tables ask of two plans
 
-record Same (n m : Network) : Type 0 where
+pub record Same (n m : Network) : Type 0 where
   routers : length n.routers ≡ length m.routers
   places : n.places ≡ m.places
   to : (i r l c : ℕ) → IsInterface n i r l c → IsInterface m i r l c
@@ -42,7 +42,7 @@ turned n m e = record {
 }
 
 -- the interface of the other plan
-other : (n m : Network) → AreAlike n m → (i : ℕ) (x : Interface) → slice_get n.interfaces i ≡ Some x → (b : Bool) × (slice_get m.interfaces i ≡ Some (record x { poison = b }))
+pub other : (n m : Network) → AreAlike n m → (i : ℕ) (x : Interface) → slice_get n.interfaces i ≡ Some x → (b : Bool) × (slice_get m.interfaces i ≡ Some (record x { poison = b }))
 other n m alike i x at = go (slice_get m.interfaces i) refl
   where
     both : option_map poisoning (slice_get m.interfaces i) ≡ Some (poisoning x)
@@ -58,7 +58,7 @@ other n m alike i x at = go (slice_get m.interfaces i) refl
         let same : poisoning y ≡ poisoning x = same_Some (poisoning y) (poisoning x) (sym (ap (option_map poisoning) e) ∙ both) in
         (y.poison, e ∙ ap (λ (z : Interface). Some (record z { poison = y.poison })) same)
 
-interface_to : (n m : Network) → AreAlike n m → (i r l c : ℕ) → IsInterface n i r l c → IsInterface m i r l c
+pub interface_to : (n m : Network) → AreAlike n m → (i r l c : ℕ) → IsInterface n i r l c → IsInterface m i r l c
 interface_to n m alike i r l c its =
     let (poison, at) = other n m alike i its.interface its.listed in
     record { interface = record its.interface { poison = poison }; listed = at; router = its.router; link = its.link; cost = its.cost }
@@ -68,7 +68,7 @@ connected_to n m alike i r l d its =
     let (poison, at) = other n m alike i its.interface its.listed in
     record { interface = record its.interface { poison = poison }; listed = at; router = its.router; link = its.link; direct = its.direct }
 
-same : (n m : Network) → AreAlike n m → Same n m
+pub same : (n m : Network) → AreAlike n m → Same n m
 same n m alike = record {
   routers = ap (λ (k : Network). length k.routers) alike;
   places = ap (λ (k : Network). k.places) alike;
@@ -102,7 +102,7 @@ leaf_to n m e r i l c is = record {
 place_to : (n m : Network) → Same n m → (k p : ℕ) (seat : Seat) → IsPlace n k p seat → IsPlace m k p seat
 place_to n m e k p seat is = record { listed = sym (ap (λ qs. slice_get qs k) e.places) ∙ is.listed }
 
-own_to : {Says : OwnPrefix → Type 0} (n m : Network) → Same n m → (k p r : ℕ) → IsOwnWith n k p r Says → IsOwnWith m k p r Says
+pub own_to : {Says : OwnPrefix → Type 0} (n m : Network) → Same n m → (k p r : ℕ) → IsOwnWith n k p r Says → IsOwnWith m k p r Says
 own_to n m e k p r is = own_moved is (place_to n m e k p _ is.place)
 
 attached_to : (n m : Network) → Same n m → (r p l : ℕ) → IsAttached n r p l → IsAttached m r p l
@@ -231,9 +231,14 @@ less n m has i on = go (slice_get n.interfaces i) refl
         let y : Interface = record x { poison = its.0 } in
         surely_poisons n i (has.less i (record { interface = y; listed = its.1; poisons = sym (its_poison m i y its.1) ∙ on }))
 
+still_mute : (a b h : Bool) → (a ≡ true → b ≡ true) → (a || not h) ≡ true → (b || not h) ≡ true
+still_mute true b h then on = ap (λ (x : Bool). x || not h) (then refl)
+still_mute false true h then on = refl
+still_mute false false h then on = on
+
 pub less_poison : (n m : Network) (s : State) (T : Tables) → IsLawful n → HasLessPoison n m → Shows n (told n s) T → AllRight n (length s.prefixes) T → Shows m (told m s) T
 less_poison n m s T plan has shows right =
-    shows_to n m (same n m has.alike) (told m s) T (fewer_poison n s (poisons n) (poisons m) T plan (less n m has) shows right)
+    shows_to n m (same n m has.alike) (told m s) T (fewer_poison n s (mute n s) (mute m s) T plan (λ i. still_mute (poisons m i) (poisons n i) (s.heard i) (less n m has i)) shows right)
 
 pub still_right : (n m : Network) (count : ℕ) (T : Tables) → HasLessPoison n m → AllRight n count T → AllRight m count T
 still_right n m count T has = right_to n m (same n m has.alike) count T
@@ -253,6 +258,6 @@ told_value n s t r l q p v alike o = record {
 
 pub told_offers : (n : Network) (s : State) (r l t p v : ℕ) → p < length s.prefixes → Offers n (told n s) r l t p v ↔ Offers n s r l t p v
 told_offers n s r l t p v lt = (
-  told_value n (told n s) s r l t p v (λ i. told_offered (poisons n) s i p lt),
-  told_value n s (told n s) r l t p v (λ i. sym (told_offered (poisons n) s i p lt)),
+  told_value n (told n s) s r l t p v (λ i. told_offered (mute n s) s i p lt),
+  told_value n s (told n s) r l t p v (λ i. sym (told_offered (mute n s) s i p lt)),
 )

@@ -16,7 +16,7 @@ use Rattle.rip_check.specs.Tables.{FitsWay, IsHiddenRoute, IsLeastOffer, IsSilen
 use Rattle.rip_check.specs.Told.{EachPoisons, poisons, told, told_of, told_where}
 use Rattle.rip_check.proofs.ConverseLemmas.{holds}
 use Rattle.rip_check.proofs.PlanLemmas.{kept_own}
-use Rattle.rip_check.proofs.ToldTableLemmas.{surely_poisons, told_metric, told_offered}
+use Rattle.rip_check.proofs.ToldTableLemmas.{surely_mute, surely_poisons, told_metric, told_offered}
 
 -- ---- where all poison
 
@@ -28,7 +28,7 @@ told_same (Some m) = refl
 pub told_is_shown : (n : Network) (s : State) → EachPoisons n → told n s ≡ s
 told_is_shown n s each =
     ap (λ (f : ℕ → Block → Option ℕ). record s { shows = f }) (fun_ext
-    (λ i. fun_ext (λ p. ap (λ (b : Bool). told_of b (s.shows i p)) (on i (slice_get n.interfaces i) refl) ∙ told_same (s.shows i p))))
+    (λ i. fun_ext (λ p. ap (λ (b : Bool). told_of b (s.shows i p)) (surely_mute n s i (on i (slice_get n.interfaces i) refl)) ∙ told_same (s.shows i p))))
   where
     on : (i : ℕ) (o : Option Interface) → slice_get n.interfaces i ≡ o → poisons n i ≡ true
     on i None at = ap (λ (o : Option Interface). option_map_or (λ x. x.poison) o true) at

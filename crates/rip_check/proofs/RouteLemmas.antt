@@ -80,7 +80,7 @@ module _ (n : Network) (plan : IsLawful n) (shown : State) where
   speaks_case i j r l k c d p m (Over o) a b not fits small (inl h) (inl g) =
       absurd (links_differ i j r l k c d a b not (cc (h.0, g.0)))
 
-  speaks : (r p : ℕ) (t : Route) → TwoInterfaces n r → FitsShown n shown r p t → t.metric < 16 →
+  pub speaks : (r p : ℕ) (t : Route) → TwoInterfaces n r → FitsShown n shown r p t → t.metric < 16 →
       (x y z : ℕ) × IsInterface n x r y z × (metric_at shown x p ≡ Some t.metric)
   speaks r p t two fits small =
       speaks_case two.0 two.1 r two.2 two.3 two.4 two.5 p t.metric t.way two.6 two.7 two.8 fits.told.way_fits small

@@ -1,5 +1,5 @@
 -- What is told is a metric where what is shown is one, and is offered as what is shown.
-use Rattle.std.proofs.Common.{◌≡◌, ℕ, ◌<◌, ◌≤◌, ◌↔◌, inl, inr, Bool, true, false, cond, Option, None, Some, get_or, length, slice_get, option_and_then, unwrap_or, refl, sym, ◌∙◌, ap, arith}
+use Rattle.std.proofs.Common.{◌≡◌, ℕ, ◌<◌, ◌≤◌, ◌↔◌, inl, inr, Bool, true, false, ◌||◌, not, cond, IsTrue, Option, None, Some, get_or, length, slice_get, option_and_then, unwrap_or, refl, sym, ◌∙◌, ap, arith}
 use Rattle.std.specs.Option.{option_map_or}
 use Rattle.std.proofs.lemmas.Option.{none-some, same_Some, slice_get-get_or}
 use Rattle.rip_wire.specs.Prefix.{Block, block}
@@ -33,29 +33,49 @@ pub told_silent : (poison : ℕ → Bool) (s : State) (i k : ℕ) → k < length
 unfolding told_of
 told_silent poison s i k lt e = told_metric poison s i k lt ∙ ap (told_of (poison i)) e
 
+-- an interface tells nothing by its silence where it poisons or was not heard
+abbrev pub mute : Network → State → ℕ → Bool
+mute n s i = poisons n i || not (s.heard i)
+
+pub surely_mute : (n : Network) (s : State) (i : ℕ) → poisons n i ≡ true → mute n s i ≡ true
+surely_mute n s i on = ap (λ (b : Bool). b || not (s.heard i)) on
+
+pub not_mute : (a h : Bool) → (a || not h) ≡ false → (a ≡ false) × (h ≡ true)
+not_mute true h e = absurd (let clash : true ≡ false = e in cc clash)
+not_mute false true e = (refl, refl)
+not_mute false false e = absurd (let clash : true ≡ false = e in cc clash)
+
 pub told_metrics : (n : Network) (s : State) (i r l c p m : ℕ) → IsInterface n i r l c → p < length s.prefixes → (metric_at (told n s) i p ≡ Some m) ↔ TellsMetric n s i p m
 told_metrics n s i r l c p m its lt = (by_shown (metric_at s i p) refl, back)
   where
-    silent : (b : Bool) → poisons n i ≡ b → cond b None (Some 16) ≡ Some m → (Poisons n i → ⊥) × (m ≡ 16)
+    silent : (b : Bool) → mute n s i ≡ b → cond b None (Some 16) ≡ Some m → IsTrue (s.heard i) × (Poisons n i → ⊥) × (m ≡ 16)
     silent true on e = absurd (none-some m e)
-    silent false off e = (λ is. (let clash : false ≡ true = sym off ∙ surely_poisons n i is in cc clash), sym (same_Some 16 m e))
+    silent false off e =
+        let no = not_mute (poisons n i) (s.heard i) off in
+        (no.1, λ is. (let clash : false ≡ true = sym no.0 ∙ surely_poisons n i is in cc clash), sym (same_Some 16 m e))
 
     by_shown : (o : Option ℕ) → metric_at s i p ≡ o → metric_at (told n s) i p ≡ Some m → TellsMetric n s i p m
     by_shown None at e =
-        let (keeps, is) = silent (poisons n i) refl (sym (told_silent (poisons n) s i p lt at) ∙ e) in
-        inr (at, keeps, is)
-    by_shown (Some v) at e = inl (at ∙ sym (told_shown (poisons n) s i p v lt at) ∙ e)
+        let (heard, keeps, is) = silent (mute n s i) refl (sym (told_silent (mute n s) s i p lt at) ∙ e) in
+        inr (heard, at, keeps, is)
+    by_shown (Some v) at e = inl (at ∙ sym (told_shown (mute n s) s i p v lt at) ∙ e)
 
-    at_last : (b : Bool) → its.interface.poison ≡ b → (Poisons n i → ⊥) → m ≡ 16 → cond b None (Some 16) ≡ Some m
-    at_last true on keeps is = absurd (keeps (record { interface = _; listed = its.listed; poisons = on }))
-    at_last false off keeps is = ap Some (sym is)
+    at_last : (b : Bool) → its.interface.poison ≡ b → (Poisons n i → ⊥) → IsTrue (s.heard i) → mute n s i ≡ false
+    at_last true on keeps heard = absurd (keeps (record { interface = _; listed = its.listed; poisons = on }))
+    at_last false off keeps heard =
+        let off' : poisons n i ≡ false = its_poison n i _ its.listed ∙ off in
+        ap (λ (b : Bool). b || not (s.heard i)) off' ∙ ap not heard
 
     back : TellsMetric n s i p m → metric_at (told n s) i p ≡ Some m
-    back (inl shown) = told_shown (poisons n) s i p m lt shown
-    back (inr (none, keeps, is)) =
-        told_silent (poisons n) s i p lt none
-        ∙ ap (λ (b : Bool). cond b None (Some 16)) (its_poison n i _ its.listed)
-        ∙ at_last its.interface.poison refl keeps is
+    back (inl shown) = told_shown (mute n s) s i p m lt shown
+    back (inr (heard, none, keeps, is)) =
+        told_silent (mute n s) s i p lt none
+        ∙ ap (λ (b : Bool). cond b None (Some 16)) (at_last its.interface.poison refl keeps heard)
+        ∙ ap Some (sym is)
+
+-- a metric below 16 that is told is shown
+pub shown_metric : (n : Network) (s : State) (i r l c p m : ℕ) → IsInterface n i r l c → p < length s.prefixes → m < 16 → metric_at (told n s) i p ≡ Some m → metric_at s i p ≡ Some m
+shown_metric n s i r l c p m its lt small e = elim ((told_metrics n s i r l c p m its lt).0 e) [ inl shown ↦ shown | inr (heard, none, keeps, is) ↦ absurd (omega (arith, small, is)) ]
 
 -- nothing and 16 offer the same
 unwrapped : (poison : Bool) (x : Option ℕ) → unwrap_or (told_of poison x) 16 ≡ unwrap_or x 16

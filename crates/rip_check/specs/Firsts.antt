@@ -119,6 +119,18 @@ pub record IsFirstUnheard (n : Network) (shown : State) (r l : ℕ) : Type 0 whe
   pub unheard : IsTrue (shown.heard interface) → ⊥
   pub before : (j s k d : ℕ) → j < interface → IsInterface n j s k d → IsTrue (shown.heard j)
 
+-- each interface of router r was heard
+abbrev pub AreHeardOf : Network → State → ℕ → Type 0
+AreHeardOf n shown r = (i l c : ℕ) → IsInterface n i r l c → IsTrue (shown.heard i)
+
+-- the first interface of router r that was not heard is on link l
+pub record IsFirstUnheardOf (n : Network) (shown : State) (r l : ℕ) : Type 0 where
+  pub interface : ℕ
+  pub cost : ℕ
+  pub its : IsInterface n interface r l cost
+  pub unheard : IsTrue (shown.heard interface) → ⊥
+  pub before : (j k d : ℕ) → j < interface → IsInterface n j r k d → IsTrue (shown.heard j)
+
 -- the place of a trouble is the first that can't be read, with its reason
 pub record IsFirstUnclear
     (n : Network) (shown : State) (unclear : Unclear)

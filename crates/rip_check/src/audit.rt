@@ -3,7 +3,7 @@
 ghost use Rattle.std.specs.Prelude.{◌≡◌, ◌↔◌, ℕ, ◌+◌, ◌≤◌, ◌<◌, IfErr, IfNone, IfOk, IfSome, None, Some, length};
 ghost use Rattle.rip_table.specs.State.{Fits};
 ghost use Rattle.rip_check.specs.Tables.{IsHeard};
-ghost use Rattle.rip_check.specs.Firsts.{IsFirstOf, IsFirstUnheard, IsReadable, IsFirstTrouble};
+ghost use Rattle.rip_check.specs.Firsts.{AreHeardOf, IsFirstOf, IsFirstUnheard, IsFirstUnheardOf, IsReadable, IsFirstTrouble};
 ghost use Rattle.rip_check.specs.TwoLeasts.{AreLeastShown};
 ghost use Rattle.rip_check.specs.Verdicts.{IsFirstPlace, IsRowFirst, IsSound, IsVerdict, ShowsTables, IsNextUnsettled, HoldsAfter, IsKnownPlace};
 ghost use Rattle.rip_check.specs.Laws.{ShowsRightTables, EachPlaceHolds};
@@ -28,6 +28,25 @@ fn first_unheard<T: MetricTable>(plan: &Plan, table: &T) -> Option<Interface>
     for i in 0..plan.interfaces() {
         if !table.heard(i) {
             return Some(plan.interface(i));
+        }
+    }
+    None
+}
+
+/// The link of the first interface of a router that was not heard. What the router's silence is
+/// read as, a route or none, is then not known.
+pub fn unheard_link<T: MetricTable>(plan: &Plan, table: &T, router: usize) -> Option<usize>
+    requires fits { Fits plan.now (T.state table.now) }
+    requires router { router < length plan.now.routers }
+    ensures some { IfSome result (λ l.
+        IsFirstUnheardOf plan.now (T.state table.now) router l) }
+    ensures none { IfNone result (AreHeardOf plan.now (T.state table.now) router) }
+{
+    let numbers = plan.of_router(router);
+    for i in numbers {
+        let own = plan.interface(*i);
+        if !table.heard(*i) {
+            return Some(own.link);
         }
     }
     None

@@ -1,10 +1,13 @@
 //! Laws of settled tables: functions that do nothing, whose contracts hold of every plan and every
 //! table.
 
-ghost use Rattle.std.specs.Prelude.{◌≡◌, ℕ, ◌↔◌, ◌<◌, ◌≤◌, List, Some, length};
+ghost use Rattle.std.specs.Prelude.{◌≡◌, ℕ, ◌↔◌, ◌<◌, ◌≤◌, List, Option, Some, length};
 ghost use Rattle.rip_plan.specs.Network.{Network};
-ghost use Rattle.rip_plan.specs.Relations.{IsAttached, IsInterface, IsLawful, IsPlain};
-ghost use Rattle.rip_table.specs.State.{State};
+ghost use Rattle.rip_log.specs.Logs.{Log};
+ghost use Rattle.rip_plan.specs.Relations.{HasTwoInterfaces, IsAttached, IsInterface, IsLawful, IsPlain};
+ghost use Rattle.rip_table.specs.LogJoin.{IsOutcome};
+ghost use Rattle.rip_table.specs.State.{State, new_state};
+ghost use Rattle.rip_table.specs.declared.error.CollectError.{CollectError};
 ghost use Rattle.rip_check.specs.Expected.{IsExpected};
 ghost use Rattle.rip_check.specs.Failures.{network_after};
 ghost use Rattle.rip_check.specs.Firsts.{IsReadable, IsReason, ShowsTwoWays};
@@ -12,11 +15,13 @@ ghost use Rattle.rip_check.specs.Laws.{Case, EachIsExpected, EachPlaceHolds, Giv
 ghost use Rattle.rip_check.specs.Metrics.{IsInRange, metric_at};
 ghost use Rattle.rip_check.specs.Paths.{HasPathOver, Hop, IsLeast, IsPath, IsPlainPath};
 ghost use Rattle.rip_check.specs.Settled.{AllRight, IsPlainRight, IsRight};
-ghost use Rattle.rip_check.specs.Tables.{MayHoldBack, Offers, Route, Shows, Tables};
-ghost use Rattle.rip_check.specs.Told.{EachPoisons, HasLessPoison, TellsMetric, told};
+ghost use Rattle.rip_check.specs.Tables.{FitsShown, IsHeard, MayHoldBack, Offers, Route, Shows, Tables};
+ghost use Rattle.rip_check.specs.Told.{AreAlike, EachPoisons, HasLessPoison, TellsMetric, poisons, told, told_where};
+ghost use Rattle.rip_check.specs.Verdicts.{IsVerdict};
 ghost use Rattle.rip_check.specs.Walks.{EachCanGoOn, EachEndsThere, EachIsShort};
 ghost use Rattle.rip_check.specs.declared.failures.Failure.{Failure};
 ghost use Rattle.rip_check.specs.declared.verdict.Unclear.TheVariants.{TwoWays};
+ghost use Rattle.rip_check.specs.declared.verdict.Verdict.{Verdict};
 ghost use Rattle.rip_check.specs.declared.way.Way.{Way};
 
 pub mod examples;
@@ -117,8 +122,8 @@ pub fn failures_bring_nothing_nearer()
         IsLeast (network_after n f) p r w → v ≤ w }
 {}
 
-/// What an interface tells is the metric that it shows, or 16, where it shows nothing and does not
-/// poison.
+/// What an interface tells is the metric that it shows, or 16, where it was heard, shows nothing and
+/// does not poison.
 pub fn told_metrics()
     ensures { (n : Network) (s : State) (i r l c p m : ℕ) → IsInterface n i r l c →
         p < length s.prefixes → (metric_at (told n s) i p ≡ Some m) ↔ TellsMetric n s i p m }
@@ -129,13 +134,39 @@ pub fn told_is_shown()
     ensures { (n : Network) (s : State) → EachPoisons n → told n s ≡ s }
 {}
 
+/// Where an interface was not heard, no verdict asks what it tells: it is named itself. So each
+/// verdict is the same as if silence were 16 of each interface that does not poison, heard or not.
+pub fn unheard_silence()
+    ensures heard { (n : Network) (s : State) → IsHeard n s → told n s ≡ told_where (poisons n) s }
+    ensures verdict { (n : Network) (s : State) (verdict : Verdict) →
+        IsVerdict n (told n s) verdict ↔ IsVerdict n (told_where (poisons n) s) verdict }
+{}
+
+/// A route below 16 of a router with two interfaces is shown: one of them shows its metric.
+pub fn shown_metrics()
+    ensures { (n : Network) (s : State) (r p : ℕ) (route : Route) → IsLawful n →
+        HasTwoInterfaces n r → p < length s.prefixes → FitsShown n (told n s) r p route →
+        route.metric < 16 →
+        (i l c : ℕ) × IsInterface n i r l c × (metric_at s i p ≡ Some route.metric) }
+{}
+
+/// Which interfaces poison says nothing of the table that a log makes, nor of what refuses a log.
+pub fn tables_without_poison()
+    ensures new { (n m : Network) → AreAlike n m → new_state n ≡ new_state m }
+    ensures outcome { (n m : Network) (old s : State) (log : Log)
+        (refusal : Option CollectError) → AreAlike n m →
+        IsOutcome n old log s refusal → IsOutcome m old log s refusal }
+{}
+
 /// Less poison takes nothing away: where a table shows right routes by a plan, it shows the same
-/// ones, as right, by the plan with less poison.
+/// ones, as right, by the plan with less poison. So a plan that says less poison keeps `Settled`.
 pub fn less_poison()
     ensures shows { (n m : Network) (s : State) (T : Tables) → IsLawful n → HasLessPoison n m →
         Shows n (told n s) T → AllRight n (length s.prefixes) T → Shows m (told m s) T }
     ensures right { (n m : Network) (count : ℕ) (T : Tables) → HasLessPoison n m →
         AllRight n count T → AllRight m count T }
+    ensures settled { (n m : Network) (s : State) → IsLawful n → HasLessPoison n m →
+        ShowsRightTables n (told n s) → ShowsRightTables m (told m s) }
 {}
 
 /// What a neighbour offers is the same by what is told and by what is shown.

@@ -19,7 +19,7 @@ mod verdict;
 mod way;
 
 pub use aftermath::{Aftermath, Impact};
-pub use audit::{judge, next_unsettled};
+pub use audit::{judge, next_unsettled, unheard_link};
 pub use expected::Expected;
 pub use failures::Failure;
 pub use least::least_metric;

@@ -1,11 +1,11 @@
 //! What a plan and a table say of a prefix by its number in the table.
 
-ghost use Rattle.std.specs.Prelude.{◌≡◌, ◌↔◌, ℕ, ◌<◌, ◌≤◌, Decides, IfSome, Some, length};
+ghost use Rattle.std.specs.Prelude.{◌≡◌, ◌||◌, ◌↔◌, ℕ, ◌<◌, ◌≤◌, Decides, IfSome, Some, length, not};
 ghost use Rattle.rip_plan.specs.Relations.{IsAttached};
 ghost use Rattle.rip_table.specs.State.{Fits};
 ghost use Rattle.rip_check.specs.Metrics.{IsInRange, metric_at};
 ghost use Rattle.rip_check.specs.Tables.{MayHoldBack};
-ghost use Rattle.rip_check.specs.Told.{told};
+ghost use Rattle.rip_check.specs.Told.{poisons, told};
 
 use rip_plan::Plan;
 use rip_table::MetricTable;
@@ -51,8 +51,17 @@ pub(crate) fn shown_at<T: MetricTable>(
     }
 }
 
-/// The metric that an interface tells of a prefix: what it shows, or 16 where it shows nothing and
-/// does not poison.
+/// Whether the silence of an interface tells nothing: it poisons, or was not heard.
+fn is_mute<T: MetricTable>(plan: &Plan, table: &T, interface: usize) -> bool
+    requires fits { Fits plan.now (T.state table.now) }
+    requires interface { interface < length plan.now.interfaces }
+    ensures { result ≡ (poisons plan.now interface || not ((T.state table.now).heard interface)) }
+{
+    plan.interface(interface).poison || !table.heard(interface)
+}
+
+/// The metric that an interface tells of a prefix: what it shows, or 16 where it was heard, shows
+/// nothing and does not poison.
 pub(crate) fn told_at<T: MetricTable>(
     plan: &Plan,
     table: &T,
@@ -68,7 +77,7 @@ pub(crate) fn told_at<T: MetricTable>(
     match shown_at(plan, table, interface, prefix) {
         Some(metric) => Some(metric),
         None => {
-            if plan.interface(interface).poison {
+            if is_mute(plan, table, interface) {
                 None
             } else {
                 Some(16)

@@ -6,3 +6,6 @@ returns-clause-shows c = less_poison
 
 pub returns-clause-right : goal.returns-clause-right
 returns-clause-right c = still_right
+
+pub returns-clause-settled : goal.returns-clause-settled
+returns-clause-settled c n m s plan has (T, shows, right) = (T, less_poison n m s T plan has shows right, still_right n m _ T has right)
