@@ -259,17 +259,17 @@ log-goes-on taken broken old new before after link bytes answer adds files text 
     (out.0, out.3, goes-on before after link bytes out.0 out.1 files text is answer out.2 out.4)
 
 -- a failure before a file is begun, of which nothing was read
-failed-text : (error : RunError) → error ≢ Write → (n : ℕ) (log : CaptureLog) (link bytes : List ℕ) →
-    FileText log.authentication n log.lines link bytes (line (fault_line_of error)) log.lines (Err error)
-failed-text Read h n log link bytes = unread [] (none refl) (omega (arith, log.few)) refl refl
-failed-text Write h n log link bytes = absurd (h refl)
-failed-text Memory h n log link bytes = memory refl refl
+pub failed-text : (error : RunError) → error ≢ Write → (how : Authentication) (n lines : ℕ) (link bytes : List ℕ) → lines ≤ 1000000 →
+    FileText how n lines link bytes (line (fault_line_of error)) lines (Err error)
+failed-text Read h how n lines link bytes few = unread [] (none refl) (omega (arith, few)) refl refl
+failed-text Write h how n lines link bytes few = absurd (h refl)
+failed-text Memory h how n lines link bytes few = memory refl refl
 
 pub failure-goes-on : {K : Type 0} (taken : K → Taken) (broken : K → Bool) (old new : K) (error : RunError) (result : Result Status RunError) → error ≢ Write
     → EndsWith taken broken old new (line (fault_line_of error)) (Err error) result → (log : CaptureLog) (files : List File) (text : List ℕ) (file : File) → IsLogOf log files text → result ≢ Err Write
     → (part : List ℕ) × Took (taken old) (taken new) part × LogOf log.authentication (files ++ file ∷ []) (text ++ part) result
 failure-goes-on taken broken old new error result good ends log files text file is wrote =
     let out = ends.out wrote in
-    let log_of = stopped files [] file text (line (fault_line_of error)) log.lines log.lines log.status is.so_far (failed-text error good (length files + 1) log file.link file.bytes)
+    let log_of = stopped files [] file text (line (fault_line_of error)) log.lines log.lines log.status is.so_far (failed-text error good log.authentication (length files + 1) log.lines file.link file.bytes log.few)
     (inr refl) refl refl in
     (line (fault_line_of error), out.1, subst (λ r. LogOf log.authentication (files ++ file ∷ []) (text ++ line (fault_line_of error)) r) (sym out.0) log_of)

@@ -7,6 +7,7 @@ use Rattle.rip_wire.specs.Address.{address_in, address_text}
 use Rattle.rip_wire.specs.Name.{IsName, is_name}
 use Rattle.rip_log.specs.Fields.{fields_of}
 use Rattle.rip_log.specs.Lines.{Capture as Captured, judge}
+use Rattle.rip_log.specs.LogText.{EndsLine}
 use Rattle.rip_log.specs.Logs.{Log, Numbered}
 use Rattle.rip_log.specs.declared.error.LogCode.TheVariants.{Fields}
 use Rattle.rip_capture.specs.Captures.{CaptureFault, IsCapture}
@@ -207,6 +208,12 @@ whole-status how cs h = rw (none-of is_cut not-cut cs h, none-of is_fragment not
 
 -- ---- files
 
+-- the datagrams of files and of one more
+pub have-more : (how : Authentication) (files : List File) (file : File) (xs ys : List Captured) → HaveDatagrams how files xs → HasDatagrams how file ys →
+    HaveDatagrams how (files ++ file ∷ []) (xs ++ ys)
+have-more how [] file xs ys e h = (ys, [], h, refl, ap (λ l. l ++ ys) e ∙ sym (append-nil ys))
+have-more how (f ∷ files) file xs ys (first, rest, has, have, e) h = (first, rest ++ ys, has, have-more how files file rest ys have h, ap (λ l. l ++ ys) e ∙ append_assoc first rest ys)
+
 -- what packet_bytes of rip_capture says
 pub record PacketBytes : Type 0 where
   pub right : (file : List ℕ) (frames : List Frame) → IsCapture file frames → Bytes file → AllByRecursion (λ f. Bytes f.bytes) frames
@@ -288,11 +295,6 @@ module _ (packet_bytes : PacketBytes) where
     ok-of : {s t : Status} → ◌≡◌ {A = Result Status RunError} (Ok s) (Ok t) → s ≡ t
     ok-of e = cc e
 
-    have-more : (how : Authentication) (files : List File) (file : File) (xs ys : List Captured) → HaveDatagrams how files xs → HasDatagrams how file ys →
-        HaveDatagrams how (files ++ file ∷ []) (xs ++ ys)
-    have-more how [] file xs ys e h = (ys, [], h, refl, ap (λ l. l ++ ys) e ∙ sym (append-nil ys))
-    have-more how (f ∷ files) file xs ys (first, rest, has, have, e) h = (first, rest ++ ys, has, have-more how files file rest ys have h, ap (λ l. l ++ ys) e ∙ append_assoc first rest ys)
-
     pub record FilesSay (how : Authentication) (files : List File) (status : Status) (rest : List ℕ) (records : List Numbered) : Type 0 where
       pub done : status ≡ Done
       pub captures : List Captured
@@ -314,7 +316,7 @@ module _ (packet_bytes : PacketBytes) where
         }
 
     -- at the end of a text nothing is left
-    at-end : (n : ℕ) (records : List Numbered) → Reads n [] records → records ≡ []
+    pub at-end : (n : ℕ) (records : List Numbered) → Reads n [] records → records ≡ []
     at-end n records e = sym (ap (λ (l : Log). l.records) e)
 
     pub log-says : (how : Authentication) (files : List File) (text : List ℕ) (answer : Result Status RunError) (records : List Numbered) → AllByRecursion IsFile files → LogOf how files text answer →
@@ -334,3 +336,25 @@ module _ (packet_bytes : PacketBytes) where
           not-done : (answer ≡ Ok Refused) ⊎ (is_err answer ≡ true) → answer ≡ Ok Done → ⊥
           not-done (inl e) f = cc (e, f)
           not-done (inr e) f = cc (e, ap is_err f)
+
+    pub file-records : (how : Authentication) (k lines : ℕ) (file : File) (text : List ℕ) (after : ℕ) (answer : Result Status RunError) (records : List Numbered) → IsFile file
+        → FileText how k lines file.link file.bytes text after answer → Reads 0 text records → (answer ≡ Ok Done) × HasDatagrams how file (map (λ r. r.capture) records)
+    file-records how k lines file text after answer records is file_text reads =
+        let say = file-says how 0 k lines file text after answer [] records is file_text (subst (λ l. Reads 0 l records) (sym (append-nil text)) reads) in
+        let says = say.says in
+        let whole = says.whole ∙ ap (λ l. says.front ++ l) (at-end says.lines says.later says.reads) ∙ append-nil says.front in
+        (say.done, subst (HasDatagrams how file) (sym (ap (map (λ (r : Numbered). r.capture)) whole ∙ says.said)) say.has)
+
+-- ---- where a text ends
+
+ends-line : (front text : List ℕ) → EndsLine (front ++ line text)
+ends-line front text = inr (front ++ text, sym (append_assoc front text (10 ∷ [])))
+
+pub text-ends : (how : Authentication) (k lines : ℕ) (link b text : List ℕ) (after : ℕ) (answer : Result Status RunError) → FileText how k lines link b text after answer → EndsLine text
+unfolding file_refusal_line
+text-ends how k lines link b text after answer (whole cs right count few e f) = subst EndsLine (sym e) (ends-line (packet_lines how link cs) _)
+text-ends how k lines link b text after answer (refused cs code at found e f) =
+    subst EndsLine (sym e)
+    (ends-line (packet_lines how link cs) (codes "refused: " ++ file_part k link ++ codes ": " ++ refusal_code_text code ++ codes " at " ++ decimal at))
+text-ends how k lines link b text after answer (unread cs begun few e f) = subst EndsLine (sym e) (ends-line (packet_lines how link cs) (codes "failed: read"))
+text-ends how k lines link b text after answer (memory e f) = subst EndsLine (sym e) (inr (codes "failed: memory", refl))

@@ -23,6 +23,7 @@ use Rattle.rip_report.specs.Sent.{WentOut}
 use Rattle.rip_report.specs.Written.{Written}
 use Rattle.rip_report.specs.declared.status.RunError.{RunError}
 use Rattle.rip_report.specs.declared.status.Status.{Status}
+use Rattle.rip_report.specs.declared.status.Status.TheVariants.{Refused}
 use Rattle.rip_report.proofs.VerdictLemmas.{Judges, judged}
 
 -- what a table says of a prefix by its number
@@ -132,3 +133,9 @@ explains_out n s all a b (Ok status) on h =
     let text : ExplainText n s true (record { text = h.0; status = status }) = rw on at h.1 in
     (h.0, explains_each n s (record { text = h.0; status = status }) text, h.2)
 explains_out n s all a b (Err e) on h = tt
+
+-- no explained verdict is a refusal
+pub explain_not_refused : (n : Network) (s : State) (all : Bool) (w : Written) → ExplainText n s all w → w.status ≢ Refused
+explain_not_refused n s all w (a_settled lines right are) = λ e. cc e
+explain_not_refused n s all w (an_unclear trouble text is lines) = λ e. cc e
+explain_not_refused n s all w (an_unsettled f text shows is lines) = λ e. cc e

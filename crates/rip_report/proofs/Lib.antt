@@ -5,6 +5,7 @@ pub mod UnsettledLemmas
 pub mod VerdictLemmas
 pub mod FinishLemmas
 pub mod ReportLemmas
+pub mod StopLemmas
 pub mod AcceptedLemmas
 pub mod DecodeLemmas
 pub mod TextLemmas
@@ -19,3 +20,4 @@ pub mod CaptureFileLemmas
 pub mod LogLineLemmas
 pub mod CapturedLogLemmas
 pub mod CapturedFileLemmas
+pub mod SaidFileLemmas

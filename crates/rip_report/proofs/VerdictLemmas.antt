@@ -1,9 +1,8 @@
 -- Verdicts and their statuses.
-use Rattle.std.proofs.Common.{◌≡◌, ℕ, ◌<◌, length, Bool, List, None, Result, Ok, Err, refl, ap}
+use Rattle.std.proofs.Common.{◌≡◌, ◌≢◌, ℕ, ◌<◌, length, Bool, List, None, Result, Ok, Err, refl, ap}
 use Rattle.std.specs.Prelude.{◌↔◌, IfOk}
 use Rattle.rip_plan.specs.Network.{Network}
 use Rattle.rip_plan.specs.Relations.{IsAttached, IsLawful}
-use Rattle.rip_log.specs.Taken.{Taken}
 use Rattle.rip_log.specs.declared.device.Failed.{Failed}
 use Rattle.rip_table.specs.State.{State}
 use Rattle.rip_check.specs.Verdicts.{IsVerdict, ShowsTables, IsNextUnsettled}
@@ -15,10 +14,9 @@ use Rattle.rip_check.specs.declared.verdict.Verdict.TheVariants as verdicts
 use Rattle.rip_report.specs.Lines.{IsKnownReason}
 use Rattle.rip_report.specs.AuditText.{AnswersRightly, IsJudged, IsTroubleOf, ShowsPlainRightTables, UnsettledLines, VerdictText, a_settled, an_unclear, an_unsettled, settled_line, unclear_line, verdict_status}
 use Rattle.rip_report.specs.Finished.{finished}
-use Rattle.rip_report.specs.Sent.{WentOut}
 use Rattle.rip_report.specs.Written.{Written}
 use Rattle.rip_report.specs.declared.status.Status.{Status}
-use Rattle.rip_report.specs.declared.status.Status.TheVariants.{Settled, Unsettled, Unclear as IsUnclear}
+use Rattle.rip_report.specs.declared.status.Status.TheVariants.{Refused, Settled, Unsettled, Unclear as IsUnclear}
 use Rattle.rip_report.specs.declared.status.RunError.{RunError}
 use Rattle.rip_check.specs.Laws.{ShowsRightTables}
 use Rattle.rip_check.specs.Settled.{IsPlainRight, IsRight}
@@ -120,11 +118,17 @@ pub unsettled_told : (n : Network) (s : State) (all : Bool) (v : Verdict) (f : P
     VerdictText n s all (record { text = text; status = verdict_status v })
 unsettled_told n s all v f text e h lines = let both = rw e at h in rw e (an_unsettled f text both.0 both.1 lines)
 
--- the headline, of what is judged and what is told
-pub headline : (n : Network) (s : State) (IsText : Written → Type 0) (a b : Taken) (outcome : Result Status RunError) → IfOk outcome (IsJudged n s) → IfOk outcome (WentOut IsText a b) →
-    IfOk outcome (AnswersRightly n s IsText a b)
-headline n s IsText a b (Ok status) j out = (j.settled, j.arrive, out)
-headline n s IsText a b (Err e) j out = tt
+-- no verdict is a refusal
+pub verdict_not_refused : (n : Network) (s : State) (all : Bool) (w : Written) → VerdictText n s all w → w.status ≢ Refused
+verdict_not_refused n s all w (a_settled right) = λ e. cc e
+verdict_not_refused n s all w (an_unclear trouble is) = λ e. cc e
+verdict_not_refused n s all w (an_unsettled f text shows is lines) = λ e. cc e
+
+-- the headline, of what is judged where plan and log are accepted
+pub headline : (n : Network) (s : State) (IsAccepted : Type 0) (outcome : Result Status RunError) → IfOk outcome (λ status. status ≢ Refused → IsAccepted) → (IsAccepted → IfOk outcome (IsJudged n s)) →
+    IfOk outcome (AnswersRightly n s)
+headline n s IsAccepted (Ok status) accepted judged = λ other. (let j = judged (accepted other) in (j.settled, j.arrive))
+headline n s IsAccepted (Err e) accepted judged = tt
 
 -- a verdict on a plan that says nothing beside the standard, by the paths over any neighbours
 pub plain_headline : (n : Network) (s : State) (outcome : Result Status RunError) → ((r p : ℕ) (route : Route) → IsRight n r p route ↔ IsPlainRight n r p route) → IfOk outcome (IsJudged n s)

@@ -1,7 +1,6 @@
 -- What `audit` prints.
-use Rattle.std.specs.Prelude.{◌≡◌, ◌↔◌, ℕ, ◌==◌, ◌<◌, nat_lt, Bool, true, false, if◌then◌else◌, List, [], ◌++◌, length, filter, codes, decimal, None}
+use Rattle.std.specs.Prelude.{◌≡◌, ◌≢◌, ◌↔◌, ℕ, ◌==◌, ◌<◌, nat_lt, Bool, true, false, if◌then◌else◌, List, [], ◌++◌, length, filter, codes, decimal, None}
 use Rattle.rip_plan.specs.Network.{Network, each_below, is_of, numbers_where}
-use Rattle.rip_log.specs.Taken.{Taken}
 use Rattle.rip_table.specs.State.{State}
 use Rattle.rip_check.specs.declared.verdict.Place2.{Place2}
 use Rattle.rip_check.specs.declared.verdict.Unclear.{Unclear}
@@ -14,10 +13,9 @@ use Rattle.rip_report.specs.Lines.{reason_part}
 use Rattle.rip_report.specs.Listings.{TextsOfPairs}
 use Rattle.rip_report.specs.Names.{IsKnownWay, counts_part, name_of, prefix_name}
 use Rattle.rip_report.specs.ReportText.{ReportText}
-use Rattle.rip_report.specs.Sent.{WentOut}
 use Rattle.rip_report.specs.Written.{Written, line}
 use Rattle.rip_report.specs.declared.status.Status.{Status}
-use Rattle.rip_report.specs.declared.status.Status.TheVariants.{Settled, Unsettled, Unclear as IsUnclear}
+use Rattle.rip_report.specs.declared.status.Status.TheVariants.{Refused, Settled, Unsettled, Unclear as IsUnclear}
 use Rattle.rip_check.specs.Laws.{ShowsRightTables}
 use Rattle.rip_check.specs.Verdicts.{IsFailing, IsNextUnsettled, IsSound, ShowsTables}
 use Rattle.rip_check.specs.Firsts.{IsFirstTrouble}
@@ -162,12 +160,12 @@ ShowsPlainRightTables n s =
     (T : Tables) × Shows n (told n s) T
     × ((r p : ℕ) → r < length n.routers → p < length s.prefixes → IsPlainRight n r p (T r p))
 
--- a run that judges answers rightly: Settled exactly where the log shows right tables, and then
--- packets arrive; and one of these texts went out
-abbrev pub AnswersRightly : Network → State → (Written → Type 0) → Taken → Taken → Status → Type 0
-AnswersRightly n s IsText old new status =
+-- a status is right: Settled exactly where the log shows right tables, and then packets arrive; but
+-- for Refused, which says nothing of tables
+abbrev pub AnswersRightly : Network → State → Status → Type 0
+AnswersRightly n s status = status ≢ Refused →
     ((status ≡ Settled) ↔ ShowsRightTables n (told n s))
-    × (status ≡ Settled → PacketsArrive n (told n s)) × WentOut IsText old new status
+    × (status ≡ Settled → PacketsArrive n (told n s))
 
 -- what a verdict's status says of the table
 pub record IsJudged (n : Network) (s : State) (status : Status) : Type 0 where

@@ -3,6 +3,8 @@ use Rattle.std.specs.Prelude.{◌≡◌, ◌≢◌, ◌⊎◌, ℕ, ◌+◌, ◌
 use Rattle.std.specs.List.{AllByRecursion}
 use Rattle.rip_wire.specs.Name.{IsName}
 use Rattle.rip_log.specs.Lines.{Capture as Captured}
+use Rattle.rip_log.specs.LogText.{EndsLine, LogText}
+use Rattle.rip_log.specs.Logs.{Numbered}
 use Rattle.rip_log.specs.Taken.{Taken, Took}
 use Rattle.rip_log.specs.declared.limits.TheConstants.{MOST_LINES}
 use Rattle.rip_capture.specs.Captures.{CaptureFault, HasNoMore, IsNext}
@@ -223,3 +225,19 @@ HaveDatagrams how [] captures = captures ≡ []
 HaveDatagrams how (file ∷ files) captures =
     (first rest : List Captured) × HasDatagrams how file first × HaveDatagrams how files rest
     × (captures ≡ first ++ rest)
+
+-- ---- what a log says
+
+-- what a log answers so far, behind a file of this answer
+abbrev pub answer_so_far : CaptureLog → Result Status RunError → Result Status RunError
+answer_so_far log (Ok Refused) = Ok Refused
+answer_so_far log (Ok status) = Ok (status_of log)
+answer_so_far log (Err e) = Err e
+
+-- a text was written of these files, with this answer so far: it ends a line; and if no line of it
+-- is bad, the answer is Done, each file is a capture, and the records are just their datagrams
+pub record SaysFiles (how : Authentication) (files : List File) (text : List ℕ)
+    (answer : Result Status RunError) : Type 0 where
+  pub ends : EndsLine text
+  pub says : AllByRecursion IsFile files → (records : List Numbered) → LogText text records
+      → (answer ≡ Ok Done) × HaveDatagrams how files (map (λ r. r.capture) records)

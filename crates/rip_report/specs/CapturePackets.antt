@@ -1,5 +1,5 @@
 -- What the parts of a run leave that adds a file to a log.
-use Rattle.std.specs.Prelude.{◌≡◌, ◌≢◌, ◌⊎◌, ℕ, ◌+◌, ◌<◌, ◌≤◌, ◌++◌, ◌==◌, if◌then◌else◌, Bool, true, false, List, map, codes, Option, Result, Ok, Err, is_err}
+use Rattle.std.specs.Prelude.{◌≡◌, ◌≢◌, ◌⊎◌, ℕ, ◌+◌, ◌<◌, ◌≤◌, ◌++◌, ◌∷◌, [], ◌==◌, if◌then◌else◌, Bool, true, false, List, map, codes, Option, Result, Ok, Err, is_err}
 use Rattle.std.specs.List.{AllByRecursion}
 use Rattle.rip_log.specs.Taken.{Taken, Took}
 use Rattle.rip_log.specs.declared.limits.TheConstants.{MOST_LINES}
@@ -94,6 +94,17 @@ EndsSo given at_end how before lines carriers new listing Unwritten =
     (is_err listing.wrote ≡ true)
     × ((taken : List ℕ) × Stands given before new taken (map (λ c. c.frame) carriers))
 
+-- the sink did not take a line of the last of these packets, and had not failed before it
+pub record FailsAtLast {K : Type 0} (taken : K → Taken) (failed : K → Bool) (how : Authentication)
+    (link : List ℕ) (carriers : List Carrier) (before : Listing) (a : K) : Type 0 where
+  pub front : List Carrier
+  pub last : Carrier
+  pub split : carriers ≡ front ++ last ∷ []
+  pub mid : Listing
+  pub out : K
+  pub adds : Adds taken failed a out before mid (packet_lines how link front)
+  pub sound : is_err mid.wrote ≡ false
+
 -- what logging the packets of a file leaves, and answers
 pub record LogsPackets {R K : Type 0} (given : R → List ℕ) (coming : R → Option (List ℕ))
     (broken at_end : R → Bool) (taken : K → Taken) (failed : K → Bool) (how : Authentication)
@@ -107,6 +118,9 @@ pub record LogsPackets {R K : Type 0} (given : R → List ℕ) (coming : R → O
   pub went : Went given coming at_end (source_of old) (source_of new)
   pub unread : ending ≡ Unread → (broken (source_of new) ≡ true) ⊎ IsFar new
   pub marks : ending ≢ Unread → broken (source_of new) ≡ broken (source_of old)
+  -- no packet is asked for behind the one at which the sink failed
+  pub stops : is_err before.wrote ≡ false → is_err after.wrote ≡ true →
+      (ending ≡ Unwritten) × FailsAtLast taken failed how link carriers before a
 
 -- ---- the end of a run
 

@@ -1,12 +1,13 @@
 -- What the commands print that read a plan and a log.
 use Rattle.std.specs.Prelude.{◌≡◌, ℕ, List, Option, None, Some}
 use Rattle.rip_plan.specs.Network.{Network}
+use Rattle.rip_plan.specs.PlanOf.{IsPlanOfText}
 use Rattle.rip_plan.specs.WellFormed.{IsWellFormed}
 use Rattle.rip_log.specs.Logs.{Log, Numbered}
 use Rattle.rip_log.specs.LogText.{LogFault, LogText}
 use Rattle.rip_log.specs.declared.error.LogError.{LogError}
-use Rattle.rip_table.specs.LogJoin.{IsJoined, IsOutcome}
-use Rattle.rip_table.specs.State.{State, new_state}
+use Rattle.rip_table.specs.LogJoin.{IsJoin, IsJoined, IsOutcome}
+use Rattle.rip_table.specs.State.{AreDistinct, State, new_state}
 use Rattle.rip_table.specs.declared.error.CollectError.{CollectError}
 use Rattle.rip_report.specs.PlanText.{OfPlan}
 use Rattle.rip_report.specs.RefusalText.{refused_log}
@@ -49,3 +50,12 @@ pub record IsAccepted (plan log : List ℕ) (n : Network) (s : State) : Type 0 w
   pub well_formed : IsWellFormed plan
   pub network : well_formed.network ≡ n
   pub table : IsTable n log s
+
+-- n is the network of the document that the bytes of a plan are, and s the table that the records
+-- of a log's text make, each prefix once
+pub record AreRead (plan log : List ℕ) (n : Network) (s : State) : Type 0 where
+  pub network : IsPlanOfText plan n
+  pub records : List Numbered
+  pub text : LogText log records
+  pub join : IsJoin n (new_state n) records s
+  pub once : AreDistinct s.prefixes

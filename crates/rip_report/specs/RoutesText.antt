@@ -3,12 +3,15 @@ use Rattle.std.specs.Prelude.{◌≡◌, ℕ, ◌⊎◌, ◌==◌, Bool, if◌th
 use Rattle.rip_plan.specs.Network.{Network}
 use Rattle.rip_plan.specs.declared.parts.Interface.{Interface}
 use Rattle.rip_table.specs.State.{State}
-use Rattle.rip_check.specs.Firsts.{IsReadable, IsReason}
+use Rattle.rip_check.specs.Firsts.{AreHeardOf, IsFirstUnheardOf, IsReadable, IsReason}
 use Rattle.rip_check.specs.Paths.{IsLeast}
 use Rattle.rip_check.specs.Tables.{FitsShown, IsOnlyRoute, Route}
 use Rattle.rip_check.specs.Told.{told}
 use Rattle.rip_check.specs.Verdicts.{IsHidden}
 use Rattle.rip_check.specs.declared.verdict.Unclear.{Unclear}
+use Rattle.rip_check.specs.declared.verdict.Unclear.TheVariants.{Missing}
+use Rattle.rip_check.specs.declared.verdict.Route.{Route as ReadRoute}
+use Rattle.rip_check.specs.declared.way.Way.TheVariants.{Unreachable}
 use Rattle.rip_report.specs.Lines.{read_part, reason_part, unheard_line}
 use Rattle.rip_report.specs.Listings.{TextsBelow, TextsOfPairs}
 use Rattle.rip_report.specs.Names.{counts_part, name_of, prefix_name}
@@ -38,6 +41,10 @@ unfoldable pub unread_line : Network → State → ℕ → ℕ → Unclear → L
 unread_line n s r p trouble =
     line (pair_part n s r p ++ codes "unclear: " ++ reason_part n trouble)
 
+-- the metric and the way that were read
+abbrev pub route_of : ReadRoute → Route
+route_of found = record { metric = found.metric; way = found.way }
+
 -- the route that is read of what router r shows of prefix p, and whether it is that of a leaf which
 -- cannot show it
 pub record IsRead (n : Network) (s : State) (r p : ℕ) (route : Route) (hidden : Bool) : Type 0 where
@@ -45,14 +52,24 @@ pub record IsRead (n : Network) (s : State) (r p : ℕ) (route : Route) (hidden 
   pub one : IsTrue hidden ⊎ IsOnlyRoute n (told n s) r p route
   pub hides : Decides hidden (IsHidden n (told n s) r p)
 
+-- the router need not show such a route on any link: it has none, or it is that of a leaf which
+-- cannot show it
+abbrev pub IsSilentRoute : Route → Bool → Type 0
+IsSilentRoute route hidden = (route.way ≡ Unreachable) ⊎ IsTrue hidden
+
 -- the line of a router and a prefix: the route that is read, and the least metric of the plan where
--- it is another; or why none can be read
+-- it is another; or why none can be read; or where a route that the router need not show is read
+-- and an interface of it was not heard, that one
 pub data RouteLine (n : Network) (s : State) (r p : ℕ) : List ℕ → Type 0 where
   a_route : (route : Route) (hidden : Bool) (least : ℕ) → IsRead n s r p route hidden
+      → (IsSilentRoute route hidden → AreHeardOf n s r)
       → IsLeast n p r least → RouteLine n s r p (read_line n s r p route hidden least)
   unclear : (trouble : Unclear) → (IsReadable n (told n s) r p → ⊥)
       → IsReason n (told n s) r p trouble
       → RouteLine n s r p (unread_line n s r p trouble)
+  unheard : (route : Route) (hidden : Bool) (l : ℕ) → IsRead n s r p route hidden
+      → IsSilentRoute route hidden → IsFirstUnheardOf n s r l
+      → RouteLine n s r p (unread_line n s r p (Missing r p l))
 
 -- the line of the interface of a number, where it was not heard
 pub data UnheardLine (n : Network) (s : State) (i : ℕ) : List ℕ → Type 0 where

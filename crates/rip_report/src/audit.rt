@@ -1,6 +1,6 @@
 //! The command `audit`: whether the tables that a log shows are right.
 
-ghost use Rattle.std.specs.Prelude.{◌≡◌, ◌≢◌, ◌↔◌, ◌++◌, ℕ, List, [], Err, IfOk, IfSome, None, false, is_err, is_some, true, length, Some};
+ghost use Rattle.std.specs.Prelude.{◌≡◌, ◌≢◌, ◌↔◌, ℕ, List, [], Err, IfOk, IfSome, None, is_err, is_some, true, Some};
 ghost use Rattle.rip_plan.specs.Network.{Network};
 ghost use Rattle.rip_plan.specs.Relations.{IsPlain};
 ghost use Rattle.rip_table.specs.State.{Fits, State};
@@ -8,9 +8,9 @@ ghost use Rattle.rip_check.specs.Marks.{AreUnsettled};
 ghost use Rattle.rip_check.specs.Verdicts.{IsVerdict, IsNextUnsettled};
 ghost use Rattle.rip_report.specs.AuditText.{AllFailing, AnswersRightly, AuditText, FailingText, IsJudged, ShowsPlainRightTables, UnsettledLine, UnsettledLines, VerdictText, unsettled_line, verdict_status};
 ghost use Rattle.rip_report.specs.Given.{IsGiven};
-ghost use Rattle.rip_report.specs.ReportText.{IsAccepted};
-ghost use Rattle.rip_report.specs.Runs.{Reads, RefusesPlan};
-ghost use Rattle.rip_report.specs.Sent.{Prints, WentOut, Writes};
+ghost use Rattle.rip_report.specs.ReportText.{AreRead, IsAccepted};
+ghost use Rattle.rip_report.specs.Runs.{Reads, RefusesPlan, StopsAtRefusal};
+ghost use Rattle.rip_report.specs.Sent.{Prints, Writes};
 ghost use Rattle.rip_check.specs.Laws.{OneIsShown};
 ghost use Rattle.rip_check.specs.Told.{told};
 
@@ -228,17 +228,14 @@ pub fn run_audit<R: Source, K: Sink, S: BuildHasher + Drop>(
     all: bool,
     hasher: S,
 ) -> (R, Result<Status, RunError>)
-    // Settled is answered exactly where the log shows right tables, and then packets arrive;
-    // otherwise the first place that does not hold is named, or the first trouble.
+    // Settled is answered exactly where the log shows right tables, and then packets arrive.
     ensures headline { (text : List ℕ) → IsGiven R.given R.at_end log result.0 text →
-        (n : Network) (s : State) → IsAccepted plan.now text n s →
-        IfOk result.1 (AnswersRightly n s (VerdictText n s all)
-        (K.taken out.old) (K.taken out.new)) }
+        (n : Network) (s : State) → AreRead plan.now text n s →
+        IfOk result.1 (AnswersRightly n s) }
     // The same of all the text that was to come, where its bytes are modelled.
     ensures known { (text : List ℕ) → R.coming log ≡ Some text →
-        (n : Network) (s : State) → IsAccepted plan.now text n s →
-        IfOk result.1 (AnswersRightly n s (VerdictText n s all)
-        (K.taken out.old) (K.taken out.new)) }
+        (n : Network) (s : State) → AreRead plan.now text n s →
+        IfOk result.1 (AnswersRightly n s) }
     // Of a plan that says nothing beside RFC 2453 the paths go over any neighbours.
     ensures plain { (text : List ℕ) → IsGiven R.given R.at_end log result.0 text →
         (n : Network) (s : State) → IsAccepted plan.now text n s → IsPlain n →
@@ -258,6 +255,8 @@ pub fn run_audit<R: Source, K: Sink, S: BuildHasher + Drop>(
     ensures reads { Reads R.given R.coming R.broken R.at_end log result.0 result.1 }
     // If the plan is refused, the log is not touched; one that is no text never gives Memory.
     ensures refuses { RefusesPlan plan.now log result.0 result.1 }
+    // Behind the line at which a log is refused no more is pulled than a reader holds.
+    ensures stops { StopsAtRefusal R.given R.at_end plan.now log result.0 result.1 }
 {
     one_set_of_tables();
     plain_paths();

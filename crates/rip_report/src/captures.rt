@@ -8,8 +8,8 @@ mod log;
 mod packets;
 mod tally;
 
-ghost use Rattle.std.specs.Prelude.{◌≡◌, ◌≢◌, ◌⊎◌, ◌+◌, ◌^◌, ◌<◌, ◌≤◌, ◌++◌, ◌∷◌, [], ℕ, List, Some, Err, is_err, length, true};
-ghost use Rattle.rip_report.specs.CaptureLogs.{AddsFile, AddsUnread, File, GoesOn, IsLogOf, LogOf, authentication_of, worse};
+ghost use Rattle.std.specs.Prelude.{◌≡◌, ◌≢◌, ◌⊎◌, ◌+◌, ◌^◌, ◌<◌, ◌≤◌, ◌++◌, ◌∷◌, [], ℕ, List, Some, Err, Ok, is_err, length, true};
+ghost use Rattle.rip_report.specs.CaptureLogs.{AddsFile, AddsUnread, File, GoesOn, IsLogOf, LogOf, SaysFiles, answer_so_far, authentication_of, status_of, worse};
 ghost use Rattle.rip_log.specs.declared.limits.TheConstants.{MOST_LINES};
 ghost use Rattle.rip_report.specs.CapturePackets.{ClosesFile, EndsWith};
 ghost use Rattle.rip_log.specs.Taken.{Took};
@@ -20,9 +20,11 @@ ghost use Rattle.rip_report.specs.Held.{held};
 ghost use Rattle.rip_report.specs.Statuses.{fault_line_of};
 ghost use Rattle.rip_report.specs.Written.{line};
 ghost use Rattle.rip_report.specs.Sent.{Writes};
+ghost use Rattle.rip_report.specs.declared.captures.authentication.Authentication.{Authentication};
 ghost use Rattle.rip_report.specs.declared.captures.log.CaptureLog.{CaptureLog};
 ghost use Rattle.rip_report.specs.declared.captures.tally.Tally.{Tally};
 ghost use Rattle.rip_report.specs.declared.limits.TheConstants.{NAME};
+ghost use Rattle.rip_report.specs.declared.status.Status.{Status};
 
 pub use crate::captures::authentication::Authentication;
 use crate::captures::ending::Ending;
@@ -30,11 +32,13 @@ use crate::captures::lines::{add_comment, file_refusal_text};
 pub use crate::captures::log::CaptureLog;
 use crate::captures::packets::log_packets;
 use crate::captures::tally::Tally;
+use crate::laws::logged_files;
 use crate::limits::NAME;
 use crate::listing::Listing;
 use crate::status::{RunError, Status, fault_line};
 use rip_capture::CaptureReader;
 use rip_capture::laws::{early_faults, long_captures, read_captures};
+use rip_log::laws::two_texts;
 use rip_log::{Failed, MOST_LINES, Sink, Source};
 use std::alloc::Global;
 
@@ -133,7 +137,15 @@ pub fn log_failure<K: Sink>(error: RunError, out: &mut K) -> Result<Status, RunE
         IsLogOf log files text → result ≢ Err RunError.Write → (part : List ℕ)
         × Took (K.taken out.old) (K.taken out.new) part
         × LogOf (authentication_of log) (files ++ file ∷ []) (text ++ part) result }
+    // No log with this line has no bad line.
+    ensures says { (how : Authentication) (files : List File) (text : List ℕ) (status : Status)
+        (file : File) → SaysFiles how files text (Ok status) →
+        result ≢ Err RunError.Write → (part : List ℕ)
+        × Took (K.taken out.old) (K.taken out.new) part
+        × SaysFiles how (files ++ file ∷ []) (text ++ part) result }
 {
+    logged_files();
+    two_texts();
     let mut listing = Listing::new();
     listing.add_text(fault_line(&error), out);
     listing.add_text("\n", out);
@@ -168,6 +180,16 @@ pub fn run_log<R: Source, K: Sink>(
         × Took (K.taken out.old) (K.taken out.new) part
         × GoesOn log.new (files ++ record { link = link.now; bytes = bytes } ∷ [])
         (text ++ part) result.1 }
+    // Behind a log that says the datagrams of some files, and nothing else, it says those of this
+    // one too, or has a bad line.
+    ensures says { (bytes : List ℕ) → IsGiven R.given R.at_end file result.0 bytes →
+        (files : List File) (text : List ℕ) →
+        SaysFiles (authentication_of log.old) files text (Ok (status_of log.old)) →
+        result.1 ≢ Err RunError.Write → (part : List ℕ)
+        × Took (K.taken out.old) (K.taken out.new) part
+        × SaysFiles (authentication_of log.old)
+        (files ++ record { link = link.now; bytes = bytes } ∷ []) (text ++ part)
+        (answer_so_far log.new result.1) }
     // What becomes of the authentication of datagrams stays.
     ensures authentication { authentication_of log.new ≡ authentication_of log.old }
     // The bytes given are the first of those to come, where these are modelled.
@@ -185,6 +207,8 @@ pub fn run_log<R: Source, K: Sink>(
     long_captures();
     early_faults();
     read_captures();
+    logged_files();
+    two_texts();
     match CaptureReader::new(alloc, file) {
         Err((_, file)) => (file, log_failure(RunError::Memory, out)),
         Ok(mut reader) => {

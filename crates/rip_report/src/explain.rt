@@ -4,7 +4,7 @@ mod lines;
 mod places;
 mod troubles;
 
-ghost use Rattle.std.specs.Prelude.{◌≡◌, ◌≢◌, ◌↔◌, ◌++◌, ℕ, Bool, List, [], Err, IfOk, IsTrue, None, false, true, length, Some};
+ghost use Rattle.std.specs.Prelude.{◌≡◌, ◌≢◌, ◌↔◌, ℕ, Bool, List, Err, IfOk, None, false, true, Some};
 ghost use Rattle.rip_plan.specs.Network.{Network};
 ghost use Rattle.rip_plan.specs.Relations.{IsPlain};
 ghost use Rattle.rip_report.specs.Given.{IsGiven};
@@ -16,8 +16,8 @@ ghost use Rattle.rip_check.specs.Verdicts.{IsNextUnsettled, ShowsTables};
 ghost use Rattle.rip_check.specs.Told.{told};
 ghost use Rattle.rip_report.specs.AuditText.{AnswersRightly, IsJudged, ShowsPlainRightTables};
 ghost use Rattle.rip_report.specs.ExplainText.{BeginsWithVerdict, ExplainText, ExplainsAll, UnreachableLine};
-ghost use Rattle.rip_report.specs.ReportText.{IsAccepted, ReportText};
-ghost use Rattle.rip_report.specs.Runs.{Reads, RefusesPlan};
+ghost use Rattle.rip_report.specs.ReportText.{AreRead, IsAccepted, ReportText};
+ghost use Rattle.rip_report.specs.Runs.{Reads, RefusesPlan, StopsAtRefusal};
 ghost use Rattle.rip_report.specs.Sent.{Prints, WentOut};
 
 use crate::lines::verdicts::settled_text;
@@ -236,14 +236,12 @@ pub fn run_explain<R: Source, K: Sink, S: BuildHasher + Drop>(
 ) -> (R, Result<Status, RunError>)
     // Settled is answered exactly where the log shows right tables, and then packets arrive.
     ensures headline { (text : List ℕ) → IsGiven R.given R.at_end log result.0 text →
-        (n : Network) (s : State) → IsAccepted plan.now text n s →
-        IfOk result.1 (AnswersRightly n s (ExplainText n s all)
-        (K.taken out.old) (K.taken out.new)) }
+        (n : Network) (s : State) → AreRead plan.now text n s →
+        IfOk result.1 (AnswersRightly n s) }
     // The same of all the text that was to come, where its bytes are modelled.
     ensures known { (text : List ℕ) → R.coming log ≡ Some text →
-        (n : Network) (s : State) → IsAccepted plan.now text n s →
-        IfOk result.1 (AnswersRightly n s (ExplainText n s all)
-        (K.taken out.old) (K.taken out.new)) }
+        (n : Network) (s : State) → AreRead plan.now text n s →
+        IfOk result.1 (AnswersRightly n s) }
     // Of a plan that says nothing beside RFC 2453 the paths go over any neighbours.
     ensures plain { (text : List ℕ) → IsGiven R.given R.at_end log result.0 text →
         (n : Network) (s : State) → IsAccepted plan.now text n s → IsPlain n →
@@ -272,6 +270,8 @@ pub fn run_explain<R: Source, K: Sink, S: BuildHasher + Drop>(
     ensures reads { Reads R.given R.coming R.broken R.at_end log result.0 result.1 }
     // If the plan is refused, the log is not touched; one that is no text never gives Memory.
     ensures refuses { RefusesPlan plan.now log result.0 result.1 }
+    // Behind the line at which a log is refused no more is pulled than a reader holds.
+    ensures stops { StopsAtRefusal R.given R.at_end plan.now log result.0 result.1 }
 {
     one_set_of_tables();
     plain_paths();

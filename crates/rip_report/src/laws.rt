@@ -1,13 +1,13 @@
 //! Laws of the definitions alone: functions that do nothing, whose contracts hold of every plan and
 //! every log.
 
-ghost use Rattle.std.specs.Prelude.{◌≡◌, ◌↔◌, ◌+◌, ◌≤◌, ℕ, true, List, Ok, Result, length, map};
+ghost use Rattle.std.specs.Prelude.{◌≡◌, ◌≢◌, ◌↔◌, ◌⊎◌, ◌+◌, ◌≤◌, ◌++◌, ℕ, Bool, true, List, Ok, Result, is_err, length, map};
 ghost use Rattle.std.specs.List.{AllByRecursion};
 ghost use Rattle.rip_log.specs.Logs.{Numbered};
-ghost use Rattle.rip_log.specs.LogText.{LogText};
+ghost use Rattle.rip_log.specs.LogText.{EndsLine, LogText};
 ghost use Rattle.rip_report.specs.CaptureText.{Carrier, count_of, is_cut, is_datagram, is_elsewhere, is_fragment, is_long, is_malformed, is_other};
 ghost use Rattle.rip_report.specs.CaptureText.{counts_of as counts_of_packets};
-ghost use Rattle.rip_report.specs.CaptureLogs.{File, HaveDatagrams, IsFile, LogOf};
+ghost use Rattle.rip_report.specs.CaptureLogs.{File, FileText, HasDatagrams, HaveDatagrams, IsFile, LogOf};
 ghost use Rattle.rip_report.specs.declared.captures.authentication.Authentication.{Authentication};
 ghost use Rattle.rip_report.specs.declared.status.RunError.{RunError};
 ghost use Rattle.rip_report.specs.declared.status.Status.{Status};
@@ -19,11 +19,16 @@ ghost use Rattle.rip_table.specs.State.{State, new_state};
 ghost use Rattle.rip_table.specs.Tallies.{counts_of};
 ghost use Rattle.rip_report.specs.Hearings.{LogComesTo};
 ghost use Rattle.rip_report.specs.LeftOut.{is_all_joined};
-ghost use Rattle.rip_report.specs.ReportText.{IsTable};
+ghost use Rattle.rip_report.specs.AuditText.{AuditText, VerdictText};
+ghost use Rattle.rip_report.specs.ExplainText.{ExplainText};
+ghost use Rattle.rip_report.specs.ReportText.{AreRead, IsAccepted, IsTable, ReportText};
+ghost use Rattle.rip_report.specs.Sent.{WentOut};
+ghost use Rattle.rip_log.specs.Taken.{Taken};
 
 use rip_capture::laws::packet_bytes;
 use rip_log::laws::log_texts;
-use rip_table::laws::{calm_counts, calm_logs, lines_come_to, new_states};
+use rip_plan::laws::{one_plan, well_formed_texts};
+use rip_table::laws::{calm_counts, calm_logs, lines_come_to, new_states, one_join};
 
 /// Nothing is refused, a stranger's or bad exactly where the log is accepted, and the table of what
 /// is not refused is then the one that is judged.
@@ -42,6 +47,26 @@ pub fn accepted_logs()
     calm_counts();
 }
 
+/// Where a plan and a log are accepted, the headline of `audit` and of `explain` speaks of them, the
+/// answer is not Refused, and what they print is the verdict's text.
+pub fn accepted_answers()
+    ensures read { (plan text : List ℕ) (n : Network) (s : State) →
+        IsAccepted plan text n s → AreRead plan text n s }
+    ensures audit { (plan text : List ℕ) (all : Bool) (n : Network) (s : State)
+        (old new : Taken) (status : Status) → IsAccepted plan text n s →
+        WentOut (AuditText plan text all) old new status →
+        (status ≢ Status.Refused) × WentOut (VerdictText n s all) old new status }
+    ensures explain { (plan text : List ℕ) (all : Bool) (n : Network) (s : State)
+        (old new : Taken) (status : Status) → IsAccepted plan text n s →
+        WentOut (ReportText (λ n s. ExplainText n s all) plan text) old new status →
+        (status ≢ Status.Refused) × WentOut (ExplainText n s all) old new status }
+{
+    log_texts();
+    one_plan();
+    one_join();
+    well_formed_texts();
+}
+
 /// Each packet of a file is counted as one thing, and passwords and authentication are left out of
 /// whole datagrams alone.
 pub fn counted_packets()
@@ -58,6 +83,31 @@ pub fn counted_packets()
     // None is taken off where that was not asked for.
     ensures as_sent { (carriers : List Carrier) →
         (counts_of_packets Authentication.AsSent carriers).without_authentication ≡ 0 }
+{}
+
+/// What a log has of a capture file ends a line; and if no line of it is bad, the file is a capture,
+/// all its datagrams to 224.0.0.9 are there whole, and they are the records of these lines.
+pub fn logged_files()
+    ensures ends { (how : Authentication) (number lines after : ℕ) (link bytes text : List ℕ)
+        (answer : Result Status RunError) →
+        FileText how number lines link bytes text after answer → EndsLine text }
+    ensures says { (how : Authentication) (number lines after : ℕ) (file : File) (text : List ℕ)
+        (answer : Result Status RunError) (records : List Numbered) → IsFile file →
+        FileText how number lines file.link file.bytes text after answer → LogText text records →
+        (answer ≡ Ok Status.Done) × HasDatagrams how file (map (λ r. r.capture) records) }
+{
+    log_texts();
+    packet_bytes();
+    rip_wire::laws::names();
+    rip_wire::laws::address_texts();
+}
+
+/// A log that a file has ended is the log of its files and of any more.
+pub fn stopped_logs()
+    ensures { (how : Authentication) (files more : List File) (text : List ℕ)
+        (answer : Result Status RunError) → LogOf how files text answer →
+        (answer ≡ Ok Status.Refused) ⊎ (is_err answer ≡ true) →
+        LogOf how (files ++ more) text answer }
 {}
 
 /// Where a log of capture files has no bad line, each file is a capture, all its datagrams to

@@ -1,6 +1,6 @@
 //! From a log to a table.
 
-ghost use Rattle.std.specs.Prelude.{◌≡◌, ◌≢◌, true, IfOk, OnOk, Ok, Err, None, [], ℕ, List, Some};
+ghost use Rattle.std.specs.Prelude.{◌≡◌, ◌≢◌, true, IfOk, IfSome, OnOk, Ok, Err, None, [], ℕ, List, Some};
 ghost use Rattle.rip_report.specs.Given.{IsGiven};
 ghost use Rattle.rip_log.specs.Wholes.{Went};
 ghost use Rattle.rip_table.specs.State.{Fits, new_state};
@@ -8,6 +8,7 @@ ghost use Rattle.rip_table.specs.Events.{EventAt};
 ghost use Rattle.rip_report.specs.Hearings.{IsUnread, LogComesTo, heard_in};
 ghost use Rattle.rip_report.specs.LogRefusals.{refusal_in};
 ghost use Rattle.rip_report.specs.ReportText.{LogMakes};
+ghost use Rattle.rip_report.specs.Runs.{PullsLittleBehind};
 
 use crate::status::RunError;
 use rip_log::laws::{log_texts, said_lines};
@@ -55,12 +56,16 @@ pub(crate) fn read_log<R: Source, T: MetricTable>(
     ensures write { result.1 ≢ Err RunError.Write }
     ensures mark { result.1 ≢ Err RunError.Read → R.broken result.0 ≡ R.broken log }
     ensures ended { result.1 ≡ Ok None → R.at_end result.0 ≡ true }
+    // Behind a refused line no more is pulled than a reader holds.
+    ensures stops { IfOk result.1 (λ refusal. IfSome refusal (λ e.
+        PullsLittleBehind R.given log result.0 e.line)) }
 {
     log_texts();
     match LogReader::new(alloc, log) {
         Err((_, source)) => (source, Err(RunError::Memory)),
         Ok(mut reader) => {
             let collected = collect(plan, &mut reader, table);
+            reader.lawful();
             (reader.into_source(), refusal(collected))
         }
     }

@@ -4,8 +4,9 @@ ghost use Rattle.std.specs.Prelude.{◌≡◌, ◌≢◌, Err, IfOk, ℕ, List, 
 ghost use Rattle.rip_plan.specs.Network.{Network};
 ghost use Rattle.rip_report.specs.Given.{IsGiven};
 ghost use Rattle.rip_table.specs.State.{Fits, State, new_state};
-ghost use Rattle.rip_report.specs.ReportText.{IsAccepted, IsTable, ReportOf, ReportText};
-ghost use Rattle.rip_report.specs.Runs.{Reads, RefusesPlan};
+ghost use Rattle.rip_table.specs.declared.error.CollectError.{CollectError};
+ghost use Rattle.rip_report.specs.ReportText.{AreRead, IsAccepted, IsTable, LogMakes, ReportOf, ReportText};
+ghost use Rattle.rip_report.specs.Runs.{Reads, RefusesPlan, PullsLittleBehind, StopsAtRefusal};
 ghost use Rattle.rip_report.specs.Sent.{Prints, WentOut};
 ghost use Rattle.rip_report.specs.Written.{Written};
 
@@ -17,7 +18,7 @@ use rip_log::laws::log_texts;
 use rip_log::{Sink, Source};
 use rip_plan::Plan;
 use rip_plan::laws::{one_plan, well_formed_texts};
-use rip_table::laws::one_join;
+use rip_table::laws::{new_states, one_join, refused_logs};
 use rip_table::{GridTable, MetricTable};
 use std::alloc::Global;
 use std::hash::BuildHasher;
@@ -67,9 +68,15 @@ fn report_log<C: Report, R: Source, K: Sink, T: MetricTable>(
     ensures meaning { (text : List ℕ) → IsGiven R.given R.at_end log result.0 text →
         (s : State) → IsTable plan.now text s →
         IfOk result.1 (C.means command.now plan.now s) }
+    ensures stops { (text : List ℕ) → IsGiven R.given R.at_end log result.0 text →
+        (s : State) (e : CollectError) → LogMakes plan.now text s (Some e) →
+        IfOk result.1 (λ status. PullsLittleBehind R.given log result.0 e.line) }
 {
     log_texts();
     one_join();
+    refused_logs();
+    new_states();
+    plan.lawful();
     let (source, read) = read_log(alloc, plan, log, table);
     match read {
         Ok(None) => (source, command.write(alloc, plan, table, out)),
@@ -108,11 +115,19 @@ pub(crate) fn run_report<C: Report, R: Source, K: Sink, S: BuildHasher + Drop>(
     ensures meaning { (text : List ℕ) → IsGiven R.given R.at_end log result.0 text →
         (n : Network) (s : State) → IsAccepted plan.now text n s →
         IfOk result.1 (C.means command.now n s) }
+    // What is not accepted gets no other answer than Refused.
+    ensures accepted { (text : List ℕ) → IsGiven R.given R.at_end log result.0 text →
+        (n : Network) (s : State) → AreRead plan.now text n s →
+        IfOk result.1 (λ status. status ≢ Status.Refused → IsAccepted plan.now text n s) }
     // If the plan is refused, the log is not touched; one that is no text never gives Memory.
     ensures refuses { RefusesPlan plan.now log result.0 result.1 }
+    // Behind the line at which a log is refused no more is pulled than a reader holds.
+    ensures stops { StopsAtRefusal R.given R.at_end plan.now log result.0 result.1 }
 {
     one_plan();
     well_formed_texts();
+    log_texts();
+    one_join();
     let plan = match Plan::read(alloc, plan) {
         Ok(plan) => plan,
         Err(error) => return (log, refuse_plan(error, out)),

@@ -1,6 +1,6 @@
 //! The command `routes`: the routes that a log shows, beside the least metrics of the plan.
 
-ghost use Rattle.std.specs.Prelude.{◌≡◌, ◌≢◌, Err, ◌+◌, ◌≤◌, ◌<◌, ◌⊎◌, ◌++◌, ◌==◌, [], IfOk, IsTrue, List, ℕ, false, if◌then◌else◌, length};
+ghost use Rattle.std.specs.Prelude.{◌≡◌, ◌≢◌, Err, ◌+◌, ◌≤◌, ◌<◌, ◌++◌, ◌==◌, [], IfNone, IfOk, IfSome, List, ℕ, if◌then◌else◌, length};
 ghost use Rattle.rip_plan.specs.Network.{Network};
 ghost use Rattle.rip_report.specs.AnywayText.{AnywayRoutes};
 ghost use Rattle.rip_report.specs.Given.{IsGiven};
@@ -8,13 +8,14 @@ ghost use Rattle.rip_report.specs.Hearings.{RoutesAnyway};
 ghost use Rattle.rip_table.specs.Tallies.{counts_of};
 ghost use Rattle.rip_table.specs.State.{Fits, State};
 ghost use Rattle.rip_check.specs.Expected.{AreExpected};
+ghost use Rattle.rip_check.specs.Firsts.{AreHeardOf, IsFirstUnheardOf};
 ghost use Rattle.rip_report.specs.declared.limits.TheConstants.{LINE_BYTES, NUMBERED, PLACE, TWO_NUMBERS, WORDS};
-ghost use Rattle.rip_report.specs.Lines.{IsKnownReason, read_part, unheard_line};
+ghost use Rattle.rip_report.specs.Lines.{IsKnownReason};
 ghost use Rattle.rip_report.specs.Listings.{TextsBelow, TextsOfPairs};
 ghost use Rattle.rip_report.specs.Names.{IsKnownWay};
 ghost use Rattle.rip_report.specs.ReportText.{IsAccepted, ReportText};
-ghost use Rattle.rip_report.specs.RoutesText.{RouteLine, RoutesText, UnheardLine, least_part, pair_part, read_line, routes_line, unread_line};
-ghost use Rattle.rip_report.specs.Runs.{Reads, ReadsOn, RefusesPlan};
+ghost use Rattle.rip_report.specs.RoutesText.{IsRead, IsSilentRoute, RouteLine, RoutesText, UnheardLine, least_part, pair_part, read_line, route_of, routes_line, unread_line};
+ghost use Rattle.rip_report.specs.Runs.{Reads, ReadsOn, RefusesPlan, StopsAtRefusal};
 ghost use Rattle.rip_report.specs.Sent.{Prints, WentOut, Writes};
 
 use crate::events::{EventReport, run_counted};
@@ -28,7 +29,7 @@ use crate::names::{push_counts, push_router};
 use crate::output::finish;
 use crate::report::{Report, run_report};
 use crate::status::{RunError, Status};
-use rip_check::{Expected, Route, Unclear, route};
+use rip_check::{Expected, Route, Unclear, Way, route, unheard_link};
 use rip_log::{Failed, Sink, Source};
 use rip_plan::Plan;
 use rip_table::{Counts, MetricTable};
@@ -121,6 +122,62 @@ fn unread_text<T: MetricTable>(
     text
 }
 
+/// The link on which the router might show more than this route: it need not show such a route, and
+/// its interface there was not heard.
+fn unheard_behind<T: MetricTable>(
+    plan: &Plan,
+    table: &T,
+    router: usize,
+    found: &Route,
+) -> Option<usize>
+    requires fits { Fits plan.now (T.state table.now) }
+    requires router { router < length plan.now.routers }
+    ensures some { IfSome result (λ l. IsSilentRoute (route_of found.now) found.now.hidden
+        × IsFirstUnheardOf plan.now (T.state table.now) router l) }
+    ensures none { IfNone result (IsSilentRoute (route_of found.now) found.now.hidden →
+        AreHeardOf plan.now (T.state table.now) router) }
+{
+    if found.hidden || found.way == Way::Unreachable {
+        unheard_link(plan, table, router)
+    } else {
+        None
+    }
+}
+
+/// The line of a router and a prefix whose route was read.
+fn found_text<T: MetricTable>(
+    plan: &Plan,
+    expected: &Expected,
+    table: &T,
+    router: usize,
+    prefix: usize,
+    found: &Route,
+) -> Line
+    requires fits { Fits plan.now (T.state table.now) }
+    requires expected { AreExpected plan.now expected.now }
+    requires router { router < length plan.now.routers }
+    requires prefix { prefix < length (T.state table.now).prefixes }
+    requires read { IsRead plan.now (T.state table.now) router prefix (route_of found.now)
+        found.now.hidden }
+    ensures { RouteLine plan.now (T.state table.now) router prefix result }
+{
+    plan.lawful();
+    match unheard_behind(plan, table, router, found) {
+        Some(link) => {
+            let missing = Unclear::Missing {
+                router,
+                prefix,
+                link,
+            };
+            unread_text(plan, table, router, prefix, &missing)
+        }
+        None => {
+            let least = expected.least(plan, router, prefix);
+            read_text(plan, table, router, prefix, found, least)
+        }
+    }
+}
+
 /// The line of a router and a prefix.
 fn pair_text<T: MetricTable>(
     plan: &Plan,
@@ -137,10 +194,7 @@ fn pair_text<T: MetricTable>(
 {
     plan.lawful();
     match route(plan, table, router, prefix) {
-        Ok(found) => {
-            let least = expected.least(plan, router, prefix);
-            read_text(plan, table, router, prefix, &found, least)
-        }
+        Ok(found) => found_text(plan, expected, table, router, prefix, &found),
         Err(trouble) => unread_text(plan, table, router, prefix, &trouble),
     }
 }
@@ -309,6 +363,8 @@ pub fn run_routes<R: Source, K: Sink, S: BuildHasher + Drop>(
         IfOk result.1 (WentOut (RoutesText n s) (K.taken out.old) (K.taken out.new)) }
     // If the plan is refused, the log is not touched; one that is no text never gives Memory.
     ensures refuses { RefusesPlan plan.now log result.0 result.1 }
+    // Behind the line at which a log is refused no more is pulled than a reader holds.
+    ensures stops { StopsAtRefusal R.given R.at_end plan.now log result.0 result.1 }
 {
     run_report(alloc, &Routes, plan, log, out, hasher)
 }

@@ -3,8 +3,6 @@
 ghost use Rattle.std.specs.Prelude.{◌≡◌};
 ghost use Rattle.rip_report.specs.Statuses.{exit_code_of, fault_line_of};
 
-use thiserror::Error;
-
 /// What a run has found.
 #[derive(Clone, Copy, Debug, PartialEq, Eq)]
 pub enum Status {
@@ -21,16 +19,13 @@ pub enum Status {
 }
 
 /// Why a run gave up.
-#[derive(Clone, Copy, Debug, PartialEq, Eq, Error)]
+#[derive(Clone, Copy, Debug, PartialEq, Eq)]
 pub enum RunError {
     /// The source has failed, or a file could not be opened or read.
-    #[error("failed: read")]
     Read = 1,
     /// The sink has failed.
-    #[error("failed: write")]
     Write,
     /// A growth was refused.
-    #[error("failed: memory")]
     Memory,
 }
 

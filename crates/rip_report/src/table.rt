@@ -7,12 +7,12 @@ ghost use Rattle.rip_report.specs.Given.{IsGiven};
 ghost use Rattle.rip_report.specs.Hearings.{TableAnyway};
 ghost use Rattle.rip_table.specs.Tallies.{counts_of};
 ghost use Rattle.rip_table.specs.State.{Fits, State};
-ghost use Rattle.rip_report.specs.declared.limits.TheConstants.{INTERFACE, LINE_BYTES, TWO_NUMBERS, WORDS};
-ghost use Rattle.rip_report.specs.Lines.{interface_name, unheard_line};
+ghost use Rattle.rip_report.specs.declared.limits.TheConstants.{INTERFACE, TWO_NUMBERS, WORDS};
+ghost use Rattle.rip_report.specs.Lines.{interface_name};
 ghost use Rattle.rip_report.specs.TableText.{TableText, interface_lines, prefix_lines, shown_lines, shown_table, table_line};
 ghost use Rattle.rip_report.specs.Held.{held};
 ghost use Rattle.rip_report.specs.ReportText.{IsAccepted};
-ghost use Rattle.rip_report.specs.Runs.{Reads, ReadsOn, RefusesPlan};
+ghost use Rattle.rip_report.specs.Runs.{Reads, ReadsOn, RefusesPlan, StopsAtRefusal};
 ghost use Rattle.rip_report.specs.Sent.{Prints, WentOut, Writes};
 ghost use Rattle.rip_report.specs.Texts.{AreOfMetrics, AreTexts, text_of};
 ghost use Rattle.rip_plan.specs.Network.{Network};
@@ -273,6 +273,8 @@ pub fn run_table<R: Source, K: Sink, S: BuildHasher + Drop>(
         (WentOut (λ w. w ≡ shown_table n s) (K.taken out.old) (K.taken out.new)) }
     // If the plan is refused, the log is not touched; one that is no text never gives Memory.
     ensures refuses { RefusesPlan plan.now log result.0 result.1 }
+    // Behind the line at which a log is refused no more is pulled than a reader holds.
+    ensures stops { StopsAtRefusal R.given R.at_end plan.now log result.0 result.1 }
 {
     run_report(alloc, &Table, plan, log, out, hasher)
 }

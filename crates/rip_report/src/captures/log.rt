@@ -1,10 +1,11 @@
 //! What was written so far of a log of capture files.
 
-ghost use Rattle.std.specs.Prelude.{◌≡◌, ◌≤◌, []};
+ghost use Rattle.std.specs.Prelude.{◌≡◌, ◌≤◌, [], Ok};
 ghost use Rattle.rip_log.specs.declared.limits.TheConstants.{MOST_LINES};
 
 use crate::captures::authentication::Authentication;
 use crate::status::Status;
+use rip_log::laws::log_texts;
 
 /// A log of capture files, as far as it was written: what becomes of the authentication of
 /// datagrams, how many files and lines it has, and its status, Unclear where a datagram is not
@@ -20,13 +21,15 @@ pub struct CaptureLog {
 }
 
 impl CaptureLog {
-    ghost use Rattle.rip_report.specs.CaptureLogs.{IsLogOf, authentication_of, status_of};
+    ghost use Rattle.rip_report.specs.CaptureLogs.{IsLogOf, SaysFiles, authentication_of, status_of};
 
     /// A log of no file.
     pub fn new(authentication: Authentication) -> CaptureLog
         ensures empty { IsLogOf result [] [] }
+        ensures says { SaysFiles authentication [] [] (Ok (status_of result)) }
         ensures authentication { authentication_of result ≡ authentication }
     {
+        log_texts();
         CaptureLog {
             authentication,
             files: 0,

@@ -1,6 +1,6 @@
 use Rattle.std.proofs.Common.{subst}
 use Rattle.rip_plan.specs.Relations.{IsLawful}
-use Rattle.rip_report.specs.AuditText.{VerdictText}
+use Rattle.rip_report.specs.ReportText.{IsAccepted}
 use Rattle.rip_report.proofs.VerdictLemmas.{headline, plain_headline}
 use Rattle.rip_report.proofs.audit.run_audit.Goals as goal
 use Rattle.rip_check.specs.Told.{told}
@@ -8,16 +8,10 @@ use Rattle.rip_check.specs.Told.{told}
 pub returns-clause-headline : goal.returns-clause-headline
 returns-clause-headline g c =
     let e = c.run_report.ensures in
-    λ text given n s accepted. headline n s (VerdictText n s c.args.all) (g.K.Sink.taken c.args.out.now) (g.K.Sink.taken c.run_report.new.out) c.run_report.result.1
-    (e.meaning text given n s accepted) (e.told text given n s accepted)
+    λ text given n s are. headline n s (IsAccepted c.args.plan.now text n s) c.run_report.result.1 (e.accepted text given n s are) (e.meaning text given n s)
 
 pub returns-clause-known : goal.returns-clause-known
-returns-clause-known g c =
-    let e = c.run_report.ensures in
-    λ text is n s accepted.
-    let given = e.reads.draws.to_come text is in
-    headline n s (VerdictText n s c.args.all) (g.K.Sink.taken c.args.out.now) (g.K.Sink.taken c.run_report.new.out) c.run_report.result.1 (e.meaning text given n s accepted)
-    (e.told text given n s accepted)
+returns-clause-known g c = λ text is. returns-clause-headline g c text (c.run_report.ensures.reads.draws.to_come text is)
 
 pub returns-clause-one_set : goal.returns-clause-one_set
 returns-clause-one_set g c = λ text given n s accepted.

@@ -1,6 +1,7 @@
 use Rattle.std.proofs.Common.{[], ◌∷◌, ◌++◌}
 use Rattle.rip_report.specs.Statuses.{fault_line_of}
 use Rattle.rip_report.proofs.CaptureFileLemmas.{failure-goes-on}
+use Rattle.rip_report.proofs.SaidFileLemmas.{failure-says}
 use Rattle.rip_report.proofs.ListingLemmas.{adds_same, adds_then, writes_none}
 use Rattle.rip_report.proofs.captures.log_failure.Goals as goal
 
@@ -19,3 +20,8 @@ returns-clause-ends g c =
 pub returns-clause-goes_on : goal.returns-clause-goes_on
 returns-clause-goes_on g c = λ log files text file is wrote.
     failure-goes-on g.K.Sink.taken g.K.Sink.broken c.args.out.now c.end_listing.new.out c.args.error c.end_listing.result c.requires (returns-clause-ends g c) log files text file is wrote
+
+pub returns-clause-says : goal.returns-clause-says
+returns-clause-says g c = λ how files text status file says wrote.
+    failure-says (record { ends = c.logged_files.ensures.ends; says = c.logged_files.ensures.says; two = c.two_texts.ensures }) g.K.Sink.taken g.K.Sink.broken c.args.out.now c.end_listing.new.out
+    c.args.error c.end_listing.result c.requires (returns-clause-ends g c) how files text status file says wrote

@@ -8,6 +8,7 @@ use Rattle.rip_report.specs.declared.status.RunError.TheVariants.{Memory}
 use Rattle.rip_report.proofs.CaptureFileLemmas.{adds-file, adds-text, adds-unread, far-bytes, log-goes-on, never-memory, not-followed, unread-only}
 use Rattle.rip_report.proofs.GivenLemmas.{told_given}
 use Rattle.rip_report.proofs.ListingLemmas.{writes_none}
+use Rattle.rip_report.proofs.SaidFileLemmas.{says-goes-on}
 use Rattle.rip_report.proofs.captures.run_log.Goals as goal
 
 pub returns-in-Ok-clause-prints : goal.returns-in-Ok-clause-prints
@@ -123,3 +124,13 @@ returns-in-Ok-clause-untouched g c = λ e.
     absurd (never-memory taken broken out c.close_file-answer.new.out c.args.log.now c.close_file-answer.new.log link
     (packet_lines c.args.log.now.authentication link logs.carriers) c.log_packets-ending.result c.close_file-answer.result
     (c.close_file-answer.ensures.closes out (packet_lines c.args.log.now.authentication link logs.carriers) wrote) e)
+
+pub returns-in-Ok-clause-says : goal.returns-in-Ok-clause-says
+returns-in-Ok-clause-says g c = λ bytes given files text says wrote.
+    says-goes-on (record { ends = c.logged_files.ensures.ends; says = c.logged_files.ensures.says; two = c.two_texts.ensures }) g.K.Sink.taken g.K.Sink.broken c.args.out.now c.close_file-answer.new.out
+    c.args.log.now c.close_file-answer.new.log c.args.link.now bytes c.close_file-answer.result (returns-in-Ok-clause-prints g c bytes given) files text says wrote
+
+pub returns-in-Err-clause-says : goal.returns-in-Err-clause-says
+returns-in-Err-clause-says g c = λ bytes given files text says wrote.
+    says-goes-on (record { ends = c.logged_files.ensures.ends; says = c.logged_files.ensures.says; two = c.two_texts.ensures }) g.K.Sink.taken g.K.Sink.broken c.args.out.now c.log_failure.new.out
+    c.args.log.now c.args.log.now c.args.link.now bytes c.log_failure.result (returns-in-Err-clause-prints g c bytes given) files text says wrote

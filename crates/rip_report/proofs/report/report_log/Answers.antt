@@ -1,4 +1,4 @@
-use Rattle.std.proofs.Common.{◌∙◌, [], None, rules, subst}
+use Rattle.std.proofs.Common.{◌∙◌, [], None, Some, rules, subst}
 use Rattle.std.specs.Prelude.{IfOk}
 use Rattle.rip_table.specs.State.{State}
 use Rattle.rip_report.specs.RefusalText.{refused_log}
@@ -8,6 +8,7 @@ use Rattle.rip_report.proofs.FinishLemmas.{finished_prints, prints_also}
 use Rattle.rip_report.proofs.GivenLemmas.{drawn}
 use Rattle.rip_report.proofs.ReportLemmas.{no_table, same_table}
 use Rattle.rip_report.proofs.SentLemmas.{Writes-same}
+use Rattle.rip_report.proofs.StopLemmas.{never_refused, one_refusal, stops_there}
 use Rattle.rip_report.proofs.report.report_log.Goals as goal
 
 pub returns-in-Ok-None-clause-prints : goal.returns-in-Ok-None-clause-prints
@@ -93,3 +94,20 @@ returns-in-Err-clause-reads g c =
       read = search rules;
       ended = search rules;
     }
+
+pub returns-in-Ok-None-clause-stops : goal.returns-in-Ok-None-clause-stops
+returns-in-Ok-None-clause-stops g c = λ text begins t e made.
+    let n = c.args.plan.now in
+    let told_of = rw (c.in-Ok-None.is, c.in-Ok-None.field-0-is) at c.read_log-source.ensures.told in
+    let laws = c.new_states.ensures n c.lawful.ensures in
+    never_refused _ e (one_refusal (record { text = c.log_texts.ensures.text; fault = c.log_texts.ensures.fault }) c.refused_logs.ensures.outcome n text
+    (g.T.MetricTable.state c.read_log-source.new.table) t None (Some e) c.lawful.ensures laws.0 laws.1 (told_of text begins) made)
+
+pub returns-in-Ok-Some-clause-stops : goal.returns-in-Ok-Some-clause-stops
+returns-in-Ok-Some-clause-stops g c = λ text begins t e made.
+    let n = c.args.plan.now in
+    let told_of = rw (c.in-Ok-Some.is, c.in-Ok-Some.field-0-is) at c.read_log-source.ensures.told in
+    let stops = rw (c.in-Ok-Some.is, c.in-Ok-Some.field-0-is) at c.read_log-source.ensures.stops in
+    let laws = c.new_states.ensures n c.lawful.ensures in
+    stops_there g.R.Source.given c.args.log c.read_log-source.result.0 c.in-Ok-Some.error e c.finish.result (one_refusal (record { text = c.log_texts.ensures.text; fault = c.log_texts.ensures.fault })
+    c.refused_logs.ensures.outcome n text (g.T.MetricTable.state c.read_log-source.new.table) t (Some c.in-Ok-Some.error) (Some e) c.lawful.ensures laws.0 laws.1 (told_of text begins) made) stops

@@ -1,11 +1,12 @@
-use Rattle.std.proofs.Common.{rules}
+use Rattle.std.proofs.Common.{rules, Some, subst}
 use Rattle.std.specs.Prelude.{IfOk}
 use Rattle.rip_report.specs.PlanText.{a_fault, of_plan}
-use Rattle.rip_report.specs.ReportText.{ReportOf, ReportText}
+use Rattle.rip_report.specs.ReportText.{LogMakes, ReportOf, ReportText}
 use Rattle.rip_report.specs.Sent.{WentOut}
 use Rattle.rip_report.proofs.FinishLemmas.{first_told, prints_also, refused_prints}
 use Rattle.rip_report.proofs.GivenLemmas.{undrawn}
-use Rattle.rip_report.proofs.ReportLemmas.{of_read, of_refused}
+use Rattle.rip_report.proofs.ReportLemmas.{ended_accepted, of_read, of_refused, same_plan}
+use Rattle.rip_report.proofs.StopLemmas.{if_done, stops_untouched}
 use Rattle.rip_report.proofs.report.run_report.Goals as goal
 
 pub returns-in-Ok-with_hasher-clause-prints : goal.returns-in-Ok-with_hasher-clause-prints
@@ -58,3 +59,23 @@ returns-in-Ok-with_hasher-clause-refuses g c = record {
   untouched = λ e fault. absurd (c.in-Ok.ensures.no_fault e (fault.pass, fault.found));
   no_text = search rules;
 }
+
+pub returns-in-Ok-with_hasher-clause-accepted : goal.returns-in-Ok-with_hasher-clause-accepted
+returns-in-Ok-with_hasher-clause-accepted g c = λ text given n s are.
+    ended_accepted (record { text = c.log_texts.ensures.text; fault = c.log_texts.ensures.fault }) c.one_join.ensures c.args.plan.now text n s (g.C.Report.is_text c.args.command.now)
+    (g.K.Sink.taken c.args.out.now) (g.K.Sink.taken c.report_log.new.out) c.report_log.result.1 (λ n m q. c.one_plan.ensures q.document n m) (c.well_formed_texts.ensures c.args.plan.now) are
+    (returns-in-Ok-with_hasher-clause-prints g c text given).text
+
+pub returns-in-Err-clause-accepted : goal.returns-in-Err-clause-accepted
+returns-in-Err-clause-accepted g c = λ text given n s are.
+    ended_accepted (record { text = c.log_texts.ensures.text; fault = c.log_texts.ensures.fault }) c.one_join.ensures c.args.plan.now text n s (g.C.Report.is_text c.args.command.now)
+    (g.K.Sink.taken c.args.out.now) (g.K.Sink.taken c.refuse_plan.new.out) c.refuse_plan.result (λ n m q. c.one_plan.ensures q.document n m) (c.well_formed_texts.ensures c.args.plan.now) are
+    (returns-in-Err-clause-prints g c text given).text
+
+pub returns-in-Ok-with_hasher-clause-stops : goal.returns-in-Ok-with_hasher-clause-stops
+returns-in-Ok-with_hasher-clause-stops g c = λ text given n s e is made.
+    let same = same_plan c.args.plan.now n c.in-Ok.plan (λ n m q. c.one_plan.ensures q.document n m) is c.in-Ok.ensures.plan in
+    c.report_log.ensures.stops text given s e (subst (λ k. LogMakes k text s (Some e)) same made)
+
+pub returns-in-Err-clause-stops : goal.returns-in-Err-clause-stops
+returns-in-Err-clause-stops g c = λ text given n s e is made. if_done _ c.refuse_plan.result (stops_untouched g.R.Source.given c.args.log e.line)

@@ -1,4 +1,5 @@
-use Rattle.std.proofs.Common.{◌≡◌, ◌∙◌, ◌+◌, ◌++◌, ◌∷◌, [], List, ap, arith, inl, inr, length, map, refl, sym, subst}
+use Rattle.std.proofs.Common.{◌≡◌, ◌∙◌, ◌+◌, ◌++◌, ◌∷◌, [], List, ap, arith, inl, inr, is_err, length, map, refl, sym, subst}
+use Rattle.std.proofs.lemmas.Bool.{false≢true}
 use Rattle.std.proofs.lemmas.List.{length-map}
 use Rattle.rip_log.proofs.WholeLemmas.{went_nowhere, went_on}
 use Rattle.rip_capture.specs.NextCall.{Stands, TakesPacket, frame_of, place_of, position_of, section_by, source_of}
@@ -6,6 +7,7 @@ use Rattle.rip_capture.specs.Pcap.{Frame}
 use Rattle.rip_capture.specs.declared.error.CaptureCode.TheVariants.{Read}
 use Rattle.rip_report.specs.CapturePackets.{ended_at}
 use Rattle.rip_report.specs.CaptureText.{Carrier, IsCarrier, counted, omitted_of}
+use Rattle.rip_report.specs.declared.listing.Listing.{Listing}
 use Rattle.rip_report.proofs.CaptureLemmas.{adds-packet, all-snoc, counts-snoc, ends-at, ends-by, far, stops-far, frames-snoc, has-room, line_count-snoc, never-unread, read-is_unread, unread-is_read}
 use Rattle.rip_report.proofs.ListingLemmas.{adds_none}
 use Rattle.rip_report.proofs.captures.packets.log_packets.Goals as goal
@@ -25,6 +27,7 @@ packets-init g c =
       went = went_nowhere S.given S.coming S.at_end (source_of c.args.reader.now);
       running = c.requires.running;
       marks = refl;
+      sound = λ sound. sound;
     }
 
 pub log_packet-requires-clause-room : goal.log_packet-requires-clause-room
@@ -56,6 +59,7 @@ packets-preserved g c =
       went = went_on S.given S.coming S.at_end (source_of c.args.reader.now) (source_of c.packets.reader) (source_of now) inv.went runs.moves.went;
       running = h.refused;
       marks = runs.moves.marks refl ∙ inv.marks;
+      sound = λ sound. sym c.has_failed.ensures ∙ c.if-has_failed.false;
     }
 
 pub packets-smaller : goal.packets-smaller
@@ -85,6 +89,7 @@ returns-then-not-log_packet g c =
       went = went_on S.given S.coming S.at_end (source_of c.args.reader.now) (source_of c.packets.reader) (source_of now) inv.went runs.moves.went;
       unread = λ e. cc e;
       marks = λ e. runs.moves.marks refl ∙ inv.marks;
+      stops = λ sound failed. absurd (false≢true (sym (inv.sound sound) ∙ ap (λ (l : Listing). is_err l.wrote) (sym lacks.listing) ∙ failed));
     }
 
 pub returns-then-has_failed : goal.returns-then-has_failed
@@ -113,6 +118,10 @@ returns-then-has_failed g c =
       went = went_on S.given S.coming S.at_end (source_of c.args.reader.now) (source_of c.packets.reader) (source_of now) inv.went runs.moves.went;
       unread = λ e. cc e;
       marks = λ e. runs.moves.marks refl ∙ inv.marks;
+      stops = λ sound failed. (
+        refl,
+        record { front = cs; last = p; split = refl; mid = c.packets.listing; out = c.packets.out; adds = inv.adds; sound = inv.sound sound },
+      );
     }
 
 pub returns-in-Ok-None : goal.returns-in-Ok-None
@@ -135,6 +144,7 @@ returns-in-Ok-None g c =
       went = went_on S.given S.coming S.at_end (source_of c.args.reader.now) (source_of c.packets.reader) (source_of now) inv.went runs.moves.went;
       unread = λ e. absurd (never-unread tally (position_of now) e);
       marks = λ e. runs.moves.marks refl ∙ inv.marks;
+      stops = λ sound failed. absurd (false≢true (sym (inv.sound sound) ∙ failed));
     })
 
 pub returns-in-Err : goal.returns-in-Err
@@ -156,6 +166,7 @@ returns-in-Err g c =
       went = went_on S.given S.coming S.at_end (source_of c.args.reader.now) (source_of c.packets.reader) (source_of now) inv.went runs.moves.went;
       unread = λ e. runs.moves.failed (unread-is_read c.in-Err.error.code c.in-Err.error.at e);
       marks = λ e. runs.moves.marks (read-is_unread c.in-Err.error.code c.in-Err.error.at e) ∙ inv.marks;
+      stops = λ sound failed. absurd (false≢true (sym (inv.sound sound) ∙ failed));
     })
 
 pub returns : goal.returns
@@ -180,4 +191,5 @@ returns g c =
       went = inv.went;
       unread = λ e. inr is_far;
       marks = λ e. absurd (e refl);
+      stops = λ sound failed. absurd (false≢true (sym (inv.sound sound) ∙ failed));
     }

@@ -1,4 +1,4 @@
-use Rattle.std.proofs.Common.{◌≡◌, ◌+◌, ◌-◌, ◌^◌, ◌≤◌, List, ℕ, None, map}
+use Rattle.std.proofs.Common.{◌≡◌, ◌+◌, ◌-◌, ◌^◌, ◌≤◌, List, ℕ, None, false, is_err, map}
 use Rattle.std.specs.List.{AllByRecursion}
 use Rattle.rip_log.specs.Wholes.{Went}
 use Rattle.rip_log.specs.declared.limits.TheConstants.{MOST_LINES}
@@ -23,6 +23,7 @@ invariant-packets g l =
       went : Went S.given S.coming S.at_end (source_of l.fn.reader) (source_of l.reader);
       running : refusal_of l.reader ≡ None;
       marks : S.broken (source_of l.reader) ≡ S.broken (source_of l.fn.reader);
+      sound : is_err l.fn.listing.wrote ≡ false → is_err l.listing.wrote ≡ false;
     }
 
 abbrev pub decreases-packets : goal.decreases-packets
