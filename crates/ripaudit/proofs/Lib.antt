@@ -1,1 +1,2 @@
 pub mod CaptureWordLemmas
+pub mod FileLemmas

@@ -1,2 +1,3 @@
+pub mod CaptureFiles
 pub mod CaptureWords
 pub mod CommandText

@@ -1,22 +1,18 @@
 //! The words of the command line, and what they ask for.
 
-ghost use Rattle.std.specs.Prelude.{◌≡◌, ◌≢◌, map};
-ghost use Rattle.rip_wire.specs.Name.{IsName};
-ghost use Rattle.rip_report.specs.CaptureLogs.{authentication_of};
+ghost use Rattle.std.specs.Prelude.{◌≢◌};
 ghost use Rattle.rip_report.specs.declared.status.RunError.{RunError};
-ghost use Rattle.ripaudit.specs.CaptureWords.{AreFineWords};
 
+use crate::capture_files::log_files;
 use crate::commands::{
-    PlanCommand, ReadCommand, new_log, plan_command, read_command, read_plan, run_anyway,
+    PlanCommand, ReadCommand, authentication, plan_command, read_command, read_plan, run_anyway,
     run_on_log, run_on_plan,
 };
-use crate::words::{CaptureWord, capture_word, first_bad_word};
+use crate::words::{capture_word, first_bad_word};
 use clap::error::ErrorKind;
 use clap::{Arg, ArgAction, ArgMatches, Command, Error};
-use rip_log::{FromRead, IntoWrite, Sink};
-use rip_report::{
-    CaptureLog, RunError, Status, exit_code, fault_line, log_failure, run_decode, run_log,
-};
+use rip_log::{FromRead, IntoWrite};
+use rip_report::{Authentication, RunError, Status, exit_code, fault_line, run_decode};
 use std::alloc::{AllocError, Global};
 use std::collections::hash_map::RandomState;
 use std::io::{IsTerminal, Read};
@@ -184,7 +180,7 @@ fn end_words(rt: &(impl Print + Eprint), error: &Error) -> u8 {
 }
 
 /// Memory was refused, or reading failed.
-fn read_failure(error: &io::Error) -> RunError
+pub(crate) fn read_failure(error: &io::Error) -> RunError
     ensures { result ≢ RunError.Write }
 {
     match error.kind() {
@@ -242,7 +238,7 @@ fn report_from<R: AllocGlobal + RandomSource + Print, L: Read + Drop>(
 }
 
 /// Standard input, of which the text tells someone who sits at it.
-fn told_input<R: Input + Eprint>(rt: &R, text: &str) -> R::Reader
+pub(crate) fn told_input<R: Input + Eprint>(rt: &R, text: &str) -> R::Reader
 where
     R::Reader: IsTerminal,
 {
@@ -277,55 +273,6 @@ where
     }
 }
 
-/// Adds a capture file to a log.
-fn log_file<R: Files + AllocGlobal + Input + Eprint, K: Sink>(
-    rt: &R,
-    log: &mut CaptureLog,
-    word: CaptureWord<'_>,
-    out: &mut K,
-) -> Result<Status, RunError>
-where
-    R::Reader: IsTerminal,
-    requires { IsName word.link.now }
-    ensures { authentication_of log.new ≡ authentication_of log.old }
-{
-    let alloc = rt.alloc();
-    if word.is_input() {
-        let input = told_input(rt, "reading the capture from standard input");
-        let (_, answer) = run_log(alloc, log, word.link, FromRead::new(input), out);
-        return answer;
-    }
-    match fs::open(rt, word.path) {
-        Ok(file) => {
-            let (_, answer) = run_log(alloc, log, word.link, FromRead::new(file), out);
-            answer
-        }
-        Err(error) => log_failure(read_failure(&error), out),
-    }
-}
-
-/// Adds capture files to a log, up to one that is refused or that cannot be read.
-fn log_files<R: Files + AllocGlobal + Input + Print + Eprint>(
-    rt: &R,
-    mut log: CaptureLog,
-    words: &[&str],
-) -> Result<Status, RunError>
-where
-    R::Reader: IsTerminal,
-    requires { AreFineWords (map (λ w. w.now) words.now) }
-{
-    let mut out = IntoWrite::new(io::writer(rt));
-    for i in 0..words.len() {
-        let Some(word) = capture_word(words[i]) else {
-            unreachable!();
-        };
-        if log_file(rt, &mut log, word, &mut out)? == Status::Refused {
-            return Ok(Status::Refused);
-        }
-    }
-    Ok(log.status())
-}
-
 /// Refuses a word of `log`, by its number: it names no file and link, or standard input a second
 /// time. It is not told itself: a file's name could hold a line feed.
 fn refuse_word(rt: &impl Eprint, word: &str, number: usize) -> Result<Status, RunError> {
@@ -341,14 +288,18 @@ fn refuse_word(rt: &impl Eprint, word: &str, number: usize) -> Result<Status, Ru
 /// Makes a log of capture files, if all words name some.
 fn run_log_command<R: Files + AllocGlobal + Input + Print + Eprint>(
     rt: &R,
-    log: CaptureLog,
+    authentication: Authentication,
     words: &[&str],
 ) -> Result<Status, RunError>
 where
     R::Reader: IsTerminal,
 {
     match first_bad_word(words) {
-        None => log_files(rt, log, words),
+        None => {
+            let mut out = IntoWrite::new(io::writer(rt));
+            let (_, outcome) = log_files(rt, authentication, words, &mut out);
+            outcome
+        }
         Some(at) => refuse_word(rt, words[at], at + 1),
     }
 }
@@ -367,8 +318,8 @@ where
         return Some(run_decode(hex, &mut IntoWrite::new(io::writer(rt))));
     }
     if word == "log" {
-        let log = new_log(words.get_flag("without-authentication"));
-        return Some(run_log_command(rt, log, words.get_strs("FILE")?));
+        let kept = authentication(words.get_flag("without-authentication"));
+        return Some(run_log_command(rt, kept, words.get_strs("FILE")?));
     }
     let path = words.get_str("PLAN")?;
     let all = words.get_flag("all");

@@ -1,16 +1,15 @@
 //! The commands that the words may ask for, and what each of them runs.
 
-ghost use Rattle.std.specs.Prelude.{◌≡◌, ◌≢◌, ◌⊎◌, ◌+◌, ◌≤◌, ◌<◌, ◌↔◌, ◌++◌, ℕ, List, [], Bool, Option, Some, None, Ok, Err, false, true, codes, length, IfOk};
+ghost use Rattle.std.specs.Prelude.{◌≡◌, ◌≢◌, ◌⊎◌, ◌+◌, ◌≤◌, ◌<◌, ◌↔◌, ◌++◌, ℕ, List, Bool, Option, Some, None, Ok, Err, false, true, codes, length, IfOk};
 ghost use Rattle.rip_plan.specs.Network.{Network};
 ghost use Rattle.rip_plan.specs.Relations.{IsPlain};
 ghost use Rattle.rip_table.specs.State.{State};
 ghost use Rattle.rip_check.specs.Laws.{OneIsShown};
 ghost use Rattle.rip_check.specs.Told.{told};
-ghost use Rattle.rip_report.specs.AuditText.{AnswersRightly, IsJudged, ShowsPlainRightTables, VerdictText};
-ghost use Rattle.rip_report.specs.CaptureLogs.{IsLogOf, authentication_of};
+ghost use Rattle.rip_report.specs.AuditText.{AnswersRightly, IsJudged, ShowsPlainRightTables};
 ghost use Rattle.rip_report.specs.Given.{IsGiven};
-ghost use Rattle.rip_report.specs.ReportText.{IsAccepted};
-ghost use Rattle.rip_report.specs.Runs.{Reads, ReadsOn, RefusesPlan};
+ghost use Rattle.rip_report.specs.ReportText.{AreRead, IsAccepted};
+ghost use Rattle.rip_report.specs.Runs.{Reads, ReadsOn, RefusesPlan, StopsAtRefusal};
 ghost use Rattle.rip_report.specs.Sent.{Prints};
 ghost use Rattle.rip_report.specs.declared.captures.authentication.Authentication.{Authentication};
 ghost use Rattle.ripaudit.specs.declared.commands.TheConstants.{PIECE_LEN};
@@ -20,8 +19,8 @@ use rip_check::laws::one_set_of_tables;
 use rip_log::{Failed, Sink, Source};
 use rip_plan::MOST_PLAN_BYTES;
 use rip_report::{
-    Authentication, CaptureLog, RunError, Status, run_audit, run_expect, run_explain, run_heard,
-    run_plan, run_routes, run_routes_anyway, run_table, run_table_anyway, run_whatif,
+    Authentication, RunError, Status, run_audit, run_expect, run_explain, run_heard, run_plan,
+    run_routes, run_routes_anyway, run_table, run_table_anyway, run_whatif,
 };
 use std::alloc::Global;
 use std::hash::BuildHasher;
@@ -123,19 +122,16 @@ pub(crate) fn read_command(word: &str, all: bool, anyway: bool) -> Option<ReadCo
     })
 }
 
-/// A log of no capture file, without the authentication of datagrams where that is asked for.
-pub(crate) fn new_log(without_authentication: bool) -> CaptureLog
-    ensures empty { IsLogOf result [] [] }
-    ensures removed { without_authentication ≡ true →
-        authentication_of result ≡ Authentication.Removed }
-    ensures as_sent { without_authentication ≡ false →
-        authentication_of result ≡ Authentication.AsSent }
+/// What becomes of the authentication of datagrams, which the flag takes off.
+pub(crate) fn authentication(without: bool) -> Authentication
+    ensures removed { without ≡ true → result ≡ Authentication.Removed }
+    ensures as_sent { without ≡ false → result ≡ Authentication.AsSent }
 {
-    CaptureLog::new(if without_authentication {
+    if without {
         Authentication::Removed
     } else {
         Authentication::AsSent
-    })
+    }
 }
 
 /// All bytes of a plan's file, or the first of them where there are more than a plan may have.
@@ -200,18 +196,18 @@ pub(crate) fn run_on_log<R: Source, K: Sink, S: BuildHasher + Drop>(
     ensures reads { Reads R.given R.coming R.broken R.at_end log result.0 result.1 }
     // If the plan is refused, the log is not touched; one that is no text never gives Memory.
     ensures refuses { RefusesPlan plan.now log result.0 result.1 }
+    // Behind the line at which a log is refused no more is pulled than a reader holds.
+    ensures stops { StopsAtRefusal R.given R.at_end plan.now log result.0 result.1 }
     // `audit` answers Settled exactly where the log shows right tables, and then packets arrive.
     ensures headline { (all : Bool) → command ≡ LogCommand.Audit all →
         (text : List ℕ) → IsGiven R.given R.at_end log result.0 text →
-        (n : Network) (s : State) → IsAccepted plan.now text n s →
-        IfOk result.1 (AnswersRightly n s (VerdictText n s all)
-        (K.taken out.old) (K.taken out.new)) }
+        (n : Network) (s : State) → AreRead plan.now text n s →
+        IfOk result.1 (AnswersRightly n s) }
     // The same of all the text that was to come, where its bytes are modelled.
     ensures known { (all : Bool) → command ≡ LogCommand.Audit all →
         (text : List ℕ) → R.coming log ≡ Some text →
-        (n : Network) (s : State) → IsAccepted plan.now text n s →
-        IfOk result.1 (AnswersRightly n s (VerdictText n s all)
-        (K.taken out.old) (K.taken out.new)) }
+        (n : Network) (s : State) → AreRead plan.now text n s →
+        IfOk result.1 (AnswersRightly n s) }
     // Of a plan that says nothing beside RFC 2453 the paths of `audit` go over any neighbours.
     ensures plain { (all : Bool) → command ≡ LogCommand.Audit all →
         (text : List ℕ) → IsGiven R.given R.at_end log result.0 text →
