@@ -5,8 +5,8 @@ use Rattle.rip_wire.specs.Fields.{number_at}
 use Rattle.rip_capture.specs.Authentication.{AreEntries, HasKeyedDigest, HasTextPassword, IsAuthenticated, IsOfEntries, data_len, has_authentication, has_keyed_digest, has_text_password, has_trailer, is_of_entries, trailer_at, without_authentication}
 use Rattle.rip_capture.specs.Authentication.AreEntries.{of_digest, of_password}
 use Rattle.rip_capture.specs.Passwords.{HasPassword, has_password}
-use Rattle.rip_capture.specs.Spans.{slice_of}
-use Rattle.rip_capture.specs.declared.span.Span.{Span}
+use Rattle.rip_log.specs.Spans.{slice_of}
+use Rattle.rip_log.specs.declared.span.Span.{Span}
 
 of-entries : (n : ℕ) → is_of_entries n ≡ true → IsOfEntries n
 of-entries n h =

@@ -6,7 +6,8 @@ use Rattle.byteorder.specs.Endian.{big_number}
 use Rattle.byteorder.specs.Numbers.{big_from-append}
 use Rattle.rip_wire.specs.Fields.{number_at}
 use Rattle.std.specs.Prelude.{MatchOption, ok_or}
-use Rattle.rip_capture.specs.Feeds.{Extends, IsShort, held}
+use Rattle.rip_log.specs.Feeds.{held}
+use Rattle.rip_capture.specs.Feeds.{Extends, IsShort}
 use Rattle.rip_capture.specs.Finds.{FindsOrder, HoldsBlock, HoldsWhole, NoNextBlock, SaysFront}
 use Rattle.rip_capture.specs.Finds.LacksBlock.{front as lacks_front, rest as lacks_rest}
 use Rattle.rip_capture.specs.Numbers.{number_in}
@@ -22,7 +23,7 @@ use Rattle.rip_capture.specs.declared.blocks.PacketForm.{PacketForm}
 use Rattle.rip_capture.specs.declared.blocks.PacketForm.TheVariants.{Simple, Enhanced}
 use Rattle.rip_capture.specs.declared.error.CaptureCode.{CaptureCode}
 use Rattle.rip_capture.specs.declared.error.CaptureCode.TheVariants as codes
-use Rattle.rip_capture.specs.declared.feed.Feed.{Feed}
+use Rattle.rip_log.specs.declared.feed.Feed.{Feed}
 use Rattle.rip_capture.specs.declared.numbers.Order.{Order}
 use Rattle.rip_capture.specs.declared.numbers.Order.TheVariants.{Big, Little}
 

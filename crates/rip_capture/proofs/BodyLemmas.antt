@@ -1,7 +1,7 @@
 -- What blocks say, what they do, and their faults.
 use Rattle.std.proofs.Common.{◌≡◌, ◌≢◌, ◌+◌, ◌-◌, ◌≤◌, ◌∙◌, ℕ, true, false, List, [], ◌∷◌, ◌++◌, Option, Some, None, Ok, Err, take, ap, sym, refl, inl, inr, subst, arith}
 use Rattle.std.specs.Prelude.{slice_range}
-use Rattle.rip_log.proofs.CutLemmas.{range-front}
+use Rattle.rip_log.proofs.CutLemmas.{range-drop, range-front}
 use Rattle.rip_capture.specs.Bodies.{LiesAt, ReadsBody, ReadsPacket, entered}
 use Rattle.rip_capture.specs.Codes.{is_read}
 use Rattle.rip_capture.specs.Pcap.{Frame}
@@ -11,7 +11,6 @@ use Rattle.rip_capture.specs.Pcapng.BodyFault.{version as bad_version, full as t
 use Rattle.rip_capture.specs.Pcapng.Does.{section as does_section, interface as does_interface, packet as does_packet, other as does_nothing}
 use Rattle.rip_capture.specs.Pcapng.OrderedFault.{size as bad_size, old as old_packet, cut as cut_block, end as bad_end, body as bad_body}
 use Rattle.rip_capture.specs.Pcapng.PacketFault.{interface as no_interface, size as bad_length, link_type as no_type}
-use Rattle.rip_capture.proofs.FeedLemmas.{range-drop}
 use Rattle.rip_capture.specs.declared.blocks.BlockKind.{BlockKind}
 use Rattle.rip_capture.specs.declared.blocks.BlockKind.TheVariants as kinds
 use Rattle.rip_capture.specs.declared.blocks.Interface.{Interface}
@@ -22,7 +21,7 @@ use Rattle.rip_capture.specs.declared.error.CaptureCode.{CaptureCode}
 use Rattle.rip_capture.specs.declared.error.CaptureCode.TheVariants as codes
 use Rattle.rip_capture.specs.declared.link.LinkType.{LinkType}
 use Rattle.rip_capture.specs.declared.numbers.Order.{Order}
-use Rattle.rip_capture.specs.declared.span.Span.{Span}
+use Rattle.rip_log.specs.declared.span.Span.{Span}
 
 pub packet-fault : (order : Order) (interfaces : List Interface) (form : PacketForm) (b : List ℕ) (code : CaptureCode) → ReadsPacket order interfaces form b (Err code) →
     PacketFault order interfaces form b code

@@ -10,7 +10,7 @@ use Rattle.rip_capture.specs.declared.frame.Network.TheVariants.{Ip, Short, Othe
 use Rattle.rip_capture.specs.declared.link.LinkType.{LinkType}
 use Rattle.rip_capture.specs.declared.packet.Carried.{Carried}
 use Rattle.rip_capture.specs.declared.packet.Carried.TheVariants.{Datagram, Cut, Fragment, Malformed, Long, Unknown, Elsewhere, Others}
-use Rattle.rip_capture.specs.declared.span.Span.{Span}
+use Rattle.rip_log.specs.declared.span.Span.{Span}
 
 -- ---- what is told, from the last test to the first
 

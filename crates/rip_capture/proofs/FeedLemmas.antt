@@ -1,16 +1,9 @@
 -- What is held behind bytes that were taken.
-use Rattle.std.proofs.Common.{◌≡◌, ◌+◌, ◌-◌, ◌<◌, ◌≤◌, ℕ, List, [], ◌++◌, sym, append_assoc, append-nil, take, drop, ap, ◌∙◌, arith, length, slice_range}
-use Rattle.std.proofs.lemmas.List.{drop-take, drop-drop, length-append, take-append-drop}
-use Rattle.rip_log.proofs.CutLemmas.{length-range}
-use Rattle.rip_capture.specs.Feeds.{Extends, Keeps, Skips, Takes, held}
-use Rattle.rip_capture.specs.declared.feed.Feed.{Feed}
-
-pub range-drop : (items : List ℕ) (start end n : ℕ) → start + n ≤ end → drop n (slice_range items start end) ≡ slice_range items (start + n) end
-range-drop items start end n h =
-    let split : end - start ≡ n + (end - (start + n)) = omega arith in
-    ap (λ m. drop n (take m (drop start items))) split
-    ∙ drop-take n (end - (start + n)) (drop start items)
-    ∙ ap (take (end - (start + n))) (drop-drop n start items)
+use Rattle.std.proofs.Common.{◌≡◌, ◌≤◌, ℕ, List, [], ◌++◌, sym, append_assoc, append-nil, take, drop, ap, ◌∙◌, arith, length}
+use Rattle.std.proofs.lemmas.List.{length-append, take-append-drop}
+use Rattle.rip_log.specs.Feeds.{held}
+use Rattle.rip_capture.specs.Feeds.{Extends, Keeps, Skips, Takes}
+use Rattle.rip_log.specs.declared.feed.Feed.{Feed}
 
 pub Extends-none : (xs : List ℕ) → Extends xs xs
 Extends-none xs = record { more = []; whole = sym (append-nil xs) }
@@ -27,10 +20,14 @@ Extends-length xs ys e = omega (arith, ap length e.whole, length-append xs e.mor
 pub Extends-take : (n : ℕ) (xs : List ℕ) → Extends (take n xs) xs
 Extends-take n xs = record { more = drop n xs; whole = sym (take-append-drop n xs) }
 
--- where enough is held, no more is wanted
-pub too_few : {R : Type 0} (old now : Feed R) (count : ℕ) → now ≡ old → count ≤ length (held old) → now.start ≤ now.end → now.end ≤ length now.buffer.items → now.end - now.start < count → ⊥
-too_few {R = R} old now count same enough ordered within short =
-    omega (arith, enough, ap (λ (f : Feed R). length (held f)) same, length-range now.buffer.items now.start now.end ordered within, short)
+-- what was given behind what is held is held too
+pub pulled-keeps : {R : Type 0} (given : R → List ℕ) (old new : Feed R) → ((more : List ℕ) × (given new.source ≡ given old.source ++ more) × (held new ≡ held old ++ more)) → Keeps given old new
+pulled-keeps given old new p = λ taken behind. p.1 ∙ ap (λ l. l ++ p.0) behind ∙ append_assoc taken (held old) p.0 ∙ ap (λ l. taken ++ l) (sym p.2)
+
+-- bytes at the front of what is held are taken off
+pub takes-front : {R : Type 0} (given : R → List ℕ) (old new : Feed R) (n : ℕ) → new.source ≡ old.source → held new ≡ drop n (held old) → Takes given old new (take n (held old))
+takes-front given old new n source left = λ taken behind.
+    ap given source ∙ behind ∙ ap (λ l. taken ++ l) (sym (take-append-drop n (held old)) ∙ ap (λ l. take n (held old) ++ l) (sym left)) ∙ sym (append_assoc taken (take n (held old)) (held new))
 
 -- where nothing was passed over, and where some bytes more were
 pub skips-none : {R : Type 0} (given : R → List ℕ) (feed : Feed R) → Skips given feed feed []

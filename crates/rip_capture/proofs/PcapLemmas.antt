@@ -4,7 +4,8 @@ use Rattle.std.proofs.lemmas.List.{length-drop, length-take}
 use Rattle.std.specs.Prelude.{MatchOption, ok_or}
 use Rattle.rip_capture.specs.Captures.{HasMagic}
 use Rattle.rip_capture.specs.Captures.FrontFault.{magic as no_magic, pcap, short as too_short}
-use Rattle.rip_capture.specs.Feeds.{IsShort, held}
+use Rattle.rip_log.specs.Feeds.{held}
+use Rattle.rip_capture.specs.Feeds.{IsShort}
 use Rattle.rip_capture.specs.Finds.{FindsHeader, FindsMagic, FindsRecord, IsMagicOf, ReadsHeader}
 use Rattle.rip_capture.specs.LinkTypes.{number_of}
 use Rattle.rip_capture.specs.Numbers.{number_in}
@@ -15,7 +16,7 @@ use Rattle.rip_capture.proofs.FeedLemmas.{Extends-take}
 use Rattle.rip_capture.proofs.NumberLemmas.{magic-front, number-stays, version-front}
 use Rattle.rip_capture.specs.declared.error.CaptureCode.{CaptureCode}
 use Rattle.rip_capture.specs.declared.error.CaptureCode.TheVariants.{Magic, Cut, Version, LinkType as NoLinkType, Length, Interface, OldPacket, Read}
-use Rattle.rip_capture.specs.declared.feed.Feed.{Feed}
+use Rattle.rip_log.specs.declared.feed.Feed.{Feed}
 use Rattle.rip_capture.specs.declared.link.LinkType.{LinkType}
 use Rattle.rip_capture.specs.declared.magic.Magic.{Magic as Magic'}
 use Rattle.rip_capture.specs.declared.numbers.Order.{Order}

@@ -7,7 +7,8 @@ use Rattle.rip_capture.specs.Captures.CaptureFault.{front as at_front, pcap as i
 use Rattle.rip_capture.specs.Captures.IsCapture.{pcap as pcap_capture, pcapng as pcapng_capture}
 use Rattle.rip_capture.specs.Captures.IsRead.{none as nothing_read, capture as capture_read}
 use Rattle.rip_capture.specs.Codes.{EndsFor, is_read}
-use Rattle.rip_capture.specs.Feeds.{Keeps, Skips, Takes, held}
+use Rattle.rip_log.specs.Feeds.{held}
+use Rattle.rip_capture.specs.Feeds.{Keeps, Skips, Takes}
 use Rattle.rip_capture.specs.Finds.{FindsHeader, FindsRecord, IsFound}
 use Rattle.rip_log.proofs.WholeLemmas.{went_on}
 use Rattle.rip_log.specs.Wholes.{Went}
@@ -21,7 +22,7 @@ use Rattle.rip_capture.specs.declared.blocks.Block.{Block}
 use Rattle.rip_capture.specs.declared.error.CaptureCode.{CaptureCode}
 use Rattle.rip_capture.specs.declared.error.CaptureCode.TheVariants.{Read}
 use Rattle.rip_capture.specs.declared.error.CaptureError.{CaptureError}
-use Rattle.rip_capture.specs.declared.feed.Feed.{Feed}
+use Rattle.rip_log.specs.declared.feed.Feed.{Feed}
 use Rattle.rip_capture.specs.declared.pcap.PcapHeader.{PcapHeader}
 use Rattle.rip_capture.specs.declared.reader.CaptureReader.{CaptureReader}
 use Rattle.rip_capture.specs.declared.reader.Found.{Found}
@@ -35,7 +36,7 @@ read-capture (Some (Pcap h)) now taken frames is = capture_read (pcap_capture h.
 read-capture (Some Pcapng) now taken frames are = capture_read (pcapng_capture now are)
 
 -- where nothing was taken
-pub Stands-kept : {R : Type 0} (given : R → List ℕ) (before taken : List ℕ) (frames : List Frame) (old new : CaptureReader R) → Keeps given old.feed new.feed → new.position ≡ old.position →
+pub Stands-kept : {R : Type 0} (given : R → List ℕ) (before taken : List ℕ) (frames : List Frame) (old new : CaptureReader R) → Keeps given old.parts.feed new.parts.feed → new.position ≡ old.position →
     new.format ≡ old.format → section_by new ≡ section_by old → Stands given before old taken frames → Stands given before new taken frames
 Stands-kept given before taken frames old new keeps position format section s = record {
   gave = keeps (before ++ taken) s.gave;
@@ -52,7 +53,7 @@ more-taken given before taken more old mid new keeps takes gave =
 -- the record of a packet
 pub TakesPacket-found : {R : Type 0} (given : R → List ℕ) (before taken : List ℕ) (frames : List Frame) (frame : Frame) (old new : CaptureReader R) (mid : Feed R) (h : PcapHeader) (n : ℕ)
     (at_end : Bool)
-    → old.format ≡ Some (Pcap h) → new.format ≡ Some (Pcap h) → Keeps given old.feed mid → FindsRecord h.order (held mid) at_end (Ok (Some n)) → Takes given mid new.feed (take (16 + n) (held mid))
+    → old.format ≡ Some (Pcap h) → new.format ≡ Some (Pcap h) → Keeps given old.parts.feed mid → FindsRecord h.order (held mid) at_end (Ok (Some n)) → Takes given mid new.parts.feed (take (16 + n) (held mid))
     → new.position ≡ old.position + (16 + n) → frame ≡ record { link_type = h.link_type; bytes = drop 16 (take (16 + n) (held mid)) }
     → Stands given before old taken frames → TakesPacket given before frames frame old.position new
 TakesPacket-found given before taken frames frame old new mid h n at_end was is keeps finds takes position frame_is s =
@@ -68,7 +69,7 @@ TakesPacket-found given before taken frames frame old new mid h n at_end was is 
       longer = pcap_capture h.order h.link_type one;
       next = record-next h.order h.link_type taken more frames right;
       stands = record {
-        gave = more-taken given before taken more old.feed mid new.feed keeps takes s.gave;
+        gave = more-taken given before taken more old.parts.feed mid new.parts.feed keeps takes s.gave;
         position = omega (arith, position, s.position, length-append taken more, length-take (16 + n) (held mid), finds.0);
         read = subst (λ (f : Option Format). HasRead f (section_by new) (taken ++ more) (frames ++ frame ∷ [])) (sym is) one;
       };
@@ -76,8 +77,8 @@ TakesPacket-found given before taken frames frame old new mid h n at_end was is 
 
 -- the end of the file
 pub EndsHere-found : {R : Type 0} (given : R → List ℕ) (at_end : R → Bool) (before taken : List ℕ) (frames : List Frame) (old new : CaptureReader R) (h : PcapHeader)
-    → old.format ≡ Some (Pcap h) → Keeps given old.feed new.feed → new.position ≡ old.position → new.format ≡ old.format → section_by new ≡ section_by old
-    → FindsRecord h.order (held new.feed) (at_end new.feed.source) (Ok None)
+    → old.format ≡ Some (Pcap h) → Keeps given old.parts.feed new.parts.feed → new.position ≡ old.position → new.format ≡ old.format → section_by new ≡ section_by old
+    → FindsRecord h.order (held new.parts.feed) (at_end new.parts.feed.source) (Ok None)
     → Stands given before old taken frames → EndsHere given at_end before frames new
 EndsHere-found given at_end before taken frames old new h was keeps position format section finds s = record {
   file = taken;
@@ -107,30 +108,30 @@ fault-ends code at_end (inr f) cut = f.1 cut
 
 -- a fault of a record, or a failure there
 pub StopsAt-record : {R : Type 0} (given : R → List ℕ) (at_end : R → Bool) (before taken : List ℕ) (frames : List Frame) (old new : CaptureReader R) (h : PcapHeader) (code : CaptureCode)
-    → old.format ≡ Some (Pcap h) → Keeps given old.feed new.feed → new.position ≡ old.position → (code ≡ Read) ⊎ (RecordFault h.order (held new.feed) code × EndsFor code (at_end new.feed.source))
-    → (is_read code ≡ true → ¬ HoldsRecord h.order (held new.feed))
+    → old.format ≡ Some (Pcap h) → Keeps given old.parts.feed new.parts.feed → new.position ≡ old.position → (code ≡ Read) ⊎ (RecordFault h.order (held new.parts.feed) code × EndsFor code (at_end new.parts.feed.source))
+    → (is_read code ≡ true → ¬ HoldsRecord h.order (held new.parts.feed))
     → Stands given before old taken frames → StopsAt given at_end before frames (record { code = code; at = old.position }) new
 StopsAt-record given at_end before taken frames old new h code was keeps position finds short s =
     let right : IsPcap taken h.order h.link_type frames = subst (λ (f : Option Format). HasRead f (section_by old) taken frames) was s.read in
     record {
       front = taken;
-      rest = held new.feed;
+      rest = held new.parts.feed;
       gave = keeps (before ++ taken) s.gave;
       read = capture_read (pcap_capture h.order h.link_type right);
       place = s.position;
       position = position ∙ s.position;
-      fault = record-fault h taken (held new.feed) frames code old.position (at_end new.feed.source) s.position right finds;
-      all = λ failed. inl (record-most h.order h.link_type taken (held new.feed) frames right (short failed));
-      ended = fault-ends code (at_end new.feed.source) finds;
+      fault = record-fault h taken (held new.parts.feed) frames code old.position (at_end new.parts.feed.source) s.position right finds;
+      all = λ failed. inl (record-most h.order h.link_type taken (held new.parts.feed) frames right (short failed));
+      ended = fault-ends code (at_end new.parts.feed.source) finds;
     }
 
 -- where the next record may end past the greatest offset
 pub StopsAt-far : {R : Type 0} (given : R → List ℕ) (at_end : R → Bool) (before taken : List ℕ) (frames : List Frame) (old new : CaptureReader R) (h : PcapHeader)
-    → old.format ≡ Some (Pcap h) → Keeps given old.feed new.feed → new.position ≡ old.position → IsFar new
+    → old.format ≡ Some (Pcap h) → Keeps given old.parts.feed new.parts.feed → new.position ≡ old.position → IsFar new
     → Stands given before old taken frames → StopsAt given at_end before frames (record { code = Read; at = old.position }) new
 StopsAt-far given at_end before taken frames old new h was keeps position far s = record {
   front = taken;
-  rest = held new.feed;
+  rest = held new.parts.feed;
   gave = keeps (before ++ taken) s.gave;
   read = capture_read (pcap_capture h.order h.link_type (subst (λ (f : Option Format). HasRead f (section_by old) taken frames) was s.read));
   place = s.position;
@@ -142,26 +143,26 @@ StopsAt-far given at_end before taken frames old new h was keeps position far s 
 
 -- a fault of the front, or a failure there
 pub StopsAt-front : {R : Type 0} (given : R → List ℕ) (at_end : R → Bool) (before taken : List ℕ) (frames : List Frame) (old new : CaptureReader R) (code : CaptureCode)
-    → old.format ≡ None → Keeps given old.feed new.feed → new.position ≡ old.position → FindsHeader (held new.feed) (at_end new.feed.source) (Err code)
-    → (is_read code ≡ true → length (held new.feed) < 24)
+    → old.format ≡ None → Keeps given old.parts.feed new.parts.feed → new.position ≡ old.position → FindsHeader (held new.parts.feed) (at_end new.parts.feed.source) (Err code)
+    → (is_read code ≡ true → length (held new.parts.feed) < 24)
     → Stands given before old taken frames → StopsAt given at_end before frames (record { code = code; at = 0 }) new
 StopsAt-front given at_end before taken frames old new code was keeps position finds short s =
     let none : HasRead None (section_by old) taken frames = subst (λ (f : Option Format). HasRead f (section_by old) taken frames) was s.read in
     record {
       front = taken;
-      rest = held new.feed;
+      rest = held new.parts.feed;
       gave = keeps (before ++ taken) s.gave;
       read = nothing_read none.0 none.1;
       place = sym (ap length none.0);
       position = position ∙ s.position;
-      fault = front-fault taken (held new.feed) frames code (at_end new.feed.source) none.0 none.1 finds;
-      all = λ failed. inl (subst (λ (l : List ℕ). HasNoMore (l ++ held new.feed) frames) (sym none.0) (front-most (held new.feed) frames (short failed)));
-      ended = fault-ends code (at_end new.feed.source) finds;
+      fault = front-fault taken (held new.parts.feed) frames code (at_end new.parts.feed.source) none.0 none.1 finds;
+      all = λ failed. inl (subst (λ (l : List ℕ). HasNoMore (l ++ held new.parts.feed) frames) (sym none.0) (front-most (held new.parts.feed) frames (short failed)));
+      ended = fault-ends code (at_end new.parts.feed.source) finds;
     }
 
 -- the header
 pub Stands-begun : {R : Type 0} (given : R → List ℕ) (before taken : List ℕ) (frames : List Frame) (old new : CaptureReader R) (mid : Feed R) (h : PcapHeader) (at_end : Bool)
-    → old.format ≡ None → new.format ≡ Some (Pcap h) → Keeps given old.feed mid → FindsHeader (held mid) at_end (Ok h) → Takes given mid new.feed (take 24 (held mid)) → new.position ≡ 24
+    → old.format ≡ None → new.format ≡ Some (Pcap h) → Keeps given old.parts.feed mid → FindsHeader (held mid) at_end (Ok h) → Takes given mid new.parts.feed (take 24 (held mid)) → new.position ≡ 24
     → Stands given before old taken frames → Stands given before new (taken ++ take 24 (held mid)) frames
 Stands-begun given before taken frames old new mid h at_end was is keeps finds takes position s =
     let more = take 24 (held mid) in
@@ -171,7 +172,7 @@ Stands-begun given before taken frames old new mid h at_end was is keeps finds t
     let whole : IsPcap (taken ++ more) h.order h.link_type frames =
     subst (λ (l : List ℕ). IsPcap l h.order h.link_type frames) alone (subst (λ (l : List Frame). IsPcap more h.order h.link_type l) (sym none.1) header) in
     record {
-      gave = more-taken given before taken more old.feed mid new.feed keeps takes s.gave;
+      gave = more-taken given before taken more old.parts.feed mid new.parts.feed keeps takes s.gave;
       position = position ∙ sym finds.1.size ∙ ap length alone;
       read = subst (λ (f : Option Format). HasRead f (section_by new) (taken ++ more) frames) (sym is) whole;
     }
@@ -237,7 +238,7 @@ Runs-stopped given coming broken at_end old new e b = record {
 
 -- where only the first bytes of the front were filled in
 pub Begins-behind : {R : Type 0} (given : R → List ℕ) (coming : R → Option (List ℕ)) (broken at_end : R → Bool) (old mid new : CaptureReader R) (result : Result Format CaptureError)
-    → old.format ≡ None → mid.format ≡ old.format → section_by mid ≡ section_by old → mid.position ≡ old.position → mid.refusal ≡ old.refusal → Keeps given old.feed mid.feed
+    → old.format ≡ None → mid.format ≡ old.format → section_by mid ≡ section_by old → mid.position ≡ old.position → mid.refusal ≡ old.refusal → Keeps given old.parts.feed mid.parts.feed
     → Went given coming at_end (source_of old) (source_of mid) → broken (source_of mid) ≡ broken (source_of old)
     → Begins given coming broken at_end mid new result → Begins given coming broken at_end old new result
 Begins-behind given coming broken at_end old mid new result was format section position refusal keeps went marks b = record {
@@ -255,7 +256,7 @@ Begins-behind given coming broken at_end old mid new result was format section p
 -- ---- blocks
 
 pub block-stands : {R : Type 0} (given : R → List ℕ) (before taken : List ℕ) (frames : List Frame) (old mid : CaptureReader R) (passed : List ℕ) (block : Block)
-    → old.format ≡ Some Pcapng → mid.position ≡ old.position → section_by mid ≡ section_by old → Skips given old.feed mid.feed passed → IsFound (Some (section_by old).order) passed (held_by mid) block
+    → old.format ≡ Some Pcapng → mid.position ≡ old.position → section_by mid ≡ section_by old → Skips given old.parts.feed mid.parts.feed passed → IsFound (Some (section_by old).order) passed (held_by mid) block
     → Stands given before old taken frames → StandsAt given before mid taken passed frames (Some (section_by old)) block
 block-stands given before taken frames old mid passed block was position section skips found s = record {
   gave = skips.takes (before ++ taken) s.gave ∙ append_assoc (before ++ taken) passed (held_by mid);
@@ -267,7 +268,7 @@ block-stands given before taken frames old mid passed block was position section
 
 pub block-ends : {R : Type 0} (given : R → List ℕ) (at_end : R → Bool) (before taken : List ℕ) (frames : List Frame) (old new : CaptureReader R) (passed : List ℕ)
     → old.format ≡ Some Pcapng → new.position ≡ old.position → new.format ≡ old.format → section_by new ≡ section_by old → passed ≡ [] → held_by new ≡ [] → at_end (source_of new) ≡ true
-    → Skips given old.feed new.feed passed
+    → Skips given old.parts.feed new.parts.feed passed
     → Stands given before old taken frames → EndsHere given at_end before frames new
 block-ends given at_end before taken frames old new passed was position format section none all ended skips s =
     let are : HasRead (Some Pcapng) (section_by old) taken frames = subst (λ (f : Option Format). HasRead f (section_by old) taken frames) was s.read in

@@ -18,7 +18,7 @@ use Rattle.rip_capture.specs.Pcapng.{AreBlocks, BlockFault, Does, IsBlock, Secti
 use Rattle.rip_capture.specs.Pcapng.AreBlocks.{none as no_blocks, more as more_blocks}
 use Rattle.rip_capture.specs.Pcapng.BlockFault.{ordered}
 use Rattle.rip_capture.specs.Pcapng.OrderedFault.{body as bad_body}
-use Rattle.rip_capture.specs.Spans.{slice_of}
+use Rattle.rip_log.specs.Spans.{slice_of}
 use Rattle.rip_capture.specs.Steps.{BringsAt, StandsAt, TakesBlock, TakesSo, frames_of}
 use Rattle.rip_capture.proofs.BlockLemmas.{front-least, front-most, front-stays, kind-stays, order-one, order-stays, section-stays}
 use Rattle.rip_capture.proofs.BodyLemmas.{block-unread, body-fault-in, does-of, frames-in, range-range, reads-whole}
@@ -39,7 +39,7 @@ use Rattle.rip_capture.specs.declared.link.LinkType.{LinkType}
 use Rattle.rip_capture.specs.declared.numbers.Order.{Order}
 use Rattle.rip_capture.specs.declared.reader.CaptureReader.{CaptureReader}
 use Rattle.rip_capture.specs.declared.reader.Step.{Step}
-use Rattle.rip_capture.specs.declared.span.Span.{Span}
+use Rattle.rip_log.specs.declared.span.Span.{Span}
 
 -- ---- a block that was found
 
@@ -101,7 +101,7 @@ module _ {R : Type 0} (given : R → List ℕ) (before taken passed : List ℕ) 
   first-parts = ap (λ (n : ℕ). take n (passed ++ held_by old)) (sym st.found.size) ∙ take-append-add passed (held_by old) block.held
 
   -- where it was taken
-  pub took : (new : CaptureReader R) (body : Body) (step : Step) → Takes given old.feed new.feed (take block.held (held_by old)) → new.position ≡ old.position + block.len →
+  pub took : (new : CaptureReader R) (body : Body) (step : Step) → Takes given old.parts.feed new.parts.feed (take block.held (held_by old)) → new.position ≡ old.position + block.len →
       section_by new ≡ entered (section_by old) block.order body
       → frames_of new step ≡ frames-in first body → BringsAt (length taken) step → ReadsBody block.order (section_by old).interfaces block.kind (take block.held (held_by old)) (Ok body)
       → TakesBlock given before taken frames new step
@@ -233,7 +233,7 @@ begun taken b frames now are =
 
 module _ {R : Type 0} (given : R → List ℕ) (at_end : R → Bool) (before taken passed : List ℕ) (frames : List Frame) (old mid : CaptureReader R)
     (none : (taken ≡ []) × (frames ≡ [])) (gave : given (source_of old) ≡ before ++ taken ++ held_by old) (position : position_of mid ≡ length taken)
-    (room : 4 ≤ length (held_by old)) (begins : begins_section (held_by old) ≡ true) (skips : Skips given old.feed mid.feed passed) where
+    (room : 4 ≤ length (held_by old)) (begins : begins_section (held_by old) ≡ true) (skips : Skips given old.parts.feed mid.parts.feed passed) where
   abbrev behind : List ℕ
   behind = passed ++ held_by mid
 

@@ -6,7 +6,7 @@ use Rattle.rip_wire.specs.declared.limits.TheConstants.{ENTRY_LEN, HEADER_LEN}
 use Rattle.rip_capture.specs.Passwords.{HasPassword, has_password}
 use Rattle.rip_capture.specs.declared.authentication.TheConstants.{DATA_LEN_AT, DIGEST, ENTRIES_FROM, TRAILER, TRAILER_HEADER}
 use Rattle.rip_capture.specs.declared.password.TheConstants.{AUTHENTICATION}
-use Rattle.rip_capture.specs.declared.span.Span.{Span}
+use Rattle.rip_log.specs.declared.span.Span.{Span}
 
 -- a header and whole entries, at least one, are so many bytes
 pub record IsOfEntries (size : ℕ) : Type 0 where

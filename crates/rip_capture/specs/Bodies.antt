@@ -15,7 +15,7 @@ use Rattle.rip_capture.specs.declared.error.CaptureCode.TheVariants as codes
 use Rattle.rip_capture.specs.declared.limits.TheConstants.{MOST_INTERFACES}
 use Rattle.rip_capture.specs.declared.link.LinkType.{LinkType}
 use Rattle.rip_capture.specs.declared.numbers.Order.{Order}
-use Rattle.rip_capture.specs.declared.span.Span.{Span}
+use Rattle.rip_log.specs.declared.span.Span.{Span}
 
 -- what an open section is
 abbrev pub section_of : OpenSection → Section
@@ -50,11 +50,7 @@ ReadsPacket order interfaces form b (Err codes.Length) =
 ReadsPacket order interfaces form b (Err codes.LinkType) =
     (i : Interface) × (slice_get interfaces (interface_of order form b) ≡ Some i)
     × HasPacketLength order form b i × IsNoType i.link_number
-ReadsPacket order interfaces form b (Err codes.Magic) = ⊥
-ReadsPacket order interfaces form b (Err codes.Cut) = ⊥
-ReadsPacket order interfaces form b (Err codes.Version) = ⊥
-ReadsPacket order interfaces form b (Err codes.OldPacket) = ⊥
-ReadsPacket order interfaces form b (Err codes.Read) = ⊥
+ReadsPacket order interfaces form b (Err other) = ⊥
 
 -- what a block of a kind says
 abbrev pub ReadsBody :

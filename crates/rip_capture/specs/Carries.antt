@@ -2,7 +2,7 @@
 use Rattle.std.specs.Prelude.{◌≡◌, ◌⊎◌, ◌≤◌, ◌+◌, ℕ, List, drop}
 use Rattle.rip_capture.specs.Frames.{Holds}
 use Rattle.rip_capture.specs.Packets.{IpCarries}
-use Rattle.rip_capture.specs.Spans.{IsWithin}
+use Rattle.rip_log.specs.Spans.{IsWithin}
 use Rattle.rip_capture.specs.declared.frame.Network.TheVariants.{Ip, Short, Other}
 use Rattle.rip_capture.specs.declared.limits.TheConstants.{MOST_PAYLOAD}
 use Rattle.rip_capture.specs.declared.link.LinkType.{LinkType}

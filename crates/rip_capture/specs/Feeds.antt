@@ -1,12 +1,9 @@
 -- Where a feed stands in what its source has given.
-use Rattle.std.specs.Prelude.{◌≡◌, ◌⊎◌, ◌<◌, ℕ, Bool, true, List, ◌++◌, length, Result, Ok, Err, slice_range}
+use Rattle.std.specs.Prelude.{◌≡◌, ◌⊎◌, ◌<◌, ℕ, Bool, true, List, ◌++◌, length, Result, Ok, Err}
+use Rattle.rip_log.specs.Feeds.{held}
 use Rattle.rip_capture.specs.declared.error.CaptureCode.{CaptureCode}
 use Rattle.rip_capture.specs.declared.error.CaptureCode.TheVariants.{Cut, Read}
-use Rattle.rip_capture.specs.declared.feed.Feed.{Feed}
-
--- the bytes that were given and nobody has taken
-abbrev pub held : {R : Type 0} → Feed R → List ℕ
-held f = slice_range f.buffer.items f.start f.end
+use Rattle.rip_log.specs.declared.feed.Feed.{Feed}
 
 -- these bytes were taken: they and what is held are what the source has given
 abbrev pub Behind : {R : Type 0} → (R → List ℕ) → Feed R → List ℕ → Type 0

@@ -10,7 +10,7 @@ use Rattle.rip_capture.specs.declared.blocks.BlockKind.{BlockKind}
 use Rattle.rip_capture.specs.declared.blocks.BlockKind.TheVariants as kinds
 use Rattle.rip_capture.specs.declared.blocks.PacketForm.{PacketForm}
 use Rattle.rip_capture.specs.declared.error.CaptureCode.{CaptureCode}
-use Rattle.rip_capture.specs.declared.error.CaptureCode.TheVariants.{Magic, Cut, Version, LinkType as NoLinkType, Length, Interface, OldPacket, Read}
+use Rattle.rip_capture.specs.declared.error.CaptureCode.TheVariants.{Version, LinkType as NoLinkType, Length, OldPacket, Read}
 use Rattle.rip_capture.specs.declared.magic.Magic.{Magic as MagicOf}
 use Rattle.rip_capture.specs.declared.magic.Magic.TheVariants as magics
 use Rattle.rip_capture.specs.declared.limits.TheConstants.{FILE_HEADER, MAGIC_LEN, MOST_CAPTURED, RECORD_HEADER}
@@ -33,12 +33,7 @@ ReadsHeader order b (Ok h) =
     (h.order ≡ order) × IsVersion order b × (number_of h.link_type ≡ link_number order b)
 ReadsHeader order b (Err Version) = ¬ IsVersion order b
 ReadsHeader order b (Err NoLinkType) = IsVersion order b × IsNoType (link_number order b)
-ReadsHeader order b (Err Magic) = ⊥
-ReadsHeader order b (Err Cut) = ⊥
-ReadsHeader order b (Err Length) = ⊥
-ReadsHeader order b (Err Interface) = ⊥
-ReadsHeader order b (Err OldPacket) = ⊥
-ReadsHeader order b (Err Read) = ⊥
+ReadsHeader order b (Err other) = ⊥
 
 -- the header at the front of a file, where at_end says that no bytes come after these
 abbrev pub FindsHeader : List ℕ → Bool → Result PcapHeader CaptureCode → Type 0
@@ -85,12 +80,7 @@ SaysFront order b (Ok says) =
     × (says.1 ≡ block_len order b) × (says.1 < 2 ^ 32)
 SaysFront order b (Err Length) = ¬ HasLength order b
 SaysFront order b (Err OldPacket) = HasLength order b × (kind_of order b ≡ kinds.OldPacket)
-SaysFront order b (Err Magic) = ⊥
-SaysFront order b (Err Cut) = ⊥
-SaysFront order b (Err Version) = ⊥
-SaysFront order b (Err NoLinkType) = ⊥
-SaysFront order b (Err Interface) = ⊥
-SaysFront order b (Err Read) = ⊥
+SaysFront order b (Err other) = ⊥
 
 -- a block, of which these bytes were passed over, and it goes on with b
 pub record IsFound (within : Option Order) (passed b : List ℕ) (block : Block) : Type 0 where

@@ -13,5 +13,4 @@ pub mod Packets
 pub mod Passwords
 pub mod Pcap
 pub mod Pcapng
-pub mod Spans
 pub mod Steps

@@ -4,7 +4,7 @@ use Rattle.rip_log.specs.Wholes.{Went}
 use Rattle.rip_capture.specs.Bodies.{section_of}
 use Rattle.rip_capture.specs.Captures.{CaptureFault, HasNoMore, IsCapture, IsNext, IsRead}
 use Rattle.rip_capture.specs.Codes.{EndsFor, is_read}
-use Rattle.rip_capture.specs.Feeds.{held}
+use Rattle.rip_log.specs.Feeds.{held}
 use Rattle.rip_capture.specs.Finds.{HoldsPacketBlock}
 use Rattle.rip_capture.specs.Pcap.{Frame, HoldsRecord, IsPcap}
 use Rattle.rip_capture.specs.Pcapng.{AreBlocks, Section}
@@ -16,11 +16,11 @@ use Rattle.rip_capture.specs.declared.reader.Packet.{Packet}
 
 -- the source beneath
 abbrev pub source_of : {R : Type 0} → CaptureReader R → R
-source_of reader = reader.feed.source
+source_of reader = reader.parts.feed.source
 
 -- the bytes that the source gave and that were not taken
 abbrev pub held_by : {R : Type 0} → CaptureReader R → List ℕ
-held_by reader = held reader.feed
+held_by reader = held reader.parts.feed
 
 -- how many bytes of the file were taken
 abbrev pub position_of : {R : Type 0} → CaptureReader R → ℕ

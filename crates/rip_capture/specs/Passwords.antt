@@ -2,7 +2,7 @@
 use Rattle.std.specs.Prelude.{◌≡◌, ◌≤◌, ℕ, ◌-◌, ◌==◌, ◌&&◌, nat_le, if◌then◌else◌, Bool, List, ◌++◌, length, take, drop, min, replicate}
 use Rattle.rip_wire.specs.Fields.{number_at}
 use Rattle.rip_capture.specs.declared.password.TheConstants.{AUTHENTICATION, PASSWORD, PASSWORD_FROM, PASSWORD_TO}
-use Rattle.rip_capture.specs.declared.span.Span.{Span}
+use Rattle.rip_log.specs.declared.span.Span.{Span}
 
 -- the first entry says that a password follows
 pub record HasPassword (d : List ℕ) : Type 0 where

@@ -1,12 +1,13 @@
 -- What the parts of a call of `next` do.
-use Rattle.std.specs.Prelude.{◌≡◌, ◌≢◌, ◌⊎◌, ◌<◌, ◌^◌, ◌++◌, ℕ, Bool, false, List, [], ◌∷◌, Option, Some, None, Result, Ok, Err, IfOk, IfSome, length, vec_len}
+use Rattle.std.specs.Prelude.{◌≡◌, ◌≢◌, ◌⊎◌, ◌<◌, ◌^◌, ◌++◌, ℕ, Bool, false, List, [], ◌∷◌, Option, Some, None, Result, Ok, Err, IfOk, IfSome, length}
 use Rattle.rip_capture.specs.Captures.{IsNext}
 use Rattle.rip_capture.specs.Codes.{is_read}
 use Rattle.rip_capture.specs.Finds.{IsFound}
 use Rattle.rip_capture.specs.NextCall.{EndsHere, HoldsPacket, IsFar, IsOver, Moves, Stands, StopsAt, held_by, position_of, refusal_of, section_by, source_of}
 use Rattle.rip_capture.specs.Pcap.{Frame}
 use Rattle.rip_capture.specs.Pcapng.{AreBlocks, BlockFault, Section, order_of}
-use Rattle.rip_capture.specs.Spans.{IsWithin, slice_of}
+use Rattle.rip_log.specs.Feeds.{room}
+use Rattle.rip_log.specs.Spans.{IsWithin, slice_of}
 use Rattle.rip_capture.specs.declared.blocks.Block.{Block}
 use Rattle.rip_capture.specs.declared.error.CaptureCode.TheVariants.{Cut, Read}
 use Rattle.rip_capture.specs.declared.error.CaptureError.{CaptureError}
@@ -20,7 +21,7 @@ use Rattle.rip_capture.specs.declared.reader.Step.TheVariants.{Packet, Passed}
 -- what a found packet is in its file
 abbrev pub frame_at : {R : Type 0} → CaptureReader R → Found → Frame
 frame_at reader found =
-    record { link_type = found.link_type; bytes = slice_of reader.feed.buffer.items found.bytes }
+    record { link_type = found.link_type; bytes = slice_of reader.parts.feed.buffer.items found.bytes }
 
 -- the offset of its record or block
 abbrev pub place_at : Found → ℕ
@@ -28,7 +29,7 @@ place_at found = found.at
 
 -- the packet lies in the buffer
 abbrev pub IsGood : {R : Type 0} → CaptureReader R → Found → Type 0
-IsGood reader found = IsWithin (vec_len reader.feed.buffer) found.bytes
+IsGood reader found = IsWithin (room reader.parts.feed) found.bytes
 
 -- the packet that a block brought does
 abbrev pub IsGoodStep : {R : Type 0} → CaptureReader R → Step → Type 0

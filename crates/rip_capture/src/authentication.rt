@@ -2,13 +2,13 @@
 
 ghost use Rattle.std.specs.Prelude.{◌≡◌, ◌++◌, ◌≤◌, IfSome, MatchOption, is_some, length, take};
 ghost use Rattle.rip_capture.specs.Authentication.{AreEntries, IsAuthenticated, has_authentication, has_keyed_digest, has_text_password, has_trailer, is_of_entries, trailer_at, without_authentication};
-ghost use Rattle.rip_capture.specs.Spans.{IsWithin, slice_of};
+ghost use Rattle.rip_log.specs.Spans.{IsWithin, slice_of};
 ghost use Rattle.rip_capture.specs.declared.authentication.TheConstants.{ENTRIES_FROM};
 ghost use Rattle.rip_wire.specs.declared.limits.TheConstants.{HEADER_LEN};
 
 use crate::numbers::u16_at;
 use crate::password::{AUTHENTICATION, password_in};
-use crate::span::Span;
+use rip_log::Span;
 use rip_wire::{ENTRY_LEN, HEADER_LEN};
 
 /// The type of a keyed digest (RFC 2082, section 3.2).

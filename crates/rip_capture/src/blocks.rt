@@ -4,14 +4,15 @@ ghost use Rattle.std.specs.Prelude.{◌≡◌, ◌≢◌, ◌+◌, ◌≤◌, �
 ghost use Rattle.rip_log.specs.Wholes.{Went};
 ghost use Rattle.rip_wire.specs.Fields.{number_at};
 ghost use Rattle.rip_capture.specs.Codes.{is_unread};
-ghost use Rattle.rip_capture.specs.Feeds.{Extends, held, Keeps, Skips};
+ghost use Rattle.rip_log.specs.Feeds.{held};
+ghost use Rattle.rip_capture.specs.Feeds.{Extends, Keeps, Skips};
 ghost use Rattle.rip_capture.specs.Finds.{FindsBlock, FindsNextBlock, FindsNextOrder, FindsOrder, HoldsBlock, HoldsWhole, SaysFront};
 ghost use Rattle.rip_capture.specs.Pcapng.{HasLength, HasOrder, begins_section, block_len, front_len, is_read_whole, kind_numbered, kind_of, least_len, order_number};
 
 use crate::error::CaptureCode;
-use crate::feed::Feed;
 use crate::limits::{BLOCK_FRONT, MOST_BLOCK, SECTION, SECTION_FRONT};
 use crate::numbers::{Order, number_in, u32_at};
+use crate::parts::Parts;
 use rip_log::Source;
 
 /// How a packet stands in its block.
@@ -147,41 +148,44 @@ fn block_front(order: Order, bytes: &[u8]) -> Result<(BlockKind, usize), Capture
 }
 
 /// The byte order of a block that begins a section, whose front is then held.
-fn section_order<R: Source>(feed: &mut Feed<R>) -> Result<Order, CaptureCode>
-    requires begun { 4 ≤ length (held feed.old) }
-    requires section { begins_section (held feed.old) ≡ true }
-    ensures keeps { Keeps R.given feed.old feed.new }
-    ensures held { Extends (held feed.old) (held feed.new) }
-    ensures went { Went R.given R.coming R.at_end feed.old.source feed.new.source }
+fn section_order<R: Source>(parts: &mut Parts<R>) -> Result<Order, CaptureCode>
+    requires begun { 4 ≤ length (held parts.old.feed) }
+    requires section { begins_section (held parts.old.feed) ≡ true }
+    ensures keeps { Keeps R.given parts.old.feed parts.new.feed }
+    ensures held { Extends (held parts.old.feed) (held parts.new.feed) }
+    ensures went { Went R.given R.coming R.at_end parts.old.feed.source parts.new.feed.source }
     ensures found { (within : Option Order) →
-        FindsOrder within (held feed.new) (R.at_end feed.new.source) result }
-    ensures failed { is_unread result ≡ true → R.broken feed.new.source ≡ true }
+        FindsOrder within (held parts.new.feed) (R.at_end parts.new.feed.source) result }
+    ensures failed { is_unread result ≡ true → R.broken parts.new.feed.source ≡ true }
     ensures marks { is_unread result ≡ false →
-        R.broken feed.new.source ≡ R.broken feed.old.source }
-    ensures ready { SECTION_FRONT ≤ length (held feed.old) → feed.new ≡ feed.old }
+        R.broken parts.new.feed.source ≡ R.broken parts.old.feed.source }
+    ensures ready { SECTION_FRONT ≤ length (held parts.old.feed) → parts.new.feed ≡ parts.old.feed }
 {
-    feed.hold(SECTION_FRONT)?;
-    order_in(feed.held()).ok_or(CaptureCode::Version)
+    parts.hold(SECTION_FRONT)?;
+    order_in(parts.feed.held()).ok_or(CaptureCode::Version)
 }
 
 /// The byte order of the next block in a section of this order, whose front is then held; or that
 /// there is none.
-fn next_order<R: Source>(feed: &mut Feed<R>, within: Order) -> Result<Option<Order>, CaptureCode>
-    ensures keeps { Keeps R.given feed.old feed.new }
-    ensures held { Extends (held feed.old) (held feed.new) }
-    ensures went { Went R.given R.coming R.at_end feed.old.source feed.new.source }
-    ensures found { FindsNextOrder (Some within) (held feed.new) (R.at_end feed.new.source) result }
-    ensures failed { is_unread result ≡ true → R.broken feed.new.source ≡ true }
+fn next_order<R: Source>(parts: &mut Parts<R>, within: Order) -> Result<Option<Order>, CaptureCode>
+    ensures keeps { Keeps R.given parts.old.feed parts.new.feed }
+    ensures held { Extends (held parts.old.feed) (held parts.new.feed) }
+    ensures went { Went R.given R.coming R.at_end parts.old.feed.source parts.new.feed.source }
+    ensures found { FindsNextOrder (Some within) (held parts.new.feed)
+        (R.at_end parts.new.feed.source) result }
+    ensures failed { is_unread result ≡ true → R.broken parts.new.feed.source ≡ true }
     ensures marks { is_unread result ≡ false →
-        R.broken feed.new.source ≡ R.broken feed.old.source }
-    ensures over { held feed.old ≡ [] → R.at_end feed.old.source ≡ true → result ≡ Ok None }
-    ensures ready { front_len (held feed.old) ≤ length (held feed.old) → feed.new ≡ feed.old }
+        R.broken parts.new.feed.source ≡ R.broken parts.old.feed.source }
+    ensures over { held parts.old.feed ≡ [] → R.at_end parts.old.feed.source ≡ true →
+        result ≡ Ok None }
+    ensures ready { front_len (held parts.old.feed) ≤ length (held parts.old.feed) →
+        parts.new.feed ≡ parts.old.feed }
 {
-    if !feed.hold_next(BLOCK_FRONT)? {
+    if !parts.hold_next(BLOCK_FRONT)? {
         return Ok(None);
     }
-    if begins_section(feed.held()) {
-        Ok(Some(section_order(feed)?))
+    if begins_section(parts.feed.held()) {
+        Ok(Some(section_order(parts)?))
     } else {
         Ok(Some(within))
     }
@@ -189,26 +193,26 @@ fn next_order<R: Source>(feed: &mut Feed<R>, within: Order) -> Result<Option<Ord
 
 /// Fills the buffer with a block that is read.
 fn hold_block<R: Source>(
-    feed: &mut Feed<R>,
+    parts: &mut Parts<R>,
     order: Order,
     kind: BlockKind,
     len: usize,
 ) -> Result<Block, CaptureCode>
-    requires front { front_len (held feed.old) ≤ length (held feed.old) }
-    requires says { SaysFront order (held feed.old) (Ok (kind, len)) }
+    requires front { front_len (held parts.old.feed) ≤ length (held parts.old.feed) }
+    requires says { SaysFront order (held parts.old.feed) (Ok (kind, len)) }
     requires read { is_read_whole kind ≡ true }
-    ensures keeps { Keeps R.given feed.old feed.new }
-    ensures held { Extends (held feed.old) (held feed.new) }
-    ensures went { Went R.given R.coming R.at_end feed.old.source feed.new.source }
-    ensures found { (within : Option Order) → HasOrder within (held feed.old) order →
-        FindsBlock within [] (held feed.new) (R.at_end feed.new.source) result }
-    ensures failed { is_unread result ≡ true → R.broken feed.new.source ≡ true }
+    ensures keeps { Keeps R.given parts.old.feed parts.new.feed }
+    ensures held { Extends (held parts.old.feed) (held parts.new.feed) }
+    ensures went { Went R.given R.coming R.at_end parts.old.feed.source parts.new.feed.source }
+    ensures found { (within : Option Order) → HasOrder within (held parts.old.feed) order →
+        FindsBlock within [] (held parts.new.feed) (R.at_end parts.new.feed.source) result }
+    ensures failed { is_unread result ≡ true → R.broken parts.new.feed.source ≡ true }
     ensures marks { is_unread result ≡ false →
-        R.broken feed.new.source ≡ R.broken feed.old.source }
-    ensures ready { len ≤ length (held feed.old) → feed.new ≡ feed.old }
+        R.broken parts.new.feed.source ≡ R.broken parts.old.feed.source }
+    ensures ready { len ≤ length (held parts.old.feed) → parts.new.feed ≡ parts.old.feed }
 {
-    feed.hold(len)?;
-    if number_in(order, feed.held(), len - 4) as usize != len {
+    parts.hold(len)?;
+    if number_in(order, parts.feed.held(), len - 4) as usize != len {
         return Err(CaptureCode::Length);
     }
     Ok(Block {
@@ -221,25 +225,25 @@ fn hold_block<R: Source>(
 
 /// Passes over a block that is not read, but for its length at its end.
 fn pass_block<R: Source>(
-    feed: &mut Feed<R>,
+    parts: &mut Parts<R>,
     order: Order,
     kind: BlockKind,
     len: usize,
 ) -> Result<Block, CaptureCode>
-    requires front { front_len (held feed.old) ≤ length (held feed.old) }
-    requires says { SaysFront order (held feed.old) (Ok (kind, len)) }
+    requires front { front_len (held parts.old.feed) ≤ length (held parts.old.feed) }
+    requires says { SaysFront order (held parts.old.feed) (Ok (kind, len)) }
     requires read { is_read_whole kind ≡ false }
-    ensures went { Went R.given R.coming R.at_end feed.old.source feed.new.source }
-    ensures found { (passed : List ℕ) × Skips R.given feed.old feed.new passed
-        × ((within : Option Order) → HasOrder within (held feed.old) order →
-        FindsBlock within passed (held feed.new) (R.at_end feed.new.source) result) }
-    ensures failed { is_unread result ≡ true → R.broken feed.new.source ≡ true }
+    ensures went { Went R.given R.coming R.at_end parts.old.feed.source parts.new.feed.source }
+    ensures found { (passed : List ℕ) × Skips R.given parts.old.feed parts.new.feed passed
+        × ((within : Option Order) → HasOrder within (held parts.old.feed) order →
+        FindsBlock within passed (held parts.new.feed) (R.at_end parts.new.feed.source) result) }
+    ensures failed { is_unread result ≡ true → R.broken parts.new.feed.source ≡ true }
     ensures marks { is_unread result ≡ false →
-        R.broken feed.new.source ≡ R.broken feed.old.source }
+        R.broken parts.new.feed.source ≡ R.broken parts.old.feed.source }
 {
-    feed.skip(len - 4)?;
-    feed.hold(4)?;
-    if number_in(order, feed.held(), 0) as usize != len {
+    parts.skip(len - 4)?;
+    parts.hold(4)?;
+    if number_in(order, parts.feed.held(), 0) as usize != len {
         return Err(CaptureCode::Length);
     }
     Ok(Block {
@@ -251,41 +255,41 @@ fn pass_block<R: Source>(
 }
 
 /// A block of which the front is held: fills the buffer with it, or passes over it.
-fn rest_of_block<R: Source>(feed: &mut Feed<R>, order: Order) -> Result<Block, CaptureCode>
-    requires front { front_len (held feed.old) ≤ length (held feed.old) }
-    ensures went { Went R.given R.coming R.at_end feed.old.source feed.new.source }
-    ensures found { (passed : List ℕ) × Skips R.given feed.old feed.new passed
-        × ((within : Option Order) → HasOrder within (held feed.old) order →
-        FindsBlock within passed (held feed.new) (R.at_end feed.new.source) result) }
-    ensures failed { is_unread result ≡ true → R.broken feed.new.source ≡ true }
+fn rest_of_block<R: Source>(parts: &mut Parts<R>, order: Order) -> Result<Block, CaptureCode>
+    requires front { front_len (held parts.old.feed) ≤ length (held parts.old.feed) }
+    ensures went { Went R.given R.coming R.at_end parts.old.feed.source parts.new.feed.source }
+    ensures found { (passed : List ℕ) × Skips R.given parts.old.feed parts.new.feed passed
+        × ((within : Option Order) → HasOrder within (held parts.old.feed) order →
+        FindsBlock within passed (held parts.new.feed) (R.at_end parts.new.feed.source) result) }
+    ensures failed { is_unread result ≡ true → R.broken parts.new.feed.source ≡ true }
     ensures marks { is_unread result ≡ false →
-        R.broken feed.new.source ≡ R.broken feed.old.source }
-    ensures ready { HoldsWhole order (held feed.old) → feed.new ≡ feed.old }
+        R.broken parts.new.feed.source ≡ R.broken parts.old.feed.source }
+    ensures ready { HoldsWhole order (held parts.old.feed) → parts.new.feed ≡ parts.old.feed }
 {
-    let (kind, len) = match block_front(order, feed.held()) {
+    let (kind, len) = match block_front(order, parts.feed.held()) {
         Ok(says) => says,
         Err(code) => return Err(code),
     };
     if is_read_whole(kind) {
-        hold_block(feed, order, kind, len)
+        hold_block(parts, order, kind, len)
     } else {
-        pass_block(feed, order, kind, len)
+        pass_block(parts, order, kind, len)
     }
 }
 
 /// The block at the front of a file, of which its first four bytes say that it begins a section.
-pub(crate) fn first_block<R: Source>(feed: &mut Feed<R>) -> Result<Block, CaptureCode>
-    requires begun { 4 ≤ length (held feed.old) }
-    requires section { begins_section (held feed.old) ≡ true }
-    ensures went { Went R.given R.coming R.at_end feed.old.source feed.new.source }
-    ensures found { (passed : List ℕ) × Skips R.given feed.old feed.new passed
-        × FindsBlock None passed (held feed.new) (R.at_end feed.new.source) result }
-    ensures failed { is_unread result ≡ true → R.broken feed.new.source ≡ true }
+pub(crate) fn first_block<R: Source>(parts: &mut Parts<R>) -> Result<Block, CaptureCode>
+    requires begun { 4 ≤ length (held parts.old.feed) }
+    requires section { begins_section (held parts.old.feed) ≡ true }
+    ensures went { Went R.given R.coming R.at_end parts.old.feed.source parts.new.feed.source }
+    ensures found { (passed : List ℕ) × Skips R.given parts.old.feed parts.new.feed passed
+        × FindsBlock None passed (held parts.new.feed) (R.at_end parts.new.feed.source) result }
+    ensures failed { is_unread result ≡ true → R.broken parts.new.feed.source ≡ true }
     ensures marks { is_unread result ≡ false →
-        R.broken feed.new.source ≡ R.broken feed.old.source }
+        R.broken parts.new.feed.source ≡ R.broken parts.old.feed.source }
 {
-    match section_order(feed) {
-        Ok(order) => rest_of_block(feed, order),
+    match section_order(parts) {
+        Ok(order) => rest_of_block(parts, order),
         Err(code) => Err(code),
     }
 }
@@ -293,22 +297,25 @@ pub(crate) fn first_block<R: Source>(feed: &mut Feed<R>) -> Result<Block, Captur
 /// The next block in a section of this byte order, which is then held, or all but its length at its
 /// end passed over; or that there is none.
 pub(crate) fn next_block<R: Source>(
-    feed: &mut Feed<R>,
+    parts: &mut Parts<R>,
     within: Order,
 ) -> Result<Option<Block>, CaptureCode>
-    ensures went { Went R.given R.coming R.at_end feed.old.source feed.new.source }
-    ensures found { (passed : List ℕ) × Skips R.given feed.old feed.new passed
-        × FindsNextBlock (Some within) passed (held feed.new) (R.at_end feed.new.source) result }
-    ensures failed { is_unread result ≡ true → R.broken feed.new.source ≡ true }
+    ensures went { Went R.given R.coming R.at_end parts.old.feed.source parts.new.feed.source }
+    ensures found { (passed : List ℕ) × Skips R.given parts.old.feed parts.new.feed passed
+        × FindsNextBlock (Some within) passed (held parts.new.feed)
+        (R.at_end parts.new.feed.source) result }
+    ensures failed { is_unread result ≡ true → R.broken parts.new.feed.source ≡ true }
     ensures marks { is_unread result ≡ false →
-        R.broken feed.new.source ≡ R.broken feed.old.source }
-    ensures over { held feed.old ≡ [] → R.at_end feed.old.source ≡ true → result ≡ Ok None }
-    ensures ready { HoldsBlock (Some within) (held feed.old) → feed.new ≡ feed.old }
+        R.broken parts.new.feed.source ≡ R.broken parts.old.feed.source }
+    ensures over { held parts.old.feed ≡ [] → R.at_end parts.old.feed.source ≡ true →
+        result ≡ Ok None }
+    ensures ready { HoldsBlock (Some within) (held parts.old.feed) →
+        parts.new.feed ≡ parts.old.feed }
 {
-    match next_order(feed, within) {
+    match next_order(parts, within) {
         Err(code) => Err(code),
         Ok(None) => Ok(None),
-        Ok(Some(order)) => match rest_of_block(feed, order) {
+        Ok(Some(order)) => match rest_of_block(parts, order) {
             Ok(block) => Ok(Some(block)),
             Err(code) => Err(code),
         },

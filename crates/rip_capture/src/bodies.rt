@@ -9,8 +9,8 @@ use crate::error::CaptureCode;
 use crate::limits::{MOST_CAPTURED, MOST_INTERFACES};
 use crate::link::LinkType;
 use crate::numbers::{Order, number_in, short_in};
-use crate::span::Span;
 use arrayvec::ArrayVec;
+use rip_log::Span;
 
 /// What a block says.
 #[derive(Clone, Copy)]

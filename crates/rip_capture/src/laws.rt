@@ -9,12 +9,12 @@ ghost use Rattle.rip_capture.specs.Carries.{Carries};
 ghost use Rattle.rip_capture.specs.NextCall.{HasRead};
 ghost use Rattle.rip_capture.specs.Pcap.{Frame};
 ghost use Rattle.rip_capture.specs.Pcapng.{Section};
-ghost use Rattle.rip_capture.specs.Spans.{slice_of};
+ghost use Rattle.rip_log.specs.Spans.{slice_of};
 ghost use Rattle.rip_capture.specs.declared.error.CaptureCode.{CaptureCode};
 ghost use Rattle.rip_capture.specs.declared.link.LinkType.{LinkType};
 ghost use Rattle.rip_capture.specs.declared.packet.Carried.{Carried};
 ghost use Rattle.rip_capture.specs.declared.reader.Format.{Format};
-ghost use Rattle.rip_capture.specs.declared.span.Span.{Span};
+ghost use Rattle.rip_log.specs.declared.span.Span.{Span};
 ghost use Rattle.rip_wire.specs.declared.limits.TheConstants.{HEADER_LEN};
 
 use crate::authentication::{DATA_LEN_AT, DIGEST, ENTRIES_FROM, TRAILER, TRAILER_HEADER};

@@ -4,13 +4,14 @@ ghost use Rattle.std.specs.Prelude.{◌≡◌, ◌<◌, ◌≤◌, true, false, 
 ghost use Rattle.rip_log.specs.Wholes.{Went};
 ghost use Rattle.rip_capture.specs.Captures.{HasMagic};
 ghost use Rattle.rip_capture.specs.Codes.{is_unread};
-ghost use Rattle.rip_capture.specs.Feeds.{held, Keeps};
+ghost use Rattle.rip_log.specs.Feeds.{held};
+ghost use Rattle.rip_capture.specs.Feeds.{Keeps};
 ghost use Rattle.rip_capture.specs.Finds.{FindsMagic, IsMagicOf};
 
 use crate::error::CaptureCode;
-use crate::feed::Feed;
 use crate::limits::{MAGIC_LEN, SECTION};
 use crate::numbers::{Order, u32_at};
+use crate::parts::Parts;
 use rip_log::Source;
 
 /// What the first four bytes of a file say.
@@ -36,15 +37,15 @@ fn magic_of(bytes: &[u8]) -> Option<Magic>
 }
 
 /// The kind of a file, of which the first four bytes are then held.
-pub(crate) fn next_magic<R: Source>(feed: &mut Feed<R>) -> Result<Magic, CaptureCode>
-    ensures keeps { Keeps R.given feed.old feed.new }
-    ensures went { Went R.given R.coming R.at_end feed.old.source feed.new.source }
-    ensures found { FindsMagic (held feed.new) (R.at_end feed.new.source) result }
-    ensures failed { is_unread result ≡ true → R.broken feed.new.source ≡ true }
-    ensures short { is_unread result ≡ true → length (held feed.new) < MAGIC_LEN }
+pub(crate) fn next_magic<R: Source>(parts: &mut Parts<R>) -> Result<Magic, CaptureCode>
+    ensures keeps { Keeps R.given parts.old.feed parts.new.feed }
+    ensures went { Went R.given R.coming R.at_end parts.old.feed.source parts.new.feed.source }
+    ensures found { FindsMagic (held parts.new.feed) (R.at_end parts.new.feed.source) result }
+    ensures failed { is_unread result ≡ true → R.broken parts.new.feed.source ≡ true }
+    ensures short { is_unread result ≡ true → length (held parts.new.feed) < MAGIC_LEN }
     ensures marks { is_unread result ≡ false →
-        R.broken feed.new.source ≡ R.broken feed.old.source }
+        R.broken parts.new.feed.source ≡ R.broken parts.old.feed.source }
 {
-    feed.hold(MAGIC_LEN)?;
-    magic_of(feed.held()).ok_or(CaptureCode::Magic)
+    parts.hold(MAGIC_LEN)?;
+    magic_of(parts.feed.held()).ok_or(CaptureCode::Magic)
 }

@@ -8,7 +8,7 @@ use crate::frame::{Network, network_of};
 use crate::limits::{GROUP, IP_HEADER, MOST_PAYLOAD, PORT, UDP, UDP_HEADER};
 use crate::link::LinkType;
 use crate::numbers::{u16_at, u32_at};
-use crate::span::Span;
+use rip_log::Span;
 use rip_wire::Address;
 
 /// What a captured packet is to a log: a RIP datagram to 224.0.0.9, of which the sender is told,

@@ -2,10 +2,10 @@
 
 ghost use Rattle.std.specs.Prelude.{◌≡◌, ◌+◌, ◌-◌, ◌≤◌, ◌++◌, drop, length, replicate, take, IfSome, MatchOption, is_some};
 ghost use Rattle.rip_capture.specs.Passwords.{HasPassword, IsPassword, has_password, without_password};
-ghost use Rattle.rip_capture.specs.Spans.{IsWithin};
+ghost use Rattle.rip_log.specs.Spans.{IsWithin};
 
 use crate::numbers::u16_at;
-use crate::span::Span;
+use rip_log::Span;
 
 /// The bytes in front of a password: the header, and the family and the type of the first entry.
 pub(crate) const PASSWORD_FROM: usize = 8;

@@ -3,15 +3,16 @@
 ghost use Rattle.std.specs.Prelude.{◌≡◌, ◌<◌, ◌≤◌, [], Ok, None, true, false, length};
 ghost use Rattle.rip_log.specs.Wholes.{Went};
 ghost use Rattle.rip_capture.specs.Codes.{is_unread};
-ghost use Rattle.rip_capture.specs.Feeds.{held, Keeps};
+ghost use Rattle.rip_log.specs.Feeds.{held};
+ghost use Rattle.rip_capture.specs.Feeds.{Keeps};
 ghost use Rattle.rip_capture.specs.Finds.{FindsHeader, FindsRecord, ReadsHeader};
 ghost use Rattle.rip_capture.specs.Pcap.{HoldsRecord, IsMagic};
 
 use crate::error::CaptureCode;
-use crate::feed::Feed;
 use crate::limits::{FILE_HEADER, MAGIC_LEN, MOST_CAPTURED, RECORD_HEADER};
 use crate::link::LinkType;
 use crate::numbers::{Order, number_in, short_in};
+use crate::parts::Parts;
 use rip_log::Source;
 
 /// What the header of a file says of its records.
@@ -37,45 +38,47 @@ fn read_header(order: Order, bytes: &[u8]) -> Result<PcapHeader, CaptureCode>
 
 /// The header at the front of a file of this order, which is then held whole.
 pub(crate) fn next_header<R: Source>(
-    feed: &mut Feed<R>,
+    parts: &mut Parts<R>,
     order: Order,
 ) -> Result<PcapHeader, CaptureCode>
-    requires begun { MAGIC_LEN ≤ length (held feed.old) }
-    requires magic { IsMagic order (held feed.old) }
-    ensures keeps { Keeps R.given feed.old feed.new }
-    ensures went { Went R.given R.coming R.at_end feed.old.source feed.new.source }
-    ensures found { FindsHeader (held feed.new) (R.at_end feed.new.source) result }
-    ensures failed { is_unread result ≡ true → R.broken feed.new.source ≡ true }
-    ensures short { is_unread result ≡ true → length (held feed.new) < FILE_HEADER }
+    requires begun { MAGIC_LEN ≤ length (held parts.old.feed) }
+    requires magic { IsMagic order (held parts.old.feed) }
+    ensures keeps { Keeps R.given parts.old.feed parts.new.feed }
+    ensures went { Went R.given R.coming R.at_end parts.old.feed.source parts.new.feed.source }
+    ensures found { FindsHeader (held parts.new.feed) (R.at_end parts.new.feed.source) result }
+    ensures failed { is_unread result ≡ true → R.broken parts.new.feed.source ≡ true }
+    ensures short { is_unread result ≡ true → length (held parts.new.feed) < FILE_HEADER }
     ensures marks { is_unread result ≡ false →
-        R.broken feed.new.source ≡ R.broken feed.old.source }
+        R.broken parts.new.feed.source ≡ R.broken parts.old.feed.source }
 {
-    feed.hold(FILE_HEADER)?;
-    read_header(order, feed.held())
+    parts.hold(FILE_HEADER)?;
+    read_header(order, parts.feed.held())
 }
 
 /// How many bytes of a packet the next record has, which is then held whole; or that there is none.
 pub(crate) fn next_record<R: Source>(
-    feed: &mut Feed<R>,
+    parts: &mut Parts<R>,
     order: Order,
 ) -> Result<Option<usize>, CaptureCode>
-    ensures keeps { Keeps R.given feed.old feed.new }
-    ensures went { Went R.given R.coming R.at_end feed.old.source feed.new.source }
-    ensures found { FindsRecord order (held feed.new) (R.at_end feed.new.source) result }
-    ensures failed { is_unread result ≡ true → R.broken feed.new.source ≡ true }
+    ensures keeps { Keeps R.given parts.old.feed parts.new.feed }
+    ensures went { Went R.given R.coming R.at_end parts.old.feed.source parts.new.feed.source }
+    ensures found { FindsRecord order (held parts.new.feed)
+        (R.at_end parts.new.feed.source) result }
+    ensures failed { is_unread result ≡ true → R.broken parts.new.feed.source ≡ true }
     ensures marks { is_unread result ≡ false →
-        R.broken feed.new.source ≡ R.broken feed.old.source }
-    ensures short { is_unread result ≡ true → ¬ HoldsRecord order (held feed.new) }
-    ensures over { held feed.old ≡ [] → R.at_end feed.old.source ≡ true → result ≡ Ok None }
-    ensures ready { HoldsRecord order (held feed.old) → feed.new ≡ feed.old }
+        R.broken parts.new.feed.source ≡ R.broken parts.old.feed.source }
+    ensures short { is_unread result ≡ true → ¬ HoldsRecord order (held parts.new.feed) }
+    ensures over { held parts.old.feed ≡ [] → R.at_end parts.old.feed.source ≡ true →
+        result ≡ Ok None }
+    ensures ready { HoldsRecord order (held parts.old.feed) → parts.new.feed ≡ parts.old.feed }
 {
-    if !feed.hold_next(RECORD_HEADER)? {
+    if !parts.hold_next(RECORD_HEADER)? {
         return Ok(None);
     }
-    let captured = number_in(order, feed.held(), 8) as usize;
+    let captured = number_in(order, parts.feed.held(), 8) as usize;
     if captured > MOST_CAPTURED {
         return Err(CaptureCode::Length);
     }
-    feed.hold(RECORD_HEADER + captured)?;
+    parts.hold(RECORD_HEADER + captured)?;
     Ok(Some(captured))
 }

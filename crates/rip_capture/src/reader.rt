@@ -7,14 +7,13 @@ ghost use Rattle.std.specs.Io.BufRead.{Rests};
 use crate::blocks::{Block, BlockKind, PacketForm, first_block, next_block};
 use crate::bodies::{Body, OpenSection, read_body};
 use crate::error::{CaptureCode, CaptureError};
-use crate::feed::Feed;
 use crate::limits::{FILE_HEADER, MAGIC_LEN, RECORD_HEADER};
 use crate::link::LinkType;
 use crate::magic::{Magic, next_magic};
 use crate::numbers::Order;
+use crate::parts::Parts;
 use crate::pcap::{PcapHeader, next_header, next_record};
-use crate::span::Span;
-use rip_log::Source;
+use rip_log::{Source, Span};
 use std::alloc::{AllocError, Global};
 
 /// A captured packet.
@@ -56,7 +55,7 @@ enum Step {
 /// there are no more packets.
 #[derive(Drop)]
 pub struct CaptureReader<R> {
-    feed: Feed<R>,
+    parts: Parts<R>,
     /// None where the front of the file was not read yet.
     format: Option<Format>,
     /// Where the next block of a pcapng file stands.
@@ -80,9 +79,9 @@ impl<R: Source> CaptureReader<R> {
         ensures running { IfOk result (λ r. refusal_of r ≡ None) }
         ensures refused { IfErr result (λ e. e.1 ≡ source) }
     {
-        match Feed::new(alloc, source) {
-            Ok(feed) => Ok(CaptureReader {
-                feed,
+        match Parts::new(alloc, source) {
+            Ok(parts) => Ok(CaptureReader {
+                parts,
                 format: None,
                 section: OpenSection::new(),
                 position: 0,
@@ -99,10 +98,10 @@ impl<R: Source> CaptureReader<R> {
         requires magic { IsMagic order (held_by self.old) }
         ensures { Begins R.given R.coming R.broken R.at_end self.old self.new result }
     {
-        match next_header(&mut self.feed, order) {
+        match next_header(&mut self.parts, order) {
             Err(code) => Err(CaptureError { code, at: 0 }),
             Ok(header) => {
-                self.feed.take(FILE_HEADER);
+                self.parts.take(FILE_HEADER);
                 self.position = FILE_HEADER as u64;
                 let format = Format::Pcap(header);
                 self.format = Some(format);
@@ -137,11 +136,11 @@ impl<R: Source> CaptureReader<R> {
             return Err(CaptureError { code, at: begin });
         };
         let interfaces = self.section.interfaces.as_slice();
-        let body = match read_body(block, interfaces, &self.feed.held()[..block.held]) {
+        let body = match read_body(block, interfaces, &self.parts.feed.held()[..block.held]) {
             Err(code) => return Err(CaptureError { code, at: begin }),
             Ok(body) => body,
         };
-        let taken = self.feed.take(block.held);
+        let taken = self.parts.take(block.held);
         self.position = position;
         self.section.enter(block.order, body);
         match body {
@@ -167,7 +166,7 @@ impl<R: Source> CaptureReader<R> {
         requires section { begins_section (held_by self.old) ≡ true }
         ensures { Begins R.given R.coming R.broken R.at_end self.old self.new result }
     {
-        let block = match first_block(&mut self.feed) {
+        let block = match first_block(&mut self.parts) {
             Err(code) => return Err(CaptureError { code, at: 0 }),
             Ok(block) => block,
         };
@@ -185,7 +184,7 @@ impl<R: Source> CaptureReader<R> {
         requires { self.old.format ≡ None }
         ensures { Begins R.given R.coming R.broken R.at_end self.old self.new result }
     {
-        match next_magic(&mut self.feed) {
+        match next_magic(&mut self.parts) {
             Err(code) => Err(CaptureError { code, at: 0 }),
             Ok(Magic::Pcap(order)) => self.read_header(order),
             Ok(Magic::Pcapng) => self.read_section(),
@@ -211,7 +210,7 @@ impl<R: Source> CaptureReader<R> {
         ensures good { IfOk result (λ found. IfSome found (IsGood self.new)) }
     {
         let at = self.position;
-        let captured = match next_record(&mut self.feed, header.order) {
+        let captured = match next_record(&mut self.parts, header.order) {
             Err(code) => return Err(CaptureError { code, at }),
             Ok(None) => return Ok(None),
             Ok(Some(captured)) => captured,
@@ -221,7 +220,7 @@ impl<R: Source> CaptureReader<R> {
             let code = CaptureCode::Read;
             return Err(CaptureError { code, at });
         };
-        let taken = self.feed.take(len);
+        let taken = self.parts.take(len);
         self.position = position;
         Ok(Some(Found {
             link_type: header.link_type,
@@ -240,7 +239,7 @@ impl<R: Source> CaptureReader<R> {
         ensures good { IfOk result (λ step. IfSome step (IsGoodStep self.new)) }
     {
         let at = self.position;
-        match next_block(&mut self.feed, self.section.order) {
+        match next_block(&mut self.parts, self.section.order) {
             Err(code) => Err(CaptureError { code, at }),
             Ok(None) => Ok(None),
             Ok(Some(block)) => match self.take_block(block) {
@@ -308,7 +307,7 @@ impl<R: Source> CaptureReader<R> {
     {
         Packet {
             link_type: found.link_type,
-            bytes: self.feed.range(found.bytes),
+            bytes: self.parts.feed.range(found.bytes),
             at: found.at,
         }
     }
@@ -341,6 +340,6 @@ impl<R: Source> CaptureReader<R> {
     pub fn into_source(self) -> R
         ensures { result ≡ source_of self }
     {
-        self.feed.into_source()
+        self.parts.feed.into_source()
     }
 }

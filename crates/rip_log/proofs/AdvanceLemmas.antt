@@ -2,7 +2,7 @@
 use Rattle.std.proofs.Common.{◌≡◌, ◌⊎◌, ◌+◌, ◌<◌, ◌≤◌, ◌∙◌, ℕ, Bool, true, false, not, List, Option, Some, None, Result, Ok, Err, refl, sym, ap, inl, inr, subst, arith}
 use Rattle.std.specs.Option.{option_map}
 use Rattle.rip_log.specs.Advances.{ComesTo, SkipsLines}
-use Rattle.rip_log.specs.Codes.{is_read}
+use Rattle.rip_log.specs.Codes.{code_of, is_read}
 use Rattle.rip_log.specs.Cuts.{DropsFirst, DropsLines, IsEndless, LongFirst, PassesLines}
 use Rattle.rip_log.specs.FoundLines.{said_found}
 use Rattle.rip_log.specs.Lines.{Capture, lines_of}
@@ -60,7 +60,7 @@ module _ {R : Type 0} {t left : Option (List ℕ)} {n before : ℕ} {new : LogRe
   pub said-bad : (found : FoundFault) {after : ℕ} → ComesTo t n before left new (Ok (Some (Bad found))) → before < 1000000 → after ≡ before + 1
       → GivesLine (said_found new) (λ _. after) (said_at n t) (said_at after left) (Ok (Some (Bad found)))
   said-bad found {after} c few count =
-      let says = ap (λ o. Some (bad found.fault.code o)) c.says.3 in
+      let says = ap (λ o. Some (bad (code_of found.fault.why) o)) c.says.3 in
       said-there (said_found new) (λ _. after) (said_at after left) (Ok (Some (Bad found))) c
       (GivesLine-found (said_found new) (λ _. after) c.at left before after c.says.0 _ (Bad found) few c.says.2 says c.says.1 count refl)
 
@@ -148,7 +148,7 @@ many_here e (inr many) calm = many.1
 -- the same of a log, which ends at a bad line
 module _ {R X : Type 0} (view : X → Capture) (number : X → ℕ) {t left : Option (List ℕ)} {n before : ℕ} {new : LogReader R} (fits : n ≤ 1000000) where
   pub log-bad : (end : Option Log) (found : FoundFault) (e : LogError) → ComesTo t n before left new (Ok (Some (Bad found))) → before < 1000000
-      → e.line ≡ before + 1 → e.code ≡ found.fault.code → is_read e.code ≡ false → Gives view number (log_at n t) end (Err e)
+      → e.line ≡ before + 1 → e.code ≡ code_of found.fault.why → is_read e.code ≡ false → Gives view number (log_at n t) end (Err e)
   log-bad end found e c few here code calm =
       let says = ap (λ (k : LogCode). bad k (origin_found new found)) (sym code) in
       subst (λ (a : Option Log). Gives view number a end (Err e)) (sym (log-said_at n t fits))

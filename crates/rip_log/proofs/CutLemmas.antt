@@ -17,33 +17,31 @@ pub range-front : (items : List ℕ) (start end at : ℕ) → start + at ≤ end
 range-front items start end at h =
     take-take at (end - start) (drop start items) (omega arith) ∙ ap (λ n. take n (drop start items)) (omega arith)
 
-pub range-back : (items : List ℕ) (start end at : ℕ) → start + at + 1 ≤ end → drop (suc at) (slice_range items start end) ≡ slice_range items (start + at + 1) end
-range-back items start end at h =
-    let split : end - start ≡ suc at + (end - (start + at + 1)) = omega arith in
-    ap (λ n. drop (suc at) (take n (drop start items))) split
-    ∙ drop-take (suc at) (end - (start + at + 1)) (drop start items)
-    ∙ ap (take (end - (start + at + 1))) (drop-drop (suc at) start items ∙ ap (λ n. drop n items) (omega arith))
+pub range-drop : (items : List ℕ) (start end at : ℕ) → start + at ≤ end → drop at (slice_range items start end) ≡ slice_range items (start + at) end
+range-drop items start end at h =
+    let split : end - start ≡ at + (end - (start + at)) = omega arith in
+    ap (λ n. drop at (take n (drop start items))) split
+    ∙ drop-take at (end - (start + at)) (drop start items)
+    ∙ ap (take (end - (start + at))) (drop-drop at start items)
 
 -- the first bytes, and then the others and what follows
 pub cut-at : (xs ys : List ℕ) (n : ℕ) → xs ++ ys ≡ take n xs ++ (drop n xs ++ ys)
 cut-at xs ys n = ap (λ l. l ++ ys) (sym (take-append-drop n xs)) ∙ append_assoc (take n xs) (drop n xs) ys
 
+-- what is left where a line was taken, and then its line feed
+pub behind-feed : (xs : List ℕ) (at : ℕ) → drop 1 (drop at xs) ≡ drop (suc at) xs
+behind-feed xs at = drop-drop 1 at xs ∙ ap (λ n. drop n xs) {x = at + 1} {y = suc at} (omega arith)
+
 -- a line that a line feed ends
-pub feed-cut : (old left : Option (List ℕ)) (items : List ℕ) (start end at : ℕ) → start ≤ end → end ≤ length items
-    → Keeps old (prepend_known (slice_range items start end) left) → FirstFeed (slice_range items start end) at
-    → FirstLine old (prepend_known (slice_range items (start + at + 1) end) left) (slice_range items start (start + at))
-feed-cut None left items start end at ordered within keeps f = tt
-feed-cut (Some t) None items start end at ordered within keeps f = absurd keeps
-feed-cut (Some t) (Some ys) items start end at ordered within keeps f =
-    let inside : start + at + 1 ≤ end = omega (arith, f.inside, length-range items start end ordered within) in
-    let xs = slice_range items start end in (
-      ap lines_of (sym keeps)
-          ∙ lines_of-feed xs ys at f
-          ∙ ap (λ l. l ∷ lines_of (drop (suc at) xs ++ ys)) (range-front items start end at (omega arith))
-          ∙ ap (λ l. slice_range items start (start + at) ∷ lines_of (l ++ ys)) (range-back items start end at inside),
-      take (suc at) xs,
-      sym keeps ∙ cut-at xs ys (suc at) ∙ ap (λ l. take (suc at) xs ++ (l ++ ys)) (range-back items start end at inside),
-    )
+pub feed-cut : (old left : Option (List ℕ)) (xs line rest : List ℕ) (at : ℕ) → line ≡ take at xs → rest ≡ drop (suc at) xs
+    → Keeps old (prepend_known xs left) → FirstFeed xs at → FirstLine old (prepend_known rest left) line
+feed-cut None left xs line rest at taken behind keeps f = tt
+feed-cut (Some t) None xs line rest at taken behind keeps f = absurd keeps
+feed-cut (Some t) (Some ys) xs line rest at taken behind keeps f = (
+  ap lines_of (sym keeps) ∙ lines_of-feed xs ys at f ∙ ap (λ l. l ∷ lines_of (drop (suc at) xs ++ ys)) (sym taken) ∙ ap (λ l. line ∷ lines_of (l ++ ys)) (sym behind),
+  take (suc at) xs,
+  sym keeps ∙ cut-at xs ys (suc at) ∙ ap (λ l. take (suc at) xs ++ (l ++ ys)) (sym behind),
+)
 
 last-of : (xs : List ℕ) → NoFeedBelow xs (length xs) → 0 < length xs → lines_of xs ≡ xs ∷ []
 last-of [] none some = absurd (omega arith)
@@ -85,9 +83,6 @@ long-cut (Some t) None xs keeps none long = absurd keeps
 long-cut (Some t) (Some ys) xs keeps none long =
     let found = long-front xs ys none long in
     (found.0, found.1, found.2, ap lines_of (sym keeps) ∙ found.3)
-
-pub range-nothing : (items : List ℕ) (n : ℕ) → slice_range items n n ≡ []
-range-nothing items n = ap (λ k. take k (drop n items)) {y = 0} (omega arith)
 
 onto-some : (b : ℕ) (lines : List (List ℕ)) → (line : List ℕ) × (rest : List (List ℕ)) × (onto b lines ≡ line ∷ rest)
 onto-some b [] = (b ∷ [], [], refl)

@@ -1,6 +1,6 @@
 -- What a pull does to the text to come.
 use Rattle.std.proofs.Common.{◌≡◌, ◌+◌, ◌≤◌, ℕ, List, ◌++◌, Option, None, Some, length, take, drop, get_or, sym, ap, ◌∙◌, append_assoc, arith, slice_range, ◌<◌, ◌-◌, inl, inr, eq-eqb, eqb-true}
-use Rattle.std.proofs.lemmas.List.{take-append-drop, take-take, drop-take, get_or-drop, get_or-take, length-drop}
+use Rattle.std.proofs.lemmas.List.{take-append-drop, take-take, drop-take, get_or-drop, get_or_append_left, length-drop}
 use Rattle.std.proofs.lemmas.Slice.{between_from_start}
 use Rattle.std.proofs.lemmas.Bool.{cases_lt}
 use Rattle.memchr.specs.Find.{Nowhere, NoneBefore, Passes, is_byte}
@@ -43,10 +43,10 @@ none-found xs hay seen e before nowhere k inside feed =
     ]
 
 -- what comes behind bytes without a line feed puts none among them
-pub none-among : (old new : List ℕ) (n : ℕ) → n ≡ length old → take (length old) new ≡ old → NoFeedBelow old (length old) → NoFeedBelow new n
-none-among old new n all front none k inside feed =
+pub none-among : (old new more : List ℕ) (n : ℕ) → n ≡ length old → new ≡ old ++ more → NoFeedBelow old (length old) → NoFeedBelow new n
+none-among old new more n all longer none k inside feed =
     let below : k < length old = omega (arith, all, inside) in
-    none k below (ap (λ l. get_or l k 0) (sym front) ∙ get_or-take (length old) new k 0 below ∙ feed)
+    none k below (sym (get_or_append_left old more 0 k below) ∙ ap (λ l. get_or l k 0) (sym longer) ∙ feed)
 
 -- where it finds one, that is the first
 pub first-found : (xs hay : List ℕ) (seen found : ℕ) → hay ≡ drop seen xs → seen ≤ length xs → NoFeedBelow xs seen → NoneBefore (Passes (is_byte 10) hay) 0 (length hay) found →

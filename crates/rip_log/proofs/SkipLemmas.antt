@@ -1,5 +1,5 @@
 -- What passing over a line leaves.
-use Rattle.std.proofs.Common.{◌≡◌, ◌+◌, ◌-◌, ◌≤◌, ◌<◌, ℕ, suc, List, [], ◌∷◌, ◌++◌, Option, Some, None, length, take, drop, slice_range, sym, ap, ◌∙◌, arith, append_assoc, inl, inr}
+use Rattle.std.proofs.Common.{◌≡◌, ◌+◌, ◌-◌, ◌<◌, ℕ, suc, List, [], ◌∷◌, ◌++◌, Option, Some, None, length, take, drop, sym, ap, ◌∙◌, arith, append_assoc, inl, inr}
 use Rattle.std.proofs.lemmas.List.{drop-drop, length-append, get_or_append_left, get_or-append-add}
 use Rattle.std.proofs.lemmas.Bool.{cases_lt}
 use Rattle.std.proofs.Math.Seq.{drop-append_seam, get_or-append_right}
@@ -7,7 +7,7 @@ use Rattle.std.specs.Io.KnownBytes.{Keeps, IsAtEnd, prepend_known}
 use Rattle.rip_log.specs.Lines.{lines_of}
 use Rattle.rip_log.specs.Ends.{NoFeedBelow, FirstFeed}
 use Rattle.rip_log.specs.Cuts.{DropsFirst, IsEndless}
-use Rattle.rip_log.proofs.CutLemmas.{cut-at, last-cut, length-range, range-back}
+use Rattle.rip_log.proofs.CutLemmas.{cut-at, last-cut}
 use Rattle.rip_log.proofs.LineLemmas.{lines_of-feed, lines_of-front}
 
 -- bytes without a line feed, and then others
@@ -34,16 +34,13 @@ drop-behind xs ys k =
     ap (λ n. drop n (xs ++ ys)) {x = suc (length xs + k)} {y = length xs + suc k} (omega arith) ∙ sym (drop-drop (suc k) (length xs) (xs ++ ys)) ∙ ap (drop (suc k)) (drop-append_seam xs ys)
 
 -- a line that a line feed ends, of which some bytes came before what is held
-pub skip-feed : (old left : Option (List ℕ)) (front items : List ℕ) (start end at : ℕ) → start ≤ end → end ≤ length items
-    → Keeps old (prepend_known front (prepend_known (slice_range items start end) left)) → NoFeedBelow front (length front) → FirstFeed (slice_range items start end) at
-    → DropsFirst old (prepend_known (slice_range items (start + at + 1) end) left)
-skip-feed None left front items start end at ordered within keeps none f = ([], tt)
-skip-feed (Some t) None front items start end at ordered within keeps none f = absurd keeps
-skip-feed (Some t) (Some ys) front items start end at ordered within keeps none f =
-    let held = slice_range items start end in
+pub skip-feed : (old left : Option (List ℕ)) (front held rest : List ℕ) (at : ℕ) → rest ≡ drop (suc at) held
+    → Keeps old (prepend_known front (prepend_known held left)) → NoFeedBelow front (length front) → FirstFeed held at → DropsFirst old (prepend_known rest left)
+skip-feed None left front held rest at left_is keeps none f = ([], tt)
+skip-feed (Some t) None front held rest at left_is keeps none f = absurd keeps
+skip-feed (Some t) (Some ys) front held rest at left_is keeps none f =
     let all = front ++ held in
-    let inside : start + at + 1 ≤ end = omega (arith, f.inside, length-range items start end ordered within) in
-    let behind = drop-behind front held at ∙ range-back items start end at inside in
+    let behind = drop-behind front held at ∙ sym left_is in
     let whole : t ≡ all ++ ys = sym keeps ∙ sym (append_assoc front held ys) in (
       take (length front + at) all,
       (

@@ -1,10 +1,12 @@
 -- What a source that went on has given of a whole text.
 use Rattle.std.proofs.Common.{◌≡◌, ℕ, Bool, true, false, List, [], ◌++◌, length, drop, Option, refl, sym, ap, ◌∙◌, append_assoc, append-nil, subst}
-use Rattle.std.specs.Io.KnownBytes.{Consumes, Keeps, IsAtEnd, prepend_known}
+use Rattle.std.specs.Io.KnownBytes.{Consumes, Keeps, IsAtEnd}
 use Rattle.std.proofs.KnownBytes.{Consumes-nil, Consumes-trans, Keeps-trans}
 use Rattle.std.proofs.Math.Seq.{drop-append_seam}
 use Rattle.rip_log.proofs.HeldLemmas.{Keeps-held}
+use Rattle.rip_log.specs.Feeds.{held, text}
 use Rattle.rip_log.specs.Wholes.{Begins, Went, OfWhole, rest_of}
+use Rattle.rip_log.specs.declared.feed.Feed.{Feed}
 
 -- the rest of a whole text behind what was given
 pub rest-is : (whole given left : List ℕ) → whole ≡ given ++ left → drop (length given) whole ≡ left
@@ -50,18 +52,13 @@ module _ {R : Type 0} (given : R → List ℕ) (coming : R → Option (List ℕ)
   none_left whole s end h = rest-is whole (given s) h.left h.split ∙ h.ended end
 
   -- bytes that it gave and that are held stand where they stood
-  pub held_rest : (whole : List ℕ) (a b : R) (held more all : List ℕ) → given b ≡ given a ++ more → Begins whole (given b) (at_end b) → all ≡ held ++ more
-      → Keeps (prepend_known held (rest_of given whole a)) (prepend_known all (rest_of given whole b))
-  held_rest whole a b held more all gave h e = Keeps-held (rest_of given whole a) (rest_of given whole b) held more all (gives_rest whole a b more gave h) e
+  pub held_rest : (old new : Feed R) → ((more : List ℕ) × (given new.source ≡ given old.source ++ more) × (held new ≡ held old ++ more))
+      → OfWhole given at_end new.source (λ coming. Keeps (text coming old) (text coming new))
+  held_rest old new p = λ whole h.
+      Keeps-held (rest_of given whole old.source) (rest_of given whole new.source) (held old) p.0 (held new) (gives_rest whole old.source new.source p.0 p.1 h) p.2
 
-  -- and where none came
-  pub held_kept : (whole : List ℕ) (a b : R) (held all : List ℕ) → given b ≡ given a → Begins whole (given b) (at_end b) → all ≡ held
-      → Keeps (prepend_known held (rest_of given whole a)) (prepend_known all (rest_of given whole b))
-  held_kept whole a b held all gave h e = held_rest whole a b held [] all (gave ∙ sym (append-nil (given a))) h (e ∙ sym (append-nil held))
-
-  -- what stands after one step stands after two
-  pub kept_on : {X : Type 0} (text : (R → Option (List ℕ)) → X → Option (List ℕ)) (source : X → R) (x y z : X) → Went given coming at_end (source y) (source z)
-      → OfWhole given at_end (source y) (λ coming. Keeps (text coming x) (text coming y)) → OfWhole given at_end (source z) (λ coming. Keeps (text coming y) (text coming z))
-      → OfWhole given at_end (source z) (λ coming. Keeps (text coming x) (text coming z))
-  kept_on text source x y z w p q = λ whole h.
-      Keeps-trans (text (rest_of given whole) x) (text (rest_of given whole) y) (text (rest_of given whole) z) (p whole (begins_back whole (source y) (source z) w h)) (q whole h)
+  -- what stood before a pull stands after it
+  pub held_on : (old mid new : Feed R) → Went given coming at_end mid.source new.source → OfWhole given at_end mid.source (λ coming. Keeps (text coming old) (text coming mid))
+      → ((more : List ℕ) × (given new.source ≡ given mid.source ++ more) × (held new ≡ held mid ++ more)) → OfWhole given at_end new.source (λ coming. Keeps (text coming old) (text coming new))
+  held_on old mid new w kept p = λ whole h.
+      Keeps-trans (text (rest_of given whole) old) (text (rest_of given whole) mid) (text (rest_of given whole) new) (kept whole (begins_back whole mid.source new.source w h)) (held_rest mid new p whole h)

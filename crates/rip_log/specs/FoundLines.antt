@@ -1,5 +1,6 @@
 -- The line that was found, good or bad.
 use Rattle.std.specs.Prelude.{None}
+use Rattle.rip_log.specs.Codes.{code_of}
 use Rattle.rip_log.specs.Said.{Said, captured, bad}
 use Rattle.rip_log.specs.Steps.{IsGood, IsGoodFault, capture_at, origin_found}
 use Rattle.rip_log.specs.declared.error.LogCode.TheVariants.{LongLine}
@@ -10,7 +11,7 @@ use Rattle.rip_log.specs.declared.reader.FoundLine.TheVariants.{Record, Bad, Lon
 -- what the line says
 abbrev pub said_found : {R : Type 0} → LogReader R → FoundLine → Said
 said_found reader (Record found) = captured (capture_at reader found)
-said_found reader (Bad found) = bad found.fault.code (origin_found reader found)
+said_found reader (Bad found) = bad (code_of found.fault.why) (origin_found reader found)
 said_found reader Long = bad LongLine None
 
 -- the line lies in the reader

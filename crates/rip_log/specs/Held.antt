@@ -1,16 +1,6 @@
--- The bytes that a window holds and no line has taken, and the text to come.
-use Rattle.std.specs.Prelude.{ℕ, ◌+◌, ◌==◌, nat_lt, if◌then◌else◌, List, [], ◌∷◌, Option, slice_range}
-use Rattle.std.specs.Io.KnownBytes.{prepend_known}
+-- The lines in bytes that are held.
+use Rattle.std.specs.Prelude.{ℕ, ◌+◌, ◌==◌, nat_lt, if◌then◌else◌, List, [], ◌∷◌}
 use Rattle.rip_log.specs.declared.limits.TheConstants.{MOST_LINE_BYTES}
-use Rattle.rip_log.specs.declared.window.Window.{Window}
-
--- the bytes that the window holds and no line has taken
-abbrev pub held : {R : Type 0} → Window R → List ℕ
-held w = slice_range w.buffer.items w.start w.end
-
--- the text to come: what is held, and then what the source still gives
-abbrev pub text : {R : Type 0} → (R → Option (List ℕ)) → Window R → Option (List ℕ)
-text coming w = prepend_known (held w) (coming w.source)
 
 -- the lines that are ready in these bytes, where n more of the first one come before them
 abbrev pub ready_behind : ℕ → List ℕ → ℕ

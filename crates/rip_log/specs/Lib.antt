@@ -3,6 +3,7 @@ pub mod Asked
 pub mod Codes
 pub mod Cuts
 pub mod Ends
+pub mod Feeds
 pub mod Fields
 pub mod FoundLines
 pub mod Gave

@@ -3,7 +3,8 @@ use Rattle.std.specs.Prelude.{◌≡◌, ◌+◌, ◌≤◌, ℕ, Bool, true, fa
 use Rattle.rip_wire.specs.Datagram.{datagram_bytes}
 use Rattle.rip_log.specs.Codes.{is_read}
 use Rattle.rip_log.specs.Cuts.{DropsLines, PassesLines}
-use Rattle.rip_log.specs.Held.{held, ready_lines, text as window_text}
+use Rattle.rip_log.specs.Feeds.{held, text as text_of}
+use Rattle.rip_log.specs.Held.{ready_lines}
 use Rattle.rip_log.specs.Lines.{Capture}
 use Rattle.rip_log.specs.Logs.{Log, log_at, Gives}
 use Rattle.rip_log.specs.Wholes.{OfWhole, Went}
@@ -15,15 +16,15 @@ use Rattle.rip_log.specs.declared.reader.Record.{Record}
 
 -- the source beneath
 abbrev pub source_of : {R : Type 0} → LogReader R → R
-source_of reader = reader.window.source
+source_of reader = reader.window.feed.source
 
 -- the text to come: what is held, and then what the source still gives
 abbrev pub text : {R : Type 0} → (R → Option (List ℕ)) → LogReader R → Option (List ℕ)
-text coming reader = window_text coming reader.window
+text coming reader = text_of coming reader.window.feed
 
 -- the bytes that the source has given and no line has taken
 abbrev pub held_by : {R : Type 0} → LogReader R → List ℕ
-held_by reader = held reader.window
+held_by reader = held reader.window.feed
 
 -- the lines behind the reader
 abbrev pub lines_behind : {R : Type 0} → LogReader R → ℕ
@@ -39,7 +40,7 @@ log_to_come coming reader = log_at (lines_behind reader) (text coming reader)
 
 -- nothing is held, and the source has come to its end
 abbrev pub IsOver : {R : Type 0} → (R → Bool) → LogReader R → Type 0
-IsOver at_end reader = (held reader.window ≡ []) × (at_end (source_of reader) ≡ true)
+IsOver at_end reader = (held reader.window.feed ≡ []) × (at_end (source_of reader) ≡ true)
 
 -- the capture of a record
 abbrev pub capture_of : Record → Capture
@@ -58,7 +59,7 @@ line_asked number new (Err e) = e.line
 
 -- the number of the last line that is ready in what the reader holds, or that is behind it
 abbrev pub last_ready : {R : Type 0} → LogReader R → ℕ
-last_ready reader = lines_behind reader + ready_lines (held reader.window)
+last_ready reader = lines_behind reader + ready_lines (held reader.window.feed)
 
 -- the call failed since the source did
 abbrev pub is_unreadable : {A : Type 0} → Result A LogError → Bool

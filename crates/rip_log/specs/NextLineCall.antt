@@ -4,7 +4,8 @@ use Rattle.std.specs.Option.{option_map}
 use Rattle.rip_log.specs.Codes.{is_read}
 use Rattle.rip_log.specs.Cuts.{PassesLines}
 use Rattle.rip_log.specs.Said.{AllSaid, Origin, Said, captured, bad, all_of, many_lines, nothing_said, onto_said, said_at}
-use Rattle.rip_log.specs.Held.{ended_lines, held}
+use Rattle.rip_log.specs.Feeds.{held}
+use Rattle.rip_log.specs.Held.{ended_lines}
 use Rattle.rip_log.specs.NextCall.{IsOver, capture_of, has_stopped, is_unreadable, line_asked, line_of, lines_behind, source_of, text}
 use Rattle.rip_log.specs.Lines.{lines_of}
 use Rattle.rip_log.specs.Logs.{IfElse}
@@ -37,7 +38,7 @@ number_of (Bad b) = b.line
 
 -- the number of the last line whose line feed the reader holds, or that is behind it
 abbrev pub last_ended : {R : Type 0} → LogReader R → ℕ
-last_ended reader = lines_behind reader + ended_lines (held reader.window)
+last_ended reader = lines_behind reader + ended_lines (held reader.window.feed)
 
 -- what a call takes off what is to be said, where it is modelled: its first line, or its end, good
 -- or by too many lines

@@ -3,6 +3,7 @@ use Rattle.std.specs.Prelude.{◌≡◌, ◌≤◌, ℕ, true, List, Option, Som
 use Rattle.std.specs.Option.{option_map}
 use Rattle.rip_wire.specs.Message.{message_in}
 use Rattle.rip_wire.specs.Name.{is_name}
+use Rattle.rip_log.specs.Codes.{code_of}
 use Rattle.rip_log.specs.Said.{Origin}
 use Rattle.rip_log.specs.Lines.{Capture}
 use Rattle.rip_log.specs.declared.error.LogCode.{LogCode}
@@ -41,8 +42,8 @@ pub record IsFront (line : List ℕ) (front : Front) : Type 0 where
 -- what is said of a line is this fault, and its origin the one that goes with its code
 pub record IsFaulty (said : Result (Option Capture) LogCode) (from : LogCode → Option Origin)
     (line : List ℕ) (fault : Fault) : Type 0 where
-  pub code : said ≡ Err fault.code
-  pub origin : from fault.code ≡ origin_at line fault.front
+  pub code : said ≡ Err (code_of fault.why)
+  pub origin : from (code_of fault.why) ≡ origin_at line fault.front
   pub front : IfSome fault.front (IsFront line)
 
 -- what is said of a line is what the parts and the room say, or this fault

@@ -1,9 +1,10 @@
 -- What one line does to a reader, and the record that is found in it.
-use Rattle.std.specs.Prelude.{◌≡◌, ◌⊎◌, ◌+◌, ◌<◌, ◌≤◌, ℕ, Bool, true, false, List, Option, Some, None, Result, Ok, Err, IfErr, IfSome, is_err, vec_len, length}
+use Rattle.std.specs.Prelude.{◌≡◌, ◌⊎◌, ◌+◌, ◌<◌, ◌≤◌, ℕ, Bool, true, false, List, Option, Some, None, Result, Ok, Err, IfErr, IfSome, is_err, length}
 use Rattle.std.specs.Io.KnownBytes.{Keeps}
-use Rattle.rip_log.specs.Codes.{is_read}
+use Rattle.rip_log.specs.Codes.{code_of, is_read}
 use Rattle.rip_log.specs.Said.{Origin, origin_of}
-use Rattle.rip_log.specs.Held.{ended_lines, held, ready_lines}
+use Rattle.rip_log.specs.Feeds.{held, room}
+use Rattle.rip_log.specs.Held.{ended_lines, ready_lines}
 use Rattle.rip_log.specs.Cuts.{FirstLine, HasLine, LongFirst}
 use Rattle.rip_log.specs.NextCall.{source_of, lines_behind, last_ready, text, has_stopped, is_unreadable}
 use Rattle.rip_log.specs.NextLineCall.{last_ended}
@@ -26,7 +27,7 @@ use Rattle.rip_log.specs.declared.reader.Step.TheVariants.{Skipped, Next}
 
 -- the line of the record
 abbrev pub line_at : {R : Type 0} → LogReader R → FoundRecord → List ℕ
-line_at reader found = slice_of reader.window.buffer.items found.line
+line_at reader found = slice_of reader.window.feed.buffer.items found.line
 
 -- the capture of the record
 abbrev pub capture_at : {R : Type 0} → LogReader R → FoundRecord → Capture
@@ -34,12 +35,12 @@ capture_at reader found = capture_of_parts (line_at reader found) reader.room fo
 
 -- the record lies in the reader
 pub record IsGood {R : Type 0} (reader : LogReader R) (found : FoundRecord) : Type 0 where
-  pub line : IsWithin (vec_len reader.window.buffer) found.line
+  pub line : IsWithin (room reader.window.feed) found.line
   pub parts : AreParts (line_at reader found) reader.room found.parts
 
 -- the line that is bad
 abbrev pub bad_line_at : {R : Type 0} → LogReader R → FoundFault → List ℕ
-bad_line_at reader found = slice_of reader.window.buffer.items found.line
+bad_line_at reader found = slice_of reader.window.feed.buffer.items found.line
 
 -- the origin of a line that is bad
 abbrev pub origin_found : {R : Type 0} → LogReader R → FoundFault → Option Origin
@@ -47,9 +48,8 @@ origin_found reader found = origin_at (bad_line_at reader found) found.fault.fro
 
 -- the bad line lies in the reader
 pub record IsGoodFault {R : Type 0} (reader : LogReader R) (found : FoundFault) : Type 0 where
-  pub line : IsWithin (vec_len reader.window.buffer) found.line
+  pub line : IsWithin (room reader.window.feed) found.line
   pub front : IfSome found.fault.front (IsFront (bad_line_at reader found))
-  pub code : is_read found.fault.code ≡ false
 
 -- a line was taken off known text, and is judged so
 abbrev pub TakesLine : Option (List ℕ) → Option (List ℕ) → Result (Option Capture) LogCode → Type 0
@@ -74,7 +74,7 @@ abbrev pub NextSays : {R : Type 0} → Option (List ℕ) → ℕ → Option (Lis
 NextSays old n left new (Ok (Some (Record found))) =
     TakesLine old left (Ok (Some (capture_at new found)))
 NextSays old n left new (Ok (Some (Bad found))) =
-    TakesBad old left found.fault.code (origin_found new found)
+    TakesBad old left (code_of found.fault.why) (origin_found new found)
 NextSays old n left new (Ok (Some Long)) = LongFirst old × Keeps old left
 NextSays old n left new (Ok None) = Keeps old left × HasLine left false
 NextSays old n left new (Err e) =
@@ -84,7 +84,7 @@ NextSays old n left new (Err e) =
 abbrev pub NextIsGood : {R : Type 0} → LogReader R → Result (Option FoundLine) LogError → Type 0
 NextIsGood new (Ok (Some (Record found))) = IsGood new found
 NextIsGood new (Ok (Some (Bad found))) = IsGoodFault new found
-NextIsGood new (Ok (Some Long)) = 0 < length (held new.window)
+NextIsGood new (Ok (Some Long)) = 0 < length (held new.window.feed)
 NextIsGood new (Ok None) = Unit {0}
 NextIsGood new (Err e) =
     (e.code ≡ Read) ⊎ ((e.code ≡ TooManyLines) × (e.line ≡ MOST_LINES + 1))
@@ -166,7 +166,7 @@ abbrev pub TakesNextEnded : {R : Type 0} → LogReader R → LogReader R →
 TakesNextEnded old new (Ok (Some (Record found))) = last_ended new ≡ last_ended old
 TakesNextEnded old new (Ok (Some (Bad found))) = last_ended new + 1 ≡ last_ended old
 TakesNextEnded old new (Ok (Some Long)) =
-    (last_ended new ≡ last_ended old) × (0 < ended_lines (held new.window))
+    (last_ended new ≡ last_ended old) × (0 < ended_lines (held new.window.feed))
 TakesNextEnded old new (Ok None) = ⊥
 TakesNextEnded old new (Err e) = Unit {0}
 
@@ -181,7 +181,7 @@ pub record StepsOn {R : Type 0} (old new : LogReader R)
     (result : Result Step LogError) : Type 0 where
   pub behind : lines_behind new ≡ lines_behind old + lines_taken result
   pub few : is_line result ≡ true → lines_behind old < MOST_LINES
-  pub unpulled : 0 < ready_lines (held old.window) → source_of new ≡ source_of old
-  pub takes : 0 < ready_lines (held old.window) → TakesOne old new result
-  pub ended : 0 < ended_lines (held old.window) → source_of new ≡ source_of old
-  pub takes_ended : 0 < ended_lines (held old.window) → TakesOneEnded old new result
+  pub unpulled : 0 < ready_lines (held old.window.feed) → source_of new ≡ source_of old
+  pub takes : 0 < ready_lines (held old.window.feed) → TakesOne old new result
+  pub ended : 0 < ended_lines (held old.window.feed) → source_of new ≡ source_of old
+  pub takes_ended : 0 < ended_lines (held old.window.feed) → TakesOneEnded old new result

@@ -3,10 +3,11 @@
 ghost use Rattle.std.specs.Prelude.{◌≡◌, ◌/◌, ◌<◌, ◌≤◌, ◌↔◌, ℕ, List, Ok, Err, false, drop, length, take, MatchResult, IsTrue};
 ghost use Rattle.std.specs.List.{AllPass};
 ghost use Rattle.hex.specs.Hex.{decode_of, is_hex_digit};
+ghost use Rattle.rip_log.specs.Codes.{code_of};
 ghost use Rattle.rip_log.specs.Lines.{bytes_of};
 
 use crate::blocks::decode_blocks;
-use crate::error::LogCode;
+use crate::error::LineFault;
 use rip_wire::MOST_BYTES;
 
 /// The most digits of a datagram: two a byte.
@@ -26,19 +27,19 @@ fn are_digits(text: &[u8]) -> bool
     text.iter().all(|byte| is_digit(*byte))
 }
 
-/// The code for too many digits: Hex if their number is odd or a byte is no digit, else
+/// What is wrong with too many digits: Hex if their number is odd or a byte is no digit, else
 /// LongDatagram.
-fn code_of_long(digits: &[u8]) -> LogCode
+fn fault_of_long(digits: &[u8]) -> LineFault
     requires { MOST_DIGITS < length digits.now }
-    ensures { bytes_of digits.now ≡ Err result }
+    ensures { bytes_of digits.now ≡ Err (code_of result) }
 {
     if digits.len() % 2 == 1 {
-        return LogCode::Hex;
+        return LineFault::Hex;
     }
     if are_digits(digits) {
-        LogCode::LongDatagram
+        LineFault::LongDatagram
     } else {
-        LogCode::Hex
+        LineFault::Hex
     }
 }
 
@@ -58,17 +59,17 @@ pub fn decode_digits(digits: &[u8], room: &mut [u8]) -> bool
 }
 
 /// Writes the bytes of hex digits to the front of the room, and answers how many there are.
-pub(crate) fn decode(digits: &[u8], room: &mut [u8; MOST_BYTES]) -> Result<usize, LogCode>
+pub(crate) fn decode(digits: &[u8], room: &mut [u8; MOST_BYTES]) -> Result<usize, LineFault>
     ensures { MatchResult result
         (λ n. (n ≤ MOST_BYTES) × (bytes_of digits.now ≡ Ok (take n room.new)))
-        (λ code. bytes_of digits.now ≡ Err code) }
+        (λ fault. bytes_of digits.now ≡ Err (code_of fault)) }
 {
     if digits.len() > MOST_DIGITS {
-        return Err(code_of_long(digits));
+        return Err(fault_of_long(digits));
     }
     if decode_digits(digits, room) {
         Ok(digits.len() / 2)
     } else {
-        Err(LogCode::Hex)
+        Err(LineFault::Hex)
     }
 }

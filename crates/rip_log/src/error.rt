@@ -1,5 +1,7 @@
 //! What is wrong with a log.
 
+ghost use Rattle.std.specs.Prelude.{◌≡◌};
+
 use rip_wire::WireError;
 
 /// Why there is no next record, in the numbering that is printed, from 1 on.
@@ -27,6 +29,35 @@ pub enum LogCode {
     Ended,
     /// Memory for the reader was refused.
     Memory,
+}
+
+/// Why a line is bad that is not too long.
+#[derive(Clone, Copy)]
+pub enum LineFault {
+    Fields,
+    LinkName,
+    Sender,
+    Hex,
+    LongDatagram,
+    Wire(WireError),
+}
+
+impl LineFault {
+    ghost use Rattle.rip_log.specs.Codes.{code_of};
+
+    /// Its code.
+    pub fn code(self) -> LogCode
+        ensures { result ≡ code_of self }
+    {
+        match self {
+            LineFault::Fields => LogCode::Fields,
+            LineFault::LinkName => LogCode::LinkName,
+            LineFault::Sender => LogCode::Sender,
+            LineFault::Hex => LogCode::Hex,
+            LineFault::LongDatagram => LogCode::LongDatagram,
+            LineFault::Wire(error) => LogCode::Wire(error),
+        }
+    }
 }
 
 /// Why there is no next record, and the number of the line concerned, or 0 where none is.

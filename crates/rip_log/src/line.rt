@@ -2,6 +2,7 @@
 
 ghost use Rattle.std.specs.Prelude.{◌≡◌, ◌≤◌, [], ◌∷◌, length, Some, None, if◌then◌else◌};
 ghost use Rattle.std.specs.Io.BufRead.{strip_last};
+ghost use Rattle.rip_log.specs.Codes.{code_of};
 ghost use Rattle.rip_log.specs.Fields.{fields_of};
 ghost use Rattle.rip_log.specs.Said.{is_of_datagram, origin_by, origin_of};
 ghost use Rattle.rip_log.specs.Lines.{judge, three_fields, unless_skipped};
@@ -9,7 +10,7 @@ ghost use Rattle.rip_log.specs.Parts.{IsSaid};
 ghost use Rattle.rip_log.specs.Spans.{IsWithin, slice_of};
 
 use crate::digits::decode;
-use crate::error::LogCode;
+use crate::error::LineFault;
 use crate::fields::{Fields, is_field, split};
 use crate::limits::MOST_LINE_BYTES;
 use crate::span::Span;
@@ -34,33 +35,33 @@ pub struct Front {
 /// Why a line is bad, and its front where that is by its datagram alone.
 #[derive(Clone, Copy)]
 pub struct Fault {
-    pub code: LogCode,
+    pub why: LineFault,
     pub front: Option<Front>,
 }
 
-impl From<LogCode> for Fault {
-    ghost from_gives = { λ code fault. fault ≡ record { code = code; front = None } };
+impl From<LineFault> for Fault {
+    ghost from_gives = { λ why fault. fault ≡ record { why = why; front = None } };
 
     /// A fault before the datagram.
-    fn from(code: LogCode) -> Fault {
-        Fault { code, front: None }
+    fn from(why: LineFault) -> Fault {
+        Fault { why, front: None }
     }
 }
 
 impl Fault {
     /// A fault after a good front, which is kept only if the datagram is at fault.
-    fn behind(front: Front, code: LogCode) -> Fault
+    fn behind(front: Front, why: LineFault) -> Fault
         ensures { result ≡ record {
-          code = code;
-          front = if is_of_datagram code then Some front else None;
+          why = why;
+          front = if is_of_datagram (code_of why) then Some front else None;
         } }
     {
-        match code {
-            LogCode::LongDatagram | LogCode::Wire(_) => Fault {
-                code,
+        match why {
+            LineFault::LongDatagram | LineFault::Wire(_) => Fault {
+                why,
                 front: Some(front),
             },
-            _ => Fault { code, front: None },
+            _ => Fault { why, front: None },
         }
     }
 }
@@ -94,21 +95,21 @@ fn judge_fields(
         line.now room.new result }
 {
     if !is_name(&line[link.from..link.to]) {
-        return Err(Fault::from(LogCode::LinkName));
+        return Err(Fault::from(LineFault::LinkName));
     }
     let Some(address) = Address::parse_bytes(&line[sender.from..sender.to]) else {
-        return Err(Fault::from(LogCode::Sender));
+        return Err(Fault::from(LineFault::Sender));
     };
     let front = Front {
         link,
         sender: address,
     };
     let count = match decode(&line[digits.from..digits.to], room) {
-        Err(code) => return Err(Fault::behind(front, code)),
+        Err(why) => return Err(Fault::behind(front, why)),
         Ok(count) => count,
     };
     match read(&room[..count]) {
-        Err(error) => Err(Fault::behind(front, LogCode::Wire(error))),
+        Err(error) => Err(Fault::behind(front, LineFault::Wire(error))),
         Ok(_) => Ok(Some(Parts {
             link,
             sender: address,
@@ -124,12 +125,12 @@ fn judge_bare(bare: &[u8], room: &mut [u8; MOST_BYTES]) -> Result<Option<Parts>,
 {
     match split(bare) {
         Fields::Nothing | Fields::Comment => Ok(None),
-        Fields::TooFew => Err(Fault::from(LogCode::Fields)),
+        Fields::TooFew => Err(Fault::from(LineFault::Fields)),
         Fields::ThreeOrMore(link, sender, rest) => {
             let judged = judge_fields(bare, link, sender, rest, room);
             // Digits have no blank among them, so only a bad line is searched for a fourth field.
             if judged.is_err() && !is_field(&bare[rest.from..rest.to]) {
-                return Err(Fault::from(LogCode::Fields));
+                return Err(Fault::from(LineFault::Fields));
             }
             judged
         }

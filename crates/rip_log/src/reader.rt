@@ -108,7 +108,7 @@ impl<R: Source> LogReader<R> {
     ghost use Rattle.rip_log.specs.Logs.{log_in};
     ghost use Rattle.rip_log.specs.Advances.{Advances};
     ghost use Rattle.rip_log.specs.Steps.{FoundIsGood, IsGood, LineSays, Moves, StepsOn, capture_at};
-    ghost use Rattle.rip_log.specs.Held.{held};
+    ghost use Rattle.rip_log.specs.Feeds.{held};
     ghost use Rattle.rip_log.specs.Wholes.{OfWhole};
 
     /// The error at the line that is being read. From now on there are no more records.
@@ -130,7 +130,7 @@ impl<R: Source> LogReader<R> {
     fn read_line(&mut self) -> Result<Step, LogError>
         requires running { has_stopped self.old ≡ false }
         requires few { lines_behind self.old < MOST_LINES }
-        requires held { 0 < length (held self.old.window) }
+        requires held { 0 < length (held self.old.window.feed) }
         ensures says { OfWhole R.given R.at_end (source_of self.new) (λ coming.
             LineSays coming self.old self.new result) }
         ensures good { FoundIsGood self.new result }
@@ -207,7 +207,7 @@ impl<R: Source> LogReader<R> {
         }
         match self.advance() {
             Ok(Some(FoundLine::Record(found))) => Ok(Some(found)),
-            Ok(Some(FoundLine::Bad(found))) => Err(self.stop(found.fault.code)),
+            Ok(Some(FoundLine::Bad(found))) => Err(self.stop(found.fault.why.code())),
             Ok(Some(FoundLine::Long)) => Err(self.stop(LogCode::LongLine)),
             Ok(None) => Ok(None),
             Err(error) => Err(error),
@@ -288,6 +288,6 @@ impl<R: Source> LogReader<R> {
     pub fn into_source(self) -> R
         ensures { result ≡ source_of self }
     {
-        self.window.into_source()
+        self.window.feed.into_source()
     }
 }

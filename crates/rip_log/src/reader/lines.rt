@@ -56,7 +56,8 @@ pub enum Line<'a> {
 impl<R: Source> LogReader<R> {
     ghost use Rattle.rip_log.specs.contracts.reader.LogReader.{the_row};
     ghost use Rattle.rip_log.specs.Cuts.{DropsFirst, IsEndless};
-    ghost use Rattle.rip_log.specs.Held.{ended_lines, held};
+    ghost use Rattle.rip_log.specs.Feeds.{held};
+    ghost use Rattle.rip_log.specs.Held.{ended_lines};
     ghost use Rattle.rip_log.specs.NextCall.{has_stopped, lines_behind, source_of, text};
     ghost use Rattle.rip_log.specs.NextLineCall.{AnswersLine, KeepsLineMarks, NextLineCall, PullsLine, last_ended, number_of, origin_lent, said_of};
     ghost use Rattle.rip_log.specs.FoundLines.{IsGoodLine, said_found};
@@ -67,7 +68,7 @@ impl<R: Source> LogReader<R> {
     fn pass_long(&mut self) -> Result<(), LogError>
         requires running { has_stopped self.old ≡ false }
         requires few { lines_behind self.old < MOST_LINES }
-        requires held { 0 < length (held self.old.window) }
+        requires held { 0 < length (held self.old.window.feed) }
         ensures passed { OnOk result (OfWhole R.given R.at_end (source_of self.new) (λ coming.
             DropsFirst (text coming self.old) (text coming self.new))) }
         ensures failed { OnErr result (OfWhole R.given R.at_end (source_of self.new) (λ coming.
@@ -82,7 +83,7 @@ impl<R: Source> LogReader<R> {
         ensures stopped { has_stopped self.new ≡ is_err result }
         ensures unpulled { R.at_end (source_of self.old) ≡ true →
             source_of self.new ≡ source_of self.old }
-        ensures ended { 0 < ended_lines (held self.old.window) →
+        ensures ended { 0 < ended_lines (held self.old.window.feed) →
             (result ≡ Ok tt) × (source_of self.new ≡ source_of self.old)
             × (last_ended self.new ≡ last_ended self.old) }
     {
@@ -145,7 +146,7 @@ impl<R: Source> LogReader<R> {
             FoundLine::Record(found) => Line::Record(self.record(found)),
             FoundLine::Bad(found) => Line::Bad(BadLine {
                 line: self.progress.lines,
-                code: found.fault.code,
+                code: found.fault.why.code(),
                 origin: self.origin(found),
             }),
             FoundLine::Long => Line::Bad(BadLine {

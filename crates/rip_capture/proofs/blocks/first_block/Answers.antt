@@ -13,7 +13,7 @@ pub returns-in-Ok-clause-found : goal.returns-in-Ok-clause-found
 returns-in-Ok-clause-found g c =
     let found = c.rest_of_block.ensures.found in (
       found.0,
-      skips-on g.R.Source.given c.args.feed.now c.section_order.new.feed c.rest_of_block.new.feed found.0 c.section_order.ensures.keeps c.section_order.ensures.held found.1,
+      skips-on g.R.Source.given c.args.parts.now.feed c.section_order.new.parts.feed c.rest_of_block.new.parts.feed found.0 c.section_order.ensures.keeps c.section_order.ensures.held found.1,
       found.2 None
           (c.in-Ok.ensures.found None).1,
     )
@@ -21,7 +21,7 @@ returns-in-Ok-clause-found g c =
 pub returns-in-Err-clause-found : goal.returns-in-Err-clause-found
 returns-in-Err-clause-found g c = (
   [],
-  skips-kept g.R.Source.given c.args.feed.now c.args.feed.now c.section_order.new.feed []
-      (skips-none g.R.Source.given c.args.feed.now) c.section_order.ensures.keeps c.section_order.ensures.held,
+  skips-kept g.R.Source.given c.args.parts.now.feed c.args.parts.now.feed c.section_order.new.parts.feed []
+      (skips-none g.R.Source.given c.args.parts.now.feed) c.section_order.ensures.keeps c.section_order.ensures.held,
   c.in-Err.ensures.found None,
 )

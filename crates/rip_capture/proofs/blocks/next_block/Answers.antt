@@ -12,7 +12,7 @@ returns-in-Ok-clause-found g c =
     let found = c.in-Ok.ensures.found in
     let order = rw c.in-Ok-Some.field-0-is at c.in-Ok-Some.ensures.found in (
       found.0,
-      skips-on g.R.Source.given c.args.feed.now c.next_order.new.feed c.rest_of_block.new.feed found.0 c.next_order.ensures.keeps c.next_order.ensures.held found.1,
+      skips-on g.R.Source.given c.args.parts.now.feed c.next_order.new.parts.feed c.rest_of_block.new.parts.feed found.0 c.next_order.ensures.keeps c.next_order.ensures.held found.1,
       found.2
           (Some c.args.within) order.1,
     )
@@ -25,7 +25,7 @@ returns-in-Err-rest_of_block-clause-found g c =
     let found = c.in-Err-rest_of_block.ensures.found in
     let order = rw c.in-Ok-Some.field-0-is at c.in-Ok-Some.ensures.found in (
       found.0,
-      skips-on g.R.Source.given c.args.feed.now c.next_order.new.feed c.rest_of_block.new.feed found.0 c.next_order.ensures.keeps c.next_order.ensures.held found.1,
+      skips-on g.R.Source.given c.args.parts.now.feed c.next_order.new.parts.feed c.rest_of_block.new.parts.feed found.0 c.next_order.ensures.keeps c.next_order.ensures.held found.1,
       found.2
           (Some c.args.within) order.1,
     )
@@ -35,11 +35,11 @@ returns-in-Ok-clause-ready g c = λ h.
     let within = Some c.args.within in
     let first = c.next_order.ensures.ready h.front in
     let order = rw c.in-Ok-Some.field-0-is at c.in-Ok-Some.ensures.found in
-    whole-ready within c.in-Ok-Some.order c.args.feed.now c.next_order.new.feed c.rest_of_block.new.feed h first order.1 c.rest_of_block.ensures.ready
+    whole-ready within c.in-Ok-Some.order c.args.parts.now.feed c.next_order.new.parts.feed c.rest_of_block.new.parts.feed h first order.1 c.rest_of_block.ensures.ready
 
 pub returns-in-Err-rest_of_block-clause-ready : goal.returns-in-Err-rest_of_block-clause-ready
 returns-in-Err-rest_of_block-clause-ready g c = λ h.
     let within = Some c.args.within in
     let first = c.next_order.ensures.ready h.front in
     let order = rw c.in-Ok-Some.field-0-is at c.in-Ok-Some.ensures.found in
-    whole-ready within c.in-Ok-Some.order c.args.feed.now c.next_order.new.feed c.rest_of_block.new.feed h first order.1 c.rest_of_block.ensures.ready
+    whole-ready within c.in-Ok-Some.order c.args.parts.now.feed c.next_order.new.parts.feed c.rest_of_block.new.parts.feed h first order.1 c.rest_of_block.ensures.ready

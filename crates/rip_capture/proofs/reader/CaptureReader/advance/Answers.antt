@@ -8,7 +8,7 @@ returns-in-Err-clause-leaves g c =
     let S = g.R.Source in
     let mid = c.find_packet.new.self in
     let error = c.in-Err.error in
-    let new : CaptureReader g.row.R.Denot = record { feed = mid.feed; format = mid.format; section = mid.section; position = mid.position; refusal = Some error } in
+    let new : CaptureReader g.row.R.Denot = record { parts = mid.parts; format = mid.format; section = mid.section; position = mid.position; refusal = Some error } in
     record {
       runs = λ was. Runs-refused S.given S.coming S.broken S.at_end c.args.self.now mid new error refl c.in-Err.ensures.runs;
       refused = refl;

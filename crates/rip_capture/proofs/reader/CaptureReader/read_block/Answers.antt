@@ -5,7 +5,7 @@ use Rattle.rip_log.specs.Wholes.{Went}
 use Rattle.rip_capture.proofs.ReaderLemmas.{block-ends, block-stands}
 use Rattle.rip_capture.proofs.StepLemmas.{begun, block-stops, held-kind, stops-missing}
 use Rattle.rip_capture.specs.NextCall.{HasRead, HoldsPacket, held_by, section_by}
-use Rattle.rip_capture.specs.declared.feed.Feed.{Feed}
+use Rattle.rip_log.specs.declared.feed.Feed.{Feed}
 use Rattle.rip_capture.specs.declared.reader.CaptureReader.{CaptureReader}
 use Rattle.rip_capture.specs.declared.reader.Format.{Format}
 use Rattle.rip_capture.proofs.reader.CaptureReader.read_block.Goals as goal
@@ -14,7 +14,7 @@ pub returns-in-Err-clause-steps : goal.returns-in-Err-clause-steps
 returns-in-Err-clause-steps g c =
     let S = g.R.Source in
     let old = c.args.self.now in
-    let new : CaptureReader g.row.R.Denot = record { feed = c.next_block.new.feed; format = old.format; section = old.section; position = old.position; refusal = old.refusal } in
+    let new : CaptureReader g.row.R.Denot = record { parts = c.next_block.new.parts; format = old.format; section = old.section; position = old.position; refusal = old.refusal } in
     let found = c.in-Err.ensures.found in
     record {
       goes = λ before taken frames s.
@@ -41,7 +41,7 @@ pub returns-in-Ok-None-clause-steps : goal.returns-in-Ok-None-clause-steps
 returns-in-Ok-None-clause-steps g c =
     let S = g.R.Source in
     let old = c.args.self.now in
-    let new : CaptureReader g.row.R.Denot = record { feed = c.next_block.new.feed; format = old.format; section = old.section; position = old.position; refusal = old.refusal } in
+    let new : CaptureReader g.row.R.Denot = record { parts = c.next_block.new.parts; format = old.format; section = old.section; position = old.position; refusal = old.refusal } in
     let found = rw c.in-Ok-None.field-0-is at c.in-Ok-None.ensures.found in
     let size : length found.0 + length (held_by new) ≡ 0 = sym (length-append found.0 (held_by new)) ∙ ap length found.2.0 in
     let nothing : found.0 ≡ [] = nil_from_length found.0 (omega (arith, size)) in
@@ -66,7 +66,7 @@ pub returns-in-Err-take_block-clause-steps : goal.returns-in-Err-take_block-clau
 returns-in-Err-take_block-clause-steps g c =
     let S = g.R.Source in
     let old = c.args.self.now in
-    let mid : CaptureReader g.row.R.Denot = record { feed = c.next_block.new.feed; format = old.format; section = old.section; position = old.position; refusal = old.refusal } in
+    let mid : CaptureReader g.row.R.Denot = record { parts = c.next_block.new.parts; format = old.format; section = old.section; position = old.position; refusal = old.refusal } in
     let new = c.take_block.new.self in
     let found = rw c.in-Ok-Some.field-0-is at c.in-Ok-Some.ensures.found in
     record {
@@ -75,7 +75,7 @@ returns-in-Err-take_block-clause-steps g c =
           block-stops S.given S.at_end before taken found.0 frames (section_by old) new c.in-Err-take_block.error st.read
           (c.in-Err-take_block.ensures.took before taken found.0 frames (Some (section_by old)) st);
       moves = record {
-        went = subst (λ (s : g.row.R.Denot). Went S.given S.coming S.at_end old.feed.source s) (sym c.take_block.ensures.source) c.next_block.ensures.went;
+        went = subst (λ (s : g.row.R.Denot). Went S.given S.coming S.at_end old.parts.feed.source s) (sym c.take_block.ensures.source) c.next_block.ensures.went;
         failed = λ bad. inr (c.in-Err-take_block.ensures.far bad);
         marks = λ calm. ap S.broken c.take_block.ensures.source ∙ c.in-Ok-Some.ensures.marks refl;
       };
@@ -92,14 +92,14 @@ pub returns-in-Ok-clause-steps : goal.returns-in-Ok-clause-steps
 returns-in-Ok-clause-steps g c =
     let S = g.R.Source in
     let old = c.args.self.now in
-    let mid : CaptureReader g.row.R.Denot = record { feed = c.next_block.new.feed; format = old.format; section = old.section; position = old.position; refusal = old.refusal } in
+    let mid : CaptureReader g.row.R.Denot = record { parts = c.next_block.new.parts; format = old.format; section = old.section; position = old.position; refusal = old.refusal } in
     let new = c.take_block.new.self in
     let found = rw c.in-Ok-Some.field-0-is at c.in-Ok-Some.ensures.found in
     record {
       goes = λ before taken frames s.
           c.in-Ok.ensures.took before taken found.0 frames (Some (section_by old)) (block-stands S.given before taken frames old mid found.0 c.in-Ok-Some.block c.requires refl refl found.1 found.2 s);
       moves = record {
-        went = subst (λ (s : g.row.R.Denot). Went S.given S.coming S.at_end old.feed.source s) (sym c.take_block.ensures.source) c.next_block.ensures.went;
+        went = subst (λ (s : g.row.R.Denot). Went S.given S.coming S.at_end old.parts.feed.source s) (sym c.take_block.ensures.source) c.next_block.ensures.went;
         failed = λ bad. absurd (false≢true bad);
         marks = λ calm. ap S.broken c.take_block.ensures.source ∙ c.in-Ok-Some.ensures.marks refl;
       };

@@ -15,7 +15,7 @@ pub returns-in-Err : goal.returns-in-Err
 returns-in-Err g c =
     let S = g.R.Source in
     let old = c.args.self.now in
-    let new : CaptureReader g.row.R.Denot = record { feed = c.first_block.new.feed; format = old.format; section = old.section; position = old.position; refusal = old.refusal } in
+    let new : CaptureReader g.row.R.Denot = record { parts = c.first_block.new.parts; format = old.format; section = old.section; position = old.position; refusal = old.refusal } in
     let found = c.in-Err.ensures.found in
     record {
       goes = λ before taken frames s.
@@ -35,7 +35,7 @@ pub returns-in-Err-take_block : goal.returns-in-Err-take_block
 returns-in-Err-take_block g c =
     let S = g.R.Source in
     let old = c.args.self.now in
-    let mid : CaptureReader g.row.R.Denot = record { feed = c.first_block.new.feed; format = old.format; section = old.section; position = old.position; refusal = old.refusal } in
+    let mid : CaptureReader g.row.R.Denot = record { parts = c.first_block.new.parts; format = old.format; section = old.section; position = old.position; refusal = old.refusal } in
     let new = c.take_block.new.self in
     let found = c.in-Ok.ensures.found in
     record {
@@ -45,7 +45,7 @@ returns-in-Err-take_block g c =
           front-stops S.given S.at_end before taken found.0 frames old mid none s.gave s.position c.requires.begun c.requires.section found.1 new c.in-Err-take_block.error c.take_block.ensures.source
           (c.in-Err-take_block.ensures.took before [] found.0 [] None st);
       moves = record {
-        went = subst (λ (s : g.row.R.Denot). Went S.given S.coming S.at_end old.feed.source s) (sym c.take_block.ensures.source) c.first_block.ensures.went;
+        went = subst (λ (s : g.row.R.Denot). Went S.given S.coming S.at_end old.parts.feed.source s) (sym c.take_block.ensures.source) c.first_block.ensures.went;
         failed = λ bad. inr (c.in-Err-take_block.ensures.far bad);
         marks = λ calm. ap S.broken c.take_block.ensures.source ∙ c.in-Ok.ensures.marks refl;
       };
@@ -58,7 +58,7 @@ pub returns-in-Ok-take_block : goal.returns-in-Ok-take_block
 returns-in-Ok-take_block g c =
     let S = g.R.Source in
     let old = c.args.self.now in
-    let mid : CaptureReader g.row.R.Denot = record { feed = c.first_block.new.feed; format = old.format; section = old.section; position = old.position; refusal = old.refusal } in
+    let mid : CaptureReader g.row.R.Denot = record { parts = c.first_block.new.parts; format = old.format; section = old.section; position = old.position; refusal = old.refusal } in
     let new = c.take_block.new.self in
     let found = c.in-Ok.ensures.found in
     record {
@@ -71,7 +71,7 @@ returns-in-Ok-take_block g c =
           subst (λ (fs : List Frame). AreBlocks None took.more fs (Some (section_by new))) (ap (frames_of new) passed ∙ sym none.1) took.read in
           (took.more, record { gave = took.gave; position = took.position; read = read });
       moves = record {
-        went = subst (λ (s : g.row.R.Denot). Went S.given S.coming S.at_end old.feed.source s) (sym c.take_block.ensures.source) c.first_block.ensures.went;
+        went = subst (λ (s : g.row.R.Denot). Went S.given S.coming S.at_end old.parts.feed.source s) (sym c.take_block.ensures.source) c.first_block.ensures.went;
         failed = λ bad. absurd (false≢true bad);
         marks = λ calm. ap S.broken c.take_block.ensures.source ∙ c.in-Ok.ensures.marks refl;
       };

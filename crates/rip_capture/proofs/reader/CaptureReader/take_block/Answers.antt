@@ -39,10 +39,10 @@ returns-in-Packet-clause-took g c = λ before taken passed frames s st.
     (rw c.in-Packet.is at c.in-Ok.ensures)) in
     let made : List ℕ → List Frame = λ l. record { link_type = t; bytes = l } ∷ [] in
     took S.given before taken passed frames s old block st
-    (record { feed = c.take-taken.new.self; format = old.format; section = c.enter.new.self; position = c.in-Some.position; refusal = old.refusal }) (says.Packet t span)
+    (record { parts = c.take-taken.new.self; format = old.format; section = c.enter.new.self; position = c.in-Some.position; refusal = old.refusal }) (says.Packet t span)
     (Packet (record { link_type = t; bytes = record { from = c.take-taken.result.from + span.from; to = c.take-taken.result.from + span.to }; at = old.position }))
     c.take-taken.ensures.takes (omega (arith, c.in-Some.ensures)) (rw c.in-Packet.is at c.enter.ensures)
-    (ap made (packet-framed S.given before taken passed frames s old block st c.take-taken.new.self.buffer.items c.take-taken.result t span
+    (ap made (packet-framed S.given before taken passed frames s old block st c.take-taken.new.self.feed.buffer.items c.take-taken.result t span
     (section_by old).interfaces c.take-taken.ensures.lies c.take-taken.ensures.size reads))
     st.position reads
 
@@ -58,7 +58,7 @@ returns-in-Section g c =
     record {
       took = λ before taken passed frames s st.
           took S.given before taken passed frames s old block st
-          (record { feed = c.take-taken.new.self; format = old.format; section = c.enter.new.self; position = c.in-Some.position; refusal = old.refusal }) body Passed
+          (record { parts = c.take-taken.new.self; format = old.format; section = c.enter.new.self; position = c.in-Some.position; refusal = old.refusal }) body Passed
           c.take-taken.ensures.takes (omega (arith, c.in-Some.ensures)) c.enter.ensures (sym (frames-none (take block.len (passed ++ held_by old)) body c.in-Section.is)) tt reads;
       packet = λ form is e. let said = packet-said block.order (section_by old).interfaces
           (take block.held (held_by old)) block.kind form body is reads in no-packet body said.0 said.1 c.in-Section.is said.2;

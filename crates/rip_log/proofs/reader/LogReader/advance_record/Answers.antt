@@ -1,12 +1,13 @@
 use Rattle.std.proofs.Common.{rules, refl, ap, ◌≡◌, ◌+◌, ◌∙◌, false, arith, subst, sym}
 use Rattle.rip_log.specs.Codes.{is_read}
 use Rattle.rip_log.specs.Cuts.{DropsLines}
-use Rattle.rip_log.specs.Held.{text as window_text}
+use Rattle.rip_log.specs.Feeds.{text as text_of}
 use Rattle.rip_log.specs.NextCall.{lines_behind, log_to_come, text}
 use Rattle.rip_log.specs.Steps.{capture_at}
 use Rattle.rip_log.specs.Wholes.{rest_of}
 use Rattle.rip_log.specs.declared.window.Window.{Window}
 use Rattle.rip_log.proofs.AdvanceLemmas as to
+use Rattle.rip_log.proofs.CodeLemmas.{not-read}
 use Rattle.rip_log.proofs.PassLemmas.{calm-refused, drops_none}
 use Rattle.rip_log.proofs.reader.LogReader.advance_record.Goals as goal
 
@@ -21,7 +22,7 @@ returns-then-self-clause-answers g c =
       here = search rules;
       drops = λ whole begins.
           let rest = rest_of S.given whole in
-          subst (λ (w : Window g.row.R.Denot). DropsLines (text rest old) (lines_behind old) (window_text rest w) stop.result.line) (sym stop.ensures.window)
+          subst (λ (w : Window g.row.R.Denot). DropsLines (text rest old) (lines_behind old) (text_of rest w.feed) stop.result.line) (sym stop.ensures.window)
           (drops_none (text rest old) (lines_behind old) stop.result.line (omega (arith, stop.ensures.line)));
       onward = search rules;
       few = search rules;
@@ -54,17 +55,17 @@ returns-in-Ok-Some-Bad-clause-answers g c =
     let to_it = rw c.in-Ok-Some-Bad.field-0-0-is at (rw c.in-Ok-Some-Bad.field-0-is at c.in-Ok-Some-Bad.ensures.comes) in
     let stop = c.stop-in-Ok-Some-Bad in
     let now = stop.new.self in
-    let calm : is_read stop.result.code ≡ false = ap is_read stop.ensures.code ∙ to_it.good.code in
+    let calm : is_read stop.result.code ≡ false = ap is_read (stop.ensures.code ∙ c.code.ensures) ∙ not-read c.in-Ok-Some-Bad.found.fault.why in
     let here : stop.result.line ≡ to_it.before + 1 = omega (arith, stop.ensures.line, to_it.behind) in
     record {
       gives = λ was whole begins.
           to.log-bad (capture_at now) (λ _. lines_behind now) old.progress.few (log_to_come (rest_of S.given whole) now) c.in-Ok-Some-Bad.found stop.result
-          (to_it.comes whole (rw stop.ensures.window at begins)) (to_it.few refl) here stop.ensures.code calm;
+          (to_it.comes whole (rw stop.ensures.window at begins)) (to_it.few refl) here (stop.ensures.code ∙ c.code.ensures) calm;
       passed = λ fine. absurd (calm-refused (is_read stop.result.code) calm fine);
       here = search rules;
       drops = λ whole begins.
           let rest = rest_of S.given whole in
-          subst (λ (w : Window g.row.R.Denot). DropsLines (text rest old) (lines_behind old) (window_text rest w) stop.result.line) (sym stop.ensures.window)
+          subst (λ (w : Window g.row.R.Denot). DropsLines (text rest old) (lines_behind old) (text_of rest w.feed) stop.result.line) (sym stop.ensures.window)
           (to.dropped-bad c.in-Ok-Some-Bad.found stop.result.line (to_it.comes whole (rw stop.ensures.window at begins)) (omega (arith, here)));
       onward = search rules;
       few = search rules;
@@ -89,7 +90,7 @@ returns-in-Ok-Some-Long-clause-answers g c =
       here = search rules;
       drops = λ whole begins.
           let rest = rest_of S.given whole in
-          subst (λ (w : Window g.row.R.Denot). DropsLines (text rest old) (lines_behind old) (window_text rest w) stop.result.line) (sym stop.ensures.window)
+          subst (λ (w : Window g.row.R.Denot). DropsLines (text rest old) (lines_behind old) (text_of rest w.feed) stop.result.line) (sym stop.ensures.window)
           (to.dropped-long stop.result.line (to_it.comes whole (rw stop.ensures.window at begins)) (omega (arith, here)));
       onward = search rules;
       few = search rules;

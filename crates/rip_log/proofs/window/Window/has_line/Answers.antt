@@ -1,28 +1,30 @@
-use Rattle.std.proofs.Common.{arith, length, ◌≡◌, ◌∙◌, ap, Ok, sym}
-use Rattle.std.proofs.lemmas.List.{nil_from_length}
-use Rattle.rip_log.specs.Held.{held}
+use Rattle.std.proofs.Common.{rules, ◌∙◌, ap, Ok, sym}
+use Rattle.rip_log.specs.Feeds.{held}
 use Rattle.rip_log.specs.Wholes.{rest_of}
-use Rattle.rip_log.proofs.CutLemmas.{length-range, HasLine-held, HasLine-none, HasLine-count}
-use Rattle.rip_log.proofs.WholeLemmas.{none_left}
+use Rattle.rip_log.proofs.CutLemmas.{HasLine-held, HasLine-none, HasLine-count}
+use Rattle.rip_log.proofs.WholeLemmas.{held_rest, none_left}
 use Rattle.rip_log.proofs.window.Window.has_line.Goals as goal
 
-pub returns-then-self-clause-some : goal.returns-then-self-clause-some
-returns-then-self-clause-some g c = λ whole begins.
-    let w = c.args.self.now in
-    HasLine-held (held w) (rest_of g.R.Source.given whole w.source) (omega
-    (arith, c.if-self.true, length-range w.buffer.items w.start w.end w.ordered (omega (arith, w.within, w.room, w.buffer.ok.0))))
-
-pub returns-clause-some : goal.returns-clause-some
-returns-clause-some g c = λ whole begins.
-    let w = c.args.self.now in
-    let now = c.refill.new.self in
-    let empty : length (held w) ≡ 0 = omega (arith, c.if-self.false, length-range w.buffer.items w.start w.end w.ordered (omega (arith, w.within, w.room, w.buffer.ok.0))) in
-    HasLine-count (held now) (rest_of g.R.Source.given whole now.source) c.in_ok-count.count (omega (arith, empty, c.in_ok-count.ensures.more))
-    (λ none. none_left g.R.Source.given g.R.Source.coming g.R.Source.at_end whole now.source (c.refill.ensures.ended.1 (c.in_ok-count.was ∙ ap Ok none)) begins)
+pub returns-then-not-is_empty-clause-some : goal.returns-then-not-is_empty-clause-some
+returns-then-not-is_empty-clause-some g c = λ whole begins.
+    let f = c.args.self.now.feed in
+    HasLine-held (held f) (rest_of g.R.Source.given whole f.source) (search rules)
 
 pub returns-then-ended-clause-some : goal.returns-then-ended-clause-some
 returns-then-ended-clause-some g c = λ whole begins.
-    let w = c.args.self.now in
-    let empty : length (held w) ≡ 0 = omega (arith, c.if-self.false, length-range w.buffer.items w.start w.end w.ordered (omega (arith, w.within, w.room, w.buffer.ok.0))) in
-    HasLine-none (held w) (rest_of g.R.Source.given whole w.source) (nil_from_length (held w) empty)
-    (none_left g.R.Source.given g.R.Source.coming g.R.Source.at_end whole w.source (sym c.if-ended.ensures) begins)
+    let S = g.R.Source in
+    let f = c.args.self.now.feed in
+    HasLine-none (held f) (rest_of S.given whole f.source) (search rules) (none_left S.given S.coming S.at_end whole f.source (sym c.if-ended.ensures) begins)
+
+pub returns-in_err-count-clause-text : goal.returns-in_err-count-clause-text
+returns-in_err-count-clause-text g c = let S = g.R.Source in held_rest S.given S.coming S.at_end c.args.self.now.feed c.refill.new.self c.refill.ensures.pulled
+
+pub returns-clause-text : goal.returns-clause-text
+returns-clause-text g c = let S = g.R.Source in held_rest S.given S.coming S.at_end c.args.self.now.feed c.refill.new.self c.refill.ensures.pulled
+
+pub returns-clause-some : goal.returns-clause-some
+returns-clause-some g c = λ whole begins.
+    let S = g.R.Source in
+    let now = c.refill.new.self in
+    HasLine-count (held now) (rest_of S.given whole now.source) c.in_ok-count.count (search rules)
+    (λ none. none_left S.given S.coming S.at_end whole now.source (c.refill.ensures.ended.1 (c.in_ok-count.was ∙ ap Ok none)) begins)

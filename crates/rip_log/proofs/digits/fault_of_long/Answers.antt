@@ -1,7 +1,7 @@
 use Rattle.std.proofs.Common.{arith, sym, ◌∙◌}
 use Rattle.std.proofs.lemmas.Bool.{false≢true}
 use Rattle.rip_log.proofs.DigitLemmas.{bytes_of-odd, bytes_of-long, bytes_of-bad}
-use Rattle.rip_log.proofs.digits.code_of_long.Goals as goal
+use Rattle.rip_log.proofs.digits.fault_of_long.Goals as goal
 
 pub returns-then-digits-eq1 : goal.returns-then-digits-eq1
 returns-then-digits-eq1 c = bytes_of-odd _ c.if-digits-eq1.true
