@@ -7,8 +7,6 @@ use Rattle.rip_wire.specs.declared.entry.Entry.{Entry}
 use Rattle.rip_plan.specs.Network.{Network, number_of_prefix}
 use Rattle.rip_plan.specs.Passes.{same_prefix}
 use Rattle.rip_wire.specs.declared.limits.TheConstants.{MOST_ENTRIES}
-use Rattle.rip_table.specs.declared.error.TableError.{TableError}
-use Rattle.rip_table.specs.declared.error.TableError.TheVariants.{Memory}
 use Rattle.rip_table.specs.State.{IsState, State, is_among}
 use Rattle.rip_table.specs.Numbers.{AreNumbers}
 use Rattle.rip_table.specs.Joined.{joined_entries}
@@ -92,10 +90,10 @@ pub record CanWrite (width i : ℕ) (rows : Rows) (numbers : List (Option ℕ))
   pub cell : i < width
   pub numbered : AreNumbers (heads rows) entries numbers
 
--- writing the entries answers Ok where they were written, and Memory where the rows are as before
-abbrev pub IsWritten : ℕ → List Entry → Rows → Rows → Result (Unit {0}) TableError → Type 0
+-- writing the entries answers Ok where they were written, and an error where the rows are as before
+abbrev pub IsWritten : {E : Type 0} → ℕ → List Entry → Rows → Rows → Result (Unit {0}) E → Type 0
 IsWritten i entries old new (Ok u) = AreWritten i entries old new
-IsWritten i entries old new (Err error) = (error ≡ Memory) × (new ≡ old)
+IsWritten i entries old new (Err refused) = new ≡ old
 
 -- a row of empty cells for each prefix
 abbrev pub planned_rows : ℕ → List Block → Rows

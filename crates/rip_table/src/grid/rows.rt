@@ -1,16 +1,14 @@
 //! Rows of cells, one for each prefix, in a hashed map that keeps their order.
 
-ghost use Rattle.std.specs.Prelude.{◌≡◌, ◌<◌, ◌≤◌, ℕ, Bool, List, [], length, true, Some, None, IfOk, IfErr, OnOk, OnErr, replicate, take};
+ghost use Rattle.std.specs.Prelude.{◌≡◌, ◌<◌, ◌≤◌, ℕ, Bool, List, [], length, true, Some, None, IfOk, OnOk, OnErr, replicate, take};
 ghost use Rattle.indexmap.specs.IndexMap.{index_map_len};
 ghost use Rattle.rip_plan.specs.Network.{number_of_prefix};
-ghost use Rattle.rip_table.specs.declared.error.TableError.TheVariants.{Memory};
 ghost use Rattle.rip_wire.specs.Message.{response};
 ghost use Rattle.rip_table.specs.Joined.{brings_pair};
 ghost use Rattle.rip_table.specs.Numbers.{AreNumbers};
 ghost use Rattle.rip_table.specs.Rows.{AreRowNumbers, CanWrite, IsGrid, IsWritten, cell, grid_state, heads, planned_rows, rows_of, shown_after, with_cell, with_row, with_rows};
 
 use super::cell::Cell;
-use crate::error::TableError;
 use crate::judging::Numbers;
 use indexmap::IndexMap;
 use rip_plan::Plan;
@@ -39,14 +37,13 @@ fn row_at<S: BuildHasher>(
     width: usize,
     number: Option<usize>,
     prefix: Prefix,
-) -> Result<usize, TableError>
+) -> Result<usize, AllocError>
     requires { (k : ℕ) → number ≡ Some k →
         number_of_prefix prefix (heads (rows_of rows.old.entries)) ≡ Some k }
     ensures ok { OnOk result (rows_of rows.new.entries
         ≡ with_row width (rows_of rows.old.entries) prefix) }
     ensures number { IfOk result (λ k.
         number_of_prefix prefix (heads (rows_of rows.new.entries)) ≡ Some k) }
-    ensures memory { IfErr result (λ error. error ≡ Memory) }
     ensures err { OnErr result (rows.new.entries ≡ rows.old.entries) }
 {
     if let Some(k) = number {
@@ -70,7 +67,7 @@ fn grow<S: BuildHasher>(
     numbers: &Numbers,
     entries: &[Entry],
     row_numbers: &mut RowNumbers,
-) -> Result<(), TableError>
+) -> Result<(), AllocError>
     requires few { length entries.now ≤ MOST_ENTRIES }
     requires numbers { AreNumbers (heads (rows_of rows.old.entries)) entries.now numbers.now }
     ensures ok { OnOk result (rows_of rows.new.entries
@@ -96,22 +93,21 @@ fn grow_or_keep<S: BuildHasher>(
     numbers: &Numbers,
     entries: &[Entry],
     row_numbers: &mut RowNumbers,
-) -> Result<(), TableError>
+) -> Result<(), AllocError>
     requires few { length entries.now ≤ MOST_ENTRIES }
     requires numbers { AreNumbers (heads (rows_of rows.old.entries)) entries.now numbers.now }
     ensures ok { OnOk result (rows_of rows.new.entries
         ≡ with_rows width (rows_of rows.old.entries) entries.now) }
     ensures row_numbers { OnOk result
         (AreRowNumbers (rows_of rows.new.entries) entries.now row_numbers.new) }
-    ensures memory { IfErr result (λ error. error ≡ Memory) }
     ensures err { OnErr result (rows_of rows.new.entries ≡ rows_of rows.old.entries) }
 {
     let was = rows.len();
     match grow(alloc, rows, width, numbers, entries, row_numbers) {
         Ok(()) => Ok(()),
-        Err(_) => {
+        Err(refused) => {
             rows.truncate(was);
-            Err(TableError::Memory)
+            Err(refused)
         }
     }
 }
@@ -171,7 +167,7 @@ fn add<S: BuildHasher>(
     interface: usize,
     numbers: &Numbers,
     entries: &[Entry],
-) -> Result<(), TableError>
+) -> Result<(), AllocError>
     requires { CanWrite width interface (rows_of rows.old.entries) numbers.now
         entries.now }
     ensures written { IsWritten interface entries.now (rows_of rows.old.entries)
@@ -194,7 +190,7 @@ pub(crate) fn add_new<S: BuildHasher>(
     numbers: &Numbers,
     entries: &[Entry],
     brings: bool,
-) -> Result<(), TableError>
+) -> Result<(), AllocError>
     requires can { CanWrite width interface (rows_of rows.old.entries) numbers.now
         entries.now }
     requires brings { (heard : List Bool) →
@@ -217,11 +213,10 @@ pub(crate) fn add_planned<S: BuildHasher>(
     alloc: Global,
     rows: &mut Rows<S>,
     plan: &Plan,
-) -> Result<(), TableError>
+) -> Result<(), AllocError>
     requires { rows.old.entries ≡ [] }
     ensures ok { OnOk result (rows_of rows.new.entries
         ≡ planned_rows (length plan.now.interfaces) plan.now.prefixes) }
-    ensures memory { IfErr result (λ error. error ≡ Memory) }
 {
     plan.lawful();
     for k in 0..plan.prefixes() {

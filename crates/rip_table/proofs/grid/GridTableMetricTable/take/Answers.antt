@@ -45,7 +45,7 @@ returns-in_err-add_new g c =
     let checked : AreFaultless c.args.plan.now c.args.interface s es = (c.in_ok-brings.ensures).0 in
     subst (Takes c.args.plan.now c.args.interface s m new) (sym is)
     (allocating c.args.plan.now c.args.interface s m es new message checked (sym (c.in_ok-brings.ensures).1 ∙ c.in_err-add_new.ensures.allocates)
-    (ap (grid_state heard) c.in_err-add_new.ensures.written.1))
+    (ap (grid_state heard) c.in_err-add_new.ensures.written))
     in
     record {
       takes = takes;
