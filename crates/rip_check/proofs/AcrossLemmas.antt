@@ -1,7 +1,7 @@
 -- Loops over the interfaces on one link: what the neighbours there offer.
-use Rattle.std.proofs.Common.{◌≡◌, ◌≢◌, ℕ, ◌+◌, ◌<◌, ◌≤◌, ◌⊎◌, ◌↔◌, inl, inr, List, get_or, length, min, unwrap_or, refl, sym, ◌∙◌, arith}
+use Rattle.std.proofs.Common.{◌≡◌, ◌≢◌, ℕ, ◌+◌, ◌<◌, ◌≤◌, ◌⊎◌, ◌↔◌, zero, suc, inl, inr, List, Option, None, Some, get_or, length, min, slice_get, unwrap_or, refl, sym, ◌∙◌, ap, arith}
 use Rattle.std.specs.List.{Contains}
-use Rattle.std.proofs.lemmas.Bool.{cases_lt}
+use Rattle.std.proofs.lemmas.Bool.{cases_eq, cases_lt}
 use Rattle.std.proofs.lemmas.List.{get_or_default}
 use Rattle.std.proofs.lemmas.List.Elements.{Contains-get_or}
 use Rattle.rip_plan.specs.declared.parts.Interface.{Interface}
@@ -157,3 +157,45 @@ module _ (n : Network) (shown : State) (r l p cost : ℕ) (own : HasCost n r l c
       value = rw has.value at e;
     },
   )
+
+  -- interface j offers v, or does not
+  offered_by : (v j : ℕ) (o : Option Interface) → slice_get n.interfaces j ≡ o →
+      ((s : ℕ) × Offers n shown r l s p v) ⊎ ((s d : ℕ) → IsInterface n j s l d → s ≢ r → v ≡ heard_from shown cost j p → ⊥)
+  offered_by v j None at = inr (λ s d is other e. cc (at, is.listed))
+  offered_by v j (Some x) at =
+      let this : IsInterface n j x.router x.link x.cost = record { interface = x; listed = at; router = refl; link = refl; cost = refl } in
+      elim (cases_eq x.link l) [
+        | inr off ↦ inr (λ s d is other e. off (its_link n j x.router x.link x.cost s l d this is).1)
+        | inl on ↦ elim (cases_eq x.router r) [
+          | inl mine ↦ inr (λ s d is other e. other (sym (its_link n j x.router x.link x.cost s l d this is).0 ∙ mine))
+          | inr other ↦ elim (cases_eq v (heard_from shown cost j p)) [
+            | inr more ↦ inr (λ s d is not_mine e. more e)
+            | inl e ↦ inl (seen_offer j x.router (unwrap_or (metric_at shown j p) 16) v (record { cost = x.cost; its = rw on at this; value = refl }) other e)
+          ]
+        ]
+      ]
+
+  -- some neighbour offers v, or none does
+  pub offered_or_not : IsLawful n → (v : ℕ) → ((s : ℕ) × Offers n shown r l s p v) ⊎ (((s : ℕ) × Offers n shown r l s p v) → ⊥)
+  offered_or_not plan v = elim (below (length n.interfaces)) [
+    | inl o ↦ inl o
+    | inr none ↦ inr (λ o.
+        let h = offer_seen plan o.0 v o.1 in
+        none o.1.interface o.0 o.1.its_cost (within n o.1.interface o.0 l o.1.its_cost o.1.there) o.1.there o.1.neighbour.other (h.2 ∙ ap (λ (w : ℕ). min 16 (cost + w)) h.1.value))
+  ]
+    where
+      below : (k : ℕ) → ((s : ℕ) × Offers n shown r l s p v)
+          ⊎ ((j s d : ℕ) → j < k → IsInterface n j s l d → s ≢ r → v ≡ heard_from shown cost j p → ⊥)
+      below zero = inr (λ j s d lt. absurd (omega (arith, lt)))
+      below (suc k) = elim (below k) [
+        | inl o ↦ inl o
+        | inr none ↦ elim (offered_by v k (slice_get n.interfaces k) refl) [
+          | inl o ↦ inl o
+          | inr here ↦ inr (λ j s d lt is other e. elim (cases_lt j k) [
+            | inl less ↦ none j s d less is other e
+            | inr big ↦
+                let same : j ≡ k = omega arith in
+                here s d (rw same at is) other (rw same at e)
+          ])
+        ]
+      ]

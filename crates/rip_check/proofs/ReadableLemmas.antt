@@ -1,5 +1,5 @@
 -- A place can be read exactly where a route fits.
-use Rattle.std.proofs.Common.{◌≡◌, ℕ, ◌<◌, ◌⊎◌, inl, inr, None, sym, ◌∙◌, length}
+use Rattle.std.proofs.Common.{◌≡◌, ℕ, ◌<◌, ◌≤◌, ◌⊎◌, false, inl, inr, None, sym, ◌∙◌, length}
 use Rattle.rip_plan.specs.Network.{Network}
 use Rattle.rip_plan.specs.Relations.{IsLawful, IsLeaf, HasTwoInterfaces}
 use Rattle.rip_table.specs.State.{State}
@@ -8,7 +8,8 @@ use Rattle.rip_check.proofs.RouteLemmas.{one_route, two_or_leaf, tables_of}
 use Rattle.rip_check.specs.Metrics.{IsInRange}
 use Rattle.rip_check.specs.Firsts.{IsReadable, AreFine}
 use Rattle.rip_check.specs.Settled.{Holds}
-use Rattle.rip_check.specs.Verdicts.{IsSound, ShowsTables}
+use Rattle.rip_check.specs.Verdicts.{IsRead, IsSound, ShowsTables, route_of}
+use Rattle.rip_check.specs.declared.routes.ReadRoute.{ReadRoute}
 use Rattle.rip_check.proofs.LeafRouterLemmas.{leaf_route}
 
 pub two_not_leaf : (n : Network) (r i l c : ℕ) → HasTwoInterfaces n r → IsLeaf n r i l c → ⊥
@@ -18,6 +19,16 @@ module _ (n : Network) (plan : IsLawful n) (shown : State) (range : IsInRange n 
   -- with two interfaces nothing is hidden
   pub two_fits : (r p : ℕ) (t : Route) → HasTwoInterfaces n r → Tells n shown r p t → FitsShown n shown r p t
   two_fits r p t two tells = record { told = tells; hidden = λ i l c leaf. absurd (two_not_leaf n r i l c two leaf) }
+
+  pub two_read : (r p : ℕ) (t : ReadRoute) → r < length n.routers → HasTwoInterfaces n r → t.hidden ≡ false → t.metric ≤ 16 → Tells n shown r p (route_of t) → IsRead n shown r p t
+  two_read r p t at two told most tells =
+      let fits = two_fits r p (route_of t) two tells in
+      record {
+        most = most;
+        fits = fits;
+        hidden = (λ e. cc (e, told), λ is. absurd (two_not_leaf n r is.0 is.1 is.2 two is.3));
+        one = inr (λ u its. one_route n plan shown r p u (route_of t) at (two_fits r p u two its) fits);
+      }
 
   pub fits_readable : (r p : ℕ) (t : Route) → r < length n.routers → FitsShown n shown r p t → IsReadable n shown r p
   fits_readable r p t at fits =

@@ -9,7 +9,7 @@ use Rattle.rip_check.specs.declared.failures.Failure.{Failure}
 use Rattle.rip_check.specs.declared.failures.Failure.TheVariants as failures
 use Rattle.rip_check.specs.Failures.{is_router_up, network_after}
 use Rattle.rip_check.specs.Paths.{Hop, IsLeast, IsPath}
-use Rattle.rip_check.specs.Untouched.{HasWayLeft, IsStep, IsUntouched, KeepsWay}
+use Rattle.rip_check.specs.Untouched.{HasWayLeft, IsStep, IsStepUp, IsUntouched, KeepsWay}
 use Rattle.rip_check.proofs.AcrossLemmas.{across_place}
 use Rattle.rip_check.proofs.LeftLemmas.{other_link, other_router, path_was, still_cost, still_direct, was_attached, was_cost, was_direct, was_kept}
 use Rattle.rip_check.proofs.OwnedLemmas.{its_link}
@@ -113,10 +113,10 @@ stays n plan f p r v un up down = go (is_router_up (Some f) r) refl
 
 -- where no least path goes over the link that has failed
 pub link_untouched : (n : Network) (p x : ℕ) → (Carries n x p → ⊥) → ((r : ℕ) → IsAttached n r p x → ⊥) →
-    ((r c s : ℕ) → HasCost n r x c → IsOn n s x → IsStep n p r c s → KeepsWay n (failures.Link x) p r) → IsUntouched n (failures.Link x) p
+    ((r c s : ℕ) → HasCost n r x c → IsOn n s x → IsStep n p r c s → IsStepUp (failures.Link x) x s ⊎ KeepsWay n (failures.Link x) p r) → IsUntouched n (failures.Link x) p
 link_untouched n p x off loose keeps = record {
   steps = λ r l c s has on step. elim (cases_eq l x) [
-    | inl same ↦ inr (keeps r c s (rw same at has) (rw same at on) step)
+    | inl same ↦ rw same (keeps r c s (rw same at has) (rw same at on) step)
     | inr other ↦ inl (record { link = other_link x l other; router = refl })
   ];
   carried = λ l carried. other_link x l (λ same. off (rw same at carried));
@@ -124,13 +124,11 @@ link_untouched n p x off loose keeps = record {
 }
 
 -- where none goes on through the router that has failed
-pub router_untouched : (n : Network) (p y : ℕ) → ((l r c : ℕ) → IsOn n y l → HasCost n r l c → IsStep n p r c y → KeepsWay n (failures.Router y) p r) → IsUntouched n (failures.Router y) p
+pub router_untouched : (n : Network) (p y : ℕ) → ((l r c s : ℕ) → IsOn n y l → HasCost n r l c → IsOn n s l → IsStep n p r c s → IsStepUp (failures.Router y) l s ⊎ KeepsWay n (failures.Router y) p r) →
+    IsUntouched n (failures.Router y) p
 router_untouched n p y keeps = record {
   steps = λ r l c s has on step. elim (cases_eq s y) [
-    | inl same ↦
-        let to : IsStep n p r c y = rw same at step in
-        let there : IsOn n y l = rw same at on in
-        inr (keeps l r c there has to)
+    | inl same ↦ keeps l r c s (rw same at on) has on step
     | inr other ↦ inl (record { link = refl; router = other_router y s other })
   ];
   carried = λ l carried. refl;

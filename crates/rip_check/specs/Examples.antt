@@ -102,13 +102,6 @@ triangle = record {
   places = place 0 (Link 0) ∷ place 1 (Link 1) ∷ place 2 (Link 2) ∷ [];
 }
 
-abbrev pub triangle_shown : State
-triangle_shown = showing triangle.prefixes (
-    (None ∷ Some 16 ∷ Some 1 ∷ []) ∷ (Some 1 ∷ Some 2 ∷ None ∷ [])
-    ∷ (None ∷ Some 1 ∷ Some 2 ∷ []) ∷ (Some 1 ∷ None ∷ Some 16 ∷ [])
-    ∷ (Some 2 ∷ None ∷ Some 1 ∷ []) ∷ (Some 16 ∷ Some 1 ∷ None ∷ []) ∷ []
-    )
-
 abbrev pub triangle_tables : Tables
 triangle_tables = tables (
     (route 1 Here ∷ route 2 (Over 0) ∷ route 1 Here ∷ [])

@@ -1,9 +1,9 @@
 -- Verdicts.
-use Rattle.std.specs.Prelude.{◌≡◌, ℕ, ◌≤◌, ◌<◌, ◌⊎◌, ◌↔◌, Option, None, Some, Result, Ok, Err, IsTrue, length}
+use Rattle.std.specs.Prelude.{◌≡◌, ℕ, ◌≤◌, ◌<◌, ◌⊎◌, ◌↔◌, Decides, Option, None, Some, Result, Ok, Err, IsTrue, length}
 use Rattle.rip_plan.specs.Network.{Network}
 use Rattle.rip_plan.specs.Relations.{IsLeaf}
 use Rattle.rip_table.specs.State.{State}
-use Rattle.rip_check.specs.Tables.{Tables, Shows, Route, FitsShown, IsSilent, MayHoldBack}
+use Rattle.rip_check.specs.Tables.{Tables, Shows, Route, FitsShown, IsOnlyRoute, IsSilent, MayHoldBack}
 use Rattle.rip_check.specs.Settled.{Holds, IsLeastChoice}
 use Rattle.rip_check.specs.Laws.{ShowsRightTables}
 use Rattle.rip_check.specs.Firsts.{AreFine, IsFirst, IsFirstAt, IsFirstTrouble, IsReadable}
@@ -82,3 +82,11 @@ IsKnownPlace shown (Some a) = a.1 < length shown.prefixes
 -- the route that was read
 abbrev pub route_of : ReadRoute → Route
 route_of t = record { metric = t.metric; way = t.way }
+
+-- the route was read there: it fits what is shown, and is marked where the router's metric is not
+-- in that; else no other route could be behind it
+pub record IsRead (n : Network) (shown : State) (r p : ℕ) (read : ReadRoute) : Type 0 where
+  pub most : read.metric ≤ 16
+  pub fits : FitsShown n shown r p (route_of read)
+  pub hidden : Decides read.hidden (IsHidden n shown r p)
+  pub one : IsTrue read.hidden ⊎ IsOnlyRoute n shown r p (route_of read)

@@ -7,11 +7,12 @@ ghost use Rattle.rip_check.specs.Failures.{IsKnown, network_after, network_left}
 ghost use Rattle.rip_check.specs.Impacts.{AreLeft, HasRoom, IsChange, IsImpact, IsPart};
 ghost use Rattle.rip_check.specs.Losses.{IsGone, IsLost, Loses};
 ghost use Rattle.rip_check.specs.Paths.{IsLeast};
+ghost use Rattle.rip_check.specs.Scenarios.{AreLosses, IsScenario};
 
 use crate::expected::{Expected, keep};
 use crate::failures::{Failure, direct_left, is_router_up};
 use crate::least::find_least;
-use crate::untouched::{fill_before, touches};
+use crate::untouched::Scenario;
 use rip_plan::{MOST_ROUTERS, Plan};
 use std::alloc::{AllocError, Global};
 
@@ -84,19 +85,18 @@ fn is_gone(plan: &Plan, failure: Failure, prefix: usize) -> bool
 }
 
 /// Writes the least metric of each router for a prefix after a failure.
-fn find_after(plan: &Plan, before: &Expected, failure: Failure, prefix: usize, row: &mut [u8])
-    requires before { AreExpected plan.now before.now }
-    requires known { IsKnown plan.now failure }
-    requires prefix { prefix < length plan.now.prefixes }
-    requires size { length row.old ≡ length plan.now.routers }
-    ensures { (r : ℕ) → r < length plan.now.routers →
-        IsLeast (network_after plan.now failure) prefix r (slice_index row.new r) }
+fn find_after(scenario: &Scenario<'_>, row: &mut [u8])
+    requires scenario { IsScenario scenario.now }
+    requires size { length row.old ≡ length scenario.now.plan.now.routers }
+    ensures { (r : ℕ) → r < length scenario.now.plan.now.routers →
+        IsLeast (network_after scenario.now.plan.now scenario.now.failure) scenario.now.prefix r
+        (slice_index row.new r) }
 {
-    plan.lawful();
-    if touches(plan, before, failure, prefix) {
-        find_least(plan, Some(failure), prefix, row);
+    scenario.plan.lawful();
+    if scenario.touches() {
+        find_least(scenario.plan, Some(scenario.failure), scenario.prefix, row);
     } else {
-        fill_before(plan, before, failure, prefix, row);
+        scenario.fill_before(row);
     }
 }
 
@@ -124,7 +124,13 @@ impl Aftermath {
         let mut room = [0u8; MOST_ROUTERS];
         let row = &mut room[..plan.routers()];
         for prefix in 0..count {
-            find_after(plan, before, failure, prefix, row);
+            let scenario = Scenario {
+                plan,
+                before,
+                failure,
+                prefix,
+            };
+            find_after(&scenario, row);
             keep(row, prefix, count, self.metrics.as_mut_slice());
             self.gone[prefix] = is_gone(plan, failure, prefix);
         }
@@ -140,81 +146,76 @@ impl Aftermath {
         plan.lawful();
         u32::from(self.metrics[router * plan.prefixes() + prefix])
     }
+}
 
+/// A failure in a plan, with the right routes before it, and what it leaves of them: what the costs
+/// of the failure are asked of.
+#[derive(Clone, Copy)]
+pub struct Losses<'a> {
+    pub plan: &'a Plan,
+    pub before: &'a Expected,
+    pub failure: Failure,
+    pub after: &'a Aftermath,
+}
+
+impl Losses<'_> {
     /// Whether a prefix is gone: a router had it itself before the failure, and none has after it.
-    pub fn is_gone(&self, plan: &Plan, failure: Failure, prefix: usize) -> bool
-        requires left { AreLeft plan.now failure self.now }
-        requires prefix { prefix < length plan.now.prefixes }
-        ensures { Decides result (IsGone plan.now failure prefix) }
+    pub fn is_gone(&self, prefix: usize) -> bool
+        requires losses { AreLosses self.now }
+        requires prefix { prefix < length self.now.plan.now.prefixes }
+        ensures { Decides result (IsGone self.now.plan.now self.now.failure prefix) }
     {
-        self.gone[prefix]
+        self.after.gone[prefix]
     }
 
     /// What becomes of a router's metric for a prefix.
-    fn change(
-        &self,
-        plan: &Plan,
-        before: &Expected,
-        failure: Failure,
-        router: usize,
-        prefix: usize,
-    ) -> Change
-        requires left { AreLeft plan.now failure self.now }
-        requires before { AreExpected plan.now before.now }
-        requires router { router < length plan.now.routers }
-        requires prefix { prefix < length plan.now.prefixes }
-        ensures { IsChange plan.now failure router prefix result }
+    fn change(&self, router: usize, prefix: usize) -> Change
+        requires losses { AreLosses self.now }
+        requires router { router < length self.now.plan.now.routers }
+        requires prefix { prefix < length self.now.plan.now.prefixes }
+        ensures { IsChange self.now.plan.now self.now.failure router prefix result }
     {
-        let old = before.number(plan, router, prefix);
-        let new = self.number(plan, failure, router, prefix);
-        if new <= old || !is_router_up(Some(failure), router) {
+        let old = self.before.number(self.plan, router, prefix);
+        let new = self.after.number(self.plan, self.failure, router, prefix);
+        if new <= old || !is_router_up(Some(self.failure), router) {
             return Change::Other;
         }
         if new < 16 {
             return Change::Longer(new as u8);
         }
-        if !self.is_gone(plan, failure, prefix) {
+        if !self.is_gone(prefix) {
             return Change::Lost;
         }
         Change::Other
     }
 
     /// Whether a router loses a prefix.
-    pub fn is_lost(
-        &self,
-        plan: &Plan,
-        before: &Expected,
-        failure: Failure,
-        router: usize,
-        prefix: usize,
-    ) -> bool
-        requires left { AreLeft plan.now failure self.now }
-        requires before { AreExpected plan.now before.now }
-        requires router { router < length plan.now.routers }
-        requires prefix { prefix < length plan.now.prefixes }
-        ensures { Decides result (IsLost plan.now failure router prefix) }
+    pub fn is_lost(&self, router: usize, prefix: usize) -> bool
+        requires losses { AreLosses self.now }
+        requires router { router < length self.now.plan.now.routers }
+        requires prefix { prefix < length self.now.plan.now.prefixes }
+        ensures { Decides result (IsLost self.now.plan.now self.now.failure router prefix) }
     {
-        match self.change(plan, before, failure, router, prefix) {
+        match self.change(router, prefix) {
             Change::Lost => true,
             _ => false,
         }
     }
 
     /// What the failure costs a router.
-    fn part_of(&self, plan: &Plan, before: &Expected, failure: Failure, router: usize) -> Part
-        requires left { AreLeft plan.now failure self.now }
-        requires before { AreExpected plan.now before.now }
-        requires router { router < length plan.now.routers }
-        ensures { IsPart plan.now failure router result }
+    fn part_of(&self, router: usize) -> Part
+        requires losses { AreLosses self.now }
+        requires router { router < length self.now.plan.now.routers }
+        ensures { IsPart self.now.plan.now self.now.failure router result }
     {
-        plan.lawful();
+        self.plan.lawful();
         let mut part = Part {
             lost: 0,
             longer: 0,
             farthest: 0,
         };
-        for prefix in 0..plan.prefixes() {
-            match self.change(plan, before, failure, router, prefix) {
+        for prefix in 0..self.plan.prefixes() {
+            match self.change(router, prefix) {
                 Change::Other => {}
                 Change::Lost => part.lost += 1,
                 Change::Longer(metric) => {
@@ -227,14 +228,15 @@ impl Aftermath {
     }
 
     /// How many prefixes are gone.
-    fn count_gone(&self, plan: &Plan, failure: Failure) -> usize
-        requires { AreLeft plan.now failure self.now }
-        ensures { IsCount (IsGone plan.now failure) (length plan.now.prefixes) result }
+    fn count_gone(&self) -> usize
+        requires { AreLosses self.now }
+        ensures { IsCount (IsGone self.now.plan.now self.now.failure)
+            (length self.now.plan.now.prefixes) result }
     {
-        plan.lawful();
+        self.plan.lawful();
         let mut count = 0;
-        for prefix in 0..plan.prefixes() {
-            if self.is_gone(plan, failure, prefix) {
+        for prefix in 0..self.plan.prefixes() {
+            if self.is_gone(prefix) {
                 count += 1;
             }
         }
@@ -242,23 +244,23 @@ impl Aftermath {
     }
 
     /// What the failure costs.
-    pub fn impact(&self, plan: &Plan, before: &Expected, failure: Failure) -> Impact
-        requires left { AreLeft plan.now failure self.now }
-        requires before { AreExpected plan.now before.now }
-        ensures impact { IsImpact plan.now failure result }
-        ensures losing { Decides (nat_lt 0 result.lost) (Loses plan.now failure) }
+    pub fn impact(&self) -> Impact
+        requires { AreLosses self.now }
+        ensures impact { IsImpact self.now.plan.now self.now.failure result }
+        ensures losing { Decides (nat_lt 0 result.lost)
+            (Loses self.now.plan.now self.now.failure) }
     {
-        plan.lawful();
+        self.plan.lawful();
         let mut impact = Impact {
             lost: 0,
-            gone: self.count_gone(plan, failure),
+            gone: self.count_gone(),
             longer: 0,
             farthest: 0,
             hardest_hit: 0,
             most_lost: 0,
         };
-        for router in 0..plan.routers() {
-            let part = self.part_of(plan, before, failure, router);
+        for router in 0..self.plan.routers() {
+            let part = self.part_of(router);
             impact.lost += part.lost;
             impact.longer += part.longer;
             impact.farthest = impact.farthest.max(part.farthest);

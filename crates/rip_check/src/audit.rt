@@ -4,15 +4,15 @@ ghost use Rattle.std.specs.Prelude.{◌≡◌, ◌↔◌, ℕ, ◌+◌, ◌≤�
 ghost use Rattle.rip_table.specs.State.{Fits};
 ghost use Rattle.rip_check.specs.Tables.{IsHeard};
 ghost use Rattle.rip_check.specs.Firsts.{AreHeardOf, IsFirstOf, IsFirstUnheard, IsFirstUnheardOf, IsReadable, IsFirstTrouble};
-ghost use Rattle.rip_check.specs.TwoLeasts.{AreLeastShown};
+ghost use Rattle.rip_check.specs.Cases.{At, network_of, told_in};
 ghost use Rattle.rip_check.specs.Verdicts.{IsFirstPlace, IsRowFirst, IsSound, IsVerdict, ShowsTables, IsNextUnsettled, HoldsAfter, IsKnownPlace};
 ghost use Rattle.rip_check.specs.Laws.{ShowsRightTables, EachPlaceHolds};
 ghost use Rattle.rip_check.specs.Walks.{PacketsArrive};
 ghost use Rattle.rip_check.specs.Told.{told};
 
-use crate::links::{NOTHING, TwoLeast, fill};
-use crate::lookup::in_range;
-use crate::places::{failing_equation, failing_place};
+use crate::case::Case;
+use crate::links::{NOTHING, fill};
+use crate::places::failing_equation;
 use crate::routes::{read, reason};
 use crate::verdict::{Place2, Unclear, Verdict};
 use rip_plan::{Interface, MOST_LINKS, Plan};
@@ -67,7 +67,7 @@ fn first_in_row<T: MetricTable>(
         IsSound plan.now (told plan.now (T.state table.now)) router q) }
 {
     for prefix in from..table.prefix_count() {
-        if let Some(found) = failing_place(plan, table, router, prefix) {
+        if let Some(found) = Case::new(plan, table, prefix).failing(router) {
             return Some(found);
         }
     }
@@ -101,63 +101,37 @@ pub fn next_unsettled<T: MetricTable>(
     None
 }
 
-/// The first router below a bound whose place of a prefix can't be read.
-fn first_unreadable<T: MetricTable>(
-    plan: &Plan,
-    table: &T,
-    links: &[TwoLeast],
-    prefix: usize,
-    below: usize,
-) -> Option<usize>
-    requires fits { Fits plan.now (T.state table.now) }
-    requires prefix { prefix < length (T.state table.now).prefixes }
-    requires links { AreLeastShown plan.now (told plan.now (T.state table.now)) prefix links.now }
-    requires known { below ≤ length plan.now.routers }
-    ensures { IsFirstOf below
-        (λ s. IsReadable plan.now (told plan.now (T.state table.now)) s prefix) result }
+/// The first router below a bound whose place can't be read.
+fn first_unreadable<T: MetricTable>(case: &Case<'_, T>, below: usize) -> Option<usize>
+    requires { below ≤ length (network_of case.now).routers }
+    ensures { IsFirstOf below (At case.now IsReadable) result }
 {
-    plan.lawful();
-    in_range(plan, table);
+    case.plan.lawful();
     for router in 0..below {
-        if read(plan, table, Some(links), router, prefix).is_none() {
+        if read(case, router).is_none() {
             return Some(router);
         }
     }
     None
 }
 
-/// The first router below a bound whose place of a prefix does not hold. If any router's place
-/// can't be read, the error is the first such router of all, and it does not matter which places
-/// hold.
-fn first_failing<T: MetricTable>(
-    plan: &Plan,
-    table: &T,
-    links: &[TwoLeast],
-    prefix: usize,
-    below: usize,
-) -> Result<Option<usize>, usize>
-    requires fits { Fits plan.now (T.state table.now) }
-    requires prefix { prefix < length (T.state table.now).prefixes }
-    requires links { AreLeastShown plan.now (told plan.now (T.state table.now)) prefix links.now }
-    requires known { below ≤ length plan.now.routers }
-    ensures unreadable { IfErr result (λ r. IsFirstOf (length plan.now.routers)
-        (λ s. IsReadable plan.now (told plan.now (T.state table.now)) s prefix) (Some r)) }
-    ensures readable { IfOk result (λ _. IsFirstOf (length plan.now.routers)
-        (λ s. IsReadable plan.now (told plan.now (T.state table.now)) s prefix) None) }
-    ensures failing { IfOk result (λ first. IsFirstOf below
-        (λ s. IsSound plan.now (told plan.now (T.state table.now)) s prefix) first) }
+/// The first router below a bound whose place does not hold. If any router's place can't be read,
+/// the error is the first such router of all, and it does not matter which places hold.
+fn first_failing<T: MetricTable>(case: &Case<'_, T>, below: usize) -> Result<Option<usize>, usize>
+    requires { below ≤ length (network_of case.now).routers }
+    ensures unreadable { IfErr result (λ r. IsFirstOf (length (network_of case.now).routers)
+        (At case.now IsReadable) (Some r)) }
+    ensures readable { IfOk result (λ _. IsFirstOf (length (network_of case.now).routers)
+        (At case.now IsReadable) None) }
+    ensures failing { IfOk result (IsFirstOf below (At case.now IsSound)) }
 {
-    plan.lawful();
-    in_range(plan, table);
+    case.plan.lawful();
     let mut first = None;
-    for router in 0..plan.routers() {
-        let Some(route) = read(plan, table, Some(links), router, prefix) else {
+    for router in 0..case.plan.routers() {
+        let Some(route) = read(case, router) else {
             return Err(router);
         };
-        if first.is_none()
-            && router < below
-            && failing_equation(plan, table, Some(links), router, prefix, route).is_some()
-        {
+        if first.is_none() && router < below && failing_equation(case, router, route).is_some() {
             first = Some(router);
         }
     }
@@ -168,35 +142,26 @@ fn first_failing<T: MetricTable>(
 /// is one: a router and a prefix, by router and then by prefix.
 type FirstPlace = Result<Option<(usize, usize)>, (usize, usize)>;
 
-/// The first place, with the places of one more prefix.
-fn with_prefix<T: MetricTable>(
-    plan: &Plan,
-    table: &T,
-    links: &[TwoLeast],
-    prefix: usize,
-    found: FirstPlace,
-) -> FirstPlace
-    requires fits { Fits plan.now (T.state table.now) }
-    requires prefix { prefix < length (T.state table.now).prefixes }
-    requires links { AreLeastShown plan.now (told plan.now (T.state table.now)) prefix links.now }
-    requires found { IsFirstPlace plan.now (told plan.now (T.state table.now)) prefix found }
-    ensures { IsFirstPlace plan.now (told plan.now (T.state table.now)) (prefix + 1) result }
+/// The first place, with the places of the next prefix.
+fn with_prefix<T: MetricTable>(case: &Case<'_, T>, found: FirstPlace) -> FirstPlace
+    requires { IsFirstPlace (network_of case.now) (told_in case.now) case.now.prefix found }
+    ensures { IsFirstPlace (network_of case.now) (told_in case.now) (case.now.prefix + 1) result }
 {
     match found {
         Err((router, first)) => {
-            match first_unreadable(plan, table, links, prefix, router) {
-                Some(sooner) => Err((sooner, prefix)),
+            match first_unreadable(case, router) {
+                Some(sooner) => Err((sooner, case.prefix)),
                 None => Err((router, first)),
             }
         }
         Ok(failing) => {
             let below = match failing {
                 Some((router, _)) => router,
-                None => plan.routers(),
+                None => case.plan.routers(),
             };
-            match first_failing(plan, table, links, prefix, below) {
-                Err(router) => Err((router, prefix)),
-                Ok(Some(router)) => Ok(Some((router, prefix))),
+            match first_failing(case, below) {
+                Err(router) => Err((router, case.prefix)),
+                Ok(Some(router)) => Ok(Some((router, case.prefix))),
                 Ok(None) => Ok(failing),
             }
         }
@@ -215,8 +180,9 @@ fn first_place<T: MetricTable>(plan: &Plan, table: &T) -> FirstPlace
     let links = &mut room[..plan.links()];
     let mut found = Ok(None);
     for prefix in 0..table.prefix_count() {
-        fill(plan, table, prefix, links);
-        found = with_prefix(plan, table, links, prefix, found);
+        let case = Case::new(plan, table, prefix);
+        fill(&case, links);
+        found = with_prefix(&case.with_links(links), found);
     }
     found
 }
@@ -227,7 +193,6 @@ fn decide<T: MetricTable>(plan: &Plan, table: &T) -> Verdict
     ensures { IsVerdict plan.now (told plan.now (T.state table.now)) result }
 {
     plan.lawful();
-    in_range(plan, table);
     if let Some(own) = first_unheard(plan, table) {
         return Verdict::Unclear(Unclear::NotHeard {
             router: own.router,
@@ -235,9 +200,11 @@ fn decide<T: MetricTable>(plan: &Plan, table: &T) -> Verdict
         });
     }
     match first_place(plan, table) {
-        Err((router, prefix)) => Verdict::Unclear(reason(plan, table, router, prefix)),
+        Err((router, prefix)) => {
+            Verdict::Unclear(reason(&Case::new(plan, table, prefix), router))
+        }
         Ok(Some((router, prefix))) => {
-            let place = failing_place(plan, table, router, prefix);
+            let place = Case::new(plan, table, prefix).failing(router);
             Verdict::Unsettled(place.unwrap())
         }
         Ok(None) => Verdict::Settled,
@@ -267,6 +234,5 @@ pub fn judge<T: MetricTable>(plan: &Plan, table: &T) -> Verdict
         PacketsArrive plan.now (told plan.now (T.state table.now)) }
 {
     plan.lawful();
-    in_range(plan, table);
     decide(plan, table)
 }

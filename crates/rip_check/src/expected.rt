@@ -6,7 +6,7 @@ ghost use Rattle.rip_check.specs.Expected.{AreExpected, AreUnreachable, IsCount,
 ghost use Rattle.rip_check.specs.Paths.{HasPathOver, IsLeast};
 
 use crate::least::find_least;
-use crate::lookup::metric_of;
+use crate::lookup::{interface_on, metric_of};
 use crate::places::is_direct;
 use crate::way::Way;
 use rip_plan::{Interface, MOST_ROUTERS, Plan};
@@ -163,14 +163,10 @@ impl Expected {
         if plan.keeps(router, prefix) {
             return false;
         }
-        let numbers = plan.of_router(router);
-        for i in numbers {
-            let own = plan.interface(*i);
-            if own.link == link {
-                return self.is_over(plan, own, prefix, metric);
-            }
+        match interface_on(plan, router, link) {
+            Some(own) => self.is_over(plan, own, prefix, metric),
+            None => false,
         }
-        false
     }
 
     /// Whether a way is right for a router and a prefix: the route of the least metric that goes

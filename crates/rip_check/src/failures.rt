@@ -4,6 +4,7 @@ ghost use Rattle.std.specs.Prelude.{◌≡◌, ℕ, ◌<◌, ◌≤◌, ◌⊎�
 ghost use Rattle.rip_plan.specs.Relations.{Carries, IsAttached, IsDirect, IsKept, IsOn};
 ghost use Rattle.rip_check.specs.Failures.{is_any_up, is_link_up, is_router_up, network_left};
 
+use crate::lookup::interface_on;
 use crate::offers::direct_or_16;
 use rip_plan::Plan;
 
@@ -44,20 +45,6 @@ pub(crate) fn is_alive(failure: Option<Failure>, router: usize, link: usize) -> 
     is_router_up(failure, router) && is_link_up(failure, link)
 }
 
-/// Whether a router is on a link.
-fn is_on(plan: &Plan, router: usize, link: usize) -> bool
-    requires { router < length plan.now.routers }
-    ensures { Decides result (IsOn plan.now router link) }
-{
-    let numbers = plan.of_router(router);
-    for i in numbers {
-        if plan.interface(*i).link == link {
-            return true;
-        }
-    }
-    false
-}
-
 /// Whether a router's direct route to a prefix, if it has one, does not depend on the failed link.
 fn has_beside(plan: &Plan, failed: usize, router: usize, prefix: usize) -> bool
     requires { router < length plan.now.routers }
@@ -70,7 +57,7 @@ fn has_beside(plan: &Plan, failed: usize, router: usize, prefix: usize) -> bool
     if plan.attached_link(router, prefix) == Some(failed) {
         return false;
     }
-    !(plan.is_place(failed, prefix) && is_on(plan, router, failed))
+    !(plan.is_place(failed, prefix) && interface_on(plan, router, failed).is_some())
 }
 
 /// Whether the link to which a prefix is attached, if it is, has not failed.

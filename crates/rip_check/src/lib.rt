@@ -3,6 +3,7 @@
 
 mod aftermath;
 mod audit;
+mod case;
 mod expected;
 mod failures;
 pub mod laws;
@@ -18,8 +19,9 @@ mod untouched;
 mod verdict;
 mod way;
 
-pub use aftermath::{Aftermath, Impact};
+pub use aftermath::{Aftermath, Impact, Losses};
 pub use audit::{judge, next_unsettled, unheard_link};
+pub use case::Case;
 pub use expected::Expected;
 pub use failures::Failure;
 pub use least::least_metric;

@@ -3,11 +3,11 @@
 ghost use Rattle.std.specs.Prelude.{◌≡◌, ℕ, ◌+◌, ◌<◌, ◌≤◌, length, unwrap_or};
 ghost use Rattle.rip_plan.specs.Network.{Network};
 ghost use Rattle.rip_plan.specs.Relations.{IsInterface};
-ghost use Rattle.rip_table.specs.State.{Fits};
+ghost use Rattle.rip_check.specs.Cases.{network_of, told_in};
 ghost use Rattle.rip_check.specs.TwoLeasts.{AreTwoLeast, AreTwoLeastBefore, IsSeen, IsTwoLeast, shown_of};
 ghost use Rattle.rip_check.specs.Metrics.{metric_at};
-ghost use Rattle.rip_check.specs.Told.{told};
 
+use crate::case::Case;
 use crate::lookup::told_at;
 use rip_plan::Plan;
 use rip_table::MetricTable;
@@ -29,15 +29,13 @@ pub(crate) const NOTHING: TwoLeast = TwoLeast {
 };
 
 /// What an interface tells, 16 where it tells nothing.
-fn seen_at<T: MetricTable>(plan: &Plan, table: &T, interface: usize, prefix: usize) -> u32
-    requires fits { Fits plan.now (T.state table.now) }
-    requires interface { interface < length plan.now.interfaces }
-    requires prefix { prefix < length (T.state table.now).prefixes }
+pub(crate) fn seen_at<T: MetricTable>(case: &Case<'_, T>, interface: usize) -> u32
+    requires { interface < length (network_of case.now).interfaces }
     ensures value { result
-        ≡ unwrap_or (metric_at (told plan.now (T.state table.now)) interface prefix) 16 }
+        ≡ unwrap_or (metric_at (told_in case.now) interface case.now.prefix) 16 }
     ensures most { result ≤ 16 }
 {
-    match told_at(plan, table, interface, prefix) {
+    match told_at(case, interface) {
         Some(metric) => metric,
         None => 16,
     }
@@ -100,16 +98,15 @@ fn add_interface(plan: &Plan, interface: usize, metric: u32, links: &mut [TwoLea
     }
 }
 
-/// Writes the two least metrics that are told of a prefix on each link. 16 is there to begin with.
-pub(crate) fn fill<T: MetricTable>(plan: &Plan, table: &T, prefix: usize, links: &mut [TwoLeast])
-    requires fits { Fits plan.now (T.state table.now) }
-    requires prefix { prefix < length (T.state table.now).prefixes }
-    requires size { length plan.now.links ≤ length links.old }
-    ensures { AreTwoLeast plan.now (shown_of (told plan.now (T.state table.now)) prefix) links.new }
+/// Writes the two least metrics that are told on each link. 16 is there to begin with.
+pub(crate) fn fill<T: MetricTable>(case: &Case<'_, T>, links: &mut [TwoLeast])
+    requires { length (network_of case.now).links ≤ length links.old }
+    ensures { AreTwoLeast (network_of case.now)
+        (shown_of (told_in case.now) case.now.prefix) links.new }
 {
     reset(links);
-    for i in 0..plan.interfaces() {
-        let metric = seen_at(plan, table, i, prefix);
-        add_interface(plan, i, metric, links);
+    for i in 0..case.plan.interfaces() {
+        let metric = seen_at(case, i);
+        add_interface(case.plan, i, metric, links);
     }
 }

@@ -1,13 +1,14 @@
 //! What a plan and a table say of a prefix by its number in the table.
 
-ghost use Rattle.std.specs.Prelude.{◌≡◌, ◌||◌, ◌↔◌, ℕ, ◌<◌, ◌≤◌, Decides, IfSome, Some, length, not};
-ghost use Rattle.rip_plan.specs.Relations.{IsAttached};
-ghost use Rattle.rip_table.specs.State.{Fits};
-ghost use Rattle.rip_check.specs.Metrics.{IsInRange, metric_at};
+ghost use Rattle.std.specs.Prelude.{◌≡◌, ◌||◌, ◌↔◌, ℕ, ◌<◌, ◌≤◌, Decides, IfNone, IfSome, Some, length, not};
+ghost use Rattle.rip_plan.specs.Relations.{HasCost, IsAttached, IsOn};
+ghost use Rattle.rip_check.specs.Cases.{network_of, told_in};
+ghost use Rattle.rip_check.specs.Metrics.{metric_at};
 ghost use Rattle.rip_check.specs.Tables.{MayHoldBack};
-ghost use Rattle.rip_check.specs.Told.{poisons, told};
+ghost use Rattle.rip_check.specs.Told.{poisons};
 
-use rip_plan::Plan;
+use crate::case::Case;
+use rip_plan::{Interface, Plan};
 use rip_table::MetricTable;
 use rip_wire::Metric;
 
@@ -20,64 +21,56 @@ pub(crate) fn metric_of(number: u32) -> Metric
     Metric::new(number).unwrap()
 }
 
-/// What the interfaces of the plan tell is a metric. This does nothing when it runs: the plan and
-/// the table are what its contract speaks of.
-pub(crate) fn in_range<T: MetricTable>(plan: &Plan, table: &T)
-    requires { Fits plan.now (T.state table.now) }
-    ensures { IsInRange plan.now (told plan.now (T.state table.now)) }
+/// The interface of a router on a link, if it has one.
+pub(crate) fn interface_on(plan: &Plan, router: usize, link: usize) -> Option<Interface>
+    requires { router < length plan.now.routers }
+    ensures some { IfSome result (λ own. (own.router ≡ router) × (own.link ≡ link)
+        × HasCost plan.now own.router own.link own.cost) }
+    ensures none { IfNone result (IsOn plan.now router link → ⊥) }
 {
-    let _ = plan;
-    let _ = table;
+    let numbers = plan.of_router(router);
+    for i in numbers {
+        let own = plan.interface(*i);
+        if own.link == link {
+            return Some(own);
+        }
+    }
+    None
 }
 
-/// The metric that an interface shows for a prefix. The plan is there for the contract alone, which
-/// asks that the table is one of the plan's.
-pub(crate) fn shown_at<T: MetricTable>(
-    plan: &Plan,
-    table: &T,
-    interface: usize,
-    prefix: usize,
-) -> Option<u32>
-    requires fits { Fits plan.now (T.state table.now) }
-    requires interface { interface < length plan.now.interfaces }
-    requires prefix { prefix < length (T.state table.now).prefixes }
-    ensures metric { result ≡ metric_at (T.state table.now) interface prefix }
+/// The metric that an interface shows.
+fn shown_at<T: MetricTable>(case: &Case<'_, T>, interface: usize) -> Option<u32>
+    requires { interface < length (network_of case.now).interfaces }
+    ensures metric { result
+        ≡ metric_at (T.state case.now.table.now) interface case.now.prefix }
     ensures range { IfSome result (λ m. (1 ≤ m) × (m ≤ 16)) }
 {
-    let _ = plan;
-    match table.metric(interface, prefix) {
+    match case.table.metric(interface, case.prefix) {
         Some(metric) => Some(metric.get()),
         None => None,
     }
 }
 
 /// Whether the silence of an interface tells nothing: it poisons, or was not heard.
-fn is_mute<T: MetricTable>(plan: &Plan, table: &T, interface: usize) -> bool
-    requires fits { Fits plan.now (T.state table.now) }
-    requires interface { interface < length plan.now.interfaces }
-    ensures { result ≡ (poisons plan.now interface || not ((T.state table.now).heard interface)) }
+fn is_mute<T: MetricTable>(case: &Case<'_, T>, interface: usize) -> bool
+    requires { interface < length (network_of case.now).interfaces }
+    ensures { result ≡ (poisons (network_of case.now) interface
+        || not ((T.state case.now.table.now).heard interface)) }
 {
-    plan.interface(interface).poison || !table.heard(interface)
+    case.plan.interface(interface).poison || !case.table.heard(interface)
 }
 
-/// The metric that an interface tells of a prefix: what it shows, or 16 where it was heard, shows
-/// nothing and does not poison.
-pub(crate) fn told_at<T: MetricTable>(
-    plan: &Plan,
-    table: &T,
-    interface: usize,
-    prefix: usize,
-) -> Option<u32>
-    requires fits { Fits plan.now (T.state table.now) }
-    requires interface { interface < length plan.now.interfaces }
-    requires prefix { prefix < length (T.state table.now).prefixes }
-    ensures metric { result ≡ metric_at (told plan.now (T.state table.now)) interface prefix }
+/// The metric that an interface tells: what it shows, or 16 where it was heard, shows nothing and
+/// does not poison.
+pub(crate) fn told_at<T: MetricTable>(case: &Case<'_, T>, interface: usize) -> Option<u32>
+    requires { interface < length (network_of case.now).interfaces }
+    ensures metric { result ≡ metric_at (told_in case.now) interface case.now.prefix }
     ensures range { IfSome result (λ m. (1 ≤ m) × (m ≤ 16)) }
 {
-    match shown_at(plan, table, interface, prefix) {
+    match shown_at(case, interface) {
         Some(metric) => Some(metric),
         None => {
-            if is_mute(plan, table, interface) {
+            if is_mute(case, interface) {
                 None
             } else {
                 Some(16)

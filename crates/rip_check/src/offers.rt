@@ -1,61 +1,39 @@
 //! What the neighbours of a router offer, and the least that it can choose from.
 
-ghost use Rattle.std.specs.Prelude.{◌≡◌, ◌≢◌, ℕ, ◌+◌, ◌<◌, ◌≤◌, ◌⊎◌, Decides, IfSome, length, min, unwrap_or};
+ghost use Rattle.std.specs.Prelude.{◌≡◌, ◌≢◌, ℕ, ◌+◌, ◌<◌, ◌≤◌, ◌⊎◌, Decides, length};
 ghost use Rattle.rip_plan.specs.Network.{Network};
-ghost use Rattle.rip_plan.specs.Relations.{HasCost, IsDirect, IsInterface, IsKept, IsLawful};
+ghost use Rattle.rip_plan.specs.Relations.{HasCost, IsDirect, IsInterface, IsKept};
 ghost use Rattle.rip_table.specs.State.{Fits};
+ghost use Rattle.rip_check.specs.Cases.{At, network_of, told_in};
 ghost use Rattle.rip_check.specs.Settled.{IsChoice};
 ghost use Rattle.rip_check.specs.Tables.{Offers};
-ghost use Rattle.rip_check.specs.TwoLeasts.{AreLeastShown, IsSeen, IsTwoLeast};
-ghost use Rattle.rip_check.specs.Told.{told};
+ghost use Rattle.rip_check.specs.TwoLeasts.{IsSeen, IsTwoLeast};
 
-use crate::links::TwoLeast;
-use crate::lookup::{metric_of, shown_at, told_at};
+use crate::case::Case;
+use crate::links::{TwoLeast, seen_at};
+use crate::lookup::metric_of;
 use rip_plan::{Interface, Plan};
 use rip_table::MetricTable;
 use rip_wire::Metric;
 
-/// What a neighbour offers that tells this, over a link of this cost (RFC 2453, section 3.9.2).
-fn offer_of(cost: u8, shown: Option<u32>) -> u32
-    requires { IfSome shown (λ m. m ≤ 16) }
-    ensures { result ≡ min 16 (cost + unwrap_or shown 16) }
-{
-    let metric = match shown {
-        Some(metric) => metric,
-        None => 16,
-    };
-    (u32::from(cost) + metric).min(16)
-}
-
 /// The least of `best` and of what the neighbours over the link of an interface offer, by asking
 /// each.
-fn least_asked<T: MetricTable>(
-    plan: &Plan,
-    table: &T,
-    own: Interface,
-    prefix: usize,
-    best: u32,
-) -> u32
-    requires fits { Fits plan.now (T.state table.now) }
-    requires prefix { prefix < length (T.state table.now).prefixes }
-    requires own { HasCost plan.now own.router own.link own.cost }
+fn least_asked<T: MetricTable>(case: &Case<'_, T>, own: Interface, best: u32) -> u32
+    requires own { HasCost (network_of case.now) own.router own.link own.cost }
+    requires best { best ≤ 16 }
     ensures at_most { result ≤ best }
-    ensures least { (s v : ℕ) →
-        Offers plan.now (told plan.now (T.state table.now)) own.router own.link s prefix v →
-        result ≤ v }
-    ensures chosen { (result ≡ best) ⊎ ((s : ℕ)
-        × Offers plan.now (told plan.now (T.state table.now)) own.router own.link s prefix result) }
+    ensures least { (s v : ℕ) → Offers (network_of case.now) (told_in case.now)
+        own.router own.link s case.now.prefix v → result ≤ v }
+    ensures chosen { (result ≡ best) ⊎ ((s : ℕ) × Offers (network_of case.now)
+        (told_in case.now) own.router own.link s case.now.prefix result) }
 {
-    plan.lawful();
+    case.plan.lawful();
     let mut least = best;
-    let numbers = plan.on_link(own.link);
+    let numbers = case.plan.on_link(own.link);
     for j in numbers {
-        let across = plan.interface(*j);
+        let across = case.plan.interface(*j);
         if across.router != own.router {
-            let offer = offer_of(own.cost, told_at(plan, table, *j, prefix));
-            if offer < least {
-                least = offer;
-            }
+            least = (u32::from(own.cost) + seen_at(case, *j)).min(least);
         }
     }
     least
@@ -87,34 +65,22 @@ pub(crate) fn least_told(own: Interface, two: TwoLeast, best: u32) -> u32
 /// The least of `best` and of what the neighbours over the link of an interface offer: by the two
 /// least metrics that are told on each link, where they are known, or else by asking each
 /// neighbour.
-pub(crate) fn best_over<T: MetricTable>(
-    plan: &Plan,
-    table: &T,
-    links: Option<&[TwoLeast]>,
-    own: Interface,
-    prefix: usize,
-    best: u32,
-) -> u32
-    requires fits { Fits plan.now (T.state table.now) }
-    requires prefix { prefix < length (T.state table.now).prefixes }
-    requires links { IfSome links (λ l.
-        AreLeastShown plan.now (told plan.now (T.state table.now)) prefix l.now) }
-    requires own { HasCost plan.now own.router own.link own.cost }
+pub(crate) fn best_over<T: MetricTable>(case: &Case<'_, T>, own: Interface, best: u32) -> u32
+    requires own { HasCost (network_of case.now) own.router own.link own.cost }
     requires best { best ≤ 16 }
     ensures at_most { result ≤ best }
-    ensures least { (s v : ℕ) →
-        Offers plan.now (told plan.now (T.state table.now)) own.router own.link s prefix v →
-        result ≤ v }
-    ensures chosen { (result ≡ best) ⊎ ((s : ℕ)
-        × Offers plan.now (told plan.now (T.state table.now)) own.router own.link s prefix result) }
+    ensures least { (s v : ℕ) → Offers (network_of case.now) (told_in case.now)
+        own.router own.link s case.now.prefix v → result ≤ v }
+    ensures chosen { (result ≡ best) ⊎ ((s : ℕ) × Offers (network_of case.now)
+        (told_in case.now) own.router own.link s case.now.prefix result) }
 {
-    plan.lawful();
-    match links {
+    case.plan.lawful();
+    match case.links {
         Some(links) => {
             let two = links[own.link];
             least_told(own, two, best)
         }
-        None => least_asked(plan, table, own, prefix, best),
+        None => least_asked(case, own, best),
     }
 }
 
@@ -133,35 +99,42 @@ pub(crate) fn direct_or_16(plan: &Plan, router: usize, prefix: usize) -> u32
 
 /// The least of 16, the direct cost and all offers; the direct cost where the router keeps the
 /// prefix.
-pub(crate) fn least_choice<T: MetricTable>(
-    plan: &Plan,
-    table: &T,
-    links: Option<&[TwoLeast]>,
-    router: usize,
-    prefix: usize,
-    keeps: bool,
-) -> u32
-    requires fits { Fits plan.now (T.state table.now) }
-    requires router { router < length plan.now.routers }
-    requires prefix { prefix < length (T.state table.now).prefixes }
-    requires links { IfSome links (λ l.
-        AreLeastShown plan.now (told plan.now (T.state table.now)) prefix l.now) }
-    requires keeps { Decides keeps (IsKept plan.now router prefix) }
+pub(crate) fn least_choice<T: MetricTable>(case: &Case<'_, T>, router: usize, keeps: bool) -> u32
+    requires router { router < length (network_of case.now).routers }
+    requires keeps { Decides keeps (IsKept (network_of case.now) router case.now.prefix) }
     ensures most { result ≤ 16 }
-    ensures chosen { IsChoice plan.now (told plan.now (T.state table.now)) router prefix result }
-    ensures least { (v : ℕ) →
-        IsChoice plan.now (told plan.now (T.state table.now)) router prefix v → result ≤ v }
+    ensures chosen { At case.now IsChoice router result }
+    ensures least { (v : ℕ) → At case.now IsChoice router v → result ≤ v }
 {
-    let mut best = direct_or_16(plan, router, prefix);
+    let mut best = direct_or_16(case.plan, router, case.prefix);
     if keeps {
         return best;
     }
-    let numbers = plan.of_router(router);
+    let numbers = case.plan.of_router(router);
     for i in numbers {
-        let own = plan.interface(*i);
-        best = best_over(plan, table, links, own, prefix, best);
+        let own = case.plan.interface(*i);
+        best = best_over(case, own, best);
     }
     best
+}
+
+impl<T: MetricTable> Case<'_, T> {
+    /// What a neighbour offers a router: the sum of what the neighbour's interface `across` shows,
+    /// or of 16 where it shows nothing, and of the cost of the router's own interface on the same
+    /// link; 16 where that is more (RFC 2453, section 3.9.2).
+    pub fn offer(&self, own: Interface, across: usize) -> Metric
+        requires own { HasCost (network_of self.now) own.router own.link own.cost }
+        requires across { (s c : ℕ) × IsInterface (network_of self.now) across s own.link c
+            × (s ≢ own.router) }
+        ensures { (s c : ℕ) → IsInterface (network_of self.now) across s own.link c →
+            Offers (network_of self.now) (T.state self.now.table.now) own.router own.link s
+            self.now.prefix result }
+    {
+        match self.table.metric(across, self.prefix) {
+            Some(metric) => metric.plus(own.cost),
+            None => metric_of(16),
+        }
+    }
 }
 
 /// What a neighbour offers a router: the sum of what the neighbour's interface `across` shows of a
@@ -181,6 +154,5 @@ pub fn offer<T: MetricTable>(
     ensures { (s c : ℕ) → IsInterface plan.now across s own.link c →
         Offers plan.now (T.state table.now) own.router own.link s prefix result }
 {
-    plan.lawful();
-    metric_of(offer_of(own.cost, shown_at(plan, table, across, prefix)))
+    Case::new(plan, table, prefix).offer(own, across)
 }

@@ -3,15 +3,15 @@
 ghost use Rattle.std.specs.Prelude.{◌≡◌, ℕ, ◌<◌, ◌≤◌, ◌⊎◌, ◌↔◌, Decides, IfErr, IfNone, IfOk, IfSome, IsTrue, is_ok, length};
 ghost use Rattle.rip_plan.specs.Relations.{IsDirect, IsKept};
 ghost use Rattle.rip_table.specs.State.{Fits};
+ghost use Rattle.rip_check.specs.Cases.{At, network_of, told_in};
 ghost use Rattle.rip_check.specs.Settled.{Holds, IsChoice, IsGiven, IsLeastChoice};
 ghost use Rattle.rip_check.specs.Tables.{IsOnlyRoute, FitsShown, FitsWay, Offers};
-ghost use Rattle.rip_check.specs.TwoLeasts.{AreLeastShown};
 ghost use Rattle.rip_check.specs.Verdicts.{IsFailing, IsSound, route_of, IsHidden};
 ghost use Rattle.rip_check.specs.Firsts.{IsReadable, IsReason};
 ghost use Rattle.rip_check.specs.Told.{told};
 
-use crate::links::TwoLeast;
-use crate::lookup::{in_range, metric_of};
+use crate::case::Case;
+use crate::lookup::{interface_on, metric_of};
 use crate::offers::{best_over, least_choice};
 use crate::routes::{ReadRoute, read, reason};
 use crate::verdict::{Place2, Route, Unclear};
@@ -31,99 +31,58 @@ pub(crate) fn is_direct(plan: &Plan, router: usize, prefix: usize, metric: u32) 
 }
 
 /// Whether a neighbour on the link offers this metric, the least choice of a router that does not
-/// keep the prefix. (Why so many arguments: DECISIONS.md.)
-fn is_offered<T: MetricTable>(
-    plan: &Plan,
-    table: &T,
-    links: Option<&[TwoLeast]>,
-    router: usize,
-    prefix: usize,
-    metric: u32,
-    link: usize,
-) -> bool
-    requires fits { Fits plan.now (T.state table.now) }
-    requires router { router < length plan.now.routers }
-    requires prefix { prefix < length (T.state table.now).prefixes }
-    requires links { IfSome links (λ l.
-        AreLeastShown plan.now (told plan.now (T.state table.now)) prefix l.now) }
-    requires takes { IsKept plan.now router prefix → ⊥ }
+/// keep the prefix.
+fn is_offered<T: MetricTable>(case: &Case<'_, T>, router: usize, metric: u32, link: usize) -> bool
+    requires router { router < length (network_of case.now).routers }
+    requires takes { IsKept (network_of case.now) router case.now.prefix → ⊥ }
     requires small { metric < 16 }
-    requires least { (v : ℕ) →
-        IsChoice plan.now (told plan.now (T.state table.now)) router prefix v → metric ≤ v }
-    ensures { Decides result ((s : ℕ)
-        × Offers plan.now (told plan.now (T.state table.now)) router link s prefix metric) }
+    requires least { (v : ℕ) → At case.now IsChoice router v → metric ≤ v }
+    ensures { Decides result ((s : ℕ) × Offers (network_of case.now) (told_in case.now)
+        router link s case.now.prefix metric) }
 {
-    let numbers = plan.of_router(router);
-    for i in numbers {
-        let own = plan.interface(*i);
-        if own.link == link {
-            return best_over(plan, table, links, own, prefix, 16) == metric;
-        }
+    match interface_on(case.plan, router, link) {
+        Some(own) => best_over(case, own, 16) == metric,
+        None => false,
     }
-    false
 }
 
-/// Whether the way of a route gives its metric, which is the least choice of the router. (Why so
-/// many arguments: DECISIONS.md.)
+/// Whether the way of a route gives its metric, which is the least choice of the router.
 fn is_given<T: MetricTable>(
-    plan: &Plan,
-    table: &T,
-    links: Option<&[TwoLeast]>,
+    case: &Case<'_, T>,
     router: usize,
-    prefix: usize,
     keeps: bool,
     route: ReadRoute,
 ) -> bool
-    requires fits { Fits plan.now (T.state table.now) }
-    requires router { router < length plan.now.routers }
-    requires prefix { prefix < length (T.state table.now).prefixes }
-    requires links { IfSome links (λ l.
-        AreLeastShown plan.now (told plan.now (T.state table.now)) prefix l.now) }
-    requires keeps { Decides keeps (IsKept plan.now router prefix) }
-    requires way { FitsWay plan.now router prefix route.metric route.way }
-    requires least { (v : ℕ) →
-        IsChoice plan.now (told plan.now (T.state table.now)) router prefix v → route.metric ≤ v }
-    ensures { Decides result
-        (IsGiven plan.now (told plan.now (T.state table.now)) router prefix
-        route.metric route.way) }
+    requires router { router < length (network_of case.now).routers }
+    requires keeps { Decides keeps (IsKept (network_of case.now) router case.now.prefix) }
+    requires way { FitsWay (network_of case.now) router case.now.prefix route.metric route.way }
+    requires least { (v : ℕ) → At case.now IsChoice router v → route.metric ≤ v }
+    ensures { Decides result (At case.now IsGiven router route.metric route.way) }
 {
     match route.way {
         Way::Unreachable => true,
-        Way::Here => is_direct(plan, router, prefix, route.metric),
-        Way::Over(link) => {
-            !keeps && is_offered(plan, table, links, router, prefix, route.metric, link)
-        }
+        Way::Here => is_direct(case.plan, router, case.prefix, route.metric),
+        Way::Over(link) => !keeps && is_offered(case, router, route.metric, link),
     }
 }
 
 /// What the equation of a place gives, if the route that was read there does not hold.
 pub(crate) fn failing_equation<T: MetricTable>(
-    plan: &Plan,
-    table: &T,
-    links: Option<&[TwoLeast]>,
+    case: &Case<'_, T>,
     router: usize,
-    prefix: usize,
     route: ReadRoute,
 ) -> Option<u32>
-    requires fits { Fits plan.now (T.state table.now) }
-    requires router { router < length plan.now.routers }
-    requires prefix { prefix < length (T.state table.now).prefixes }
-    requires links { IfSome links (λ l.
-        AreLeastShown plan.now (told plan.now (T.state table.now)) prefix l.now) }
-    requires route { FitsShown plan.now (told plan.now (T.state table.now)) router prefix
-        (route_of route) }
-    ensures holds { IfNone result
-        (Holds plan.now (told plan.now (T.state table.now)) router prefix (route_of route)) }
-    ensures fails { IfSome result
-        (λ _. Holds plan.now (told plan.now (T.state table.now)) router prefix
-        (route_of route) → ⊥) }
+    requires router { router < length (network_of case.now).routers }
+    requires route { At case.now FitsShown router (route_of route) }
+    ensures holds { IfNone result (At case.now Holds router (route_of route)) }
+    ensures fails { IfSome result (λ _. At case.now Holds router (route_of route) → ⊥) }
     ensures equation { IfSome result (λ v. (1 ≤ v) × (v ≤ 16)
-        × IsLeastChoice plan.now (told plan.now (T.state table.now)) router prefix v) }
+        × At case.now IsLeastChoice router v) }
 {
-    plan.lawful();
-    let keeps = plan.keeps(router, prefix);
-    let equation = least_choice(plan, table, links, router, prefix, keeps);
-    if route.metric == equation && is_given(plan, table, links, router, prefix, keeps, route) {
+    case.plan.lawful();
+    let keeps = case.plan.keeps(router, case.prefix);
+    let equation = least_choice(case, router, keeps);
+    if route.metric == equation && is_given(case, router, keeps, route) {
         return None;
     }
     Some(equation)
@@ -152,29 +111,56 @@ pub(crate) fn place_of(router: usize, prefix: usize, route: ReadRoute, equation:
     }
 }
 
-/// A place with its values, if its route can be read and does not hold.
-pub(crate) fn failing_place<T: MetricTable>(
-    plan: &Plan,
-    table: &T,
-    router: usize,
-    prefix: usize,
-) -> Option<Place2>
-    requires fits { Fits plan.now (T.state table.now) }
-    requires router { router < length plan.now.routers }
-    requires prefix { prefix < length (T.state table.now).prefixes }
-    ensures some { IfSome result (λ f. (f.router ≡ router) × (f.prefix ≡ prefix)
-        × IsFailing plan.now (told plan.now (T.state table.now)) f) }
-    ensures none { IfNone result
-        (IsSound plan.now (told plan.now (T.state table.now)) router prefix) }
-{
-    plan.lawful();
-    in_range(plan, table);
-    let Some(route) = read(plan, table, None, router, prefix) else {
-        return None;
-    };
-    match failing_equation(plan, table, None, router, prefix, route) {
-        Some(equation) => Some(place_of(router, prefix, route, equation)),
-        None => None,
+impl<T: MetricTable> Case<'_, T> {
+    /// The place of a router with its values, if its route can be read and does not hold.
+    pub fn failing(&self, router: usize) -> Option<Place2>
+        requires { router < length (network_of self.now).routers }
+        ensures some { IfSome result (λ f. (f.router ≡ router) × (f.prefix ≡ self.now.prefix)
+            × IsFailing (network_of self.now) (told_in self.now) f) }
+        ensures none { IfNone result (At self.now IsSound router) }
+    {
+        self.plan.lawful();
+        let Some(route) = read(self, router) else {
+            return None;
+        };
+        match failing_equation(self, router, route) {
+            Some(equation) => Some(place_of(router, self.prefix, route, equation)),
+            None => None,
+        }
+    }
+
+    /// The route of a router, or why none can be read. At a place of a leaf that is hidden, several
+    /// routes may fit what is shown; the answer is then the defined one.
+    pub fn route(&self, router: usize) -> Result<Route, Unclear>
+        requires { router < length (network_of self.now).routers }
+        ensures exact { IsTrue (is_ok result) ↔ At self.now IsReadable router }
+        ensures fits { IfOk result (λ t. At self.now FitsShown router
+            (record { metric = t.metric; way = t.way })) }
+        ensures one { IfOk result (λ t. IsTrue t.hidden ⊎ At self.now IsOnlyRoute router
+            (record { metric = t.metric; way = t.way })) }
+        ensures hidden { IfOk result (λ t. Decides t.hidden (At self.now IsHidden router)) }
+        ensures unclear { IfErr result (At self.now IsReason router) }
+    {
+        self.plan.lawful();
+        match read(self, router) {
+            None => Err(reason(self, router)),
+            Some(route) => Ok(Route {
+                metric: metric_of(route.metric),
+                way: route.way,
+                hidden: route.hidden,
+            }),
+        }
+    }
+
+    /// The least of 16, of the metric at which a router has the prefix itself, and of what its
+    /// neighbours offer (RFC 2453, section 3.9.2); its own metric where it keeps the prefix.
+    pub fn equation(&self, router: usize) -> Metric
+        requires { router < length (network_of self.now).routers }
+        ensures { At self.now IsLeastChoice router result }
+    {
+        self.plan.lawful();
+        let keeps = self.plan.keeps(router, self.prefix);
+        metric_of(least_choice(self, router, keeps))
     }
 }
 
@@ -203,16 +189,7 @@ pub fn route<T: MetricTable>(
     ensures unclear { IfErr result (λ trouble.
         IsReason plan.now (told plan.now (T.state table.now)) router prefix trouble) }
 {
-    plan.lawful();
-    in_range(plan, table);
-    match read(plan, table, None, router, prefix) {
-        None => Err(reason(plan, table, router, prefix)),
-        Some(route) => Ok(Route {
-            metric: metric_of(route.metric),
-            way: route.way,
-            hidden: route.hidden,
-        }),
-    }
+    Case::new(plan, table, prefix).route(router)
 }
 
 /// The least of 16, of the metric at which a router has a prefix itself, and of what its neighbours
@@ -223,7 +200,5 @@ pub fn equation<T: MetricTable>(plan: &Plan, table: &T, router: usize, prefix: u
     requires prefix { prefix < length (T.state table.now).prefixes }
     ensures { IsLeastChoice plan.now (told plan.now (T.state table.now)) router prefix result }
 {
-    plan.lawful();
-    let keeps = plan.keeps(router, prefix);
-    metric_of(least_choice(plan, table, None, router, prefix, keeps))
+    Case::new(plan, table, prefix).equation(router)
 }

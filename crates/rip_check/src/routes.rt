@@ -1,21 +1,20 @@
 //! From what a router shows of a prefix to its route.
 
-ghost use Rattle.std.specs.Prelude.{◌≡◌, ◌≢◌, ℕ, ◌<◌, ◌≤◌, ◌⊎◌, Decides, IfNone, IfSome, IsTrue, None, Some, false, length};
+ghost use Rattle.std.specs.Prelude.{◌≡◌, ◌≢◌, ℕ, ◌<◌, ◌≤◌, ◌⊎◌, IfNone, IfSome, None, Some, length};
 ghost use Rattle.rip_plan.specs.Relations.{HasTwoInterfaces, IsLeaf};
-ghost use Rattle.rip_table.specs.State.{Fits};
+ghost use Rattle.rip_check.specs.Cases.{At, network_of, told_in};
 ghost use Rattle.rip_check.specs.Firsts.{IsFirstGap, IsReadable, IsReason, ShowsEach};
-ghost use Rattle.rip_check.specs.Tables.{FitsShown, IsOnlyRoute, Route as TableRoute, Tells};
-ghost use Rattle.rip_check.specs.TwoLeasts.{AreLeastShown};
-ghost use Rattle.rip_check.specs.Verdicts.{IsHidden};
-ghost use Rattle.rip_check.specs.Told.{told};
+ghost use Rattle.rip_check.specs.Metrics.{metric_at};
+ghost use Rattle.rip_check.specs.Tables.{IsSilent};
+ghost use Rattle.rip_check.specs.Verdicts.{IsRead};
 
-use crate::links::TwoLeast;
-use crate::lookup::{in_range, may_hold_back, told_at};
+use crate::case::Case;
+use crate::lookup::{may_hold_back, told_at};
 use crate::offers::{best_over, direct_or_16};
 use crate::surveys::survey_of;
 use crate::verdict::Unclear;
 use crate::way::Way;
-use rip_plan::Plan;
+use rip_plan::Interface;
 use rip_table::MetricTable;
 
 /// A router's route for a prefix, as it is read from what is shown.
@@ -35,27 +34,14 @@ const UNREACHABLE: ReadRoute = ReadRoute {
 
 /// The one metric and way that can be behind what a router with two interfaces shows, if there is
 /// one.
-fn read_route<T: MetricTable>(
-    plan: &Plan,
-    table: &T,
-    router: usize,
-    prefix: usize,
-) -> Option<ReadRoute>
-    requires fits { Fits plan.now (T.state table.now) }
-    requires router { router < length plan.now.routers }
-    requires prefix { prefix < length (T.state table.now).prefixes }
-    requires two { HasTwoInterfaces plan.now router }
-    ensures most { IfSome result (λ t. t.metric ≤ 16) }
-    ensures shown { IfSome result (λ t. t.hidden ≡ false) }
-    ensures some { IfSome result (λ t.
-        Tells plan.now (told plan.now (T.state table.now)) router prefix
-        (record { metric = t.metric; way = t.way })) }
-    ensures none { IfNone result ((t : TableRoute) →
-        Tells plan.now (told plan.now (T.state table.now)) router prefix t → ⊥) }
+fn read_route<T: MetricTable>(case: &Case<'_, T>, router: usize) -> Option<ReadRoute>
+    requires router { router < length (network_of case.now).routers }
+    requires two { HasTwoInterfaces (network_of case.now) router }
+    ensures some { IfSome result (At case.now IsRead router) }
+    ensures none { IfNone result (At case.now IsReadable router → ⊥) }
 {
-    plan.lawful();
-    in_range(plan, table);
-    let found = survey_of(plan, table, router, prefix);
+    case.plan.lawful();
+    let found = survey_of(case, router);
     if found.another {
         return None;
     }
@@ -84,19 +70,15 @@ fn read_route<T: MetricTable>(
 }
 
 /// The link of a router's first interface that tells nothing.
-fn first_gap<T: MetricTable>(plan: &Plan, table: &T, router: usize, prefix: usize) -> Option<usize>
-    requires fits { Fits plan.now (T.state table.now) }
-    requires router { router < length plan.now.routers }
-    requires prefix { prefix < length (T.state table.now).prefixes }
-    ensures some { IfSome result (λ l.
-        IsFirstGap plan.now (told plan.now (T.state table.now)) router prefix l) }
-    ensures none { IfNone result
-        (ShowsEach plan.now (told plan.now (T.state table.now)) router prefix) }
+fn first_gap<T: MetricTable>(case: &Case<'_, T>, router: usize) -> Option<usize>
+    requires { router < length (network_of case.now).routers }
+    ensures some { IfSome result (At case.now IsFirstGap router) }
+    ensures none { IfNone result (At case.now ShowsEach router) }
 {
-    let numbers = plan.of_router(router);
+    let numbers = case.plan.of_router(router);
     for i in numbers {
-        let own = plan.interface(*i);
-        match told_at(plan, table, *i, prefix) {
+        let own = case.plan.interface(*i);
+        match told_at(case, *i) {
             None => return Some(own.link),
             Some(_) => {}
         }
@@ -105,31 +87,24 @@ fn first_gap<T: MetricTable>(plan: &Plan, table: &T, router: usize, prefix: usiz
 }
 
 /// Why no route of a router can be read.
-pub(crate) fn reason<T: MetricTable>(
-    plan: &Plan,
-    table: &T,
-    router: usize,
-    prefix: usize,
-) -> Unclear
-    requires fits { Fits plan.now (T.state table.now) }
-    requires router { router < length plan.now.routers }
-    requires prefix { prefix < length (T.state table.now).prefixes }
-    ensures { IsReason plan.now (told plan.now (T.state table.now)) router prefix result }
+pub(crate) fn reason<T: MetricTable>(case: &Case<'_, T>, router: usize) -> Unclear
+    requires { router < length (network_of case.now).routers }
+    ensures { At case.now IsReason router result }
 {
-    plan.lawful();
-    in_range(plan, table);
-    let found = survey_of(plan, table, router, prefix);
+    case.plan.lawful();
+    let prefix = case.prefix;
+    let found = survey_of(case, router);
     if found.another {
         return Unclear::TwoMetrics { router, prefix };
     }
-    if let Some(link) = first_gap(plan, table, router, prefix) {
+    if let Some(link) = first_gap(case, router) {
         return Unclear::Missing {
             router,
             prefix,
             link,
         };
     }
-    match plan.attached_link(router, prefix) {
+    match case.plan.attached_link(router, prefix) {
         Some(link) if found.not_here && found.silent.is_none() => Unclear::ShownOn {
             router,
             prefix,
@@ -139,43 +114,53 @@ pub(crate) fn reason<T: MetricTable>(
     }
 }
 
+/// The route of a router with one interface that tells nothing or 16 there. It may not be shown.
+fn silent_leaf<T: MetricTable>(case: &Case<'_, T>, own: Interface, told: Option<u32>) -> ReadRoute
+    requires leaf { (i : ℕ) × IsLeaf (network_of case.now) own.router i own.link own.cost
+        × (told ≡ metric_at (told_in case.now) i case.now.prefix) }
+    requires silent { IsSilent told }
+    ensures { At case.now IsRead own.router result }
+{
+    case.plan.lawful();
+    let attached = case.plan.attached_link(own.router, case.prefix);
+    if may_hold_back(case.plan, attached, own.link, case.prefix) {
+        return ReadRoute {
+            metric: direct_or_16(case.plan, own.router, case.prefix),
+            way: Way::Here,
+            hidden: true,
+        };
+    }
+    match told {
+        None => UNREACHABLE,
+        Some(_) => {
+            let least = best_over(case, own, 16);
+            ReadRoute {
+                metric: least,
+                way: if least < 16 {
+                    Way::Over(own.link)
+                } else {
+                    Way::Unreachable
+                },
+                hidden: true,
+            }
+        }
+    }
+}
+
 /// The route of a router with one interface, if one can be read: there is none where it shows a
 /// metric below 16 on the link to which the prefix is attached.
-fn leaf_route<T: MetricTable>(
-    plan: &Plan,
-    table: &T,
-    links: Option<&[TwoLeast]>,
-    router: usize,
-    prefix: usize,
-) -> Option<ReadRoute>
-    requires fits { Fits plan.now (T.state table.now) }
-    requires router { router < length plan.now.routers }
-    requires prefix { prefix < length (T.state table.now).prefixes }
-    requires links { IfSome links (λ l.
-        AreLeastShown plan.now (told plan.now (T.state table.now)) prefix l.now) }
-    requires leaf { (i l c : ℕ) × IsLeaf plan.now router i l c }
-    ensures most { IfSome result (λ t. t.metric ≤ 16) }
-    ensures fits { IfSome result
-        (λ t. FitsShown plan.now (told plan.now (T.state table.now)) router prefix
-        (record { metric = t.metric; way = t.way })) }
-    ensures hidden { IfSome result
-        (λ t. Decides t.hidden
-        (IsHidden plan.now (told plan.now (T.state table.now)) router prefix)) }
-    ensures one { IfSome result
-        (λ t. IsTrue t.hidden
-        ⊎ IsOnlyRoute plan.now (told plan.now (T.state table.now)) router prefix
-        (record { metric = t.metric; way = t.way })) }
-    ensures none { IfNone result ((t : TableRoute) →
-        Tells plan.now (told plan.now (T.state table.now)) router prefix t → ⊥) }
+fn leaf_route<T: MetricTable>(case: &Case<'_, T>, router: usize) -> Option<ReadRoute>
+    requires router { router < length (network_of case.now).routers }
+    requires leaf { (i l c : ℕ) × IsLeaf (network_of case.now) router i l c }
+    ensures some { IfSome result (At case.now IsRead router) }
+    ensures none { IfNone result (At case.now IsReadable router → ⊥) }
 {
-    plan.lawful();
-    let i = plan.of_router(router)[0];
-    let own = plan.interface(i);
-    let told = told_at(plan, table, i, prefix);
-    let attached = plan.attached_link(router, prefix);
+    let i = case.plan.of_router(router)[0];
+    let own = case.plan.interface(i);
+    let told = told_at(case, i);
     match told {
         Some(metric) if metric < 16 => {
-            if attached == Some(own.link) {
+            if case.plan.attached_link(router, case.prefix) == Some(own.link) {
                 return None;
             }
             Some(ReadRoute {
@@ -184,58 +169,19 @@ fn leaf_route<T: MetricTable>(
                 hidden: false,
             })
         }
-        _ if may_hold_back(plan, attached, own.link, prefix) => Some(ReadRoute {
-            metric: direct_or_16(plan, router, prefix),
-            way: Way::Here,
-            hidden: true,
-        }),
-        None => Some(UNREACHABLE),
-        Some(_) => {
-            let least = best_over(plan, table, links, own, prefix, 16);
-            Some(ReadRoute {
-                metric: least,
-                way: if least < 16 {
-                    Way::Over(own.link)
-                } else {
-                    Way::Unreachable
-                },
-                hidden: true,
-            })
-        }
+        _ => Some(silent_leaf(case, own, told)),
     }
 }
 
-/// The route of a router for a prefix, if one can be read.
-pub(crate) fn read<T: MetricTable>(
-    plan: &Plan,
-    table: &T,
-    links: Option<&[TwoLeast]>,
-    router: usize,
-    prefix: usize,
-) -> Option<ReadRoute>
-    requires fits { Fits plan.now (T.state table.now) }
-    requires router { router < length plan.now.routers }
-    requires prefix { prefix < length (T.state table.now).prefixes }
-    requires links { IfSome links (λ l.
-        AreLeastShown plan.now (told plan.now (T.state table.now)) prefix l.now) }
-    ensures most { IfSome result (λ t. t.metric ≤ 16) }
-    ensures fits { IfSome result
-        (λ t. FitsShown plan.now (told plan.now (T.state table.now)) router prefix
-        (record { metric = t.metric; way = t.way })) }
-    ensures hidden { IfSome result
-        (λ t. Decides t.hidden
-        (IsHidden plan.now (told plan.now (T.state table.now)) router prefix)) }
-    ensures one { IfSome result
-        (λ t. IsTrue t.hidden
-        ⊎ IsOnlyRoute plan.now (told plan.now (T.state table.now)) router prefix
-        (record { metric = t.metric; way = t.way })) }
-    ensures none { IfNone result
-        (IsReadable plan.now (told plan.now (T.state table.now)) router prefix → ⊥) }
+/// The route of a router, if one can be read.
+pub(crate) fn read<T: MetricTable>(case: &Case<'_, T>, router: usize) -> Option<ReadRoute>
+    requires { router < length (network_of case.now).routers }
+    ensures some { IfSome result (At case.now IsRead router) }
+    ensures none { IfNone result (At case.now IsReadable router → ⊥) }
 {
-    plan.lawful();
-    in_range(plan, table);
-    if plan.leaf(router) {
-        return leaf_route(plan, table, links, router, prefix);
+    case.plan.lawful();
+    if case.plan.leaf(router) {
+        return leaf_route(case, router);
     }
-    read_route(plan, table, router, prefix)
+    read_route(case, router)
 }

@@ -3,12 +3,13 @@
 ghost use Rattle.std.specs.Prelude.{◌≡◌, ◌↔◌, ℕ, ◌+◌, ◌<◌, ◌≤◌, Decides, IfSome, None, Some, length};
 ghost use Rattle.rip_plan.specs.Network.{Network};
 ghost use Rattle.rip_plan.specs.Relations.{IsAttached, IsInterface};
-ghost use Rattle.rip_table.specs.State.{Fits, State};
+ghost use Rattle.rip_table.specs.State.{State};
+ghost use Rattle.rip_check.specs.Cases.{network_of, told_in};
 ghost use Rattle.rip_check.specs.Metrics.{metric_at};
 ghost use Rattle.rip_check.specs.Surveys.{IsSurvey};
 ghost use Rattle.rip_check.specs.Tables.{IsSilent};
-ghost use Rattle.rip_check.specs.Told.{told};
 
+use crate::case::Case;
 use crate::lookup::{may_hold_back, told_at};
 use rip_plan::Plan;
 use rip_table::MetricTable;
@@ -99,17 +100,10 @@ fn add_shown(
 
 /// What a router tells of a prefix. Every place is read by it, so it stands in the loop over them.
 #[inline(always)]
-pub(crate) fn survey_of<T: MetricTable>(
-    plan: &Plan,
-    table: &T,
-    router: usize,
-    prefix: usize,
-) -> Survey
-    requires fits { Fits plan.now (T.state table.now) }
-    requires router { router < length plan.now.routers }
-    requires prefix { prefix < length (T.state table.now).prefixes }
-    ensures { IsSurvey plan.now (told plan.now (T.state table.now)) router prefix
-        (length plan.now.interfaces) result }
+pub(crate) fn survey_of<T: MetricTable>(case: &Case<'_, T>, router: usize) -> Survey
+    requires { router < length (network_of case.now).routers }
+    ensures { IsSurvey (network_of case.now) (told_in case.now) router case.now.prefix
+        (length (network_of case.now).interfaces) result }
 {
     let mut found = Survey {
         metric: 16,
@@ -118,12 +112,12 @@ pub(crate) fn survey_of<T: MetricTable>(
         blocked: false,
         not_here: false,
     };
-    let attached = plan.attached_link(router, prefix);
-    let numbers = plan.of_router(router);
+    let attached = case.plan.attached_link(router, case.prefix);
+    let numbers = case.plan.of_router(router);
     for i in numbers {
-        let own = plan.interface(*i);
-        let told = told_at(plan, table, *i, prefix);
-        add_shown(plan, &mut found, attached, own.link, prefix, told);
+        let own = case.plan.interface(*i);
+        let told = told_at(case, *i);
+        add_shown(case.plan, &mut found, attached, own.link, case.prefix, told);
     }
     found
 }

@@ -1,15 +1,15 @@
 //! All places that do not hold, found at once.
 
-ghost use Rattle.std.specs.Prelude.{◌≡◌, ◌≢◌, ℕ, ◌+◌, ◌*◌, ◌<◌, ◌≤◌, IfNone, IfOk, IfSome, None, length, slice_index_or};
+ghost use Rattle.std.specs.Prelude.{◌≡◌, ◌≢◌, ℕ, ◌+◌, ◌*◌, ◌<◌, IfNone, IfOk, IfSome, None, length, slice_index_or};
 ghost use Rattle.rip_table.specs.State.{Fits};
 ghost use Rattle.rip_check.specs.Marks.{AreUnsettled, IsMark};
-ghost use Rattle.rip_check.specs.TwoLeasts.{AreLeastShown};
+ghost use Rattle.rip_check.specs.Cases.{At, network_of, told_in};
 ghost use Rattle.rip_check.specs.Verdicts.{IsFailing, IsSound};
 ghost use Rattle.rip_check.specs.Told.{told};
 
-use crate::links::{NOTHING, TwoLeast, fill};
-use crate::lookup::in_range;
-use crate::places::{failing_equation, place_of};
+use crate::case::Case;
+use crate::links::{NOTHING, fill};
+use crate::places::place_of;
 use crate::routes::read;
 use crate::verdict::Place2;
 use rip_plan::{MOST_LINKS, Plan};
@@ -25,53 +25,30 @@ pub struct Unsettled {
 }
 
 /// What the equation of a place gives, if the place can be read and does not hold.
-fn mark_of<T: MetricTable>(
-    plan: &Plan,
-    table: &T,
-    links: &[TwoLeast],
-    router: usize,
-    prefix: usize,
-) -> Option<u8>
-    requires fits { Fits plan.now (T.state table.now) }
-    requires router { router < length plan.now.routers }
-    requires prefix { prefix < length (T.state table.now).prefixes }
-    requires links { AreLeastShown plan.now (told plan.now (T.state table.now)) prefix links.now }
-    ensures { IsMark plan.now (told plan.now (T.state table.now)) router prefix result }
+fn mark_of<T: MetricTable>(case: &Case<'_, T>, router: usize) -> Option<u8>
+    requires { router < length (network_of case.now).routers }
+    ensures { At case.now IsMark router result }
 {
-    plan.lawful();
-    in_range(plan, table);
-    let Some(route) = read(plan, table, Some(links), router, prefix) else {
-        return None;
-    };
-    match failing_equation(plan, table, Some(links), router, prefix, route) {
-        Some(equation) => Some(equation as u8),
+    match case.failing(router) {
+        Some(place) => Some(place.equation.get() as u8),
         None => None,
     }
 }
 
 /// Writes the marks of all places of a prefix.
-fn mark_prefix<T: MetricTable>(
-    plan: &Plan,
-    table: &T,
-    links: &[TwoLeast],
-    prefix: usize,
-    marks: &mut [Option<u8>],
-)
-    requires fits { Fits plan.now (T.state table.now) }
-    requires prefix { prefix < length (T.state table.now).prefixes }
-    requires links { AreLeastShown plan.now (told plan.now (T.state table.now)) prefix links.now }
-    requires size { length marks.old
-        ≡ length plan.now.routers * length (T.state table.now).prefixes }
-    ensures marked { (r : ℕ) → r < length plan.now.routers →
-        IsMark plan.now (told plan.now (T.state table.now)) r prefix
-        (slice_index_or marks.new (r * length (T.state table.now).prefixes + prefix) None) }
-    ensures others { (r q : ℕ) → q < length (T.state table.now).prefixes → q ≢ prefix →
-        slice_index_or marks.new (r * length (T.state table.now).prefixes + q) None
-        ≡ slice_index_or marks.old (r * length (T.state table.now).prefixes + q) None }
+fn mark_prefix<T: MetricTable>(case: &Case<'_, T>, marks: &mut [Option<u8>])
+    requires { length marks.old ≡ length (network_of case.now).routers
+        * length (told_in case.now).prefixes }
+    ensures marked { (r : ℕ) → r < length (network_of case.now).routers →
+        At case.now IsMark r (slice_index_or marks.new
+        (r * length (told_in case.now).prefixes + case.now.prefix) None) }
+    ensures others { (r q : ℕ) → q < length (told_in case.now).prefixes → q ≢ case.now.prefix →
+        slice_index_or marks.new (r * length (told_in case.now).prefixes + q) None
+        ≡ slice_index_or marks.old (r * length (told_in case.now).prefixes + q) None }
 {
-    let count = table.prefix_count();
-    for router in 0..plan.routers() {
-        marks[router * count + prefix] = mark_of(plan, table, links, router, prefix);
+    let count = case.table.prefix_count();
+    for router in 0..case.plan.routers() {
+        marks[router * count + case.prefix] = mark_of(case, router);
     }
 }
 
@@ -93,36 +70,26 @@ impl Unsettled {
         let mut room = [NOTHING; MOST_LINKS];
         let links = &mut room[..plan.links()];
         for prefix in 0..count {
-            fill(plan, table, prefix, links);
-            mark_prefix(plan, table, links, prefix, marks.as_mut_slice());
+            let case = Case::new(plan, table, prefix);
+            fill(&case, links);
+            mark_prefix(&case.with_links(links), marks.as_mut_slice());
         }
         Ok(Unsettled { marks })
     }
 
-    /// The place of a router and a prefix, both by their numbers, if it can be read and does not
-    /// hold.
-    pub fn at<T: MetricTable>(
-        &self,
-        plan: &Plan,
-        table: &T,
-        router: usize,
-        prefix: usize,
-    ) -> Option<Place2>
-        requires fits { Fits plan.now (T.state table.now) }
-        requires places { AreUnsettled plan.now (told plan.now (T.state table.now)) self.now }
-        requires router { router < length plan.now.routers }
-        requires prefix { prefix < length (T.state table.now).prefixes }
-        ensures some { IfSome result (λ f. (f.router ≡ router) × (f.prefix ≡ prefix)
-            × IsFailing plan.now (told plan.now (T.state table.now)) f) }
-        ensures none { IfNone result
-            (IsSound plan.now (told plan.now (T.state table.now)) router prefix) }
+    /// The place of a router and the prefix of a case, if it can be read and does not hold.
+    pub fn at<T: MetricTable>(&self, case: &Case<'_, T>, router: usize) -> Option<Place2>
+        requires places { AreUnsettled (network_of case.now) (told_in case.now) self.now }
+        requires router { router < length (network_of case.now).routers }
+        ensures some { IfSome result (λ f. (f.router ≡ router) × (f.prefix ≡ case.now.prefix)
+            × IsFailing (network_of case.now) (told_in case.now) f) }
+        ensures none { IfNone result (At case.now IsSound router) }
     {
-        plan.lawful();
-        in_range(plan, table);
-        let Some(equation) = self.marks[router * table.prefix_count() + prefix] else {
+        case.plan.lawful();
+        let Some(equation) = self.marks[router * case.table.prefix_count() + case.prefix] else {
             return None;
         };
-        let route = read(plan, table, None, router, prefix).unwrap();
-        Some(place_of(router, prefix, route, u32::from(equation)))
+        let route = read(case, router).unwrap();
+        Some(place_of(router, case.prefix, route, u32::from(equation)))
     }
 }

@@ -1,304 +1,251 @@
 //! Whether a failure may change a least metric of a prefix: where each router keeps a way, the
 //! metrics of before stay.
 
-ghost use Rattle.std.specs.Prelude.{◌≡◌, ◌≢◌, ◌+◌, ℕ, ◌<◌, Some, false, length, slice_index, true};
+ghost use Rattle.std.specs.Prelude.{◌≡◌, ◌≢◌, ◌+◌, ℕ, ◌<◌, ◌⊎◌, Some, false, length, slice_index, true};
 ghost use Rattle.rip_plan.specs.Relations.{HasCost, IsAttached, IsKept, IsOn};
-ghost use Rattle.rip_check.specs.Expected.{AreExpected};
-ghost use Rattle.rip_check.specs.Failures.{IsKnown, is_router_up, network_after};
+ghost use Rattle.rip_check.specs.Failures.{is_router_up, network_after};
 ghost use Rattle.rip_check.specs.Paths.{IsLeast};
-ghost use Rattle.rip_check.specs.Untouched.{HasWayLeft, IsStep, IsUntouched, KeepsWay};
-ghost use Rattle.rip_check.specs.declared.failures.Failure.TheVariants as failures;
+ghost use Rattle.rip_check.specs.Scenarios.{IsScenario};
+ghost use Rattle.rip_check.specs.Untouched.{HasWayLeft, IsStep, IsStepUp, IsUntouched, KeepsWay};
 
 use crate::expected::Expected;
 use crate::failures::{Failure, direct_left, is_link_up, is_router_up, takes};
-use rip_plan::Plan;
+use rip_plan::{Interface, Plan};
 
-/// Whether a least path of a router may begin over an interface of this cost, to another one: the
-/// cost and the least metric there come to the router's.
-fn is_step(
-    plan: &Plan,
-    before: &Expected,
-    router: usize,
-    cost: u8,
-    next: usize,
-    prefix: usize,
-) -> bool
-    requires before { AreExpected plan.now before.now }
-    requires router { router < length plan.now.routers }
-    requires next { next < length plan.now.routers }
-    requires prefix { prefix < length plan.now.prefixes }
-    ensures { result ≡ false → IsStep plan.now prefix router cost next → ⊥ }
-{
-    let metric = before.number(plan, router, prefix);
-    metric < 16 && u32::from(cost) + before.number(plan, next, prefix) == metric
+/// A failure in a plan, for a prefix, with the right routes before it.
+#[derive(Clone, Copy)]
+pub(crate) struct Scenario<'a> {
+    pub plan: &'a Plan,
+    pub before: &'a Expected,
+    pub failure: Failure,
+    pub prefix: usize,
 }
 
-/// Whether a neighbour on a link that has not failed gives a router this metric, over an interface
-/// of this cost, by the least metrics of before. (Why so many arguments: DECISIONS.md.)
-fn is_given_over(
-    plan: &Plan,
-    before: &Expected,
-    failure: Failure,
-    router: usize,
-    link: usize,
-    cost: u8,
-    metric: u32,
-    prefix: usize,
-) -> bool
-    requires before { AreExpected plan.now before.now }
-    requires link { link < length plan.now.links }
-    requires prefix { prefix < length plan.now.prefixes }
-    ensures { result ≡ true → (s w : ℕ) × (s ≢ router) × IsOn plan.now s link
-        × (is_router_up (Some failure) s ≡ true) × (IsAttached plan.now s prefix link → ⊥)
-        × IsLeast plan.now prefix s w × (metric ≡ cost + w) }
-{
-    plan.lawful();
-    let numbers = plan.on_link(link);
-    for j in numbers {
-        let across = plan.interface(*j).router;
-        if across != router
-            && u32::from(cost) + before.number(plan, across, prefix) == metric
-            && is_router_up(Some(failure), across)
-            && plan.attached_link(across, prefix) != Some(link)
-        {
+impl Scenario<'_> {
+    /// The least metric of a router before the failure.
+    #[inline(always)]
+    fn metric(&self, router: usize) -> u32
+        requires scenario { IsScenario self.now }
+        requires router { router < length self.now.plan.now.routers }
+        ensures { IsLeast self.now.plan.now self.now.prefix router result }
+    {
+        self.before.number(self.plan, router, self.prefix)
+    }
+
+    /// Whether a least path of a router, which has this metric, may begin over its interface, to
+    /// another router: the cost and the least metric there come to the router's.
+    #[inline(always)]
+    fn is_step(&self, own: &Interface, metric: u32, next: usize) -> bool
+        requires scenario { IsScenario self.now }
+        requires metric { IsLeast self.now.plan.now self.now.prefix own.now.router metric }
+        requires next { next < length self.now.plan.now.routers }
+        ensures { result ≡ false →
+            IsStep self.now.plan.now self.now.prefix own.now.router own.now.cost next → ⊥ }
+    {
+        u32::from(own.cost) + self.metric(next) == metric && metric < 16
+    }
+
+    /// Whether a neighbour that has not failed gives a router this metric over its interface, by
+    /// the least metrics of before.
+    fn is_given_over(&self, own: &Interface, metric: u32) -> bool
+        requires scenario { IsScenario self.now }
+        requires own { HasCost self.now.plan.now own.now.router own.now.link own.now.cost }
+        ensures { result ≡ true → (s w : ℕ) × (s ≢ own.now.router)
+            × IsOn self.now.plan.now s own.now.link
+            × (is_router_up (Some self.now.failure) s ≡ true)
+            × (IsAttached self.now.plan.now s self.now.prefix own.now.link → ⊥)
+            × IsLeast self.now.plan.now self.now.prefix s w × (metric ≡ own.now.cost + w) }
+    {
+        self.plan.lawful();
+        let numbers = self.plan.on_link(own.link);
+        for j in numbers {
+            let across = self.plan.interface(*j).router;
+            if across != own.router
+                && u32::from(own.cost) + self.metric(across) == metric
+                && is_router_up(Some(self.failure), across)
+                && self.plan.attached_link(across, self.prefix) != Some(own.link)
+            {
+                return true;
+            }
+        }
+        false
+    }
+
+    /// Whether a router that takes offers is given this metric over any link that has not failed.
+    fn is_given(&self, router: usize, metric: u32) -> bool
+        requires scenario { IsScenario self.now }
+        requires router { router < length self.now.plan.now.routers }
+        requires up { is_router_up (Some self.now.failure) router ≡ true }
+        requires takes { IsKept (network_after self.now.plan.now self.now.failure) router
+            self.now.prefix → ⊥ }
+        ensures { result ≡ true →
+            HasWayLeft self.now.plan.now self.now.failure self.now.prefix router metric }
+    {
+        let numbers = self.plan.of_router(router);
+        for i in numbers {
+            let own = self.plan.interface(*i);
+            if is_link_up(Some(self.failure), own.link) && self.is_given_over(&own, metric) {
+                return true;
+            }
+        }
+        false
+    }
+
+    /// Whether a router keeps a way after the failure, or has none below 16 before.
+    fn keeps_way(&self, router: usize) -> bool
+        requires scenario { IsScenario self.now }
+        requires router { router < length self.now.plan.now.routers }
+        ensures { result ≡ true →
+            KeepsWay self.now.plan.now self.now.failure self.now.prefix router }
+    {
+        let failure = Some(self.failure);
+        let metric = self.metric(router);
+        if metric == 16 || direct_left(self.plan, failure, router, self.prefix) == metric {
             return true;
         }
+        takes(self.plan, failure, router, self.prefix) && self.is_given(router, metric)
     }
-    false
-}
 
-/// Whether a router that takes offers is given this metric over any link that has not failed.
-fn is_given(
-    plan: &Plan,
-    before: &Expected,
-    failure: Failure,
-    router: usize,
-    metric: u32,
-    prefix: usize,
-) -> bool
-    requires before { AreExpected plan.now before.now }
-    requires router { router < length plan.now.routers }
-    requires up { is_router_up (Some failure) router ≡ true }
-    requires takes { IsKept (network_after plan.now failure) router prefix → ⊥ }
-    requires prefix { prefix < length plan.now.prefixes }
-    ensures { result ≡ true → HasWayLeft plan.now failure prefix router metric }
-{
-    plan.lawful();
-    let numbers = plan.of_router(router);
-    for i in numbers {
-        let own = plan.interface(*i);
-        if is_link_up(Some(failure), own.link)
-            && is_given_over(
-                plan, before, failure, router, own.link, own.cost, metric, prefix,
-            )
-        {
-            return true;
+    /// Whether a least path of a router may begin over its interface.
+    fn leads_over(&self, own: &Interface) -> bool
+        requires scenario { IsScenario self.now }
+        requires own { HasCost self.now.plan.now own.now.router own.now.link own.now.cost }
+        ensures { result ≡ false → (s : ℕ) → IsOn self.now.plan.now s own.now.link →
+            IsStep self.now.plan.now self.now.prefix own.now.router own.now.cost s → ⊥ }
+    {
+        self.plan.lawful();
+        let metric = self.metric(own.router);
+        let numbers = self.plan.on_link(own.link);
+        for j in numbers {
+            let across = self.plan.interface(*j);
+            if self.is_step(own, metric, across.router) {
+                return true;
+            }
+        }
+        false
+    }
+
+    /// Whether a least path of a router may begin over its interface, on the failed link or to the
+    /// failed router.
+    #[inline(always)]
+    fn leads_down(&self, own: &Interface) -> bool
+        requires scenario { IsScenario self.now }
+        requires own { HasCost self.now.plan.now own.now.router own.now.link own.now.cost }
+        ensures { result ≡ false → (s : ℕ) → IsOn self.now.plan.now s own.now.link →
+            IsStep self.now.plan.now self.now.prefix own.now.router own.now.cost s →
+            IsStepUp self.now.failure own.now.link s }
+    {
+        self.plan.lawful();
+        match self.failure {
+            Failure::Link(_) => self.leads_over(own),
+            Failure::Router(failed) => self.is_step(own, self.metric(own.router), failed),
         }
     }
-    false
-}
 
-/// Whether a router keeps a way after a failure, or has none below 16 before.
-fn keeps_way(plan: &Plan, before: &Expected, failure: Failure, router: usize, prefix: usize) -> bool
-    requires before { AreExpected plan.now before.now }
-    requires router { router < length plan.now.routers }
-    requires prefix { prefix < length plan.now.prefixes }
-    ensures { result ≡ true → KeepsWay plan.now failure prefix router }
-{
-    let metric = before.number(plan, router, prefix);
-    if metric == 16 || direct_left(plan, Some(failure), router, prefix) == metric {
-        return true;
+    /// Whether the failure may cut off the router of an interface there: a least path may begin so,
+    /// and the router keeps no other way.
+    #[inline(always)]
+    fn is_cut(&self, own: &Interface) -> bool
+        requires scenario { IsScenario self.now }
+        requires own { HasCost self.now.plan.now own.now.router own.now.link own.now.cost }
+        ensures { result ≡ false → (s : ℕ) → IsOn self.now.plan.now s own.now.link →
+            IsStep self.now.plan.now self.now.prefix own.now.router own.now.cost s →
+            IsStepUp self.now.failure own.now.link s
+            ⊎ KeepsWay self.now.plan.now self.now.failure self.now.prefix own.now.router }
+    {
+        self.plan.lawful();
+        self.leads_down(own) && !self.keeps_way(own.router)
     }
-    takes(plan, Some(failure), router, prefix)
-        && is_given(plan, before, failure, router, metric, prefix)
-}
 
-/// Whether a least path of a router may begin over an interface on a link, of this cost.
-fn leads_over(
-    plan: &Plan,
-    before: &Expected,
-    router: usize,
-    link: usize,
-    cost: u8,
-    prefix: usize,
-) -> bool
-    requires before { AreExpected plan.now before.now }
-    requires router { router < length plan.now.routers }
-    requires link { link < length plan.now.links }
-    requires prefix { prefix < length plan.now.prefixes }
-    ensures { result ≡ false → (s : ℕ) → IsOn plan.now s link →
-        IsStep plan.now prefix router cost s → ⊥ }
-{
-    plan.lawful();
-    let numbers = plan.on_link(link);
-    for j in numbers {
-        let across = plan.interface(*j);
-        if is_step(plan, before, router, cost, across.router, prefix) {
-            return true;
+    /// Whether the failure may cut off any router over a link.
+    #[inline(always)]
+    fn is_cut_on(&self, link: usize) -> bool
+        requires scenario { IsScenario self.now }
+        requires link { link < length self.now.plan.now.links }
+        ensures { result ≡ false → (r c s : ℕ) → HasCost self.now.plan.now r link c →
+            IsOn self.now.plan.now s link → IsStep self.now.plan.now self.now.prefix r c s →
+            IsStepUp self.now.failure link s
+            ⊎ KeepsWay self.now.plan.now self.now.failure self.now.prefix r }
+    {
+        let numbers = self.plan.on_link(link);
+        for j in numbers {
+            let own = self.plan.interface(*j);
+            if self.is_cut(&own) {
+                return true;
+            }
+        }
+        false
+    }
+
+    /// Whether the failure may cut off any router over a link of a router.
+    fn is_cut_around(&self, router: usize) -> bool
+        requires scenario { IsScenario self.now }
+        requires router { router < length self.now.plan.now.routers }
+        ensures { result ≡ false → (l r c s : ℕ) → IsOn self.now.plan.now router l →
+            HasCost self.now.plan.now r l c → IsOn self.now.plan.now s l →
+            IsStep self.now.plan.now self.now.prefix r c s → IsStepUp self.now.failure l s
+            ⊎ KeepsWay self.now.plan.now self.now.failure self.now.prefix r }
+    {
+        self.plan.lawful();
+        let numbers = self.plan.of_router(router);
+        for i in numbers {
+            if self.is_cut_on(self.plan.interface(*i).link) {
+                return true;
+            }
+        }
+        false
+    }
+
+    /// Whether any router has the prefix attached to a link.
+    fn is_attached_to(&self, link: usize) -> bool
+        requires { link < length self.now.plan.now.links }
+        ensures { result ≡ false → (r : ℕ) →
+            IsAttached self.now.plan.now r self.now.prefix link → ⊥ }
+    {
+        self.plan.lawful();
+        let numbers = self.plan.on_link(link);
+        for j in numbers {
+            let own = self.plan.interface(*j);
+            if self.plan.attached_link(own.router, self.prefix) == Some(link) {
+                return true;
+            }
+        }
+        false
+    }
+
+    /// Whether the failure may change a least metric.
+    pub(crate) fn touches(&self) -> bool
+        requires { IsScenario self.now }
+        ensures { result ≡ false →
+            IsUntouched self.now.plan.now self.now.failure self.now.prefix }
+    {
+        match self.failure {
+            Failure::Link(link) => {
+                self.plan.is_place(link, self.prefix)
+                    || self.is_attached_to(link)
+                    || self.is_cut_on(link)
+            }
+            Failure::Router(router) => self.is_cut_around(router),
         }
     }
-    false
-}
 
-/// Whether the failure of a link may cut off a router there: a least path may begin over the link,
-/// and the router keeps no other way.
-fn is_cut_over(
-    plan: &Plan,
-    before: &Expected,
-    router: usize,
-    link: usize,
-    cost: u8,
-    prefix: usize,
-) -> bool
-    requires before { AreExpected plan.now before.now }
-    requires router { router < length plan.now.routers }
-    requires link { link < length plan.now.links }
-    requires prefix { prefix < length plan.now.prefixes }
-    ensures { result ≡ false → (s : ℕ) → IsOn plan.now s link →
-        IsStep plan.now prefix router cost s →
-        KeepsWay plan.now (failures.Link link) prefix router }
-{
-    leads_over(plan, before, router, link, cost, prefix)
-        && !keeps_way(plan, before, Failure::Link(link), router, prefix)
-}
-
-/// Whether the failure of a link may cut off any router there.
-fn is_any_cut(plan: &Plan, before: &Expected, link: usize, prefix: usize) -> bool
-    requires before { AreExpected plan.now before.now }
-    requires link { link < length plan.now.links }
-    requires prefix { prefix < length plan.now.prefixes }
-    ensures { result ≡ false → (r c s : ℕ) → HasCost plan.now r link c → IsOn plan.now s link →
-        IsStep plan.now prefix r c s → KeepsWay plan.now (failures.Link link) prefix r }
-{
-    plan.lawful();
-    let numbers = plan.on_link(link);
-    for j in numbers {
-        let own = plan.interface(*j);
-        if is_cut_over(plan, before, own.router, link, own.cost, prefix) {
-            return true;
+    /// Writes the least metric of each router where the failure changes none: that of before, or 16
+    /// of a router that has failed.
+    pub(crate) fn fill_before(&self, row: &mut [u8])
+        requires scenario { IsScenario self.now }
+        requires size { length row.old ≡ length self.now.plan.now.routers }
+        ensures up { (r : ℕ) → r < length self.now.plan.now.routers →
+            is_router_up (Some self.now.failure) r ≡ true →
+            IsLeast self.now.plan.now self.now.prefix r (slice_index row.new r) }
+        ensures failed { (r : ℕ) → r < length self.now.plan.now.routers →
+            is_router_up (Some self.now.failure) r ≡ false → slice_index row.new r ≡ 16 }
+    {
+        for router in 0..row.len() {
+            row[router] = if is_router_up(Some(self.failure), router) {
+                self.metric(router) as u8
+            } else {
+                16
+            };
         }
-    }
-    false
-}
-
-/// Whether the failure of a router may cut off another one: a least path may begin over an
-/// interface of this cost, to the router that fails, and the other one keeps no other way.
-fn is_cut_from(
-    plan: &Plan,
-    before: &Expected,
-    router: usize,
-    cost: u8,
-    failed: usize,
-    prefix: usize,
-) -> bool
-    requires before { AreExpected plan.now before.now }
-    requires router { router < length plan.now.routers }
-    requires failed { failed < length plan.now.routers }
-    requires prefix { prefix < length plan.now.prefixes }
-    ensures { result ≡ false → IsStep plan.now prefix router cost failed →
-        KeepsWay plan.now (failures.Router failed) prefix router }
-{
-    is_step(plan, before, router, cost, failed, prefix)
-        && !keeps_way(plan, before, Failure::Router(failed), router, prefix)
-}
-
-/// Whether the failure of a router may cut off any router on a link.
-fn is_any_cut_on(plan: &Plan, before: &Expected, link: usize, failed: usize, prefix: usize) -> bool
-    requires before { AreExpected plan.now before.now }
-    requires link { link < length plan.now.links }
-    requires failed { failed < length plan.now.routers }
-    requires prefix { prefix < length plan.now.prefixes }
-    ensures { result ≡ false → (r c : ℕ) → HasCost plan.now r link c →
-        IsStep plan.now prefix r c failed →
-        KeepsWay plan.now (failures.Router failed) prefix r }
-{
-    plan.lawful();
-    let numbers = plan.on_link(link);
-    for j in numbers {
-        let own = plan.interface(*j);
-        if is_cut_from(plan, before, own.router, own.cost, failed, prefix) {
-            return true;
-        }
-    }
-    false
-}
-
-/// Whether the failure of a router may cut off any other one.
-fn is_any_cut_from(plan: &Plan, before: &Expected, failed: usize, prefix: usize) -> bool
-    requires before { AreExpected plan.now before.now }
-    requires failed { failed < length plan.now.routers }
-    requires prefix { prefix < length plan.now.prefixes }
-    ensures { result ≡ false → (l r c : ℕ) → IsOn plan.now failed l → HasCost plan.now r l c →
-        IsStep plan.now prefix r c failed →
-        KeepsWay plan.now (failures.Router failed) prefix r }
-{
-    plan.lawful();
-    let numbers = plan.of_router(failed);
-    for i in numbers {
-        let own = plan.interface(*i);
-        if is_any_cut_on(plan, before, own.link, failed, prefix) {
-            return true;
-        }
-    }
-    false
-}
-
-/// Whether any router has a prefix attached to a link.
-fn is_attached_to(plan: &Plan, link: usize, prefix: usize) -> bool
-    requires { link < length plan.now.links }
-    ensures { result ≡ false → (r : ℕ) → IsAttached plan.now r prefix link → ⊥ }
-{
-    plan.lawful();
-    let numbers = plan.on_link(link);
-    for j in numbers {
-        let own = plan.interface(*j);
-        if plan.attached_link(own.router, prefix) == Some(link) {
-            return true;
-        }
-    }
-    false
-}
-
-/// Whether a failure may change a least metric of a prefix.
-pub(crate) fn touches(plan: &Plan, before: &Expected, failure: Failure, prefix: usize) -> bool
-    requires before { AreExpected plan.now before.now }
-    requires known { IsKnown plan.now failure }
-    requires prefix { prefix < length plan.now.prefixes }
-    ensures { result ≡ false → IsUntouched plan.now failure prefix }
-{
-    plan.lawful();
-    match failure {
-        Failure::Link(link) => {
-            plan.is_place(link, prefix)
-                || is_attached_to(plan, link, prefix)
-                || is_any_cut(plan, before, link, prefix)
-        }
-        Failure::Router(router) => is_any_cut_from(plan, before, router, prefix),
-    }
-}
-
-/// Writes the least metric of each router for a prefix that a failure does not touch: that of
-/// before, or 16 of a router that has failed.
-pub(crate) fn fill_before(
-    plan: &Plan,
-    before: &Expected,
-    failure: Failure,
-    prefix: usize,
-    row: &mut [u8],
-)
-    requires before { AreExpected plan.now before.now }
-    requires prefix { prefix < length plan.now.prefixes }
-    requires size { length row.old ≡ length plan.now.routers }
-    ensures up { (r : ℕ) → r < length plan.now.routers → is_router_up (Some failure) r ≡ true →
-        IsLeast plan.now prefix r (slice_index row.new r) }
-    ensures failed { (r : ℕ) → r < length plan.now.routers →
-        is_router_up (Some failure) r ≡ false → slice_index row.new r ≡ 16 }
-{
-    for router in 0..row.len() {
-        row[router] = if is_router_up(Some(failure), router) {
-            before.number(plan, router, prefix) as u8
-        } else {
-            16
-        };
     }
 }

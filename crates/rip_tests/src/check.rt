@@ -7,7 +7,7 @@ ghost use Rattle.rip_check.specs.Expected.{AreExpected};
 use crate::examples::{PHANTOM, SETTLED, SLOPE, TRIANGLE};
 use crate::fixtures::{grid_of, list_of, metric, plan_of};
 use rip_check::{
-    Expected, Place2, Route, Unclear, Unsettled, Verdict, Way, equation, judge, least_metric,
+    Case, Expected, Place2, Route, Unclear, Unsettled, Verdict, Way, equation, judge, least_metric,
     next_unsettled, offer, route,
 };
 use rip_plan::Plan;
@@ -108,8 +108,8 @@ fn expect_found<T: MetricTable>(rt: &impl Abort, alloc: Global, plan: &Plan, tab
         panic!(rt; "no memory");
     };
     assert!(rt; plan.routers() == 3 && table.prefix_count() == 4);
-    assert!(rt; unsettled.at(plan, table, 0, 3) == Some(phantom_place(rt, 0)));
-    assert!(rt; unsettled.at(plan, table, 0, 2) == None);
+    assert!(rt; unsettled.at(&Case::new(plan, table, 3), 0) == Some(phantom_place(rt, 0)));
+    assert!(rt; unsettled.at(&Case::new(plan, table, 2), 0) == None);
 }
 
 #[test]

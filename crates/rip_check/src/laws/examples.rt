@@ -3,19 +3,12 @@
 
 ghost use Rattle.std.specs.Prelude.{[], ◌∷◌, None, Some};
 ghost use Rattle.rip_check.specs.Examples as net;
-ghost use Rattle.rip_check.specs.Examples.{IsSettledNetwork, IsUnsettledNetwork, chain, chain_shown, chain_tables, down_from, keeper_shown, keeper_tables, leaf_shown, leaf_tables, nowhere_shown, phantom_shown, phantom_tables, route, second_shown, second_tables, slope_shown, slope_tables, triangle_shown, triangle_tables, two_exits_shown, two_exits_tables, with_leaf};
+ghost use Rattle.rip_check.specs.Examples.{IsSettledNetwork, IsUnsettledNetwork, chain, chain_shown, chain_tables, down_from, keeper_shown, keeper_tables, leaf_shown, leaf_tables, nowhere_shown, phantom_shown, phantom_tables, route, second_shown, second_tables, slope_shown, slope_tables, triangle_tables, two_exits_shown, two_exits_tables, with_leaf};
 ghost use Rattle.rip_check.specs.Paths.{IsLeast, IsPath};
 ghost use Rattle.rip_check.specs.Settled.{Holds};
 ghost use Rattle.rip_check.specs.Tables.{FitsShown};
 ghost use Rattle.rip_check.specs.Walks.{IsWalk};
 ghost use Rattle.rip_check.specs.declared.way.Way.TheVariants.{Here, Over, Unreachable};
-
-/// Three routers with a link between any two: each metric is right.
-pub fn triangle()
-    ensures { IsSettledNetwork net.triangle triangle_shown triangle_tables }
-{
-    rip_wire::laws::names();
-}
 
 /// A prefix that nobody has, which each router believes to be behind the next one at metric 2: it
 /// should be 16 everywhere. What a router is offered is 3.

@@ -6,7 +6,7 @@ ghost use Rattle.rip_check.specs.Impacts.{HasRoom};
 
 use crate::examples::TRIANGLE;
 use crate::fixtures::{joined, plan_of};
-use rip_check::{Aftermath, Expected, Failure};
+use rip_check::{Aftermath, Expected, Failure, Losses};
 use rip_plan::Plan;
 use std::alloc::{AllocError, Global};
 use std::process::Abort;
@@ -33,11 +33,17 @@ fn expect_link(rt: &impl Abort, plan: &Plan, expected: &Expected, aftermath: &mu
     assert!(rt; 1 < plan.links() && 3 < plan.routers() && 3 < plan.prefixes());
     let failure = Failure::Link(1);
     aftermath.find(plan, expected, failure);
-    let impact = aftermath.impact(plan, expected, failure);
+    let losses = Losses {
+        plan,
+        before: expected,
+        failure,
+        after: aftermath,
+    };
+    let impact = losses.impact();
     assert!(rt; impact.lost == 5 && impact.gone == 1 && impact.longer == 0);
     assert!(rt; impact.hardest_hit == 3 && impact.most_lost == 2);
-    assert!(rt; aftermath.is_gone(plan, failure, 1));
-    assert!(rt; aftermath.is_lost(plan, expected, failure, 3, 0));
+    assert!(rt; losses.is_gone(1));
+    assert!(rt; losses.is_lost(3, 0));
 }
 
 /// Expects what the failure of a router beside the leaf costs.
@@ -48,7 +54,13 @@ fn expect_router(rt: &impl Abort, plan: &Plan, expected: &Expected, aftermath: &
     assert!(rt; 1 < plan.routers());
     let failure = Failure::Router(1);
     aftermath.find(plan, expected, failure);
-    let impact = aftermath.impact(plan, expected, failure);
+    let losses = Losses {
+        plan,
+        before: expected,
+        failure,
+        after: aftermath,
+    };
+    let impact = losses.impact();
     assert!(rt; impact.lost == 0 && impact.gone == 0 && impact.longer == 1);
     assert!(rt; impact.farthest == 3);
 }

@@ -1,17 +1,8 @@
-use Rattle.std.proofs.Common.{◌≡◌, inl, inr, refl, arith}
+use Rattle.std.proofs.Common.{◌≡◌, inl, inr, arith}
 use Rattle.std.proofs.lemmas.Bool.{cases_lt}
 use Rattle.rip_check.proofs.LeftLemmas.{direct_known, was_direct}
 use Rattle.rip_check.proofs.PlanLemmas.{direct_most}
 use Rattle.rip_check.proofs.aftermath.is_anywhere.Goals as goal
-
-pub returns-then-direct_left-lt16 : goal.returns-then-direct_left-lt16
-returns-then-direct_left-lt16 c = (
-  λ t. elim c.direct_left.ensures.chosen [
-    | inl far ↦ absurd (omega (arith, far, c.if-direct_left-lt16.true))
-    | inr direct ↦ (c.loop-router.router, c.direct_left.result, direct)
-  ],
-  λ h. refl,
-)
 
 pub loop-router-preserved : goal.loop-router-preserved
 loop-router-preserved c = λ r d lt direct.

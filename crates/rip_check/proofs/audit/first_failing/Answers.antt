@@ -1,10 +1,11 @@
 use Rattle.std.proofs.Common.{◌≡◌, ℕ, ◌<◌, Bool, true, false, not, Option, Some, None, IfSome, IfNone, is_some, below_more, length, refl, sym, ap, subst, ◌∙◌, arith}
 use Rattle.rip_check.specs.Verdicts.{IsSound, route_of}
+use Rattle.rip_check.proofs.CaseLemmas.{in_range_told}
 use Rattle.rip_check.proofs.ReadableLemmas.{fits_readable, one_sound, one_fails}
 use Rattle.rip_check.proofs.FirstPlaceLemmas.{so_far_on, so_far_first, all_so_far, IsFirstSoFar}
 use Rattle.rip_check.proofs.audit.first_failing.Goals as goal
 use Rattle.rip_check.proofs.audit.first_failing.Goals.{then-is_none+then-router-below+then-is_some, else-is_none, else-is_none-via-then-is_none+then-router-below+else-is_some, else-is_none-via-then-is_none+else-router-below, else-is_none-via-else-is_none}
-use Rattle.rip_check.specs.Told.{told}
+use Rattle.rip_check.specs.Cases.{told_in}
 
 some_fails : {P : Type 0} (o : Option ℕ) → IfSome o (λ _. P) → is_some o ≡ true → P
 some_fails None h e = absurd cc
@@ -23,16 +24,16 @@ is_something o b e h none = let clash : false ≡ true = sym (ap is_some none) �
 
 pub loop-router-preserved : goal.loop-router-preserved
 loop-router-preserved g c =
-    let n = c.args.plan.now in
+    let n = c.args.case.now.plan.now in
     let plan = c.lawful.ensures in
-    let shown = (told c.args.plan.now (g.T.MetricTable.state c.args.table.now)) in
-    let range = c.in_range.ensures in
+    let shown = (told_in c.args.case.now) in
+    let range = (in_range_told c.args.case.now) in
     let r = c.loop-router.router in
-    let p = c.args.prefix in
+    let p = c.args.case.now.prefix in
     let Fine : ℕ → Type 0 = λ s. IsSound n shown s p in
     let known : r < length n.routers = omega (arith, c.loop-router-test.true, c.loop-router.auto.router-end, c.routers-router-end.ensures) in
     let t = route_of c.in-Some.route in
-    let fits = c.in-Some.ensures.fits in
+    let fits = c.in-Some.ensures.some.fits in
     let was = c.loop-router.invariant.failing in
     record {
       readable = below_more _ _ c.loop-router.invariant.readable (fits_readable n plan shown range r p t known fits);
@@ -54,5 +55,5 @@ loop-router-preserved g c =
 
 pub returns-clause-failing : goal.returns-clause-failing
 returns-clause-failing g c =
-    all_so_far c.args.below c.loop-router.router (λ s. IsSound c.args.plan.now (told c.args.plan.now (g.T.MetricTable.state c.args.table.now)) s c.args.prefix) c.loop-router.first
-    (omega (arith, c.requires.known, c.loop-router-test.false, c.loop-router.auto.router-end, c.routers-router-end.ensures)) c.loop-router.invariant.failing
+    all_so_far c.args.below c.loop-router.router (λ s. IsSound c.args.case.now.plan.now (told_in c.args.case.now) s c.args.case.now.prefix) c.loop-router.first
+    (omega (arith, c.requires, c.loop-router-test.false, c.loop-router.auto.router-end, c.routers-router-end.ensures)) c.loop-router.invariant.failing

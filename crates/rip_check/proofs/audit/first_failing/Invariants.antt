@@ -3,10 +3,10 @@ use Rattle.rip_check.specs.Firsts.{IsFirstOf, IsReadable}
 use Rattle.rip_check.specs.Verdicts.{IsSound}
 use Rattle.rip_check.proofs.FirstPlaceLemmas.{IsFirstSoFar}
 use Rattle.rip_check.proofs.audit.first_failing.Given as goal
-use Rattle.rip_check.specs.Told.{told}
+use Rattle.rip_check.specs.Cases.{told_in}
 
 abbrev pub invariant-loop-router : goal.invariant-loop-router
 invariant-loop-router g l = record {
-  readable : IsFirstOf l.router (λ s. IsReadable l.plan (told l.plan (g.T.MetricTable.state l.table)) s l.prefix) None;
-  failing : IsFirstSoFar l.below l.router (λ s. IsSound l.plan (told l.plan (g.T.MetricTable.state l.table)) s l.prefix) l.first;
+  readable : IsFirstOf l.router (λ s. IsReadable l.case.plan.now (told_in l.case) s l.case.prefix) None;
+  failing : IsFirstSoFar l.below l.router (λ s. IsSound l.case.plan.now (told_in l.case) s l.case.prefix) l.first;
 }

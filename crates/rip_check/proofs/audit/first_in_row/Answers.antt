@@ -4,7 +4,7 @@ use Rattle.rip_check.proofs.audit.first_in_row.Goals as goal
 
 pub returns-in-Some-clause-some : goal.returns-in-Some-clause-some
 returns-in-Some-clause-some g c =
-    let h = c.in-Some.ensures.some in
+    let h = rw (c.new.ensures.plan, c.new.ensures.table, c.new.ensures.prefix) at c.in-Some.ensures.some in
     record {
       router = h.0;
       from_on = omega (arith, h.1, c.loop-prefix.auto.prefix);
@@ -19,7 +19,7 @@ loop-prefix-preserved g c = λ q on lt.
       | inl less ↦ c.loop-prefix.invariant q on less
       | inr big ↦
           let e : q ≡ c.loop-prefix.prefix = omega arith in
-          rw e c.in_default.ensures.none
+          rw e (rw (c.new.ensures.plan, c.new.ensures.table, c.new.ensures.prefix) at c.in_default.ensures.none)
     ]
 
 pub returns-clause-none : goal.returns-clause-none

@@ -1,18 +1,7 @@
-use Rattle.std.proofs.Common.{◌≡◌, inl, inr, true, false, IsTrue, refl, sym, ◌∙◌, arith}
+use Rattle.std.proofs.Common.{◌≡◌, inl, inr, true, refl, sym, ◌∙◌, arith}
 use Rattle.std.proofs.lemmas.Bool.{cases_lt}
 use Rattle.rip_check.proofs.OwnedLemmas.{within}
 use Rattle.rip_check.proofs.audit.first_unheard.Goals as goal
-
-pub returns-then-not-heard-clause-some : goal.returns-then-not-heard-clause-some
-returns-then-not-heard-clause-some g c =
-    let off : (g.T.MetricTable.state c.args.table.now).heard c.loop-i.i ≡ false = sym c.heard.ensures ∙ c.if-not-heard.true in
-    record {
-      interface = c.loop-i.i;
-      cost = c.interface.result.cost;
-      its = c.interface.ensures.is;
-      unheard = λ h. let h' : IsTrue false = rw off at h in cc h';
-      before = c.loop-i.invariant;
-    }
 
 pub loop-i-preserved : goal.loop-i-preserved
 loop-i-preserved g c = λ j s k d lt at.

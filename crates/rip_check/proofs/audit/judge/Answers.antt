@@ -1,4 +1,5 @@
 use Rattle.rip_check.specs.declared.verdict.Verdict.TheVariants.{Settled, Unsettled, Unclear as IsUnclear}
+use Rattle.rip_check.proofs.CaseLemmas.{in_range_of}
 use Rattle.rip_check.proofs.MeaningLemmas.{exactly, settled_places_too, no_tables, arrive}
 use Rattle.rip_check.proofs.audit.judge.Goals as goal
 use Rattle.rip_check.specs.Told.{told}
@@ -8,7 +9,7 @@ returns g c =
     let n = c.args.plan.now in
     let shown = (told c.args.plan.now (g.T.MetricTable.state c.args.table.now)) in
     let plan = c.lawful.ensures in
-    let range = c.in_range.ensures in
+    let range = in_range_of g.T.MetricTable n c.args.table.now c.requires in
     let v = c.decide.result in
     let is = c.decide.ensures in
     record {

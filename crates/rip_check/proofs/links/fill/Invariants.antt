@@ -1,10 +1,10 @@
 use Rattle.std.proofs.Common.{◌≡◌, length}
 use Rattle.rip_check.specs.TwoLeasts.{AreTwoLeastBefore, shown_of}
 use Rattle.rip_check.proofs.links.fill.Given as goal
-use Rattle.rip_check.specs.Told.{told}
+use Rattle.rip_check.specs.Cases.{told_in}
 
 abbrev pub invariant-loop-i : goal.invariant-loop-i
 invariant-loop-i g l = record {
   size : length l.links ≡ length l.fn.links;
-  two : AreTwoLeastBefore l.plan (shown_of (told l.plan (g.T.MetricTable.state l.table)) l.prefix) l.i l.links;
+  two : AreTwoLeastBefore l.case.plan.now (shown_of (told_in l.case) l.case.prefix) l.i l.links;
 }

@@ -4,17 +4,17 @@ use Rattle.rip_check.specs.Tables.{Offers}
 use Rattle.rip_check.proofs.OwnedLemmas.{its_number, its_router, each_more, every}
 use Rattle.rip_check.proofs.AcrossLemmas.{still_chosen, least_kept, least_of}
 use Rattle.rip_check.proofs.offers.least_choice.Goals as goal
-use Rattle.rip_check.specs.Told.{told}
+use Rattle.rip_check.specs.Cases.{told_in}
 
 pub interface-own-requires : goal.interface-own-requires
-interface-own-requires g c = its_number c.args.plan.now c.args.router c.of_router-numbers.result.now c.of_router-numbers.ensures.exact c.loop-i.i-index c.loop-i-test.true
+interface-own-requires g c = its_number c.args.case.now.plan.now c.args.router c.of_router-numbers.result.now c.of_router-numbers.ensures.exact c.loop-i.i-index c.loop-i-test.true
 
 pub loop-i-preserved : goal.loop-i-preserved
 loop-i-preserved g c =
-    let n = c.args.plan.now in
+    let n = c.args.case.now.plan.now in
     let r = c.args.router in
-    let p = c.args.prefix in
-    let shown = (told c.args.plan.now (g.T.MetricTable.state c.args.table.now)) in
+    let p = c.args.case.now.prefix in
+    let shown = (told_in c.args.case.now) in
     let numbers = c.of_router-numbers.result.now in
     let exact = c.of_router-numbers.ensures.exact in
     let k = c.loop-i.i-index in
@@ -34,13 +34,13 @@ loop-i-preserved g c =
 
 pub returns-then-keeps-clause-least : goal.returns-then-keeps-clause-least
 returns-then-keeps-clause-least g c =
-    least_kept c.args.plan.now (told c.args.plan.now (g.T.MetricTable.state c.args.table.now)) c.args.router c.args.prefix c.direct_or_16-best.result
+    least_kept c.args.case.now.plan.now (told_in c.args.case.now) c.args.router c.args.case.now.prefix c.direct_or_16-best.result
     c.direct_or_16-best.ensures.most c.direct_or_16-best.ensures.least (c.requires.keeps.0 c.if-keeps.true)
 
 pub returns-clause-least : goal.returns-clause-least
 returns-clause-least g c =
-    let n = c.args.plan.now in
-    let shown = (told c.args.plan.now (g.T.MetricTable.state c.args.table.now)) in
-    least_of n shown c.args.router c.args.prefix c.loop-i.best c.loop-i.invariant.most c.loop-i.invariant.direct
-    (every n c.args.router c.of_router-numbers.result.now c.of_router-numbers.ensures.exact (λ j m. (s v : ℕ) → Offers n shown c.args.router m s c.args.prefix v → c.loop-i.best ≤ v)
+    let n = c.args.case.now.plan.now in
+    let shown = (told_in c.args.case.now) in
+    least_of n shown c.args.router c.args.case.now.prefix c.loop-i.best c.loop-i.invariant.most c.loop-i.invariant.direct
+    (every n c.args.router c.of_router-numbers.result.now c.of_router-numbers.ensures.exact (λ j m. (s v : ℕ) → Offers n shown c.args.router m s c.args.case.now.prefix v → c.loop-i.best ≤ v)
     c.loop-i.i-index c.loop-i-test.false c.loop-i.invariant.below)

@@ -2,9 +2,9 @@ use Rattle.std.proofs.Common.{◌≡◌, ℕ, ◌<◌, None, get_or}
 use Rattle.rip_plan.specs.Relations.{IsInterface}
 use Rattle.rip_check.proofs.routes.first_gap.Given as goal
 use Rattle.rip_check.specs.Metrics.{metric_at}
-use Rattle.rip_check.specs.Told.{told}
+use Rattle.rip_check.specs.Cases.{told_in}
 
 abbrev pub invariant-loop-i : goal.invariant-loop-i
 invariant-loop-i g l =
-    (j k c : ℕ) → j < l.i-index → IsInterface l.plan (get_or l.numbers j 0) l.router k c →
-    metric_at (told l.plan (g.T.MetricTable.state l.table)) (get_or l.numbers j 0) l.prefix ≡ None → ⊥
+    (j k c : ℕ) → j < l.i-index → IsInterface l.case.plan.now (get_or l.numbers j 0) l.router k c →
+    metric_at (told_in l.case) (get_or l.numbers j 0) l.case.prefix ≡ None → ⊥

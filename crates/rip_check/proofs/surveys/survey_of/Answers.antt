@@ -4,30 +4,30 @@ use Rattle.rip_check.proofs.OwnedLemmas.{ascends, ascends_below, its_number, its
 use Rattle.rip_check.proofs.SurveyLemmas.{nothing_yet, stretch}
 use Rattle.rip_check.proofs.surveys.survey_of.Goals as goal
 use Rattle.rip_check.specs.Metrics.{metric_at}
-use Rattle.rip_check.specs.Told.{told}
+use Rattle.rip_check.specs.Cases.{told_in}
 
 pub loop-i-init : goal.loop-i-init
 loop-i-init g c = λ b above next.
-    let n = c.args.plan.now in
-    let shown = (told c.args.plan.now (g.T.MetricTable.state c.args.table.now)) in
+    let n = c.args.case.now.plan.now in
+    let shown = (told_in c.args.case.now) in
     let numbers = c.of_router-numbers.result.now in
-    stretch n shown c.args.router c.args.prefix 0 b _ (omega arith)
+    stretch n shown c.args.router c.args.case.now.prefix 0 b _ (omega arith)
     (λ j l d its less. let h = place_before n c.args.router numbers c.of_router-numbers.ensures.exact c.of_router-numbers.ensures.ascending 0 b next j l d its less in absurd (omega (arith, h.1)))
-    (nothing_yet n shown c.args.router c.args.prefix)
+    (nothing_yet n shown c.args.router c.args.case.now.prefix)
 
 pub interface-own-requires : goal.interface-own-requires
-interface-own-requires g c = its_number c.args.plan.now c.args.router c.of_router-numbers.result.now c.of_router-numbers.ensures.exact c.loop-i.i-index c.loop-i-test.true
+interface-own-requires g c = its_number c.args.case.now.plan.now c.args.router c.of_router-numbers.result.now c.of_router-numbers.ensures.exact c.loop-i.i-index c.loop-i-test.true
 
-pub told_at-told-requires-clause-interface : goal.told_at-told-requires-clause-interface
-told_at-told-requires-clause-interface g c =
-    its_number c.args.plan.now c.args.router c.of_router-numbers.result.now c.of_router-numbers.ensures.exact c.loop-i.i-index c.loop-i-test.true
+pub told_at-told-requires : goal.told_at-told-requires
+told_at-told-requires g c =
+    its_number c.args.case.now.plan.now c.args.router c.of_router-numbers.result.now c.of_router-numbers.ensures.exact c.loop-i.i-index c.loop-i-test.true
 
 pub loop-i-preserved : goal.loop-i-preserved
 loop-i-preserved g c = λ b above next.
-    let n = c.args.plan.now in
+    let n = c.args.case.now.plan.now in
     let r = c.args.router in
-    let p = c.args.prefix in
-    let shown = (told c.args.plan.now (g.T.MetricTable.state c.args.table.now)) in
+    let p = c.args.case.now.prefix in
+    let shown = (told_in c.args.case.now) in
     let numbers = c.of_router-numbers.result.now in
     let exact = c.of_router-numbers.ensures.exact in
     let up = c.of_router-numbers.ensures.ascending in
@@ -47,5 +47,5 @@ loop-i-preserved g c = λ b above next.
 pub returns : goal.returns
 returns g c =
     c.loop-i.invariant _
-    (λ j lt. its_number c.args.plan.now c.args.router c.of_router-numbers.result.now c.of_router-numbers.ensures.exact j (omega (arith, lt, c.loop-i.auto.i-index-end)))
+    (λ j lt. its_number c.args.case.now.plan.now c.args.router c.of_router-numbers.result.now c.of_router-numbers.ensures.exact j (omega (arith, lt, c.loop-i.auto.i-index-end)))
     (λ lt. absurd (omega (arith, lt, c.loop-i-test.false)))

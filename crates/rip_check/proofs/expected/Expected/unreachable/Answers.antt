@@ -5,13 +5,6 @@ use Rattle.rip_check.proofs.CountLemmas.{adds}
 use Rattle.rip_check.proofs.NumberLemmas.{few_prefixes}
 use Rattle.rip_check.proofs.expected.Expected.unreachable.Goals as goal
 
-pub overflow_add-total : goal.overflow_add-total
-overflow_add-total c =
-    let n = c.args.plan.now in
-    let part : c.unreachable_of-total.result ≤ 1024 = omega (arith, c.unreachable_of-total.ensures.most, few_prefixes n c.lawful.ensures, c.lawful.ensures.few_places) in
-    let routers : c.loop-router.router ≤ 128 = omega (arith, c.loop-router-test.true, c.routers-router-end.ensures, c.lawful.ensures.few_routers) in
-    omega (arith, part, routers, c.loop-router.invariant.few)
-
 pub loop-router-preserved : goal.loop-router-preserved
 loop-router-preserved c =
     let n = c.args.plan.now in

@@ -7,10 +7,11 @@ use Rattle.rip_check.specs.declared.routes.ReadRoute.{ReadRoute}
 use Rattle.rip_check.specs.declared.unsettled.Unsettled.{Unsettled}
 use Rattle.rip_check.specs.Marks.{AreUnsettled, IsMark, FailsWith}
 use Rattle.rip_check.specs.Verdicts.{route_of}
+use Rattle.rip_check.proofs.CaseLemmas.{in_range_of}
 use Rattle.rip_check.proofs.RouteLemmas.{one_route}
 use Rattle.rip_check.proofs.ReadableLemmas.{fits_readable}
 use Rattle.rip_check.proofs.unsettled.Unsettled.at.Goals as goal
-use Rattle.rip_check.specs.Told.{told}
+use Rattle.rip_check.specs.Cases.{told_in}
 
 -- what is kept of a place
 mark_at : (n : Network) (s : State) (unsettled : Unsettled) → AreUnsettled n s unsettled → (r p w : ℕ) (mark : Option ℕ) → w ≡ length s.prefixes → r < length n.routers → p < length s.prefixes
@@ -32,49 +33,48 @@ there P (Some t) none p = refl
 
 pub returns-in_default-clause-none : goal.returns-in_default-clause-none
 returns-in_default-clause-none g c =
-    let n = c.args.plan.now in
-    let s = told c.args.plan.now (g.T.MetricTable.state c.args.table.now) in
-    let is = mark_at n s c.args.self.now c.requires.places c.args.router c.args.prefix c.prefix_count.result c.index.result.now c.prefix_count.ensures c.requires.router c.requires.prefix
+    let n = c.args.case.now.plan.now in
+    let s = told_in c.args.case.now in
+    let is = mark_at n s c.args.self.now c.requires.places c.args.router c.args.case.now.prefix c.prefix_count.result c.index.result.now c.prefix_count.ensures c.requires.router c.args.case.now.within
     c.index.ensures in
     rw c.in_default.is at is.sound
 
 pub unwrap-route-requires : goal.unwrap-route-requires
 unwrap-route-requires g c =
-    let n = c.args.plan.now in
-    let s = told c.args.plan.now (g.T.MetricTable.state c.args.table.now) in
-    let is = mark_at n s c.args.self.now c.requires.places c.args.router c.args.prefix c.prefix_count.result c.index.result.now c.prefix_count.ensures c.requires.router c.requires.prefix
+    let n = c.args.case.now.plan.now in
+    let s = told_in c.args.case.now in
+    let is = mark_at n s c.args.self.now c.requires.places c.args.router c.args.case.now.prefix c.prefix_count.result c.index.result.now c.prefix_count.ensures c.requires.router c.args.case.now.within
     c.index.ensures in
-    let failing = failing_at n s c.args.router c.args.prefix c.in-Some.equation c.index.result.now c.in-Some.is is in
-    there _ c.read.result c.read.ensures.none (fits_readable n c.lawful.ensures s c.in_range.ensures c.args.router c.args.prefix failing.2.route c.requires.router failing.2.fits)
+    let failing = failing_at n s c.args.router c.args.case.now.prefix c.in-Some.equation c.index.result.now c.in-Some.is is in
+    there _ c.read.result c.read.ensures.none (fits_readable n c.lawful.ensures s (in_range_of g.T.MetricTable n c.args.case.now.table.now c.args.case.now.fits) c.args.router c.args.case.now.prefix failing.2.route c.requires.router failing.2.fits)
 
 pub place_of-requires-clause-equation : goal.place_of-requires-clause-equation
 place_of-requires-clause-equation g c =
-    let n = c.args.plan.now in
-    let s = told c.args.plan.now (g.T.MetricTable.state c.args.table.now) in
-    let is = mark_at n s c.args.self.now c.requires.places c.args.router c.args.prefix c.prefix_count.result c.index.result.now c.prefix_count.ensures c.requires.router c.requires.prefix
+    let n = c.args.case.now.plan.now in
+    let s = told_in c.args.case.now in
+    let is = mark_at n s c.args.self.now c.requires.places c.args.router c.args.case.now.prefix c.prefix_count.result c.index.result.now c.prefix_count.ensures c.requires.router c.args.case.now.within
     c.index.ensures in
-    let failing = failing_at n s c.args.router c.args.prefix c.in-Some.equation c.index.result.now c.in-Some.is is in
+    let failing = failing_at n s c.args.router c.args.case.now.prefix c.in-Some.equation c.index.result.now c.in-Some.is is in
     (omega (arith, failing.0, c.from.ensures), omega (arith, failing.1, c.from.ensures))
 
 pub returns-clause-some : goal.returns-clause-some
 returns-clause-some g c =
-    let n = c.args.plan.now in
-    let s = told c.args.plan.now (g.T.MetricTable.state c.args.table.now) in
+    let n = c.args.case.now.plan.now in
+    let s = told_in c.args.case.now in
     let r = c.args.router in
-    let p = c.args.prefix in
+    let p = c.args.case.now.prefix in
     let t = route_of c.unwrap-route.result in
-    let fits = rw c.unwrap-route.ensures at c.read.ensures.fits in
-    let hidden = rw c.unwrap-route.ensures at c.read.ensures.hidden in
-    let is = mark_at n s c.args.self.now c.requires.places r p c.prefix_count.result c.index.result.now c.prefix_count.ensures c.requires.router c.requires.prefix c.index.ensures in
+    let read = rw c.unwrap-route.ensures at c.read.ensures.some in
+    let is = mark_at n s c.args.self.now c.requires.places r p c.prefix_count.result c.index.result.now c.prefix_count.ensures c.requires.router c.args.case.now.within c.index.ensures in
     let failing = (failing_at n s r p c.in-Some.equation c.index.result.now c.in-Some.is is).2 in
-    let one : failing.route ≡ t = one_route n c.lawful.ensures s r p failing.route t c.requires.router failing.fits fits in
+    let one : failing.route ≡ t = one_route n c.lawful.ensures s r p failing.route t c.requires.router failing.fits read.fits in
     rw c.place_of.ensures (
       refl,
       refl,
       record {
-        fits = fits;
+        fits = read.fits;
         fails = λ holds. failing.fails (rw one holds);
         equation = rw c.from.ensures failing.equation;
-        hidden = hidden;
+        hidden = read.hidden;
       },
     )

@@ -21,6 +21,7 @@ loop-prefix-preserved g c =
     let count = length (told c.args.plan.now (g.T.MetricTable.state c.args.table.now)).prefixes in
     let is = c.loop-prefix.invariant in
     let new = c.mark_prefix.new.marks in
+    let marked = rw (c.with_links.ensures.plan, c.with_links.ensures.table, c.with_links.ensures.prefix, c.new-case.ensures.plan, c.new-case.ensures.table, c.new-case.ensures.prefix) at c.mark_prefix.ensures in
     let e : c.loop-prefix.marks.len ≡ length new = omega (arith, c.mark_prefix.auto.marks, c.as_mut_slice.ensures.len, c.loop-prefix.marks.ok.0) in
     let whole : take c.loop-prefix.marks.len (new ++ drop (length new) c.loop-prefix.marks.items) ≡ new =
     rw e (take-append_seam new (drop (length new) c.loop-prefix.marks.items)) in
@@ -29,12 +30,12 @@ loop-prefix-preserved g c =
       marks = λ r p at lt. elim (cases_lt p c.loop-prefix.prefix) [
         | inl sooner ↦
             let kept : get_or new (r * count + p) None ≡ get_or c.loop-prefix.marks.items (r * count + p) None =
-            c.mark_prefix.ensures.others r p (omega (arith, sooner, c.loop-prefix-test.true, c.prefix_count-count.ensures)) (λ same. omega (arith, same, sooner))
+            marked.others r p (omega (arith, sooner, c.loop-prefix-test.true, c.prefix_count-count.ensures)) (λ same. omega (arith, same, sooner))
             ∙ ap (λ (xs : List (Option ℕ)). get_or xs (r * count + p) None) c.as_mut_slice.ensures.value in
             rw kept (is.marks r p at sooner)
         | inr late ↦
             let same : p ≡ c.loop-prefix.prefix = omega arith in
-            rw same (c.mark_prefix.ensures.marked r at)
+            rw same (marked.marked r at)
       ];
       links = omega (arith, c.fill.auto.links, is.links);
     })

@@ -1,0 +1,18 @@
+-- What is told is a metric.
+use Rattle.rip_plan.specs.Network.{Network}
+use Rattle.rip_table.specs.State.{Fits}
+use Rattle.rip_table.specs.declared.table.MetricTable.{Ghosts}
+use Rattle.rip_check.specs.Cases.{network_of, told_in}
+use Rattle.rip_check.specs.Metrics.{IsInRange}
+use Rattle.rip_check.specs.Told.{told}
+use Rattle.rip_check.specs.declared.case.Case.{Case}
+use Rattle.rip_check.proofs.NumberLemmas.{in_range}
+use Rattle.rip_check.proofs.ToldTableLemmas.{mute, told_range}
+
+pub in_range_of : {T : Type 0} (g : Ghosts T) (n : Network) (table : T) → Fits n (g.state table) → IsInRange n (told n (g.state table))
+in_range_of g n table fits =
+    let s = g.state table in
+    told_range n (mute n s) s (in_range n s fits (g.is_state table))
+
+pub in_range_told : {T : Type 0} {g : Ghosts T} (case : Case T g) → IsInRange (network_of case) (told_in case)
+in_range_told {T} {g} case = in_range_of g case.plan.now case.table.now case.fits

@@ -1,7 +1,0 @@
-use Rattle.std.proofs.Common.{ℕ, ◌<◌, get_or}
-use Rattle.rip_plan.specs.Relations.{IsInterface}
-use Rattle.rip_check.specs.Untouched.{IsStep}
-use Rattle.rip_check.proofs.untouched.leads_over.Given as goal
-
-abbrev pub invariant-loop-j : goal.invariant-loop-j
-invariant-loop-j l = (k r c : ℕ) → k < l.j-index → IsInterface l.plan (get_or l.numbers k 0) r l.link c → IsStep l.plan l.prefix l.router l.cost r → ⊥
